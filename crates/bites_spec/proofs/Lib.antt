@@ -1,0 +1,29 @@
+mod Rows
+mod TemplateRows
+pub mod PieceLemmas
+pub mod WalkLemmas
+pub mod FirstLemmas
+pub mod RunLemmas
+pub mod EventLemmas
+pub mod PartLemmas
+pub mod EnterLemmas
+pub mod SlotLemmas
+pub mod BuiltLemmas
+pub mod OrderLemmas
+pub mod WayLemmas
+pub mod FormOrderLemmas
+pub mod PlainLemmas
+pub mod FoundLemmas
+pub mod OneLemmas
+pub mod ListedLemmas
+pub mod FaultLemmas
+pub mod PieceTextLemmas
+pub mod SpanLemmas
+pub mod Weights
+pub mod Readings
+pub mod Stops
+pub mod Evaluations
+pub mod RangeLemmas
+pub mod EachLemmas
+pub mod EscapeLemmas
+pub mod CountLemmas

@@ -1,0 +1,56 @@
+-- Successive matches stand in order, and their ends grow.
+use Rattle.std.proofs.Common.{◌≡◌, ℕ, ◌+◌, ◌<◌, ◌≤◌, Bool, true, false, List, [], ◌∷◌, map, length, Option, Some, refl, ⊎_elim, inl, inr, arith, ◌⊎◌, ltb-true, ltb-false}
+use Rattle.std.specs.Prelude.{nat_lt}
+use Rattle.bites_spec.specs.Utf8.{step_len}
+use Rattle.bites_spec.specs.Match.{Span}
+use Rattle.bites_spec.specs.Spans.{Due, Follow, Successive, EndsGrow}
+use Rattle.bites_spec.specs.Pieces.{AreInOrder}
+
+bool_cases : (b : Bool) → (b ≡ true) ⊎ (b ≡ false)
+bool_cases true = inl refl
+bool_cases false = inr refl
+
+step_some : (hay : List ℕ) (e : ℕ) → 0 < step_len hay e
+step_some hay e = omega arith
+
+-- A search from s answers what begins there or later, within the haystack.
+abbrev pub Lies : ℕ → ℕ → Span → Type 0
+Lies len s x = (s ≤ x.start) × (x.start ≤ x.end) × (x.end ≤ len)
+
+module _ {B : Type 0} (span_of : B → Span) (hay : List ℕ) (A : ℕ → Option B → Type 0)
+    (lies : (s : ℕ) (x : B) → A s (Some x) → Lies (length hay) s (span_of x)) where
+  due_next : (e : ℕ) (x : B) → Due span_of hay A e (Some x) → Lies (length hay) e (span_of x) × (e < (span_of x).end)
+  due_next e x due =
+      ⊎_elim
+      (λ now.
+      let h = lies e x now.0 in (
+        h,
+        ⊎_elim (λ (b : nat_lt e (span_of x).end ≡ true). ltb-true e (span_of x).end b)
+            (λ (b : nat_lt e (span_of x).end ≡ false).
+            let le = ltb-false e (span_of x).end b in let one = h.0 in let two = h.1 in absurd (now.1 (omega arith, omega arith)))
+            (bool_cases (nat_lt e (span_of x).end)),
+      ))
+      (λ later.
+      let h = lies (e + step_len hay e) x later.3 in
+      let one = h.0 in let two = h.1 in let three = h.2 in let some = step_some hay e in
+      ((omega arith, two, three), omega arith))
+      due
+
+  follow_in_order : (e : ℕ) (xs : List B) → e ≤ length hay → Follow span_of hay A (Due span_of hay A e) xs →
+      AreInOrder (length hay) e (map span_of xs) × EndsGrow e (map span_of xs)
+  follow_in_order e [] le due = (le, tt)
+  follow_in_order e (x ∷ xs) le due =
+      let next = due_next e x due.0 in
+      let more = follow_in_order (span_of x).end xs next.0.2 due.1 in
+      ((next.0.0, next.0.1, more.0), (next.1, more.1))
+
+  -- the matches stand in order within the haystack
+  pub Successive-in_order : (xs : List B) → Successive span_of hay A xs → AreInOrder (length hay) 0 (map span_of xs)
+  Successive-in_order [] due = omega arith
+  Successive-in_order (x ∷ xs) due =
+      let first = lies 0 x due.0 in
+      let more = follow_in_order (span_of x).end xs first.2 due.1 in (first.0, first.1, more.0)
+
+  -- behind the first each ends above the one before
+  pub Successive-ends_grow : (x : B) (xs : List B) → Successive span_of hay A (x ∷ xs) → EndsGrow (span_of x).end (map span_of xs)
+  Successive-ends_grow x xs due = (follow_in_order (span_of x).end xs (lies 0 x due.0).2 due.1).1

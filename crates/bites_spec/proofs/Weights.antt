@@ -1,0 +1,49 @@
+-- Weights of small trees.
+use Rattle.std.proofs.Common.{◌≡◌, true, [], ◌∷◌, Some, None, refl}
+use Rattle.std.specs.Prelude.{codes}
+use Rattle.bites_spec.specs.Tree.{empty, char, class, repetition, group, sequence, alternation, no_tree, tree_and, repetition_of, captures_len}
+use Rattle.bites_spec.specs.Measure.{weight, static_count}
+
+empty_pattern : weight empty ≡ 144
+empty_pattern = refl
+
+a_or_b : weight (alternation (tree_and (char 97) (tree_and (char 98) no_tree))) ≡ 248
+a_or_b = refl
+
+a_star : weight (repetition_of 0 None true (char 97)) ≡ 184
+a_star = refl
+
+a_2_to_3 : weight (repetition_of 2 (Some 3) true (char 97)) ≡ 280
+a_2_to_3 = refl
+
+a_0_to_2 : weight (repetition_of 0 (Some 2) true (char 97)) ≡ 320
+a_0_to_2 = refl
+
+a_2_or_more : weight (repetition_of 2 None true (char 97)) ≡ 216
+a_2_or_more = refl
+
+optional_repeated : weight (repetition_of 0 None true (repetition_of 0 (Some 1) true (char 97))) ≡ 328
+optional_repeated = refl
+
+a_1000 : weight (repetition_of 1000 (Some 1000) true (char 97)) ≡ 32112
+a_1000 = refl
+
+surrogate_neighbours : weight (class ((0xD7FF, 0xE000) ∷ [])) ≡ 152
+surrogate_neighbours = refl
+
+named_group : weight (group 1 (Some (codes "y")) (char 97)) ≡ 229
+named_group = refl
+
+dropped_group : captures_len (sequence (tree_and (group 1 None (char 97)) (tree_and (repetition_of 0 (Some 0) true (group 2 None (char 97))) no_tree))) ≡ 2
+dropped_group = refl
+
+kept_group : captures_len (sequence (tree_and (repetition_of 0 (Some 0) true (group 1 None (char 97))) (tree_and (group 2 None (char 97)) no_tree))) ≡ 3
+kept_group = refl
+
+-- (?:(a)|(b))+
+one_of_two : static_count (repetition 1 None true (alternation (tree_and (group 1 None (char 97)) (tree_and (group 2 None (char 98)) no_tree)))) ≡ Some 1
+one_of_two = refl
+
+-- (a)|b
+one_or_none : static_count (alternation (tree_and (group 1 None (char 97)) (tree_and (char 98) no_tree))) ≡ None
+one_or_none = refl

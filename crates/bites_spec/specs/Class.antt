@@ -1,0 +1,112 @@
+-- Classes of characters as sets, and the ranges that list a set.
+use Rattle.std.specs.Prelude.{◌≡◌, ℕ, ◌+◌, ◌-◌, ◌<◌, ◌≤◌, Bool, true, false, not, ◌&&◌, ◌||◌, ◌==◌, nat_le, nat_lt, List, [], ◌∷◌, codes, if◌then◌else◌}
+use Rattle.bites_spec.specs.Range.{Range, in_ranges}
+
+-- a set of characters: a test on code points, of which only scalar values count
+abbrev pub Set : Type 0
+Set = ℕ → Bool
+
+-- 0 to D7FF and E000 to 10FFFF
+abbrev pub is_scalar : ℕ → Bool
+is_scalar c = nat_lt c 0xD800 || (nat_le 0xE000 c && nat_le c 0x10_FFFF)
+
+-- no character
+abbrev pub none : Set
+none c = false
+
+-- this character alone
+abbrev pub single : ℕ → Set
+single d c = c == d
+
+-- the code points from the first to the second
+abbrev pub between : ℕ → ℕ → Set
+between low high c = nat_le low c && nat_le c high
+
+-- the characters of one set or the other
+abbrev pub union : Set → Set → Set
+union a b c = a c || b c
+
+-- all other scalar values
+abbrev pub complement : Set → Set
+complement a c = is_scalar c && not (a c)
+
+-- a to z
+abbrev pub is_lower : Set
+is_lower = between 97 122
+
+-- A to Z
+abbrev pub is_upper : Set
+is_upper = between 65 90
+
+-- the ASCII letters
+abbrev pub is_letter : Set
+is_letter = union is_lower is_upper
+
+-- the set with both cases of each ASCII letter in it
+abbrev pub folded : Set → Set
+folded a c = a c || (is_lower c && a (c - 32)) || (is_upper c && a (c + 32))
+
+-- the names of POSIX, and word
+pub data NamedClass : Type 0 where
+  alnum alpha ascii blank cntrl digit graph lower print punct space upper word xdigit : NamedClass
+
+-- how a named class is written
+abbrev pub name_of : NamedClass → List ℕ
+name_of alnum = codes "alnum"
+name_of alpha = codes "alpha"
+name_of ascii = codes "ascii"
+name_of blank = codes "blank"
+name_of cntrl = codes "cntrl"
+name_of digit = codes "digit"
+name_of graph = codes "graph"
+name_of lower = codes "lower"
+name_of print = codes "print"
+name_of punct = codes "punct"
+name_of space = codes "space"
+name_of upper = codes "upper"
+name_of word = codes "word"
+name_of xdigit = codes "xdigit"
+
+-- all named classes
+abbrev pub named_classes : List NamedClass
+named_classes = alnum ∷ alpha ∷ ascii ∷ blank ∷ cntrl ∷ digit ∷ graph ∷ lower ∷ print ∷ punct ∷ space ∷ upper ∷ word ∷ xdigit ∷ []
+
+-- the characters of a named class, all of them ASCII
+abbrev pub members : NamedClass → Set
+members alnum = in_ranges ((48, 57) ∷ (65, 90) ∷ (97, 122) ∷ [])
+members alpha = in_ranges ((65, 90) ∷ (97, 122) ∷ [])
+members ascii = between 0x00 0x7F
+members blank = in_ranges ((9, 9) ∷ (32, 32) ∷ [])
+members cntrl = in_ranges ((0x00, 0x1F) ∷ (0x7F, 0x7F) ∷ [])
+members digit = between 48 57
+members graph = between 0x21 0x7E
+members lower = between 97 122
+members print = between 0x20 0x7E
+members punct = in_ranges ((0x21, 0x2F) ∷ (0x3A, 0x40) ∷ (0x5B, 0x60) ∷ (0x7B, 0x7E) ∷ [])
+members space = in_ranges ((0x09, 0x0D) ∷ (0x20, 0x20) ∷ [])
+members upper = between 65 90
+members word = in_ranges ((48, 57) ∷ (65, 90) ∷ (95, 95) ∷ (97, 122) ∷ [])
+members xdigit = in_ranges ((48, 57) ∷ (65, 70) ∷ (97, 102) ∷ [])
+
+-- the scalar value behind one, over the surrogates
+abbrev pub following : ℕ → ℕ
+following c = if c == 0xD7FF then 0xE000 else c + 1
+
+-- both ends are scalar values, the first not above the second
+abbrev pub IsRange : Range → Type 0
+IsRange r = (is_scalar r.0 ≡ true) × (is_scalar r.1 ≡ true) × (r.0 ≤ r.1)
+
+-- ranges that rise, with a scalar value between each two, so that each is as long as it can be
+abbrev pub AreGreatest : List Range → Type 0
+AreGreatest [] = Unit {0}
+AreGreatest (r ∷ []) = IsRange r
+AreGreatest (r ∷ s ∷ ranges) = IsRange r × (following r.1 < s.0) × AreGreatest (s ∷ ranges)
+
+-- the list of the greatest ranges of a set
+pub record Lists (ranges : List Range) (set : Set) : Type 0 where
+  pub greatest : AreGreatest ranges
+  pub same : (c : ℕ) → is_scalar c ≡ true → in_ranges ranges c ≡ set c
+
+-- a set has one list
+abbrev pub ListsOnce : Type 0
+ListsOnce = (set : Set) (a b : List Range) → Lists a set → Lists b set → a ≡ b

@@ -1,0 +1,36 @@
+-- What a search has visited, and how often it looked.
+use Rattle.std.specs.Prelude.{ℕ, ◌+◌, ◌*◌, ◌≤◌, List, ◌∷◌, length, Option, Some, None}
+use Rattle.bites_spec.specs.Utf8.{places}
+use Rattle.bites_spec.specs.Walks.{Among, AllApart}
+use Rattle.bites_spec.specs.Program.{Program, Spot, at, targets}
+use Rattle.bites_spec.specs.Run.{Run, IsRun, Reaches}
+
+-- the spots that were visited, the last one first, and the number of looks
+pub record Record : Type 0 where
+  pub visits : List Spot
+  pub looks : ℕ
+
+module _ (p : Program) (hay : List ℕ) (s : ℕ) where
+  -- no spot twice, at most one visit for each state and place, and at most as many looks as edges, and one, at each place
+  pub record IsBounded (c : Record) : Type 0 where
+    pub apart : AllApart c.visits
+    pub visits : length c.visits ≤ length p.states * length (places hay s)
+    pub looks : c.looks ≤ (targets p + 1) * length (places hay s)
+    pub looked : length c.visits ≤ c.looks
+
+  -- every spot that a walk from the start, at a place from s on, reaches was visited
+  abbrev pub VisitedAll : Record → Type 0
+  VisitedAll c = (i : ℕ) → Among (places hay s) i → (t : Spot) → Reaches p hay (at p.start i) t → Among c.visits t
+
+  -- every spot of the run was visited
+  abbrev pub VisitedRun : Record → Run → Type 0
+  VisitedRun c r = (t : Spot) → Among (at p.start r.start ∷ r.spots) t → Among c.visits t
+
+  -- some run from a place from s on was visited
+  abbrev pub VisitedSome : Record → Type 0
+  VisitedSome c = (r : Run) × IsRun p hay r.start r.spots r.end × Among (places hay s) r.start × VisitedRun c r
+
+  -- what a search that answers so has visited
+  abbrev pub Visited : Record → Option Run → Type 0
+  Visited c None = VisitedAll c
+  Visited c (Some r) = VisitedSome c

@@ -1,0 +1,86 @@
+-- What a search of a tree finds.
+use Rattle.std.specs.Prelude.{◌≡◌, ℕ, ◌<◌, ◌≤◌, List, [], ◌∷◌, Option, Some, None, if◌then◌else◌, ◌==◌}
+use Rattle.std.specs.Prelude.{◌*◌, ◌+◌}
+use Rattle.bites_spec.specs.Utf8.{places}
+use Rattle.bites_spec.specs.Program.{Program, at}
+use Rattle.bites_spec.specs.Run.{Run, last_write, writes}
+use Rattle.bites_spec.specs.Walks.{Among}
+use Rattle.bites_spec.specs.Tree.{Tree, IsPlain}
+use Rattle.bites_spec.specs.Match.{Span, span, Mark, Matches, Parse, groups}
+use Rattle.bites_spec.specs.Preference.{Way, parses}
+
+-- where a match begins and ends, and where each group last took part
+pub record Answer : Type 0 where
+  pub start : ℕ
+  pub end : ℕ
+  pub group : ℕ → Option Span
+
+-- the first of the list
+abbrev pub head_of : List Way → Option Way
+head_of [] = None
+head_of (w ∷ ws) = Some w
+
+-- the first of the list that ends at j
+abbrev pub first_ending : ℕ → List Way → Option Way
+first_ending j [] = None
+first_ending j (w ∷ ws) = if w.end == j then Some w else first_ending j ws
+
+abbrev pub way : ℕ → List Mark → Way
+way j ms = record { end = j; marks = ms }
+
+module _ (t : Tree) (hay : List ℕ) where
+  -- the tree matches at no place from s on
+  abbrev pub NoMatch : ℕ → Type 0
+  NoMatch s = (i : ℕ) → Among (places hay s) i → (j : ℕ) → Matches hay t i j → ⊥
+
+  -- i is the first place from s on at which the tree matches
+  pub record IsFirstPlace (s i : ℕ) : Type 0 where
+    pub place : Among (places hay s) i
+    pub none_before : (k : ℕ) → Among (places hay s) k → k < i → (j : ℕ) → Matches hay t k j → ⊥
+
+  -- the answer begins at the first place that has a match, and its end and groups are those of one parse there, of which Q holds
+  pub record IsFoundBy (Q : (i j : ℕ) → List Mark → Type 0) (s : ℕ) (a : Answer) : Type 0 where
+    pub first : IsFirstPlace s a.start
+    pub marks : List Mark
+    pub parse : Parse hay t a.start a.end marks
+    pub groups : (k : ℕ) → a.group k ≡ groups a.start a.end marks k
+    pub chosen : Q a.start a.end marks
+
+  -- the search from s answers so, the parse left open but for Q
+  abbrev pub FoundBy : ((i j : ℕ) → List Mark → Type 0) → ℕ → Option Answer → Type 0
+  FoundBy Q s None = NoMatch s
+  FoundBy Q s (Some a) = IsFoundBy Q s a
+
+  -- some parse from the first place
+  abbrev pub FoundSome : ℕ → Option Answer → Type 0
+  FoundSome = FoundBy (λ i j ms. Unit {0})
+
+  -- if the tree is plain, its preferred parse from the first place
+  abbrev pub Found : ℕ → Option Answer → Type 0
+  Found = FoundBy (λ i j ms. IsPlain t → head_of (parses hay t i) ≡ Some (way j ms))
+
+  -- the greatest end, and if the tree is plain the first parse that ends there
+  abbrev pub FoundLongest : ℕ → Option Answer → Type 0
+  FoundLongest = FoundBy (λ i j ms.
+      ((l : ℕ) → Matches hay t i l → l ≤ j) × (IsPlain t → first_ending j (parses hay t i) ≡ Some (way j ms)))
+
+  -- the least end of any match from a place from s on
+  abbrev pub IsLeastEnd : ℕ → Option ℕ → Type 0
+  IsLeastEnd s None = NoMatch s
+  IsLeastEnd s (Some j) =
+      ((i : ℕ) × Among (places hay s) i × Matches hay t i j)
+      × ((i : ℕ) → Among (places hay s) i → (l : ℕ) → Matches hay t i l → j ≤ l)
+
+-- a span whose both ends are known
+abbrev pub span_of : Option ℕ → Option ℕ → Option Span
+span_of None o = None
+span_of (Some i) None = None
+span_of (Some i) (Some j) = Some (span i j)
+
+-- the answer that a run stands for: group k is in the slots 2 * k and 2 * k + 1
+abbrev pub answer_of : Program → List ℕ → Run → Answer
+answer_of p hay r = record {
+  start = r.start;
+  end = r.end;
+  group = λ k. span_of (last_write (writes p hay (at p.start r.start) r.spots) (2 * k)) (last_write (writes p hay (at p.start r.start) r.spots) (2 * k + 1));
+}

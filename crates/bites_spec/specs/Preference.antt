@@ -1,0 +1,70 @@
+-- All parses from a place, the preferred one first.
+use Rattle.std.specs.Prelude.{ℕ, zero, suc, ◌+◌, ◌-◌, Bool, ◌&&◌, List, [], ◌∷◌, ◌++◌, length, map, flat_map, Option, Some, None, if◌then◌else◌, nat_lt, ◌==◌}
+use Rattle.bites_spec.specs.Utf8.{piece, character}
+use Rattle.bites_spec.specs.Look.{holds}
+use Rattle.bites_spec.specs.Range.{in_ranges}
+use Rattle.bites_spec.specs.Tree.{Tree, Trees, empty, char, class, look, repetition, group, sequence, alternation, no_tree, tree_and}
+use Rattle.bites_spec.specs.Match.{Mark, mark}
+
+-- where a parse ends, and its marks
+pub record Way : Type 0 where
+  pub end : ℕ
+  pub marks : List Mark
+
+abbrev pub here : ℕ → Way
+here i = record { end = i; marks = [] }
+
+-- the way, and behind it another
+abbrev pub joined : Way → Way → Way
+joined w v = record { end = v.end; marks = w.marks ++ v.marks }
+
+-- the group k, begun at i, ends where the way does
+abbrev pub grouped : ℕ → ℕ → Way → Way
+grouped k i w = record { end = w.end; marks = w.marks ++ mark k i w.end ∷ [] }
+
+-- each first way, and behind it each way to go on; the choice of the first counts first
+abbrev pub then_each : List Way → (ℕ → List Way) → List Way
+then_each firsts rest = flat_map (λ w. map (joined w) (rest w.end)) firsts
+
+-- n turns of the body, and then the rest
+abbrev pub after_turns : ℕ → (ℕ → List Way) → (ℕ → List Way) → ℕ → List Way
+after_turns zero body rest i = rest i
+after_turns (suc n) body rest i = then_each (body i) (after_turns n body rest)
+
+-- up to n turns of the body; one turn more comes before stopping if that is preferred
+abbrev pub up_to : ℕ → Bool → (ℕ → List Way) → ℕ → List Way
+up_to zero greedy body i = here i ∷ []
+up_to (suc n) greedy body i =
+    if greedy then then_each (body i) (up_to n greedy body) ++ here i ∷ []
+    else here i ∷ then_each (body i) (up_to n greedy body)
+
+module _ (hay : List ℕ) where
+  -- the character at the place, if it passes the test
+  abbrev pub taken : (ℕ → Bool) → ℕ → List Way
+  taken test i =
+      if nat_lt 0 (piece hay i).len && test (character (piece hay i)) then here (i + (piece hay i).len) ∷ [] else []
+
+  -- without a bound each turn more takes a byte at least, so there are at most as many as bytes
+  abbrev pub turns : ℕ → Option ℕ → Bool → (ℕ → List Way) → ℕ → List Way
+  turns min None greedy body = after_turns min body (up_to (length hay) greedy body)
+  turns min (Some most) greedy body = after_turns min body (up_to (most - min) greedy body)
+
+  unfoldable mutual
+    -- all parses of a plain tree from i, in Perl's order of preference
+    pub parses : Tree → ℕ → List Way
+    parses empty i = here i ∷ []
+    parses (char c) i = taken (λ d. d == c) i
+    parses (class rs) i = taken (in_ranges rs) i
+    parses (look l) i = if holds l hay i then here i ∷ [] else []
+    parses (repetition min most greedy t) i = turns min most greedy (parses t) i
+    parses (group k name t) i = map (grouped k i) (parses t i)
+    parses (sequence ts) i = parses_of_all ts i
+    parses (alternation ts) i = parses_of_one ts i
+
+    pub parses_of_all : Trees → ℕ → List Way
+    parses_of_all no_tree i = here i ∷ []
+    parses_of_all (tree_and t ts) i = then_each (parses t i) (parses_of_all ts)
+
+    pub parses_of_one : Trees → ℕ → List Way
+    parses_of_one no_tree i = []
+    parses_of_one (tree_and t ts) i = parses t i ++ parses_of_one ts i

@@ -1,0 +1,118 @@
+-- Runs of a program, their order, and the run that a search answers.
+use Rattle.std.specs.Prelude.{◌≡◌, ℕ, suc, ◌*◌, ◌<◌, ◌≤◌, ◌⊎◌, Bool, true, false, ◌&&◌, List, [], ◌∷◌, ◌++◌, length, map, take, Option, Some, None, option_and_then, if◌then◌else◌, ◌==◌, IsTrue}
+use Rattle.std.specs.Option.{option_or}
+use Rattle.std.specs.List.{range_with_len}
+use Rattle.bites_spec.specs.Utf8.{places}
+use Rattle.bites_spec.specs.Walks.{Among, AllApart, Walk, Before, first_among, last_of}
+use Rattle.bites_spec.specs.Walks as walks
+use Rattle.bites_spec.specs.Program.{State, Program, Spot, at, state_at, edges, is_match, capture}
+
+abbrev pub is_same_spot : Spot → Spot → Bool
+is_same_spot s t = (s.state == t.state) && (s.place == t.place)
+
+abbrev pub write_of : State → ℕ → List (ℕ × ℕ)
+write_of (capture q slot) i = (slot, i) ∷ []
+write_of _ i = []
+
+-- the last place that was written to the slot
+abbrev pub last_write : List (ℕ × ℕ) → ℕ → Option ℕ
+last_write [] slot = None
+last_write (w ∷ ws) slot = option_or (last_write ws slot) (if w.0 == slot then Some w.1 else None)
+
+-- a run: the place where it starts, the spots behind its first, and the place where it ends
+pub record Run : Type 0 where
+  pub start : ℕ
+  pub spots : List Spot
+  pub end : ℕ
+
+module _ (p : Program) (hay : List ℕ) where
+  -- where a spot leads, the preferred edge first
+  abbrev pub leads : Spot → List Spot
+  leads s = edges hay (state_at p.states s.state) s.place
+
+  abbrev pub matches : Spot → Bool
+  matches s = is_match (state_at p.states s.state)
+
+  abbrev pub Ends : ℕ → Spot → Type 0
+  Ends j s = IsTrue (matches s) × (s.place ≡ j)
+
+  -- from s the spots lead to a match at place j
+  abbrev pub Runs : Spot → List Spot → ℕ → Type 0
+  Runs s r j = Walk leads (Ends j) s r
+
+  -- a run from i to j
+  abbrev pub IsRun : ℕ → List Spot → ℕ → Type 0
+  IsRun i r j = Runs (at p.start i) r j
+
+  -- no spot comes twice
+  abbrev pub IsSimple : ℕ → List Spot → Type 0
+  IsSimple i r = AllApart (at p.start i ∷ r)
+
+  -- a walk from s gets to t
+  abbrev pub Reaches : Spot → Spot → Type 0
+  Reaches s t = (r : List Spot) × Walk leads (λ u. u ≡ t) s r
+
+  -- what the run writes, in order: slots and places
+  abbrev pub writes : Spot → List Spot → List (ℕ × ℕ)
+  writes s [] = []
+  writes s (t ∷ r) = write_of (state_at p.states s.state) s.place ++ writes t r
+
+  -- each slot has the last place that the run writes to it
+  abbrev pub slots : Run → List (Option ℕ)
+  slots r = map (last_write (writes (at p.start r.start) r.spots)) (range_with_len 0 p.slots)
+
+  -- no run begins at a place from s on
+  abbrev pub NoRun : ℕ → Type 0
+  NoRun s = (i : ℕ) → Among (places hay s) i → (r : List Spot) (j : ℕ) → IsRun i r j → ⊥
+
+  -- the run begins at the first place from s on at which a run begins
+  pub record StartsFirst (s : ℕ) (r : Run) : Type 0 where
+    pub runs : IsRun r.start r.spots r.end
+    pub from : Among (places hay s) r.start
+    pub none_before : (i : ℕ) → Among (places hay s) i → i < r.start → (o : List Spot) (j : ℕ) → IsRun i o j → ⊥
+
+  -- the run is simple, and no simple run from its start that passes the test comes before it
+  pub record IsFirstOf (Wanted : ℕ → Type 0) (r : Run) : Type 0 where
+    pub simple : IsSimple r.start r.spots
+    pub first : (o : List Spot) (j : ℕ) → IsRun r.start o j → IsSimple r.start o → Wanted j →
+        (o ≡ r.spots) ⊎ Before leads (at p.start r.start) r.spots o
+
+  -- None where no place from s on has a run, else the first simple run from the first such place
+  abbrev pub FirstRun : ℕ → Option Run → Type 0
+  FirstRun s None = NoRun s
+  FirstRun s (Some r) = StartsFirst s r × IsFirstOf (λ j. Unit {0}) r
+
+  -- None where there is no run, else a run whose end is the least of all from places from s on
+  abbrev pub LeastEnd : ℕ → Option Run → Type 0
+  LeastEnd s None = NoRun s
+  LeastEnd s (Some r) =
+      IsRun r.start r.spots r.end × Among (places hay s) r.start
+      × ((i : ℕ) → Among (places hay s) i → (o : List Spot) (j : ℕ) → IsRun i o j → r.end ≤ j)
+
+  -- None where there is no run, else the first of the simple runs from the first place whose end is the greatest there
+  abbrev pub LongestRun : ℕ → Option Run → Type 0
+  LongestRun s None = NoRun s
+  LongestRun s (Some r) =
+      StartsFirst s r × ((o : List Spot) (j : ℕ) → IsRun r.start o j → j ≤ r.end) × IsFirstOf (λ j. j ≡ r.end) r
+
+  -- What a search says, and leaves in a slice: the front of the run's slots, or where there is no run the slice as it was.
+  abbrev pub Answered : Option Run → Bool → List (Option ℕ) → List (Option ℕ) → Type 0
+  Answered None found old new = (found ≡ false) × (new ≡ old)
+  Answered (Some r) found old new = (found ≡ true) × (new ≡ take (length old) (slots r))
+
+  -- as many steps as there are spots, and one
+  abbrev pub enough : ℕ
+  enough = suc (length p.states * suc (length hay))
+
+  abbrev pub run_of : ℕ → List Spot → Option Run
+  run_of i [] = None
+  run_of i (s ∷ r) = Some (record { start = i; spots = r; end = (last_of s r).place })
+
+  -- the first simple run from i
+  unfoldable pub first_run_from : ℕ → Option Run
+  first_run_from i =
+      option_and_then (run_of i) (walks.first_run is_same_spot leads matches enough (λ s. false) (at p.start i))
+
+  -- what `FirstRun` says, as a function
+  unfoldable pub first_run : ℕ → Option Run
+  first_run s = first_among first_run_from (places hay s)

@@ -1,0 +1,45 @@
+// Definitions of a regular expression engine's matching and searching. Each function's contract is a law about them.
+#![tactic(auto)]
+
+ghost use Rattle.bites_spec.specs.Class.{ListsOnce};
+ghost use Rattle.bites_spec.specs.Laws.{MatchIsParse, FirstRunIsFirst, FirstRunIsOne, RunsAreParses, PlainRunsAreSimple, FirstRunIsFound, LeastEndIsLeast, ParsesAreListed, LongestIsFound};
+
+pub fn match_is_parse()
+    ensures { MatchIsParse }
+{}
+
+pub fn first_run_is_first()
+    ensures { FirstRunIsFirst }
+{}
+
+pub fn first_run_is_one()
+    ensures { FirstRunIsOne }
+{}
+
+pub fn runs_are_parses()
+    ensures { RunsAreParses }
+{}
+
+pub fn plain_runs_are_simple()
+    ensures { PlainRunsAreSimple }
+{}
+
+pub fn first_run_is_found()
+    ensures { FirstRunIsFound }
+{}
+
+pub fn least_end_is_least()
+    ensures { LeastEndIsLeast }
+{}
+
+pub fn parses_are_listed()
+    ensures { ParsesAreListed }
+{}
+
+pub fn longest_is_found()
+    ensures { LongestIsFound }
+{}
+
+pub fn ranges_of_a_set_are_unique()
+    ensures { ListsOnce }
+{}
