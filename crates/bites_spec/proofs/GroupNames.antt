@@ -128,3 +128,15 @@ name_stops {names} (stuck.StuckName.ends t front place m is fits some at says) =
 name_stops {names} (stuck.empty t rest place m is at says) = ap (name_from names []) is ∙ rw (says, at, is) refl
 name_stops {names} (stuck.used t name place m is fits some used says) =
     ap (name_from names []) is ∙ name_passes names [] name (right_angle ∷ place) fits ∙ rw says (used_of names name _ place some used)
+
+-- a name goes forward
+pub name_shorter : {names : List Text} {t name rest : Text} → ReadsName names t name rest → length rest < length t
+name_shorter (group.name c t others name rest is begins fits new) = omega (arith, ap length is, length-append name (right_angle ∷ rest))
+
+-- no fault of a name stands before it
+pub stuck_name_shorter : {names : List Text} {t place : Text} {m : Message} → StuckName names t m place → length place ≤ length t
+stuck_name_shorter (stuck.StuckName.ends_at_once t place m is at says) = omega (arith, ap length at)
+stuck_name_shorter (stuck.StuckName.strange c t front rest place m is fits at other ends says) = omega (arith, ap length is, length-append front place)
+stuck_name_shorter (stuck.StuckName.ends t front place m is fits some at says) = omega (arith, ap length at)
+stuck_name_shorter (stuck.empty t rest place m is at says) = omega (arith, ap length at)
+stuck_name_shorter (stuck.used t name place m is fits some used says) = omega (arith, ap length is, length-append name (right_angle ∷ place))

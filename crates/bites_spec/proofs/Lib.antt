@@ -28,3 +28,4 @@ pub mod EachLemmas
 pub mod EscapeLemmas
 pub mod CountLemmas
 pub mod GroupNames
+pub mod GroupFlags
