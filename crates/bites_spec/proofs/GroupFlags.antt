@@ -66,7 +66,7 @@ unclosed_means marks [] is fits = stuck.StuckFlags.ends_at_once marks [] _ is re
 unclosed_means marks (c ∷ run) is fits = stuck.StuckFlags.ends marks (c ∷ run) [] _ is fits (omega arith) refl refl
 
 -- a number is equal to itself, and the order of the two does not matter
-eqb_turned : (c d : ℕ) → (c == d) ≡ (d == c)
+pub eqb_turned : (c d : ℕ) → (c == d) ≡ (d == c)
 eqb_turned c d = by_cases (c == d) (d == c) refl refl
   where
     by_cases : (a b : Bool) → (c == d) ≡ a → (d == c) ≡ b → (c == d) ≡ (d == c)
@@ -75,7 +75,7 @@ eqb_turned c d = by_cases (c == d) (d == c) refl refl
     by_cases false false same other = same ∙ sym other
 
 -- two tests of which neither holds
-neither : (a b : Bool) → (a || b) ≡ false → (a ≡ false) × (b ≡ false)
+pub neither : (a b : Bool) → (a || b) ≡ false → (a ≡ false) × (b ≡ false)
 neither true b e = absurd (true≢false e)
 neither false b e = (refl, e)
 
@@ -183,9 +183,9 @@ flags_lead {rest = rest} (group.flags marks run behind is fits whole) front =
     ap (flags_from front []) is ∙ flags_pass front [] run (colon ∷ rest) fits ∙ at_colon front run rest whole
 
 -- flags before a closing parenthesis lead the function behind a directive
-pub directive_leads : {marks run rest : Text} → ReadsFlags marks run (right_parenthesis ∷ rest) → 0 < length run → (front : Front) →
+pub closing_flags_lead : {marks run rest : Text} → ReadsFlags marks run (right_parenthesis ∷ rest) → 0 < length run → (front : Front) →
     flags_from front [] marks ≡ answer (reading.directive (changed true run front.flags)) rest
-directive_leads {rest = rest} (group.flags marks run behind is fits whole) some front =
+closing_flags_lead {rest = rest} (group.flags marks run behind is fits whole) some front =
     ap (flags_from front []) is ∙ flags_pass front [] run (right_parenthesis ∷ rest) fits ∙ at_closing front run rest some whole
 
 unclosed_of : (run : Text) → 0 < length run → flags_unclosed run ≡ message.unclosed_flags

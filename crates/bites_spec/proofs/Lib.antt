@@ -29,3 +29,4 @@ pub mod EscapeLemmas
 pub mod CountLemmas
 pub mod GroupNames
 pub mod GroupFlags
+pub mod GroupLemmas
