@@ -1,12 +1,13 @@
 -- What opens a group: what the function answers, the relations say, and what the relations say leads the function.
 use Rattle.std.proofs.Common.{◌≡◌, ℕ, ◌+◌, ◌<◌, ◌≤◌, Bool, true, false, not, ◌&&◌, ◌||◌, ◌==◌, List, [], ◌∷◌, ◌++◌, length, drop, Option, Some, None, refl, sym, ap, ◌∙◌, subst, inl, inr, ⊎_elim, arith, ◌⊎◌, Ok, Err, eqb-true, ltb-true, ltb-false, lt-ltb, true≢false}
 use Rattle.std.specs.Prelude.{codes, nat_lt}
+use Rattle.std.specs.List.{list_all}
 use Rattle.bites_spec.specs.Message as message
 use Rattle.bites_spec.specs.Message.{Message, rank, too_many_groups}
 use Rattle.bites_spec.specs.Class.{single}
 use Rattle.bites_spec.specs.Pattern.{Text, Flags, Front, skip, next_is, one_of, begins, question, colon, left_parenthesis, right_parenthesis}
 use Rattle.bites_spec.specs.Group as relation
-use Rattle.bites_spec.specs.Group.{Opening, numbered, unnumbered, ReadsOpening, ReadsFlags, ReadsName, BeginsName, begins_name, begins_look_around, changed, with_group, is_flag_mark, is_flag_run}
+use Rattle.bites_spec.specs.Group.{Opening, numbered, unnumbered, ReadsOpening, ReadsFlags, ReadsName, BeginsName, begins_name, begins_look_around, changed, with_group, is_flag_mark, is_flag_run, are_distinct}
 use Rattle.bites_spec.specs.OperatorFault.{greatest_number}
 use Rattle.bites_spec.specs.GroupFault as stuck
 use Rattle.bites_spec.specs.GroupFault.{StuckOpening}
@@ -112,6 +113,10 @@ first_taken : {A : Type 0} (b : Bool) (f g : Unit {0} → A) → b ≡ true → 
 first_taken true f g e = refl
 first_taken false f g e = absurd (true≢false (sym e))
 
+either_holds : (a b : Bool) → b ≡ true → (a || b) ≡ true
+either_holds true b e = refl
+either_holds false b e = e
+
 same_next : {a b : Text} → left_parenthesis ∷ a ≡ left_parenthesis ∷ b → a ≡ b
 same_next e = ap (drop 1) e
 
@@ -153,7 +158,86 @@ number_leads front inner opening t inside a within one_more leads =
     (λ (b : nat_lt greatest_number (front.groups + 1) ≡ true). inr (t, first_taken _ _ _ b, within, omega (arith, ltb-true greatest_number (front.groups + 1) b)))
     (λ (b : nat_lt greatest_number (front.groups + 1) ≡ false). inl (second_taken _ _ _ b ∙ leads)) (bool_cases (nat_lt greatest_number (front.groups + 1)))
 
--- the marks before a colon or a closing parenthesis begin nothing else
-begins_flags : ℕ → Bool
-unfolding one_of
-begins_flags c = one_of (codes ":)") c || is_flag_mark c
+-- a mark of flags, or what ends them
+abbrev is_in_flags : ℕ → Bool
+is_in_flags c = one_of (codes ":)") c || is_flag_mark c
+
+other_mark : (c d : ℕ) → is_in_flags c ≡ false → is_in_flags d ≡ true → (c == d) ≡ false
+other_mark c d out within =
+    ⊎_elim (λ (e : (c == d) ≡ true). absurd (true≢false (sym within ∙ ap is_in_flags (sym (eqb-true c d e)) ∙ out)))
+    (λ (e : (c == d) ≡ false). e) (bool_cases (c == d))
+
+-- flags begin no look-around, and no name
+abbrev BeginsNothing : Text → Type 0
+BeginsNothing t = (begins_look_around t ≡ false) × (begins_name t ≡ false)
+
+begins_nothing : (c : ℕ) (t : Text) → is_in_flags c ≡ true → BeginsNothing (question ∷ c ∷ t)
+begins_nothing c t within =
+    let equals = other_mark 61 c refl within in
+    let excludes = other_mark 33 c refl within in
+    let angle = other_mark 60 c refl within in
+    let letter = other_mark 80 c refl within in
+    (rw (equals, excludes, angle) refl, rw (letter, angle) refl)
+
+run_begins_nothing : (run : Text) (c : ℕ) (rest : Text) → is_flag_run run ≡ true → one_of (codes ":)") c ≡ true → BeginsNothing (question ∷ run ++ c ∷ rest)
+run_begins_nothing [] c rest fits ends = begins_nothing c rest (rw ends refl)
+run_begins_nothing (d ∷ run) c rest fits ends =
+    let marks = both_hold (list_all is_flag_mark (d ∷ run)) (are_distinct (d ∷ run)) fits in
+    let mark = both_hold (is_flag_mark d) (list_all is_flag_mark run) marks.0 in
+    begins_nothing d (run ++ c ∷ rest) (either_holds (one_of (codes ":)") d) (is_flag_mark d) mark.0)
+
+-- where flags are read
+with_marks : (front : Front) (marks run rest : Text) (c : ℕ) → ReadsFlags marks run (c ∷ rest) → one_of (codes ":)") c ≡ true →
+    opened front (question ∷ marks) ≡ flags_from front [] marks
+with_marks front marks run rest c (relation.flags _ _ behind is fits whole) ends =
+    let plain = run_begins_nothing run c rest fits ends in
+    asked front (question ∷ marks) (ap (λ x. begins_look_around (question ∷ x)) is ∙ plain.0) (ap (λ x. begins_name (question ∷ x)) is ∙ plain.1)
+
+-- a group's opening leads the function behind it, or the function stops within it since there is no number more
+pub opened_leads : {front inner : Front} {t inside : Text} {opening : Opening} → ReadsOpening front t opening inner inside →
+    (next : Text) → t ≡ left_parenthesis ∷ next → Leads inner opening inside (opened front (skip front.flags next))
+opened_leads {front} (relation.number_only t behind inside opening inner is at plain opens fronts) next same =
+    let around : inside ≡ skip front.flags next = at ∙ ap (skip front.flags) (same_next (sym is ∙ same)) in
+    subst (λ x. Leads inner opening inside (opened front x)) around
+    (subst (λ x. Leads inner opening inside x) (sym (unasked front inside plain))
+    (number_leads front inner opening inside inside _ (omega arith) (ap (λ x. x.groups) fronts) (rw (opens, fronts) refl)))
+opened_leads {front} (relation.named t behind begun name inside opening inner is plain begin reads opens fronts) next same =
+    subst (λ x. Leads inner opening inside (opened front (skip front.flags x))) (same_next (sym is ∙ same))
+    (subst (λ x. Leads inner opening inside x) (sym (named front (skip front.flags behind) begun plain begin))
+    (number_leads front inner opening begun inside _ (omega (arith, name_shorter reads)) (ap (λ x. x.groups) fronts)
+    (rw (name_leads reads, opens, fronts) refl)))
+opened_leads {front} (relation.with_flags t behind marks run inside opening inner is asks reads opens fronts) next same =
+    subst (λ x. Leads inner opening inside (opened front (skip front.flags x))) (same_next (sym is ∙ same))
+    (inl (ap (opened front) asks ∙ with_marks front marks run inside colon reads refl ∙ flags_lead reads front ∙ rw (opens, fronts) refl))
+
+-- a directive leads the function behind it
+pub directive_leads : {front : Front} {t rest : Text} {flags : Flags} → ReadsDirective front t flags rest →
+    (next : Text) → t ≡ left_parenthesis ∷ next → opened front (skip front.flags next) ≡ answer (directive flags) rest
+directive_leads {front} {rest = rest} d next same =
+    ap (λ x. opened front (skip front.flags x)) (same_next (sym same ∙ d.opens)) ∙ ap (opened front) d.asks
+    ∙ with_marks front d.marks d.run rest right_parenthesis d.reads refl
+    ∙ closing_flags_lead d.reads (omega (arith, ap length d.some)) front ∙ ap (λ x. answer (directive x) rest) (sym d.are)
+
+-- too many groups come before all else at one place
+pub least_rank : (m : Message) → rank too_many_groups ≤ rank m
+least_rank message.duplicate_name = omega arith
+least_rank m = omega arith
+
+-- the answer is a stop, which comes no later
+abbrev pub StopsBy : {A : Type 0} → Message → Text → Answer A → Type 0
+StopsBy m place (Ok x) = ⊥
+StopsBy m place (Err e) = ComesFirst e.message e.place m place
+
+-- the answer is this very stop
+stops_here : {a : Answer Opened} (m : Message) (place : Text) → a ≡ stop m place → StopsBy m place a
+stops_here m place e = subst (λ x. StopsBy m place x) (sym e) (inr (refl, omega arith))
+
+-- the answer is a stop further on the left
+stops_before : {a : Answer Opened} (m k : Message) (place at : Text) → a ≡ stop k at → length place < length at → StopsBy m place a
+stops_before m k place at e before = subst (λ x. StopsBy m place x) (sym e) (inl before)
+
+limit_first : (m : Message) (place at : Text) → length place ≤ length at → ComesFirst too_many_groups at m place
+limit_first m place at within =
+    ⊎_elim (λ (b : nat_lt (length place) (length at) ≡ true). inl (ltb-true _ _ b))
+    (λ (b : nat_lt (length place) (length at) ≡ false). let o = ltb-false (length place) (length at) b in inr (omega arith, least_rank m))
+    (bool_cases (nat_lt (length place) (length at)))
