@@ -1,12 +1,12 @@
 -- Flags: the relations and the function agree.
-use Rattle.std.proofs.Common.{◌≡◌, ℕ, ◌<◌, ◌≤◌, Bool, true, false, not, ◌&&◌, ◌||◌, ◌==◌, List, [], ◌∷◌, ◌++◌, length, refl, sym, ap, ◌∙◌, subst, ⊎_elim, arith, Ok, Err, eqb-true, true≢false, append_assoc, append-nil, length-append, ◌≢◌}
+use Rattle.std.proofs.Common.{◌≡◌, ℕ, ◌<◌, ◌≤◌, Bool, true, false, not, ◌||◌, ◌==◌, [], ◌∷◌, ◌++◌, length, refl, sym, ap, ◌∙◌, subst, ⊎_elim, arith, eqb-true, true≢false, append-nil, length-append}
 use Rattle.std.specs.Prelude.{codes, if◌then◌else◌}
-use Rattle.std.specs.List.{list_all, list_any}
+use Rattle.std.specs.List.{list_all}
 use Rattle.std.proofs.lemmas.Bool.{eq-eqb}
 use Rattle.std.proofs.lemmas.List.Folds.{list_all-append, list_any-append}
 use Rattle.bites_spec.specs.Message as message
 use Rattle.bites_spec.specs.Message.{Message, rank}
-use Rattle.bites_spec.specs.Pattern.{Text, Flags, Front, one_of, colon, dash, right_parenthesis}
+use Rattle.bites_spec.specs.Pattern.{Text, Front, one_of, colon, dash, right_parenthesis}
 use Rattle.bites_spec.specs.Group as group
 use Rattle.bites_spec.specs.Group.{ReadsFlags, unnumbered, changed, is_flag_letter, is_flag_mark, is_flag_run, are_distinct, ends_with_dash}
 use Rattle.bites_spec.specs.GroupFault as stuck

@@ -1,5 +1,5 @@
 -- What opens a group: what the function answers, the relations say, and what the relations say leads the function.
-use Rattle.std.proofs.Common.{◌≡◌, ℕ, ◌+◌, ◌<◌, ◌≤◌, Bool, true, false, not, ◌&&◌, ◌||◌, ◌==◌, List, [], ◌∷◌, ◌++◌, length, drop, Option, Some, None, refl, sym, ap, ◌∙◌, subst, inl, inr, ⊎_elim, arith, ◌⊎◌, Ok, Err, eqb-true, ltb-true, ltb-false, lt-ltb, true≢false}
+use Rattle.std.proofs.Common.{◌≡◌, ℕ, ◌+◌, ◌<◌, ◌≤◌, Bool, true, false, ◌||◌, ◌==◌, [], ◌∷◌, ◌++◌, length, drop, Some, None, refl, sym, ap, ◌∙◌, subst, inl, inr, ⊎_elim, arith, ◌⊎◌, Ok, Err, eqb-true, ltb-true, ltb-false, lt-ltb, true≢false}
 use Rattle.std.specs.Prelude.{codes, nat_lt}
 use Rattle.std.specs.List.{list_all}
 use Rattle.bites_spec.specs.Message as message
@@ -12,11 +12,11 @@ use Rattle.bites_spec.specs.OperatorFault.{greatest_number}
 use Rattle.bites_spec.specs.GroupFault as stuck
 use Rattle.bites_spec.specs.GroupFault.{StuckOpening}
 use Rattle.bites_spec.specs.Fault.{ComesFirst}
-use Rattle.bites_spec.specs.Reading.{Answer, Stop, Opened, directive, group, answer, stop, choose, and_then, opened, no_name, named_group, with_number, name_from, flags_from}
+use Rattle.bites_spec.specs.Reading.{Answer, Opened, directive, group, answer, stop, choose, and_then, opened, no_name, named_group, with_number, name_from, flags_from}
 use Rattle.bites_spec.proofs.EscapeLemmas.{Means, either_side, bool_cases}
 use Rattle.bites_spec.proofs.EachLemmas.{skip_shorter}
 use Rattle.bites_spec.proofs.GroupNames.{both_hold, NameMeans, name_means, name_leads, name_stops, name_shorter, stuck_name_shorter}
-use Rattle.bites_spec.proofs.GroupFlags.{neither, eqb_turned, FlagsMean, behind_run, flags_mean, flags_lead, closing_flags_lead, flags_stop, flags_shorter, stuck_flags_shorter}
+use Rattle.bites_spec.proofs.GroupFlags.{neither, eqb_turned, FlagsMean, flags_mean, flags_lead, closing_flags_lead, flags_stop, flags_shorter, stuck_flags_shorter}
 
 -- from t up to rest stands a directive that makes these the flags
 pub record ReadsDirective (front : Front) (t : Text) (flags : Flags) (rest : Text) : Type 0 where
@@ -241,3 +241,79 @@ limit_first m place at within =
     ⊎_elim (λ (b : nat_lt (length place) (length at) ≡ true). inl (ltb-true _ _ b))
     (λ (b : nat_lt (length place) (length at) ≡ false). let o = ltb-false (length place) (length at) b in inr (omega arith, least_rank m))
     (bool_cases (nat_lt (length place) (length at)))
+
+-- where look-around stands, the function stops before all else
+around_stops : (front : Front) (t place : Text) (m : Message) → begins_look_around t ≡ true → length place < length t → StopsBy m place (opened front t)
+around_stops front t place m around before =
+    stops_before m message.look_around place t (first_taken (begins_look_around t) _ _ around) before
+
+begun_shorter : (t begun : Text) → BeginsName t begun → length begun < length t
+begun_shorter t begun begin =
+    ⊎_elim (λ (e : t ≡ codes "?P<" ++ begun). omega (arith, ap length e)) (λ (e : t ≡ codes "?<" ++ begun). omega (arith, ap length e)) begin
+
+in_name_first : (front : Front) (t begun place : Text) (m : Message) → begins_look_around t ≡ false → BeginsName t begun → length place ≤ length begun →
+    name_from front.names [] begun ≡ stop m place → StopsBy m place (opened front t)
+in_name_first front t begun place m plain begin within stops =
+    subst (λ x. StopsBy m place x) (sym (named front t begun plain begin))
+    (⊎_elim
+    (λ (b : nat_lt greatest_number (front.groups + 1) ≡ true).
+    subst (λ x. StopsBy m place x) (sym (above front begun _ (ltb-true greatest_number (front.groups + 1) b))) (limit_first m place begun within))
+    (λ (b : nat_lt greatest_number (front.groups + 1) ≡ false). stops_here m place (second_taken _ _ _ b ∙ rw stops refl))
+    (bool_cases (nat_lt greatest_number (front.groups + 1))))
+
+-- where the relation stops at a group's opening, the function stops no later, and there with no greater rank
+pub opened_first : {front : Front} {t place : Text} {m : Message} → StuckOpening front t m place → (next : Text) → t ≡ left_parenthesis ∷ next →
+    StopsBy m place (opened front (skip front.flags next))
+opened_first {front} (stuck.looks_around t behind place m is at around says) next same =
+    let here : place ≡ skip front.flags next = at ∙ ap (skip front.flags) (same_next (sym is ∙ same)) in
+    subst (λ x. StopsBy m place (opened front x)) here
+    (stops_here m place (first_taken (begins_look_around place) _ _ around ∙ ap (λ x. stop x place) (sym says)))
+opened_first {front} (stuck.too_many t behind place m is at plain more says) next same =
+    let here : place ≡ skip front.flags next = at ∙ ap (skip front.flags) (same_next (sym is ∙ same)) in
+    subst (λ x. StopsBy m place (opened front x)) here
+    (stops_here m place (unasked front place plain ∙ above front place _ more ∙ ap (λ x. stop x place) (sym says)))
+opened_first {front} (stuck.too_many_named t behind place m is begin more says) next same =
+    subst (λ x. StopsBy m place (opened front (skip front.flags x))) (same_next (sym is ∙ same))
+    (⊎_elim (λ (l : begins_look_around (skip front.flags behind) ≡ true). around_stops front _ place m l (begun_shorter _ place begin))
+    (λ (l : begins_look_around (skip front.flags behind) ≡ false).
+    stops_here m place (named front _ place l begin ∙ above front place _ more ∙ ap (λ x. stop x place) (sym says)))
+    (bool_cases (begins_look_around (skip front.flags behind))))
+opened_first {front} (stuck.in_name t behind begun place m is begin stops) next same =
+    subst (λ x. StopsBy m place (opened front (skip front.flags x))) (same_next (sym is ∙ same))
+    (⊎_elim
+    (λ (l : begins_look_around (skip front.flags behind) ≡ true).
+    around_stops front (skip front.flags behind) place m l (omega (arith, begun_shorter _ begun begin, stuck_name_shorter stops)))
+    (λ (l : begins_look_around (skip front.flags behind) ≡ false).
+    in_name_first front _ begun place m l begin (stuck_name_shorter stops) (name_stops stops))
+    (bool_cases (begins_look_around (skip front.flags behind))))
+opened_first {front} (stuck.in_flags t behind marks place m is asks plain stops) next same =
+    subst (λ x. StopsBy m place (opened front (skip front.flags x))) (same_next (sym is ∙ same))
+    (subst (λ x. StopsBy m place (opened front x)) (sym asks)
+    (⊎_elim
+    (λ (l : begins_look_around (question ∷ marks) ≡ true). around_stops front (question ∷ marks) place m l (omega (arith, stuck_flags_shorter stops)))
+    (λ (l : begins_look_around (question ∷ marks) ≡ false).
+    stops_here m place (asked front (question ∷ marks) l plain ∙ flags_stop stops front)) (bool_cases (begins_look_around (question ∷ marks)))))
+
+-- a group's opening goes forward
+pub opening_shorter : {front inner : Front} {t inside : Text} {opening : Opening} → ReadsOpening front t opening inner inside → length inside < length t
+opening_shorter {front} (relation.number_only t next inside opening inner is at plain opens fronts) =
+    omega (arith, ap length is, ap length at, skip_shorter front.flags next)
+opening_shorter {front} (relation.named t next begun name inside opening inner is plain begin reads opens fronts) =
+    omega (arith, ap length is, begun_shorter _ begun begin, name_shorter reads, skip_shorter front.flags next)
+opening_shorter {front} (relation.with_flags t next marks run inside opening inner is asks reads opens fronts) =
+    omega (arith, ap length is, ap length asks, flags_shorter reads, skip_shorter front.flags next)
+
+-- a directive goes forward
+pub directive_shorter : {front : Front} {t rest : Text} {flags : Flags} → ReadsDirective front t flags rest → length rest < length t
+directive_shorter {front} d = omega (arith, ap length d.opens, ap length d.asks, flags_shorter d.reads, skip_shorter front.flags d.next)
+
+-- no fault of a group's opening stands at its parenthesis or before
+pub stuck_opening_shorter : {front : Front} {t place : Text} {m : Message} → StuckOpening front t m place → length place < length t
+stuck_opening_shorter {front} (stuck.looks_around t next place m is at around says) = omega (arith, ap length is, ap length at, skip_shorter front.flags next)
+stuck_opening_shorter {front} (stuck.too_many t next place m is at plain more says) = omega (arith, ap length is, ap length at, skip_shorter front.flags next)
+stuck_opening_shorter {front} (stuck.too_many_named t next place m is begin more says) =
+    omega (arith, ap length is, begun_shorter _ place begin, skip_shorter front.flags next)
+stuck_opening_shorter {front} (stuck.in_name t next begun place m is begin stops) =
+    omega (arith, ap length is, begun_shorter _ begun begin, stuck_name_shorter stops, skip_shorter front.flags next)
+stuck_opening_shorter {front} (stuck.in_flags t next marks place m is asks plain stops) =
+    omega (arith, ap length is, ap length asks, stuck_flags_shorter stops, skip_shorter front.flags next)

@@ -1,6 +1,5 @@
 -- Names of groups: the relations and the function agree.
-use Rattle.std.proofs.Common.{◌≡◌, ℕ, ◌<◌, ◌≤◌, Bool, true, false, not, ◌&&◌, ◌||◌, ◌==◌, List, [], ◌∷◌, ◌++◌, length, refl, sym, ap, ◌∙◌, subst, arith, Ok, Err, eqb-true, true≢false, append_assoc, append-nil, length-append, ◌≢◌}
-use Rattle.std.specs.Prelude.{codes}
+use Rattle.std.proofs.Common.{◌≡◌, ℕ, ◌<◌, ◌≤◌, Bool, true, false, ◌&&◌, ◌==◌, List, [], ◌∷◌, ◌++◌, length, refl, sym, ap, ◌∙◌, subst, arith, eqb-true, true≢false, append_assoc, append-nil, length-append, ◌≢◌}
 use Rattle.std.specs.List.{list_all}
 use Rattle.std.proofs.lemmas.Bool.{eq-eqb}
 use Rattle.std.proofs.lemmas.List.Folds.{list_all-append}
@@ -11,9 +10,8 @@ use Rattle.bites_spec.specs.Group as group
 use Rattle.bites_spec.specs.Group.{ReadsName, is_name_start, is_name_part, is_name_front, is_used}
 use Rattle.bites_spec.specs.GroupFault as stuck
 use Rattle.bites_spec.specs.GroupFault.{StuckName}
-use Rattle.bites_spec.specs.Reading as reading
 use Rattle.bites_spec.specs.Reading.{Answer, answer, stop, name_from, name_end, name_unclosed}
-use Rattle.bites_spec.proofs.EscapeLemmas.{Means, either_side, bool_cases}
+use Rattle.bites_spec.proofs.EscapeLemmas.{Means, either_side}
 
 -- two tests that both hold
 pub both_hold : (a b : Bool) → (a && b) ≡ true → (a ≡ true) × (b ≡ true)
