@@ -30,3 +30,4 @@ pub mod CountLemmas
 pub mod GroupNames
 pub mod GroupFlags
 pub mod GroupLemmas
+pub mod CompilableNames
