@@ -31,3 +31,4 @@ pub mod GroupNames
 pub mod GroupFlags
 pub mod GroupLemmas
 pub mod CompilableNames
+pub mod CompilableLemmas
