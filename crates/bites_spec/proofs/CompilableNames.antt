@@ -1,9 +1,9 @@
 -- Names that differ as characters differ as bytes.
-use Rattle.std.proofs.Common.{◌≡◌, ℕ, ◌+◌, ◌-◌, ◌*◌, ◌/◌, ◌%◌, ◌<◌, ◌≤◌, List, [], ◌∷◌, ◌++◌, Option, Some, None, unwrap_or, refl, sym, ap, ap₂, ◌∙◌, inl, inr, ⊎_elim, arith, le-ltb, lt-ltb}
+use Rattle.std.proofs.Common.{◌≡◌, ℕ, ◌+◌, ◌-◌, ◌*◌, ◌/◌, ◌%◌, ◌<◌, ◌≤◌, List, [], ◌∷◌, ◌++◌, Option, Some, None, unwrap_or, refl, sym, ap, ap₂, ◌∙◌, ⊎_elim, arith, le-ltb, lt-ltb}
 use Rattle.std.specs.Prelude.{nat_lt, encode_utf8_all, if◌then◌else◌}
 use Rattle.std.proofs.lemmas.Bool.{cases_lt}
 use Rattle.std.proofs.lemmas.Option.{none-some}
-use lib.Utf8.{encode, next}
+use lib.Utf8.{encode}
 
 -- a character and the bytes behind it
 abbrev Decoded : Type 0
@@ -47,8 +47,14 @@ of_three c bytes low high =
     let first : 128 ≤ 224 + c / 4096 = omega arith in
     let second : 224 ≤ 224 + c / 4096 = omega arith in
     let third : 224 + c / 4096 < 240 = omega arith in
-    rw (le-ltb c 128 small, le-ltb c 2048 low, lt-ltb c 65536 high, le-ltb (224 + c / 4096) 128 first, le-ltb (224 + c / 4096) 224 second,
-    lt-ltb (224 + c / 4096) 240 third)
+    rw (
+      le-ltb c 128 small,
+      le-ltb c 2048 low,
+      lt-ltb c 65536 high,
+      le-ltb (224 + c / 4096) 128 first,
+      le-ltb (224 + c / 4096) 224 second,
+      lt-ltb (224 + c / 4096) 240 third,
+    )
     (let same : ((224 + c / 4096 - 224) * 64 + (128 + (c / 64) % 64 - 128)) * 64 + (128 + c % 64 - 128) ≡ c = omega arith in
     ap (λ n. Some (n, bytes)) same)
 
@@ -60,8 +66,14 @@ of_four c bytes low =
     let first : 128 ≤ 240 + c / 262144 = omega arith in
     let second : 224 ≤ 240 + c / 262144 = omega arith in
     let third : 240 ≤ 240 + c / 262144 = omega arith in
-    rw (le-ltb c 128 small, le-ltb c 2048 middle, le-ltb c 65536 low, le-ltb (240 + c / 262144) 128 first, le-ltb (240 + c / 262144) 224 second,
-    le-ltb (240 + c / 262144) 240 third)
+    rw (
+      le-ltb c 128 small,
+      le-ltb c 2048 middle,
+      le-ltb c 65536 low,
+      le-ltb (240 + c / 262144) 128 first,
+      le-ltb (240 + c / 262144) 224 second,
+      le-ltb (240 + c / 262144) 240 third,
+    )
     (let same : (((240 + c / 262144 - 240) * 64 + (128 + (c / 4096) % 64 - 128)) * 64 + (128 + (c / 64) % 64 - 128)) * 64 + (128 + c % 64 - 128) ≡ c = omega arith in
     ap (λ n. Some (n, bytes)) same)
 

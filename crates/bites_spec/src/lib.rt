@@ -2,6 +2,7 @@
 #![tactic(auto)]
 
 ghost use Rattle.bites_spec.specs.Class.{ListsOnce};
+ghost use Rattle.bites_spec.specs.GrammarLaws.{ReadIsCompilable};
 ghost use Rattle.bites_spec.specs.Laws.{MatchIsParse, FirstRunIsFirst, FirstRunIsOne, RunsAreParses, PlainRunsAreSimple, FirstRunIsFound, LeastEndIsLeast, ParsesAreListed, LongestIsFound};
 
 pub fn match_is_parse()
@@ -42,4 +43,8 @@ pub fn longest_is_found()
 
 pub fn ranges_of_a_set_are_unique()
     ensures { ListsOnce }
+{}
+
+pub fn read_trees_are_compilable()
+    ensures { ReadIsCompilable }
 {}
