@@ -27,3 +27,4 @@ pub mod RangeLemmas
 pub mod EachLemmas
 pub mod EscapeLemmas
 pub mod CountLemmas
+pub mod StaticLemmas
