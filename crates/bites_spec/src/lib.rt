@@ -2,6 +2,8 @@
 #![tactic(auto)]
 
 ghost use Rattle.bites_spec.specs.Class.{ListsOnce};
+ghost use Rattle.bites_spec.specs.GrammarLaws.{ListsAll};
+ghost use Rattle.bites_spec.specs.RangesOf.{RangesOfList};
 ghost use Rattle.bites_spec.specs.Laws.{MatchIsParse, FirstRunIsFirst, FirstRunIsOne, RunsAreParses, PlainRunsAreSimple, FirstRunIsFound, LeastEndIsLeast, ParsesAreListed, LongestIsFound};
 
 pub fn match_is_parse()
@@ -42,4 +44,12 @@ pub fn longest_is_found()
 
 pub fn ranges_of_a_set_are_unique()
     ensures { ListsOnce }
+{}
+
+pub fn every_set_has_ranges()
+    ensures { ListsAll }
+{}
+
+pub fn ranges_of_a_set_list_it()
+    ensures { RangesOfList }
 {}
