@@ -24,6 +24,7 @@ pub mod Readings
 pub mod Stops
 pub mod Evaluations
 pub mod RangeLemmas
+pub mod ClassLemmas
 pub mod EachLemmas
 pub mod EscapeLemmas
 pub mod CountLemmas
