@@ -29,3 +29,6 @@ pub mod EachLemmas
 pub mod EscapeLemmas
 pub mod CountLemmas
 pub mod StaticLemmas
+pub mod GroupNames
+pub mod GroupFlags
+pub mod GroupLemmas
