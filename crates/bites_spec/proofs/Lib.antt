@@ -27,3 +27,5 @@ pub mod RangeLemmas
 pub mod EachLemmas
 pub mod EscapeLemmas
 pub mod CountLemmas
+pub mod BracketText
+pub mod BracketMeans
