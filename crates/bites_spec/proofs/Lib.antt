@@ -29,3 +29,4 @@ pub mod EscapeLemmas
 pub mod CountLemmas
 pub mod BracketText
 pub mod BracketMeans
+pub mod BracketLeads
