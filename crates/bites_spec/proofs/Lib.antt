@@ -32,3 +32,6 @@ pub mod StaticLemmas
 pub mod GroupNames
 pub mod GroupFlags
 pub mod GroupLemmas
+pub mod BracketText
+pub mod BracketMeans
+pub mod BracketLeads
