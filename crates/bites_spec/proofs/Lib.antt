@@ -27,3 +27,8 @@ pub mod RangeLemmas
 pub mod EachLemmas
 pub mod EscapeLemmas
 pub mod CountLemmas
+pub mod ChoiceParts
+pub mod ChoiceSound
+pub mod ChoiceShorter
+pub mod ChoiceReader
+pub mod WholeSound
