@@ -1,6 +1,6 @@
 -- What the reader answers to a whole pattern, the relations say.
 use Rattle.std.proofs.Common.{◌≡◌, ℕ, zero, suc, ◌+◌, ◌<◌, ◌≤◌, ◌⊎◌, List, [], ◌∷◌, length, refl, sym, ap, ◌∙◌, subst, inl, inr, ⊎_elim, arith, Ok, Err, Result}
-use Rattle.std.proofs.Math.Nat.{≤-or-lt}
+use Rattle.std.proofs.lemmas.Bool.{cases_lt}
 use Rattle.bites_spec.specs.Range.{Range}
 use Rattle.bites_spec.specs.Class.{Set, Lists}
 use Rattle.bites_spec.specs.Tree.{Tree, choice_of}
@@ -60,8 +60,10 @@ module _ (list_of : Set → List Range) (lists : (set : Set) → Lists (list_of 
 -- a tree is too tall or is not
 pub tall_or_low : (nest_limit : ℕ) (t : Tree) → (IsTooTall nest_limit t) ⊎ ((height t ≤ nest_limit) × (height t < 4294967295))
 tall_or_low nest_limit t =
-    ⊎_elim (λ (low : height t ≤ nest_limit). ⊎_elim (λ (tall : 4294967295 ≤ height t). inl (inr tall)) (λ (counted : height t < 4294967295). inr (low, counted)) (≤-or-lt 4294967295 (height t)))
-    (λ (tall : nest_limit < height t). inl (inl tall)) (≤-or-lt (height t) nest_limit)
+    ⊎_elim (λ (tall : nest_limit < height t). inl (inl tall))
+    (λ (low : height t ≤ nest_limit).
+    ⊎_elim (λ (counted : height t < 4294967295). inr (low, counted)) (λ (tall : 4294967295 ≤ height t). inl (inr tall)) (cases_lt (height t) 4294967295))
+    (cases_lt nest_limit (height t))
 
 -- a tree within the limits on reading that is not too tall
 pub within_limits : {pattern : Text} {flags : Flags} {nest_limit : ℕ} {t : Tree} → Within pattern flags nest_limit t → (IsTooTall nest_limit t → ⊥) →
