@@ -35,3 +35,8 @@ pub mod GroupLemmas
 pub mod BracketText
 pub mod BracketMeans
 pub mod BracketLeads
+pub mod ChoiceParts
+pub mod ChoiceSound
+pub mod ChoiceShorter
+pub mod ChoiceReader
+pub mod WholeSound

@@ -144,11 +144,11 @@ abbrev mutual
   open_in_choice (one front behind t rest nodes branches s _) = open_in_sequence s
   open_in_choice (several front middle behind t more rest nodes others branches s c _) = max (open_in_sequence s) (open_in_choice c)
 
-  open_in_sequence : {front behind : Front} {t rest : Text} {nodes all : List Tree} → ReadsSequence front t nodes all behind rest → ℕ
+  pub open_in_sequence : {front behind : Front} {t rest : Text} {nodes all : List Tree} → ReadsSequence front t nodes all behind rest → ℕ
   open_in_sequence (ends front behind t rest nodes all _ _ _ _) = 0
   open_in_sequence (goes_on front middle behind t next rest nodes more all i s) = max (open_in_item i) (open_in_sequence s)
 
-  open_in_item : {front behind : Front} {t rest : Text} {nodes all : List Tree} → ReadsItem front t nodes all behind rest → ℕ
+  pub open_in_item : {front behind : Front} {t rest : Text} {nodes all : List Tree} → ReadsItem front t nodes all behind rest → ℕ
   open_in_item (atom front behind t rest nodes all node _ _ _) = 0
   open_in_item (operator front behind t rest nodes all before last min max greedy _ _ _ _) = 0
   open_in_item (directive front behind t next marks run rest c letters nodes all _ _ _ _ _ _) = 0
@@ -160,11 +160,11 @@ abbrev mutual
   count_in_choice (one front behind t rest nodes branches s _) = count_in_sequence s
   count_in_choice (several front middle behind t more rest nodes others branches s c _) = max (count_in_sequence s) (count_in_choice c)
 
-  count_in_sequence : {front behind : Front} {t rest : Text} {nodes all : List Tree} → ReadsSequence front t nodes all behind rest → ℕ
+  pub count_in_sequence : {front behind : Front} {t rest : Text} {nodes all : List Tree} → ReadsSequence front t nodes all behind rest → ℕ
   count_in_sequence (ends front behind t rest nodes all _ _ _ _) = 0
   count_in_sequence (goes_on front middle behind t next rest nodes more all i s) = max (count_in_item i) (count_in_sequence s)
 
-  count_in_item : {front behind : Front} {t rest : Text} {nodes all : List Tree} → ReadsItem front t nodes all behind rest → ℕ
+  pub count_in_item : {front behind : Front} {t rest : Text} {nodes all : List Tree} → ReadsItem front t nodes all behind rest → ℕ
   count_in_item (atom front behind t rest nodes all node _ _ _) = 0
   count_in_item (operator front behind t rest nodes all before last least most greedy _ _ _ _) = max least (unwrap_or most 0)
   count_in_item (directive front behind t next marks run rest c letters nodes all _ _ _ _ _ _) = 0
