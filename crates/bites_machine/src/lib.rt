@@ -3,4 +3,5 @@
 
 pub mod look;
 pub mod program;
+mod set;
 pub mod state;
