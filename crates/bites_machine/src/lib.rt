@@ -2,4 +2,5 @@
 #![tactic(auto)]
 
 pub mod program;
+mod set;
 pub mod state;
