@@ -52,6 +52,8 @@ pub fn ranges_of_a_set_are_unique()
 
 pub fn read_trees_are_compilable()
     ensures { ReadIsCompilable }
+{}
+
 pub fn parses_end_at_matches()
     ensures { ParsesEndAtMatches }
 {}
