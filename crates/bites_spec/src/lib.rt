@@ -4,10 +4,8 @@
 #![tactic(auto)]
 
 ghost use Rattle.bites_spec.specs.Class.{ListsOnce};
-ghost use Rattle.bites_spec.specs.GrammarLaws.{ReadIsCompilable};
-ghost use Rattle.bites_spec.specs.Laws.{MatchIsParse, FirstRunIsFirst, FirstRunIsOne, RunsAreParses, PlainRunsAreSimple, FirstRunIsFound, LeastEndIsLeast, ParsesAreListed, LongestIsFound};
 ghost use Rattle.bites_spec.specs.Laws.{MatchIsParse, FirstRunIsFirst, FirstRunIsOne, RunsAreParses, PlainRunsAreSimple, FirstRunIsFound, LeastEndIsLeast, ParsesAreListed, LongestIsFound, ParsesEndAtMatches, StaticCountIsLeast, SpansGrow, PiecesAndMatches, ReplacedIsJoined};
-ghost use Rattle.bites_spec.specs.GrammarLaws.{ListsAll};
+ghost use Rattle.bites_spec.specs.GrammarLaws.{ListsAll, ReadIsCompilable};
 ghost use Rattle.bites_spec.specs.RangesOf.{RangesOfList};
 
 pub fn match_is_parse()
@@ -50,10 +48,6 @@ pub fn ranges_of_a_set_are_unique()
     ensures { ListsOnce }
 {}
 
-pub fn read_trees_are_compilable()
-    ensures { ReadIsCompilable }
-{}
-
 pub fn parses_end_at_matches()
     ensures { ParsesEndAtMatches }
 {}
@@ -80,4 +74,8 @@ pub fn every_set_has_ranges()
 
 pub fn ranges_of_a_set_list_it()
     ensures { RangesOfList }
+{}
+
+pub fn read_trees_are_compilable()
+    ensures { ReadIsCompilable }
 {}
