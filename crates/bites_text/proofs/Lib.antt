@@ -1,1 +1,3 @@
 pub mod ErrorLemmas
+mod RowLemmas
+mod FrontLemmas
