@@ -1,7 +1,8 @@
 -- The piece at the front by the bytes behind the first one, each read at its place.
-use Rattle.std.proofs.Common.{◌≡◌, ℕ, zero, suc, ◌+◌, ◌-◌, ◌*◌, ◌<◌, ◌≤◌, Bool, true, false, List, [], ◌∷◌, length, get_or, Option, Some, None, IsSome, refl, sym, ap, subst, ◌∙◌, arith, ◌⊎◌, inl, inr}
+use Rattle.std.proofs.Common.{◌≡◌, ℕ, zero, suc, ◌+◌, ◌-◌, ◌*◌, ◌<◌, ◌≤◌, Bool, true, false, List, [], ◌∷◌, length, drop, take, get_or, Option, Some, None, IsSome, refl, sym, ap, subst, ◌∙◌, arith, ◌⊎◌, inl, inr}
 use Rattle.std.specs.Option.{SomeIff}
 use Rattle.std.specs.Char.{IsScalar, InScalarRange}
+use Rattle.std.proofs.lemmas.List.{take_all}
 use Rattle.std.proofs.lemmas.Bool.Decides.{nat_tests}
 use Rattle.bites_spec.specs.Range.{Range, in_range}
 use Rattle.bites_spec.specs.Utf8.{Piece, front_piece, continuation, scalar_value}
@@ -146,3 +147,12 @@ three_scalar b x y l h s m = grind arith
 
 pub four_scalar : (b x y z : ℕ) → 0xF0 ≤ b → b ≤ 0xF4 → SecondBounds b x → y ≤ 0xBF → z ≤ 0xBF → InScalarRange (scalar_value (b ∷ x ∷ y ∷ z ∷ []))
 four_scalar b x y z l h s m n = grind arith
+
+pub front_parts : (bytes : List ℕ) → 1 ≤ length bytes → get_or bytes 0 0 ∷ take (length bytes - 1) (drop 1 bytes) ≡ bytes
+front_parts [] some = absurd (omega arith)
+front_parts (b ∷ bytes) some = ap (λ rest. b ∷ rest) (take_all (length (b ∷ bytes) - 1) bytes (omega arith))
+
+pub front_end : (bytes : List ℕ) → length bytes < 1 → front_piece bytes ≡ invalid 0
+unfolding front_piece
+front_end [] none = refl
+front_end (b ∷ bytes) none = absurd (omega arith)

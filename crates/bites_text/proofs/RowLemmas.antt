@@ -6,7 +6,7 @@ use Rattle.bites_spec.specs.Range.{Range, in_range}
 use Rattle.bites_spec.specs.Utf8.{Piece, front_piece, piece_by, fitting, whole_len, begun_len, well_formed_rows, continuation, scalar_value}
 use Rattle.bites_text.specs.Rows.{second_range}
 
-bool_cases : (t : Bool) → (t ≡ true) ⊎ (t ≡ false)
+pub bool_cases : (t : Bool) → (t ≡ true) ⊎ (t ≡ false)
 bool_cases true = inl refl
 bool_cases false = inr refl
 
