@@ -1,7 +1,8 @@
 -- The ranges between the greatest ranges of a set.
-use Rattle.std.proofs.Common.{◌≡◌, ◌≢◌, ℕ, ◌-◌, ◌<◌, ◌≤◌, ◌⊎◌, Bool, true, false, not, ◌&&◌, ◌||◌, List, [], ◌∷◌, inl, inr, refl, sym, ap, ◌∙◌, arith, eq-eqb, ne_eqb, le-leb}
+use Rattle.std.proofs.Common.{◌≡◌, ◌≢◌, ℕ, zero, suc, ◌+◌, ◌-◌, ◌<◌, ◌≤◌, ◌⊎◌, Bool, true, false, not, ◌&&◌, ◌||◌, List, [], ◌∷◌, ◌++◌, length, get_or, drop, append_assoc, subst, inl, inr, refl, sym, ap, ◌∙◌, arith, eq-eqb, ne_eqb, le-leb}
 use Rattle.std.specs.Prelude.{nat_le, nat_lt, ◌==◌, if◌then◌else◌}
 use Rattle.std.proofs.lemmas.Bool.{lt-leb, cases_lt, cases_eq, lt-ltb, le-ltb}
+use Rattle.std.proofs.lemmas.List.{at_drop_more, at_drop_all, drop_more}
 use Rattle.bites_spec.specs.Range.{Range, in_range, in_ranges}
 use Rattle.bites_spec.specs.Class.{is_scalar, complement, following, IsRange, AreGreatest, Lists}
 use Rattle.bites_spec.proofs.RangeLemmas.{Within, is_range, none_below, tail_is_greatest, scalar_within, within_scalar, following_within, after_following, in_first}
@@ -111,7 +112,7 @@ fills_gap low r ranges all start less g f =
     let p = precedes r.0 is.0 (omega (arith, less)) in
     record {
       greatest = put_before (low, preceding r.0) (following r.1) all (within_scalar low w, p.scalar, p.most low (within_scalar low w) less)
-      (rw p.next (omega (arith, is.2, after_following r.1))) f.greatest f.starts;
+          (rw p.next (omega (arith, is.2, after_following r.1))) f.greatest f.starts;
       starts = omega arith;
       same = λ c scalar from. elim (cases_lt c r.0) [
         | inl below ↦ rw (none_below r ranges g c below, in_range-within (low, preceding r.0) c from (p.most c scalar below)) refl
@@ -142,3 +143,65 @@ pub lists_gaps : (ranges : List Range) → AreGreatest ranges → Lists (gaps 0 
 lists_gaps ranges g =
     let f = fills 0 ranges (inl (inl (omega arith))) g (starts_anywhere ranges) in
     record { greatest = f.greatest; same = λ c scalar. f.same c scalar (omega arith) ∙ sym (ap (λ b. b && not (in_ranges ranges c)) scalar) }
+
+after_surrogates : (p s : ℕ) → Within p → p + 1 ≡ s → s ≢ 0xE000
+after_surrogates p s (inl low) next = λ e. omega (arith, low, next, e)
+after_surrogates p s (inr high) next = λ e. omega (arith, high.0, next, e)
+
+precedes_once : (p s : ℕ) → is_scalar p ≡ true → following p ≡ s → p ≡ preceding s
+precedes_once p s scalar e = elim (cases_eq p 0xD7FF) [
+  | inl last ↦ (let next : 0xE000 ≡ s = rw (eq-eqb p 0xD7FF last) at e in rw (eq-eqb s 0xE000 (sym next)) last)
+  | inr n ↦ (let next : p + 1 ≡ s = rw (ne_eqb p 0xD7FF n) at e in
+      rw (ne_eqb s 0xE000 (after_surrogates p s (scalar_within p scalar) next)) (omega (arith, next)))
+]
+
+greatest-drop : (i : ℕ) (ranges : List Range) → AreGreatest ranges → AreGreatest (drop i ranges)
+greatest-drop zero ranges g = g
+greatest-drop (suc i) [] g = g
+greatest-drop (suc i) (r ∷ ranges) g = greatest-drop i ranges (tail_is_greatest r ranges g)
+
+-- a step of the walk over the ranges, where there is a gap before this one
+pub gap_before : (done ranges : List Range) (i low p : ℕ) → i < length ranges → low < (get_or ranges i (0, 0)).0 →
+    following p ≡ (get_or ranges i (0, 0)).0 → is_scalar p ≡ true → done ++ gaps low (drop i ranges) ≡ gaps 0 ranges →
+    (done ++ (low, p) ∷ []) ++ gaps (following (get_or ranges i (0, 0)).1) (drop (i + 1) ranges) ≡ gaps 0 ranges
+gap_before done ranges i low p within less next scalar so_far =
+    let r : Range = get_or ranges i (0, 0) in
+    let step : gaps low (drop i ranges) ≡ (low, p) ∷ gaps (following r.1) (drop (i + 1) ranges) =
+    at_drop_more (gaps low) ranges i (0, 0) within ∙ (rw (lt-ltb low r.0 less, ← precedes_once p r.0 scalar next) refl) in
+    append_assoc done ((low, p) ∷ []) (gaps (following r.1) (drop (i + 1) ranges)) ∙ ap (λ x. done ++ x) (sym step) ∙ so_far
+
+-- a step where there is none
+pub no_gap_before : (done ranges : List Range) (i low : ℕ) → i < length ranges → (get_or ranges i (0, 0)).0 ≤ low →
+    done ++ gaps low (drop i ranges) ≡ gaps 0 ranges → done ++ gaps (following (get_or ranges i (0, 0)).1) (drop (i + 1) ranges) ≡ gaps 0 ranges
+no_gap_before done ranges i low within no_less so_far =
+    let r : Range = get_or ranges i (0, 0) in
+    let step : gaps low (drop i ranges) ≡ gaps (following r.1) (drop (i + 1) ranges) =
+    at_drop_more (gaps low) ranges i (0, 0) within ∙ (rw (le-ltb low r.0 no_less) refl) in
+    ap (λ x. done ++ x) (sym step) ∙ so_far
+
+behind_last : (r : Range) (ranges : List Range) → AreGreatest (r ∷ ranges) → r.1 ≡ 0x10_FFFF → gaps (following r.1) ranges ≡ []
+behind_last r [] g last = rw last refl
+behind_last r (s ∷ ranges) g last = absurd (omega (arith, g.1, last, after_following r.1, below_last s.0 (scalar_within s.0 (is_range s ranges g.2).0)))
+
+-- behind a range up to the last character there is no gap
+pub none_behind : (ranges : List Range) (i : ℕ) → AreGreatest ranges → i < length ranges → (get_or ranges i (0, 0)).1 ≡ 0x10_FFFF →
+    gaps (following (get_or ranges i (0, 0)).1) (drop (i + 1) ranges) ≡ []
+none_behind ranges i g within last =
+    behind_last (get_or ranges i (0, 0)) (drop (i + 1) ranges) (rw (drop_more ranges i (0, 0) within) at (greatest-drop i ranges g)) last
+
+-- behind the last range there is a gap up to the last character
+pub gap_at_end : (done ranges : List Range) (i low : ℕ) → length ranges ≤ i → low ≤ 0x10_FFFF →
+    done ++ gaps low (drop i ranges) ≡ gaps 0 ranges → done ++ (low, 0x10_FFFF) ∷ [] ≡ gaps 0 ranges
+gap_at_end done ranges i low all within so_far =
+    ap (λ x. done ++ x) (sym (at_drop_all (gaps low) ranges i all ∙ (rw (le-leb low 0x10_FFFF within) refl))) ∙ so_far
+
+-- what equals the gaps lists all other characters
+pub lists_others : (ranges others : List Range) → AreGreatest ranges → others ≡ gaps 0 ranges → Lists others (complement (in_ranges ranges))
+lists_others ranges others g e = subst (λ x. Lists x (complement (in_ranges ranges))) (sym e) (lists_gaps ranges g)
+
+-- below the last character there is one that follows
+pub following_below : (c : ℕ) → c < 0x10_FFFF → following c ≤ 0x10_FFFF
+following_below c less = elim (cases_eq c 0xD7FF) [
+  | inl e ↦ rw (eq-eqb c 0xD7FF e) (omega arith)
+  | inr n ↦ rw (ne_eqb c 0xD7FF n) (omega (arith, less))
+]

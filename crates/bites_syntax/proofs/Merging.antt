@@ -71,20 +71,20 @@ merges : (r : Range) (ranges : List Range) → IsRange r → RiseFrom r.0 ranges
 merges r [] is rise = record { greatest = is; starts = omega arith; same = λ c scalar. refl }
 merges r (s ∷ ranges) is rise = elim (cases_lt (following r.1) s.0) [
   | inr near ↦ (
-    let m = merges (r.0, max r.1 s.1) ranges (longer r s is rise.1) (rise_lower r.0 s.0 ranges rise.0 rise.2) in
-    rw (le-leb s.0 (following r.1) near) record {
-      greatest = m.greatest;
-      starts = m.starts;
-      same = λ c scalar. m.same c scalar ∙ ap (λ b. b || in_ranges ranges c) (in_longer r s is rise.0 near c scalar)
-      ∙ sym (or_assoc (in_range r c) (in_range s c) (in_ranges ranges c));
-    })
+      let m = merges (r.0, max r.1 s.1) ranges (longer r s is rise.1) (rise_lower r.0 s.0 ranges rise.0 rise.2) in
+      rw (le-leb s.0 (following r.1) near) record {
+        greatest = m.greatest;
+        starts = m.starts;
+        same = λ c scalar. m.same c scalar ∙ ap (λ b. b || in_ranges ranges c) (in_longer r s is rise.0 near c scalar)
+            ∙ sym (or_assoc (in_range r c) (in_range s c) (in_ranges ranges c));
+      })
   | inl apart ↦ (
-    let m = merges s ranges rise.1 rise.2 in
-    rw (lt-leb s.0 (following r.1) apart) record {
-      greatest = put_before r s.0 (merged_behind s ranges) is apart m.greatest m.starts;
-      starts = omega arith;
-      same = λ c scalar. ap (λ b. in_range r c || b) (m.same c scalar);
-    })
+      let m = merges s ranges rise.1 rise.2 in
+      rw (lt-leb s.0 (following r.1) apart) record {
+        greatest = put_before r s.0 (merged_behind s ranges) is apart m.greatest m.starts;
+        starts = omega arith;
+        same = λ c scalar. ap (λ b. in_range r c || b) (m.same c scalar);
+      })
 ]
 
 -- what is merged lists the characters of the ranges
