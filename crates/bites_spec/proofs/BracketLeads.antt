@@ -241,3 +241,83 @@ leading_leads {flags} (ReadsLeading.bracket t next rest set empty begins same is
     ∙ by_bracket flags rest more n negated ∙ rw same refl
 leading_leads {flags} (ReadsLeading.neither t rest set empty other same is) more n negated =
     ap (λ d. reading.after_dashes n flags negated d t) empty ∙ by_neither flags t other (rw is at more) n negated ∙ rw (same, is) refl
+
+leading_shorter : {flags : Flags} {dashes behind items : Text} {leading : Set} → ReadsLeading flags dashes behind leading items → length items ≤ length behind
+leading_shorter (ReadsLeading.some_dashes t rest set some same is) = omega (arith, ap length is)
+leading_shorter {flags} (ReadsLeading.bracket t next rest set empty begins same is) = omega (arith, ap length is, ap length begins, skip_shorter flags next)
+leading_shorter (ReadsLeading.neither t rest set empty other same is) = omega (arith, ap length is)
+
+caret_shorter : {flags : Flags} {t rest : Text} {negated : Bool} → ReadsCaret flags t negated rest → length rest ≤ length t
+caret_shorter {flags} (ReadsCaret.caret t next rest negated is gap same) = omega (arith, ap length is, ap length gap, skip_shorter flags next)
+caret_shorter (ReadsCaret.none t rest negated other is same) = omega (arith, ap length is)
+
+by_caret : (n : ℕ) (flags : Flags) (t : Text) → 0 < length t → reading.after_caret n flags t ≡ reading.dashes n flags true t
+by_caret n flags [] some = absurd (omega arith)
+by_caret n flags (c ∷ t) some = refl
+
+by_no_caret : (n : ℕ) (flags : Flags) (t : Text) → 0 < length t → next_is (single caret) t ≡ false → reading.bracket n flags t ≡ reading.dashes n flags false t
+by_no_caret n flags [] some other = absurd (omega arith)
+by_no_caret n flags (c ∷ t) some other = rw other refl
+
+-- a caret that the relation reads, the function reads
+pub caret_leads : {flags : Flags} {t rest : Text} {negated : Bool} → ReadsCaret flags t negated rest → 0 < length rest → (n : ℕ) →
+    reading.bracket n flags t ≡ reading.dashes n flags negated rest
+caret_leads {flags} (ReadsCaret.caret t next rest negated is gap same) some n =
+    ap (reading.bracket n flags) is ∙ ap (reading.after_caret n flags) (sym gap) ∙ by_caret n flags rest some
+    ∙ ap (λ b. reading.dashes n flags b rest) (sym same)
+caret_leads {flags} (ReadsCaret.none t rest negated other is same) some n =
+    by_no_caret n flags t (rw is at some) other ∙ ap₂ (reading.dashes n flags) (sym same) (sym is)
+
+-- leading dashes that the relation reads, the function reads
+pub dashes_lead : {flags : Flags} {t dashes rest : Text} → ReadsEach flags (single dash) t dashes rest → (n : ℕ) (negated : Bool) → length t ≤ n →
+    reading.dashes n flags negated t ≡ reading.after_dashes n flags negated dashes rest
+dashes_lead {flags} r n negated room = ap (λ d. reading.after_dashes n flags negated d.0 d.1) (each_complete r n room)
+
+same_behind : (c : ℕ) (t u : Text) → c ∷ t ≡ c ∷ u → t ≡ u
+same_behind c t u is = cc
+
+-- all before the first item that the relation reads, the function reads
+pub front_leads : {flags : Flags} {t items : Text} {negated : Bool} {leading : Set} → ReadsBracketFront flags t negated leading items → 0 < length items →
+    (n : ℕ) (next : Text) → t ≡ left_bracket ∷ next → length next ≤ n →
+    reading.bracket n flags (skip flags next) ≡ reading.finished flags negated (class_members n flags leading items)
+front_leads {flags} (ReadsBracketFront.front t other behind_caret behind_dashes dashes items negated leading begins marked dashed leads) some n next is room =
+    let same : next ≡ other = same_behind left_bracket next other (sym is ∙ begins) in
+    let short : length behind_caret ≤ n = omega (arith, caret_shorter marked, skip_shorter flags other, ap length same) in
+    ap (λ y. reading.bracket n flags (skip flags y)) same
+    ∙ caret_leads marked (omega (arith, leading_shorter leads, each_shorter dashed)) n
+    ∙ dashes_lead dashed n negated short
+    ∙ leading_leads leads some n negated
+
+-- a front goes forward
+pub front_shorter : {flags : Flags} {t items : Text} {negated : Bool} {leading : Set} → ReadsBracketFront flags t negated leading items → length items < length t
+front_shorter {flags} (ReadsBracketFront.front t next behind_caret behind_dashes dashes items negated leading begins marked dashed leads) =
+    omega (arith, ap length begins, skip_shorter flags next, caret_shorter marked, each_shorter dashed, leading_shorter leads)
+
+-- a class in brackets that the relation reads, the function reads, as a set that its ranges list
+pub bracket_leads : EscapesLead → {flags : Flags} {t rest : Text} {ranges : List Range} → ReadsBracket flags t ranges rest →
+    (n : ℕ) (next : Text) → t ≡ left_bracket ∷ next → length next ≤ n →
+    (set : Set) × (reading.bracket n flags (skip flags next) ≡ answer set rest) × Lists ranges set
+bracket_leads escapes {flags} (ReadsBracket.bracket t items rest negated leading set ranges before members lists) n next is room =
+    (with_negation negated (with_cases flags (union leading set)),
+     front_leads before (omega (arith, members_some members, skip_shorter flags items)) n next is room
+     ∙ ap (reading.finished flags negated) (members_lead escapes members n leading (omega (arith, front_shorter before, ap length is))),
+     lists)
+
+-- members go forward
+pub members_shorter : {flags : Flags} {t rest : Text} {set : Set} → ReadsMembers flags t set rest → length rest < length t
+members_shorter {flags} (ReadsMembers.closed t rest set gap same) = omega (arith, ap length gap, skip_shorter flags t)
+members_shorter {flags} (ReadsMembers.goes_on t next rest one others set plain member r same) =
+    omega (arith, member_shorter member, members_shorter r, skip_shorter flags t)
+
+-- a class in brackets goes forward
+pub bracket_shorter : {flags : Flags} {t rest : Text} {ranges : List Range} → ReadsBracket flags t ranges rest → length rest < length t
+bracket_shorter (ReadsBracket.bracket t items rest negated leading set ranges before members lists) =
+    omega (arith, front_shorter before, members_shorter members)
+
+pub front_begins : {flags : Flags} {t items : Text} {negated : Bool} {leading : Set} → ReadsBracketFront flags t negated leading items →
+    (next : Text) × (t ≡ left_bracket ∷ next)
+front_begins (ReadsBracketFront.front t next behind_caret behind_dashes dashes items negated leading begins marked dashed leads) = (next, begins)
+
+-- a class in brackets begins with its bracket
+pub bracket_begins : {flags : Flags} {t rest : Text} {ranges : List Range} → ReadsBracket flags t ranges rest → (next : Text) × (t ≡ left_bracket ∷ next)
+bracket_begins (ReadsBracket.bracket t items rest negated leading set ranges before members lists) = front_begins before
