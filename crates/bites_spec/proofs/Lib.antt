@@ -30,3 +30,4 @@ pub mod CountLemmas
 pub mod BracketText
 pub mod BracketMeans
 pub mod BracketLeads
+pub mod BracketFirst
