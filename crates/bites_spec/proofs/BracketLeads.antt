@@ -247,7 +247,7 @@ leading_shorter (ReadsLeading.some_dashes t rest set some same is) = omega (arit
 leading_shorter {flags} (ReadsLeading.bracket t next rest set empty begins same is) = omega (arith, ap length is, ap length begins, skip_shorter flags next)
 leading_shorter (ReadsLeading.neither t rest set empty other same is) = omega (arith, ap length is)
 
-caret_shorter : {flags : Flags} {t rest : Text} {negated : Bool} → ReadsCaret flags t negated rest → length rest ≤ length t
+pub caret_shorter : {flags : Flags} {t rest : Text} {negated : Bool} → ReadsCaret flags t negated rest → length rest ≤ length t
 caret_shorter {flags} (ReadsCaret.caret t next rest negated is gap same) = omega (arith, ap length is, ap length gap, skip_shorter flags next)
 caret_shorter (ReadsCaret.none t rest negated other is same) = omega (arith, ap length is)
 
@@ -273,7 +273,7 @@ pub dashes_lead : {flags : Flags} {t dashes rest : Text} → ReadsEach flags (si
     reading.dashes n flags negated t ≡ reading.after_dashes n flags negated dashes rest
 dashes_lead {flags} r n negated room = ap (λ d. reading.after_dashes n flags negated d.0 d.1) (each_complete r n room)
 
-same_behind : (c : ℕ) (t u : Text) → c ∷ t ≡ c ∷ u → t ≡ u
+pub same_behind : (c : ℕ) (t u : Text) → c ∷ t ≡ c ∷ u → t ≡ u
 same_behind c t u is = cc
 
 -- all before the first item that the relation reads, the function reads
