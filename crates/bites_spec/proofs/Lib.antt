@@ -31,3 +31,4 @@ pub mod BracketText
 pub mod BracketMeans
 pub mod BracketLeads
 pub mod BracketFirst
+pub mod BracketLemmas
