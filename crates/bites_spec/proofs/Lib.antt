@@ -37,6 +37,8 @@ pub mod CompilableLemmas
 pub mod BracketText
 pub mod BracketMeans
 pub mod BracketLeads
+pub mod BracketFirst
+pub mod BracketLemmas
 pub mod ChoiceParts
 pub mod ChoiceSound
 pub mod ChoiceShorter
