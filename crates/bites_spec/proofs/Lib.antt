@@ -24,9 +24,17 @@ pub mod Readings
 pub mod Stops
 pub mod Evaluations
 pub mod RangeLemmas
+pub mod ClassLemmas
 pub mod EachLemmas
 pub mod EscapeLemmas
 pub mod CountLemmas
+pub mod StaticLemmas
+pub mod GroupNames
+pub mod GroupFlags
+pub mod GroupLemmas
+pub mod BracketText
+pub mod BracketMeans
+pub mod BracketLeads
 pub mod ChoiceParts
 pub mod ChoiceSound
 pub mod ChoiceShorter

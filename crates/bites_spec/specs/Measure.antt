@@ -17,7 +17,7 @@ abbrev mutual
   height (sequence ts) = suc (tallest ts)
   height (alternation ts) = suc (tallest ts)
 
-  tallest : Trees → ℕ
+  pub tallest : Trees → ℕ
   tallest no_tree = 0
   tallest (tree_and t ts) = max (height t) (tallest ts)
 
@@ -33,7 +33,7 @@ abbrev mutual
   groups_of (sequence ts) = groups_of_all ts
   groups_of (alternation ts) = groups_of_all ts
 
-  groups_of_all : Trees → List (ℕ × Option (List ℕ))
+  pub groups_of_all : Trees → List (ℕ × Option (List ℕ))
   groups_of_all no_tree = []
   groups_of_all (tree_and t ts) = groups_of t ++ groups_of_all ts
 
@@ -75,11 +75,11 @@ abbrev mutual
   static_count (sequence ts) = static_sum ts
   static_count (alternation ts) = static_agreed ts
 
-  static_sum : Trees → Option ℕ
+  pub static_sum : Trees → Option ℕ
   static_sum no_tree = Some 0
   static_sum (tree_and t ts) = both (static_count t) (static_sum ts)
 
-  static_agreed : Trees → Option ℕ
+  pub static_agreed : Trees → Option ℕ
   static_agreed no_tree = None
   static_agreed (tree_and t no_tree) = static_count t
   static_agreed (tree_and t (tree_and u ts)) = agreed (static_count t) (static_agreed (tree_and u ts))
@@ -119,7 +119,7 @@ abbrev mutual
   size_of (sequence ts) = size_of_all ts
   size_of (alternation ts) = size ((size_of_all ts).states + 2) ((size_of_all ts).targets + count ts) (size_of_all ts).ranges
 
-  size_of_all : Trees → Size
+  pub size_of_all : Trees → Size
   size_of_all no_tree = size 0 0 0
   size_of_all (tree_and t ts) =
       size ((size_of t).states + (size_of_all ts).states) ((size_of t).targets + (size_of_all ts).targets)
