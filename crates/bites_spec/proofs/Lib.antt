@@ -42,5 +42,8 @@ pub mod BracketLemmas
 pub mod ChoiceParts
 pub mod ChoiceSound
 pub mod ChoiceShorter
+pub mod ChoiceBegins
 pub mod ChoiceReader
+pub mod ChoiceSteps
+pub mod ChoiceLeads
 pub mod WholeSound
