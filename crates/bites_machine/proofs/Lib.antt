@@ -1,1 +1,3 @@
 pub mod SoundLemmas
+pub mod EmitLemmas
+pub mod CompiledLemmas

@@ -1,3 +1,5 @@
 pub mod States
 pub mod Contents
 pub mod Fields
+pub mod Emitted
+pub mod Compiled
