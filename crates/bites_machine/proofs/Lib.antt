@@ -1,3 +1,4 @@
 pub mod SoundLemmas
 pub mod EmitLemmas
 pub mod CompiledLemmas
+pub mod LengthLemmas
