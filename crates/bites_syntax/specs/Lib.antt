@@ -1,0 +1,3 @@
+pub mod FlagsView
+pub mod Sets
+pub mod Steps
