@@ -1,0 +1,123 @@
+-- The errors of the messages that refuse a pattern.
+use Rattle.std.specs.Prelude.{Option, Some, None}
+use Rattle.bites_spec.specs.Message.{Message, too_much_nesting, too_many_groups, duplicate_name, unclosed_group, unclosed_question, unopened_group, look_around, empty_flags, missing_name, invalid_name, unclosed_name, empty_name, unrecognized_flag, repeated_negation, duplicate_flag, unclosed_flags, dangling_negation, decimal_without_digits, invalid_decimal, brace_hex_digit, brace_hex_unclosed, brace_hex_empty, brace_hex_invalid, fixed_hex_unfinished, fixed_hex_digit, fixed_hex_invalid, hex_unfinished, escape_unfinished, backreference, unicode_class, unrecognized_escape, nothing_to_repeat, nothing_to_count, unclosed_count, unclosed_min, unclosed_comma, unclosed_max, invalid_count, min_above_max, unclosed_after_member, range_of_no_character, invalid_class_escape, unclosed_after_dash, unclosed_after_caret, unclosed_after_bracket, invalid_range, unclosed_class, nested_class, class_intersection, class_difference, class_symmetric_difference, unclosed_boundary, unrecognized_boundary, unfinished_boundary}
+use Rattle.bites_text.specs.declared.error.Error.{Error}
+use Rattle.bites_text.specs.declared.error.Error.TheVariants.{TooMuchNesting, TooManyGroups, DuplicateName, UnclosedGroup, UnclosedQuestion, UnopenedGroup, LookAround, EmptyFlags, MissingName, InvalidName, UnclosedName, EmptyName, UnrecognizedFlag, RepeatedNegation, DuplicateFlag, UnclosedFlags, DanglingNegation, DecimalWithoutDigits, InvalidDecimal, BraceHexDigit, BraceHexUnclosed, BraceHexEmpty, BraceHexInvalid, FixedHexUnfinished, FixedHexDigit, FixedHexInvalid, HexUnfinished, EscapeUnfinished, Backreference, UnicodeClass, UnrecognizedEscape, NothingToRepeat, NothingToCount, UnclosedCount, UnclosedMin, UnclosedComma, UnclosedMax, InvalidCount, MinAboveMax, UnclosedAfterMember, RangeOfNoCharacter, InvalidClassEscape, UnclosedAfterDash, UnclosedAfterCaret, UnclosedAfterBracket, InvalidRange, UnclosedClass, NestedClass, ClassIntersection, ClassDifference, ClassSymmetricDifference, UnclosedBoundary, UnrecognizedBoundary, UnfinishedBoundary, TooBig, TooManyStates, TooManySlots, Memory}
+
+-- the error of a message
+abbrev pub error_of : Message → Error
+error_of too_much_nesting = TooMuchNesting
+error_of too_many_groups = TooManyGroups
+error_of duplicate_name = DuplicateName
+error_of unclosed_group = UnclosedGroup
+error_of unclosed_question = UnclosedQuestion
+error_of unopened_group = UnopenedGroup
+error_of look_around = LookAround
+error_of empty_flags = EmptyFlags
+error_of missing_name = MissingName
+error_of invalid_name = InvalidName
+error_of unclosed_name = UnclosedName
+error_of empty_name = EmptyName
+error_of unrecognized_flag = UnrecognizedFlag
+error_of repeated_negation = RepeatedNegation
+error_of duplicate_flag = DuplicateFlag
+error_of unclosed_flags = UnclosedFlags
+error_of dangling_negation = DanglingNegation
+error_of decimal_without_digits = DecimalWithoutDigits
+error_of invalid_decimal = InvalidDecimal
+error_of brace_hex_digit = BraceHexDigit
+error_of brace_hex_unclosed = BraceHexUnclosed
+error_of brace_hex_empty = BraceHexEmpty
+error_of brace_hex_invalid = BraceHexInvalid
+error_of fixed_hex_unfinished = FixedHexUnfinished
+error_of fixed_hex_digit = FixedHexDigit
+error_of fixed_hex_invalid = FixedHexInvalid
+error_of hex_unfinished = HexUnfinished
+error_of escape_unfinished = EscapeUnfinished
+error_of backreference = Backreference
+error_of unicode_class = UnicodeClass
+error_of unrecognized_escape = UnrecognizedEscape
+error_of nothing_to_repeat = NothingToRepeat
+error_of nothing_to_count = NothingToCount
+error_of unclosed_count = UnclosedCount
+error_of unclosed_min = UnclosedMin
+error_of unclosed_comma = UnclosedComma
+error_of unclosed_max = UnclosedMax
+error_of invalid_count = InvalidCount
+error_of min_above_max = MinAboveMax
+error_of unclosed_after_member = UnclosedAfterMember
+error_of range_of_no_character = RangeOfNoCharacter
+error_of invalid_class_escape = InvalidClassEscape
+error_of unclosed_after_dash = UnclosedAfterDash
+error_of unclosed_after_caret = UnclosedAfterCaret
+error_of unclosed_after_bracket = UnclosedAfterBracket
+error_of invalid_range = InvalidRange
+error_of unclosed_class = UnclosedClass
+error_of nested_class = NestedClass
+error_of class_intersection = ClassIntersection
+error_of class_difference = ClassDifference
+error_of class_symmetric_difference = ClassSymmetricDifference
+error_of unclosed_boundary = UnclosedBoundary
+error_of unrecognized_boundary = UnrecognizedBoundary
+error_of unfinished_boundary = UnfinishedBoundary
+
+-- the message of an error; the compiler's errors and want of memory have none
+abbrev pub message_of : Error → Option Message
+message_of TooMuchNesting = Some too_much_nesting
+message_of TooManyGroups = Some too_many_groups
+message_of DuplicateName = Some duplicate_name
+message_of UnclosedGroup = Some unclosed_group
+message_of UnclosedQuestion = Some unclosed_question
+message_of UnopenedGroup = Some unopened_group
+message_of LookAround = Some look_around
+message_of EmptyFlags = Some empty_flags
+message_of MissingName = Some missing_name
+message_of InvalidName = Some invalid_name
+message_of UnclosedName = Some unclosed_name
+message_of EmptyName = Some empty_name
+message_of UnrecognizedFlag = Some unrecognized_flag
+message_of RepeatedNegation = Some repeated_negation
+message_of DuplicateFlag = Some duplicate_flag
+message_of UnclosedFlags = Some unclosed_flags
+message_of DanglingNegation = Some dangling_negation
+message_of DecimalWithoutDigits = Some decimal_without_digits
+message_of InvalidDecimal = Some invalid_decimal
+message_of BraceHexDigit = Some brace_hex_digit
+message_of BraceHexUnclosed = Some brace_hex_unclosed
+message_of BraceHexEmpty = Some brace_hex_empty
+message_of BraceHexInvalid = Some brace_hex_invalid
+message_of FixedHexUnfinished = Some fixed_hex_unfinished
+message_of FixedHexDigit = Some fixed_hex_digit
+message_of FixedHexInvalid = Some fixed_hex_invalid
+message_of HexUnfinished = Some hex_unfinished
+message_of EscapeUnfinished = Some escape_unfinished
+message_of Backreference = Some backreference
+message_of UnicodeClass = Some unicode_class
+message_of UnrecognizedEscape = Some unrecognized_escape
+message_of NothingToRepeat = Some nothing_to_repeat
+message_of NothingToCount = Some nothing_to_count
+message_of UnclosedCount = Some unclosed_count
+message_of UnclosedMin = Some unclosed_min
+message_of UnclosedComma = Some unclosed_comma
+message_of UnclosedMax = Some unclosed_max
+message_of InvalidCount = Some invalid_count
+message_of MinAboveMax = Some min_above_max
+message_of UnclosedAfterMember = Some unclosed_after_member
+message_of RangeOfNoCharacter = Some range_of_no_character
+message_of InvalidClassEscape = Some invalid_class_escape
+message_of UnclosedAfterDash = Some unclosed_after_dash
+message_of UnclosedAfterCaret = Some unclosed_after_caret
+message_of UnclosedAfterBracket = Some unclosed_after_bracket
+message_of InvalidRange = Some invalid_range
+message_of UnclosedClass = Some unclosed_class
+message_of NestedClass = Some nested_class
+message_of ClassIntersection = Some class_intersection
+message_of ClassDifference = Some class_difference
+message_of ClassSymmetricDifference = Some class_symmetric_difference
+message_of UnclosedBoundary = Some unclosed_boundary
+message_of UnrecognizedBoundary = Some unrecognized_boundary
+message_of UnfinishedBoundary = Some unfinished_boundary
+message_of TooBig = None
+message_of TooManyStates = None
+message_of TooManySlots = None
+message_of Memory = None

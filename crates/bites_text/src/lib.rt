@@ -1,0 +1,4 @@
+//! The messages that refuse a pattern, and the characters in bytes.
+#![tactic(auto)]
+
+pub mod error;
