@@ -33,6 +33,10 @@ module _ (t : Tree) (hay : List ℕ) where
   abbrev pub NoMatch : ℕ → Type 0
   NoMatch s = (i : ℕ) → Among (places hay s) i → (j : ℕ) → Matches hay t i j → ⊥
 
+  -- the tree matches from some place from s on
+  abbrev pub HasMatch : ℕ → Type 0
+  HasMatch s = (i : ℕ) × (j : ℕ) × Among (places hay s) i × Matches hay t i j
+
   -- i is the first place from s on at which the tree matches
   pub record IsFirstPlace (s i : ℕ) : Type 0 where
     pub place : Among (places hay s) i

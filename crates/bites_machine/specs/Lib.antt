@@ -1,0 +1,4 @@
+pub mod States
+pub mod Contents
+pub mod Fields
+pub mod Members
