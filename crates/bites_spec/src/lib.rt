@@ -7,7 +7,6 @@ ghost use Rattle.bites_spec.specs.Class.{ListsOnce};
 ghost use Rattle.bites_spec.specs.Laws.{MatchIsParse, FirstRunIsFirst, FirstRunIsOne, RunsAreParses, PlainRunsAreSimple, FirstRunIsFound, LeastEndIsLeast, ParsesAreListed, LongestIsFound, ParsesEndAtMatches, StaticCountIsLeast, SpansGrow, PiecesAndMatches, ReplacedIsJoined};
 ghost use Rattle.bites_spec.specs.GrammarLaws.{ListsAll};
 ghost use Rattle.bites_spec.specs.RangesOf.{RangesOfList};
-ghost use Rattle.bites_spec.specs.Laws.{MatchIsParse, FirstRunIsFirst, FirstRunIsOne, RunsAreParses, PlainRunsAreSimple, FirstRunIsFound, LeastEndIsLeast, ParsesAreListed, LongestIsFound};
 
 pub fn match_is_parse()
     ensures { MatchIsParse }
@@ -67,6 +66,8 @@ pub fn pieces_and_matches()
 
 pub fn replaced_is_joined()
     ensures { ReplacedIsJoined }
+{}
+
 pub fn every_set_has_ranges()
     ensures { ListsAll }
 {}
