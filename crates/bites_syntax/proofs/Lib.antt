@@ -1,1 +1,3 @@
 pub mod CursorLemmas
+pub mod NumberLemmas
+pub mod PartLemmas
