@@ -3,4 +3,5 @@ pub mod Merging
 pub mod Gaps
 pub mod CursorLemmas
 pub mod NumberLemmas
+pub mod HexadecimalLemmas
 pub mod PartLemmas

@@ -1,4 +1,5 @@
 pub mod FlagsView
+pub mod Hexadecimal
 pub mod Meanings
 pub mod Numbers
 pub mod Operators
