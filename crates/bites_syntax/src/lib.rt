@@ -9,6 +9,7 @@ pub(crate) mod flags;
 pub(crate) mod hexadecimal;
 pub mod look;
 pub mod name;
+pub(crate) mod named;
 pub(crate) mod number;
 pub(crate) mod operator;
 pub mod tree;
