@@ -53,10 +53,12 @@ pub fixed_step : (n left v new k d : ℕ) (flags : Flags) (t u w : Text) (c : �
     d ≡ digit_value c → w ≡ between_digits k flags u → new ≡ min 4294967296 (v * 16 + d) → fixed_number n left flags t ≡ whole →
     AgreeBelow 4294967296 v n → (m : ℕ) × (fixed_number m k flags w ≡ whole) × AgreeBelow 4294967296 new m
 fixed_step n left v new k d flags t u w c whole more at is value behind capped so_far agree =
-    let begun : fixed_number n (suc k) flags t ≡ whole = rw (← more) so_far in
-    (n * 16 + digit_value c, sym (fixed_more n k flags t u w c at is behind) ∙ begun,
-    AgreeBelow_capped 4294967296 new (v * 16 + digit_value c) _ (rw (← value) capped)
-    (AgreeBelow_digits 4294967296 16 (omega arith) (c ∷ []) v n agree))
+    let begun : fixed_number n (suc k) flags t ≡ whole = rw (← more) so_far in (
+      n * 16 + digit_value c,
+      sym (fixed_more n k flags t u w c at is behind) ∙ begun,
+      AgreeBelow_capped 4294967296 new (v * 16 + digit_value c) _ (rw (← value) capped)
+          (AgreeBelow_digits 4294967296 16 (omega arith) (c ∷ []) v n agree),
+    )
 
 -- another character, or the end, stops the digits
 pub fixed_fault : (n left k : ℕ) (flags : Flags) (t u : Text) (e : Error) (whole : Answer ℕ) → left ≡ suc k →

@@ -3,5 +3,6 @@ pub mod Merging
 pub mod Gaps
 pub mod CursorLemmas
 pub mod NumberLemmas
+pub mod EscapeParts
 pub mod HexadecimalLemmas
 pub mod PartLemmas
