@@ -1,3 +1,5 @@
 pub mod Bools
 pub mod Merging
+pub mod RangeLists
 pub mod Gaps
+pub mod CaseLemmas

@@ -1,3 +1,4 @@
 pub mod TreeCode
 pub mod View
 pub mod TreeFalls
+pub mod Cases
