@@ -5,4 +5,5 @@ pub mod builder;
 pub mod class;
 pub mod look;
 pub mod name;
+pub mod named;
 pub mod tree;
