@@ -33,6 +33,7 @@ pub mod GroupNames
 pub mod GroupFlags
 pub mod GroupLemmas
 pub mod BracketText
+pub mod BracketEscapes
 pub mod BracketMeans
 pub mod BracketLeads
 pub mod BracketFirst
