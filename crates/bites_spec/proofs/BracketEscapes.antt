@@ -110,3 +110,127 @@ number_leads : (n : ℕ) (flags : Flags) (c k : ℕ) (t : Text) → digits_of c 
 number_leads n flags c k t digits =
     let is = hexadecimal_is c digits in
     simple_leads n flags c t is.0 ∙ ap₂ (reading.simple_by n flags c t) is.1 digits
+
+-- so many digits that the relation reads, the function reads
+exactly_leads : {flags : Flags} {k : ℕ} {t digits rest : Text} → ReadsExactly flags is_hex_digit k t digits rest → exactly k flags t ≡ answer digits rest
+exactly_leads {flags} (ReadsExactly.last c k t digits rest one is hex same) = ap₂ (λ j u. exactly j flags u) one is ∙ rw (hex, same) refl
+exactly_leads {flags} (ReadsExactly.more c k zero t next digits others rest is some from hex r same) = absurd (omega arith)
+exactly_leads {flags} (ReadsExactly.more c k (suc j) t next digits others rest is some from hex r same) =
+    let count : k ≡ suc (suc j) = omega arith in
+    let others_lead : exactly (suc j) flags (skip flags next) ≡ answer others rest = exactly_leads r in
+    ap₂ (λ i u. exactly i flags u) count from ∙ rw (hex, others_lead, same) refl
+
+no_brace : (c : ℕ) → is_hex_digit c ≡ true → (c == left_brace) ≡ false
+no_brace c hex =
+    ⊎_elim (λ (b : (c == left_brace) ≡ true). absurd (true≢false (sym hex ∙ ap is_hex_digit (eqb-true c left_brace b)))) (λ (b : (c == left_brace) ≡ false). b)
+    (bool_cases (c == left_brace))
+
+-- so many digits begin with one
+exactly_begins : {flags : Flags} {k : ℕ} {t digits rest : Text} → ReadsExactly flags is_hex_digit k t digits rest →
+    (c : ℕ) × (next : Text) × (t ≡ c ∷ next) × ((c == left_brace) ≡ false)
+exactly_begins (ReadsExactly.last c k t digits rest one is hex same) = (c, rest, is, no_brace c hex)
+exactly_begins (ReadsExactly.more c k j t next digits others rest is some from hex r same) = (c, next, from, no_brace c hex)
+
+fixed_leads : (n : ℕ) (flags : Flags) (k c : ℕ) (t : Text) → (c == left_brace) ≡ false →
+    hexadecimal n flags k (c ∷ t) ≡ and_then (exactly k flags (c ∷ t)) (scalar message.fixed_hex_invalid)
+fixed_leads n flags k c t other = rw other refl
+
+fixed_digits : {flags : Flags} {k : ℕ} {t digits rest : Text} → ReadsExactly flags is_hex_digit k t digits rest → (n : ℕ) →
+    hexadecimal n flags k t ≡ scalar message.fixed_hex_invalid digits rest
+fixed_digits {flags} {k} r n =
+    let from = exactly_begins r in
+    ap (hexadecimal n flags k) from.2 ∙ fixed_leads n flags k from.0 from.1 from.3 ∙ ap (λ u. and_then (exactly k flags u) (scalar message.fixed_hex_invalid)) (sym from.2)
+    ∙ ap (λ a. and_then a (scalar message.fixed_hex_invalid)) (exactly_leads r)
+
+in_braces_lead : {flags : Flags} {t next digits behind : Text} → t ≡ left_brace ∷ next → ReadsEach flags is_hex_digit (skip flags next) digits behind →
+    (n k : ℕ) → length t ≤ n → hexadecimal n flags k t ≡ reading.in_braces digits behind
+in_braces_lead {flags} {t} {next} {digits} {behind} is r n k room =
+    ap (hexadecimal n flags k) is ∙ ap (λ d. reading.in_braces d.0 d.1) (each_complete r n (omega (arith, ap length is, skip_shorter flags next)))
+
+closed_leads : (digits at rest : Text) → 0 < length digits → reading.closed_hexadecimal digits at rest ≡ scalar message.brace_hex_invalid digits rest
+closed_leads [] at rest some = absurd (omega arith)
+closed_leads (d ∷ digits) at rest some = refl
+
+-- a hexadecimal number that the relation reads, the function reads
+hexadecimal_leads : {flags : Flags} {k value : ℕ} {t rest : Text} → ReadsHexadecimal flags k t value rest → is_scalar value ≡ true → (n : ℕ) → length t ≤ n →
+    hexadecimal n flags k t ≡ answer value rest
+hexadecimal_leads {flags} (ReadsHexadecimal.in_braces k value t next digits rest is r some same) scalars n room =
+    let passes : is_scalar (number 16 digits) ≡ true = ap is_scalar (sym same) ∙ scalars in
+    in_braces_lead is r n k room ∙ closed_leads digits (right_brace ∷ rest) rest some ∙ rw (passes, same) refl
+hexadecimal_leads {flags} (ReadsHexadecimal.fixed k value t digits rest r same) scalars n room =
+    let passes : is_scalar (number 16 digits) ≡ true = ap is_scalar (sym same) ∙ scalars in
+    fixed_digits r n ∙ rw (passes, same) refl
+
+no_letter : (b c : Bool) → (b && c) ≡ false → b ≡ true → c ≡ false
+no_letter true c e is = e
+no_letter false c e is = absurd (true≢false (sym is))
+
+word_braced : (n : ℕ) (flags : Flags) (at u : Text) → may_name_boundary u ≡ false → reading.braced n flags at u ≡ answer (assertion word) at
+word_braced n flags at [] none = absurd (true≢false none)
+word_braced n flags at (c ∷ u) none = rw none refl
+
+word_leads : (n : ℕ) (flags : Flags) (t : Text) → begins_boundary flags t ≡ false → boundary n flags t ≡ answer (assertion word) t
+word_leads n flags [] none = refl
+word_leads n flags (c ∷ t) none =
+    ⊎_elim
+    (λ (b : (c == left_brace) ≡ true). rw b (word_braced n flags (c ∷ t) (skip flags t) (no_letter (c == left_brace) (may_name_boundary (skip flags t)) none b)))
+    (λ (b : (c == left_brace) ≡ false). rw b refl) (bool_cases (c == left_brace))
+
+each_front : {flags : Flags} {set : Set} {t chars rest : Text} → ReadsEach flags set t chars rest → 0 < length chars →
+    (c : ℕ) × (next : Text) × (t ≡ c ∷ next) × (set c ≡ true)
+each_front (ReadsEach.none t chars rest ends is same) some = absurd (omega (arith, ap length is))
+each_front (ReadsEach.more c t next chars others rest is pass r same) some = (c, next, is, pass)
+
+braced_leads : (n : ℕ) (flags : Flags) (at : Text) (c : ℕ) (u : Text) → is_boundary_letter c ≡ true →
+    reading.braced n flags at (c ∷ u)
+    ≡ reading.boundary_name (reading.each n flags is_boundary_letter (c ∷ u)).0 (reading.each n flags is_boundary_letter (c ∷ u)).1
+braced_leads n flags at c u letter = rw letter refl
+
+-- the name of a boundary
+named_leads : {flags : Flags} {name behind : Text} (next : Text) → ReadsEach flags is_boundary_letter (skip flags next) name behind → 0 < length name →
+    (n : ℕ) → length next ≤ n → boundary n flags (left_brace ∷ next) ≡ reading.boundary_name name behind
+named_leads {flags} {name} {behind} next r some n room =
+    let front = each_front r some in
+    let chars : reading.each n flags is_boundary_letter (skip flags next) ≡ (name, behind) = each_complete r n (omega (arith, skip_shorter flags next)) in
+    ap (reading.braced n flags (left_brace ∷ next)) front.2 ∙ braced_leads n flags (left_brace ∷ next) front.0 front.1 front.3
+    ∙ ap (λ u. (let d = reading.each n flags is_boundary_letter u in reading.boundary_name d.0 d.1)) (sym front.2)
+    ∙ ap (λ d. reading.boundary_name d.0 d.1) chars
+
+some_name : (name : Text) (l : Look) → boundary_of name ≡ Some l → 0 < length name
+some_name [] l is = absurd (none-some l is)
+some_name (c ∷ name) l is = omega arith
+
+same_behind : (c : ℕ) (t u : Text) → c ∷ t ≡ c ∷ u → t ≡ u
+same_behind c t u is = cc
+
+-- an escape that the relation reads, the function reads
+pub escape_leads : {flags : Flags} {t rest : Text} {meaning : Meaning} → ReadsEscape flags t meaning rest → (n : ℕ) (next : Text) → t ≡ backslash ∷ next →
+    length next ≤ n → escape n flags next ≡ answer meaning rest
+escape_leads {flags} (ReadsEscape.control c d t rest meaning is means same) n next begins room =
+    ap (escape n flags) (same_behind backslash next (c ∷ rest) (sym begins ∙ is))
+    ∙ meaning_leads n flags c rest (character d) (control_is c means).0 (rw means refl) ∙ ap (λ x. answer x rest) (sym same)
+escape_leads {flags} (ReadsEscape.itself c t rest meaning is means same) n next begins room =
+    ap (escape n flags) (same_behind backslash next (c ∷ rest) (sym begins ∙ is))
+    ∙ meaning_leads n flags c rest (character c) (itself_is c means) (itself_means c means) ∙ ap (λ x. answer x rest) (sym same)
+escape_leads {flags} (ReadsEscape.anchor c l t rest meaning is means same) n next begins room =
+    let known = anchor_is c means in
+    let no_control : control_of c ≡ None = known.2 in
+    ap (escape n flags) (same_behind backslash next (c ∷ rest) (sym begins ∙ is))
+    ∙ meaning_leads n flags c rest (assertion l) known.0 (rw (no_control, means) refl) ∙ ap (λ x. answer x rest) (sym same)
+escape_leads {flags} (ReadsEscape.word_boundary t rest meaning is none same) n next begins room =
+    ap (escape n flags) (same_behind backslash next (98 ∷ rest) (sym begins ∙ is)) ∙ word_leads n flags rest none ∙ ap (λ x. answer x rest) (sym same)
+escape_leads {flags} (ReadsEscape.named_boundary l t behind name rest meaning is r means same) n next begins room =
+    let at : next ≡ 98 ∷ left_brace ∷ behind = same_behind backslash next (98 ∷ left_brace ∷ behind) (sym begins ∙ is) in
+    ap (escape n flags) at
+    ∙ named_leads behind r (some_name name l means) n (omega (arith, ap length at)) ∙ rw (means, same) refl
+escape_leads {flags} (ReadsEscape.class c set t rest meaning is means same) n next begins room =
+    let known = class_is c means in
+    let no_control : control_of c ≡ None = known.2 in
+    let no_anchor : assertion_of c ≡ None = known.3 in
+    ap (escape n flags) (same_behind backslash next (c ∷ rest) (sym begins ∙ is))
+    ∙ meaning_leads n flags c rest (characters set) known.0 (rw (no_control, no_anchor, means) refl) ∙ ap (λ x. answer x rest) (sym same)
+escape_leads {flags} (ReadsEscape.hexadecimal c k value t behind rest meaning is digits r scalars same) n next begins room =
+    let at : next ≡ c ∷ behind = same_behind backslash next (c ∷ behind) (sym begins ∙ is) in
+    let value_is : hexadecimal n flags k (skip flags behind) ≡ answer value rest = hexadecimal_leads r scalars n (omega (arith, ap length at, skip_shorter flags behind)) in
+    ap (escape n flags) at ∙ number_leads n flags c k behind digits
+    ∙ ap (λ a. and_then a (λ v u. answer (character v) u)) value_is ∙ ap (λ x. answer x rest) (sym same)
