@@ -234,3 +234,127 @@ escape_leads {flags} (ReadsEscape.hexadecimal c k value t behind rest meaning is
     let value_is : hexadecimal n flags k (skip flags behind) ≡ answer value rest = hexadecimal_leads r scalars n (omega (arith, ap length at, skip_shorter flags behind)) in
     ap (escape n flags) at ∙ number_leads n flags c k behind digits
     ∙ ap (λ a. and_then a (λ v u. answer (character v) u)) value_is ∙ ap (λ x. answer x rest) (sym same)
+
+-- where the relation stops among so many digits, the function does
+exactly_stops : {flags : Flags} {k : ℕ} {t place : Text} {m : Message} → StuckExactly flags k t m place → 0 < k → exactly k flags t ≡ stop m place
+exactly_stops {flags} (StuckExactly.strange c zero t rest place m is hex at names) some = absurd (omega arith)
+exactly_stops {flags} (StuckExactly.strange c (suc k) t rest place m is hex at names) some =
+    ap (exactly (suc k) flags) is ∙ rw hex (ap₂ stop (sym names) (sym is ∙ sym at))
+exactly_stops {flags} (StuckExactly.ends c zero t next place m is hex more gap at names) some = absurd (omega arith)
+exactly_stops {flags} (StuckExactly.ends c (suc zero) t next place m is hex more gap at names) some = absurd (omega arith)
+exactly_stops {flags} (StuckExactly.ends c (suc (suc k)) t next place m is hex more gap at names) some =
+    ap (exactly (suc (suc k)) flags) is ∙ rw (hex, gap) (ap₂ stop (sym names) (sym at))
+exactly_stops {flags} (StuckExactly.later c k zero t next place m is hex count more r) some = absurd (omega arith)
+exactly_stops {flags} (StuckExactly.later c k (suc j) t next place m is hex count more r) some =
+    let counted : k ≡ suc (suc j) = omega arith in
+    let stops : exactly (suc j) flags (skip flags next) ≡ stop m place = exactly_stops r (omega arith) in
+    ap₂ (λ i u. exactly i flags u) counted is ∙ rw (hex, stops) refl
+
+stuck_exactly_begins : {flags : Flags} {k : ℕ} {t place : Text} {m : Message} → StuckExactly flags k t m place → (c : ℕ) × (next : Text) × (t ≡ c ∷ next)
+stuck_exactly_begins (StuckExactly.strange c k t rest place m is hex at names) = (c, rest, is)
+stuck_exactly_begins (StuckExactly.ends c k t next place m is hex more gap at names) = (c, next, is)
+stuck_exactly_begins (StuckExactly.later c k j t next place m is hex count more r) = (c, next, is)
+
+-- where the relation stops at a hexadecimal number, the function does
+hexadecimal_stops : {flags : Flags} {k : ℕ} {t place : Text} {m : Message} → StuckHexadecimal flags k t m place → 0 < k → (n : ℕ) → length t ≤ n →
+    hexadecimal n flags k t ≡ stop m place
+hexadecimal_stops {flags} {k} (StuckHexadecimal.ends_at_once t place m is at names) some n room =
+    ap (hexadecimal n flags k) is ∙ ap₂ stop (sym names) (sym at)
+hexadecimal_stops {flags} {k} (StuckHexadecimal.fixed t place m other r) some n room =
+    let from = stuck_exactly_begins r in
+    ap (hexadecimal n flags k) from.2
+    ∙ fixed_leads n flags k from.0 from.1 (ap (next_is (single left_brace)) (sym from.2) ∙ other)
+    ∙ ap (λ u. and_then (exactly k flags u) (scalar message.fixed_hex_invalid)) (sym from.2)
+    ∙ ap (λ a. and_then a (scalar message.fixed_hex_invalid)) (exactly_stops r some)
+hexadecimal_stops {flags} {k} (StuckHexadecimal.fixed_no_scalar t digits place m r none names) some n room =
+    fixed_digits r n ∙ rw (none, names) refl
+hexadecimal_stops {flags} {k} (StuckHexadecimal.ends_in_braces t next digits place m is r at names) some n room =
+    in_braces_lead is r n k room ∙ ap (reading.in_braces digits) at ∙ ap₂ stop (sym names) (sym at)
+hexadecimal_stops {flags} {k} (StuckHexadecimal.strange_in_braces c t next digits rest place m is r at other names) some n room =
+    in_braces_lead is r n k room ∙ ap (reading.in_braces digits) at ∙ rw other (ap₂ stop (sym names) (sym at))
+hexadecimal_stops {flags} {k} (StuckHexadecimal.empty_braces t next rest place m is gap at names) some n room =
+    let nothing : ReadsEach flags is_hex_digit (skip flags next) [] (right_brace ∷ rest) =
+    ReadsEach.none (skip flags next) [] (right_brace ∷ rest) (ap (next_is is_hex_digit) gap) refl (sym gap) in
+    in_braces_lead is nothing n k room ∙ ap₂ stop (sym names) (sym at)
+hexadecimal_stops {flags} {k} (StuckHexadecimal.no_scalar t next digits place m is r others none names) some n room =
+    in_braces_lead is r n k room ∙ closed_leads digits (right_brace ∷ place) place others ∙ rw (none, names) refl
+
+either_false : (a b : Bool) → (a || b) ≡ false → (a ≡ false) × (b ≡ false)
+either_false true b e = absurd (true≢false e)
+either_false false b e = (refl, e)
+
+is_none : {A : Type 0} (o : Option A) → is_some o ≡ false → o ≡ None
+is_none (Some x) e = absurd (true≢false e)
+is_none None e = refl
+
+same_some : (a b : ℕ) → Some a ≡ Some b → a ≡ b
+same_some a b e = cc
+
+-- a character that begins no escape
+begins_none : (c : ℕ) → begins_escape c ≡ false → ((c == 98) ≡ false) × (reading.meaning_of c ≡ None) × (digits_of c ≡ None)
+begins_none c none =
+    let last = either_false (is_some (control_of c) || escapes_itself c || is_some (assertion_of c) || is_some (class_of c) || is_some (digits_of c)) (c == 98) none in
+    let fifth = either_false (is_some (control_of c) || escapes_itself c || is_some (assertion_of c) || is_some (class_of c)) (is_some (digits_of c)) last.0 in
+    let fourth = either_false (is_some (control_of c) || escapes_itself c || is_some (assertion_of c)) (is_some (class_of c)) fifth.0 in
+    let third = either_false (is_some (control_of c) || escapes_itself c) (is_some (assertion_of c)) fourth.0 in
+    let second = either_false (is_some (control_of c)) (escapes_itself c) third.0 in
+    let no_control : control_of c ≡ None = is_none (control_of c) second.0 in
+    let no_anchor : assertion_of c ≡ None = is_none (assertion_of c) third.1 in
+    let no_class : class_of c ≡ None = is_none (class_of c) fourth.1 in
+    let not_itself : escapes_itself c ≡ false = second.1 in
+    (last.1, rw (no_control, no_anchor, no_class, not_itself) refl, is_none (digits_of c) fifth.1)
+
+some_digits : (c : ℕ) {k : ℕ} → digits_of c ≡ Some k → 0 < k
+some_digits c {k} e =
+    ⊎_elim (λ (b : (c == 120) ≡ true). omega (arith, same_some _ _ (rw b at e)))
+    (λ (b : (c == 120) ≡ false).
+    ⊎_elim (λ (d : (c == 117) ≡ true). omega (arith, same_some _ _ (rw (b, d) at e)))
+    (λ (d : (c == 117) ≡ false).
+    ⊎_elim (λ (f : (c == 85) ≡ true). omega (arith, same_some _ _ (rw (b, d, f) at e)))
+    (λ (f : (c == 85) ≡ false). absurd (none-some k (rw (b, d, f) at e)))
+    (bool_cases (c == 85)))
+    (bool_cases (c == 117)))
+    (bool_cases (c == 120))
+
+no_digit : (c : ℕ) → one_of (codes "pP") c ≡ true → is_ascii_digit c ≡ false
+no_digit c property =
+    ⊎_elim (λ (b : (c == 112) ≡ true). ap is_ascii_digit (eqb-true c 112 b))
+    (λ (b : (c == 112) ≡ false).
+    ⊎_elim (λ (d : (c == 80) ≡ true). ap is_ascii_digit (eqb-true c 80 d))
+    (λ (d : (c == 80) ≡ false). absurd (true≢false (sym (rw (b, d) at property))))
+    (bool_cases (c == 80)))
+    (bool_cases (c == 112))
+
+unclosed_leads : (name place : Text) → next_is (single right_brace) place ≡ false → reading.boundary_name name place ≡ stop message.unclosed_boundary place
+unclosed_leads name [] other = refl
+unclosed_leads name (c ∷ t) other = rw other refl
+
+-- where the relation stops at an escape, the function does
+pub escape_stops : {flags : Flags} {t place : Text} {m : Message} → StuckEscape flags t m place → (n : ℕ) (next : Text) → t ≡ backslash ∷ next → length next ≤ n →
+    escape n flags next ≡ stop m place
+escape_stops {flags} (StuckEscape.ends t place m is at names) n next begins room =
+    ap (escape n flags) (same_behind backslash next [] (sym begins ∙ is)) ∙ ap₂ stop (sym names) (sym at)
+escape_stops {flags} (StuckEscape.digit c t rest place m is digit at names) n next begins room =
+    ap (escape n flags) (same_behind backslash next (c ∷ rest) (sym begins ∙ is)) ∙ rw digit (ap₂ stop (sym names) (sym at))
+escape_stops {flags} (StuckEscape.property c t rest place m is property at names) n next begins room =
+    let digit = no_digit c property in
+    ap (escape n flags) (same_behind backslash next (c ∷ rest) (sym begins ∙ is)) ∙ rw (digit, property) (ap₂ stop (sym names) (sym at))
+escape_stops {flags} (StuckEscape.strange c t rest place m is digit property none at names) n next begins room =
+    let nothing = begins_none c none in
+    ap (escape n flags) (same_behind backslash next (c ∷ rest) (sym begins ∙ is)) ∙ simple_leads n flags c rest (digit, property, nothing.0)
+    ∙ ap₂ (reading.simple_by n flags c rest) nothing.1 nothing.2 ∙ ap₂ stop (sym names) (sym at)
+escape_stops {flags} (StuckEscape.hexadecimal c k t behind place m is digits r) n next begins room =
+    let at : next ≡ c ∷ behind = same_behind backslash next (c ∷ behind) (sym begins ∙ is) in
+    let stops : hexadecimal n flags k (skip flags behind) ≡ stop m place =
+    hexadecimal_stops r (some_digits c digits) n (omega (arith, ap length at, skip_shorter flags behind)) in
+    ap (escape n flags) at ∙ number_leads n flags c k behind digits ∙ ap (λ a. and_then a (λ v u. answer (character v) u)) stops
+escape_stops {flags} (StuckEscape.boundary_begins t behind place m is gap at names) n next begins room =
+    ap (escape n flags) (same_behind backslash next (98 ∷ left_brace ∷ behind) (sym begins ∙ is))
+    ∙ ap (reading.braced n flags (left_brace ∷ behind)) gap ∙ ap₂ stop (sym names) (sym at)
+escape_stops {flags} (StuckEscape.boundary_ends t behind name place m is r some other names) n next begins room =
+    let at : next ≡ 98 ∷ left_brace ∷ behind = same_behind backslash next (98 ∷ left_brace ∷ behind) (sym begins ∙ is) in
+    ap (escape n flags) at ∙ named_leads behind r some n (omega (arith, ap length at)) ∙ unclosed_leads name place other ∙ ap (λ x. stop x place) (sym names)
+escape_stops {flags} (StuckEscape.boundary_unknown t behind name rest place m is r some closes unknown names) n next begins room =
+    let at : next ≡ 98 ∷ left_brace ∷ behind = same_behind backslash next (98 ∷ left_brace ∷ behind) (sym begins ∙ is) in
+    ap (escape n flags) at ∙ named_leads behind r some n (omega (arith, ap length at)) ∙ ap (reading.boundary_name name) closes
+    ∙ rw unknown (ap₂ stop (sym names) (sym closes))
