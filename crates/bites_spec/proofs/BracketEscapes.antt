@@ -1,6 +1,6 @@
 -- Escapes: what the relations read, the function answers, and where they stop, it stops.
-use Rattle.std.proofs.Common.{◌≡◌, ℕ, zero, suc, ◌+◌, ◌<◌, ◌≤◌, Bool, true, false, not, ◌&&◌, ◌||◌, ◌==◌, [], ◌∷◌, ◌++◌, length, refl, sym, ap, ap₂, ◌∙◌, subst, inl, inr, ⊎_elim, arith, ◌⊎◌, Option, Some, None, eqb-true, true≢false, add-one}
-use Rattle.std.specs.Prelude.{codes, is_some, option_map, if◌then◌else◌}
+use Rattle.std.proofs.Common.{◌≡◌, ℕ, zero, suc, ◌<◌, ◌≤◌, Bool, true, false, ◌&&◌, ◌||◌, ◌==◌, [], ◌∷◌, length, refl, sym, ap, ap₂, ◌∙◌, subst, ⊎_elim, arith, Option, Some, None, eqb-true, true≢false}
+use Rattle.std.specs.Prelude.{codes, is_some, if◌then◌else◌}
 use Rattle.std.proofs.lemmas.Option.{none-some}
 use Rattle.std.specs.Char.{is_ascii_digit}
 use Rattle.bites_spec.specs.Message as message
@@ -14,7 +14,6 @@ use Rattle.bites_spec.specs.Reading as reading
 use Rattle.bites_spec.specs.Reading.{Answer, answer, stop, and_then, exactly, scalar, hexadecimal, boundary, escape}
 use Rattle.bites_spec.proofs.EachLemmas.{skip_shorter, each_complete}
 use Rattle.bites_spec.proofs.EscapeLemmas.{bool_cases}
-use Rattle.bites_spec.proofs.BracketText.{and_both}
 
 -- a character that one of a row of tests names
 one_named : {A : Type 0} {y : A} (P : ℕ → Type 0) (c k : ℕ) (x : A) (rest : Option A) → P k → (rest ≡ Some y → P c) → (if c == k then Some x else rest) ≡ Some y → P c
@@ -200,7 +199,7 @@ some_name : (name : Text) (l : Look) → boundary_of name ≡ Some l → 0 < len
 some_name [] l is = absurd (none-some l is)
 some_name (c ∷ name) l is = omega arith
 
-same_behind : (c : ℕ) (t u : Text) → c ∷ t ≡ c ∷ u → t ≡ u
+pub same_behind : (c : ℕ) (t u : Text) → c ∷ t ≡ c ∷ u → t ≡ u
 same_behind c t u is = cc
 
 -- an escape that the relation reads, the function reads
