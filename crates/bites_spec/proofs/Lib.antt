@@ -32,6 +32,8 @@ pub mod StaticLemmas
 pub mod GroupNames
 pub mod GroupFlags
 pub mod GroupLemmas
+pub mod CompilableNames
+pub mod CompilableLemmas
 pub mod BracketText
 pub mod BracketEscapes
 pub mod BracketMeans
@@ -41,5 +43,8 @@ pub mod BracketLemmas
 pub mod ChoiceParts
 pub mod ChoiceSound
 pub mod ChoiceShorter
+pub mod ChoiceBegins
 pub mod ChoiceReader
+pub mod ChoiceSteps
+pub mod ChoiceLeads
 pub mod WholeSound
