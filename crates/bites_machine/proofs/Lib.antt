@@ -1,2 +1,4 @@
 pub mod SoundLemmas
 pub mod MemberLemmas
+pub mod EdgeLemmas
+pub mod SweepLemmas

@@ -3,3 +3,4 @@ pub mod States
 pub mod Contents
 pub mod Fields
 pub mod Members
+pub mod Ends
