@@ -1,4 +1,3 @@
-pub mod Looks
 pub mod States
 pub mod Contents
 pub mod Fields
