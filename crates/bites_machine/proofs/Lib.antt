@@ -2,3 +2,5 @@ pub mod SoundLemmas
 pub mod MemberLemmas
 pub mod EdgeLemmas
 pub mod SweepLemmas
+pub mod EmitLemmas
+pub mod CompiledLemmas

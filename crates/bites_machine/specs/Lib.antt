@@ -3,3 +3,5 @@ pub mod Contents
 pub mod Fields
 pub mod Members
 pub mod Ends
+pub mod Emitted
+pub mod Compiled
