@@ -23,13 +23,14 @@ pub Among-apart : {A : Type 0} (xs ys : List A) (x : A) → Among (xs ++ ys) x �
 Among-apart [] ys x h = inr h
 Among-apart (y ∷ xs) ys x h = ⊎_elim (λ (e : y ≡ x). inl (inl e)) (λ later. ⊎_elim (λ a. inl (inr a)) inr (Among-apart xs ys x later)) h
 
-Among-reverse : (xs : List ℕ) (x : ℕ) → Among (reverse xs) x → Among xs x
+pub Among-reverse : (xs : List ℕ) (x : ℕ) → Among (reverse xs) x → Among xs x
 Among-reverse [] x h = h
 Among-reverse (y ∷ xs) x h =
     ⊎_elim (λ a. inr (Among-reverse xs x a)) (⊎_elim (λ (e : y ≡ x). inl e) (λ (no : ⊥). absurd no))
     (Among-apart (reverse xs) (y ∷ []) x (subst (λ l. Among l x) (reverse-cons y xs) h))
 
-Among-reversed : (xs : List ℕ) (x : ℕ) → Among xs x → Among (reverse xs) x
+-- the order of a list does not matter to what is among it
+pub Among-reversed : (xs : List ℕ) (x : ℕ) → Among xs x → Among (reverse xs) x
 Among-reversed [] x h = h
 Among-reversed (y ∷ xs) x h =
     subst (λ l. Among l x) (sym (reverse-cons y xs))

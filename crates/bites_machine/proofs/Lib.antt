@@ -4,3 +4,5 @@ pub mod EdgeLemmas
 pub mod SweepLemmas
 pub mod EmitLemmas
 pub mod CompiledLemmas
+pub mod StateLemmas
+pub mod AssertionLemmas
