@@ -6,3 +6,4 @@ pub mod EmitLemmas
 pub mod CompiledLemmas
 pub mod StateLemmas
 pub mod AssertionLemmas
+pub mod LengthLemmas
