@@ -2,5 +2,6 @@ pub mod States
 pub mod Contents
 pub mod Fields
 pub mod Members
+pub mod Ends
 pub mod Emitted
 pub mod Compiled

@@ -1,6 +1,8 @@
 //! Programs that are compiled from the tree of a pattern, and the machine that runs them.
 #![tactic(auto)]
 
+pub mod assertion;
 pub mod program;
 mod set;
 pub mod state;
+pub mod vm;
