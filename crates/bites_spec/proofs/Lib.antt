@@ -42,4 +42,5 @@ pub mod ChoiceBegins
 pub mod ChoiceReader
 pub mod ChoiceSteps
 pub mod ChoiceLeads
+pub mod ChoiceFirst
 pub mod WholeSound
