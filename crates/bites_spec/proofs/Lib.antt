@@ -44,3 +44,5 @@ pub mod ChoiceSteps
 pub mod ChoiceLeads
 pub mod ChoiceFirst
 pub mod WholeSound
+mod WholeRanks
+pub mod WholeLaws
