@@ -119,7 +119,7 @@ same_rank m k at place a b =
 
 -- a pattern has at most one message
 pub faults_once : FaultsOnce
-faults_once pattern flags nest_limit m k (inl f) (inl g) = rank_once m k (same_rank m k g.place f.place (f.first k g.place g.stuck) (g.first m f.place f.stuck))
+faults_once pattern flags nest_limit m k (inl f) (inl g) = rank_once m k (same_rank m k f.place g.place (f.first k g.place g.stuck) (g.first m f.place f.stuck))
 faults_once pattern flags nest_limit m k (inl f) (inr g) = absurd (g.no_other m f.place f.stuck)
 faults_once pattern flags nest_limit m k (inr f) (inl g) = absurd (f.no_other k g.place g.stuck)
 faults_once pattern flags nest_limit m k (inr f) (inr g) = f.nesting ∙ sym g.nesting
