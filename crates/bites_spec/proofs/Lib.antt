@@ -47,4 +47,7 @@ pub mod ChoiceBegins
 pub mod ChoiceReader
 pub mod ChoiceSteps
 pub mod ChoiceLeads
+pub mod ChoiceFirst
 pub mod WholeSound
+mod WholeRanks
+pub mod WholeLaws
