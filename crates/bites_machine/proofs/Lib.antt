@@ -1,4 +1,5 @@
 pub mod SoundLemmas
 pub mod EmitLemmas
-pub mod CompiledLemmas
 pub mod LengthLemmas
+pub mod FaultLemmas
+pub mod CompiledLemmas

@@ -3,3 +3,4 @@ pub mod Contents
 pub mod Fields
 pub mod Emitted
 pub mod Compiled
+pub mod Classes
