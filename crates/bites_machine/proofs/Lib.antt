@@ -3,3 +3,4 @@ pub mod EmitLemmas
 pub mod LengthLemmas
 pub mod FaultLemmas
 pub mod CompiledLemmas
+pub mod Parts

@@ -4,3 +4,4 @@ pub mod Fields
 pub mod Emitted
 pub mod Compiled
 pub mod Classes
+pub mod Sizes
