@@ -4,3 +4,4 @@ pub mod LengthLemmas
 pub mod FaultLemmas
 pub mod CompiledLemmas
 pub mod Parts
+pub mod SizeLemmas

@@ -1,6 +1,6 @@
 -- The parts of a tree, read one by one.
-use Rattle.std.proofs.Common.{◌≡◌, ℕ, zero, suc, ◌+◌, ◌<◌, List, [], ◌∷◌, length, get_or, drop, arith, sym, ap, ◌∙◌, subst, add-one, drop-cons}
-use Rattle.bites_spec.specs.Tree.{Tree, Trees, sequence, tree_and, trees_of}
+use Rattle.std.proofs.Common.{◌≡◌, ℕ, zero, suc, ◌+◌, ◌<◌, ◌≤◌, List, [], ◌∷◌, length, get_or, drop, arith, refl, sym, ap, ◌∙◌, subst, add-one, drop-cons}
+use Rattle.bites_spec.specs.Tree.{Tree, Trees, sequence, no_tree, tree_and, trees_of, count}
 use Rattle.bites_spec.specs.Measure.{height}
 
 part_below : (ts : List Tree) (i : ℕ) (d : Tree) → i < length ts → height (get_or ts i d) < height (sequence (trees_of ts))
@@ -21,3 +21,14 @@ parts_from [] i t e h = absurd (omega arith)
 parts_from (x ∷ ts) zero t e h = ap (λ y. tree_and y (trees_of ts)) (sym e)
 parts_from (x ∷ ts) (suc i) t e h =
     parts_from ts i t e (omega arith) ∙ ap (λ k. tree_and t (trees_of (drop k (x ∷ ts)))) (more i)
+
+-- behind the last part there is none
+pub parts_end : (ts : List Tree) (i : ℕ) → length ts ≤ i → trees_of (drop i ts) ≡ no_tree
+parts_end [] zero h = refl
+parts_end [] (suc i) h = refl
+parts_end (t ∷ ts) zero h = absurd (omega arith)
+parts_end (t ∷ ts) (suc i) h = parts_end ts i (omega arith)
+
+pub count-trees_of : (ts : List Tree) → count (trees_of ts) ≡ length ts
+count-trees_of [] = refl
+count-trees_of (t ∷ ts) = ap suc (count-trees_of ts)

@@ -121,3 +121,63 @@ impl Size {
         }
     }
 }
+
+/// The size of a tree's states.
+#[cycle(size)]
+pub fn size_of(tree: &Tree) -> Size
+    requires { IsReduced tree.now }
+    ensures size { result ≡ held_size (measure.size_of tree.now) }
+    ensures classes { HasClasses tree.now }
+{
+    match tree.kind() {
+        Kind::Empty | Kind::Char(_) | Kind::Look(_) => Size::new(1, 0, 0),
+        Kind::Class(class) => Size::new(1, 0, class.ranges().len()),
+        Kind::Repetition { min, max, sub, .. } => size_of_repetition(*min, *max, sub),
+        Kind::Capture { sub, .. } => size_of(sub).copies(1, 2, 0),
+        Kind::Concat(parts) => size_of_all(parts),
+        Kind::Alternation(parts) => size_of_all(parts).with(Size::new(2, parts.len(), 0)),
+    }
+}
+
+#[cycle(size)]
+fn size_of_repetition(min: u32, max: Option<u32>, sub: &Tree) -> Size
+    requires reduced { IsReduced sub.now }
+    requires order { IfSome max (λ most. min ≤ most) }
+    ensures size { result ≡ held_size (measure.repeated_size min max (is_empty_by_form sub.now) (measure.size_of sub.now)) }
+    ensures classes { HasClasses sub.now }
+{
+    let body = size_of(sub);
+    let least = min as usize;
+    let Some(max) = max else {
+        return if least > 0 {
+            body.copies(least, 1, 2)
+        } else if is_empty_by_form(sub) {
+            body.copies(1, 3, 4)
+        } else {
+            body.copies(1, 1, 2)
+        };
+    };
+    let most = max as usize;
+    if least == 0 && most == 1 {
+        body.copies(1, 2, 2)
+    } else if least == 0 {
+        body.copies(most, most + 2, 2 * most)
+    } else if least == most {
+        body.copies(most, 0, 0)
+    } else {
+        body.copies(most, most - least + 1, 2 * (most - least))
+    }
+}
+
+#[cycle(size)]
+fn size_of_all(parts: &[Tree]) -> Size
+    requires { AllAreReduced (trees_of parts.now) }
+    ensures size { result ≡ held_size (measure.size_of (sequence (trees_of parts.now))) }
+    ensures classes { AllHaveClasses (trees_of parts.now) }
+{
+    let mut all = Size::new(0, 0, 0);
+    for part in parts {
+        all = all.with(size_of(part));
+    }
+    all
+}
