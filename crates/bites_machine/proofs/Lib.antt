@@ -7,3 +7,7 @@ pub mod CompiledLemmas
 pub mod StateLemmas
 pub mod AssertionLemmas
 pub mod LengthLemmas
+pub mod FaultLemmas
+pub mod CompiledLemmas
+pub mod Parts
+pub mod SizeLemmas
