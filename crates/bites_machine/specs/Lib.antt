@@ -1,4 +1,9 @@
-pub mod Looks
 pub mod States
 pub mod Contents
 pub mod Fields
+pub mod Members
+pub mod Ends
+pub mod Emitted
+pub mod Compiled
+pub mod Classes
+pub mod Sizes
