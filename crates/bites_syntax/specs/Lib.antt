@@ -1,7 +1,6 @@
 pub mod FlagsView
 pub mod Hexadecimal
 pub mod Meanings
-pub mod Named
 pub mod Numbers
 pub mod Operators
 pub mod Parts
@@ -10,3 +9,4 @@ pub mod Steps
 pub mod TreeCode
 pub mod View
 pub mod TreeFalls
+pub mod Cases

@@ -1,13 +1,14 @@
 //! Escapes: what a backslash begins.
 
 ghost use Rattle.std.specs.Prelude.{◌≡◌, ◌≤◌, length, IfOk, OnOk, option_map, string_bytes};
+ghost use Rattle.bites_spec.specs.Class.{Lists, complement, members};
 ghost use Rattle.bites_spec.specs.Escape.{assertion_of, boundary_of, class_of, control_of, digits_of, escapes_itself, is_boundary_letter};
 ghost use Rattle.bites_spec.specs.Reading.{boundary, boundary_name, escape, meaning_of, simple};
 ghost use Rattle.bites_syntax.specs.FlagsView.{flags_of};
 ghost use Rattle.bites_syntax.specs.Meanings.{IsClassOf, IsMeaning, IsMeaningOf, IsLook};
 ghost use Rattle.bites_syntax.specs.Parts.{Agrees, WithSteps};
 ghost use Rattle.bites_syntax.specs.Steps.{each_of};
-ghost use Rattle.bites_syntax.specs.View.{look_of};
+ghost use Rattle.bites_syntax.specs.View.{look_of, named_of};
 
 use crate::class::Class;
 use crate::cursor::{Characters, Cursor};
@@ -53,16 +54,30 @@ fn assertion(c: char) -> Option<Look>
     }
 }
 
+/// The class of the characters of a named class.
+pub(crate) fn named_class(alloc: Global, name: NamedClass) -> Result<Class, AllocError>
+    ensures { IfOk result (λ class. Lists class (members (named_of name))) }
+{
+    Ok(Class::from_ranges(Vec::from_slice(alloc, name.ranges())?))
+}
+
+/// The class of all characters but those of a named class.
+pub(crate) fn other_characters(alloc: Global, name: NamedClass) -> Result<Class, AllocError>
+    ensures { IfOk result (λ class. Lists class (complement (members (named_of name)))) }
+{
+    Class::all_but(alloc, name.ranges())
+}
+
 fn perl_class(alloc: Global, c: char) -> Result<Option<Class>, AllocError>
     ensures { IfOk result (λ found. IsClassOf found (class_of c)) }
 {
     let class = match c {
-        'd' => NamedClass::Digit.class(alloc)?,
-        's' => NamedClass::Space.class(alloc)?,
-        'w' => NamedClass::Word.class(alloc)?,
-        'D' => NamedClass::Digit.others(alloc)?,
-        'S' => NamedClass::Space.others(alloc)?,
-        'W' => NamedClass::Word.others(alloc)?,
+        'd' => named_class(alloc, NamedClass::Digit)?,
+        's' => named_class(alloc, NamedClass::Space)?,
+        'w' => named_class(alloc, NamedClass::Word)?,
+        'D' => other_characters(alloc, NamedClass::Digit)?,
+        'S' => other_characters(alloc, NamedClass::Space)?,
+        'W' => other_characters(alloc, NamedClass::Word)?,
         _ => return Ok(None),
     };
     Ok(Some(class))

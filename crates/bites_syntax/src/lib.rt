@@ -2,6 +2,7 @@
 #![tactic(auto)]
 
 pub(crate) mod bracket;
+pub mod builder;
 pub mod class;
 pub(crate) mod cursor;
 pub(crate) mod escape;
@@ -9,7 +10,7 @@ pub(crate) mod flags;
 pub(crate) mod hexadecimal;
 pub mod look;
 pub mod name;
-pub(crate) mod named;
+pub mod named;
 pub(crate) mod number;
 pub(crate) mod operator;
 pub mod tree;

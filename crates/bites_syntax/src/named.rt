@@ -1,15 +1,13 @@
-//! Classes that have a name.
+//! Classes of characters that have a name.
 
-ghost use Rattle.std.specs.Prelude.{◌≡◌, IfOk};
-ghost use Rattle.bites_spec.specs.Class.{Lists, complement, members, name_of};
-ghost use Rattle.bites_syntax.specs.Named.{named_of};
+ghost use Rattle.std.specs.Prelude.{◌≡◌, ℕ};
+ghost use Rattle.bites_spec.specs.Range.{in_ranges};
+ghost use Rattle.bites_spec.specs.Class.{AreGreatest, members, name_of};
+ghost use Rattle.bites_syntax.specs.View.{named_of};
 
-use crate::class::Class;
-use std::alloc::{AllocError, Global};
-
-/// A class of POSIX, or the class `word`.
-#[derive(Clone, Copy)]
-pub(crate) enum NamedClass {
+/// A class of ASCII characters that has a name: those of POSIX, and `word`.
+#[derive(Clone, Copy, PartialEq, Eq, Debug)]
+pub enum NamedClass {
     Alnum,
     Alpha,
     Ascii,
@@ -27,8 +25,26 @@ pub(crate) enum NamedClass {
 }
 
 impl NamedClass {
-    /// How the class is written.
-    pub(crate) fn name(self) -> &'static str
+    /// All named classes.
+    pub const ALL: [NamedClass; 14] = [
+        NamedClass::Alnum,
+        NamedClass::Alpha,
+        NamedClass::Ascii,
+        NamedClass::Blank,
+        NamedClass::Cntrl,
+        NamedClass::Digit,
+        NamedClass::Graph,
+        NamedClass::Lower,
+        NamedClass::Print,
+        NamedClass::Punct,
+        NamedClass::Space,
+        NamedClass::Upper,
+        NamedClass::Word,
+        NamedClass::Xdigit,
+    ];
+
+    /// How the class is written in a pattern.
+    pub fn name(self) -> &'static str
         ensures { result.now ≡ name_of (named_of self) }
     {
         match self {
@@ -50,8 +66,9 @@ impl NamedClass {
     }
 
     /// The greatest ranges of the class.
-    pub(crate) fn ranges(self) -> &'static [(char, char)]
-        ensures { Lists result.now (members (named_of self)) }
+    pub fn ranges(self) -> &'static [(char, char)]
+        ensures greatest { AreGreatest result.now }
+        ensures members { (c : ℕ) → in_ranges result.now c ≡ members (named_of self) c }
     {
         match self {
             NamedClass::Alnum => &[('0', '9'), ('A', 'Z'), ('a', 'z')],
@@ -69,19 +86,5 @@ impl NamedClass {
             NamedClass::Word => &[('0', '9'), ('A', 'Z'), ('_', '_'), ('a', 'z')],
             NamedClass::Xdigit => &[('0', '9'), ('A', 'F'), ('a', 'f')],
         }
-    }
-
-    /// The class. It refuses only for memory.
-    pub(crate) fn class(self, alloc: Global) -> Result<Class, AllocError>
-        ensures { IfOk result (λ class. Lists class (members (named_of self))) }
-    {
-        Ok(Class::from_ranges(Vec::from_slice(alloc, self.ranges())?))
-    }
-
-    /// The class of all other characters. It refuses only for memory.
-    pub(crate) fn others(self, alloc: Global) -> Result<Class, AllocError>
-        ensures { IfOk result (λ class. Lists class (complement (members (named_of self)))) }
-    {
-        Class::all_but(alloc, self.ranges())
     }
 }
