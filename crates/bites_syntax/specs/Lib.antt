@@ -1,6 +1,7 @@
 pub mod FlagsView
 pub mod Hexadecimal
 pub mod Meanings
+pub mod Members
 pub mod Numbers
 pub mod Operators
 pub mod Parts

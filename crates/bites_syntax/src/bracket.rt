@@ -1,21 +1,348 @@
 //! Classes in brackets.
 
-ghost use Rattle.std.specs.Prelude.{◌≤◌, length};
-ghost use Rattle.bites_spec.specs.Class.{Lists};
-ghost use Rattle.bites_spec.specs.Reading.{bracket};
+ghost use Rattle.std.specs.Prelude.{◌≡◌, ℕ, ◌≤◌, ◌<◌, Bool, true, false, length, codes, drop, ◌++◌, ◌∷◌, IfOk, OnOk, MatchOption, None, Some};
+ghost use Rattle.bites_spec.specs.Class.{Lists, Set, name_of, named_classes, single};
+ghost use Rattle.bites_spec.specs.Bracket.{is_set_operator, with_cases, with_negation};
+ghost use Rattle.bites_spec.specs.Escape as spec;
+ghost use Rattle.bites_spec.specs.Pattern.{Text, begins, next_is, skip};
+ghost use Rattle.bites_spec.specs.Reading.{after_dash, after_first, alone, bracket, class_end, class_members, member, named, range};
 ghost use Rattle.bites_syntax.specs.FlagsView.{flags_of};
+ghost use Rattle.bites_syntax.specs.Meanings.{IsMeaning};
+ghost use Rattle.bites_syntax.specs.Members.{Adds, AnswersCaret, AnswersLeading, Completes, Has, IsOperatorError, named_at};
 ghost use Rattle.bites_syntax.specs.Parts.{Agrees, WithSteps};
+ghost use Rattle.bites_syntax.specs.View.{named_of};
 
+use crate::builder::ClassBuilder;
 use crate::class::Class;
-use crate::cursor::Cursor;
+use crate::cursor::{Characters, Cursor};
+use crate::escape::{Meaning, escape, named_class, other_characters};
 use crate::flags::Flags;
+use crate::named::NamedClass;
 use bites_text::error::Error;
-use std::alloc::Global;
+use std::alloc::{AllocError, Global};
+
+/// The place behind this opening, a name and `:]`, if they stand here.
+fn behind_name<'a>(cursor: &Cursor<'a>, opening: &str, name: NamedClass) -> Option<Cursor<'a>>
+    ensures { let text = opening.now ++ name_of (named_of name) ++ codes ":]" in
+        MatchOption result (begins text cursor.now ≡ false) (λ rest. (begins text cursor.now ≡ true) × (rest ≡ drop (length text) cursor.now)) }
+{
+    let mut ahead = cursor.ahead();
+    let stands = ahead.bump_over(opening) && ahead.bump_over(name.name()) && ahead.bump_over(":]");
+    if stands { Some(ahead) } else { None }
+}
+
+/// The named class that stands here, whether it is negated, and the place behind it.
+fn named_at<'a>(cursor: &Cursor<'a>) -> Option<(NamedClass, bool, Cursor<'a>)>
+    ensures { MatchOption result (named_at cursor.now named_classes ≡ None)
+        (λ x. named_at cursor.now named_classes ≡ Some (named_of x.0, x.1, x.2)) }
+{
+    for name in &NamedClass::ALL {
+        if let Some(behind) = behind_name(cursor, "[:", *name) {
+            return Some((*name, false, behind));
+        }
+        if let Some(behind) = behind_name(cursor, "[:^", *name) {
+            return Some((*name, true, behind));
+        }
+    }
+    None
+}
+
+/// Reads a named class, and adds its characters.
+fn named(alloc: Global, cursor: &mut Cursor<'_>, builder: &mut ClassBuilder) -> Result<(), Error>
+    ensures reads { Adds builder.old builder.new result cursor.new (λ go set. named go set cursor.old named_classes) }
+    ensures forward { length cursor.new ≤ length cursor.old }
+    ensures progress { OnOk result (length cursor.new < length cursor.old) }
+{
+    let Some((name, negated, behind)) = named_at(cursor) else {
+        return Err(Error::NestedClass);
+    };
+    let class = if negated {
+        other_characters(alloc, name)?
+    } else {
+        named_class(alloc, name)?
+    };
+    builder.extend(class.ranges())?;
+    *cursor = behind;
+    Ok(())
+}
+
+/// Reads what may be an end of a range: a character or an escape.
+fn class_end(alloc: Global, cursor: &mut Cursor<'_>, flags: Flags) -> Result<Meaning, Error>
+    ensures reads { WithSteps cursor.old (λ n. Agrees IsMeaning result cursor.new (class_end n (flags_of flags) cursor.old)) }
+    ensures forward { length cursor.new ≤ length cursor.old }
+    ensures progress { OnOk result (length cursor.new < length cursor.old) }
+{
+    match cursor.bump() {
+        None => Err(Error::UnclosedClass),
+        Some('\\') => escape(alloc, cursor, flags),
+        Some(c) => Ok(Meaning::Character(c)),
+    }
+}
+
+/// Adds the characters of a member that is no range.
+fn add_alone(builder: &mut ClassBuilder, member: Meaning) -> Result<(), Error>
+    ensures { (m : spec.Meaning) → IsMeaning member m → (rest : Text) → Adds builder.old builder.new result rest (λ go set. alone go set m rest) }
+{
+    match member {
+        Meaning::Character(c) => builder.push(c, c)?,
+        Meaning::Characters(class) => builder.extend(class.ranges())?,
+        Meaning::Assertion(_) => return Err(Error::InvalidClassEscape),
+    }
+    Ok(())
+}
+
+/// Adds the characters of a range.
+fn add_range(builder: &mut ClassBuilder, first: Meaning, second: Meaning) -> Result<(), Error>
+    ensures { (m k : spec.Meaning) → IsMeaning first m → IsMeaning second k → (rest : Text) →
+        Adds builder.old builder.new result rest (λ go set. range go set m k rest) }
+{
+    let (Meaning::Character(low), Meaning::Character(high)) = (first, second) else {
+        return Err(Error::RangeOfNoCharacter);
+    };
+    if high < low {
+        return Err(Error::InvalidRange);
+    }
+    builder.push(low, high)?;
+    Ok(())
+}
+
+/// Reads what stands behind an end and its gap, from the dash there.
+fn after_dash(
+    alloc: Global,
+    cursor: &mut Cursor<'_>,
+    flags: Flags,
+    builder: &mut ClassBuilder,
+    first: Meaning,
+) -> Result<(), Error>
+    ensures reads { (t : Text) → cursor.old ≡ 45 ∷ t → (n : ℕ) → length t ≤ n → (m : spec.Meaning) → IsMeaning first m →
+        Adds builder.old builder.new result cursor.new (λ go set. after_dash go n (flags_of flags) set m cursor.old (skip (flags_of flags) t)) }
+    ensures forward { length cursor.new ≤ length cursor.old }
+{
+    let mut ahead = cursor.ahead();
+    ahead.bump();
+    ahead.skip(flags);
+    match ahead.peek() {
+        None => Err(Error::UnclosedAfterDash),
+        Some(']' | '-') => add_alone(builder, first),
+        Some(_) => {
+            *cursor = ahead;
+            let second = class_end(alloc, cursor, flags)?;
+            add_range(builder, first, second)
+        }
+    }
+}
+
+/// Reads what stands behind an end and its gap, and adds the member.
+fn after_first(
+    alloc: Global,
+    cursor: &mut Cursor<'_>,
+    flags: Flags,
+    builder: &mut ClassBuilder,
+    first: Meaning,
+) -> Result<(), Error>
+    ensures reads { WithSteps cursor.old (λ n. (m : spec.Meaning) → IsMeaning first m →
+        Adds builder.old builder.new result cursor.new (λ go set. after_first go n (flags_of flags) set m cursor.old)) }
+    ensures forward { length cursor.new ≤ length cursor.old }
+{
+    match cursor.peek() {
+        None => Err(Error::UnclosedAfterMember),
+        Some('-') => after_dash(alloc, cursor, flags, builder, first),
+        Some(_) => add_alone(builder, first),
+    }
+}
+
+/// Why the operator on sets that stands here is refused, if one stands here.
+fn set_operator(cursor: &Cursor<'_>) -> Option<Error>
+    ensures { IsOperatorError result cursor.now }
+{
+    if cursor.begins("&&") {
+        Some(Error::ClassIntersection)
+    } else if cursor.begins("--") {
+        Some(Error::ClassDifference)
+    } else if cursor.begins("~~") {
+        Some(Error::ClassSymmetricDifference)
+    } else {
+        None
+    }
+}
+
+/// Reads a member, and adds its characters.
+fn member(
+    alloc: Global,
+    cursor: &mut Cursor<'_>,
+    flags: Flags,
+    builder: &mut ClassBuilder,
+) -> Result<(), Error>
+    requires { next_is (single 93) cursor.old ≡ false }
+    ensures reads { WithSteps cursor.old (λ n. Adds builder.old builder.new result cursor.new (λ go set. member go n (flags_of flags) set cursor.old)) }
+    ensures forward { length cursor.new ≤ length cursor.old }
+    ensures progress { OnOk result (length cursor.new < length cursor.old) }
+{
+    if cursor.peek() == Some('[') {
+        return named(alloc, cursor, builder);
+    }
+    if let Some(error) = set_operator(cursor) {
+        return Err(error);
+    }
+    let first = class_end(alloc, cursor, flags)?;
+    cursor.skip(flags);
+    after_first(alloc, cursor, flags, builder, first)
+}
+
+/// Reads all members and the closing bracket, and adds their characters.
+fn members(
+    alloc: Global,
+    cursor: &mut Cursor<'_>,
+    flags: Flags,
+    builder: &mut ClassBuilder,
+) -> Result<(), Error>
+    ensures reads { WithSteps cursor.old (λ n. Completes builder.old builder.new result cursor.new (λ set. class_members n (flags_of flags) set cursor.old)) }
+    ensures forward { length cursor.new ≤ length cursor.old }
+{
+    cursor.skip(flags);
+    while !cursor.bump_if(']') {
+        member(alloc, cursor, flags, builder)?;
+        cursor.skip(flags);
+    }
+    Ok(())
+}
+
+/// Reads a caret and its gap, if one stands here, and tells whether one did.
+fn caret(cursor: &mut Cursor<'_>, flags: Flags) -> Result<bool, Error>
+    ensures reads { (n : ℕ) → AnswersCaret result cursor.new n (flags_of flags) cursor.old }
+    ensures forward { length cursor.new ≤ length cursor.old }
+{
+    if cursor.peek().is_none() {
+        return Err(Error::UnclosedClass);
+    }
+    if !cursor.bump_if('^') {
+        return Ok(false);
+    }
+    cursor.skip(flags);
+    match cursor.peek() {
+        None => Err(Error::UnclosedAfterCaret),
+        Some(_) => Ok(true),
+    }
+}
+
+/// Reads the dashes or the closing bracket that stand for themselves before the members.
+fn leading(cursor: &mut Cursor<'_>, flags: Flags) -> Result<Option<char>, Error>
+    ensures reads { WithSteps cursor.old (λ n. (negated : Bool) → AnswersLeading result cursor.new n (flags_of flags) negated cursor.old) }
+    ensures forward { length cursor.new ≤ length cursor.old }
+{
+    let (error, leading) = match cursor.peek() {
+        Some('-') => {
+            cursor.pass_each(flags, Characters::Dash);
+            (Error::UnclosedAfterDash, Some('-'))
+        }
+        Some(']') => {
+            cursor.bump();
+            cursor.skip(flags);
+            (Error::UnclosedAfterBracket, Some(']'))
+        }
+        _ => (Error::UnclosedClass, None),
+    };
+    match cursor.peek() {
+        None => Err(error),
+        Some(_) => Ok(leading),
+    }
+}
+
+/// The class of the builder, under the flags and under the caret.
+fn finished(
+    alloc: Global,
+    mut builder: ClassBuilder,
+    flags: Flags,
+    negated: bool,
+) -> Result<Class, AllocError>
+    ensures { (set : Set) → Has builder set → IfOk result (λ class. Lists class (with_negation negated (with_cases (flags_of flags) set))) }
+{
+    if flags.case_insensitive {
+        builder.add_cases(alloc)?;
+    }
+    let class = builder.build(alloc)?;
+    if negated { class.negate(alloc) } else { Ok(class) }
+}
 
 /// Reads a class, from behind its opening bracket and the gap there.
 pub(crate) fn bracket(alloc: Global, cursor: &mut Cursor<'_>, flags: Flags) -> Result<Class, Error>
     ensures reads { WithSteps cursor.old (λ n. Agrees Lists result cursor.new (bracket n (flags_of flags) cursor.old)) }
     ensures forward { length cursor.new ≤ length cursor.old }
 {
-    Err(Error::Memory)
+    let negated = caret(cursor, flags)?;
+    let leading = leading(cursor, flags)?;
+    let mut builder = ClassBuilder::new(alloc);
+    if let Some(c) = leading {
+        builder.push(c, c)?;
+    }
+    members(alloc, cursor, flags, &mut builder)?;
+    Ok(finished(alloc, builder, flags, negated)?)
+}
+
+#[cfg(test)]
+mod tests {
+    use super::*;
+    use std::test::Fail;
+
+    fn is_class(rt: &HostRuntime, text: &str, flags: Flags, wanted: &[(char, char)]) -> bool {
+        match bracket(rt.alloc(), &mut Cursor::new(text), flags) {
+            Ok(class) => class.ranges() == wanted,
+            Err(_) => false,
+        }
+    }
+
+    fn is_fault(rt: &HostRuntime, text: &str, flags: Flags, wanted: Error) -> bool {
+        match bracket(rt.alloc(), &mut Cursor::new(text), flags) {
+            Ok(_) => false,
+            Err(e) => e == wanted,
+        }
+    }
+
+    #[test]
+    fn classes(rt: HostRuntime) -> Result<(), Fail> {
+        let flags = Flags::default();
+        let folded = Flags {
+            case_insensitive: true,
+            ..flags
+        };
+        let spaced = Flags {
+            ignore_whitespace: true,
+            ..flags
+        };
+        let ends = [('\0', '`'), ('b', char::MAX)];
+        assert!(rt; is_class(&rt, "]a]", flags, &[(']', ']'), ('a', 'a')]));
+        assert!(rt; is_class(&rt, "a-cb-e]", flags, &[('a', 'e')]));
+        assert!(rt; is_class(&rt, "[:digit:]x]", flags, &[('0', '9'), ('x', 'x')]));
+        assert!(rt; is_class(&rt, "^a]", flags, &ends));
+        assert!(rt; is_class(&rt, "^\\s\\S]", flags, &[]));
+        assert!(rt; is_class(&rt, "k]", folded, &[('K', 'K'), ('k', 'k')]));
+        assert!(rt; is_class(&rt, "- - -a]", spaced, &[('-', '-'), ('a', 'a')]));
+        assert!(rt; is_class(&rt, "a-]", flags, &[('-', '-'), ('a', 'a')]));
+        Ok(())
+    }
+
+    #[test]
+    fn faults(rt: HostRuntime) -> Result<(), Fail> {
+        let flags = Flags::default();
+        let spaced = Flags {
+            ignore_whitespace: true,
+            ..flags
+        };
+        assert!(rt; is_fault(&rt, "", flags, Error::UnclosedClass));
+        assert!(rt; is_fault(&rt, "^", flags, Error::UnclosedAfterCaret));
+        assert!(rt; is_fault(&rt, "]", flags, Error::UnclosedAfterBracket));
+        assert!(rt; is_fault(&rt, "-", flags, Error::UnclosedAfterDash));
+        assert!(rt; is_fault(&rt, "-#]", spaced, Error::UnclosedAfterDash));
+        assert!(rt; is_fault(&rt, "a- ", spaced, Error::UnclosedAfterDash));
+        assert!(rt; is_fault(&rt, "a", flags, Error::UnclosedAfterMember));
+        assert!(rt; is_fault(&rt, "\\w-a]", flags, Error::RangeOfNoCharacter));
+        assert!(rt; is_fault(&rt, "a-\\w]", flags, Error::RangeOfNoCharacter));
+        assert!(rt; is_fault(&rt, "\\b]", flags, Error::InvalidClassEscape));
+        assert!(rt; is_fault(&rt, "z-a]", flags, Error::InvalidRange));
+        assert!(rt; is_fault(&rt, "a--b]", flags, Error::ClassDifference));
+        assert!(rt; is_fault(&rt, "a&&b]", flags, Error::ClassIntersection));
+        assert!(rt; is_fault(&rt, "a~~b]", flags, Error::ClassSymmetricDifference));
+        assert!(rt; is_fault(&rt, "[a]]", flags, Error::NestedClass));
+        Ok(())
+    }
 }
