@@ -5,6 +5,9 @@ pub mod Gaps
 pub mod CaseLemmas
 pub mod CursorLemmas
 pub mod NumberLemmas
+pub mod BracketParts
 pub mod EscapeParts
+pub mod MemberParts
+pub mod NamedParts
 pub mod HexadecimalLemmas
 pub mod PartLemmas

@@ -1,7 +1,7 @@
 -- The members of a class in brackets.
 use Rattle.std.specs.Prelude.{◌≡◌, ℕ, ◌+◌, Bool, true, false, List, [], ◌∷◌, ◌++◌, length, drop, codes, Option, Some, None, Result, Ok, MatchOption, MatchResult, if◌then◌else◌}
 use Rattle.bites_spec.specs.Range.{Range, in_ranges}
-use Rattle.bites_spec.specs.Class.{Set, NamedClass, name_of, none, single, is_scalar}
+use Rattle.bites_spec.specs.Class.{Set, NamedClass, complement, members, name_of, none, single, is_scalar}
 use Rattle.bites_spec.specs.Bracket.{is_set_operator}
 use Rattle.bites_spec.specs.Pattern.{Text, Flags, begins}
 use Rattle.bites_spec.specs.Reading.{Answer, Members, bracket, class_members, dashes, finished, set_operator_message}
@@ -28,12 +28,16 @@ Completes old new result rest read =
     MatchResult result (λ _. (more : Set) × (read set ≡ Ok (more, rest)) × Has new more) (λ e. Refuses e (read set))
 
 -- the first of these classes whose name stands here, whether a caret comes before it, and the text behind it
-abbrev pub named_at : Text → List NamedClass → Option (NamedClass × Bool × Text)
+unfoldable pub named_at : Text → List NamedClass → Option (NamedClass × Bool × Text)
 named_at t [] = None
 named_at t (k ∷ classes) =
     if begins (codes "[:" ++ name_of k ++ codes ":]") t then Some (k, false, drop (4 + length (name_of k)) t)
     else if begins (codes "[:^" ++ name_of k ++ codes ":]") t then Some (k, true, drop (5 + length (name_of k)) t)
     else named_at t classes
+
+-- the characters of a named class, or all others
+abbrev pub members_named : NamedClass → Bool → Set
+members_named k negated = if negated then complement (members k) else members k
 
 -- the character that stands for itself before the members
 abbrev pub leading_set : Option ℕ → Set

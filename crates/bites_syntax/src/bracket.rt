@@ -1,14 +1,14 @@
 //! Classes in brackets.
 
-ghost use Rattle.std.specs.Prelude.{◌≡◌, ℕ, ◌≤◌, ◌<◌, Bool, true, false, length, codes, drop, ◌++◌, ◌∷◌, IfOk, OnOk, MatchOption, None, Some};
+ghost use Rattle.std.specs.Prelude.{◌≡◌, ℕ, suc, [], ◌≤◌, ◌<◌, Bool, true, false, length, codes, drop, ◌++◌, ◌∷◌, IfOk, OnOk, map, MatchOption, MatchResult, None, Some};
 ghost use Rattle.bites_spec.specs.Class.{Lists, Set, name_of, named_classes, single};
 ghost use Rattle.bites_spec.specs.Bracket.{is_set_operator, with_cases, with_negation};
 ghost use Rattle.bites_spec.specs.Escape as spec;
-ghost use Rattle.bites_spec.specs.Pattern.{Text, begins, next_is, skip};
+ghost use Rattle.bites_spec.specs.Pattern.{Text, begins, next_is, one_of, skip};
 ghost use Rattle.bites_spec.specs.Reading.{after_dash, after_first, alone, bracket, class_end, class_members, member, named, range};
 ghost use Rattle.bites_syntax.specs.FlagsView.{flags_of};
 ghost use Rattle.bites_syntax.specs.Meanings.{IsMeaning};
-ghost use Rattle.bites_syntax.specs.Members.{Adds, AnswersCaret, AnswersLeading, Completes, Has, IsOperatorError, named_at};
+ghost use Rattle.bites_syntax.specs.Members.{Adds, AnswersCaret, AnswersLeading, Completes, Has, IsOperatorError, leading_set, members_named, named_at};
 ghost use Rattle.bites_syntax.specs.Parts.{Agrees, WithSteps};
 ghost use Rattle.bites_syntax.specs.View.{named_of};
 
@@ -27,16 +27,25 @@ fn behind_name<'a>(cursor: &Cursor<'a>, opening: &str, name: NamedClass) -> Opti
         MatchOption result (begins text cursor.now ≡ false) (λ rest. (begins text cursor.now ≡ true) × (rest ≡ drop (length text) cursor.now)) }
 {
     let mut ahead = cursor.ahead();
-    let stands = ahead.bump_over(opening) && ahead.bump_over(name.name()) && ahead.bump_over(":]");
-    if stands { Some(ahead) } else { None }
+    if !ahead.bump_over(opening) {
+        return None;
+    }
+    if !ahead.bump_over(name.name()) {
+        return None;
+    }
+    if !ahead.bump_over(":]") {
+        return None;
+    }
+    Some(ahead)
 }
 
-/// The named class that stands here, whether it is negated, and the place behind it.
-fn named_at<'a>(cursor: &Cursor<'a>) -> Option<(NamedClass, bool, Cursor<'a>)>
-    ensures { MatchOption result (named_at cursor.now named_classes ≡ None)
-        (λ x. named_at cursor.now named_classes ≡ Some (named_of x.0, x.1, x.2)) }
+/// The first of these named classes that stands here, whether it is negated, and the place behind
+/// it.
+fn named_at<'a>(cursor: &Cursor<'a>, names: &[NamedClass]) -> Option<(NamedClass, bool, Cursor<'a>)>
+    ensures { MatchOption result (named_at cursor.now (map named_of names.now) ≡ None)
+        (λ x. named_at cursor.now (map named_of names.now) ≡ Some (named_of x.0, x.1, x.2)) }
 {
-    for name in &NamedClass::ALL {
+    'names: for name in names {
         if let Some(behind) = behind_name(cursor, "[:", *name) {
             return Some((*name, false, behind));
         }
@@ -47,20 +56,27 @@ fn named_at<'a>(cursor: &Cursor<'a>) -> Option<(NamedClass, bool, Cursor<'a>)>
     None
 }
 
+/// The characters of a named class, or all others.
+fn class_named(alloc: Global, name: NamedClass, negated: bool) -> Result<Class, AllocError>
+    ensures { IfOk result (λ class. Lists class (members_named (named_of name) negated)) }
+{
+    if negated {
+        other_characters(alloc, name)
+    } else {
+        named_class(alloc, name)
+    }
+}
+
 /// Reads a named class, and adds its characters.
 fn named(alloc: Global, cursor: &mut Cursor<'_>, builder: &mut ClassBuilder) -> Result<(), Error>
     ensures reads { Adds builder.old builder.new result cursor.new (λ go set. named go set cursor.old named_classes) }
     ensures forward { length cursor.new ≤ length cursor.old }
     ensures progress { OnOk result (length cursor.new < length cursor.old) }
 {
-    let Some((name, negated, behind)) = named_at(cursor) else {
+    let Some((name, negated, behind)) = named_at(cursor, &NamedClass::ALL) else {
         return Err(Error::NestedClass);
     };
-    let class = if negated {
-        other_characters(alloc, name)?
-    } else {
-        named_class(alloc, name)?
-    };
+    let class = class_named(alloc, name, negated)?;
     builder.extend(class.ranges())?;
     *cursor = behind;
     Ok(())
@@ -68,7 +84,7 @@ fn named(alloc: Global, cursor: &mut Cursor<'_>, builder: &mut ClassBuilder) -> 
 
 /// Reads what may be an end of a range: a character or an escape.
 fn class_end(alloc: Global, cursor: &mut Cursor<'_>, flags: Flags) -> Result<Meaning, Error>
-    ensures reads { WithSteps cursor.old (λ n. Agrees IsMeaning result cursor.new (class_end n (flags_of flags) cursor.old)) }
+    ensures reads { (n : ℕ) → length cursor.old ≤ suc n → Agrees IsMeaning result cursor.new (class_end n (flags_of flags) cursor.old) }
     ensures forward { length cursor.new ≤ length cursor.old }
     ensures progress { OnOk result (length cursor.new < length cursor.old) }
 {
@@ -166,6 +182,27 @@ fn set_operator(cursor: &Cursor<'_>) -> Option<Error>
     }
 }
 
+/// Reads a member that is no named class, and adds its characters.
+fn unnamed(
+    alloc: Global,
+    cursor: &mut Cursor<'_>,
+    flags: Flags,
+    builder: &mut ClassBuilder,
+) -> Result<(), Error>
+    requires { next_is (one_of (codes "[]")) cursor.old ≡ false }
+    ensures reads { (n : ℕ) → length cursor.old ≤ suc n →
+        Adds builder.old builder.new result cursor.new (λ go set. member go n (flags_of flags) set cursor.old) }
+    ensures forward { length cursor.new ≤ length cursor.old }
+    ensures progress { OnOk result (length cursor.new < length cursor.old) }
+{
+    if let Some(error) = set_operator(cursor) {
+        return Err(error);
+    }
+    let first = class_end(alloc, cursor, flags)?;
+    cursor.skip(flags);
+    after_first(alloc, cursor, flags, builder, first)
+}
+
 /// Reads a member, and adds its characters.
 fn member(
     alloc: Global,
@@ -174,19 +211,15 @@ fn member(
     builder: &mut ClassBuilder,
 ) -> Result<(), Error>
     requires { next_is (single 93) cursor.old ≡ false }
-    ensures reads { WithSteps cursor.old (λ n. Adds builder.old builder.new result cursor.new (λ go set. member go n (flags_of flags) set cursor.old)) }
+    ensures reads { (n : ℕ) → length cursor.old ≤ suc n →
+        Adds builder.old builder.new result cursor.new (λ go set. member go n (flags_of flags) set cursor.old) }
     ensures forward { length cursor.new ≤ length cursor.old }
     ensures progress { OnOk result (length cursor.new < length cursor.old) }
 {
-    if cursor.peek() == Some('[') {
-        return named(alloc, cursor, builder);
+    match cursor.peek() {
+        Some('[') => named(alloc, cursor, builder),
+        _ => unnamed(alloc, cursor, flags, builder),
     }
-    if let Some(error) = set_operator(cursor) {
-        return Err(error);
-    }
-    let first = class_end(alloc, cursor, flags)?;
-    cursor.skip(flags);
-    after_first(alloc, cursor, flags, builder, first)
 }
 
 /// Reads all members and the closing bracket, and adds their characters.
@@ -200,7 +233,7 @@ fn members(
     ensures forward { length cursor.new ≤ length cursor.old }
 {
     cursor.skip(flags);
-    while !cursor.bump_if(']') {
+    'members: while !cursor.bump_if(']') {
         member(alloc, cursor, flags, builder)?;
         cursor.skip(flags);
     }
@@ -230,22 +263,42 @@ fn leading(cursor: &mut Cursor<'_>, flags: Flags) -> Result<Option<char>, Error>
     ensures reads { WithSteps cursor.old (λ n. (negated : Bool) → AnswersLeading result cursor.new n (flags_of flags) negated cursor.old) }
     ensures forward { length cursor.new ≤ length cursor.old }
 {
-    let (error, leading) = match cursor.peek() {
+    match cursor.peek() {
+        None => Err(Error::UnclosedClass),
         Some('-') => {
             cursor.pass_each(flags, Characters::Dash);
-            (Error::UnclosedAfterDash, Some('-'))
+            unless_at_end(cursor, '-', Error::UnclosedAfterDash)
         }
         Some(']') => {
             cursor.bump();
             cursor.skip(flags);
-            (Error::UnclosedAfterBracket, Some(']'))
+            unless_at_end(cursor, ']', Error::UnclosedAfterBracket)
         }
-        _ => (Error::UnclosedClass, None),
-    };
+        Some(_) => Ok(None),
+    }
+}
+
+/// This character, or this error where the pattern ends.
+fn unless_at_end(cursor: &Cursor<'_>, c: char, error: Error) -> Result<Option<char>, Error>
+    ensures { MatchResult result
+        (λ leading. (leading ≡ Some c) × (d : ℕ) × (t : Text) × (cursor.now ≡ d ∷ t))
+        (λ e. (e ≡ error) × (cursor.now ≡ [])) }
+{
     match cursor.peek() {
         None => Err(error),
-        Some(_) => Ok(leading),
+        Some(_) => Ok(Some(c)),
     }
+}
+
+/// A builder with the character that stands for itself before the members.
+fn started(alloc: Global, leading: Option<char>) -> Result<ClassBuilder, AllocError>
+    ensures { IfOk result (λ builder. Has builder (leading_set leading)) }
+{
+    let mut builder = ClassBuilder::new(alloc);
+    if let Some(c) = leading {
+        builder.push(c, c)?;
+    }
+    Ok(builder)
 }
 
 /// The class of the builder, under the flags and under the caret.
@@ -261,7 +314,11 @@ fn finished(
         builder.add_cases(alloc)?;
     }
     let class = builder.build(alloc)?;
-    if negated { class.negate(alloc) } else { Ok(class) }
+    if negated {
+        class.negate(alloc)
+    } else {
+        Ok(class)
+    }
 }
 
 /// Reads a class, from behind its opening bracket and the gap there.
@@ -271,10 +328,7 @@ pub(crate) fn bracket(alloc: Global, cursor: &mut Cursor<'_>, flags: Flags) -> R
 {
     let negated = caret(cursor, flags)?;
     let leading = leading(cursor, flags)?;
-    let mut builder = ClassBuilder::new(alloc);
-    if let Some(c) = leading {
-        builder.push(c, c)?;
-    }
+    let mut builder = started(alloc, leading)?;
     members(alloc, cursor, flags, &mut builder)?;
     Ok(finished(alloc, builder, flags, negated)?)
 }
