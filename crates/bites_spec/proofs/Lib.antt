@@ -35,6 +35,7 @@ pub mod GroupLemmas
 pub mod BracketText
 pub mod BracketMeans
 pub mod BracketLeads
+pub mod ItemEscapes
 pub mod ChoiceParts
 pub mod ChoiceSound
 pub mod ChoiceShorter
