@@ -42,6 +42,7 @@ pub mod ChoiceShorter
 pub mod ChoiceBegins
 pub mod ChoiceReader
 pub mod ChoiceSteps
+pub mod ItemCounts
 pub mod ChoiceLeads
 pub mod ChoiceFirst
 pub mod WholeSound
