@@ -32,10 +32,15 @@ pub mod StaticLemmas
 pub mod GroupNames
 pub mod GroupFlags
 pub mod GroupLemmas
+pub mod CompilableNames
+pub mod CompilableLemmas
 pub mod BracketText
+pub mod BracketEscapes
 pub mod BracketMeans
 pub mod BracketLeads
 pub mod ItemEscapes
+pub mod BracketFirst
+pub mod BracketLemmas
 pub mod ChoiceParts
 pub mod ChoiceSound
 pub mod ChoiceShorter

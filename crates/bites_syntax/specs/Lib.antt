@@ -1,3 +1,10 @@
+pub mod FlagsView
+pub mod Meanings
+pub mod Numbers
+pub mod Operators
+pub mod Parts
+pub mod Sets
+pub mod Steps
 pub mod TreeCode
 pub mod View
 pub mod TreeFalls
