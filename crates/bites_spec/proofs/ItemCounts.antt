@@ -15,18 +15,8 @@ use Rattle.bites_spec.specs.Fault.{ComesFirst}
 use Rattle.bites_spec.specs.Reading.{Answer, Bounds, answer, stop, and_then, decimal, lazy, counted, after_min, after_comma, after_max, whole_count}
 use Rattle.bites_spec.proofs.EachLemmas.{skip_shorter, each_complete, each_shorter, decimal_complete, decimal_shorter, stuck_decimal}
 use Rattle.bites_spec.proofs.EscapeLemmas.{bool_cases}
-use Rattle.bites_spec.proofs.GroupLemmas.{StopsBy}
+use Rattle.bites_spec.proofs.ChoiceParts.{StopsBy, most_of, LeadsToCount}
 use Rattle.bites_spec.proofs.ChoiceSteps.{lazy_complete}
-
--- the greater bound of an operator
-abbrev pub most_of : ℕ → Option ℕ → ℕ
-most_of min most = max min (unwrap_or most 0)
-
--- what the function answers where an operator in braces is read: it, or the stop at a number that is too large
-abbrev pub LeadsToCount : ℕ → Option ℕ → Bool → Text → Answer Bounds → Type 0
-LeadsToCount min most greedy rest a =
-    ((a ≡ answer (min, most, greedy) rest) × (most_of min most ≤ greatest_number))
-    ⊎ ((place : Text) × (a ≡ stop message.invalid_decimal place) × (length rest < length place) × (greatest_number < most_of min most))
 
 -- the function's answer to a decimal
 data Answered (n : ℕ) (flags : Flags) (t : Text) (v : ℕ) (rest : Text) : Type 0 where

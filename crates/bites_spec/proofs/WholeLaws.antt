@@ -11,7 +11,6 @@ use Rattle.bites_spec.specs.Measure.{Limits, IsTooTall, height, open_in_choice, 
 use Rattle.bites_spec.specs.Fault.{IsStuck, Fault, IsFirstStuck, IsReadTooTall, ComesFirst}
 use Rattle.bites_spec.specs.GrammarLaws.{FaultsOnce}
 use Rattle.bites_spec.specs.Reading.{Stop, Found, inner, read}
-use Rattle.bites_spec.proofs.ChoiceParts.{Facts}
 use Rattle.bites_spec.proofs.ChoiceLeads.{Passes, by_nesting, by_count, by_number, StopsAtLimit, choice_leads}
 use Rattle.bites_spec.proofs.ChoiceFirst.{StopsFirst, choice_first}
 use Rattle.bites_spec.proofs.WholeSound.{Within, read_within, read_stuck, within_limits, tall_or_low}
@@ -36,7 +35,7 @@ too_tall_or_low : {nest_limit : ℕ} (t u : Tree) → t ≡ u → IsTooTall nest
 too_tall_or_low t u same (inl tall) low counted = omega (arith, ap height same)
 too_tall_or_low t u same (inr tall) low counted = omega (arith, ap height same)
 
-module _ (list_of : Set → List Range) (lists : (set : Set) → Lists (list_of set) set) (nest_limit : ℕ) (facts : Facts) where
+module _ (list_of : Set → List Range) (lists : (set : Set) → Lists (list_of set) set) (nest_limit : ℕ) where
   -- what is read, the reader answers, or it stops at a limit
   pub read_leads : {pattern : Text} {flags : Flags} {t : Tree} (r : Reading pattern flags t) → Leads nest_limit r (read list_of nest_limit pattern flags)
   read_leads {pattern} {flags} {t} r =
@@ -46,7 +45,7 @@ module _ (list_of : Set → List Range) (lists : (set : Set) → Lists (list_of 
       (λ (s : StopsAtLimit nest_limit 0 (open_in_choice r.reads) (count_in_choice r.reads) r.behind.groups []
       (inner list_of nest_limit (suc (length pattern)) 0 (at_front flags) [] [] pattern)).
       stops s.at (ap ended s.is) s.passes)
-      (choice_leads list_of lists nest_limit facts r.reads (suc (length pattern)) 0 [] (omega arith) refl)
+      (choice_leads list_of lists nest_limit r.reads (suc (length pattern)) 0 [] (omega arith) refl)
 
   -- a tree within the limits is the reader's answer
   pub limits_lead : {pattern : Text} {flags : Flags} {t : Tree} → Limits pattern flags nest_limit t → read list_of nest_limit pattern flags ≡ Ok t
@@ -57,14 +56,14 @@ module _ (list_of : Set → List Range) (lists : (set : Set) → Lists (list_of 
   pub stuck_leads : {pattern : Text} {flags : Flags} {place : Text} {m : Message} → IsStuck pattern flags nest_limit m place →
       StopsFirst m place (read list_of nest_limit pattern flags)
   stuck_leads {pattern} s =
-      let f = choice_first list_of lists nest_limit facts s (suc (length pattern)) [] (omega arith) in
+      let f = choice_first list_of lists nest_limit s (suc (length pattern)) [] (omega arith) in
       record { at = f.at; is = ap ended f.is; first = f.first }
 
   -- the reader's stop is the first fault
   pub stop_is_fault : {pattern : Text} {flags : Flags} (e : Stop) → read list_of nest_limit pattern flags ≡ Err e → Fault pattern flags nest_limit e.message
   stop_is_fault {pattern} {flags} e is = inl (record {
     place = e.place;
-    stuck = read_stuck list_of lists nest_limit facts pattern flags e is;
+    stuck = read_stuck list_of lists nest_limit pattern flags e is;
     first = λ other at s. (let f = stuck_leads s in
         let same : f.at ≡ e = cc in
         subst (λ x. ComesFirst x.message x.place other at) same f.first);
@@ -75,7 +74,7 @@ module _ (list_of : Set → List Range) (lists : (set : Set) → Lists (list_of 
       Fault pattern flags nest_limit message.too_much_nesting
   tall_is_fault {pattern} {flags} t is tall = inr (record {
     t = t;
-    reads = (read_within list_of lists nest_limit facts pattern flags t is).reading;
+    reads = (read_within list_of lists nest_limit pattern flags t is).reading;
     too_tall = tall;
     no_other = λ other at s. absurd (let f = stuck_leads s in cc);
     nesting = refl;
@@ -84,7 +83,7 @@ module _ (list_of : Set → List Range) (lists : (set : Set) → Lists (list_of 
   -- a tree of the reader's that is not too tall is within the limits
   pub low_is_within : {pattern : Text} {flags : Flags} (t : Tree) → read list_of nest_limit pattern flags ≡ Ok t → (IsTooTall nest_limit t → ⊥) →
       Limits pattern flags nest_limit t
-  low_is_within {pattern} {flags} t is low = within_limits (read_within list_of lists nest_limit facts pattern flags t is) low
+  low_is_within {pattern} {flags} t is low = within_limits (read_within list_of lists nest_limit pattern flags t is) low
 
   -- a pattern with a message has no tree within the limits
   pub refused_has_no_tree : (pattern : Text) (flags : Flags) (m : Message) (t : Tree) → Fault pattern flags nest_limit m → Limits pattern flags nest_limit t → ⊥
