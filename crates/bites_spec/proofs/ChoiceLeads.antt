@@ -118,7 +118,7 @@ module _ (list_of : Set → List Range) (lists : (set : Set) → Lists (list_of 
         ∙ same_node led.0 ranges node rest led.2 same
 
     -- an atom, of which the reader makes the same node
-    atom_leads : {t rest : Text} {node : Tree} → ReadsAtom front.flags t node rest → length t ≤ n → item t ≡ go depth front branches (nodes ++ node ∷ []) rest
+    pub atom_leads : {t rest : Text} {node : Tree} → ReadsAtom front.flags t node rest → length t ≤ n → item t ≡ go depth front branches (nodes ++ node ∷ []) rest
     atom_leads (grammar.literal c t rest node is plain same) fits =
         ap item is ∙ literal_step list_of nest_limit go n depth front branches nodes c rest plain ∙ with_node _ node rest same
     atom_leads (grammar.any t rest node ranges is l same) fits = ap item is ∙ same_node _ ranges node rest l same

@@ -46,7 +46,7 @@ solid (d ∷ u) c next is digit =
     let stands : skip_white (right_brace ∷ u) ≡ c ∷ next = ap (λ x. skip_white (x ∷ u)) (sym brace) ∙ is in
     absurd (true≢false (sym digit ∙ ap is_ascii_digit (sym (first_of stands))))) (λ b. b) (bool_cases (d == right_brace)))
 
-decimal_some : {flags : Flags} {t rest : Text} {v : ℕ} → ReadsDecimal flags t v rest → (d : ℕ) × (u : Text) × (t ≡ d ∷ u) × ((d == right_brace) ≡ false)
+pub decimal_some : {flags : Flags} {t rest : Text} {v : ℕ} → ReadsDecimal flags t v rest → (d : ℕ) × (u : Text) × (t ≡ d ∷ u) × ((d == right_brace) ≡ false)
 decimal_some (pattern.decimal v t behind digits white rest r some w value) = let first = each_some r some in solid t first.0 first.1 first.2 first.3
 
 -- behind a decimal: what comes behind it, or the stop at its number

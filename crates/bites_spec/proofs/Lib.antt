@@ -49,6 +49,7 @@ pub mod ChoiceBegins
 pub mod ChoiceReader
 pub mod ChoiceLeads
 pub mod ChoiceFirst
+pub mod ItemOnce
 pub mod WholeSound
 mod WholeRanks
 pub mod WholeLaws
