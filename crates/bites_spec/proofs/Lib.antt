@@ -53,3 +53,4 @@ pub mod ItemOnce
 pub mod WholeSound
 mod WholeRanks
 pub mod WholeLaws
+pub mod WholeOnce
