@@ -9,7 +9,9 @@ use Rattle.bites_spec.specs.Pattern.{Text, Flags}
 use Rattle.bites_spec.specs.Grammar.{Reading, Reads, at_front}
 use Rattle.bites_spec.specs.Measure.{Limits, IsTooTall, height, open_in_choice, count_in_choice}
 use Rattle.bites_spec.specs.Fault.{IsStuck, Fault, IsFirstStuck, IsReadTooTall, ComesFirst}
-use Rattle.bites_spec.specs.GrammarLaws.{FaultsOnce}
+use Rattle.bites_spec.specs.GrammarLaws.{FaultsOnce, ReaderReads, Refuses, ReaderRefuses}
+use Rattle.bites_spec.specs.RangesOf.{ranges_of}
+use Rattle.bites_spec.proofs.ClassLemmas.{ranges_of_list}
 use Rattle.bites_spec.specs.Reading.{Stop, Found, inner, read}
 use Rattle.bites_spec.proofs.ChoiceLeads.{Passes, by_nesting, by_count, by_number, StopsAtLimit, choice_leads}
 use Rattle.bites_spec.proofs.ChoiceFirst.{StopsFirst, choice_first}
@@ -122,3 +124,29 @@ faults_once pattern flags nest_limit m k (inl f) (inl g) = rank_once m k (same_r
 faults_once pattern flags nest_limit m k (inl f) (inr g) = absurd (g.no_other m f.place f.stuck)
 faults_once pattern flags nest_limit m k (inr f) (inl g) = absurd (f.no_other k g.place g.stuck)
 faults_once pattern flags nest_limit m k (inr f) (inr g) = f.nesting ∙ sym g.nesting
+
+-- the function answers the trees within the limits
+pub reader_reads : ReaderReads
+reader_reads pattern flags nest_limit t =
+    (λ l. (limits_lead ranges_of ranges_of_list nest_limit l, λ tall. too_tall_or_low t t refl tall l.low l.counted_height),
+    λ answered. low_is_within ranges_of ranges_of_list nest_limit t answered.0 answered.1)
+
+refuses : (pattern : Text) (flags : Flags) (nest_limit : ℕ) (m : Message) (a : Result Tree Stop) → read ranges_of nest_limit pattern flags ≡ a →
+    Fault pattern flags nest_limit m → Refuses nest_limit m a
+refuses pattern flags nest_limit m (Ok t) is (inl f) = absurd (let s = stuck_leads ranges_of ranges_of_list nest_limit f.stuck in cc)
+refuses pattern flags nest_limit m (Ok t) is (inr f) =
+    elim (read_leads ranges_of ranges_of_list nest_limit f.reads) [
+      answers same ↦ (let one : f.t ≡ t = cc in (subst (IsTooTall nest_limit) one f.too_tall, f.nesting))
+    | stops e stopped passes ↦ absurd (cc)
+    ]
+refuses pattern flags nest_limit m (Err e) is f = faults_once pattern flags nest_limit m e.message f (stop_is_fault ranges_of ranges_of_list nest_limit e is)
+
+refused : (pattern : Text) (flags : Flags) (nest_limit : ℕ) (m : Message) (a : Result Tree Stop) → read ranges_of nest_limit pattern flags ≡ a →
+    Refuses nest_limit m a → Fault pattern flags nest_limit m
+refused pattern flags nest_limit m (Ok t) is r = subst (Fault pattern flags nest_limit) (sym r.1) (tall_is_fault ranges_of ranges_of_list nest_limit t is r.0)
+refused pattern flags nest_limit m (Err e) is r = subst (Fault pattern flags nest_limit) (sym r) (stop_is_fault ranges_of ranges_of_list nest_limit e is)
+
+-- the function refuses by the first fault
+pub reader_refuses : ReaderRefuses
+reader_refuses pattern flags nest_limit m =
+    (refuses pattern flags nest_limit m (read ranges_of nest_limit pattern flags) refl, refused pattern flags nest_limit m (read ranges_of nest_limit pattern flags) refl)

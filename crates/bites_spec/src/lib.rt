@@ -5,7 +5,7 @@
 
 ghost use Rattle.bites_spec.specs.Class.{ListsOnce};
 ghost use Rattle.bites_spec.specs.Laws.{MatchIsParse, FirstRunIsFirst, FirstRunIsOne, RunsAreParses, PlainRunsAreSimple, FirstRunIsFound, LeastEndIsLeast, ParsesAreListed, LongestIsFound, ParsesEndAtMatches, StaticCountIsLeast, SpansGrow, PiecesAndMatches, ReplacedIsJoined};
-ghost use Rattle.bites_spec.specs.GrammarLaws.{ListsAll, ReadIsCompilable, FaultsOnce, RefusedHasNoTree, ReadOrRefused};
+ghost use Rattle.bites_spec.specs.GrammarLaws.{ListsAll, ReadIsCompilable, ReadsOnce, FaultsOnce, RefusedHasNoTree, ReadOrRefused, ReaderReads, ReaderRefuses};
 ghost use Rattle.bites_spec.specs.RangesOf.{RangesOfList};
 
 pub fn match_is_parse()
@@ -80,6 +80,10 @@ pub fn read_trees_are_compilable()
     ensures { ReadIsCompilable }
 {}
 
+pub fn patterns_have_one_tree()
+    ensures { ReadsOnce }
+{}
+
 pub fn patterns_have_one_message()
     ensures { FaultsOnce }
 {}
@@ -90,4 +94,12 @@ pub fn refused_patterns_have_no_tree()
 
 pub fn patterns_are_read_or_refused()
     ensures { ReadOrRefused }
+{}
+
+pub fn reader_reads()
+    ensures { ReaderReads }
+{}
+
+pub fn reader_refuses()
+    ensures { ReaderRefuses }
 {}
