@@ -24,12 +24,12 @@ use Rattle.bites_spec.proofs.EscapeLemmas.{bool_cases, either_side}
 use Rattle.bites_spec.proofs.ItemCounts as counts
 use Rattle.bites_spec.proofs.ItemCounts.{stuck_count_shorter}
 use Rattle.bites_spec.proofs.BracketLemmas as brackets
-use Rattle.bites_spec.proofs.BracketLemmas.{stuck_escape_shorter, stuck_bracket_shorter}
+use Rattle.bites_spec.proofs.BracketLemmas.{stuck_escape_begins, stuck_bracket_begins, stuck_escape_shorter, stuck_bracket_shorter}
 use Rattle.bites_spec.proofs.GroupLemmas as groups
 use Rattle.bites_spec.proofs.GroupLemmas.{least_rank, opening_shorter, stuck_opening_shorter}
 use Rattle.bites_spec.proofs.ChoiceParts.{StopsBy, LeadsToGroup}
 use Rattle.bites_spec.proofs.ChoiceShorter.{item_shorter, sequence_shorter}
-use Rattle.bites_spec.proofs.ChoiceBegins.{stuck_escape_begins, stuck_bracket_begins, stuck_count_begins, stuck_opening_begins, opening_begins}
+use Rattle.bites_spec.proofs.ChoiceBegins.{stuck_count_begins, stuck_opening_begins, opening_begins}
 use Rattle.bites_spec.proofs.ChoiceSteps.{operator_stop, inner_step}
 use Rattle.bites_spec.proofs.ChoiceLeads.{StopsAtLimit, GoesOn, sequence_leads, item_leads}
 

@@ -25,10 +25,11 @@ use Rattle.bites_spec.proofs.RangeLemmas.{lists_once}
 use Rattle.bites_spec.proofs.ChoiceParts.{ReadsDirective, most_of, LeadsToCount, LeadsToGroup}
 use Rattle.bites_spec.proofs.ItemCounts as counts
 use Rattle.bites_spec.proofs.BracketLemmas as brackets
+use Rattle.bites_spec.proofs.BracketLemmas.{escape_begins, bracket_begins}
 use Rattle.bites_spec.proofs.GroupLemmas as groups
 use Rattle.bites_spec.proofs.GroupLemmas.{opening_shorter}
 use Rattle.bites_spec.proofs.ChoiceShorter.{atom_shorter, item_shorter, sequence_shorter, choice_shorter}
-use Rattle.bites_spec.proofs.ChoiceBegins.{escape_begins, bracket_begins, opening_begins, opening_groups, choice_groups, sequence_groups, item_groups}
+use Rattle.bites_spec.proofs.ChoiceBegins.{opening_begins, opening_groups, choice_groups, sequence_groups, item_groups}
 use Rattle.bites_spec.proofs.ChoiceSound.{EndsChoice}
 use Rattle.bites_spec.proofs.ChoiceSteps.{lazy_complete, operator_step, operator_stop, literal_step, inner_step}
 

@@ -27,19 +27,13 @@ use Rattle.bites_spec.specs.Reading as reading
 use Rattle.bites_spec.specs.Reading.{Stop, Found, Answer, Bounds, Opened, Reader, choose, and_then, and_found, lazy, counted, plain_operator, repeat_last, at_end, at_closing, at_operator, at_opened, behind_group, at_item, inner}
 use Rattle.bites_spec.proofs.EachLemmas.{skip_shorter}
 use Rattle.bites_spec.proofs.EscapeLemmas.{Means, either_side, escape_means}
-use Rattle.bites_spec.proofs.CountLemmas.{count_means}
+use Rattle.bites_spec.proofs.CountLemmas.{lazy_reads, count_means}
 use Rattle.bites_spec.proofs.ChoiceParts.{Opens, most_of, LeadsToCount}
 use Rattle.bites_spec.proofs.ItemCounts.{operator_shorter, count_leads}
 use Rattle.bites_spec.proofs.BracketLemmas.{bracket_means}
 use Rattle.bites_spec.proofs.GroupLemmas.{opened_sound, opening_shorter}
 use Rattle.bites_spec.proofs.ChoiceShorter.{atom_shorter, item_shorter}
 use Rattle.bites_spec.proofs.ChoiceSound.{Adds, Stops, in_branch, in_later_branch, Finds, Says, EndsChoice, Choice, adds_choice, says_item, says_bar, says_end, says_atom, says_operator}
-
-lazy_reads : (t : Text) → ReadsLazy t (lazy t).0 (lazy t).1
-lazy_reads [] = ReadsLazy.none [] [] false refl refl refl
-lazy_reads (c ∷ t) =
-    either_side {A = Bool × Text} (λ x. ReadsLazy (c ∷ t) x.0 x.1) (c == question) _ _ (λ b. ReadsLazy.lazy _ t true (ap (λ x. x ∷ t) (eqb-true c question b)) refl)
-    (λ b. ReadsLazy.none _ _ false b refl refl)
 
 -- the faults of a choice, from those of its first branch
 pub stops_choice : {nest_limit depth : ℕ} {front : Front} {t place : Text} {m : Message} → Stops nest_limit depth front t [] m place →

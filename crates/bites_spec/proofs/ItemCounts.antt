@@ -33,7 +33,8 @@ each_some : {flags : Flags} {set : Set} {t chars rest : Text} → ReadsEach flag
 each_some (ReadsEach.none t chars rest ends none same) some = absurd (omega (arith, ap length none))
 each_some (ReadsEach.more c t next chars others rest is pass r same) some = (c, next, is, pass)
 
-first_of : {c d : ℕ} {t u : Text} → c ∷ t ≡ d ∷ u → c ≡ d
+-- equal texts have one first character
+pub first_of : {c d : ℕ} {t u : Text} → c ∷ t ≡ d ∷ u → c ≡ d
 first_of e = cc
 
 -- a decimal begins with a character that is no closing brace
@@ -76,7 +77,8 @@ lazy_shorter : {t rest : Text} {mark : Bool} → ReadsLazy t mark rest → lengt
 lazy_shorter (ReadsLazy.lazy t rest mark is marks) = omega (arith, ap length is)
 lazy_shorter (ReadsLazy.none t rest mark other marks same) = omega (arith, ap length same)
 
-tail_of : {c d : ℕ} {t u : Text} → c ∷ t ≡ d ∷ u → t ≡ u
+-- and one rest
+pub tail_of : {c d : ℕ} {t u : Text} → c ∷ t ≡ d ∷ u → t ≡ u
 tail_of e = cc
 
 -- at the first decimal, behind the brace and its gap

@@ -24,13 +24,7 @@ use Rattle.bites_spec.proofs.ChoiceParts.{ReadsDirective}
 use Rattle.bites_spec.proofs.ChoiceBegins.{opening_begins, opening_groups}
 use Rattle.bites_spec.proofs.ChoiceSteps.{lazy_complete}
 use Rattle.bites_spec.proofs.ChoiceLeads.{atom_leads}
-use Rattle.bites_spec.proofs.ItemCounts.{decimal_some}
-
-tail_of : {c d : ℕ} {t u : Text} → c ∷ t ≡ d ∷ u → t ≡ u
-tail_of e = cc
-
-first_of : {c d : ℕ} {t u : Text} → c ∷ t ≡ d ∷ u → c ≡ d
-first_of e = cc
+use Rattle.bites_spec.proofs.ItemCounts.{first_of, tail_of, decimal_some}
 
 each_once : {flags : Flags} {set : Set} {t chars others rest end : Text} → ReadsEach flags set t chars rest → ReadsEach flags set t others end → (chars ≡ others) × (rest ≡ end)
 each_once {flags} {set} {t} r s =

@@ -11,13 +11,12 @@ use Rattle.bites_spec.specs.Grammar as grammar
 use Rattle.bites_spec.specs.Grammar.{ReadsAtom, ReadsItem, ReadsSequence, ReadsChoice, is_special, ends_sequence, group_of}
 use Rattle.bites_spec.specs.GrammarLaws.{ReadsOnce}
 use Rattle.bites_spec.proofs.EscapeLemmas.{bool_cases}
+use Rattle.bites_spec.proofs.BracketLemmas.{escape_begins, bracket_begins}
+use Rattle.bites_spec.proofs.GroupFlags.{neither}
 use Rattle.bites_spec.proofs.ChoiceParts.{ReadsDirective}
-use Rattle.bites_spec.proofs.ChoiceBegins.{escape_begins, bracket_begins, opening_begins}
+use Rattle.bites_spec.proofs.ChoiceBegins.{opening_begins}
+use Rattle.bites_spec.proofs.ItemCounts.{tail_of}
 use Rattle.bites_spec.proofs.ItemOnce.{SameOperator, atom_once, operator_once, opening_once, directive_once, directive_or_opening}
-
-neither : (a b : Bool) → (a || b) ≡ false → (a ≡ false) × (b ≡ false)
-neither true b e = absurd (true≢false e)
-neither false b e = (refl, e)
 
 -- the end of a sequence, what opens with a parenthesis, an operator, or an atom
 abbrev kind_of : Text → ℕ
@@ -91,9 +90,6 @@ Same all whole behind last rest end = (all ≡ whole) × (behind ≡ last) × (r
 -- no branch follows
 abbrev IsClosed : Text → Type 0
 IsClosed rest = next_is (single bar) rest ≡ false
-
-tail_of : {c d : ℕ} {t u : Text} → c ∷ t ≡ d ∷ u → t ≡ u
-tail_of e = cc
 
 mutual
   choice_once : {front other behind last : Front} {t u rest end : Text} {all whole : List Tree} → ReadsChoice front t all behind rest → ReadsChoice other u whole last end →
