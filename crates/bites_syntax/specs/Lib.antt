@@ -8,3 +8,4 @@ pub mod Steps
 pub mod TreeCode
 pub mod View
 pub mod TreeFalls
+pub mod Cases

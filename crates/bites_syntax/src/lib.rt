@@ -2,12 +2,14 @@
 #![tactic(auto)]
 
 pub(crate) mod bracket;
+pub mod builder;
 pub mod class;
 pub(crate) mod cursor;
 pub(crate) mod escape;
 pub(crate) mod flags;
 pub mod look;
 pub mod name;
+pub mod named;
 pub(crate) mod number;
 pub(crate) mod operator;
 pub mod tree;
