@@ -1,3 +1,5 @@
 pub mod CursorLemmas
 pub mod NumberLemmas
 pub mod PartLemmas
+pub mod FlagLemmas
+pub mod NameLemmas

@@ -8,6 +8,7 @@ pub(crate) mod escape;
 pub(crate) mod flags;
 pub mod look;
 pub mod name;
+pub(crate) mod names;
 pub(crate) mod number;
 pub(crate) mod operator;
 pub mod tree;
