@@ -6,3 +6,5 @@ pub mod CaseLemmas
 pub mod CursorLemmas
 pub mod NumberLemmas
 pub mod PartLemmas
+pub mod FlagLemmas
+pub mod NameLemmas

@@ -1,4 +1,5 @@
 pub mod FlagsView
+pub mod Groups
 pub mod Meanings
 pub mod Numbers
 pub mod Operators

@@ -9,7 +9,11 @@ pub(crate) mod escape;
 pub(crate) mod flags;
 pub mod look;
 pub mod name;
+<<<<<<< HEAD
 pub mod named;
+=======
+pub(crate) mod names;
+>>>>>>> parse
 pub(crate) mod number;
 pub(crate) mod operator;
 pub mod tree;
