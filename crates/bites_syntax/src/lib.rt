@@ -1,4 +1,4 @@
-//! The tree of a pattern, and its parts.
+//! The tree of a pattern, and the parser that reads it.
 #![tactic(auto)]
 
 pub(crate) mod bracket;
@@ -9,11 +9,8 @@ pub(crate) mod escape;
 pub(crate) mod flags;
 pub mod look;
 pub mod name;
-<<<<<<< HEAD
 pub mod named;
-=======
 pub(crate) mod names;
->>>>>>> parse
 pub(crate) mod number;
 pub(crate) mod operator;
 pub mod tree;
