@@ -5,3 +5,4 @@ pub mod FaultLemmas
 pub mod CompiledLemmas
 pub mod Parts
 pub mod SizeLemmas
+pub mod EmittedLemmas
