@@ -41,6 +41,6 @@ returns-in-len2-up c =
     let is = three_whole b s c.requires.from c.requires.to first second in
     let made = c.from_u32.ensures in
     record {
-    decoded = decoded_is c.from_u32.result _ (b ∷ get_or s 0 0 ∷ get_or s 1 0 ∷ []) (front_piece (b ∷ s)) is (omega arith) (three_scalar b (get_or s 0 0) (get_or s 1 0) c.requires.from c.requires.to (second_bounds b (get_or s 0 0) first.lies) (continuation_bounds (get_or s 1 0) second.lies).1) made.value made.succeeds;
-    len = ap (λ (p : Piece). p.len) (sym is)
+      decoded = decoded_is c.from_u32.result _ (b ∷ get_or s 0 0 ∷ get_or s 1 0 ∷ []) (front_piece (b ∷ s)) is (omega arith) (three_scalar b (get_or s 0 0) (get_or s 1 0) c.requires.from c.requires.to (second_bounds b (get_or s 0 0) first.lies) (continuation_bounds (get_or s 1 0) second.lies).1) made.value made.succeeds;
+      len = ap (λ (p : Piece). p.len) (sym is);
     }

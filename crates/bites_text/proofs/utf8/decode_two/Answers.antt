@@ -27,6 +27,6 @@ returns-in-len1-up c =
     let is = two_whole b s c.requires.from c.requires.to first in
     let made = c.from_u32.ensures in
     record {
-    decoded = decoded_is c.from_u32.result _ (b ∷ get_or s 0 0 ∷ []) (front_piece (b ∷ s)) is (omega arith) (two_scalar b (get_or s 0 0) c.requires.from c.requires.to low.1) made.value made.succeeds;
-    len = ap (λ (p : Piece). p.len) (sym is)
+      decoded = decoded_is c.from_u32.result _ (b ∷ get_or s 0 0 ∷ []) (front_piece (b ∷ s)) is (omega arith) (two_scalar b (get_or s 0 0) c.requires.from c.requires.to low.1) made.value made.succeeds;
+      len = ap (λ (p : Piece). p.len) (sym is);
     }
