@@ -1,5 +1,5 @@
 -- What a caller that walks over a haystack uses: how many bytes a piece takes, and the piece at the front of what is left.
-use Rattle.std.proofs.Common.{◌≡◌, ℕ, zero, suc, ◌+◌, ◌<◌, ◌≤◌, Bool, true, false, max, List, [], ◌∷◌, ◌-◌, length, length-drop, take, drop, ap, subst, sym, arith, ◌⊎◌, ⊎_elim}
+use Rattle.std.proofs.Common.{◌≡◌, ℕ, zero, suc, ◌<◌, ◌≤◌, max, List, [], ◌∷◌, ◌-◌, length, length-drop, take, drop, ap, arith, ⊎_elim}
 use Rattle.std.specs.Prelude.{◌==◌}
 use Rattle.std.proofs.lemmas.List.{take_all}
 use Rattle.bites_spec.proofs.PieceLemmas.{piece_within, piece_some}

@@ -1,7 +1,7 @@
-use Rattle.std.proofs.Common.{◌≡◌, ◌∷◌, [], ◌<◌, length, get_or, Some, List, ℕ, sym, ap, arith}
-use Rattle.bites_spec.specs.Utf8.{Piece, front_piece, continuation, scalar_value}
+use Rattle.std.proofs.Common.{◌∷◌, [], get_or, sym, ap, arith}
+use Rattle.bites_spec.specs.Utf8.{Piece, front_piece, continuation}
 use Rattle.bites_text.specs.Rows.{second_range}
-use Rattle.bites_text.proofs.FrontLemmas.{FitsAt, StopsAt, invalid, whole, fits_at, stops_at, decoded_is, continuation_bounds, second_bounds, three_part_1, three_part_2, three_whole, three_scalar}
+use Rattle.bites_text.proofs.FrontLemmas.{fits_at, stops_at, decoded_is, continuation_bounds, second_bounds, three_part_1, three_part_2, three_whole, three_scalar}
 use Rattle.bites_text.proofs.utf8.decode_three.Goals as goal
 
 pub returns-in-empty : goal.returns-in-empty
