@@ -6,3 +6,4 @@ pub mod CaseLemmas
 pub mod CursorLemmas
 pub mod NumberLemmas
 pub mod PartLemmas
+pub mod TreeParts
