@@ -8,6 +8,7 @@ pub(crate) mod cursor;
 pub(crate) mod escape;
 pub(crate) mod flags;
 pub mod look;
+pub mod measure;
 pub mod name;
 pub mod named;
 pub(crate) mod names;
