@@ -7,3 +7,5 @@ pub mod CompiledLemmas
 pub mod StateLemmas
 pub mod AssertionLemmas
 pub mod LengthLemmas
+pub mod SearchLemmas
+pub mod SearchedRanges

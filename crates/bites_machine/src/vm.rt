@@ -4,7 +4,7 @@ ghost use Rattle.std.specs.Prelude.{◌≡◌, ℕ, ◌+◌, ◌<◌, ◌≤◌,
 ghost use Rattle.bites_spec.specs.Utf8.{piece, character};
 ghost use Rattle.bites_spec.specs.Range.{in_ranges};
 ghost use Rattle.bites_spec.specs.Walks.{Among};
-ghost use Rattle.bites_spec.specs.Program.{targets_of, IsWellFormed};
+ghost use Rattle.bites_spec.specs.Program.{targets_of, AreRanges, HasRanges, IsWellFormed};
 ghost use Rattle.bites_machine.specs.States.{state_of};
 ghost use Rattle.bites_machine.specs.Members.{with_states};
 ghost use Rattle.bites_machine.specs.Ends.{next_character, targets_over, targets_at, EndsIn, HasRun, IsLeastRunEnd};
@@ -114,6 +114,7 @@ fn follow(
 )
     requires place { place ≤ length haystack.now }
     requires targets { (q : ℕ) → Among (targets_of (state_of state.now)) q → q < current.old.bound }
+    requires ranges { HasRanges (state_of state.now) }
     requires bounds { next.old.bound ≡ current.old.bound }
     ensures current { current.new.members ≡ with_states current.old.members (targets_at haystack.now place (state_of state.now)) }
     ensures next { next.new.members ≡ with_states next.old.members (targets_over taken (state_of state.now)) }
@@ -146,9 +147,23 @@ fn follow(
     }
 }
 
-// Whether the character lies in one of the ranges.
+// Whether the character lies in one of the ranges, each of which begins above the one before.
 fn is_in_ranges(ranges: &[(char, char)], c: char) -> bool
+    requires { AreRanges ranges.now }
     ensures { result ≡ in_ranges ranges.now c }
 {
-    ranges.iter().any(|r| r.0 <= c && c <= r.1)
+    let mut low = 0;
+    let mut high = ranges.len();
+    while low < high {
+        let middle = low + (high - low) / 2;
+        let (first, last) = ranges[middle];
+        if last < c {
+            low = middle + 1;
+        } else if c < first {
+            high = middle;
+        } else {
+            return true;
+        }
+    }
+    false
 }

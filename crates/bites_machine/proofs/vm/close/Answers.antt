@@ -4,7 +4,7 @@ use Rattle.std.proofs.lemmas.Option.{get_or_from_slice_get, slice_get_within, sl
 use Rattle.std.proofs.lemmas.Bool.{cases_lt}
 use Rattle.bites_spec.specs.Program.{is_match, state_at}
 use Rattle.bites_machine.specs.States.{state_of}
-use Rattle.bites_machine.proofs.StateLemmas.{targets_known, no_match}
+use Rattle.bites_machine.proofs.StateLemmas.{targets_known, ranges_known, no_match}
 use Rattle.bites_machine.proofs.EdgeLemmas.{with_states-longer}
 use Rattle.bites_machine.proofs.SweepLemmas.{closing_start, closing_step, closing_found, closed}
 use Rattle.bites_machine.proofs.vm.close.Goals.{in-Match, in_default-matches}
@@ -26,6 +26,10 @@ pub follow-requires-clause-targets : goal.follow-requires-clause-targets
 follow-requires-clause-targets c =
     rw c.loop-number.invariant.current_bound
     (targets_known c.args.program.now.program c.requires.well_formed (state_of c.state-state.result.now) c.in-Some.number c.state-state.ensures)
+
+pub follow-requires-clause-ranges : goal.follow-requires-clause-ranges
+follow-requires-clause-ranges c =
+    ranges_known c.args.program.now.program c.requires.well_formed (state_of c.state-state.result.now) c.in-Some.number c.state-state.ensures
 
 pub overflow_add-visited : goal.overflow_add-visited
 overflow_add-visited c =
