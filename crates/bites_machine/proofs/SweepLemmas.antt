@@ -1,14 +1,14 @@
 -- A sweep over the places with a set of states: what the set keeps, and what it has found at the end.
-use Rattle.std.proofs.Common.{◌≡◌, ◌≢◌, ℕ, zero, suc, ◌+◌, ◌<◌, ◌≤◌, Bool, true, false, cond, List, [], ◌∷◌, ◌++◌, length, get_or, take, take_all, le_of_eq, Option, Some, None, option_map, refl, sym, ap, ◌∙◌, subst, inl, inr, ⊎_elim, ◌⊎◌, true≢false, arith, leb-true, leb-false, le-leb}
-use Rattle.std.specs.Prelude.{nat_le, IsTrue}
+use Rattle.std.proofs.Common.{◌≡◌, ℕ, zero, suc, ◌+◌, ◌<◌, ◌≤◌, Bool, true, false, cond, List, [], ◌∷◌, ◌++◌, length, get_or, take, take_all, le_of_eq, Some, None, refl, sym, ap, ◌∙◌, subst, inl, inr, ⊎_elim, ◌⊎◌, true≢false, arith, leb-true, le-leb}
+use Rattle.std.specs.Prelude.{nat_le}
 use Rattle.std.proofs.lemmas.List.{take_more}
 use Rattle.bites_spec.specs.Utf8.{piece, places, places_within, step_len}
 use Rattle.bites_spec.specs.Walks.{Among}
 use Rattle.bites_spec.specs.Program.{State, Program, Spot, at, edges, state_at, is_match}
-use Rattle.bites_spec.specs.Run.{Run, leads, matches, Runs, IsRun, NoRun, LeastEnd}
-use Rattle.bites_spec.proofs.PieceLemmas.{piece_some, piece_none, piece_within, Among-places}
+use Rattle.bites_spec.specs.Run.{Runs, IsRun}
+use Rattle.bites_spec.proofs.PieceLemmas.{piece_none, Among-places}
 use Rattle.bites_machine.specs.Members.{with_state, with_states}
-use Rattle.bites_machine.specs.Ends.{next_character, targets_over, targets_at, EndsIn, EndsFrom, HasRun, IsLeastRunEnd}
+use Rattle.bites_machine.specs.Ends.{next_character, targets_over, targets_at, EndsIn, EndsFrom, IsLeastRunEnd}
 use Rattle.bites_machine.proofs.EdgeLemmas.{IsBeside, IsOver, Among-apart, edges_apart, edge_at, edge_over, with_state-apart, with_state-kept, with_state-entered, with_states-apart, with_states-kept, with_states-entered, take-with_states, Among-get_or}
 
 bool_cases : (b : Bool) → (b ≡ true) ⊎ (b ≡ false)

@@ -1,5 +1,5 @@
 -- Where runs end that go on from a set of states, or begin at a place from a start on.
-use Rattle.std.specs.Prelude.{ℕ, ◌≡◌, ◌+◌, ◌<◌, ◌≤◌, List, [], ◌∷◌, Option, Some, None, option_map, if◌then◌else◌, nat_lt, ◌==◌}
+use Rattle.std.specs.Prelude.{ℕ, ◌≡◌, List, [], ◌∷◌, Option, Some, None, option_map, if◌then◌else◌, nat_lt, ◌==◌}
 use Rattle.bites_spec.specs.Utf8.{piece, places, character}
 use Rattle.bites_spec.specs.Look.{holds}
 use Rattle.bites_spec.specs.Range.{in_ranges}

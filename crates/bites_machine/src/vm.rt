@@ -21,7 +21,12 @@ use std::mem;
 /// no run does, or where `start` lies past the end of the haystack.
 ///
 /// It looks at each state once at most at each place, and takes no memory once it has begun to walk.
-pub fn shortest_match_at(alloc: Global, program: &Program, haystack: &[u8], start: usize) -> Result<Option<usize>, AllocError>
+pub fn shortest_match_at(
+    alloc: Global,
+    program: &Program,
+    haystack: &[u8],
+    start: usize,
+) -> Result<Option<usize>, AllocError>
     ensures { IfOk result (λ end. IsLeastRunEnd program.now.program haystack.now start end) }
 {
     if start > haystack.len() {
@@ -48,7 +53,12 @@ pub fn shortest_match_at(alloc: Global, program: &Program, haystack: &[u8], star
 }
 
 /// Whether some run begins at `start` or at a place behind it and gets to a match.
-pub fn is_match_at(alloc: Global, program: &Program, haystack: &[u8], start: usize) -> Result<bool, AllocError>
+pub fn is_match_at(
+    alloc: Global,
+    program: &Program,
+    haystack: &[u8],
+    start: usize,
+) -> Result<bool, AllocError>
     ensures { IfOk result (λ found. IsTrue found ↔ HasRun program.now.program haystack.now start) }
 {
     let end = shortest_match_at(alloc, program, haystack, start)?;

@@ -1,4 +1,4 @@
-use Rattle.std.proofs.Common.{◌≡◌, ℕ, ◌+◌, ◌<◌, ◌≤◌, ◌-◌, ◌/◌, length, arith, sym}
+use Rattle.std.proofs.Common.{◌+◌, ◌-◌, ◌/◌, arith, sym}
 use Rattle.bites_machine.proofs.SearchedRanges.{below_more, above_more, hit, no_hit}
 use Rattle.bites_machine.proofs.vm.is_in_ranges.Goals as goal
 

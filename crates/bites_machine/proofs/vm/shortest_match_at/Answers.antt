@@ -1,10 +1,10 @@
-use Rattle.std.proofs.Common.{◌≡◌, ℕ, ◌+◌, ◌-◌, ◌<◌, ◌≤◌, [], length, sym, ap, ◌∙◌, subst, refl, arith, true, false, ⊎_elim}
+use Rattle.std.proofs.Common.{◌<◌, ◌≤◌, length, sym, ap, ◌∙◌, subst, arith, ⊎_elim}
 use Rattle.std.proofs.lemmas.Bool.{cases_lt}
 use Rattle.bites_spec.specs.Utf8.{piece}
 use Rattle.bites_spec.proofs.PieceLemmas.{piece_within, piece_some}
 use Rattle.bites_machine.specs.Ends.{EndsIn}
 use Rattle.bites_machine.specs.Members.{with_state}
-use Rattle.bites_machine.proofs.SweepLemmas.{sweeping_past, sweeping_found, sweeping_step, sweeping_done, sweeping_start}
+use Rattle.bites_machine.proofs.SweepLemmas.{sweeping_past, sweeping_found, sweeping_step, sweeping_done}
 use Rattle.bites_machine.proofs.vm.shortest_match_at.Goals as goal
 
 pub returns-then-start-haystack : goal.returns-then-start-haystack
