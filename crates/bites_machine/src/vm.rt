@@ -1,13 +1,13 @@
 //! The machine: it walks a haystack from place to place with the set of all states that a run may be in.
 
-ghost use Rattle.std.specs.Prelude.{◌≡◌, ℕ, ◌+◌, ◌<◌, ◌≤◌, ◌↔◌, [], length, IsTrue, false, IfOk};
+ghost use Rattle.std.specs.Prelude.{◌≡◌, ℕ, ◌<◌, ◌≤◌, ◌↔◌, [], length, IsTrue, IsFalse, IfOk};
 ghost use Rattle.bites_spec.specs.Utf8.{piece, character};
 ghost use Rattle.bites_spec.specs.Range.{in_ranges};
 ghost use Rattle.bites_spec.specs.Walks.{Among};
 ghost use Rattle.bites_spec.specs.Program.{targets_of, AreRanges, HasRanges, IsWellFormed};
 ghost use Rattle.bites_machine.specs.States.{state_of};
 ghost use Rattle.bites_machine.specs.Members.{with_states};
-ghost use Rattle.bites_machine.specs.Ends.{next_character, targets_over, targets_at, EndsIn, HasRun, IsLeastRunEnd};
+ghost use Rattle.bites_machine.specs.Ends.{next_character, targets_over, targets_at, EndsIn, GoesOn, HasRun, IsLeastRunEnd};
 
 use crate::assertion::holds;
 use crate::program::Program;
@@ -92,11 +92,7 @@ fn close(
     requires next { next.old.bound ≡ length program.now.program.states }
     requires empty { next.old.members ≡ [] }
     ensures found { IsTrue result → EndsIn program.now.program haystack.now current.old.members place place }
-    ensures on { result ≡ false → (j : ℕ) → EndsIn program.now.program haystack.now current.old.members place j →
-        (0 < (piece haystack.now place).len)
-        × EndsIn program.now.program haystack.now next.new.members (place + (piece haystack.now place).len) j }
-    ensures back { (j : ℕ) → EndsIn program.now.program haystack.now next.new.members (place + (piece haystack.now place).len) j →
-        EndsIn program.now.program haystack.now current.old.members place j }
+    ensures on { IsFalse result → GoesOn program.now.program haystack.now place current.old.members next.new.members }
     ensures current { current.new.bound ≡ current.old.bound }
     ensures next { next.new.bound ≡ next.old.bound }
 {

@@ -55,9 +55,10 @@ loop-number-preserved c =
     }
 
 pub returns-clause-on : goal.returns-clause-on
-returns-clause-on c = λ no j h.
+returns-clause-on c = λ ends.
     closed c.args.program.now.program c.args.haystack.now c.args.place c.args.current.now.members
     c.loop-number.current.members c.loop-number.next.members c.loop-number.visited c.loop-number.invariant.closing
-    (⊎_elim (λ (lt : c.loop-number.visited < length c.loop-number.current.members). absurd (c.in_default.not-Some _ (c.get.ensures.member ∙ slice_get-get_or c.loop-number.current.members c.loop-number.visited 0 lt)))
+    (⊎_elim (λ (lt : c.loop-number.visited < length c.loop-number.current.members).
+    absurd (c.in_default.not-Some _ (c.get.ensures.member ∙ slice_get-get_or c.loop-number.current.members c.loop-number.visited 0 lt)))
     (λ (le : length c.loop-number.current.members ≤ c.loop-number.visited). le)
-    (cases_lt c.loop-number.visited (length c.loop-number.current.members))) j h
+    (cases_lt c.loop-number.visited (length c.loop-number.current.members)))
