@@ -9,3 +9,7 @@ pub mod AssertionLemmas
 pub mod LengthLemmas
 pub mod SearchLemmas
 pub mod SearchedRanges
+pub mod FaultLemmas
+pub mod Parts
+pub mod SizeLemmas
+pub mod EmittedLemmas

@@ -5,3 +5,5 @@ pub mod Members
 pub mod Ends
 pub mod Emitted
 pub mod Compiled
+pub mod Classes
+pub mod Sizes

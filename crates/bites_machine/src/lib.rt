@@ -2,7 +2,9 @@
 #![tactic(auto)]
 
 pub mod assertion;
+mod emit;
 pub mod program;
 mod set;
+mod size;
 pub mod state;
 pub mod vm;

@@ -35,15 +35,22 @@ pub mod GroupLemmas
 pub mod CompilableNames
 pub mod CompilableLemmas
 pub mod BracketText
+pub mod BracketEscapes
 pub mod BracketMeans
 pub mod BracketLeads
 pub mod BracketFirst
 pub mod BracketLemmas
 pub mod ChoiceParts
 pub mod ChoiceSound
+pub mod ChoiceSteps
+pub mod ItemCounts
 pub mod ChoiceShorter
 pub mod ChoiceBegins
 pub mod ChoiceReader
-pub mod ChoiceSteps
 pub mod ChoiceLeads
+pub mod ChoiceFirst
+pub mod ItemOnce
 pub mod WholeSound
+mod WholeRanks
+pub mod WholeLaws
+pub mod WholeOnce

@@ -1,8 +1,12 @@
 pub mod FlagsView
+pub mod Groups
 pub mod Meanings
+pub mod Numbers
+pub mod Operators
 pub mod Parts
 pub mod Sets
 pub mod Steps
 pub mod TreeCode
 pub mod View
 pub mod TreeFalls
+pub mod Cases
