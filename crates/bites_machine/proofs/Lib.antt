@@ -7,6 +7,8 @@ pub mod CompiledLemmas
 pub mod StateLemmas
 pub mod AssertionLemmas
 pub mod LengthLemmas
+pub mod SearchLemmas
+pub mod SearchedRanges
 pub mod FaultLemmas
 pub mod Parts
 pub mod SizeLemmas
