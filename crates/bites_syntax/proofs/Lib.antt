@@ -3,3 +3,4 @@ pub mod NumberLemmas
 pub mod PartLemmas
 pub mod FlagLemmas
 pub mod NameLemmas
+pub mod GroupLemmas

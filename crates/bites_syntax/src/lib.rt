@@ -6,6 +6,7 @@ pub mod class;
 pub(crate) mod cursor;
 pub(crate) mod escape;
 pub(crate) mod flags;
+pub(crate) mod group;
 pub mod look;
 pub mod name;
 pub(crate) mod names;
