@@ -1,2 +1,13 @@
 pub mod SoundLemmas
 pub mod MemberLemmas
+pub mod EdgeLemmas
+pub mod SweepLemmas
+pub mod EmitLemmas
+pub mod CompiledLemmas
+pub mod StateLemmas
+pub mod AssertionLemmas
+pub mod LengthLemmas
+pub mod FaultLemmas
+pub mod CompiledLemmas
+pub mod Parts
+pub mod SizeLemmas

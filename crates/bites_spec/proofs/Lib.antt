@@ -32,11 +32,22 @@ pub mod StaticLemmas
 pub mod GroupNames
 pub mod GroupFlags
 pub mod GroupLemmas
+pub mod CompilableNames
+pub mod CompilableLemmas
 pub mod BracketText
+pub mod BracketEscapes
 pub mod BracketMeans
 pub mod BracketLeads
+pub mod BracketFirst
+pub mod BracketLemmas
 pub mod ChoiceParts
 pub mod ChoiceSound
 pub mod ChoiceShorter
+pub mod ChoiceBegins
 pub mod ChoiceReader
+pub mod ChoiceSteps
+pub mod ChoiceLeads
+pub mod ChoiceFirst
 pub mod WholeSound
+mod WholeRanks
+pub mod WholeLaws

@@ -10,3 +10,4 @@ pub mod Steps
 pub mod TreeCode
 pub mod View
 pub mod TreeFalls
+pub mod Cases

@@ -2,13 +2,16 @@
 #![tactic(auto)]
 
 pub(crate) mod bracket;
+pub(crate) mod builder;
 pub mod class;
 pub(crate) mod cursor;
 pub(crate) mod escape;
 pub(crate) mod flags;
 pub(crate) mod group;
 pub mod look;
+pub mod measure;
 pub mod name;
+pub(crate) mod named;
 pub(crate) mod names;
 pub(crate) mod number;
 pub(crate) mod operator;
