@@ -8,6 +8,6 @@ pub mod StateLemmas
 pub mod AssertionLemmas
 pub mod LengthLemmas
 pub mod FaultLemmas
-pub mod CompiledLemmas
 pub mod Parts
 pub mod SizeLemmas
+pub mod EmittedLemmas

@@ -2,7 +2,7 @@
 #![tactic(auto)]
 
 pub(crate) mod bracket;
-pub(crate) mod builder;
+pub mod builder;
 pub mod class;
 pub(crate) mod cursor;
 pub(crate) mod escape;
@@ -11,7 +11,7 @@ pub(crate) mod group;
 pub mod look;
 pub mod measure;
 pub mod name;
-pub(crate) mod named;
+pub mod named;
 pub(crate) mod names;
 pub(crate) mod number;
 pub(crate) mod operator;
