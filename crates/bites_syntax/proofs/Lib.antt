@@ -8,4 +8,5 @@ pub mod NumberLemmas
 pub mod PartLemmas
 pub mod FlagLemmas
 pub mod NameLemmas
+pub mod GroupLemmas
 pub mod TreeParts

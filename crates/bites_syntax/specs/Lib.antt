@@ -3,6 +3,7 @@ pub mod Groups
 pub mod Meanings
 pub mod Numbers
 pub mod Operators
+pub mod Openings
 pub mod Parts
 pub mod Sets
 pub mod Steps

@@ -1,4 +1,4 @@
-//! The tree of a pattern, and the parser that reads it.
+//! The tree of a pattern, and its parts.
 #![tactic(auto)]
 
 pub(crate) mod bracket;
@@ -7,6 +7,7 @@ pub mod class;
 pub(crate) mod cursor;
 pub(crate) mod escape;
 pub(crate) mod flags;
+pub(crate) mod group;
 pub mod look;
 pub mod measure;
 pub mod name;
