@@ -6,3 +6,4 @@ pub mod CompiledLemmas
 pub mod Parts
 pub mod SizeLemmas
 pub mod EmittedLemmas
+pub mod GroupLemmas

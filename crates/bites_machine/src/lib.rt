@@ -1,7 +1,9 @@
 //! Programs that are compiled from the tree of a pattern, and the machine that runs them.
 #![tactic(auto)]
 
+mod compiler;
 mod emit;
+mod groups;
 pub mod program;
 mod size;
 pub mod state;
