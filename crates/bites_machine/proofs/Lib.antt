@@ -13,3 +13,4 @@ pub mod FaultLemmas
 pub mod Parts
 pub mod SizeLemmas
 pub mod EmittedLemmas
+pub mod GroupLemmas
