@@ -1,11 +1,8 @@
 //! Programs that are compiled from the tree of a pattern, and the machine that runs them.
 #![tactic(auto)]
 
-<<<<<<< HEAD
 pub mod assertion;
-=======
 mod compiler;
->>>>>>> compile
 mod emit;
 mod groups;
 pub mod program;
