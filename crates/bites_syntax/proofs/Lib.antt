@@ -7,3 +7,4 @@ pub mod CursorLemmas
 pub mod NumberLemmas
 pub mod PartLemmas
 pub mod TreeParts
+pub mod EscapedText
