@@ -8,3 +8,4 @@ pub mod NumberLemmas
 pub mod PartLemmas
 pub mod TreeParts
 pub mod EscapedText
+pub mod GroupCounts

@@ -1,5 +1,5 @@
 -- Texts as patterns in which each character stands for itself.
-use Rattle.std.specs.Prelude.{ℕ, Bool, List, [], ◌∷◌, codes, if◌then◌else◌}
+use Rattle.std.specs.Prelude.{ℕ, Bool, [], ◌∷◌, codes, if◌then◌else◌}
 use Rattle.bites_spec.specs.Pattern.{Text, one_of, backslash}
 
 -- the characters that may have a meaning in a pattern
