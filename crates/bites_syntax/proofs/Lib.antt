@@ -6,6 +6,9 @@ pub mod CaseLemmas
 pub mod CursorLemmas
 pub mod NumberLemmas
 pub mod PartLemmas
+pub mod FlagLemmas
+pub mod NameLemmas
+pub mod GroupLemmas
 pub mod TreeParts
 pub mod EscapedText
 pub mod GroupCounts

@@ -1,7 +1,9 @@
 pub mod FlagsView
+pub mod Groups
 pub mod Meanings
 pub mod Numbers
 pub mod Operators
+pub mod Openings
 pub mod Parts
 pub mod Sets
 pub mod Steps
