@@ -10,3 +10,5 @@ pub mod FlagLemmas
 pub mod NameLemmas
 pub mod GroupLemmas
 pub mod TreeParts
+pub mod EscapedText
+pub mod GroupCounts

@@ -11,3 +11,4 @@ pub mod TreeCode
 pub mod View
 pub mod TreeFalls
 pub mod Cases
+pub mod Escaped
