@@ -10,3 +10,4 @@ pub mod FlagLemmas
 pub mod NameLemmas
 pub mod GroupLemmas
 pub mod TreeParts
+pub mod NodeLemmas
