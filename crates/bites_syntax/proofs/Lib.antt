@@ -12,3 +12,4 @@ pub mod GroupLemmas
 pub mod TreeParts
 pub mod EscapedText
 pub mod GroupCounts
+pub mod NodeLemmas

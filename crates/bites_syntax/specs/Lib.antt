@@ -1,6 +1,7 @@
 pub mod FlagsView
 pub mod Groups
 pub mod Meanings
+pub mod Nodes
 pub mod Numbers
 pub mod Operators
 pub mod Openings
