@@ -11,3 +11,10 @@ pub mod MemberParts
 pub mod NamedParts
 pub mod HexadecimalLemmas
 pub mod PartLemmas
+pub mod FlagLemmas
+pub mod NameLemmas
+pub mod GroupLemmas
+pub mod TreeParts
+pub mod EscapedText
+pub mod GroupCounts
+pub mod NodeLemmas

@@ -2,8 +2,12 @@ pub mod FlagsView
 pub mod Hexadecimal
 pub mod Meanings
 pub mod Members
+pub mod Groups
+pub mod Meanings
+pub mod Nodes
 pub mod Numbers
 pub mod Operators
+pub mod Openings
 pub mod Parts
 pub mod Sets
 pub mod Steps
@@ -11,3 +15,4 @@ pub mod TreeCode
 pub mod View
 pub mod TreeFalls
 pub mod Cases
+pub mod Escaped
