@@ -7,3 +7,4 @@ pub mod Parts
 pub mod SizeLemmas
 pub mod EmittedLemmas
 pub mod GroupLemmas
+pub mod BadLemmas

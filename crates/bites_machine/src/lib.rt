@@ -3,6 +3,7 @@
 
 mod compiler;
 mod emit;
+mod fault;
 mod groups;
 pub mod program;
 mod size;
