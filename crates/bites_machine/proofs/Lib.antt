@@ -1,8 +1,15 @@
 pub mod SoundLemmas
+pub mod MemberLemmas
+pub mod EdgeLemmas
+pub mod SweepLemmas
 pub mod EmitLemmas
-pub mod LengthLemmas
-pub mod FaultLemmas
 pub mod CompiledLemmas
+pub mod StateLemmas
+pub mod AssertionLemmas
+pub mod LengthLemmas
+pub mod SearchLemmas
+pub mod SearchedRanges
+pub mod FaultLemmas
 pub mod Parts
 pub mod SizeLemmas
 pub mod EmittedLemmas

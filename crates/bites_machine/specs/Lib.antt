@@ -1,6 +1,8 @@
 pub mod States
 pub mod Contents
 pub mod Fields
+pub mod Members
+pub mod Ends
 pub mod Emitted
 pub mod Classes
 pub mod Sizes

@@ -1,6 +1,8 @@
 -- What a tree matches, in which ways, and which groups a way marks.
 use Rattle.std.specs.Prelude.{◌≡◌, ℕ, zero, suc, ◌+◌, ◌<◌, ◌≤◌, Bool, true, List, [], ◌∷◌, ◌++◌, Option, Some, None, if◌then◌else◌, IfSome, ◌==◌, ◌⊎◌}
+use Rattle.std.specs.Prelude.{length}
 use Rattle.std.specs.Option.{option_or}
+use Rattle.bites_spec.specs.Walks.{Among, AllApart}
 use Rattle.bites_spec.specs.Utf8.{piece, character}
 use Rattle.bites_spec.specs.Look.{Holds}
 use Rattle.bites_spec.specs.Range.{in_ranges}
@@ -11,6 +13,7 @@ pub record Span : Type 0 where
   pub start : ℕ
   pub end : ℕ
 
+-- a span by its two ends
 abbrev pub span : ℕ → ℕ → Span
 span i j = record { start = i; end = j }
 
@@ -19,6 +22,7 @@ pub record Mark : Type 0 where
   pub group : ℕ
   pub span : Span
 
+-- a mark by its group and the two ends of its span
 abbrev pub mark : ℕ → ℕ → ℕ → Mark
 mark k i j = record { group = k; span = span i j }
 
@@ -76,11 +80,13 @@ module _ (hay : List ℕ) where
     Parse (sequence ts) i j ms = ParseAll ts i j ms
     Parse (alternation ts) i j ms = ParseOne ts i j ms
 
+    -- one way through all of the trees, one behind the other
     pub ParseAll : Trees → ℕ → ℕ → List Mark → Type 0
     ParseAll no_tree i j ms = (j ≡ i) × (ms ≡ [])
     ParseAll (tree_and t ts) i j ms =
         (l : ℕ) × (first : List Mark) × (rest : List Mark) × Parse t i l first × ParseAll ts l j rest × (ms ≡ first ++ rest)
 
+    -- one way through one of the trees
     pub ParseOne : Trees → ℕ → ℕ → List Mark → Type 0
     ParseOne no_tree i j ms = ⊥
     ParseOne (tree_and t ts) i j ms = Parse t i j ms ⊎ ParseOne ts i j ms
@@ -94,3 +100,12 @@ last_mark (m ∷ ms) k = option_or (last_mark ms k) (if m.group == k then Some m
 abbrev pub groups : ℕ → ℕ → List Mark → ℕ → Option Span
 groups i j ms zero = Some (span i j)
 groups i j ms (suc k) = last_mark ms (suc k)
+
+-- the group took part
+abbrev pub IsMarked : List Mark → ℕ → Type 0
+IsMarked [] k = ⊥
+IsMarked (m ∷ ms) k = (m.group ≡ k) ⊎ IsMarked ms k
+
+-- n different groups took part at least
+abbrev pub MarksAtLeast : ℕ → List Mark → Type 0
+MarksAtLeast n ms = (ks : List ℕ) × (length ks ≡ n) × AllApart ks × ((k : ℕ) → Among ks k → IsMarked ms k)

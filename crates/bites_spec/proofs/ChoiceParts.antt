@@ -1,0 +1,58 @@
+-- What the reading of a whole pattern takes from the readings of its parts.
+use Rattle.std.proofs.Common.{◌≡◌, ℕ, ◌+◌, ◌<◌, ◌≤◌, ◌⊎◌, Bool, true, List, [], ◌∷◌, length, max, Option, Ok, Err}
+use Rattle.std.specs.Prelude.{unwrap_or}
+use Rattle.bites_spec.specs.Message as message
+use Rattle.bites_spec.specs.Message.{Message}
+use Rattle.bites_spec.specs.Range.{Range}
+use Rattle.bites_spec.specs.Class.{Set, Lists}
+use Rattle.bites_spec.specs.Pattern.{Text, Flags, Front, skip, question, backslash, left_parenthesis, right_parenthesis, left_bracket, left_brace}
+use Rattle.bites_spec.specs.Operator.{ReadsOperator}
+use Rattle.bites_spec.specs.OperatorFault.{StuckCount, greatest_number}
+use Rattle.bites_spec.specs.Escape.{Meaning, ReadsEscape}
+use Rattle.bites_spec.specs.EscapeFault.{StuckEscape}
+use Rattle.bites_spec.specs.Bracket.{ReadsBracket}
+use Rattle.bites_spec.specs.BracketFault.{StuckBracket}
+use Rattle.bites_spec.specs.Group.{Opening, ReadsOpening, ReadsFlags, changed}
+use Rattle.bites_spec.specs.GroupFault.{StuckOpening}
+use Rattle.bites_spec.specs.Fault.{ComesFirst}
+use Rattle.bites_spec.specs.Reading.{Answer, Opened, directive, group, answer, stop, counted, escape, bracket, opened}
+use Rattle.bites_spec.proofs.EscapeLemmas.{Means}
+
+-- from t up to rest stands a directive that makes these the flags
+pub record ReadsDirective (front : Front) (t : Text) (flags : Flags) (rest : Text) : Type 0 where
+  pub next : Text
+  pub marks : Text
+  pub run : Text
+  pub c : ℕ
+  pub letters : Text
+  pub opens : t ≡ left_parenthesis ∷ next
+  pub asks : skip front.flags next ≡ question ∷ marks
+  pub reads : ReadsFlags marks run (right_parenthesis ∷ rest)
+  pub some : run ≡ c ∷ letters
+  pub are : flags ≡ changed true run front.flags
+
+-- what opens here
+abbrev pub Opens : Front → Text → Opened → Text → Type 0
+Opens front t (directive flags) rest = ReadsDirective front t flags rest
+Opens front t (group opening inner) rest = ReadsOpening front t opening inner rest × (front.groups ≤ greatest_number → inner.groups ≤ greatest_number)
+
+-- the function stops, no later than at this place by this message
+abbrev pub StopsBy : {A : Type 0} → Message → Text → Answer A → Type 0
+StopsBy m place (Ok x) = ⊥
+StopsBy m place (Err e) = ComesFirst e.message e.place m place
+
+-- the greater bound of an operator
+abbrev pub most_of : ℕ → Option ℕ → ℕ
+most_of min most = max min (unwrap_or most 0)
+
+-- what the function answers where an operator in braces is read: it, or the stop at a number that is too large
+abbrev pub LeadsToCount : ℕ → Option ℕ → Bool → Text → Answer (ℕ × Option ℕ × Bool) → Type 0
+LeadsToCount min most greedy rest a =
+    ((a ≡ answer (min, most, greedy) rest) × (most_of min most ≤ greatest_number))
+    ⊎ ((place : Text) × (a ≡ stop message.invalid_decimal place) × (length rest < length place) × (greatest_number < most_of min most))
+
+-- what the function answers where a group's opening is read: it, or the stop at a number that is too large
+abbrev pub LeadsToGroup : Front → Opening → Text → Answer Opened → Type 0
+LeadsToGroup inner opening inside a =
+    (a ≡ answer (group opening inner) inside)
+    ⊎ ((place : Text) × (a ≡ stop message.too_many_groups place) × (length inside ≤ length place) × (greatest_number < inner.groups))

@@ -1,0 +1,15 @@
+pub mod Bools
+pub mod Merging
+pub mod RangeLists
+pub mod Gaps
+pub mod CaseLemmas
+pub mod CursorLemmas
+pub mod NumberLemmas
+pub mod PartLemmas
+pub mod FlagLemmas
+pub mod NameLemmas
+pub mod GroupLemmas
+pub mod TreeParts
+pub mod EscapedText
+pub mod GroupCounts
+pub mod NodeLemmas

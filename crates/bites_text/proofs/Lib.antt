@@ -1,0 +1,4 @@
+pub mod ErrorLemmas
+pub mod PieceFacts
+mod RowLemmas
+mod FrontLemmas
