@@ -14,3 +14,4 @@ pub mod Parts
 pub mod SizeLemmas
 pub mod EmittedLemmas
 pub mod GroupLemmas
+pub mod BadLemmas
