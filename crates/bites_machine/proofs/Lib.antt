@@ -13,3 +13,5 @@ pub mod FaultLemmas
 pub mod Parts
 pub mod SizeLemmas
 pub mod EmittedLemmas
+pub mod GroupLemmas
+pub mod BadLemmas
