@@ -10,3 +10,6 @@ pub mod FlagLemmas
 pub mod NameLemmas
 pub mod GroupLemmas
 pub mod TreeParts
+pub mod EscapedText
+pub mod GroupCounts
+pub mod NodeLemmas

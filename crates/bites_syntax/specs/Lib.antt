@@ -1,6 +1,7 @@
 pub mod FlagsView
 pub mod Groups
 pub mod Meanings
+pub mod Nodes
 pub mod Numbers
 pub mod Operators
 pub mod Openings
@@ -11,3 +12,4 @@ pub mod TreeCode
 pub mod View
 pub mod TreeFalls
 pub mod Cases
+pub mod Escaped

@@ -13,6 +13,7 @@ pub mod measure;
 pub mod name;
 pub mod named;
 pub(crate) mod names;
+pub(crate) mod node;
 pub(crate) mod number;
 pub(crate) mod operator;
 pub mod tree;
