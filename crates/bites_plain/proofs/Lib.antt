@@ -1,0 +1,3 @@
+pub mod PlaceLemmas
+pub mod RowLemmas
+pub mod WayLemmas
