@@ -1,11 +1,12 @@
 -- Places past the end of a haystack.
-use Rattle.std.proofs.Common.{◌≡◌, ◌≢◌, ℕ, zero, suc, ◌<◌, ◌≤◌, Bool, true, false, List, [], ◌∷◌, length, drop, Option, Some, None, refl, ap, sym, ◌∙◌, subst, arith, eqb}
+use Rattle.std.proofs.Common.{◌≡◌, ◌≢◌, ℕ, zero, suc, ◌<◌, ◌≤◌, Bool, true, false, List, [], ◌∷◌, ◌++◌, ◌+◌, length, drop, Option, Some, None, refl, ap, ap₂, append_assoc, sym, ◌∙◌, subst, arith, eqb}
 use Rattle.std.specs.Prelude.{slice_get, ◌==◌}
 use Rattle.std.proofs.lemmas.Option.{slice_get_past}
 use Rattle.std.proofs.lemmas.Bool.Decides.{nat_tests}
 use Rattle.bites_spec.specs.Look as assertion
 use Rattle.bites_spec.specs.Look.{holds, holds_between, before, after}
-use Rattle.bites_spec.specs.Utf8.{piece, front_piece, character}
+use Rattle.bites_spec.specs.Utf8.{piece, front_piece, character, places, step_len}
+use Rattle.bites_machine.proofs.SweepLemmas.{places-here}
 use Rattle.bites_syntax.specs.View.{look_of}
 use Rattle.bites_syntax.specs.declared.look.Look.{Look}
 use Rattle.bites_syntax.specs.declared.look.Look.TheVariants.{Start, End, StartLf, EndLf, StartCrlf, EndCrlf, Word, WordNegate, WordStart, WordEnd, WordStartHalf, WordEndHalf}
@@ -51,3 +52,12 @@ nothing_holds WordStart a b c = refl
 nothing_holds WordEnd a b c = refl
 nothing_holds WordStartHalf a b c = absurd (b refl)
 nothing_holds WordEndHalf a b c = absurd (c refl)
+
+-- a place more, and those from the next one on
+pub place_added : (hay : List ℕ) (start place : ℕ) (found new : List ℕ) (step : ℕ) → place ≤ length hay → new ≡ found ++ place ∷ [] →
+    step ≡ step_len hay place → found ++ places hay place ≡ places hay start → new ++ places hay (place + step) ≡ places hay start
+place_added hay start place found new step le n s so_far =
+    ap₂ (λ (l : List ℕ) (k : ℕ). l ++ places hay (place + k)) n s
+    ∙ append_assoc found (place ∷ []) (places hay (place + step_len hay place))
+    ∙ ap (λ (l : List ℕ). found ++ l) (sym (places-here hay place le))
+    ∙ so_far

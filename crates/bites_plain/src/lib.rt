@@ -6,5 +6,7 @@
 
 pub mod parses;
 pub mod piece;
+pub mod run;
 pub mod span;
+pub mod spot;
 pub mod way;
