@@ -1,14 +1,16 @@
 -- Walks that keep a list of the spots that were seen.
 use Rattle.std.proofs.Common.{◌≡◌, ℕ, zero, suc, ◌+◌, ◌<◌, ◌≤◌, Bool, true, false, ◌||◌, List, [], ◌∷◌, ◌++◌, length, get_or, drop, Option, Some, None, option_map, refl, sym, ap, ◌∙◌, subst, arith, inl, inr}
 use Rattle.std.specs.Option.{option_or}
-use Rattle.std.specs.Prelude.{option_and_then}
+use Rattle.std.specs.Prelude.{option_and_then, IfSome}
 use Rattle.std.specs.List.{list_any}
 use Rattle.std.proofs.lemmas.List.Folds.{list_any-append}
-use Rattle.bites_spec.specs.Walks.{Among, first_among, with_spot, last_of}
+use Rattle.bites_spec.specs.Walks.{Among, Walk, first_among, with_spot, last_of}
 use Rattle.bites_spec.specs.Walks as walks
 use Rattle.bites_spec.specs.Program.{Program, Spot, at, IsWellFormed}
-use Rattle.bites_spec.specs.Run.{Run, is_same_spot, leads, matches, enough, run_of, first_run_from}
-use Rattle.bites_spec.proofs.RunLemmas.{Inside, unseen, fewer, enough_for_all, inside_on, same_is, same_refl}
+use Rattle.bites_spec.specs.Run.{Run, Runs, is_same_spot, leads, matches, enough, run_of, first_run_from}
+use Rattle.bites_spec.proofs.RunLemmas.{Inside, unseen, fewer, enough_for_all, inside_on, same_is, same_refl, match_ends}
+use Rattle.bites_spec.proofs.FirstLemmas.{sound}
+use Rattle.bites_machine.proofs.SweepLemmas.{Runs-forward}
 use Rattle.bites_spec.proofs.WalkLemmas.{run_step, run_dead}
 use Rattle.bites_plain.specs.Walk.{first_walk, is_seen, LeadsNowhere}
 
@@ -44,6 +46,11 @@ pub Among-number : (xs : List ℕ) (i : ℕ) → i < length xs → Among xs (get
 Among-number [] i h = absurd (omega arith)
 Among-number (y ∷ xs) zero h = inl refl
 Among-number (y ∷ xs) (suc i) h = inr (Among-number xs i (omega arith))
+
+-- a run that starts at a place from a start on starts from there on
+pub starts_from : (o : Option Run) (place start : ℕ) → IfSome o (λ r. r.start ≡ place) → start ≤ place → IfSome o (λ r. start ≤ r.start)
+starts_from None place start at_place le = tt
+starts_from (Some r) place start at_place le = omega arith
 
 module _ (p : Program) (hay : List ℕ) where
   abbrev plus : (Spot → Bool) → Spot → Spot → Bool
@@ -134,3 +141,24 @@ module _ (p : Program) (hay : List ℕ) where
         let walk_on = first_walk p hay (is_seen (xs ++ s ∷ [])) in
         ap (λ (o : Option (List Spot)). option_or o (first_among walk_on (drop (i + 1) nexts))) (none ∙ same next)
         ∙ sym (first_among-drop walk_on nexts i next read lt) ∙ so_far
+
+    on_to_match : (s : Spot) (r : List Spot) → Walk (leads p hay) (λ q. matches p hay q ≡ true) s r → Runs p hay s r (last_of s r).place
+    on_to_match s [] walk = (walk, refl)
+    on_to_match s (t ∷ r) walk = (walk.0, on_to_match t r walk.1)
+
+    run_within : (s : Spot) (r : List Spot) (j : ℕ) → Inside p hay s → Runs p hay s r j → j ≤ length hay
+    run_within s [] j inside runs = subst (λ k. k ≤ length hay) runs.1 inside.1
+    run_within s (t ∷ r) j inside runs = run_within t r j (inside_on p hay well s t inside runs.0) runs.1
+
+    -- a run that was found ends behind its start, and within the haystack
+    pub found_lies : (place : ℕ) (spots : List Spot) → place ≤ length hay → Some (at p.start place ∷ spots) ≡ first_walk p hay (is_seen []) (at p.start place) →
+        (place ≤ (last_of (at p.start place) spots).place) × ((last_of (at p.start place) spots).place ≤ length hay)
+    found_lies place spots le found =
+        let h = sound is_same_spot (leads p hay) (matches p hay) same_is same_refl (match_ends p hay) (enough p hay) (is_seen []) (at p.start place) (at p.start place ∷ spots) (sym found) in
+        let same : h.0 ≡ spots = behind (at p.start place) h.0 spots (sym h.1) in
+        let runs = subst (λ (r : List Spot). Runs p hay (at p.start place) r (last_of (at p.start place) r).place) same (on_to_match (at p.start place) h.0 h.2) in
+        (Runs-forward p hay (at p.start place) spots (last_of (at p.start place) spots).place runs,
+        run_within (at p.start place) spots (last_of (at p.start place) spots).place (well.start, le) runs)
+      where
+        behind : (s : Spot) (a b : List Spot) → s ∷ a ≡ s ∷ b → a ≡ b
+        behind s a b e = cc

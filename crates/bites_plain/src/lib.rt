@@ -8,5 +8,6 @@ pub mod parses;
 pub mod piece;
 pub mod run;
 pub mod span;
+pub mod spans;
 pub mod spot;
 pub mod way;

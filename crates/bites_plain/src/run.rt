@@ -1,6 +1,6 @@
 //! Runs of a program, found by walks that keep a list of the spots that were seen.
 
-ghost use Rattle.std.specs.Prelude.{◌≡◌, ◌≤◌, [], ◌∷◌, None, IfOk, option_map, length};
+ghost use Rattle.std.specs.Prelude.{◌≡◌, ◌≤◌, [], ◌∷◌, None, IfOk, IfSome, option_map, length};
 ghost use Rattle.bites_spec.specs.Utf8 as spec;
 ghost use Rattle.bites_spec.specs.Walks.{last_of};
 ghost use Rattle.bites_spec.specs.Program.{IsWellFormed};
@@ -61,7 +61,10 @@ pub fn first_run(
     haystack: &[u8],
     start: usize,
 ) -> Result<Option<Run>, AllocError>
-    ensures { IfOk result (λ run. run ≡ first_run program.now.program haystack.now start) }
+    ensures first { IfOk result (λ run. run ≡ first_run program.now.program haystack.now start) }
+    ensures from { IfOk result (λ run. IfSome run (λ r. start ≤ r.start)) }
+    ensures forward { IfOk result (λ run. IfSome run (λ r. r.start ≤ r.end)) }
+    ensures within { IfOk result (λ run. IfSome run (λ r. r.end ≤ length haystack.now)) }
 {
     for place in &places(alloc, haystack, start)? {
         let run = first_run_from(alloc, program, haystack, *place)?;
@@ -81,7 +84,10 @@ pub fn first_run_from(
     place: usize,
 ) -> Result<Option<Run>, AllocError>
     requires { place ≤ length haystack.now }
-    ensures { IfOk result (λ run. run ≡ first_run_from program.now.program haystack.now place) }
+    ensures first { IfOk result (λ run. run ≡ first_run_from program.now.program haystack.now place) }
+    ensures start { IfOk result (λ run. IfSome run (λ r. r.start ≡ place)) }
+    ensures forward { IfOk result (λ run. IfSome run (λ r. place ≤ r.end)) }
+    ensures within { IfOk result (λ run. IfSome run (λ r. r.end ≤ length haystack.now)) }
 {
     let mut seen = Vec::new(alloc);
     let first = Spot::new(program.start(), place);
