@@ -1,0 +1,5 @@
+pub mod PlaceLemmas
+pub mod RowLemmas
+pub mod SeenLemmas
+pub mod SuccessiveLemmas
+pub mod WayLemmas
