@@ -1,0 +1,3 @@
+pub mod TreeCode
+pub mod View
+pub mod TreeFalls

@@ -1,0 +1,154 @@
+//! The tree of a pattern.
+
+ghost use Rattle.std.specs.Prelude.{◌≡◌};
+ghost use Rattle.bites_spec.specs.Tree as spec;
+ghost use Rattle.bites_spec.specs.Tree.{trees_of};
+ghost use Rattle.bites_syntax.specs.View.{tree_of, look_of};
+
+pub use crate::class::Class;
+pub use crate::look::Look;
+pub use crate::name::Name;
+use std::marker::Model;
+
+/// The tree of a pattern. A contract sees what it stands for.
+#[cycle(tree)]
+#[derive(Drop)]
+pub struct Tree {
+    kind: Kind,
+}
+
+/// The kinds of a tree.
+#[cycle(tree)]
+#[derive(Drop)]
+pub enum Kind {
+    /// The empty text.
+    Empty,
+    /// A character.
+    Char(char),
+    /// A character of a class.
+    Class(Class),
+    /// An assertion.
+    Look(Look),
+    /// At least `min` and at most `max` times `sub`, without a bound where `max` is None.
+    Repetition {
+        min: u32,
+        max: Option<u32>,
+        /// Whether more turns are preferred.
+        greedy: bool,
+        sub: Box<Tree>,
+    },
+    /// A group with its number, and with its name if it has one.
+    Capture {
+        index: u32,
+        name: Option<Name>,
+        sub: Box<Tree>,
+    },
+    /// Trees one behind another.
+    Concat(Vec<Tree>),
+    /// A choice between trees, earlier ones preferred.
+    Alternation(Vec<Tree>),
+}
+
+impl Model for Tree {
+    ghost use Rattle.bites_spec.specs.Tree as spec;
+    ghost use Rattle.bites_spec.specs.Measure.{height};
+    ghost use Rattle.bites_syntax.specs.TreeCode.{tree_code};
+
+    ghost Value = { spec.Tree };
+
+    ghost coded = { tree_code };
+
+    ghost use Rattle.bites_syntax.specs.View.{tree_of};
+
+    ghost view = { λ a. tree_of a.kind };
+
+    ghost size = { height };
+
+    ghost use Rattle.bites_syntax.specs.TreeFalls.{deep_le-height};
+
+    ghost size_decreases = { λ a h. deep_le-height a.kind };
+}
+
+impl Tree {
+    /// What the tree is, with its parts.
+    pub fn kind(&self) -> &Kind
+        ensures { tree_of result.now ≡ self.now }
+    {
+        &self.kind
+    }
+
+    /// The tree of the empty text.
+    pub fn empty() -> Tree
+        ensures { result ≡ spec.empty }
+    {
+        Tree { kind: Kind::Empty }
+    }
+
+    /// The tree of a character.
+    pub fn char(c: char) -> Tree
+        ensures { result ≡ spec.char c }
+    {
+        Tree {
+            kind: Kind::Char(c),
+        }
+    }
+
+    /// The tree of a character of the class.
+    pub fn class(class: Class) -> Tree
+        ensures { result ≡ spec.class class }
+    {
+        Tree {
+            kind: Kind::Class(class),
+        }
+    }
+
+    /// The tree of an assertion.
+    pub fn look(look: Look) -> Tree
+        ensures { result ≡ spec.look (look_of look) }
+    {
+        Tree {
+            kind: Kind::Look(look),
+        }
+    }
+
+    /// At least `min` and at most `max` times `sub`, without a bound where `max` is None.
+    pub fn repetition(min: u32, max: Option<u32>, greedy: bool, sub: Box<Tree>) -> Tree
+        ensures { result ≡ spec.repetition min max greedy sub.value }
+    {
+        Tree {
+            kind: Kind::Repetition {
+                min,
+                max,
+                greedy,
+                sub,
+            },
+        }
+    }
+
+    /// The group with this number around `sub`.
+    pub fn capture(index: u32, name: Option<Name>, sub: Box<Tree>) -> Tree
+        ensures { result ≡ spec.group index name sub.value }
+    {
+        Tree {
+            kind: Kind::Capture { index, name, sub },
+        }
+    }
+
+    /// The parts one behind another.
+    pub fn concat(parts: Vec<Tree>) -> Tree
+        ensures { result ≡ spec.sequence (trees_of parts.items) }
+    {
+        Tree {
+            kind: Kind::Concat(parts),
+        }
+    }
+
+    /// A choice between the parts, earlier ones preferred.
+    pub fn alternation(parts: Vec<Tree>) -> Tree
+        ensures { result ≡ spec.alternation (trees_of parts.items) }
+    {
+        Tree {
+            kind: Kind::Alternation(parts),
+        }
+    }
+}
