@@ -1,0 +1,8 @@
+use Rattle.std.proofs.Common.{subst}
+use Rattle.bites_spec.specs.Program.{IsWellFormed}
+use Rattle.bites_machine.specs.Contents.{Contents}
+use Rattle.bites_machine.proofs.SoundLemmas.{sound_program}
+use Rattle.bites_machine.proofs.program.Program.start.Goals as goal
+
+pub returns-clause-well_formed : goal.returns-clause-well_formed
+returns-clause-well_formed c = subst (λ (x : Contents). IsWellFormed x.program) c.self.view_is (sound_program _ c.self.invariant.0)

@@ -1,0 +1,12 @@
+-- What is in a program: its states, and what is known of its pattern.
+use Rattle.std.specs.Prelude.{ℕ, List, Option}
+use Rattle.bites_spec.specs.Program.{Program}
+
+pub record Contents : Type 0 where
+  pub program : Program
+  -- the bytes of the pattern
+  pub pattern : List ℕ
+  -- the name of each group, from group 0 on, if it has one
+  pub names : List (Option (List ℕ))
+  -- how many groups take part in every match, with group 0
+  pub static_captures_len : Option ℕ

@@ -1,0 +1,4 @@
+pub mod Looks
+pub mod States
+pub mod Contents
+pub mod Fields

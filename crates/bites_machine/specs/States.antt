@@ -1,0 +1,20 @@
+-- The states of a program.
+use Rattle.std.specs.Prelude.{List, map, option_map}
+use Rattle.bites_spec.specs.Program as program
+use Rattle.bites_machine.specs.Looks.{look_of}
+use Rattle.bites_machine.specs.declared.state.State.{State}
+use Rattle.bites_machine.specs.declared.state.State.TheVariants.{Char, Ranges, Splits, Goto, Capture, Fail, Match}
+
+-- what a state stands for
+abbrev pub state_of : State → program.State
+state_of (Char target ch) = program.char target ch
+state_of (Ranges target ranges) = program.ranges target ranges.items
+state_of (Splits targets reverse) = program.splits targets.items reverse
+state_of (Goto target look) = program.goto target (option_map look_of look)
+state_of (Capture target slot) = program.capture target slot
+state_of Fail = program.fail
+state_of Match = program.match
+
+-- what states stand for
+abbrev pub states_of : List State → List program.State
+states_of states = map state_of states

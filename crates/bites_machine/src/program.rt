@@ -1,0 +1,112 @@
+ghost use Rattle.std.specs.Prelude.{◌≡◌, ◌≢◌, ◌<◌, ℕ, length, None, Some, IfSome, IfNone, slice_index_or};
+ghost use Rattle.std.specs.Option.{option_copied};
+ghost use Rattle.bites_spec.specs.Program.{state_at, targets, IsWellFormed};
+ghost use Rattle.bites_machine.specs.States.{state_of};
+
+use crate::state::State;
+use std::marker::Model;
+
+/// A well-formed program, with the pattern that it was compiled from and the names of its groups.
+#[derive(Drop)]
+pub struct Program {
+    states: Vec<State>,
+    start: u32,
+    slots: u32,
+    targets: usize,
+    pattern: String,
+    names: Vec<Option<String>>,
+    static_captures_len: Option<usize>,
+}
+
+impl Model for Program {
+    ghost use Rattle.bites_machine.specs.Contents.{Contents};
+
+    ghost Value = { Contents };
+
+    ghost use Rattle.bites_machine.specs.Fields.{contents_of, IsSound};
+
+    ghost view = { contents_of };
+
+    ghost invariant = { IsSound };
+}
+
+impl Program {
+    /// The state with this number.
+    pub fn state(&self, number: u32) -> &State
+        requires { number < length self.now.program.states }
+        ensures { state_of result.now ≡ state_at self.now.program.states number }
+    {
+        &self.states[number as usize]
+    }
+
+    /// The number of the state where a run starts.
+    pub fn start(&self) -> u32
+        ensures start { result ≡ self.now.program.start }
+        ensures well_formed { IsWellFormed self.now.program }
+    {
+        let _ = &self.states;
+        self.start
+    }
+
+    /// The number of states.
+    #[allow(clippy::len_without_is_empty)]
+    pub fn len(&self) -> usize
+        ensures { result ≡ length self.now.program.states }
+    {
+        self.states.len()
+    }
+
+    /// The number of slots, two for each group.
+    pub fn slots(&self) -> usize
+        ensures { result ≡ self.now.program.slots }
+    {
+        self.slots as usize
+    }
+
+    /// The number of edges.
+    pub fn targets(&self) -> usize
+        ensures { result ≡ targets self.now.program }
+    {
+        self.targets
+    }
+
+    /// The pattern that the program was compiled from; the empty text if it was made of states.
+    pub fn pattern(&self) -> &str
+        ensures { result.now ≡ self.now.pattern }
+    {
+        &self.pattern
+    }
+
+    /// The name of the group with this number, if there is such a group and it has one.
+    pub fn name(&self, group: usize) -> Option<&str>
+        ensures { option_copied result ≡ slice_index_or self.now.names group None }
+    {
+        match self.names.get(group) {
+            Some(Some(name)) => Some(name.as_str()),
+            _ => None,
+        }
+    }
+
+    /// The number of the first group with this name.
+    pub fn index_of(&self, name: &str) -> Option<usize>
+        ensures found { IfSome result (λ i. slice_index_or self.now.names i None ≡ Some name.now) }
+        ensures first { IfSome result (λ i. (j : ℕ) → j < i → slice_index_or self.now.names j None ≢ Some name.now) }
+        ensures absent { IfNone result ((j : ℕ) → slice_index_or self.now.names j None ≢ Some name.now) }
+    {
+        for i in 0..self.names.len() {
+            if let Some(own) = self.name(i)
+                && own == name
+            {
+                return Some(i);
+            }
+        }
+        None
+    }
+
+    /// How many groups take part in every match, if the form of the pattern says so. Group 0 is counted.
+    pub fn static_captures_len(&self) -> Option<usize>
+        ensures { result ≡ self.now.static_captures_len }
+    {
+        self.static_captures_len
+    }
+}

@@ -1,0 +1,35 @@
+use crate::look::Look;
+
+/// A state of a program: what it asks of the haystack, and the numbers of the states that it leads to.
+#[derive(Drop)]
+pub enum State {
+    /// Takes this character.
+    Char {
+        target: u32,
+        ch: char,
+    },
+    /// Takes a character of one of the ranges, whose ends belong to them.
+    Ranges {
+        target: u32,
+        ranges: Vec<(char, char)>,
+    },
+    /// Leads to each target; the first is preferred, or the last if `reverse` is set.
+    Splits {
+        targets: Vec<u32>,
+        reverse: bool,
+    },
+    /// Leads on where the assertion holds, or always if there is none.
+    Goto {
+        target: u32,
+        look: Option<Look>,
+    },
+    /// Writes the place to a slot, and leads on.
+    Capture {
+        target: u32,
+        slot: u32,
+    },
+    /// Leads nowhere.
+    Fail,
+    /// The match is found.
+    Match,
+}
