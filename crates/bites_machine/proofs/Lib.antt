@@ -1,1 +1,2 @@
 pub mod SoundLemmas
+pub mod MemberLemmas

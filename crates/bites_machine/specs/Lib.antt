@@ -1,4 +1,4 @@
-pub mod Looks
 pub mod States
 pub mod Contents
 pub mod Fields
+pub mod Members

@@ -1,7 +1,7 @@
 -- The states of a program.
 use Rattle.std.specs.Prelude.{List, map, option_map}
 use Rattle.bites_spec.specs.Program as program
-use Rattle.bites_machine.specs.Looks.{look_of}
+use Rattle.bites_syntax.specs.View.{look_of}
 use Rattle.bites_machine.specs.declared.state.State.{State}
 use Rattle.bites_machine.specs.declared.state.State.TheVariants.{Char, Ranges, Splits, Goto, Capture, Fail, Match}
 

@@ -1,4 +1,4 @@
-use crate::look::Look;
+use bites_syntax::look::Look;
 
 /// A state of a program: what it asks of the haystack, and the numbers of the states that it leads to.
 #[derive(Drop)]

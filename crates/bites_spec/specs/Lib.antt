@@ -2,6 +2,7 @@ pub mod Range
 pub mod Utf8
 pub mod Look
 pub mod Class
+pub mod RangesOf
 pub mod Tree
 pub mod Message
 pub mod Pattern

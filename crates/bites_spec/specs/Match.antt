@@ -1,6 +1,8 @@
 -- What a tree matches, in which ways, and which groups a way marks.
 use Rattle.std.specs.Prelude.{◌≡◌, ℕ, zero, suc, ◌+◌, ◌<◌, ◌≤◌, Bool, true, List, [], ◌∷◌, ◌++◌, Option, Some, None, if◌then◌else◌, IfSome, ◌==◌, ◌⊎◌}
+use Rattle.std.specs.Prelude.{length}
 use Rattle.std.specs.Option.{option_or}
+use Rattle.bites_spec.specs.Walks.{Among, AllApart}
 use Rattle.bites_spec.specs.Utf8.{piece, character}
 use Rattle.bites_spec.specs.Look.{Holds}
 use Rattle.bites_spec.specs.Range.{in_ranges}
@@ -94,3 +96,12 @@ last_mark (m ∷ ms) k = option_or (last_mark ms k) (if m.group == k then Some m
 abbrev pub groups : ℕ → ℕ → List Mark → ℕ → Option Span
 groups i j ms zero = Some (span i j)
 groups i j ms (suc k) = last_mark ms (suc k)
+
+-- the group took part
+abbrev pub IsMarked : List Mark → ℕ → Type 0
+IsMarked [] k = ⊥
+IsMarked (m ∷ ms) k = (m.group ≡ k) ⊎ IsMarked ms k
+
+-- n different groups took part at least
+abbrev pub MarksAtLeast : ℕ → List Mark → Type 0
+MarksAtLeast n ms = (ks : List ℕ) × (length ks ≡ n) × AllApart ks × ((k : ℕ) → Among ks k → IsMarked ms k)

@@ -17,7 +17,7 @@ abbrev mutual
   height (sequence ts) = suc (tallest ts)
   height (alternation ts) = suc (tallest ts)
 
-  tallest : Trees → ℕ
+  pub tallest : Trees → ℕ
   tallest no_tree = 0
   tallest (tree_and t ts) = max (height t) (tallest ts)
 
@@ -33,7 +33,7 @@ abbrev mutual
   groups_of (sequence ts) = groups_of_all ts
   groups_of (alternation ts) = groups_of_all ts
 
-  groups_of_all : Trees → List (ℕ × Option (List ℕ))
+  pub groups_of_all : Trees → List (ℕ × Option (List ℕ))
   groups_of_all no_tree = []
   groups_of_all (tree_and t ts) = groups_of t ++ groups_of_all ts
 
@@ -75,11 +75,11 @@ abbrev mutual
   static_count (sequence ts) = static_sum ts
   static_count (alternation ts) = static_agreed ts
 
-  static_sum : Trees → Option ℕ
+  pub static_sum : Trees → Option ℕ
   static_sum no_tree = Some 0
   static_sum (tree_and t ts) = both (static_count t) (static_sum ts)
 
-  static_agreed : Trees → Option ℕ
+  pub static_agreed : Trees → Option ℕ
   static_agreed no_tree = None
   static_agreed (tree_and t no_tree) = static_count t
   static_agreed (tree_and t (tree_and u ts)) = agreed (static_count t) (static_agreed (tree_and u ts))
@@ -119,7 +119,7 @@ abbrev mutual
   size_of (sequence ts) = size_of_all ts
   size_of (alternation ts) = size ((size_of_all ts).states + 2) ((size_of_all ts).targets + count ts) (size_of_all ts).ranges
 
-  size_of_all : Trees → Size
+  pub size_of_all : Trees → Size
   size_of_all no_tree = size 0 0 0
   size_of_all (tree_and t ts) =
       size ((size_of t).states + (size_of_all ts).states) ((size_of t).targets + (size_of_all ts).targets)
@@ -144,11 +144,11 @@ abbrev mutual
   open_in_choice (one front behind t rest nodes branches s _) = open_in_sequence s
   open_in_choice (several front middle behind t more rest nodes others branches s c _) = max (open_in_sequence s) (open_in_choice c)
 
-  open_in_sequence : {front behind : Front} {t rest : Text} {nodes all : List Tree} → ReadsSequence front t nodes all behind rest → ℕ
+  pub open_in_sequence : {front behind : Front} {t rest : Text} {nodes all : List Tree} → ReadsSequence front t nodes all behind rest → ℕ
   open_in_sequence (ends front behind t rest nodes all _ _ _ _) = 0
   open_in_sequence (goes_on front middle behind t next rest nodes more all i s) = max (open_in_item i) (open_in_sequence s)
 
-  open_in_item : {front behind : Front} {t rest : Text} {nodes all : List Tree} → ReadsItem front t nodes all behind rest → ℕ
+  pub open_in_item : {front behind : Front} {t rest : Text} {nodes all : List Tree} → ReadsItem front t nodes all behind rest → ℕ
   open_in_item (atom front behind t rest nodes all node _ _ _) = 0
   open_in_item (operator front behind t rest nodes all before last min max greedy _ _ _ _) = 0
   open_in_item (directive front behind t next marks run rest c letters nodes all _ _ _ _ _ _) = 0
@@ -160,11 +160,11 @@ abbrev mutual
   count_in_choice (one front behind t rest nodes branches s _) = count_in_sequence s
   count_in_choice (several front middle behind t more rest nodes others branches s c _) = max (count_in_sequence s) (count_in_choice c)
 
-  count_in_sequence : {front behind : Front} {t rest : Text} {nodes all : List Tree} → ReadsSequence front t nodes all behind rest → ℕ
+  pub count_in_sequence : {front behind : Front} {t rest : Text} {nodes all : List Tree} → ReadsSequence front t nodes all behind rest → ℕ
   count_in_sequence (ends front behind t rest nodes all _ _ _ _) = 0
   count_in_sequence (goes_on front middle behind t next rest nodes more all i s) = max (count_in_item i) (count_in_sequence s)
 
-  count_in_item : {front behind : Front} {t rest : Text} {nodes all : List Tree} → ReadsItem front t nodes all behind rest → ℕ
+  pub count_in_item : {front behind : Front} {t rest : Text} {nodes all : List Tree} → ReadsItem front t nodes all behind rest → ℕ
   count_in_item (atom front behind t rest nodes all node _ _ _) = 0
   count_in_item (operator front behind t rest nodes all before last least most greedy _ _ _ _) = max least (unwrap_or most 0)
   count_in_item (directive front behind t next marks run rest c letters nodes all _ _ _ _ _ _) = 0

@@ -1,8 +1,12 @@
-// Definitions of a regular expression engine's matching and searching. Each function's contract is a law about them.
+//! The definitions that the contracts of a regular expression engine speak of; they stand in `specs/`.
+//!
+//! No code of the engine is here: each function has an empty body, and its contract is a law about the definitions.
 #![tactic(auto)]
 
 ghost use Rattle.bites_spec.specs.Class.{ListsOnce};
-ghost use Rattle.bites_spec.specs.Laws.{MatchIsParse, FirstRunIsFirst, FirstRunIsOne, RunsAreParses, PlainRunsAreSimple, FirstRunIsFound, LeastEndIsLeast, ParsesAreListed, LongestIsFound};
+ghost use Rattle.bites_spec.specs.Laws.{MatchIsParse, FirstRunIsFirst, FirstRunIsOne, RunsAreParses, PlainRunsAreSimple, FirstRunIsFound, LeastEndIsLeast, ParsesAreListed, LongestIsFound, ParsesEndAtMatches, StaticCountIsLeast, SpansGrow, PiecesAndMatches, ReplacedIsJoined};
+ghost use Rattle.bites_spec.specs.GrammarLaws.{ListsAll};
+ghost use Rattle.bites_spec.specs.RangesOf.{RangesOfList};
 
 pub fn match_is_parse()
     ensures { MatchIsParse }
@@ -42,4 +46,32 @@ pub fn longest_is_found()
 
 pub fn ranges_of_a_set_are_unique()
     ensures { ListsOnce }
+{}
+
+pub fn parses_end_at_matches()
+    ensures { ParsesEndAtMatches }
+{}
+
+pub fn static_count_is_least()
+    ensures { StaticCountIsLeast }
+{}
+
+pub fn spans_grow()
+    ensures { SpansGrow }
+{}
+
+pub fn pieces_and_matches()
+    ensures { PiecesAndMatches }
+{}
+
+pub fn replaced_is_joined()
+    ensures { ReplacedIsJoined }
+{}
+
+pub fn every_set_has_ranges()
+    ensures { ListsAll }
+{}
+
+pub fn ranges_of_a_set_list_it()
+    ensures { RangesOfList }
 {}

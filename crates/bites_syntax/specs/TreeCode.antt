@@ -1,5 +1,5 @@
 -- How the logic stores a tree: as the list of its nodes, the parts before the whole.
-use Rattle.std.specs.Prelude.{◌≡◌, ℕ, zero, suc, Bool, true, List, [], ◌∷◌, Option, Some, None, refl}
+use Rattle.std.specs.Prelude.{◌≡◌, ℕ, zero, suc, Bool, true, List, [], ◌∷◌, Option, None, refl}
 use Rattle.std.specs.Coded.{Coded, code_by, coded×, coded_ℕ, coded_bool, coded_list, coded_option}
 use mathlib.Core.Path.{ap, ◌∙◌}
 use Rattle.bites_spec.specs.Range.{Range}

@@ -1,5 +1,9 @@
 //! Assertions: what holds between two bytes of a haystack.
 
+ghost use Rattle.std.specs.Prelude.{◌≡◌, ◌≤◌, length};
+ghost use Rattle.bites_spec.specs.Look.{holds, holds_between, before, is_byte, is_word, is_word_byte};
+ghost use Rattle.bites_syntax.specs.View.{look_of};
+
 /// An assertion. It consumes nothing.
 #[derive(Clone, Copy, PartialEq, Eq, Debug)]
 pub enum Look {
@@ -27,4 +31,81 @@ pub enum Look {
     WordStartHalf,
     /// No word byte after.
     WordEndHalf,
+}
+
+impl Look {
+    /// Whether the assertion holds at a place of the haystack, in bytes from its start.
+    #[tactic(auto, unfolding(bites_spec::specs::Look::holds))]
+    pub fn is_match(&self, haystack: &[u8], at: usize) -> bool
+        requires { at ≤ length haystack.now }
+        ensures { result ≡ holds (look_of self.now) haystack.now at }
+    {
+        let (before, after) = (byte_before(haystack, at), haystack.get(at).copied());
+        self.holds_between(before, after, at == 0, at == haystack.len())
+    }
+
+    /// Whether the assertion holds between two bytes, at the start or at the end of the haystack.
+    fn holds_between(
+        &self,
+        before: Option<u8>,
+        after: Option<u8>,
+        at_start: bool,
+        at_end: bool,
+    ) -> bool
+        ensures { result ≡ holds_between (look_of self.now) before after at_start at_end }
+    {
+        match self {
+            Look::Start => at_start,
+            Look::End => at_end,
+            Look::StartLf => at_start || is_byte(before, b'\n'),
+            Look::EndLf => at_end || is_byte(after, b'\n'),
+            Look::StartCrlf => {
+                at_start
+                    || is_byte(before, b'\n')
+                    || is_byte(before, b'\r') && !is_byte(after, b'\n')
+            }
+            Look::EndCrlf => {
+                at_end || is_byte(after, b'\r') || is_byte(after, b'\n') && !is_byte(before, b'\r')
+            }
+            Look::Word => is_word(before) != is_word(after),
+            Look::WordNegate => is_word(before) == is_word(after),
+            Look::WordStart => !is_word(before) && is_word(after),
+            Look::WordEnd => is_word(before) && !is_word(after),
+            Look::WordStartHalf => !is_word(before),
+            Look::WordEndHalf => !is_word(after),
+        }
+    }
+}
+
+/// The byte before a place.
+fn byte_before(haystack: &[u8], at: usize) -> Option<u8>
+    requires { at ≤ length haystack.now }
+    ensures { result ≡ before haystack.now at }
+{
+    if at == 0 {
+        None
+    } else {
+        Some(haystack[at - 1])
+    }
+}
+
+/// Whether the byte is there and is this one.
+fn is_byte(found: Option<u8>, wanted: u8) -> bool
+    ensures { result ≡ is_byte wanted found }
+{
+    found == Some(wanted)
+}
+
+/// Whether the byte is there and is a word byte.
+fn is_word(byte: Option<u8>) -> bool
+    ensures { result ≡ is_word byte }
+{
+    byte.is_some_and(is_word_byte)
+}
+
+/// Whether the byte is an ASCII letter, an ASCII digit or an underscore.
+fn is_word_byte(byte: u8) -> bool
+    ensures { result ≡ is_word_byte byte }
+{
+    matches!(byte, b'0'..=b'9' | b'A'..=b'Z' | b'a'..=b'z' | b'_')
 }

@@ -1,0 +1,13 @@
+-- What may follow a first byte.
+use Rattle.std.specs.Prelude.{ℕ, if◌then◌else◌, ◌==◌}
+use Rattle.bites_spec.specs.Range.{Range}
+use Rattle.bites_spec.specs.Utf8.{continuation}
+
+-- the second byte behind a first one, in the rows of two bytes and more
+abbrev pub second_range : ℕ → Range
+second_range first =
+    if first == 0xE0 then (0xA0, 0xBF)
+    else if first == 0xED then (0x80, 0x9F)
+    else if first == 0xF0 then (0x90, 0xBF)
+    else if first == 0xF4 then (0x80, 0x8F)
+    else continuation

@@ -1,0 +1,124 @@
+//! Characters in bytes. A byte sequence that is no UTF-8 is cut into pieces: each longest front of a
+//! character is one, and so is each byte that begins none.
+
+ghost use Rattle.std.specs.Prelude.{◌≡◌, ◌∷◌, ◌<◌, ◌≤◌, length};
+ghost use Rattle.bites_spec.specs.Look as look;
+ghost use Rattle.bites_spec.specs.Range.{in_range};
+ghost use Rattle.bites_spec.specs.Utf8.{character, continuation, front_piece};
+ghost use Rattle.bites_text.specs.Rows.{second_range};
+
+/// The piece at the front of the bytes: its character, or `None` where no character stands whole, and how
+/// many bytes it takes: one to four, and none at the end.
+///
+/// It looks at four bytes at most.
+pub fn decode(bytes: &[u8]) -> (Option<char>, usize)
+    ensures decoded { result.0 ≡ (front_piece bytes.now).decoded }
+    ensures len { result.1 ≡ (front_piece bytes.now).len }
+    ensures short { result.1 ≤ 4 }
+    ensures within { result.1 ≤ length bytes.now }
+    ensures further { 0 < length bytes.now → 0 < result.1 }
+{
+    let [first, rest @ ..] = bytes else {
+        return (None, 0);
+    };
+    match *first {
+        0x00..=0x7F => (Some(char::from(*first)), 1),
+        0xC2..=0xDF => decode_two(*first, rest),
+        0xE0..=0xEF => decode_three(*first, rest),
+        0xF0..=0xF4 => decode_four(*first, rest),
+        _ => (None, 1),
+    }
+}
+
+/// The same, with U+FFFD where no character stands whole.
+pub fn decode_lossy(bytes: &[u8]) -> (char, usize)
+    ensures decoded { result.0 ≡ character (front_piece bytes.now) }
+    ensures len { result.1 ≡ (front_piece bytes.now).len }
+    ensures short { result.1 ≤ 4 }
+    ensures within { result.1 ≤ length bytes.now }
+    ensures further { 0 < length bytes.now → 0 < result.1 }
+{
+    let (decoded, len) = decode(bytes);
+    (decoded.unwrap_or(char::REPLACEMENT_CHARACTER), len)
+}
+
+/// Whether the byte is one of `0` to `9`, `A` to `Z`, `a` to `z` and `_`.
+pub const fn is_word_byte(byte: u8) -> bool
+    ensures { result ≡ look.is_word_byte byte }
+{
+    matches!(byte, b'0'..=b'9' | b'A'..=b'Z' | b'a'..=b'z' | b'_')
+}
+
+/// The piece of a first byte that one more byte follows in a character.
+fn decode_two(first: u8, rest: &[u8]) -> (Option<char>, usize)
+    requires from { 0xC2 ≤ first }
+    requires to { first ≤ 0xDF }
+    ensures decoded { result.0 ≡ (front_piece (first ∷ rest.now)).decoded }
+    ensures len { result.1 ≡ (front_piece (first ∷ rest.now)).len }
+{
+    match *rest {
+        [second, ..] if is_continuation(second) => {
+            let value = u32::from(first - 0xC0) * 64 + u32::from(second - 0x80);
+            (char::from_u32(value), 2)
+        }
+        _ => (None, 1),
+    }
+}
+
+/// The piece of a first byte that two more bytes follow in a character.
+fn decode_three(first: u8, rest: &[u8]) -> (Option<char>, usize)
+    requires from { 0xE0 ≤ first }
+    requires to { first ≤ 0xEF }
+    ensures decoded { result.0 ≡ (front_piece (first ∷ rest.now)).decoded }
+    ensures len { result.1 ≡ (front_piece (first ∷ rest.now)).len }
+{
+    match *rest {
+        [second, third, ..] if is_second(first, second) && is_continuation(third) => {
+            let high = u32::from(first - 0xE0) * 64 + u32::from(second - 0x80);
+            (char::from_u32(high * 64 + u32::from(third - 0x80)), 3)
+        }
+        [second, ..] if is_second(first, second) => (None, 2),
+        _ => (None, 1),
+    }
+}
+
+/// The piece of a first byte that three more bytes follow in a character.
+fn decode_four(first: u8, rest: &[u8]) -> (Option<char>, usize)
+    requires from { 0xF0 ≤ first }
+    requires to { first ≤ 0xF4 }
+    ensures decoded { result.0 ≡ (front_piece (first ∷ rest.now)).decoded }
+    ensures len { result.1 ≡ (front_piece (first ∷ rest.now)).len }
+{
+    match *rest {
+        [second, third, fourth, ..]
+            if is_second(first, second) && is_continuation(third) && is_continuation(fourth) =>
+        {
+            let high = u32::from(first - 0xF0) * 64 + u32::from(second - 0x80);
+            let low = u32::from(third - 0x80) * 64 + u32::from(fourth - 0x80);
+            (char::from_u32(high * 4096 + low), 4)
+        }
+        [second, third, ..] if is_second(first, second) && is_continuation(third) => (None, 3),
+        [second, ..] if is_second(first, second) => (None, 2),
+        _ => (None, 1),
+    }
+}
+
+/// Whether the byte may follow this first one of three or four.
+const fn is_second(first: u8, second: u8) -> bool
+    ensures { result ≡ in_range (second_range first) second }
+{
+    match first {
+        0xE0 => matches!(second, 0xA0..=0xBF),
+        0xED => matches!(second, 0x80..=0x9F),
+        0xF0 => matches!(second, 0x90..=0xBF),
+        0xF4 => matches!(second, 0x80..=0x8F),
+        _ => is_continuation(second),
+    }
+}
+
+/// Whether the byte may stand behind the second one.
+const fn is_continuation(byte: u8) -> bool
+    ensures { result ≡ in_range continuation byte }
+{
+    matches!(byte, 0x80..=0xBF)
+}
