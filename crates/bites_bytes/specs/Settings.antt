@@ -1,0 +1,31 @@
+-- What a builder of regexes was told, and what it then answers.
+use Rattle.std.specs.Prelude.{◌≡◌, ℕ, ◌<◌, ◌≤◌, ◌⊎◌, List, chars}
+use Rattle.bites_spec.specs.Pattern.{Flags}
+use Rattle.bites_spec.specs.Tree.{Tree, greatest, groups_in}
+use Rattle.bites_spec.specs.Message.{Message}
+use Rattle.bites_spec.specs.Fault.{Fault}
+use Rattle.bites_spec.specs.Measure.{Limits, TreeLimits, weight, states}
+use Rattle.bites_text.specs.Messages.{error_of}
+use Rattle.bites_text.specs.declared.error.Error.{Error}
+use Rattle.bites_text.specs.declared.error.Error.TheVariants.{TooBig, TooManyStates, TooManySlots}
+
+-- the bytes of a pattern, flags and limits
+pub record Settings : Type 0 where
+  pub pattern : List ℕ
+  pub flags : Flags
+  pub size_limit : ℕ
+  pub nest_limit : ℕ
+
+-- the grammar reads the pattern as this tree, and all limits hold
+pub record Accepts (s : Settings) (t : Tree) : Type 0 where
+  pub read : Limits (chars s.pattern) s.flags s.nest_limit t
+  pub small : TreeLimits s.size_limit t
+
+-- the pattern has this fault first, or its tree passes this limit first
+pub data Refuses (s : Settings) : Error → Type 0 where
+  fault : (m : Message) (e : Error) → Fault (chars s.pattern) s.flags s.nest_limit m → e ≡ error_of m → Refuses s e
+  size : (t : Tree) (e : Error) → Limits (chars s.pattern) s.flags s.nest_limit t → s.size_limit < weight t → e ≡ TooBig → Refuses s e
+  states : (t : Tree) (e : Error) → Limits (chars s.pattern) s.flags s.nest_limit t → weight t ≤ s.size_limit →
+      4294967295 < states t → e ≡ TooManyStates → Refuses s e
+  slots : (t : Tree) (e : Error) → Limits (chars s.pattern) s.flags s.nest_limit t → weight t ≤ s.size_limit → states t ≤ 4294967295 →
+      2147483648 ≤ greatest (groups_in t) → e ≡ TooManySlots → Refuses s e
