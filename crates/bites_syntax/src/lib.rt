@@ -2,6 +2,8 @@
 #![tactic(auto)]
 
 pub mod class;
+pub(crate) mod cursor;
+pub(crate) mod flags;
 pub mod look;
 pub mod name;
 pub mod tree;
