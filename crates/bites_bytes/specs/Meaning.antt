@@ -13,6 +13,10 @@ pub record Meaning : Type 0 where
   pub tree : Tree
   pub program : Program
 
+-- a regex by its parts
+abbrev pub meaning : List ℕ → Flags → Tree → Program → Meaning
+meaning pattern flags tree program = record { pattern = pattern; flags = flags; tree = tree; program = program }
+
 -- the tree is what the pattern is read as, and the program is built from it
 pub record IsCompiled (regex : Meaning) : Type 0 where
   pub reads : Reads (chars regex.pattern) regex.flags regex.tree

@@ -1,5 +1,5 @@
 -- What a builder of regexes was told, and what it then answers.
-use Rattle.std.specs.Prelude.{◌≡◌, ℕ, ◌<◌, ◌≤◌, ◌⊎◌, List, chars}
+use Rattle.std.specs.Prelude.{◌≡◌, ℕ, ◌<◌, ◌≤◌, false, List, chars}
 use Rattle.bites_spec.specs.Pattern.{Flags}
 use Rattle.bites_spec.specs.Tree.{Tree, greatest, groups_in}
 use Rattle.bites_spec.specs.Message.{Message}
@@ -9,12 +9,20 @@ use Rattle.bites_text.specs.Messages.{error_of}
 use Rattle.bites_text.specs.declared.error.Error.{Error}
 use Rattle.bites_text.specs.declared.error.Error.TheVariants.{TooBig, TooManyStates, TooManySlots}
 
+-- no flag is set
+abbrev pub no_flags : Flags
+no_flags = record { case_insensitive = false; multi_line = false; dot_matches_new_line = false; crlf = false; swap_greed = false; ignore_whitespace = false }
+
 -- the bytes of a pattern, flags and limits
 pub record Settings : Type 0 where
   pub pattern : List ℕ
   pub flags : Flags
   pub size_limit : ℕ
   pub nest_limit : ℕ
+
+-- what a builder of this pattern is made with
+abbrev pub by_default : List ℕ → Settings
+by_default pattern = record { pattern = pattern; flags = no_flags; size_limit = 10485760; nest_limit = 50 }
 
 -- the grammar reads the pattern as this tree, and all limits hold
 pub record Accepts (s : Settings) (t : Tree) : Type 0 where

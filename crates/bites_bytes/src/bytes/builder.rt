@@ -3,10 +3,12 @@
 ghost use Rattle.std.specs.Prelude.{◌≡◌, ◌≢◌, IfOk, IfErr};
 ghost use Rattle.bites_spec.specs.Tree.{Tree};
 ghost use Rattle.bites_syntax.specs.FlagsView.{flags_of};
-ghost use Rattle.bites_bytes.specs.Settings.{Accepts, Refuses, no_flags};
+ghost use Rattle.bites_bytes.specs.Settings.{Accepts, Refuses, by_default};
 
 use crate::bytes::Regex;
+use bites_machine::compile::compile;
 use bites_syntax::flags::Flags;
+use bites_syntax::parse::parse;
 use bites_text::error::Error;
 use std::alloc::Global;
 use std::marker::Model;
@@ -44,7 +46,7 @@ impl RegexBuilder {
     ///
     /// The error is want of memory for a copy of the pattern.
     pub fn new(alloc: Global, pattern: &str) -> Result<RegexBuilder, Error>
-        ensures made { IfOk result (λ b. b ≡ record { pattern = pattern.now; flags = no_flags; size_limit = 10485760; nest_limit = 50 }) }
+        ensures made { IfOk result (λ b. b ≡ by_default pattern.now) }
         ensures refused { IfErr result (λ e. e ≡ Error.Memory) }
     {
         Ok(RegexBuilder {
@@ -54,5 +56,96 @@ impl RegexBuilder {
             size_limit: SIZE_LIMIT,
             nest_limit: NEST_LIMIT,
         })
+    }
+
+    /// Whether a letter of ASCII stands for both of its cases: the flag `i`.
+    pub fn case_insensitive(&mut self, yes: bool) -> &mut RegexBuilder
+        ensures same { result.ghost_name ≡ self.entry.ghost_name }
+        ensures set { result.now ≡ record self.old { flags = record self.old.flags { case_insensitive = yes } } }
+    {
+        self.flags.case_insensitive = yes;
+        self
+    }
+
+    /// Whether `^` and `$` stand at the ends of lines too: the flag `m`.
+    pub fn multi_line(&mut self, yes: bool) -> &mut RegexBuilder
+        ensures same { result.ghost_name ≡ self.entry.ghost_name }
+        ensures set { result.now ≡ record self.old { flags = record self.old.flags { multi_line = yes } } }
+    {
+        self.flags.multi_line = yes;
+        self
+    }
+
+    /// Whether `.` stands for the characters that end a line too: the flag `s`.
+    pub fn dot_matches_new_line(&mut self, yes: bool) -> &mut RegexBuilder
+        ensures same { result.ghost_name ≡ self.entry.ghost_name }
+        ensures set { result.now ≡ record self.old { flags = record self.old.flags { dot_matches_new_line = yes } } }
+    {
+        self.flags.dot_matches_new_line = yes;
+        self
+    }
+
+    /// Whether CR and CR LF end lines as LF does: the flag `R`.
+    pub fn crlf(&mut self, yes: bool) -> &mut RegexBuilder
+        ensures same { result.ghost_name ≡ self.entry.ghost_name }
+        ensures set { result.now ≡ record self.old { flags = record self.old.flags { crlf = yes } } }
+    {
+        self.flags.crlf = yes;
+        self
+    }
+
+    /// Whether an operator is lazy, and greedy with a `?` behind it: the flag `U`.
+    pub fn swap_greed(&mut self, yes: bool) -> &mut RegexBuilder
+        ensures same { result.ghost_name ≡ self.entry.ghost_name }
+        ensures set { result.now ≡ record self.old { flags = record self.old.flags { swap_greed = yes } } }
+    {
+        self.flags.swap_greed = yes;
+        self
+    }
+
+    /// Whether white space and comments between the parts of the pattern mean nothing: the flag `x`.
+    pub fn ignore_whitespace(&mut self, yes: bool) -> &mut RegexBuilder
+        ensures same { result.ghost_name ≡ self.entry.ghost_name }
+        ensures set { result.now ≡ record self.old { flags = record self.old.flags { ignore_whitespace = yes } } }
+    {
+        self.flags.ignore_whitespace = yes;
+        self
+    }
+
+    /// How large a program may be: each state counts 32, each target of a choice 4, each range of characters 8, each
+    /// group 16, and the name of a group its bytes and 4.
+    pub fn size_limit(&mut self, limit: usize) -> &mut RegexBuilder
+        ensures same { result.ghost_name ≡ self.entry.ghost_name }
+        ensures set { result.now ≡ record self.old { size_limit = limit } }
+    {
+        self.size_limit = limit;
+        self
+    }
+
+    /// How many groups may be open at once, and how tall the tree of the pattern may be.
+    ///
+    /// The parser's recursion goes as deep as this limit, so one far above the default asks for a large call stack.
+    pub fn nest_limit(&mut self, limit: u32) -> &mut RegexBuilder
+        ensures same { result.ghost_name ≡ self.entry.ghost_name }
+        ensures set { result.now ≡ record self.old { nest_limit = limit } }
+    {
+        self.nest_limit = limit;
+        self
+    }
+
+    /// A regex of this pattern under these flags and limits, in time linear in the pattern and the size limit.
+    ///
+    /// It is made exactly if the grammar reads the pattern as a tree and all limits hold; else the error is the message
+    /// of the first fault of the pattern, or of the first limit that the tree passes, or want of memory. A refused build
+    /// makes nothing, and the builder may be used again.
+    pub fn build(&self) -> Result<Regex, Error>
+        ensures kept { IfOk result (λ r. (r.pattern ≡ self.now.pattern) × (r.flags ≡ self.now.flags)) }
+        ensures accepted { IfOk result (λ r. Accepts self.now r.tree) }
+        ensures refused { IfErr result (λ e. e ≢ Error.Memory → (t : Tree) → Accepts self.now t → ⊥) }
+        ensures message { IfErr result (λ e. e ≢ Error.Memory → Refuses self.now e) }
+    {
+        let tree = parse(self.alloc, &self.pattern, self.flags, self.nest_limit)?;
+        let program = compile(self.alloc, &tree, &self.pattern, self.size_limit)?;
+        Regex::from_parts(self.alloc, &tree, self.flags, program)
     }
 }
