@@ -183,7 +183,7 @@ or_none : (b : Bool) → (b || false) ≡ b
 or_none true = refl
 or_none false = refl
 
-twice_begins : (d c : ℕ) (u : Text) → is_twice d (c ∷ u) ≡ true → c ≡ d
+pub twice_begins : (d c : ℕ) (u : Text) → is_twice d (c ∷ u) ≡ true → c ≡ d
 twice_begins d c u e = eqb-true c d (and_both (c == d) (next_is (single d) u) e).0
 
 -- two of a character that no message but its own names

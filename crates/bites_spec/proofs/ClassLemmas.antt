@@ -59,13 +59,25 @@ behind_front c (r ∷ ranges) scalar d is_scalar low = elim (cases_eq (following
   | inr n ↦ rw (ne_eqb (following c) r.0 n, not_in_single c d low) refl
 ]
 
-not_yet : (c : ℕ) (ranges : List Range) → AreGreatest ranges → StartsFrom (suc c) ranges → in_ranges ranges c ≡ false
-not_yet c [] g above = refl
-not_yet c (r ∷ ranges) g above = none_below r ranges g c (omega (arith, above))
+-- below where the ranges begin there is nothing
+pub none_before : (n c : ℕ) (ranges : List Range) → AreGreatest ranges → StartsFrom n ranges → c < n → in_ranges ranges c ≡ false
+none_before n c [] g from low = refl
+none_before n c (r ∷ ranges) g from low = none_below r ranges g c (omega (arith, from, low))
 
-starts_lower : (c : ℕ) (ranges : List Range) → StartsFrom (suc c) ranges → StartsFrom c ranges
-starts_lower c [] above = tt
-starts_lower c (r ∷ ranges) above = omega (arith, above)
+-- ranges that begin no lower than a number begin no lower than a smaller one
+pub starts_lower : (m n : ℕ) (ranges : List Range) → m ≤ n → StartsFrom n ranges → StartsFrom m ranges
+starts_lower m n [] low from = tt
+starts_lower m n (r ∷ ranges) low from = omega (arith, low, from)
+
+-- a range before others that do not touch it
+pub put_before : (r : Range) (n : ℕ) (ranges : List Range) → IsRange r → following r.1 < n → AreGreatest ranges → StartsFrom n ranges → AreGreatest (r ∷ ranges)
+put_before r n [] is gap g from = is
+put_before r n (s ∷ ranges) is gap g from = (is, omega (arith, gap, from), g)
+
+-- behind a range the others begin above the character that follows it
+pub starts_behind : (r : Range) (ranges : List Range) → AreGreatest (r ∷ ranges) → StartsFrom (following r.1) ranges
+starts_behind r [] g = tt
+starts_behind r (s ∷ ranges) g = omega (arith, g.1)
 
 record ListsFrom (set : Set) (n c : ℕ) (ranges : List Range) : Type 0 where
   greatest : AreGreatest ranges
@@ -90,9 +102,9 @@ right_is_false false b e out = absurd (true≢false (sym e))
 without_character : (set : Set) (n c : ℕ) (ranges : List Range) → (is_scalar c && set c) ≡ false → ListsFrom set n (suc c) ranges → ListsFrom set (suc n) c ranges
 without_character set n c ranges out l = record {
   greatest = l.greatest;
-  starts = starts_lower c ranges l.starts;
+  starts = starts_lower c (suc c) ranges (omega arith) l.starts;
   same = λ d of_d low high. elim (cases_order c d) [
-    | inl e ↦ rw (← e) (not_yet c ranges l.greatest l.starts ∙ sym (right_is_false (is_scalar c) (set c) (rw e of_d) out))
+    | inl e ↦ rw (← e) (none_before (suc c) c ranges l.greatest l.starts (omega arith) ∙ sym (right_is_false (is_scalar c) (set c) (rw e of_d) out))
     | inr (inl less) ↦ l.same d of_d (omega (arith, less)) (omega (arith, high))
     | inr (inr more) ↦ absurd (omega (arith, low, more))
   ];

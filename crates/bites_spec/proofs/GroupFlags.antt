@@ -65,7 +65,7 @@ unclosed_means : (marks run : Text) → marks ≡ run → is_flag_run run ≡ tr
 unclosed_means marks [] is fits = stuck.StuckFlags.ends_at_once marks [] _ is refl refl
 unclosed_means marks (c ∷ run) is fits = stuck.StuckFlags.ends marks (c ∷ run) [] _ is fits (omega arith) refl refl
 
--- a number is equal to itself, and the order of the two does not matter
+-- a test of two numbers in either order
 pub eqb_turned : (c d : ℕ) → (c == d) ≡ (d == c)
 eqb_turned c d = by_cases (c == d) (d == c) refl refl
   where

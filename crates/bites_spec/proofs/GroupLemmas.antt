@@ -15,26 +15,9 @@ use Rattle.bites_spec.specs.Fault.{ComesFirst}
 use Rattle.bites_spec.specs.Reading.{Answer, Opened, directive, group, answer, stop, choose, and_then, opened, no_name, named_group, with_number, name_from, flags_from}
 use Rattle.bites_spec.proofs.EscapeLemmas.{Means, either_side, bool_cases}
 use Rattle.bites_spec.proofs.EachLemmas.{skip_shorter}
+use Rattle.bites_spec.proofs.ChoiceParts.{ReadsDirective, Opens, LeadsToGroup, StopsBy}
 use Rattle.bites_spec.proofs.GroupNames.{both_hold, NameMeans, name_means, name_leads, name_stops, name_shorter, stuck_name_shorter}
 use Rattle.bites_spec.proofs.GroupFlags.{neither, eqb_turned, FlagsMean, flags_mean, flags_lead, closing_flags_lead, flags_stop, flags_shorter, stuck_flags_shorter}
-
--- from t up to rest stands a directive that makes these the flags
-pub record ReadsDirective (front : Front) (t : Text) (flags : Flags) (rest : Text) : Type 0 where
-  pub next : Text
-  pub marks : Text
-  pub run : Text
-  pub c : ℕ
-  pub letters : Text
-  pub opens : t ≡ left_parenthesis ∷ next
-  pub asks : skip front.flags next ≡ question ∷ marks
-  pub reads : ReadsFlags marks run (right_parenthesis ∷ rest)
-  pub some : run ≡ c ∷ letters
-  pub are : flags ≡ changed true run front.flags
-
--- from t up to rest stands what an opening parenthesis begins; a group's number is within the limit
-abbrev pub Opens : Front → Text → Opened → Text → Type 0
-Opens front t (directive flags) rest = ReadsDirective front t flags rest
-Opens front t (group opening inner) rest = ReadsOpening front t opening inner rest × (front.groups ≤ greatest_number → inner.groups ≤ greatest_number)
 
 -- what the function answers behind the parenthesis and its gap
 abbrev pub OpenedMeans : Front → Text → Answer Opened → Type 0
@@ -145,14 +128,8 @@ named front t begun plain begin =
 above : (front : Front) (t : Text) (a : Answer Opened) → greatest_number < front.groups + 1 → with_number front t a ≡ stop too_many_groups t
 above front t a more = first_taken (nat_lt greatest_number (front.groups + 1)) _ _ (lt-ltb greatest_number (front.groups + 1) more)
 
--- the function answers a group's opening, or stops within it since there is no number more
-abbrev pub Leads : Front → Opening → Text → Answer Opened → Type 0
-Leads inner opening inside a =
-    (a ≡ answer (group opening inner) inside)
-    ⊎ ((place : Text) × (a ≡ stop too_many_groups place) × (length inside ≤ length place) × (greatest_number < inner.groups))
-
 number_leads : (front inner : Front) (opening : Opening) (t inside : Text) (a : Answer Opened) → length inside ≤ length t → inner.groups ≡ front.groups + 1 →
-    a ≡ answer (group opening inner) inside → Leads inner opening inside (with_number front t a)
+    a ≡ answer (group opening inner) inside → LeadsToGroup inner opening inside (with_number front t a)
 number_leads front inner opening t inside a within one_more leads =
     ⊎_elim
     (λ (b : nat_lt greatest_number (front.groups + 1) ≡ true). inr (t, first_taken _ _ _ b, within, omega (arith, ltb-true greatest_number (front.groups + 1) b)))
@@ -195,19 +172,19 @@ with_marks front marks run rest c (relation.flags _ _ behind is fits whole) ends
 
 -- a group's opening leads the function behind it, or the function stops within it since there is no number more
 pub opened_leads : {front inner : Front} {t inside : Text} {opening : Opening} → ReadsOpening front t opening inner inside →
-    (next : Text) → t ≡ left_parenthesis ∷ next → Leads inner opening inside (opened front (skip front.flags next))
+    (next : Text) → t ≡ left_parenthesis ∷ next → LeadsToGroup inner opening inside (opened front (skip front.flags next))
 opened_leads {front} (relation.number_only t behind inside opening inner is at plain opens fronts) next same =
     let around : inside ≡ skip front.flags next = at ∙ ap (skip front.flags) (same_next (sym is ∙ same)) in
-    subst (λ x. Leads inner opening inside (opened front x)) around
-    (subst (λ x. Leads inner opening inside x) (sym (unasked front inside plain))
+    subst (λ x. LeadsToGroup inner opening inside (opened front x)) around
+    (subst (λ x. LeadsToGroup inner opening inside x) (sym (unasked front inside plain))
     (number_leads front inner opening inside inside _ (omega arith) (ap (λ x. x.groups) fronts) (rw (opens, fronts) refl)))
 opened_leads {front} (relation.named t behind begun name inside opening inner is plain begin reads opens fronts) next same =
-    subst (λ x. Leads inner opening inside (opened front (skip front.flags x))) (same_next (sym is ∙ same))
-    (subst (λ x. Leads inner opening inside x) (sym (named front (skip front.flags behind) begun plain begin))
+    subst (λ x. LeadsToGroup inner opening inside (opened front (skip front.flags x))) (same_next (sym is ∙ same))
+    (subst (λ x. LeadsToGroup inner opening inside x) (sym (named front (skip front.flags behind) begun plain begin))
     (number_leads front inner opening begun inside _ (omega (arith, name_shorter reads)) (ap (λ x. x.groups) fronts)
     (rw (name_leads reads, opens, fronts) refl)))
 opened_leads {front} (relation.with_flags t behind marks run inside opening inner is asks reads opens fronts) next same =
-    subst (λ x. Leads inner opening inside (opened front (skip front.flags x))) (same_next (sym is ∙ same))
+    subst (λ x. LeadsToGroup inner opening inside (opened front (skip front.flags x))) (same_next (sym is ∙ same))
     (inl (ap (opened front) asks ∙ with_marks front marks run inside colon reads refl ∙ flags_lead reads front ∙ rw (opens, fronts) refl))
 
 -- a directive leads the function behind it
@@ -222,11 +199,6 @@ directive_leads {front} {rest = rest} d next same =
 pub least_rank : (m : Message) → rank too_many_groups ≤ rank m
 least_rank message.duplicate_name = omega arith
 least_rank m = omega arith
-
--- the answer is a stop, which comes no later
-abbrev pub StopsBy : {A : Type 0} → Message → Text → Answer A → Type 0
-StopsBy m place (Ok x) = ⊥
-StopsBy m place (Err e) = ComesFirst e.message e.place m place
 
 -- the answer is this very stop
 stops_here : {a : Answer Opened} (m : Message) (place : Text) → a ≡ stop m place → StopsBy m place a

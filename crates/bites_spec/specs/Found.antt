@@ -25,6 +25,7 @@ abbrev pub first_ending : ℕ → List Way → Option Way
 first_ending j [] = None
 first_ending j (w ∷ ws) = if w.end == j then Some w else first_ending j ws
 
+-- a way by its end and marks
 abbrev pub way : ℕ → List Mark → Way
 way j ms = record { end = j; marks = ms }
 

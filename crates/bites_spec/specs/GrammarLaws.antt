@@ -3,6 +3,7 @@ use Rattle.std.specs.Prelude.{◌≡◌, ℕ, ◌⊎◌, List}
 use Rattle.bites_spec.specs.Range.{Range}
 use Rattle.bites_spec.specs.Class.{Set, Lists}
 use Rattle.bites_spec.specs.Tree.{Tree}
+use Rattle.bites_spec.specs.Built.{IsCompilable}
 use Rattle.bites_spec.specs.Message.{Message}
 use Rattle.bites_spec.specs.Pattern.{Text, Flags}
 use Rattle.bites_spec.specs.Grammar.{Reads}
@@ -30,3 +31,7 @@ abbrev pub ReadOrRefused : Type 0
 ReadOrRefused =
     (pattern : Text) (flags : Flags) (nest_limit : ℕ) →
     ((t : Tree) × Limits pattern flags nest_limit t) ⊎ ((m : Message) × Fault pattern flags nest_limit m)
+
+-- a program can hold the tree of a pattern
+abbrev pub ReadIsCompilable : Type 0
+ReadIsCompilable = (pattern : Text) (flags : Flags) (t : Tree) → Reads pattern flags t → IsCompilable t

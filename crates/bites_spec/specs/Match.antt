@@ -13,6 +13,7 @@ pub record Span : Type 0 where
   pub start : ℕ
   pub end : ℕ
 
+-- a span by its two ends
 abbrev pub span : ℕ → ℕ → Span
 span i j = record { start = i; end = j }
 
@@ -21,6 +22,7 @@ pub record Mark : Type 0 where
   pub group : ℕ
   pub span : Span
 
+-- a mark by its group and the two ends of its span
 abbrev pub mark : ℕ → ℕ → ℕ → Mark
 mark k i j = record { group = k; span = span i j }
 
@@ -78,11 +80,13 @@ module _ (hay : List ℕ) where
     Parse (sequence ts) i j ms = ParseAll ts i j ms
     Parse (alternation ts) i j ms = ParseOne ts i j ms
 
+    -- one way through all of the trees, one behind the other
     pub ParseAll : Trees → ℕ → ℕ → List Mark → Type 0
     ParseAll no_tree i j ms = (j ≡ i) × (ms ≡ [])
     ParseAll (tree_and t ts) i j ms =
         (l : ℕ) × (first : List Mark) × (rest : List Mark) × Parse t i l first × ParseAll ts l j rest × (ms ≡ first ++ rest)
 
+    -- one way through one of the trees
     pub ParseOne : Trees → ℕ → ℕ → List Mark → Type 0
     ParseOne no_tree i j ms = ⊥
     ParseOne (tree_and t ts) i j ms = Parse t i j ms ⊎ ParseOne ts i j ms

@@ -17,6 +17,7 @@ abbrev mutual
   height (sequence ts) = suc (tallest ts)
   height (alternation ts) = suc (tallest ts)
 
+  -- the height of the tallest of the trees
   pub tallest : Trees → ℕ
   tallest no_tree = 0
   tallest (tree_and t ts) = max (height t) (tallest ts)
@@ -33,6 +34,7 @@ abbrev mutual
   groups_of (sequence ts) = groups_of_all ts
   groups_of (alternation ts) = groups_of_all ts
 
+  -- the groups of all of the trees
   pub groups_of_all : Trees → List (ℕ × Option (List ℕ))
   groups_of_all no_tree = []
   groups_of_all (tree_and t ts) = groups_of t ++ groups_of_all ts
@@ -75,10 +77,12 @@ abbrev mutual
   static_count (sequence ts) = static_sum ts
   static_count (alternation ts) = static_agreed ts
 
+  -- the sum over all of the trees, where each has a number
   pub static_sum : Trees → Option ℕ
   static_sum no_tree = Some 0
   static_sum (tree_and t ts) = both (static_count t) (static_sum ts)
 
+  -- the number of all of the trees, where they agree
   pub static_agreed : Trees → Option ℕ
   static_agreed no_tree = None
   static_agreed (tree_and t no_tree) = static_count t
@@ -119,6 +123,7 @@ abbrev mutual
   size_of (sequence ts) = size_of_all ts
   size_of (alternation ts) = size ((size_of_all ts).states + 2) ((size_of_all ts).targets + count ts) (size_of_all ts).ranges
 
+  -- the sum over all of the trees
   pub size_of_all : Trees → Size
   size_of_all no_tree = size 0 0 0
   size_of_all (tree_and t ts) =
@@ -144,10 +149,12 @@ abbrev mutual
   open_in_choice (one front behind t rest nodes branches s _) = open_in_sequence s
   open_in_choice (several front middle behind t more rest nodes others branches s c _) = max (open_in_sequence s) (open_in_choice c)
 
+  -- the same in a sequence
   pub open_in_sequence : {front behind : Front} {t rest : Text} {nodes all : List Tree} → ReadsSequence front t nodes all behind rest → ℕ
   open_in_sequence (ends front behind t rest nodes all _ _ _ _) = 0
   open_in_sequence (goes_on front middle behind t next rest nodes more all i s) = max (open_in_item i) (open_in_sequence s)
 
+  -- the same in an item; a group is open in itself
   pub open_in_item : {front behind : Front} {t rest : Text} {nodes all : List Tree} → ReadsItem front t nodes all behind rest → ℕ
   open_in_item (atom front behind t rest nodes all node _ _ _) = 0
   open_in_item (operator front behind t rest nodes all before last min max greedy _ _ _ _) = 0
@@ -160,10 +167,12 @@ abbrev mutual
   count_in_choice (one front behind t rest nodes branches s _) = count_in_sequence s
   count_in_choice (several front middle behind t more rest nodes others branches s c _) = max (count_in_sequence s) (count_in_choice c)
 
+  -- the same in a sequence
   pub count_in_sequence : {front behind : Front} {t rest : Text} {nodes all : List Tree} → ReadsSequence front t nodes all behind rest → ℕ
   count_in_sequence (ends front behind t rest nodes all _ _ _ _) = 0
   count_in_sequence (goes_on front middle behind t next rest nodes more all i s) = max (count_in_item i) (count_in_sequence s)
 
+  -- the same in an item
   pub count_in_item : {front behind : Front} {t rest : Text} {nodes all : List Tree} → ReadsItem front t nodes all behind rest → ℕ
   count_in_item (atom front behind t rest nodes all node _ _ _) = 0
   count_in_item (operator front behind t rest nodes all before last least most greedy _ _ _ _) = max least (unwrap_or most 0)

@@ -11,6 +11,7 @@ pub record Way : Type 0 where
   pub end : ℕ
   pub marks : List Mark
 
+-- the way of the empty text
 abbrev pub here : ℕ → Way
 here i = record { end = i; marks = [] }
 
@@ -61,10 +62,12 @@ module _ (hay : List ℕ) where
     parses (sequence ts) i = parses_of_all ts i
     parses (alternation ts) i = parses_of_one ts i
 
+    -- the same of trees one behind the other
     pub parses_of_all : Trees → ℕ → List Way
     parses_of_all no_tree i = here i ∷ []
     parses_of_all (tree_and t ts) i = then_each (parses t i) (parses_of_all ts)
 
+    -- the same of a choice between trees, an earlier one preferred
     pub parses_of_one : Trees → ℕ → List Way
     parses_of_one no_tree i = []
     parses_of_one (tree_and t ts) i = parses t i ++ parses_of_one ts i

@@ -5,6 +5,7 @@ use Rattle.bites_spec.specs.Look.{Look, holds}
 use Rattle.bites_spec.specs.Range.{in_ranges}
 use Rattle.bites_spec.specs.Walks.{Among}
 
+-- a state, with the numbers of the states that it leads to
 pub data State : Type 0 where
   -- the target, and what is taken
   char : ℕ → ℕ → State
@@ -18,6 +19,7 @@ pub data State : Type 0 where
   fail : State
   match : State
 
+-- the states, the number of the one where a run starts, and how many slots there are
 pub record Program : Type 0 where
   pub states : List State
   pub start : ℕ
@@ -32,6 +34,7 @@ pub record Spot : Type 0 where
   pub state : ℕ
   pub place : ℕ
 
+-- a spot by its state and place
 abbrev pub at : ℕ → ℕ → Spot
 at q i = record { state = q; place = i }
 
@@ -49,6 +52,7 @@ targets_of match = []
 abbrev pub targets : Program → ℕ
 targets p = sum_by (λ s. length (targets_of s)) p.states
 
+-- the state that ends a run
 abbrev pub is_match : State → Bool
 is_match match = true
 is_match _ = false
@@ -59,6 +63,7 @@ module _ (hay : List ℕ) where
   taking test q i =
       if nat_lt 0 (piece hay i).len && test (character (piece hay i)) then at q (i + (piece hay i).len) ∷ [] else []
 
+  -- without taking anything, where the assertion holds or there is none
   abbrev pub looking : Option Look → ℕ → ℕ → List Spot
   looking None q i = at q i ∷ []
   looking (Some look) q i = if holds look hay i then at q i ∷ [] else []
@@ -79,10 +84,12 @@ AreRanges [] = Unit {0}
 AreRanges (r ∷ []) = r.0 ≤ r.1
 AreRanges (r ∷ s ∷ rs) = (r.0 ≤ r.1) × (r.1 < s.0) × AreRanges (s ∷ rs)
 
+-- the ranges of a state are in order
 abbrev pub HasRanges : State → Type 0
 HasRanges (ranges q rs) = AreRanges rs
 HasRanges _ = Unit {0}
 
+-- the slot of a state is there
 abbrev pub HasSlot : ℕ → State → Type 0
 HasSlot slots (capture q slot) = slot < slots
 HasSlot slots _ = Unit {0}
@@ -93,6 +100,7 @@ AreStates len slots [] = Unit {0}
 AreStates len slots (s ∷ ss) =
     ((q : ℕ) → Among (targets_of s) q → q < len) × HasRanges s × HasSlot slots s × AreStates len slots ss
 
+-- no fault: 32 bits count the states, slots come in pairs, and what states name is there
 pub record IsWellFormed (p : Program) : Type 0 where
   pub len : length p.states ≤ 4294967295
   pub slots : 2 ≤ p.slots

@@ -31,12 +31,15 @@ pub record Stop : Type 0 where
 abbrev pub Answer : Type 0 → Type 0
 Answer A = Result (A × Text) Stop
 
+-- what was read, and the place behind it
 abbrev pub answer : {A : Type 0} → A → Text → Answer A
 answer x t = Ok (x, t)
 
+-- a message and its place
 abbrev pub stop : {A : Type 0} → Message → Text → Result A Stop
 stop m t = Err (record { message = m; place = t })
 
+-- goes on behind what was read
 abbrev pub and_then : {A B : Type 0} → Answer A → (A → Text → Result B Stop) → Result B Stop
 and_then (Ok x) f = f x.0 x.1
 and_then (Err e) f = Err e
@@ -55,10 +58,12 @@ decimal_by n flags at (d ∷ digits) behind =
     choose (nat_lt greatest_number (number 10 (d ∷ digits))) (λ _. stop message.invalid_decimal (each n flags is_whitespace behind).1)
     (λ _. answer (number 10 (d ∷ digits)) (each n flags is_whitespace behind).1)
 
+-- a decimal, from its leading white space on
 abbrev pub decimal : ℕ → Flags → Text → Answer ℕ
 decimal n flags t =
     decimal_by n flags (skip_white t) (each n flags is_ascii_digit (skip_white t)).0 (each n flags is_ascii_digit (skip_white t)).1
 
+-- whether a lazy mark stands here, and the place behind it
 abbrev pub lazy : Text → Bool × Text
 lazy [] = (false, [])
 lazy (c ∷ t) = choose (c == question) (λ _. (true, t)) (λ _. (false, c ∷ t))
@@ -67,24 +72,29 @@ lazy (c ∷ t) = choose (c == question) (λ _. (true, t)) (λ _. (false, c ∷ t
 abbrev pub Bounds : Type 0
 Bounds = ℕ × Option ℕ × Bool
 
+-- the least count is above the greatest
 abbrev pub are_crossed : ℕ → Option ℕ → Bool
 are_crossed min None = false
 are_crossed min (Some max) = nat_lt max min
 
+-- behind the closing brace and a lazy mark
 abbrev pub whole_count : Flags → ℕ → Option ℕ → Bool × Text → Answer Bounds
 whole_count flags min max mark =
     choose (are_crossed min max) (λ _. stop message.min_above_max mark.1) (λ _. answer (min, max, is_greedy flags mark.0) mark.1)
 
+-- behind the second decimal
 abbrev pub after_max : Flags → ℕ → ℕ → Text → Answer Bounds
 after_max flags min max [] = stop message.unclosed_max []
 after_max flags min max (c ∷ t) =
     choose (c == right_brace) (λ _. whole_count flags min (Some max) (lazy (skip flags t))) (λ _. stop message.invalid_count (c ∷ t))
 
+-- behind the comma and its gap
 abbrev pub after_comma : ℕ → Flags → ℕ → Text → Answer Bounds
 after_comma n flags min [] = stop message.unclosed_comma []
 after_comma n flags min (c ∷ t) =
     choose (c == right_brace) (λ _. whole_count flags min None (lazy (skip flags t))) (λ _. and_then (decimal n flags (c ∷ t)) (after_max flags min))
 
+-- behind the first decimal
 abbrev pub after_min : ℕ → Flags → ℕ → Text → Answer Bounds
 after_min n flags min [] = stop message.unclosed_min []
 after_min n flags min (c ∷ t) =
@@ -96,16 +106,20 @@ abbrev pub counted : ℕ → Flags → Text → Answer Bounds
 counted n flags [] = stop message.unclosed_count []
 counted n flags (c ∷ t) = and_then (decimal n flags (c ∷ t)) (after_min n flags)
 
+-- behind one of the operators without braces
 abbrev pub plain_operator : Flags → ℕ → Option ℕ → Bool × Text → Answer Bounds
 plain_operator flags min max mark = answer (min, max, is_greedy flags mark.0) mark.1
 
+-- the number as a character
 abbrev pub scalar : Message → Text → Text → Answer ℕ
 scalar m digits t = choose (is_scalar (number 16 digits)) (λ _. answer (number 16 digits) t) (λ _. stop m t)
 
+-- behind the closing brace
 abbrev pub closed_hexadecimal : Text → Text → Text → Answer ℕ
 closed_hexadecimal [] at t = stop message.brace_hex_empty at
 closed_hexadecimal (d ∷ digits) at t = scalar message.brace_hex_invalid (d ∷ digits) t
 
+-- behind the digits in braces
 abbrev pub in_braces : Text → Text → Answer ℕ
 in_braces digits [] = stop message.brace_hex_unclosed []
 in_braces digits (c ∷ t) =
@@ -116,21 +130,25 @@ abbrev pub between_digits : ℕ → Flags → Text → Text
 between_digits zero flags t = t
 between_digits (suc k) flags t = skip flags t
 
+-- so many digits
 abbrev pub exactly : ℕ → Flags → Text → Answer Text
 exactly zero flags t = answer [] t
 exactly (suc k) flags [] = stop message.fixed_hex_unfinished []
 exactly (suc k) flags (c ∷ t) =
     choose (is_hex_digit c) (λ _. and_then (exactly k flags (between_digits k flags t)) (λ digits rest. answer (c ∷ digits) rest)) (λ _. stop message.fixed_hex_digit (c ∷ t))
 
+-- behind x, u or U and a gap
 abbrev pub hexadecimal : ℕ → Flags → ℕ → Text → Answer ℕ
 hexadecimal n flags k [] = stop message.hex_unfinished []
 hexadecimal n flags k (c ∷ t) =
     choose (c == left_brace) (λ _. (let digits = each n flags is_hex_digit (skip flags t) in in_braces digits.0 digits.1)) (λ _. and_then (exactly k flags (c ∷ t)) (scalar message.fixed_hex_invalid))
 
+-- the assertion that a name in braces spells
 abbrev pub spelled : Option Look → Text → Text → Answer Meaning
 spelled None at t = stop message.unrecognized_boundary at
 spelled (Some l) at t = answer (assertion l) t
 
+-- behind the name in braces
 abbrev pub boundary_name : Text → Text → Answer Meaning
 boundary_name name [] = stop message.unclosed_boundary []
 boundary_name name (c ∷ t) =
@@ -142,6 +160,7 @@ braced n flags at [] = stop message.unfinished_boundary []
 braced n flags at (c ∷ t) =
     choose (is_boundary_letter c) (λ _. (let name = each n flags is_boundary_letter (c ∷ t) in boundary_name name.0 name.1)) (λ _. answer (assertion word) at)
 
+-- behind \b
 abbrev pub boundary : ℕ → Flags → Text → Answer Meaning
 boundary n flags [] = answer (assertion word) []
 boundary n flags (c ∷ t) =
@@ -159,6 +178,7 @@ meaning_of c =
     (or_else (option_map assertion (assertion_of c))
     (or_else (option_map characters (class_of c)) (if escapes_itself c then Some (character c) else None)))
 
+-- the meaning of one character, or a number in hexadecimal digits
 abbrev pub simple_by : ℕ → Flags → ℕ → Text → Option Meaning → Option ℕ → Answer Meaning
 simple_by n flags c t (Some meaning) digits = answer meaning t
 simple_by n flags c t None (Some k) = and_then (hexadecimal n flags k (skip flags t)) (λ value rest. answer (character value) rest)
@@ -180,40 +200,48 @@ escape n flags (c ∷ t) =
 abbrev pub Members : Type 0
 Members = Set → Text → Answer Set
 
+-- a named class, looked for among these
 abbrev pub named : Members → Set → Text → List NamedClass → Answer Set
 named go set at [] = stop message.nested_class at
 named go set at (k ∷ classes) =
     choose (begins (codes "[:" ++ name_of k ++ codes ":]") at) (λ _. go (union set (members k)) (drop (4 + length (name_of k)) at))
     (λ _. choose (begins (codes "[:^" ++ name_of k ++ codes ":]") at) (λ _. go (union set (complement (members k))) (drop (5 + length (name_of k)) at)) (λ _. named go set at classes))
 
+-- an end of a range, or what would be one
 abbrev pub class_end : ℕ → Flags → Text → Answer Meaning
 class_end n flags [] = stop message.unclosed_class []
 class_end n flags (c ∷ t) = choose (c == backslash) (λ _. escape n flags t) (λ _. answer (character c) t)
 
+-- a first that stands alone, and the members behind it
 abbrev pub alone : Members → Set → Meaning → Text → Answer Set
 alone go set (character c) at = go (union set (single c)) at
 alone go set (characters more) at = go (union set more) at
 alone go set (assertion l) at = stop message.invalid_class_escape at
 
+-- a range, and the members behind it
 abbrev pub range : Members → Set → Meaning → Meaning → Text → Answer Set
 range go set (character low) (character high) rest =
     choose (nat_le low high) (λ _. go (union set (between low high)) rest) (λ _. stop message.invalid_range rest)
 range go set first second rest = stop message.range_of_no_character rest
 
+-- behind a first, a dash and their gaps
 abbrev pub after_dash : Members → ℕ → Flags → Set → Meaning → Text → Text → Answer Set
 after_dash go n flags set first at [] = stop message.unclosed_after_dash []
 after_dash go n flags set first at (c ∷ t) =
     choose (one_of (codes "]-") c) (λ _. alone go set first at) (λ _. and_then (class_end n flags (c ∷ t)) (range go set first))
 
+-- behind a first and its gap
 abbrev pub after_first : Members → ℕ → Flags → Set → Meaning → Text → Answer Set
 after_first go n flags set first [] = stop message.unclosed_after_member []
 after_first go n flags set first (c ∷ t) =
     choose (c == dash) (λ _. after_dash go n flags set first (c ∷ t) (skip flags t)) (λ _. alone go set first (c ∷ t))
 
+-- the message of an operator on sets
 abbrev pub set_operator_message : ℕ → Message
 set_operator_message c =
     if c == 38 then message.class_intersection else if c == dash then message.class_difference else message.class_symmetric_difference
 
+-- at a place where a member or the closing bracket may stand
 abbrev pub member : Members → ℕ → Flags → Set → Text → Answer Set
 member go n flags set [] = stop message.unclosed_class []
 member go n flags set (c ∷ t) =
@@ -221,17 +249,21 @@ member go n flags set (c ∷ t) =
     (λ _. choose (c == left_bracket) (λ _. named go set (c ∷ t) named_classes)
     (λ _. choose (is_set_operator (c ∷ t)) (λ _. stop (set_operator_message c) (c ∷ t)) (λ _. and_then (class_end n flags (c ∷ t)) (λ first rest. after_first go n flags set first (skip flags rest)))))
 
+-- members up to the closing bracket, at most so many
 abbrev pub class_members : ℕ → Flags → Members
 class_members zero flags set t = stop message.unclosed_class []
 class_members (suc n) flags set t = member (class_members n flags) n flags set (skip flags t)
 
+-- the union, folded and negated
 abbrev pub finished : Flags → Bool → Answer Set → Answer Set
 finished flags negated a = and_then a (λ set rest. answer (with_negation negated (with_cases flags set)) rest)
 
+-- behind a literal closing bracket and its gap
 abbrev pub after_bracket : ℕ → Flags → Bool → Text → Answer Set
 after_bracket n flags negated [] = stop message.unclosed_after_bracket []
 after_bracket n flags negated (c ∷ t) = finished flags negated (class_members n flags (single right_bracket) (c ∷ t))
 
+-- behind the leading dashes
 abbrev pub after_dashes : ℕ → Flags → Bool → Text → Text → Answer Set
 after_dashes n flags negated [] [] = stop message.unclosed_class []
 after_dashes n flags negated (d ∷ dashes) [] = stop message.unclosed_after_dash []
@@ -239,9 +271,11 @@ after_dashes n flags negated (d ∷ dashes) (c ∷ t) = finished flags negated (
 after_dashes n flags negated [] (c ∷ t) =
     choose (c == right_bracket) (λ _. after_bracket n flags negated (skip flags t)) (λ _. finished flags negated (class_members n flags class.none (c ∷ t)))
 
+-- at the leading dashes
 abbrev pub dashes : ℕ → Flags → Bool → Text → Answer Set
 dashes n flags negated t = let d = each n flags (single dash) t in after_dashes n flags negated d.0 d.1
 
+-- behind a caret and its gap
 abbrev pub after_caret : ℕ → Flags → Text → Answer Set
 after_caret n flags [] = stop message.unclosed_after_caret []
 after_caret n flags (c ∷ t) = dashes n flags true (c ∷ t)
@@ -256,6 +290,7 @@ pub data Opened : Type 0 where
   directive : Flags → Opened
   group : Opening → Front → Opened
 
+-- at what ends a run of flags
 abbrev pub flags_end : Front → Text → ℕ → Text → Answer Opened
 flags_end front [] c t =
     choose (c == colon) (λ _. answer (group unnumbered front) t) (λ _. stop message.empty_flags (c ∷ t))
@@ -263,6 +298,7 @@ flags_end front (d ∷ run) c t =
     choose (ends_with_dash (d ∷ run)) (λ _. stop message.dangling_negation (c ∷ t))
     (λ _. choose (c == colon) (λ _. answer (group unnumbered (record front { flags = changed true (d ∷ run) front.flags })) t) (λ _. answer (directive (changed true (d ∷ run) front.flags)) t))
 
+-- the message of a run of flags that the end cuts off
 abbrev pub flags_unclosed : Text → Message
 flags_unclosed [] = message.unclosed_question
 flags_unclosed (c ∷ run) = message.unclosed_flags
@@ -275,10 +311,12 @@ flags_from front run (c ∷ t) =
     (λ _. choose (is_flag_mark c)
     (λ _. choose (one_of run c) (λ _. stop (if c == dash then message.repeated_negation else message.duplicate_flag) (c ∷ t)) (λ _. flags_from front (run ++ c ∷ []) t)) (λ _. stop message.unrecognized_flag (c ∷ t)))
 
+-- the message of a name that the end cuts off
 abbrev pub name_unclosed : Text → Message
 name_unclosed [] = message.missing_name
 name_unclosed (c ∷ name) = message.unclosed_name
 
+-- at the closing angle bracket
 abbrev pub name_end : List Text → Text → Text → Text → Answer Text
 name_end names [] at t = stop message.empty_name at
 name_end names (c ∷ name) at t =
@@ -295,12 +333,14 @@ name_from names name (c ∷ t) =
 abbrev pub with_number : Front → Text → Answer Opened → Answer Opened
 with_number front at a = choose (nat_lt greatest_number (front.groups + 1)) (λ _. stop message.too_many_groups at) (λ _. a)
 
+-- behind the angle bracket that opens a name
 abbrev pub named_group : Front → Text → Answer Opened
 named_group front t =
     with_number front t
     (and_then (name_from front.names [] t)
     (λ name rest. answer (group (numbered (Some name)) (record (with_group front) { names = name ∷ front.names })) rest))
 
+-- what opens a group without a name, or a directive
 abbrev pub no_name : Front → Text → Answer Opened
 no_name front [] = with_number front [] (answer (group (numbered None) (with_group front)) [])
 no_name front (c ∷ t) =
@@ -319,9 +359,11 @@ pub record Found : Type 0 where
   pub behind : Front
   pub rest : Text
 
+-- what was found, by its parts
 abbrev pub found : List Tree → Front → Text → Result Found Stop
 found branches behind rest = Ok (record { branches = branches; behind = behind; rest = rest })
 
+-- goes on behind a choice
 abbrev pub and_found : Result Found Stop → (Found → Result Found Stop) → Result Found Stop
 and_found (Ok x) f = f x
 and_found (Err e) f = Err e
@@ -336,27 +378,33 @@ abbrev pub Reader : Type 0
 Reader = ℕ → Front → List Tree → List Tree → Text → Result Found Stop
 
 module _ (list_of : Set → List Range) (nest_limit : ℕ) where
+  -- at the end of the pattern
   abbrev pub at_end : ℕ → Front → List Tree → List Tree → Result Found Stop
   at_end zero front branches nodes = found (branches ++ sequence_of nodes ∷ []) front []
   at_end (suc depth) front branches nodes = stop message.unclosed_group []
 
+  -- at a closing parenthesis
   abbrev pub at_closing : ℕ → Front → List Tree → List Tree → Text → Result Found Stop
   at_closing zero front branches nodes t = stop message.unopened_group t
   at_closing (suc depth) front branches nodes t = found (branches ++ sequence_of nodes ∷ []) front t
 
+  -- at an operator, which repeats the last node
   abbrev pub at_operator : Reader → ℕ → Front → List Tree → List Tree → Message → Text → Answer Bounds → Result Found Stop
   at_operator go depth front branches [] m at a = stop m at
   at_operator go depth front branches (t ∷ nodes) m at a = and_then a (λ b rest. go depth front branches (repeat_last b t nodes) rest)
 
+  -- the node of an escape
   abbrev pub node_of : Flags → Meaning → Tree
   node_of flags (character c) = literal_of flags c
   node_of flags (characters set) = tree.class (list_of set)
   node_of flags (assertion l) = tree.look l
 
+  -- behind a group
   abbrev pub behind_group : Reader → ℕ → Front → List Tree → List Tree → Opening → Found → Result Found Stop
   behind_group go depth front branches nodes opening f =
       go depth (record (f.behind) { flags = front.flags }) branches (nodes ++ group_of opening front.groups f.branches ∷ []) (drop 1 f.rest)
 
+  -- behind what opens a group
   abbrev pub at_opened : Reader → ℕ → Front → List Tree → List Tree → Opened → Text → Result Found Stop
   at_opened go depth front branches nodes (directive flags) t = go depth (record front { flags = flags }) branches nodes t
   at_opened go depth front branches nodes (group opening inner) t =

@@ -7,9 +7,11 @@ use Rattle.bites_spec.specs.Walks.{Among, AllApart, Walk, Before, first_among, l
 use Rattle.bites_spec.specs.Walks as walks
 use Rattle.bites_spec.specs.Program.{State, Program, Spot, at, state_at, edges, is_match, capture}
 
+-- the spots are one
 abbrev pub is_same_spot : Spot → Spot → Bool
 is_same_spot s t = (s.state == t.state) && (s.place == t.place)
 
+-- the slot and the place that a state writes, if it writes
 abbrev pub write_of : State → ℕ → List (ℕ × ℕ)
 write_of (capture q slot) i = (slot, i) ∷ []
 write_of _ i = []
@@ -30,9 +32,11 @@ module _ (p : Program) (hay : List ℕ) where
   abbrev pub leads : Spot → List Spot
   leads s = edges hay (state_at p.states s.state) s.place
 
+  -- the spot is at the state that ends a run
   abbrev pub matches : Spot → Bool
   matches s = is_match (state_at p.states s.state)
 
+  -- a run may end at the spot, at place j
   abbrev pub Ends : ℕ → Spot → Type 0
   Ends j s = IsTrue (matches s) × (s.place ≡ j)
 
@@ -104,6 +108,7 @@ module _ (p : Program) (hay : List ℕ) where
   abbrev pub enough : ℕ
   enough = suc (length p.states * suc (length hay))
 
+  -- a run from i by its spots, the first of them with the start
   abbrev pub run_of : ℕ → List Spot → Option Run
   run_of i [] = None
   run_of i (s ∷ r) = Some (record { start = i; spots = r; end = (last_of s r).place })

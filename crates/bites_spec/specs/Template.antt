@@ -42,9 +42,11 @@ pub data Cuts (any : Bool) : List ℕ → List Part → Type 0 where
   alone : (rest : List ℕ) (parts : List Part) → StandsAlone any rest → Cuts any rest parts →
       Cuts any (36 ∷ rest) (byte 36 ∷ parts)
 
+-- 0 to 9
 abbrev pub is_digit : ℕ → Bool
 is_digit b = in_range (48, 57) b
 
+-- the number that digits behind a number make
 abbrev pub value_from : ℕ → List ℕ → ℕ
 value_from n [] = n
 value_from n (d ∷ ds) = value_from (n * 10 + (d - 48)) ds

@@ -4,6 +4,7 @@ use Rattle.bites_spec.specs.Range.{Range}
 use Rattle.bites_spec.specs.Look.{Look}
 
 mutual
+  -- what a pattern is read as
   pub data Tree : Type 0 where
     empty : Tree
     char : ℕ → Tree
@@ -17,6 +18,7 @@ mutual
     sequence : Trees → Tree
     alternation : Trees → Tree
 
+  -- trees in a row
   pub data Trees : Type 0 where
     no_tree : Trees
     tree_and : Tree → Trees → Trees
@@ -58,10 +60,12 @@ abbrev mutual
   is_empty_by_form (sequence ts) = all_are_empty ts
   is_empty_by_form (alternation ts) = some_is_empty ts
 
+  -- each of the trees is
   pub all_are_empty : Trees → Bool
   all_are_empty no_tree = true
   all_are_empty (tree_and t ts) = is_empty_by_form t && all_are_empty ts
 
+  -- one of the trees is
   pub some_is_empty : Trees → Bool
   some_is_empty no_tree = false
   some_is_empty (tree_and t ts) = is_empty_by_form t || some_is_empty ts
@@ -78,10 +82,12 @@ abbrev mutual
   is_plain (sequence ts) = all_are_plain ts
   is_plain (alternation ts) = all_are_plain ts
 
+  -- each of the trees is
   pub all_are_plain : Trees → Bool
   all_are_plain no_tree = true
   all_are_plain (tree_and t ts) = is_plain t && all_are_plain ts
 
+-- the tree is plain
 abbrev pub IsPlain : Tree → Type 0
 IsPlain t = IsTrue (is_plain t)
 
@@ -97,10 +103,12 @@ abbrev mutual
   groups_in (sequence ts) = groups_in_all ts
   groups_in (alternation ts) = groups_in_all ts
 
+  -- those of all of the trees
   pub groups_in_all : Trees → List ℕ
   groups_in_all no_tree = []
   groups_in_all (tree_and t ts) = groups_in t ++ groups_in_all ts
 
+-- the name as a list of one, or none
 abbrev pub name_of : Option (List ℕ) → List (List ℕ)
 name_of None = []
 name_of (Some name) = name ∷ []
@@ -117,10 +125,12 @@ abbrev mutual
   names_in (sequence ts) = names_in_all ts
   names_in (alternation ts) = names_in_all ts
 
+  -- those of all of the trees
   pub names_in_all : Trees → List (List ℕ)
   names_in_all no_tree = []
   names_in_all (tree_and t ts) = names_in t ++ names_in_all ts
 
+-- the greatest of the numbers, or 0
 abbrev pub greatest : List ℕ → ℕ
 greatest [] = 0
 greatest (x ∷ xs) = max x (greatest xs)
@@ -129,6 +139,7 @@ greatest (x ∷ xs) = max x (greatest xs)
 abbrev pub captures_len : Tree → ℕ
 captures_len t = suc (greatest (groups_in t))
 
+-- how many trees there are
 abbrev pub count : Trees → ℕ
 count no_tree = 0
 count (tree_and t ts) = suc (count ts)
@@ -149,6 +160,7 @@ abbrev mutual
   IsReduced (sequence ts) = (2 ≤ count ts) × AllAreReduced ts
   IsReduced (alternation ts) = (2 ≤ count ts) × AllAreReduced ts
 
+  -- each of the trees is
   pub AllAreReduced : Trees → Type 0
   AllAreReduced no_tree = Unit {0}
   AllAreReduced (tree_and t ts) = IsReduced t × AllAreReduced ts

@@ -5,7 +5,7 @@
 
 ghost use Rattle.bites_spec.specs.Class.{ListsOnce};
 ghost use Rattle.bites_spec.specs.Laws.{MatchIsParse, FirstRunIsFirst, FirstRunIsOne, RunsAreParses, PlainRunsAreSimple, FirstRunIsFound, LeastEndIsLeast, ParsesAreListed, LongestIsFound, ParsesEndAtMatches, StaticCountIsLeast, SpansGrow, PiecesAndMatches, ReplacedIsJoined};
-ghost use Rattle.bites_spec.specs.GrammarLaws.{ListsAll};
+ghost use Rattle.bites_spec.specs.GrammarLaws.{ListsAll, ReadIsCompilable};
 ghost use Rattle.bites_spec.specs.RangesOf.{RangesOfList};
 
 pub fn match_is_parse()
@@ -74,4 +74,8 @@ pub fn every_set_has_ranges()
 
 pub fn ranges_of_a_set_list_it()
     ensures { RangesOfList }
+{}
+
+pub fn read_trees_are_compilable()
+    ensures { ReadIsCompilable }
 {}

@@ -1,1 +1,4 @@
+pub mod Bools
+pub mod Merging
+pub mod Gaps
 pub mod CursorLemmas

@@ -1,4 +1,6 @@
 pub mod FlagsView
+pub mod Meanings
+pub mod Parts
 pub mod Sets
 pub mod Steps
 pub mod TreeCode

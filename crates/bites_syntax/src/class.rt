@@ -1,10 +1,10 @@
 //! Sets of characters.
 
-ghost use Rattle.std.specs.Prelude.{◌≡◌, []};
+ghost use Rattle.std.specs.Prelude.{◌≡◌, ◌<◌, true, [], IfOk, MatchOption};
 ghost use Rattle.bites_spec.specs.Range.{in_ranges};
-ghost use Rattle.bites_spec.specs.Class.{AreGreatest};
+ghost use Rattle.bites_spec.specs.Class.{AreGreatest, Lists, complement, following, is_scalar};
 
-use std::alloc::Global;
+use std::alloc::{AllocError, Global};
 use std::marker::Model;
 
 /// A set of characters. A contract sees the list of its greatest ranges.
@@ -35,6 +35,25 @@ impl Class {
         }
     }
 
+    /// The class with these greatest ranges.
+    pub fn from_ranges(ranges: Vec<(char, char)>) -> Class
+        requires { AreGreatest ranges.items }
+        ensures { result ≡ ranges.items }
+    {
+        Class { ranges }
+    }
+
+    /// The class of all characters that lie in none of these greatest ranges. It refuses only for
+    /// memory.
+    pub fn all_but(alloc: Global, ranges: &[(char, char)]) -> Result<Class, AllocError>
+        requires { AreGreatest ranges.now }
+        ensures { IfOk result (λ class. Lists class (complement (in_ranges ranges.now))) }
+    {
+        Ok(Class {
+            ranges: gaps(alloc, ranges)?,
+        })
+    }
+
     /// The greatest ranges of the class, from the lowest to the highest.
     pub fn ranges(&self) -> &[(char, char)]
         ensures ranges { result.now ≡ self.now }
@@ -48,5 +67,54 @@ impl Class {
         ensures { result ≡ in_ranges self.now c }
     {
         self.ranges.iter().any(|r| r.0 <= c && c <= r.1)
+    }
+
+    /// The class of all other characters. It refuses only for memory.
+    pub fn negate(&self, alloc: Global) -> Result<Class, AllocError>
+        ensures { IfOk result (λ class. Lists class (complement (in_ranges self.now))) }
+    {
+        Class::all_but(alloc, &self.ranges)
+    }
+}
+
+/// The ranges that lie between these greatest ranges.
+fn gaps(alloc: Global, ranges: &[(char, char)]) -> Result<Vec<(char, char)>, AllocError>
+    requires { AreGreatest ranges.now }
+    ensures { IfOk result (λ others. Lists others.items (complement (in_ranges ranges.now))) }
+{
+    let mut others = Vec::new(alloc);
+    let mut low = '\0';
+    'ranges: for range in ranges {
+        if low < range.0 {
+            others.push((low, preceding(range.0)))?;
+        }
+        match following(range.1) {
+            Some(next) => low = next,
+            None => return Ok(others),
+        }
+    }
+    others.push((low, char::MAX))?;
+    Ok(others)
+}
+
+/// The character behind one, over the surrogates.
+pub fn following(c: char) -> Option<char>
+    ensures { MatchOption result (c ≡ 0x10_FFFF) (λ next. (c < 0x10_FFFF) × (next ≡ following c)) }
+{
+    match c {
+        '\u{D7FF}' => Some('\u{E000}'),
+        _ => char::from_u32(c as u32 + 1),
+    }
+}
+
+/// The character before one that is not the first, over the surrogates.
+fn preceding(c: char) -> char
+    requires { 0 < c }
+    ensures next { following result ≡ c }
+    ensures scalar { is_scalar result ≡ true }
+{
+    match c {
+        '\u{E000}' => '\u{D7FF}',
+        _ => char::from_u32(c as u32 - 1).unwrap(),
     }
 }

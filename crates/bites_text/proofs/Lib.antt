@@ -1,1 +1,4 @@
 pub mod ErrorLemmas
+pub mod LenLemmas
+mod RowLemmas
+mod FrontLemmas

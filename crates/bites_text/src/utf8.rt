@@ -73,12 +73,13 @@ fn decode_three(first: u8, rest: &[u8]) -> (Option<char>, usize)
     ensures len { result.1 ≡ (front_piece (first ∷ rest.now)).len }
 {
     match *rest {
-        [second, third, ..] if is_second(first, second) && is_continuation(third) => {
+        [] => (None, 1),
+        [second, ..] if !is_second(first, second) => (None, 1),
+        [second, third, ..] if is_continuation(third) => {
             let high = u32::from(first - 0xE0) * 64 + u32::from(second - 0x80);
             (char::from_u32(high * 64 + u32::from(third - 0x80)), 3)
         }
-        [second, ..] if is_second(first, second) => (None, 2),
-        _ => (None, 1),
+        _ => (None, 2),
     }
 }
 
@@ -90,16 +91,16 @@ fn decode_four(first: u8, rest: &[u8]) -> (Option<char>, usize)
     ensures len { result.1 ≡ (front_piece (first ∷ rest.now)).len }
 {
     match *rest {
-        [second, third, fourth, ..]
-            if is_second(first, second) && is_continuation(third) && is_continuation(fourth) =>
-        {
+        [] => (None, 1),
+        [second, ..] if !is_second(first, second) => (None, 1),
+        [_] => (None, 2),
+        [_, third, ..] if !is_continuation(third) => (None, 2),
+        [second, third, fourth, ..] if is_continuation(fourth) => {
             let high = u32::from(first - 0xF0) * 64 + u32::from(second - 0x80);
             let low = u32::from(third - 0x80) * 64 + u32::from(fourth - 0x80);
             (char::from_u32(high * 4096 + low), 4)
         }
-        [second, third, ..] if is_second(first, second) && is_continuation(third) => (None, 3),
-        [second, ..] if is_second(first, second) => (None, 2),
-        _ => (None, 1),
+        _ => (None, 3),
     }
 }
 

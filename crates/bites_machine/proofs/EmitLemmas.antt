@@ -1,0 +1,342 @@
+-- What is written for a tree has its form.
+use Rattle.std.proofs.Common.{◌≡◌, ℕ, zero, suc, ◌+◌, ◌-◌, ◌*◌, ◌<◌, ◌≤◌, ◌≢◌, Bool, true, false, cond, not, List, [], ◌∷◌, ◌++◌, length, Option, Some, None, refl, sym, ap, ◌∙◌, subst, arith, slice_set, length-append}
+use Rattle.std.specs.Prelude.{◌==◌, nat_lt, count_by}
+use Rattle.std.proofs.lemmas.List.{length-set, get_or_append_left, get_or-set_same, get_or-set_other}
+use Rattle.std.proofs.lemmas.List.Sums.{sum_by-append}
+use Rattle.std.proofs.lemmas.Bool.Decides.{nat_tests}
+use Rattle.std.proofs.Math.Seq.{get_or-append_seam}
+use Rattle.bites_spec.specs.Tree.{Tree, Trees, empty, char, class, look, repetition, group, sequence, alternation, no_tree, tree_and, is_empty_by_form}
+use Rattle.bites_spec.specs.Program as program
+use Rattle.bites_spec.specs.Program.{State, state_at}
+use Rattle.bites_spec.specs.Built.{Part, One, Behind, Copies, Options, Loop, Star, OptionalLoop, Bounded, Counted, Repeated, HasForm, HasFormAll, HasFormEach}
+use Rattle.bites_machine.specs.Emitted.{Emitted, emitted, Emitter, pushed, in_front, again, choice, chosen, options, bounded, around, looped, loop, starred, star, optional_loop, counted, repeated, class_state, writing, grouped, Branches, branches, with_branch, split, emit, emit_all, emit_each}
+
+-- the states that were there stay
+pub record Extends (old new : List State) : Type 0 where
+  pub longer : length old ≤ length new
+  pub kept : (q : ℕ) → q < length old → state_at new q ≡ state_at old q
+
+pub Extends-refl : (ss : List State) → Extends ss ss
+Extends-refl ss = record { longer = omega arith; kept = λ q h. refl }
+
+pub Extends-trans : (a b c : List State) → Extends a b → Extends b c → Extends a c
+Extends-trans a b c ab bc = record {
+  longer = omega (arith, ab.longer, bc.longer);
+  kept = λ q h. bc.kept q (omega (arith, ab.longer)) ∙ ab.kept q h;
+}
+
+pub length_pushed : (ss : List State) (s : State) → length (ss ++ s ∷ []) ≡ suc (length ss)
+length_pushed ss s = omega (arith, length-append ss (s ∷ []))
+
+pub Extends-push : (ss : List State) (s : State) → Extends ss (ss ++ s ∷ [])
+Extends-push ss s = record {
+  longer = omega (arith, length_pushed ss s);
+  kept = λ q h. get_or_append_left ss (s ∷ []) program.fail q h;
+}
+
+pub Extends-set : (old new : List State) (i : ℕ) (s : State) → Extends old new → length old ≤ i → Extends old (slice_set new i s)
+Extends-set old new i s e h = record {
+  longer = omega (arith, length-set new i s, e.longer);
+  kept = λ q below. get_or-set_other new i q s program.fail (λ (is : q ≡ i). omega arith) ∙ e.kept q below;
+}
+
+-- the last states agree with these from m on
+pub record Agrees (last : List State) (m : ℕ) (states : List State) : Type 0 where
+  pub same : (q : ℕ) → m ≤ q → q < length states → state_at last q ≡ state_at states q
+
+Agrees-later : (last : List State) (m k : ℕ) (ss : List State) → m ≤ k → Agrees last m ss → Agrees last k ss
+Agrees-later last m k ss h a = record { same = λ q from below. a.same q (omega arith) below }
+
+Agrees-before : (last : List State) (m : ℕ) (ss more : List State) → Extends ss more → Agrees last m more → Agrees last m ss
+Agrees-before last m ss more e a = record { same = λ q from below. a.same q from (omega (arith, e.longer)) ∙ e.kept q below }
+
+Agrees-unset : (last : List State) (m i : ℕ) (ss : List State) (s : State) → i < m → Agrees last m (slice_set ss i s) → Agrees last m ss
+Agrees-unset last m i ss s h a = record {
+  same = λ q from below.
+  a.same q from (omega (arith, length-set ss i s)) ∙ get_or-set_other ss i q s program.fail (λ (is : q ≡ i). omega arith);
+}
+
+last_pushed : (last : List State) (m : ℕ) (ss : List State) (s : State) → m ≤ length ss → Agrees last m (ss ++ s ∷ []) → state_at last (length ss) ≡ s
+last_pushed last m ss s h a = a.same (length ss) h (omega (arith, length_pushed ss s)) ∙ get_or-append_seam ss s [] program.fail
+
+last_set : (last : List State) (m i : ℕ) (ss : List State) (s : State) → m ≤ i → i < length ss → Agrees last m (slice_set ss i s) → state_at last i ≡ s
+last_set last m i ss s h below a = a.same i h (omega (arith, length-set ss i s)) ∙ get_or-set_same ss i s program.fail below
+
+-- 1 for a number below n
+abbrev pub below : ℕ → ℕ → ℕ
+below n q = cond (nat_lt q n) 1 0
+
+-- the list has each number from m to n once, and no other
+pub record Counts (used : List ℕ) (m n : ℕ) : Type 0 where
+  pub counts : (q : ℕ) → count_by (λ u. u == q) used + below m q ≡ below n q
+
+pub Counts-none : (m : ℕ) → Counts [] m m
+Counts-none m = record { counts = λ q. omega arith }
+
+one_counts : (m q : ℕ) → count_by (λ u. u == q) (m ∷ []) + below m q ≡ below (suc m) q
+one_counts m q = grind (arith, nat_tests)
+
+pub Counts-one : (m n : ℕ) → n ≡ suc m → Counts (m ∷ []) m n
+Counts-one m n e = record { counts = λ q. one_counts m q ∙ ap (λ k. below k q) (sym e) }
+
+-- first the upper numbers, then the lower
+Counts-append : (a b : List ℕ) (m k n : ℕ) → Counts a k n → Counts b m k → Counts (a ++ b) m n
+Counts-append a b m k n upper lower = record {
+  counts = λ q. omega (arith, sum_by-append (λ u. cond (u == q) 1 0) a b, upper.counts q, lower.counts q);
+}
+
+-- first the lower numbers, then the upper
+pub Counts-append_up : (a b : List ℕ) (m k n : ℕ) → Counts a m k → Counts b k n → Counts (a ++ b) m n
+Counts-append_up a b m k n lower upper = record {
+  counts = λ q. omega (arith, sum_by-append (λ u. cond (u == q) 1 0) a b, upper.counts q, lower.counts q);
+}
+
+-- what is written is the part, and uses all of its states
+pub record Forms (part : List State → Part) (to : ℕ) (old : List State) (e : Emitted) : Type 1 where
+  pub extends : Extends old e.states
+  pub form : (last : List State) → Agrees last (length old) e.states →
+      (used : List ℕ) × part last e.from to used × Counts used (length old) (length e.states)
+
+pub Forms-one : (make : ℕ → State) (to : ℕ) (ss : List State) → Forms (λ l. One l make) to ss (pushed ss (make to))
+Forms-one make to ss = record {
+  extends = Extends-push ss (make to);
+  form = λ last a.
+  (length ss ∷ [], (last_pushed last (length ss) ss (make to) (omega arith) a, refl), Counts-one (length ss) _ (length_pushed ss (make to)));
+}
+
+pub Forms-behind : (first rest : List State → Part) (to : ℕ) (ss : List State) (e f : Emitted) →
+    Forms rest to ss e → Forms first e.from e.states f → Forms (λ l. Behind l (first l) (rest l)) to ss f
+Forms-behind first rest to ss e f r s = record {
+  extends = Extends-trans ss e.states f.states r.extends s.extends;
+  form = λ last a.
+  let x = s.form last (Agrees-later last (length ss) (length e.states) f.states r.extends.longer a) in
+  let y = r.form last (Agrees-before last (length ss) e.states f.states s.extends a) in
+  (x.0 ++ y.0, (e.from, x.0, y.0, x.1, y.1, refl), Counts-append x.0 y.0 (length ss) (length e.states) (length f.states) x.2 y.2);
+}
+
+-- a body in front of any state, behind any states
+abbrev pub FormsBody : (List State → Part) → Emitter → Type 1
+FormsBody part body = (to : ℕ) (ss : List State) → Forms part to ss (body to ss)
+
+module _ (part : List State → Part) (body : Emitter) (inside : FormsBody part body) where
+  -- n copies in front of the rest
+  pub Forms-again : (rest : List State → Part) (to : ℕ) (ss : List State) (e : Emitted) → Forms rest to ss e →
+      (n : ℕ) → Forms (λ l. Copies l n (part l) (rest l)) to ss (in_front (again n body) e)
+  Forms-again rest to ss e r zero = r
+  Forms-again rest to ss e r (suc n) =
+      let f = in_front (again n body) e in
+      Forms-behind part (λ l. Copies l n (part l) (rest l)) to ss f (in_front body f) (Forms-again rest to ss e r n) (inside f.from f.states)
+
+  -- n options in front of the way out
+  pub Forms-options : (greedy : Bool) (out : ℕ) (ss : List State) (n : ℕ) →
+      Forms (λ l. Options l n greedy out (part l)) out ss (options n greedy body out ss)
+  Forms-options greedy out ss zero = record {
+    extends = Extends-refl ss;
+    form = λ last a. ([], (refl, refl, refl), Counts-none (length ss));
+  }
+  Forms-options greedy out ss (suc n) =
+      let e = options n greedy body out ss in
+      let r = Forms-options greedy out ss n in
+      let f = in_front body e in
+      let s = inside e.from e.states in
+      let both = Extends-trans ss e.states f.states r.extends s.extends in
+      let state = choice greedy f.from out in
+      record {
+        extends = Extends-trans ss f.states (f.states ++ state ∷ []) both (Extends-push f.states state);
+        form = λ last a.
+        let before = Agrees-before last (length ss) f.states (f.states ++ state ∷ []) (Extends-push f.states state) a in
+        let x = s.form last (Agrees-later last (length ss) (length e.states) f.states r.extends.longer before) in
+        let y = r.form last (Agrees-before last (length ss) e.states f.states s.extends before) in (
+          (length f.states ∷ x.0) ++ y.0,
+          (f.from, e.from, x.0, y.0, last_pushed last (length ss) f.states state both.longer a, x.1, y.1, refl),
+          Counts-append (length f.states ∷ x.0) y.0 (length ss) (length e.states) _
+              (Counts-append (length f.states ∷ []) x.0 (length e.states) (length f.states) _ (Counts-one (length f.states) _ (length_pushed f.states state)) x.2)
+              y.2,
+        );
+      }
+
+  pub Forms-bounded : (n : ℕ) (greedy : Bool) (to : ℕ) (ss : List State) →
+      Forms (λ l. Bounded l n greedy (part l)) to ss (bounded n greedy body to ss)
+  Forms-bounded n greedy to ss =
+      let goto = program.goto to None in
+      let e = options n greedy body (length ss) (ss ++ goto ∷ []) in
+      let r = Forms-options greedy (length ss) (ss ++ goto ∷ []) n in
+      record {
+        extends = Extends-trans ss (ss ++ goto ∷ []) e.states (Extends-push ss goto) r.extends;
+        form = λ last a.
+        let x = r.form last (Agrees-later last (length ss) (length (ss ++ goto ∷ [])) e.states (omega (arith, length_pushed ss goto)) a) in (
+          length ss ∷ x.0,
+          (length ss, x.0, x.1, last_pushed last (length ss) ss goto (omega arith) (Agrees-before last (length ss) (ss ++ goto ∷ []) e.states r.extends a), refl),
+          Counts-append_up (length ss ∷ []) x.0 (length ss) _ (length e.states) (Counts-one (length ss) _ (length_pushed ss goto)) x.2,
+        );
+      }
+
+  -- what stands around the place of a choice, once the choice is written to it
+  record Around (ss : List State) (e : Emitted) (s : State) : Type 1 where
+    extends : Extends ss (slice_set e.states (length ss) s)
+    place : (last : List State) → Agrees last (length ss) (slice_set e.states (length ss) s) → state_at last (length ss) ≡ s
+    form : (last : List State) → Agrees last (length ss) (slice_set e.states (length ss) s) →
+        (used : List ℕ) × part last e.from (length ss) used × Counts (length ss ∷ used) (length ss) (length (slice_set e.states (length ss) s))
+
+  around_place : (ss : List State) (s : State) → Around ss (around body ss) s
+  around_place ss s =
+      let e = around body ss in
+      let r = inside (length ss) (ss ++ program.fail ∷ []) in
+      let long = length_pushed ss program.fail in
+      let extends : Extends ss e.states = Extends-trans ss (ss ++ program.fail ∷ []) e.states (Extends-push ss program.fail) r.extends in
+      record {
+        extends = Extends-set ss e.states (length ss) s extends (omega arith);
+        place = λ last a. last_set last (length ss) (length ss) e.states s (omega arith) (omega (arith, long, r.extends.longer)) a;
+        form = λ last a.
+        let x = r.form last (Agrees-unset last (length (ss ++ program.fail ∷ [])) (length ss) e.states s (omega (arith, long))
+        (Agrees-later last (length ss) (length (ss ++ program.fail ∷ [])) (slice_set e.states (length ss) s) (omega (arith, long)) a)) in (
+          x.0,
+          x.1,
+          subst (λ n. Counts (length ss ∷ x.0) (length ss) n) (sym (length-set e.states (length ss) s))
+              (Counts-append_up (length ss ∷ []) x.0 (length ss) _ (length e.states) (Counts-one (length ss) _ long) x.2),
+        );
+      }
+
+  pub Forms-loop : (greedy : Bool) → FormsBody (λ l. Loop l greedy (part l)) (loop greedy body)
+  Forms-loop greedy to ss =
+      let e = around body ss in
+      let r = around_place ss (choice greedy e.from to) in
+      record {
+        extends = r.extends;
+        form = λ last a. let x = r.form last a in (length ss ∷ x.0, (length ss, x.0, x.1, r.place last a, refl), x.2);
+      }
+
+  pub Forms-star : (greedy : Bool) → FormsBody (λ l. Star l greedy (part l)) (star greedy body)
+  Forms-star greedy to ss =
+      let e = around body ss in
+      let r = around_place ss (choice greedy e.from to) in
+      record {
+        extends = r.extends;
+        form = λ last a. let x = r.form last a in (length ss ∷ x.0, (e.from, x.0, x.1, r.place last a, refl), x.2);
+      }
+
+  pub Forms-optional_loop : (greedy : Bool) → FormsBody (λ l. OptionalLoop l greedy (part l)) (optional_loop greedy body)
+  Forms-optional_loop greedy to ss =
+      let goto = program.goto to None in
+      let more = ss ++ goto ∷ [] in
+      let e = loop greedy body (length ss) more in
+      let r = Forms-loop greedy (length ss) more in
+      let state = choice greedy e.from (length ss) in
+      let both = Extends-trans ss more e.states (Extends-push ss goto) r.extends in
+      record {
+        extends = Extends-trans ss e.states (e.states ++ state ∷ []) both (Extends-push e.states state);
+        form = λ last a.
+        let before = Agrees-before last (length ss) e.states (e.states ++ state ∷ []) (Extends-push e.states state) a in
+        let x = r.form last (Agrees-later last (length ss) (length more) e.states (omega (arith, length_pushed ss goto)) before) in (
+          (length e.states ∷ length ss ∷ x.0),
+          (
+            e.from, length ss, x.0, x.1, last_pushed last (length ss) e.states state both.longer a,
+            last_pushed last (length ss) ss goto (omega arith) (Agrees-before last (length ss) more e.states r.extends before), refl,
+          ),
+          Counts-append (length e.states ∷ []) (length ss ∷ x.0) (length ss) (length e.states) _
+              (Counts-one (length e.states) _ (length_pushed e.states state))
+              (Counts-append_up (length ss ∷ []) x.0 (length ss) (length more) (length e.states) (Counts-one (length ss) _ (length_pushed ss goto)) x.2),
+        );
+      }
+
+  Forms-counted : (n more : ℕ) (greedy : Bool) → FormsBody (λ l. Counted l n more greedy (part l)) (counted n more greedy body)
+  Forms-counted n zero greedy to ss = Forms-again part to ss (body to ss) (inside to ss) n
+  Forms-counted n (suc more) greedy to ss =
+      Forms-again (λ l. Bounded l (suc more) greedy (part l)) to ss (bounded (suc more) greedy body to ss) (Forms-bounded (suc more) greedy to ss) (suc n)
+
+  pub Forms-repeated : (min : ℕ) (most : Option ℕ) (greedy is_empty : Bool) →
+      FormsBody (λ l. Repeated l min most greedy is_empty (part l)) (repeated min most greedy is_empty body)
+  Forms-repeated zero None greedy true to ss = Forms-optional_loop greedy to ss
+  Forms-repeated zero None greedy false to ss = Forms-star greedy to ss
+  Forms-repeated (suc n) None greedy is_empty to ss =
+      Forms-again (λ l. Loop l greedy (part l)) to ss (loop greedy body to ss) (Forms-loop greedy to ss) n
+  Forms-repeated zero (Some zero) greedy is_empty to ss = Forms-one (λ next. program.goto next None) to ss
+  Forms-repeated zero (Some (suc zero)) greedy is_empty to ss = Forms-bounded 1 greedy to ss
+  Forms-repeated zero (Some (suc (suc m))) greedy is_empty to ss =
+      let e = bounded (suc (suc m)) greedy body to ss in
+      Forms-behind (λ l. One l (λ next. program.goto next None)) (λ l. Bounded l (suc (suc m)) greedy (part l)) to ss e _
+      (Forms-bounded (suc (suc m)) greedy to ss) (Forms-one (λ next. program.goto next None) e.from e.states)
+  Forms-repeated (suc n) (Some most) greedy is_empty to ss = Forms-counted n (most - suc n) greedy to ss
+
+  pub Forms-grouped : (k : ℕ) → FormsBody
+      (λ l. Behind l (One l (λ to. program.capture to (2 * k))) (Behind l (part l) (One l (λ to. program.capture to (2 * k + 1)))))
+      (grouped k body)
+  Forms-grouped k to ss =
+      let e = writing (2 * k + 1) to ss in
+      let f = in_front body e in
+      Forms-behind (λ l. One l (λ to. program.capture to (2 * k)))
+      (λ l. Behind l (part l) (One l (λ to. program.capture to (2 * k + 1)))) to ss f _
+      (Forms-behind part (λ l. One l (λ to. program.capture to (2 * k + 1))) to ss e f
+      (Forms-one (λ to. program.capture to (2 * k + 1)) to ss) (inside e.from e.states))
+      (Forms-one (λ to. program.capture to (2 * k)) f.from f.states)
+
+-- the branches are written, and use all of their states
+record FormsBranches (ts : Trees) (out : ℕ) (old : List State) (b : Branches) : Type 1 where
+  extends : Extends old b.states
+  form : (last : List State) → Agrees last (length old) b.states →
+      (used : List ℕ) × HasFormEach last ts b.rounds out used × Counts used (length old) (length b.states)
+
+class_forms : (rs : List (ℕ × ℕ)) → FormsBody (λ l. HasForm l (class rs)) (λ to ss. pushed ss (class_state rs to))
+class_forms [] to ss = Forms-one (λ next. program.fail) to ss
+class_forms (r ∷ rs) to ss = Forms-one (λ next. program.ranges next (r ∷ rs)) to ss
+
+-- a choice between branches that all lead to one state
+alternation_forms : (ts : Trees) (to : ℕ) (ss : List State) (b : Branches) → FormsBranches ts (length ss) (ss ++ program.goto to None ∷ []) b →
+    Forms (λ l. HasForm l (alternation ts)) to ss (split b)
+alternation_forms ts to ss b r =
+    let goto = program.goto to None in
+    let more = ss ++ goto ∷ [] in
+    let state = program.splits b.rounds false in
+    let both = Extends-trans ss more b.states (Extends-push ss goto) r.extends in
+    record {
+      extends = Extends-trans ss b.states (b.states ++ state ∷ []) both (Extends-push b.states state);
+      form = λ last a.
+      let before = Agrees-before last (length ss) b.states (b.states ++ state ∷ []) (Extends-push b.states state) a in
+      let x = r.form last (Agrees-later last (length ss) (length more) b.states (omega (arith, length_pushed ss goto)) before) in (
+        (length b.states ∷ length ss ∷ x.0),
+        (
+          length ss, b.rounds, x.0, last_pushed last (length ss) b.states state both.longer a, x.1,
+          last_pushed last (length ss) ss goto (omega arith) (Agrees-before last (length ss) more b.states r.extends before), refl,
+        ),
+        Counts-append (length b.states ∷ []) (length ss ∷ x.0) (length ss) (length b.states) _
+            (Counts-one (length b.states) _ (length_pushed b.states state))
+            (Counts-append_up (length ss ∷ []) x.0 (length ss) (length more) (length b.states) (Counts-one (length ss) _ (length_pushed ss goto)) x.2),
+      );
+    }
+
+mutual
+  unfolding emit emit_all emit_each
+  -- What is written for a tree has its form.
+  pub Forms-emit : (t : Tree) → FormsBody (λ l. HasForm l t) (emit t)
+  Forms-emit empty to ss = Forms-one (λ next. program.goto next None) to ss
+  Forms-emit (char c) to ss = Forms-one (λ next. program.char next c) to ss
+  Forms-emit (class rs) to ss = class_forms rs to ss
+  Forms-emit (look l) to ss = Forms-one (λ next. program.goto next (Some l)) to ss
+  Forms-emit (repetition min most greedy t) to ss =
+      Forms-repeated (λ l. HasForm l t) (emit t) (Forms-emit t) min most greedy (is_empty_by_form t) to ss
+  Forms-emit (group k name t) to ss = Forms-grouped (λ l. HasForm l t) (emit t) (Forms-emit t) k to ss
+  Forms-emit (sequence ts) to ss = Forms-emit_all ts to ss
+  Forms-emit (alternation ts) to ss =
+      let more = ss ++ program.goto to None ∷ [] in
+      alternation_forms ts to ss (emit_each ts (length ss) more) (Forms-emit_each ts (length ss) more)
+
+  Forms-emit_all : (ts : Trees) → FormsBody (λ l. HasFormAll l ts) (emit_all ts)
+  Forms-emit_all no_tree to ss = record { extends = Extends-refl ss; form = λ last a. ([], (refl, refl), Counts-none (length ss)) }
+  Forms-emit_all (tree_and t ts) to ss =
+      let e = emit_all ts to ss in
+      Forms-behind (λ l. HasForm l t) (λ l. HasFormAll l ts) to ss e (in_front (emit t) e) (Forms-emit_all ts to ss) (Forms-emit t e.from e.states)
+
+  Forms-emit_each : (ts : Trees) (out : ℕ) (ss : List State) → FormsBranches ts out ss (emit_each ts out ss)
+  Forms-emit_each no_tree out ss = record { extends = Extends-refl ss; form = λ last a. ([], refl, Counts-none (length ss)) }
+  Forms-emit_each (tree_and t ts) out ss =
+      let e = emit t out ss in
+      let b = emit_each ts out e.states in
+      let r = Forms-emit t out ss in
+      let s = Forms-emit_each ts out e.states in
+      record {
+        extends = Extends-trans ss e.states b.states r.extends s.extends;
+        form = λ last a.
+        let x = r.form last (Agrees-before last (length ss) e.states b.states s.extends a) in
+        let y = s.form last (Agrees-later last (length ss) (length e.states) b.states r.extends.longer a) in
+        (x.0 ++ y.0, (x.0, y.0, x.1, y.1, refl), Counts-append_up x.0 y.0 (length ss) (length e.states) (length b.states) x.2 y.2);
+      }

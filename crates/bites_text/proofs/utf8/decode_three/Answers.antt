@@ -1,0 +1,46 @@
+use Rattle.std.proofs.Common.{◌≡◌, ◌∷◌, [], ◌<◌, length, get_or, Some, List, ℕ, sym, ap, arith}
+use Rattle.bites_spec.specs.Utf8.{Piece, front_piece, continuation, scalar_value}
+use Rattle.bites_text.specs.Rows.{second_range}
+use Rattle.bites_text.proofs.FrontLemmas.{FitsAt, StopsAt, invalid, whole, fits_at, stops_at, decoded_is, continuation_bounds, second_bounds, three_part_1, three_part_2, three_whole, three_scalar}
+use Rattle.bites_text.proofs.utf8.decode_three.Goals as goal
+
+pub returns-in-empty : goal.returns-in-empty
+returns-in-empty c =
+    let b = c.args.first in
+    let s = c.args.rest.now in
+    let is = three_part_1 b s c.requires.from c.requires.to (λ there. absurd (omega (arith, there))) in
+    record { decoded = ap (λ (p : Piece). p.decoded) (sym is); len = ap (λ (p : Piece). p.len) (sym is) }
+
+pub returns-in-len1-up : goal.returns-in-len1-up
+returns-in-len1-up c =
+    let b = c.args.first in
+    let s = c.args.rest.now in
+    let is = three_part_1 b s c.requires.from c.requires.to (stops_at (second_range b) s 0 c.is_second.result c.is_second.ensures c.if-not-is_second.true) in
+    record { decoded = ap (λ (p : Piece). p.decoded) (sym is); len = ap (λ (p : Piece). p.len) (sym is) }
+
+pub returns-in_default : goal.returns-in_default
+returns-in_default c =
+    let b = c.args.first in
+    let s = c.args.rest.now in
+    let is = three_part_2 b s c.requires.from c.requires.to (fits_at (second_range b) s 0 c.is_second.result (omega arith) c.is_second.ensures c.if-not-is_second.false) (λ there. absurd (omega (arith, there))) in
+    record { decoded = ap (λ (p : Piece). p.decoded) (sym is); len = ap (λ (p : Piece). p.len) (sym is) }
+
+pub returns-in_default-2 : goal.returns-in_default-2
+returns-in_default-2 c =
+    let b = c.args.first in
+    let s = c.args.rest.now in
+    let is = three_part_2 b s c.requires.from c.requires.to (fits_at (second_range b) s 0 c.is_second.result (omega arith) c.is_second.ensures c.if-not-is_second.false) (stops_at continuation s 1 c.is_continuation.result c.is_continuation.ensures c.if-is_continuation.false) in
+    record { decoded = ap (λ (p : Piece). p.decoded) (sym is); len = ap (λ (p : Piece). p.len) (sym is) }
+
+pub returns-in-len2-up : goal.returns-in-len2-up
+returns-in-len2-up c =
+    let b = c.args.first in
+    let s = c.args.rest.now in
+    let first = fits_at (second_range b) s 0 c.is_second.result (omega arith) c.is_second.ensures c.if-not-is_second.false in
+    let second = fits_at continuation s 1 c.is_continuation.result (omega arith) c.is_continuation.ensures c.if-is_continuation.true in
+    let is = three_whole b s c.requires.from c.requires.to first second in
+    let made = c.from_u32.ensures in
+    record {
+    decoded = decoded_is c.from_u32.result _ (b ∷ get_or s 0 0 ∷ get_or s 1 0 ∷ []) (front_piece (b ∷ s)) is (omega arith) (three_scalar b (get_or s 0 0) (get_or s 1 0) c.requires.from c.requires.to (second_bounds b (get_or s 0 0) first.lies) (continuation_bounds (get_or s 1 0) second.lies).1) made.value made.succeeds;
+    len = ap (λ (p : Piece). p.len) (sym is)
+    }
