@@ -271,9 +271,9 @@ module _ (part : List State → Part) (body : Emitter) (inside : FormsBody part 
       (Forms-one (λ to. program.capture to (2 * k)) f.from f.states)
 
 -- the branches are written, and use all of their states
-record FormsBranches (ts : Trees) (out : ℕ) (old : List State) (b : Branches) : Type 1 where
-  extends : Extends old b.states
-  form : (last : List State) → Agrees last (length old) b.states →
+pub record FormsBranches (ts : Trees) (out : ℕ) (old : List State) (b : Branches) : Type 1 where
+  pub extends : Extends old b.states
+  pub form : (last : List State) → Agrees last (length old) b.states →
       (used : List ℕ) × HasFormEach last ts b.rounds out used × Counts used (length old) (length b.states)
 
 class_forms : (rs : List (ℕ × ℕ)) → FormsBody (λ l. HasForm l (class rs)) (λ to ss. pushed ss (class_state rs to))
@@ -320,13 +320,13 @@ mutual
       let more = ss ++ program.goto to None ∷ [] in
       alternation_forms ts to ss (emit_each ts (length ss) more) (Forms-emit_each ts (length ss) more)
 
-  Forms-emit_all : (ts : Trees) → FormsBody (λ l. HasFormAll l ts) (emit_all ts)
+  pub Forms-emit_all : (ts : Trees) → FormsBody (λ l. HasFormAll l ts) (emit_all ts)
   Forms-emit_all no_tree to ss = record { extends = Extends-refl ss; form = λ last a. ([], (refl, refl), Counts-none (length ss)) }
   Forms-emit_all (tree_and t ts) to ss =
       let e = emit_all ts to ss in
       Forms-behind (λ l. HasForm l t) (λ l. HasFormAll l ts) to ss e (in_front (emit t) e) (Forms-emit_all ts to ss) (Forms-emit t e.from e.states)
 
-  Forms-emit_each : (ts : Trees) (out : ℕ) (ss : List State) → FormsBranches ts out ss (emit_each ts out ss)
+  pub Forms-emit_each : (ts : Trees) (out : ℕ) (ss : List State) → FormsBranches ts out ss (emit_each ts out ss)
   Forms-emit_each no_tree out ss = record { extends = Extends-refl ss; form = λ last a. ([], refl, Counts-none (length ss)) }
   Forms-emit_each (tree_and t ts) out ss =
       let e = emit t out ss in

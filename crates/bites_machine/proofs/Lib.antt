@@ -1,5 +1,12 @@
 pub mod SoundLemmas
 pub mod MemberLemmas
+pub mod EdgeLemmas
+pub mod SweepLemmas
 pub mod EmitLemmas
 pub mod CompiledLemmas
+pub mod StateLemmas
+pub mod AssertionLemmas
 pub mod LengthLemmas
+pub mod FaultLemmas
+pub mod Parts
+pub mod SizeLemmas

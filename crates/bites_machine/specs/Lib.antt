@@ -2,5 +2,8 @@ pub mod States
 pub mod Contents
 pub mod Fields
 pub mod Members
+pub mod Ends
 pub mod Emitted
 pub mod Compiled
+pub mod Classes
+pub mod Sizes

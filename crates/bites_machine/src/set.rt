@@ -1,4 +1,5 @@
-ghost use Rattle.std.specs.Prelude.{◌≡◌, ◌<◌, ◌≤◌, ◌^◌, ◌↔◌, IsTrue, [], IfOk, IfSome, length, slice_get};
+ghost use Rattle.std.specs.Prelude.{◌≡◌, ◌<◌, ◌≤◌, ◌^◌, ◌↔◌, IsTrue, [], IfOk, IfSome, IsSome, ℕ, length, slice_get};
+ghost use Rattle.bites_spec.specs.Walks.{Among};
 ghost use Rattle.bites_machine.specs.Members.{is_member, with_state, with_states};
 
 use std::alloc::{AllocError, Global};
@@ -45,6 +46,7 @@ impl StateSet {
     pub fn get(&self, k: usize) -> Option<u32>
         ensures member { result ≡ slice_get self.now.members k }
         ensures below { IfSome result (λ q. q < self.now.bound) }
+        ensures within { IsSome result → k < self.now.bound }
     {
         self.members.get(k).copied()
     }
@@ -67,5 +69,15 @@ impl StateSet {
         }
         self.index[state as usize] = self.members.len() as u32;
         let _ = self.members.push(state);
+    }
+
+    pub fn insert_all(&mut self, states: &[u32])
+        requires { (q : ℕ) → Among states.now q → q < self.old.bound }
+        ensures members { self.new.members ≡ with_states self.old.members states.now }
+        ensures bound { self.new.bound ≡ self.old.bound }
+    {
+        for state in states {
+            self.insert(*state);
+        }
     }
 }

@@ -1,37 +1,26 @@
 -- Classes in brackets: where the relations stop, the function stops, and no later.
-use Rattle.std.proofs.Common.{◌≡◌, ℕ, zero, suc, ◌<◌, ◌≤◌, Bool, true, false, not, ◌&&◌, ◌||◌, ◌==◌, List, [], ◌∷◌, ◌++◌, length, refl, sym, ap, ap₂, ◌∙◌, subst, inl, inr, ⊎_elim, arith, ◌⊎◌, Ok, Err, Some, None, eqb-true, true≢false}
+use Rattle.std.proofs.Common.{◌≡◌, ℕ, zero, suc, ◌<◌, ◌≤◌, Bool, true, false, ◌&&◌, ◌||◌, ◌==◌, List, [], ◌∷◌, length, refl, sym, ap, ap₂, ◌∙◌, subst, inl, inr, ⊎_elim, arith, Ok, Err, true≢false}
 use Rattle.std.proofs.lemmas.Bool.{lt-leb}
-use Rattle.std.specs.Prelude.{codes, nat_le}
+use Rattle.std.specs.Prelude.{nat_le}
 use Rattle.std.specs.List.{list_any}
 use Rattle.bites_spec.specs.Message as message
 use Rattle.bites_spec.specs.Message.{Message, rank}
 use Rattle.bites_spec.specs.Look.{Look}
-use Rattle.bites_spec.specs.Class as class
-use Rattle.bites_spec.specs.Class.{Set, NamedClass, named_classes, name_of, members, single, union}
-use Rattle.bites_spec.specs.Pattern.{Text, Flags, skip, next_is, begins, caret, dash, backslash, left_bracket, right_bracket, ReadsEach}
+use Rattle.bites_spec.specs.Class.{Set, NamedClass, named_classes, single, union}
+use Rattle.bites_spec.specs.Pattern.{Text, Flags, skip, next_is, begins, dash, backslash, left_bracket, right_bracket, ReadsEach}
 use Rattle.bites_spec.specs.Escape.{Meaning, character, characters, assertion}
 use Rattle.bites_spec.specs.EscapeFault.{StuckEscape}
 use Rattle.bites_spec.specs.Bracket.{ReadsCaret, ReadsLeading, ReadsBracketFront, ReadsEnd, may_be_first, may_be_second, leads_to_second, is_twice, is_set_operator}
 use Rattle.bites_spec.specs.BracketFault.{begins_named_class, is_single, StuckMembers, StuckBracket}
-use Rattle.bites_spec.specs.Fault.{ComesFirst}
 use Rattle.bites_spec.specs.Reading as reading
 use Rattle.bites_spec.specs.Reading.{Answer, Members, answer, stop, and_then, class_members, class_end, after_first, after_dash}
 use Rattle.bites_spec.proofs.EachLemmas.{skip_shorter}
 use Rattle.bites_spec.proofs.EscapeLemmas.{bool_cases}
-use Rattle.bites_spec.proofs.BracketText.{skip_again, skip_nil, and_both, end_shorter, stuck_escape_shorter}
+use Rattle.bites_spec.proofs.ChoiceParts.{StopsBy}
+use Rattle.bites_spec.proofs.BracketText.{escape_begins, stuck_escape_begins, skip_nil, end_shorter, stuck_escape_shorter}
+use Rattle.bites_spec.proofs.BracketEscapes.{escape_stops, same_behind}
 use Rattle.bites_spec.proofs.BracketMeans.{name_front, not_name_front, members_gap, twice_begins}
-use Rattle.bites_spec.proofs.BracketLeads.{EscapesLead, escape_begins, end_leads, member_shorter, member_leads, at_first, at_second, at_alone, caret_shorter, caret_leads, dashes_lead, same_behind, front_leads, front_shorter, front_begins}
-
--- an answer that stops, no later than the place and the message
-abbrev pub StopsBy : {A : Type 0} → Message → Text → Answer A → Type 0
-StopsBy m place (Ok x) = ⊥
-StopsBy m place (Err e) = ComesFirst e.message e.place m place
-
--- where an escape stops, the function stops
-abbrev pub EscapesFirst : Type 0
-EscapesFirst =
-    (n : ℕ) (flags : Flags) (t place : Text) (m : Message) → length t ≤ n → StuckEscape flags (backslash ∷ t) m place →
-    StopsBy m place (reading.escape n flags t)
+use Rattle.bites_spec.proofs.BracketLeads.{end_leads, member_shorter, member_leads, at_first, at_second, at_alone, caret_shorter, caret_leads, dashes_lead, front_leads, front_shorter}
 
 -- a stop there, with a message of no greater rank
 stops_there : {A : Type 0} (k m : Message) (at place : Text) (a : Answer A) → a ≡ stop k at → at ≡ place → rank k ≤ rank m → StopsBy m place a
@@ -47,24 +36,17 @@ and_stops : {A B : Type 0} (m : Message) (place : Text) (a : Answer A) (f : A �
 and_stops m place (Ok x) f first = absurd first
 and_stops m place (Err e) f first = first
 
-pub stuck_escape_begins : {flags : Flags} {t place : Text} {m : Message} → StuckEscape flags t m place → (next : Text) × (t ≡ backslash ∷ next)
-stuck_escape_begins (StuckEscape.ends t place m from is names) = ([], from)
-stuck_escape_begins (StuckEscape.digit c t rest place m from pass is names) = (c ∷ rest, from)
-stuck_escape_begins (StuckEscape.property c t rest place m from pass is names) = (c ∷ rest, from)
-stuck_escape_begins (StuckEscape.strange c t rest place m from digit property without is names) = (c ∷ rest, from)
-stuck_escape_begins (StuckEscape.hexadecimal c n t next place m from digits r) = (c ∷ next, from)
-stuck_escape_begins (StuckEscape.boundary_begins t next place m from gap is names) = (_, from)
-stuck_escape_begins (StuckEscape.boundary_ends t next name place m from r some without names) = (_, from)
-stuck_escape_begins (StuckEscape.boundary_unknown t next name rest place m from r some is without names) = (_, from)
-
 -- where an end of a range stops, the function stops
-end_first : EscapesFirst → {flags : Flags} {t place : Text} {m : Message} → StuckEscape flags t m place → (n : ℕ) → length t ≤ suc n →
+end_first : {flags : Flags} {t place : Text} {m : Message} → StuckEscape flags t m place → (n : ℕ) → length t ≤ suc n →
     StopsBy m place (class_end n flags t)
-end_first firsts {flags} {t} {place} {m} r n room =
+end_first {flags} {t} {place} {m} r n room =
     let from = stuck_escape_begins r in
-    let stops : StopsBy m place (class_end n flags (backslash ∷ from.0)) =
-    firsts n flags from.0 place m (omega (arith, ap length from.1)) (subst (λ y. StuckEscape flags y m place) from.1 r) in
-    subst (λ y. StopsBy m place (class_end n flags y)) (sym from.1) stops
+    stops_so m m place place _ (ap (class_end n flags) from.1 ∙ escape_stops r n from.0 from.1 (omega (arith, ap length from.1))) refl refl
+
+-- where an escape stops the relation, it stops the function
+pub escape_first : {flags : Flags} {t place : Text} {m : Message} → StuckEscape flags t m place → (n : ℕ) (next : Text) → t ≡ backslash ∷ next → length next ≤ n →
+    StopsBy m place (reading.escape n flags next)
+escape_first {place = place} {m} r n next begins room = stops_so m m place place _ (escape_stops r n next begins room) refl refl
 
 twice_some : (d : ℕ) (u : Text) → is_twice d u ≡ true → u ≡ [] → ⊥
 twice_some d u e is = true≢false (sym e ∙ ap (is_twice d) is)
@@ -153,31 +135,31 @@ front_stops go n flags sofar u place m before may stops =
     (bool_cases (is_set_operator u))
 
 -- behind a first end
-behind_first : EscapesLead → (go : Members) (n : ℕ) (flags : Flags) (sofar : Set) (u behind place : Text) (m : Message) (first : Meaning) → length u ≤ suc n →
+behind_first : (go : Members) (n : ℕ) (flags : Flags) (sofar : Set) (u behind place : Text) (m : Message) (first : Meaning) → length u ≤ suc n →
     length place < length u → may_be_first u ≡ true → ReadsEnd flags u first behind →
     StopsBy m place (after_first go n flags sofar first (skip flags behind)) → StopsBy m place (reading.member go n flags sofar u)
-behind_first escapes go n flags sofar u behind place m first room before may reads stops =
+behind_first go n flags sofar u behind place m first room before may reads stops =
     front_stops go n flags sofar u place m before may
-    (subst (λ a. StopsBy m place (and_then a (λ x rest. after_first go n flags sofar x (skip flags rest)))) (sym (end_leads escapes reads n room)) stops)
+    (subst (λ a. StopsBy m place (and_then a (λ x rest. after_first go n flags sofar x (skip flags rest)))) (sym (end_leads reads n room)) stops)
 
 -- behind a first end and a dash
-behind_dash : EscapesLead → (go : Members) (n : ℕ) (flags : Flags) (sofar : Set) (u behind next place : Text) (m : Message) (first : Meaning) → length u ≤ suc n →
+behind_dash : (go : Members) (n : ℕ) (flags : Flags) (sofar : Set) (u behind next place : Text) (m : Message) (first : Meaning) → length u ≤ suc n →
     length place < length u → may_be_first u ≡ true → ReadsEnd flags u first behind → skip flags behind ≡ dash ∷ next →
     StopsBy m place (after_dash go n flags sofar first (dash ∷ next) (skip flags next)) → StopsBy m place (reading.member go n flags sofar u)
-behind_dash escapes go n flags sofar u behind next place m first room before may reads dashed stops =
-    behind_first escapes go n flags sofar u behind place m first room before may reads
+behind_dash go n flags sofar u behind next place m first room before may reads dashed stops =
+    behind_first go n flags sofar u behind place m first room before may reads
     (subst (λ y. StopsBy m place (after_first go n flags sofar first y)) (sym dashed) stops)
 
 -- behind both ends of what would be a range
-behind_second : EscapesLead → (go : Members) (n : ℕ) (flags : Flags) (sofar : Set) (u behind next place : Text) (m : Message) (first second : Meaning) →
+behind_second : (go : Members) (n : ℕ) (flags : Flags) (sofar : Set) (u behind next place : Text) (m : Message) (first second : Meaning) →
     length u ≤ suc n → may_be_first u ≡ true → ReadsEnd flags u first behind → skip flags behind ≡ dash ∷ next →
     may_be_second (skip flags next) ≡ true → ReadsEnd flags (skip flags next) second place →
     StopsBy m place (reading.range go sofar first second place) → StopsBy m place (reading.member go n flags sofar u)
-behind_second escapes go n flags sofar u behind next place m first second room may reads dashed second_may last stops =
+behind_second go n flags sofar u behind next place m first second room may reads dashed second_may last stops =
     let short : length (skip flags next) < length u = omega (arith, end_shorter reads, ap length dashed, skip_shorter flags behind, skip_shorter flags next) in
-    behind_dash escapes go n flags sofar u behind next place m first room (omega (arith, end_shorter last)) may reads dashed
+    behind_dash go n flags sofar u behind next place m first room (omega (arith, end_shorter last)) may reads dashed
     (subst (StopsBy m place) (sym (at_second go n flags sofar first (dash ∷ next) (skip flags next) (omega (arith, end_shorter last)) second_may))
-    (subst (λ a. StopsBy m place (and_then a (reading.range go sofar first))) (sym (end_leads escapes last n (omega arith))) stops))
+    (subst (λ a. StopsBy m place (and_then a (reading.range go sofar first))) (sym (end_leads last n (omega arith))) stops))
 
 no_range : (go : Members) (sofar : Set) (first second : Meaning) (rest : Text) → (is_single first && is_single second) ≡ false →
     reading.range go sofar first second rest ≡ stop message.range_of_no_character rest
@@ -216,64 +198,64 @@ at_assertion go n flags sofar l (c ∷ place) m leads names =
     stops_so message.invalid_class_escape m (c ∷ place) (c ∷ place) _ (at_alone go n flags sofar (assertion l) (c ∷ place) (omega arith) leads) refl (sym names)
 
 -- where an item stops the relation, it stops a function that goes on
-item_first : EscapesLead → EscapesFirst → {flags : Flags} {t place : Text} {m : Message} → StuckMembers flags t m place → (n : ℕ) (go : Members) (sofar : Set) →
+item_first : {flags : Flags} {t place : Text} {m : Message} → StuckMembers flags t m place → (n : ℕ) (go : Members) (sofar : Set) →
     length t ≤ suc n → ((more : Set) (u : Text) → go more (skip flags u) ≡ go more u) →
     ((more : Set) (u : Text) → length u ≤ n → StuckMembers flags u m place → StopsBy m place (go more u)) →
     StopsBy m place (reading.member go n flags sofar (skip flags t))
-item_first escapes firsts {flags} (StuckMembers.later t next place set m plain member r) n go sofar room minds on =
+item_first {flags} (StuckMembers.later t next place set m plain member r) n go sofar room minds on =
     let short : length next ≤ n = omega (arith, member_shorter member, skip_shorter flags t) in
-    elim (member_leads escapes member plain n go sofar (omega (arith, skip_shorter flags t)) minds) [
-      inl passes ↦ subst (StopsBy m place) (sym passes) (on (union sofar set) next short r)
-    | inr ends ↦
-        let end = stuck_at_end r ends.0 in
-        stops_there message.unclosed_after_member m [] place _ ends.1 (sym end.0) (omega (arith, ap rank end.1))
+    elim (member_leads member plain n go sofar (omega (arith, skip_shorter flags t)) minds) [
+      | inl passes ↦ subst (StopsBy m place) (sym passes) (on (union sofar set) next short r)
+      | inr ends ↦
+          let end = stuck_at_end r ends.0 in
+          stops_there message.unclosed_after_member m [] place _ ends.1 (sym end.0) (omega (arith, ap rank end.1))
     ]
-item_first escapes firsts {flags} (StuckMembers.ends t place m gap is names) n go sofar room minds on =
+item_first {flags} (StuckMembers.ends t place m gap is names) n go sofar room minds on =
     stops_so message.unclosed_class m [] place _ (ap (reading.member go n flags sofar) gap) (sym is) (sym names)
-item_first escapes firsts {flags} (StuckMembers.nested t rest place m at is none names) n go sofar room minds on =
+item_first {flags} (StuckMembers.nested t rest place m at is none names) n go sofar room minds on =
     let stops : reading.member go n flags sofar place ≡ stop message.nested_class place =
     ap (reading.member go n flags sofar) is ∙ no_name go sofar (left_bracket ∷ rest) named_classes (ap begins_named_class (sym is) ∙ none)
     ∙ ap (stop message.nested_class) (sym is) in
     stops_so message.nested_class m place place _ (ap (reading.member go n flags sofar) (sym at) ∙ stops) refl (sym names)
-item_first escapes firsts {flags} (StuckMembers.intersection t place m at twice names) n go sofar room minds on =
+item_first {flags} (StuckMembers.intersection t place m at twice names) n go sofar room minds on =
     stops_so message.class_intersection m place place _ (ap (reading.member go n flags sofar) (sym at) ∙ at_intersection go n flags sofar place twice) refl
     (sym names)
-item_first escapes firsts {flags} (StuckMembers.difference t place m at twice names) n go sofar room minds on =
+item_first {flags} (StuckMembers.difference t place m at twice names) n go sofar room minds on =
     stops_so message.class_difference m place place _ (ap (reading.member go n flags sofar) (sym at) ∙ at_difference go n flags sofar place twice) refl
     (sym names)
-item_first escapes firsts {flags} (StuckMembers.symmetric_difference t place m at twice names) n go sofar room minds on =
+item_first {flags} (StuckMembers.symmetric_difference t place m at twice names) n go sofar room minds on =
     stops_so message.class_symmetric_difference m place place _
     (ap (reading.member go n flags sofar) (sym at) ∙ at_symmetric_difference go n flags sofar place twice) refl (sym names)
-item_first escapes firsts {flags} (StuckMembers.in_first t place m r) n go sofar room minds on =
+item_first {flags} (StuckMembers.in_first t place m r) n go sofar room minds on =
     front_stops go n flags sofar (skip flags t) place m (stuck_escape_shorter r) (ap may_be_first (stuck_escape_begins r).1)
-    (and_stops m place (class_end n flags (skip flags t)) _ (end_first firsts r n (omega (arith, skip_shorter flags t))))
-item_first escapes firsts {flags} (StuckMembers.ends_after_first t behind place first m may r gap is names) n go sofar room minds on =
-    behind_first escapes go n flags sofar (skip flags t) behind place m first (omega (arith, skip_shorter flags t)) (omega (arith, end_shorter r, ap length is)) may r
+    (and_stops m place (class_end n flags (skip flags t)) _ (end_first r n (omega (arith, skip_shorter flags t))))
+item_first {flags} (StuckMembers.ends_after_first t behind place first m may r gap is names) n go sofar room minds on =
+    behind_first go n flags sofar (skip flags t) behind place m first (omega (arith, skip_shorter flags t)) (omega (arith, end_shorter r, ap length is)) may r
     (stops_so message.unclosed_after_member m [] place _ (ap (after_first go n flags sofar first) gap) (sym is) (sym names))
-item_first escapes firsts {flags} (StuckMembers.assertion_alone t behind place first l m r means at leads names) n go sofar room minds on =
+item_first {flags} (StuckMembers.assertion_alone t behind place first l m r means at leads names) n go sofar room minds on =
     let stops : StopsBy m place (after_first go n flags sofar first (skip flags behind)) =
     subst (λ y. StopsBy m place (after_first go n flags sofar first y)) at
     (subst (λ x. StopsBy m place (after_first go n flags sofar x place)) (sym means) (at_assertion go n flags sofar l place m leads names)) in
-    behind_first escapes go n flags sofar (skip flags t) behind place m first (omega (arith, skip_shorter flags t))
+    behind_first go n flags sofar (skip flags t) behind place m first (omega (arith, skip_shorter flags t))
     (omega (arith, end_shorter r, ap length at, skip_shorter flags behind)) (assertion_may l r means) r stops
-item_first escapes firsts {flags} (StuckMembers.ends_after_dash t behind next place first m may r dashed gap is names) n go sofar room minds on =
-    behind_dash escapes go n flags sofar (skip flags t) behind next place m first (omega (arith, skip_shorter flags t)) (omega (arith, end_shorter r, ap length is)) may r
+item_first {flags} (StuckMembers.ends_after_dash t behind next place first m may r dashed gap is names) n go sofar room minds on =
+    behind_dash go n flags sofar (skip flags t) behind next place m first (omega (arith, skip_shorter flags t)) (omega (arith, end_shorter r, ap length is)) may r
     dashed
     (stops_so message.unclosed_after_dash m [] place _ (ap (after_dash go n flags sofar first (dash ∷ next)) gap) (sym is) (sym names))
-item_first escapes firsts {flags} (StuckMembers.in_second t behind next place first m may r dashed second) n go sofar room minds on =
+item_first {flags} (StuckMembers.in_second t behind next place first m may r dashed second) n go sofar room minds on =
     let short : length (skip flags next) < length (skip flags t) = omega (arith, end_shorter r, ap length dashed, skip_shorter flags behind, skip_shorter flags next) in
     let reads : after_dash go n flags sofar first (dash ∷ next) (skip flags next) ≡ and_then (class_end n flags (skip flags next)) (reading.range go sofar first) =
     at_second go n flags sofar first (dash ∷ next) (skip flags next) (omega (arith, stuck_escape_shorter second)) (ap may_be_second (stuck_escape_begins second).1) in
-    behind_dash escapes go n flags sofar (skip flags t) behind next place m first (omega (arith, skip_shorter flags t)) (omega (arith, stuck_escape_shorter second))
+    behind_dash go n flags sofar (skip flags t) behind next place m first (omega (arith, skip_shorter flags t)) (omega (arith, stuck_escape_shorter second))
     may r dashed
     (subst (StopsBy m place) (sym reads)
-    (and_stops m place (class_end n flags (skip flags next)) (reading.range go sofar first) (end_first firsts second n (omega (arith, skip_shorter flags t)))))
-item_first escapes firsts {flags} (StuckMembers.no_character t behind next place first second m may r dashed second_may last single names) n go sofar room minds on =
-    behind_second escapes go n flags sofar (skip flags t) behind next place m first second (omega (arith, skip_shorter flags t)) may r dashed second_may last
+    (and_stops m place (class_end n flags (skip flags next)) (reading.range go sofar first) (end_first second n (omega (arith, skip_shorter flags t)))))
+item_first {flags} (StuckMembers.no_character t behind next place first second m may r dashed second_may last single names) n go sofar room minds on =
+    behind_second go n flags sofar (skip flags t) behind next place m first second (omega (arith, skip_shorter flags t)) may r dashed second_may last
     (stops_so message.range_of_no_character m place place _ (no_range go sofar first second place single) refl (sym names))
-item_first escapes firsts {flags} (StuckMembers.crossed low high t behind next place m may r dashed second_may last order names) n go sofar room minds on =
+item_first {flags} (StuckMembers.crossed low high t behind next place m may r dashed second_may last order names) n go sofar room minds on =
     let crossed : nat_le low high ≡ false = lt-leb low high order in
-    behind_second escapes go n flags sofar (skip flags t) behind next place m (character low) (character high) (omega (arith, skip_shorter flags t)) may r dashed
+    behind_second go n flags sofar (skip flags t) behind next place m (character low) (character high) (omega (arith, skip_shorter flags t)) may r dashed
     second_may last
     (stops_so message.invalid_range m place place _ (rw crossed refl) refl (sym names))
 
@@ -282,14 +264,14 @@ nothing [] short = refl
 nothing (c ∷ t) short = absurd (omega arith)
 
 -- where the members of a class stop the relation, they stop the function
-pub members_first : EscapesLead → EscapesFirst → (n : ℕ) {flags : Flags} {t place : Text} {m : Message} (sofar : Set) → length t ≤ n →
+pub members_first : (n : ℕ) {flags : Flags} {t place : Text} {m : Message} (sofar : Set) → length t ≤ n →
     StuckMembers flags t m place → StopsBy m place (class_members n flags sofar t)
-members_first escapes firsts zero {flags} {t} {place} {m} sofar room r =
+members_first zero {flags} {t} {place} {m} sofar room r =
     let end = stuck_at_end r (nothing (skip flags t) (omega (arith, skip_shorter flags t))) in
     stops_so {A = Set} message.unclosed_class m [] place (stop message.unclosed_class []) refl (sym end.0) (sym end.1)
-members_first escapes firsts (suc n) {flags} {t} {place} {m} sofar room r =
-    item_first escapes firsts r n (class_members n flags) sofar room (members_gap n flags)
-    (λ more u short stuck. members_first escapes firsts n more short stuck)
+members_first (suc n) {flags} {t} {place} {m} sofar room r =
+    item_first r n (class_members n flags) sofar room (members_gap n flags)
+    (λ more u short stuck. members_first n more short stuck)
 
 caret_ends : {flags : Flags} {t rest : Text} {negated : Bool} → ReadsCaret flags t negated rest → rest ≡ [] → (n : ℕ) →
     StopsBy message.unclosed_class [] (reading.bracket n flags t)
@@ -345,21 +327,21 @@ finished_first : (m : Message) (place : Text) (flags : Flags) (negated : Bool) (
 finished_first m place flags negated a first = and_stops m place a _ first
 
 -- where a class in brackets stops the relation, it stops the function
-pub bracket_first : EscapesLead → EscapesFirst → {flags : Flags} {t place : Text} {m : Message} → StuckBracket flags t m place →
+pub bracket_first : {flags : Flags} {t place : Text} {m : Message} → StuckBracket flags t m place →
     (n : ℕ) (next : Text) → t ≡ left_bracket ∷ next → length next ≤ n → StopsBy m place (reading.bracket n flags (skip flags next))
-bracket_first escapes firsts {flags} (StuckBracket.ends_at_once t other place m from gap is names) n next begins room =
+bracket_first {flags} (StuckBracket.ends_at_once t other place m from gap is names) n next begins room =
     let same : next ≡ other = same_behind left_bracket next other (sym begins ∙ from) in
     stops_so message.unclosed_class m [] place _ (ap (reading.bracket n flags) (ap (skip flags) same ∙ gap)) (sym is) (sym names)
-bracket_first escapes firsts {flags} (StuckBracket.ends_after_caret t other place m from marked is names) n next begins room =
+bracket_first {flags} (StuckBracket.ends_after_caret t other place m from marked is names) n next begins room =
     let same : next ≡ other = same_behind left_bracket next other (sym begins ∙ from) in
     stops_so message.unclosed_after_caret m [] place _ (ap (λ y. reading.bracket n flags (skip flags y)) same ∙ negation_ends marked refl is n) (sym is) (sym names)
-bracket_first escapes firsts {flags} (StuckBracket.ends_after_dashes t other behind_caret dashes place negated m from marked dashed some is names) n next begins room =
+bracket_first {flags} (StuckBracket.ends_after_dashes t other behind_caret dashes place negated m from marked dashed some is names) n next begins room =
     let same : next ≡ other = same_behind left_bracket next other (sym begins ∙ from) in
     let short : length behind_caret ≤ n = omega (arith, caret_shorter marked, skip_shorter flags other, ap length same) in
     stops_so message.unclosed_after_dash m [] place _
     (ap (λ y. reading.bracket n flags (skip flags y)) same ∙ caret_leads marked (each_some dashed some) n ∙ dashes_lead dashed n negated short
     ∙ ap (reading.after_dashes n flags negated dashes) is ∙ dashes_end n flags negated dashes some) (sym is) (sym names)
-bracket_first escapes firsts {flags} (StuckBracket.ends_after_bracket t other behind_caret more place negated m from marked bracketed gap is names) n next begins room =
+bracket_first {flags} (StuckBracket.ends_after_bracket t other behind_caret more place negated m from marked bracketed gap is names) n next begins room =
     let same : next ≡ other = same_behind left_bracket next other (sym begins ∙ from) in
     let short : length behind_caret ≤ n = omega (arith, caret_shorter marked, skip_shorter flags other, ap length same) in
     let no_dash : ReadsEach flags (single dash) behind_caret [] behind_caret =
@@ -367,7 +349,7 @@ bracket_first escapes firsts {flags} (StuckBracket.ends_after_bracket t other be
     stops_so message.unclosed_after_bracket m [] place _
     (ap (λ y. reading.bracket n flags (skip flags y)) same ∙ caret_leads marked (omega (arith, ap length bracketed)) n ∙ dashes_lead no_dash n negated short
     ∙ ap (reading.after_dashes n flags negated []) bracketed ∙ ap (reading.after_bracket n flags negated) gap) (sym is) (sym names)
-bracket_first escapes firsts {flags} (StuckBracket.in_members t items place negated leading m before r) n next begins room =
+bracket_first {flags} (StuckBracket.in_members t items place negated leading m before r) n next begins room =
     by_items items before r
   where
     by_items : (u : Text) → ReadsBracketFront flags t negated leading u → StuckMembers flags u m place → StopsBy m place (reading.bracket n flags (skip flags next))
@@ -378,4 +360,4 @@ bracket_first escapes firsts {flags} (StuckBracket.in_members t items place nega
     by_items (c ∷ u) before r =
         subst (StopsBy m place) (sym (front_leads before (omega arith) n next begins room))
         (finished_first m place flags negated (class_members n flags leading (c ∷ u))
-        (members_first escapes firsts n leading (omega (arith, front_shorter before, ap length begins)) r))
+        (members_first n leading (omega (arith, front_shorter before, ap length begins)) r))

@@ -1,6 +1,6 @@
 -- Classes in brackets: what the relations read, the function answers.
-use Rattle.std.proofs.Common.{◌≡◌, ℕ, zero, suc, ◌+◌, ◌<◌, ◌≤◌, Bool, true, false, not, ◌&&◌, ◌||◌, ◌==◌, List, [], ◌∷◌, ◌++◌, length, drop, refl, sym, ap, ap₂, ◌∙◌, subst, inl, inr, ⊎_elim, arith, ◌⊎◌, Ok, Err, Option, Some, None, eqb-true, true≢false, length-append, le-leb}
-use Rattle.std.specs.Prelude.{codes, nat_le, if◌then◌else◌}
+use Rattle.std.proofs.Common.{◌≡◌, ℕ, zero, suc, ◌<◌, ◌≤◌, Bool, true, false, not, ◌||◌, ◌==◌, List, [], ◌∷◌, ◌++◌, length, refl, sym, ap, ap₂, ◌∙◌, subst, inl, inr, ⊎_elim, arith, ◌⊎◌, Some, None, true≢false, length-append, le-leb}
+use Rattle.std.specs.Prelude.{codes, nat_le}
 use Rattle.std.proofs.lemmas.Option.{none-some}
 use Rattle.std.proofs.Math.Path.{fun_ext}
 use Rattle.bites_spec.specs.Message as message
@@ -8,39 +8,25 @@ use Rattle.bites_spec.specs.Message.{Message}
 use Rattle.bites_spec.specs.Range.{Range}
 use Rattle.bites_spec.specs.Class as class
 use Rattle.bites_spec.specs.Class.{Set, NamedClass, alnum, alpha, ascii, blank, cntrl, digit, graph, lower, print, punct, space, upper, word, xdigit, named_classes, name_of, members, single, union, complement, Lists}
-use Rattle.bites_spec.specs.Pattern.{Text, Flags, skip, next_is, one_of, caret, dash, backslash, left_bracket, right_bracket, ReadsEach}
-use Rattle.bites_spec.specs.Escape.{Meaning, character, characters, assertion, ReadsEscape}
+use Rattle.bites_spec.specs.Pattern.{Text, Flags, skip, next_is, one_of, caret, dash, left_bracket, right_bracket, ReadsEach}
+use Rattle.bites_spec.specs.Escape.{Meaning, character, characters, assertion}
 use Rattle.bites_spec.specs.Bracket.{ReadsCaret, ReadsLeading, ReadsBracketFront, ReadsEnd, ReadsMember, ReadsMembers, ReadsBracket, may_be_first, may_be_second, leads_to_second, set_of, is_set_operator, with_cases, with_negation}
 use Rattle.bites_spec.specs.Reading as reading
 use Rattle.bites_spec.specs.Reading.{Answer, Members, answer, stop, choose, and_then, class_members, class_end, after_first, after_dash, alone}
 use Rattle.bites_spec.proofs.EachLemmas.{skip_shorter, each_complete, each_shorter}
-use Rattle.bites_spec.proofs.EscapeLemmas.{bool_cases, either_side}
-use Rattle.bites_spec.proofs.BracketText.{skip_again, union_assoc, end_shorter}
+use Rattle.bites_spec.proofs.EscapeLemmas.{bool_cases}
+use Rattle.bites_spec.proofs.BracketText.{union_assoc, end_shorter, escape_begins}
+use Rattle.bites_spec.proofs.BracketEscapes.{escape_leads, same_behind}
 use Rattle.bites_spec.proofs.BracketMeans.{name_front, not_name_front, members_gap}
 
--- what an escape is read as, the function answers
-abbrev pub EscapesLead : Type 0
-EscapesLead =
-    (n : ℕ) (flags : Flags) (t rest : Text) (meaning : Meaning) → length t ≤ n → ReadsEscape flags (backslash ∷ t) meaning rest →
-    reading.escape n flags t ≡ answer meaning rest
-
-pub escape_begins : {flags : Flags} {t rest : Text} {meaning : Meaning} → ReadsEscape flags t meaning rest → (next : Text) × (t ≡ backslash ∷ next)
-escape_begins (ReadsEscape.control c d t rest meaning is means same) = (c ∷ rest, is)
-escape_begins (ReadsEscape.itself c t rest meaning is means same) = (c ∷ rest, is)
-escape_begins (ReadsEscape.anchor c l t rest meaning is means same) = (c ∷ rest, is)
-escape_begins (ReadsEscape.word_boundary t rest meaning is begins same) = (_, is)
-escape_begins (ReadsEscape.named_boundary l t next name rest meaning is r means same) = (_, is)
-escape_begins (ReadsEscape.class c set t rest meaning is means same) = (c ∷ rest, is)
-escape_begins (ReadsEscape.hexadecimal c n value t next rest meaning is digits r scalar same) = (c ∷ next, is)
-
 -- an end of a range that the relation reads, the function reads
-pub end_leads : EscapesLead → {flags : Flags} {t rest : Text} {meaning : Meaning} → ReadsEnd flags t meaning rest → (n : ℕ) → length t ≤ suc n →
+pub end_leads : {flags : Flags} {t rest : Text} {meaning : Meaning} → ReadsEnd flags t meaning rest → (n : ℕ) → length t ≤ suc n →
     class_end n flags t ≡ answer meaning rest
-end_leads escapes {flags} (ReadsEnd.plain c t rest meaning is other same) n room = ap (class_end n flags) is ∙ rw (other, same) refl
-end_leads escapes {flags} (ReadsEnd.escape t rest meaning r) n room =
+end_leads {flags} (ReadsEnd.plain c t rest meaning is other same) n room = ap (class_end n flags) is ∙ rw (other, same) refl
+end_leads {flags} (ReadsEnd.escape t rest meaning r) n room =
     let begins = escape_begins r in
     ap (class_end n flags) begins.1
-    ∙ escapes n flags begins.0 rest meaning (omega (arith, ap length begins.1)) (subst (λ y. ReadsEscape flags y meaning rest) begins.1 r)
+    ∙ escape_leads r n begins.0 begins.1 (omega (arith, ap length begins.1))
 
 -- an item goes forward
 pub member_shorter : {flags : Flags} {t rest : Text} {set : Set} → ReadsMember flags t set rest → length rest < length t
@@ -174,45 +160,45 @@ in_order : (low high : ℕ) → low ≤ high → nat_le low high ≡ true
 in_order low high order = le-leb low high order
 
 -- an item that the relation reads, the function reads
-pub member_leads : EscapesLead → {flags : Flags} {t next : Text} {one : Set} → ReadsMember flags t one next → is_set_operator t ≡ false →
+pub member_leads : {flags : Flags} {t next : Text} {one : Set} → ReadsMember flags t one next → is_set_operator t ≡ false →
     (n : ℕ) (go : Members) (sofar : Set) → length t ≤ suc n → MindsNoGap flags go →
     Passes flags go (union sofar one) next (reading.member go n flags sofar t)
-member_leads escapes {flags} (ReadsMember.named k t next one is same) plain n go sofar room minds =
+member_leads {flags} (ReadsMember.named k t next one is same) plain n go sofar room minds =
     inl (ap (reading.member go n flags sofar) is ∙ named_leads k go sofar next ∙ ap (λ set. go (union sofar set) next) (sym same))
-member_leads escapes {flags} (ReadsMember.not_named k t next one is same) plain n go sofar room minds =
+member_leads {flags} (ReadsMember.not_named k t next one is same) plain n go sofar room minds =
     inl (ap (reading.member go n flags sofar) is ∙ not_named_leads k go sofar next ∙ ap (λ set. go (union sofar set) next) (sym same))
-member_leads escapes {flags} (ReadsMember.range low high t behind after next one may first dashed second last order same) plain n go sofar room minds =
+member_leads {flags} (ReadsMember.range low high t behind after next one may first dashed second last order same) plain n go sofar room minds =
     let front = at_first go n flags sofar t (omega (arith, end_shorter first)) may plain in
-    let one_end : class_end n flags t ≡ answer (character low) behind = end_leads escapes first n room in
+    let one_end : class_end n flags t ≡ answer (character low) behind = end_leads first n room in
     let other_end : class_end n flags (skip flags after) ≡ answer (character high) next =
-    end_leads escapes last n (omega (arith, end_shorter first, ap length dashed, skip_shorter flags behind, skip_shorter flags after)) in
+    end_leads last n (omega (arith, end_shorter first, ap length dashed, skip_shorter flags behind, skip_shorter flags after)) in
     let middle = at_second go n flags sofar (character low) (dash ∷ after) (skip flags after) (omega (arith, end_shorter last)) second in
     inl
     (front ∙ ap (λ a. and_then a (λ x rest. after_first go n flags sofar x (skip flags rest))) one_end
     ∙ ap (after_first go n flags sofar (character low)) dashed ∙ middle ∙ ap (λ a. and_then a (reading.range go sofar (character low))) other_end
     ∙ rw (in_order low high order, same) refl)
-member_leads escapes {flags} (ReadsMember.alone meaning t next one may first leads is) plain n go sofar room minds =
+member_leads {flags} (ReadsMember.alone meaning t next one may first leads is) plain n go sofar room minds =
     let front = at_first go n flags sofar t (omega (arith, end_shorter first)) may plain in
-    let one_end : class_end n flags t ≡ answer meaning next = end_leads escapes first n room in
+    let one_end : class_end n flags t ≡ answer meaning next = end_leads first n room in
     let before : reading.member go n flags sofar t ≡ after_first go n flags sofar meaning (skip flags next) =
     front ∙ ap (λ a. and_then a (λ x rest. after_first go n flags sofar x (skip flags rest))) one_end in
     subst (Passes flags go (union sofar one) next) (sym before) (alone_passes flags go n sofar one next (skip flags next) meaning minds refl leads is)
 
 -- items that the relation reads, the function reads
-pub members_lead : EscapesLead → {flags : Flags} {t rest : Text} {set : Set} → ReadsMembers flags t set rest → (n : ℕ) (sofar : Set) → length t ≤ n →
+pub members_lead : {flags : Flags} {t rest : Text} {set : Set} → ReadsMembers flags t set rest → (n : ℕ) (sofar : Set) → length t ≤ n →
     class_members n flags sofar t ≡ answer (union sofar set) rest
-members_lead escapes {flags} (ReadsMembers.closed t rest set gap same) zero sofar room = absurd (omega (arith, ap length gap, skip_shorter flags t))
-members_lead escapes {flags} (ReadsMembers.closed t rest set gap same) (suc n) sofar room =
+members_lead {flags} (ReadsMembers.closed t rest set gap same) zero sofar room = absurd (omega (arith, ap length gap, skip_shorter flags t))
+members_lead {flags} (ReadsMembers.closed t rest set gap same) (suc n) sofar room =
     ap (reading.member (class_members n flags) n flags sofar) gap
     ∙ ap (λ all. answer all rest) (fun_ext (λ c. sym (or_none (sofar c))) ∙ ap (union sofar) (sym same))
-members_lead escapes {flags} (ReadsMembers.goes_on t next rest one others set plain member r same) zero sofar room =
+members_lead {flags} (ReadsMembers.goes_on t next rest one others set plain member r same) zero sofar room =
     absurd (omega (arith, member_shorter member, skip_shorter flags t))
-members_lead escapes {flags} (ReadsMembers.goes_on t next rest one others set plain member r same) (suc n) sofar room =
-    elim (member_leads escapes member plain n (class_members n flags) sofar (omega (arith, skip_shorter flags t)) (members_gap n flags)) [
-      inl passes ↦
-        passes ∙ members_lead escapes r n (union sofar one) (omega (arith, member_shorter member, skip_shorter flags t))
-        ∙ ap (λ all. answer all rest) (union_assoc sofar one others ∙ ap (union sofar) (sym same))
-    | inr ends ↦ absurd (omega (arith, members_some r, ap length ends.0))
+members_lead {flags} (ReadsMembers.goes_on t next rest one others set plain member r same) (suc n) sofar room =
+    elim (member_leads member plain n (class_members n flags) sofar (omega (arith, skip_shorter flags t)) (members_gap n flags)) [
+      | inl passes ↦
+          passes ∙ members_lead r n (union sofar one) (omega (arith, member_shorter member, skip_shorter flags t))
+          ∙ ap (λ all. answer all rest) (union_assoc sofar one others ∙ ap (union sofar) (sym same))
+      | inr ends ↦ absurd (omega (arith, members_some r, ap length ends.0))
     ]
 
 by_dashes : (flags : Flags) (dashes t : Text) → 0 < length dashes → 0 < length t → (n : ℕ) (negated : Bool) →
@@ -273,9 +259,6 @@ pub dashes_lead : {flags : Flags} {t dashes rest : Text} → ReadsEach flags (si
     reading.dashes n flags negated t ≡ reading.after_dashes n flags negated dashes rest
 dashes_lead {flags} r n negated room = ap (λ d. reading.after_dashes n flags negated d.0 d.1) (each_complete r n room)
 
-pub same_behind : (c : ℕ) (t u : Text) → c ∷ t ≡ c ∷ u → t ≡ u
-same_behind c t u is = cc
-
 -- all before the first item that the relation reads, the function reads
 pub front_leads : {flags : Flags} {t items : Text} {negated : Bool} {leading : Set} → ReadsBracketFront flags t negated leading items → 0 < length items →
     (n : ℕ) (next : Text) → t ≡ left_bracket ∷ next → length next ≤ n →
@@ -294,14 +277,15 @@ front_shorter {flags} (ReadsBracketFront.front t next behind_caret behind_dashes
     omega (arith, ap length begins, skip_shorter flags next, caret_shorter marked, each_shorter dashed, leading_shorter leads)
 
 -- a class in brackets that the relation reads, the function reads, as a set that its ranges list
-pub bracket_leads : EscapesLead → {flags : Flags} {t rest : Text} {ranges : List Range} → ReadsBracket flags t ranges rest →
+pub bracket_leads : {flags : Flags} {t rest : Text} {ranges : List Range} → ReadsBracket flags t ranges rest →
     (n : ℕ) (next : Text) → t ≡ left_bracket ∷ next → length next ≤ n →
     (set : Set) × (reading.bracket n flags (skip flags next) ≡ answer set rest) × Lists ranges set
-bracket_leads escapes {flags} (ReadsBracket.bracket t items rest negated leading set ranges before members lists) n next is room =
-    (with_negation negated (with_cases flags (union leading set)),
-     front_leads before (omega (arith, members_some members, skip_shorter flags items)) n next is room
-     ∙ ap (reading.finished flags negated) (members_lead escapes members n leading (omega (arith, front_shorter before, ap length is))),
-     lists)
+bracket_leads {flags} (ReadsBracket.bracket t items rest negated leading set ranges before members lists) n next is room = (
+  with_negation negated (with_cases flags (union leading set)),
+  front_leads before (omega (arith, members_some members, skip_shorter flags items)) n next is room
+      ∙ ap (reading.finished flags negated) (members_lead members n leading (omega (arith, front_shorter before, ap length is))),
+  lists,
+)
 
 -- members go forward
 pub members_shorter : {flags : Flags} {t rest : Text} {set : Set} → ReadsMembers flags t set rest → length rest < length t

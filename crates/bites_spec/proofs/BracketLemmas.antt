@@ -1,17 +1,17 @@
 -- The laws of classes in brackets: what the function answers is a reading or a place where reading stops, what the relation reads the function answers,
 -- and where the relation stops the function stops, no later.
-use Rattle.std.proofs.Common.{◌≡◌, ℕ, ◌<◌, ◌≤◌, List, [], ◌∷◌, length, arith, ap}
+use Rattle.std.proofs.Common.{◌≡◌, ◌<◌, ◌≤◌, ◌∷◌, length, arith, ap}
 use Rattle.bites_spec.specs.Message.{Message}
-use Rattle.bites_spec.specs.Range.{Range}
-use Rattle.bites_spec.specs.Pattern.{Text, Flags, skip, left_bracket}
-use Rattle.bites_spec.specs.Bracket.{ReadsBracket}
+use Rattle.bites_spec.specs.Pattern.{Text, Flags, left_bracket}
 use Rattle.bites_spec.specs.BracketFault.{StuckMembers, StuckBracket}
-use Rattle.bites_spec.proofs.EachLemmas.{skip_shorter, each_shorter}
-use Rattle.bites_spec.proofs.BracketText.{end_shorter, stuck_escape_shorter}
-use Rattle.bites_spec.proofs.BracketLeads.{member_shorter, caret_shorter, front_shorter, front_begins}
+use Rattle.bites_spec.proofs.EachLemmas.{skip_shorter}
+use Rattle.bites_spec.proofs.BracketText.{end_shorter}
+use Rattle.bites_spec.proofs.BracketLeads.{member_shorter, front_shorter, front_begins}
+pub use Rattle.bites_spec.proofs.BracketText.{escape_shorter, stuck_escape_shorter, escape_begins, stuck_escape_begins}
+pub use Rattle.bites_spec.proofs.BracketEscapes.{escape_leads}
 pub use Rattle.bites_spec.proofs.BracketMeans.{BracketMeans, bracket_means}
-pub use Rattle.bites_spec.proofs.BracketLeads.{EscapesLead, bracket_leads, bracket_shorter, bracket_begins}
-pub use Rattle.bites_spec.proofs.BracketFirst.{StopsBy, EscapesFirst, bracket_first}
+pub use Rattle.bites_spec.proofs.BracketLeads.{bracket_leads, bracket_shorter, bracket_begins}
+pub use Rattle.bites_spec.proofs.BracketFirst.{escape_first, bracket_first}
 
 stuck_members_shorter : {flags : Flags} {t place : Text} {m : Message} → StuckMembers flags t m place → length place ≤ length t
 stuck_members_shorter {flags} (StuckMembers.later t next place set m plain member r) =

@@ -1,18 +1,17 @@
 -- Classes in brackets: what the function answers, the relations say.
-use Rattle.std.proofs.Common.{◌≡◌, ℕ, zero, suc, ◌+◌, ◌<◌, ◌≤◌, Bool, true, false, not, ◌&&◌, ◌||◌, ◌==◌, List, [], ◌∷◌, ◌++◌, length, drop, refl, sym, ap, ap₂, ◌∙◌, subst, inl, inr, ⊎_elim, arith, ◌⊎◌, Ok, Err, Some, None, eqb-true, ltb-true, ltb-false, leb-true, leb-false, true≢false, append_assoc, length-append, length-drop}
-use Rattle.std.specs.Prelude.{codes, nat_le, if◌then◌else◌}
+use Rattle.std.proofs.Common.{◌≡◌, ℕ, zero, suc, ◌+◌, ◌<◌, ◌≤◌, Bool, true, false, not, ◌&&◌, ◌||◌, ◌==◌, List, [], ◌∷◌, ◌++◌, length, drop, refl, sym, ap, ◌∙◌, subst, ⊎_elim, arith, Ok, Err, eqb-true, leb-true, leb-false, length-append, length-drop}
+use Rattle.std.specs.Prelude.{codes, nat_le}
 use Rattle.std.specs.List.{list_any}
 use Rattle.std.proofs.Math.Path.{fun_ext}
 use Rattle.bites_spec.specs.Message as message
 use Rattle.bites_spec.specs.Message.{Message}
 use Rattle.bites_spec.specs.Range.{Range}
-use Rattle.bites_spec.specs.Look.{Look}
 use Rattle.bites_spec.specs.Class as class
 use Rattle.bites_spec.specs.Class.{Set, NamedClass, named_classes, name_of, members, single, between, union, complement, Lists}
 use Rattle.bites_spec.specs.Pattern.{Text, Flags, skip, next_is, one_of, begins, caret, dash, left_bracket, right_bracket, ReadsEach}
 use Rattle.bites_spec.specs.Escape.{Meaning, character, characters, assertion}
 use Rattle.bites_spec.specs.EscapeFault.{StuckEscape}
-use Rattle.bites_spec.specs.Bracket.{ReadsCaret, ReadsLeading, ReadsBracketFront, ReadsEnd, ReadsMember, ReadsMembers, ReadsBracket, may_be_first, may_be_second, leads_to_second, set_of, is_twice, is_set_operator, with_cases, with_negation}
+use Rattle.bites_spec.specs.Bracket.{ReadsCaret, ReadsLeading, ReadsBracketFront, ReadsEnd, ReadsMember, ReadsMembers, ReadsBracket, may_be_first, may_be_second, leads_to_second, is_twice, is_set_operator, with_cases, with_negation}
 use Rattle.bites_spec.specs.BracketFault.{begins_named_class, is_single, StuckMembers, StuckBracket}
 use Rattle.bites_spec.specs.Reading as reading
 use Rattle.bites_spec.specs.Reading.{Answer, Members, answer, stop, choose, and_then, class_members}

@@ -1,6 +1,6 @@
 -- What the laws of classes in brackets need of gaps, beginnings and ends.
-use Rattle.std.proofs.Common.{◌≡◌, ℕ, zero, suc, ◌+◌, ◌<◌, ◌≤◌, Bool, true, false, ◌&&◌, ◌||◌, ◌==◌, [], ◌∷◌, ◌++◌, length, drop, refl, sym, ap, ap₂, ◌∙◌, subst, inl, inr, ⊎_elim, arith, ◌⊎◌, Ok, Err, eqb-true, true≢false, append_assoc, length-append}
-use Rattle.std.specs.Prelude.{codes, not, if◌then◌else◌}
+use Rattle.std.proofs.Common.{◌≡◌, ℕ, ◌<◌, ◌≤◌, Bool, true, false, ◌&&◌, ◌||◌, ◌==◌, [], ◌∷◌, ◌++◌, length, drop, refl, sym, ap, ap₂, subst, ⊎_elim, arith, Ok, Err, eqb-true, true≢false}
+use Rattle.std.specs.Prelude.{not}
 use Rattle.std.specs.Char.{is_whitespace}
 use Rattle.std.proofs.Math.Path.{fun_ext}
 use Rattle.bites_spec.specs.Message.{Message}
@@ -109,6 +109,27 @@ stuck_escape_shorter {flags} (StuckEscape.boundary_ends t next name place m from
     omega (arith, ap length from, each_shorter r, skip_shorter flags next)
 stuck_escape_shorter {flags} (StuckEscape.boundary_unknown t next name rest place m from r some is without names) =
     omega (arith, ap length from, each_shorter r, skip_shorter flags next)
+
+-- an escape begins with its backslash
+pub escape_begins : {flags : Flags} {t rest : Text} {meaning : Meaning} → ReadsEscape flags t meaning rest → (next : Text) × (t ≡ backslash ∷ next)
+escape_begins (ReadsEscape.control c d t rest meaning is means same) = (c ∷ rest, is)
+escape_begins (ReadsEscape.itself c t rest meaning is means same) = (c ∷ rest, is)
+escape_begins (ReadsEscape.anchor c l t rest meaning is means same) = (c ∷ rest, is)
+escape_begins (ReadsEscape.word_boundary t rest meaning is begins same) = (_, is)
+escape_begins (ReadsEscape.named_boundary l t next name rest meaning is r means same) = (_, is)
+escape_begins (ReadsEscape.class c set t rest meaning is means same) = (c ∷ rest, is)
+escape_begins (ReadsEscape.hexadecimal c n value t next rest meaning is digits r scalar same) = (c ∷ next, is)
+
+-- and so does one that stops
+pub stuck_escape_begins : {flags : Flags} {t place : Text} {m : Message} → StuckEscape flags t m place → (next : Text) × (t ≡ backslash ∷ next)
+stuck_escape_begins (StuckEscape.ends t place m from is names) = ([], from)
+stuck_escape_begins (StuckEscape.digit c t rest place m from pass is names) = (c ∷ rest, from)
+stuck_escape_begins (StuckEscape.property c t rest place m from pass is names) = (c ∷ rest, from)
+stuck_escape_begins (StuckEscape.strange c t rest place m from digit property without is names) = (c ∷ rest, from)
+stuck_escape_begins (StuckEscape.hexadecimal c n t next place m from digits r) = (c ∷ next, from)
+stuck_escape_begins (StuckEscape.boundary_begins t next place m from gap is names) = (_, from)
+stuck_escape_begins (StuckEscape.boundary_ends t next name place m from r some without names) = (_, from)
+stuck_escape_begins (StuckEscape.boundary_unknown t next name rest place m from r some is without names) = (_, from)
 
 as_end : (flags : Flags) (t u : Text) (a : Answer Meaning) → t ≡ u → Means (ReadsEscape flags t) (StuckEscape flags t) a → Means (ReadsEnd flags u) (StuckEscape flags u) a
 as_end flags t u (Ok x) is means = ReadsEnd.escape u x.1 x.0 (subst (λ y. ReadsEscape flags y x.0 x.1) is means)

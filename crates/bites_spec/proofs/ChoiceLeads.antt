@@ -60,7 +60,7 @@ limit_more s same x y z shorter =
     record { at = s.at; is = same ∙ s.is; before = omega (arith, s.before); passes = passes_more x y z s.passes }
 
 -- the answer goes on as this one, or is a stop at a limit
-abbrev GoesOn : ℕ → ℕ → ℕ → ℕ → ℕ → Text → Result Found Stop → Result Found Stop → Type 0
+abbrev pub GoesOn : ℕ → ℕ → ℕ → ℕ → ℕ → Text → Result Found Stop → Result Found Stop → Type 0
 GoesOn nest_limit depth opens counts groups rest a b = (a ≡ b) ⊎ StopsAtLimit nest_limit depth opens counts groups rest a
 
 goes_along : {nest_limit depth opens counts groups : ℕ} {rest : Text} (a b c : Result Found Stop) → a ≡ b → GoesOn nest_limit depth opens counts groups rest b c →

@@ -35,6 +35,7 @@ pub mod GroupLemmas
 pub mod CompilableNames
 pub mod CompilableLemmas
 pub mod BracketText
+pub mod BracketEscapes
 pub mod BracketMeans
 pub mod BracketLeads
 pub mod BracketFirst
@@ -46,4 +47,7 @@ pub mod ChoiceBegins
 pub mod ChoiceReader
 pub mod ChoiceSteps
 pub mod ChoiceLeads
+pub mod ChoiceFirst
 pub mod WholeSound
+mod WholeRanks
+pub mod WholeLaws

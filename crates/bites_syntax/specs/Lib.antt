@@ -1,5 +1,7 @@
 pub mod FlagsView
 pub mod Meanings
+pub mod Numbers
+pub mod Operators
 pub mod Parts
 pub mod Sets
 pub mod Steps

@@ -92,6 +92,16 @@ impl<'a> Cursor<'a> {
         self.rest.chars().next()
     }
 
+    /// Whether the set has the next character.
+    pub(crate) fn is_at(&self, set: Characters) -> bool
+        ensures { result ≡ next_is (members_of set) self.now }
+    {
+        match self.peek() {
+            Some(c) => set.contains(c),
+            None => false,
+        }
+    }
+
     /// Moves past the next character, if there is one.
     pub(crate) fn bump(&mut self) -> Option<char>
         ensures value { MatchOption result (self.old ≡ []) (λ c. self.old ≡ c ∷ self.new) }

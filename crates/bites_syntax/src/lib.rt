@@ -8,4 +8,6 @@ pub(crate) mod escape;
 pub(crate) mod flags;
 pub mod look;
 pub mod name;
+pub(crate) mod number;
+pub(crate) mod operator;
 pub mod tree;

@@ -1,4 +1,4 @@
 pub mod ErrorLemmas
-pub mod LenLemmas
+pub mod PieceFacts
 mod RowLemmas
 mod FrontLemmas

@@ -1,7 +1,7 @@
 use Rattle.std.proofs.Common.{◌≡◌, ◌∷◌, ◌∙◌, ℕ, List, ◌-◌, length, drop, take, get_or, Some, inl, inr, sym, ap, arith}
 use Rattle.bites_spec.specs.Utf8.{Piece, front_piece}
 use Rattle.bites_text.proofs.FrontLemmas.{front_parts, front_end}
-use Rattle.bites_text.proofs.LenLemmas.{front_len}
+use Rattle.bites_text.proofs.PieceFacts.{front_len}
 use Rattle.bites_text.proofs.RowLemmas.{ascii_piece, lone_piece}
 use Rattle.bites_text.proofs.utf8.decode.Goals as goal
 

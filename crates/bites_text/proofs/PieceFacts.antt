@@ -1,6 +1,7 @@
--- How many bytes a piece takes.
-use Rattle.std.proofs.Common.{◌≡◌, ℕ, zero, suc, ◌+◌, ◌<◌, ◌≤◌, Bool, true, false, max, List, [], ◌∷◌, length, drop, ap, subst, sym, arith, ◌⊎◌, ⊎_elim}
+-- What a caller that walks over a haystack uses: how many bytes a piece takes, and the piece at the front of what is left.
+use Rattle.std.proofs.Common.{◌≡◌, ℕ, zero, suc, ◌+◌, ◌<◌, ◌≤◌, Bool, true, false, max, List, [], ◌∷◌, ◌-◌, length, length-drop, take, drop, ap, subst, sym, arith, ◌⊎◌, ⊎_elim}
 use Rattle.std.specs.Prelude.{◌==◌}
+use Rattle.std.proofs.lemmas.List.{take_all}
 use Rattle.bites_spec.proofs.PieceLemmas.{piece_within, piece_some}
 use Rattle.bites_spec.specs.Range.{Range, in_range}
 use Rattle.bites_spec.specs.Utf8.{piece, front_piece, piece_by, fitting, whole_len, begun_len, well_formed_rows}
@@ -72,3 +73,8 @@ front_len bytes n is =
     let le = front_short bytes in
     let within = front_within bytes in
     record { short = omega arith; within = omega arith; further = λ some. rw is (front_some bytes some) }
+
+-- the piece at the front of the slice from a place on is the piece at that place
+pub front_at : (hay : List ℕ) (i : ℕ) → front_piece (take (length hay - i) (drop i hay)) ≡ piece hay i
+unfolding piece
+front_at hay i = ap front_piece (take_all (length hay - i) (drop i hay) (omega (arith, length-drop i hay)))

@@ -1,0 +1,125 @@
+-- Whole patterns: what is read, the reader answers, and the first fault is the reader's.
+use Rattle.std.proofs.Common.{◌≡◌, ℕ, zero, suc, ◌+◌, ◌<◌, ◌≤◌, ◌⊎◌, List, [], ◌∷◌, length, refl, sym, ap, ◌∙◌, subst, inl, inr, ⊎_elim, arith, Ok, Err, Result}
+use Rattle.bites_spec.specs.Message as message
+use Rattle.bites_spec.specs.Message.{Message, rank}
+use Rattle.bites_spec.specs.Range.{Range}
+use Rattle.bites_spec.specs.Class.{Set, Lists}
+use Rattle.bites_spec.specs.Tree.{Tree, choice_of}
+use Rattle.bites_spec.specs.Pattern.{Text, Flags}
+use Rattle.bites_spec.specs.Grammar.{Reading, Reads, at_front}
+use Rattle.bites_spec.specs.Measure.{Limits, IsTooTall, height, open_in_choice, count_in_choice}
+use Rattle.bites_spec.specs.Fault.{IsStuck, Fault, IsFirstStuck, IsReadTooTall, ComesFirst}
+use Rattle.bites_spec.specs.GrammarLaws.{FaultsOnce}
+use Rattle.bites_spec.specs.Reading.{Stop, Found, inner, read}
+use Rattle.bites_spec.proofs.ChoiceParts.{Facts}
+use Rattle.bites_spec.proofs.ChoiceLeads.{Passes, by_nesting, by_count, by_number, StopsAtLimit, choice_leads}
+use Rattle.bites_spec.proofs.ChoiceFirst.{StopsFirst, choice_first}
+use Rattle.bites_spec.proofs.WholeSound.{Within, read_within, read_stuck, within_limits, tall_or_low}
+use Rattle.bites_spec.proofs.WholeRanks.{rank_once}
+
+-- the end of the reader
+abbrev ended : Result Found Stop → Result Tree Stop
+ended a = elim a [ Ok f ↦ Ok (choice_of f.branches) | Err e ↦ Err e ]
+
+-- the reader answers this tree, or stops at a limit that the reading passes
+pub data Leads (nest_limit : ℕ) {pattern : Text} {flags : Flags} {t : Tree} (r : Reading pattern flags t) (a : Result Tree Stop) : Type 0 where
+  answers : a ≡ Ok t → Leads nest_limit r a
+  stops : (e : Stop) → a ≡ Err e → Passes nest_limit 0 (open_in_choice r.reads) (count_in_choice r.reads) r.behind.groups e.message → Leads nest_limit r a
+
+within_passes : {nest_limit opens counts groups : ℕ} {m : Message} → Passes nest_limit 0 opens counts groups m → opens ≤ nest_limit → counts ≤ 4294967295 →
+    groups ≤ 4294967295 → ⊥
+within_passes (by_nesting names above) a b c = omega arith
+within_passes (by_count names above) a b c = omega arith
+within_passes (by_number names above) a b c = omega arith
+
+too_tall_or_low : {nest_limit : ℕ} (t u : Tree) → t ≡ u → IsTooTall nest_limit t → height u ≤ nest_limit → height u < 4294967295 → ⊥
+too_tall_or_low t u same (inl tall) low counted = omega (arith, ap height same)
+too_tall_or_low t u same (inr tall) low counted = omega (arith, ap height same)
+
+module _ (list_of : Set → List Range) (lists : (set : Set) → Lists (list_of set) set) (nest_limit : ℕ) (facts : Facts) where
+  -- what is read, the reader answers, or it stops at a limit
+  pub read_leads : {pattern : Text} {flags : Flags} {t : Tree} (r : Reading pattern flags t) → Leads nest_limit r (read list_of nest_limit pattern flags)
+  read_leads {pattern} {flags} {t} r =
+      ⊎_elim
+      (λ (on : inner list_of nest_limit (suc (length pattern)) 0 (at_front flags) [] [] pattern ≡ Ok (record { branches = r.branches; behind = r.behind; rest = [] })).
+      answers (ap ended on ∙ ap Ok (sym r.is_choice)))
+      (λ (s : StopsAtLimit nest_limit 0 (open_in_choice r.reads) (count_in_choice r.reads) r.behind.groups []
+      (inner list_of nest_limit (suc (length pattern)) 0 (at_front flags) [] [] pattern)).
+      stops s.at (ap ended s.is) s.passes)
+      (choice_leads list_of lists nest_limit facts r.reads (suc (length pattern)) 0 [] (omega arith) refl)
+
+  -- a tree within the limits is the reader's answer
+  pub limits_lead : {pattern : Text} {flags : Flags} {t : Tree} → Limits pattern flags nest_limit t → read list_of nest_limit pattern flags ≡ Ok t
+  limits_lead l =
+      elim (read_leads l.reading) [ answers is ↦ is | stops e is passes ↦ absurd (within_passes passes l.open_groups l.counts l.group_number) ]
+
+  -- where a pattern has a fault, the reader stops, no later
+  pub stuck_leads : {pattern : Text} {flags : Flags} {place : Text} {m : Message} → IsStuck pattern flags nest_limit m place →
+      StopsFirst m place (read list_of nest_limit pattern flags)
+  stuck_leads {pattern} s =
+      let f = choice_first list_of lists nest_limit facts s (suc (length pattern)) [] (omega arith) in
+      record { at = f.at; is = ap ended f.is; first = f.first }
+
+  -- the reader's stop is the first fault
+  pub stop_is_fault : {pattern : Text} {flags : Flags} (e : Stop) → read list_of nest_limit pattern flags ≡ Err e → Fault pattern flags nest_limit e.message
+  stop_is_fault {pattern} {flags} e is = inl (record {
+    place = e.place;
+    stuck = read_stuck list_of lists nest_limit facts pattern flags e is;
+    first = λ other at s. (let f = stuck_leads s in
+        let same : f.at ≡ e = cc in
+        subst (λ x. ComesFirst x.message x.place other at) same f.first);
+  })
+
+  -- a tree of the reader's that is too tall is the fault
+  pub tall_is_fault : {pattern : Text} {flags : Flags} (t : Tree) → read list_of nest_limit pattern flags ≡ Ok t → IsTooTall nest_limit t →
+      Fault pattern flags nest_limit message.too_much_nesting
+  tall_is_fault {pattern} {flags} t is tall = inr (record {
+    t = t;
+    reads = (read_within list_of lists nest_limit facts pattern flags t is).reading;
+    too_tall = tall;
+    no_other = λ other at s. absurd (let f = stuck_leads s in cc);
+    nesting = refl;
+  })
+
+  -- a tree of the reader's that is not too tall is within the limits
+  pub low_is_within : {pattern : Text} {flags : Flags} (t : Tree) → read list_of nest_limit pattern flags ≡ Ok t → (IsTooTall nest_limit t → ⊥) →
+      Limits pattern flags nest_limit t
+  low_is_within {pattern} {flags} t is low = within_limits (read_within list_of lists nest_limit facts pattern flags t is) low
+
+  -- a pattern with a message has no tree within the limits
+  pub refused_has_no_tree : (pattern : Text) (flags : Flags) (m : Message) (t : Tree) → Fault pattern flags nest_limit m → Limits pattern flags nest_limit t → ⊥
+  refused_has_no_tree pattern flags m t (inl f) l =
+      let is : read list_of nest_limit pattern flags ≡ Ok t = limits_lead l in
+      let s = stuck_leads f.stuck in
+      cc
+  refused_has_no_tree pattern flags m t (inr f) l =
+      let is : read list_of nest_limit pattern flags ≡ Ok t = limits_lead l in
+      elim (read_leads f.reads) [
+        answers same ↦ (let one : f.t ≡ t = cc in too_tall_or_low f.t t one f.too_tall l.low l.counted_height)
+      | stops e stopped passes ↦ cc
+      ]
+
+  by_answer : (pattern : Text) (flags : Flags) (a : Result Tree Stop) → read list_of nest_limit pattern flags ≡ a →
+      ((t : Tree) × Limits pattern flags nest_limit t) ⊎ ((m : Message) × Fault pattern flags nest_limit m)
+  by_answer pattern flags (Ok t) is =
+      ⊎_elim (λ (tall : IsTooTall nest_limit t). inr (message.too_much_nesting, tall_is_fault t is tall))
+      (λ (heights : (height t ≤ nest_limit) × (height t < 4294967295)).
+      inl (t, low_is_within t is (λ tall. too_tall_or_low t t refl tall heights.0 heights.1))) (tall_or_low nest_limit t)
+  by_answer pattern flags (Err e) is = inr (e.message, stop_is_fault e is)
+
+  -- a pattern has a tree within the limits or a message
+  pub read_or_refused : (pattern : Text) (flags : Flags) →
+      ((t : Tree) × Limits pattern flags nest_limit t) ⊎ ((m : Message) × Fault pattern flags nest_limit m)
+  read_or_refused pattern flags = by_answer pattern flags (read list_of nest_limit pattern flags) refl
+
+same_rank : (m k : Message) (at place : Text) → ComesFirst m at k place → ComesFirst k place m at → rank m ≡ rank k
+same_rank m k at place a b =
+    ⊎_elim (λ less. ⊎_elim (λ more. absurd (omega arith)) (λ same. absurd (omega (arith, same.0))) b)
+    (λ same. ⊎_elim (λ more. absurd (omega (arith, same.0))) (λ other. omega (arith, same.1, other.1)) b) a
+
+-- a pattern has at most one message
+pub faults_once : FaultsOnce
+faults_once pattern flags nest_limit m k (inl f) (inl g) = rank_once m k (same_rank m k f.place g.place (f.first k g.place g.stuck) (g.first m f.place f.stuck))
+faults_once pattern flags nest_limit m k (inl f) (inr g) = absurd (g.no_other m f.place f.stuck)
+faults_once pattern flags nest_limit m k (inr f) (inl g) = absurd (f.no_other k g.place g.stuck)
+faults_once pattern flags nest_limit m k (inr f) (inr g) = f.nesting ∙ sym g.nesting

@@ -1,0 +1,39 @@
+//! Numbers in a pattern.
+
+ghost use Rattle.std.specs.Prelude.{◌≡◌, ◌<◌, ◌≤◌, length};
+ghost use Rattle.std.specs.Char.{digit_value};
+ghost use Rattle.bites_spec.specs.Pattern.{number};
+ghost use Rattle.bites_syntax.specs.FlagsView.{flags_of};
+ghost use Rattle.bites_syntax.specs.Numbers.{AgreeBelow};
+ghost use Rattle.bites_syntax.specs.Sets.{members_of};
+ghost use Rattle.bites_syntax.specs.Steps.{each_of};
+
+use crate::cursor::{Characters, Cursor};
+use crate::flags::Flags;
+
+/// The least number that no bound of a repetition and no character has.
+pub(crate) const TOO_LARGE: u64 = 4294967296;
+
+/// The value of a digit or a letter, and 36 for any other character.
+fn digit_value(c: char) -> u32
+    ensures { result ≡ digit_value c }
+{
+    c.to_digit(36).unwrap_or(36)
+}
+
+/// Reads all digits of the set that stand here, with the gap behind each, and gives their number;
+/// one that is too large becomes `TOO_LARGE`.
+pub(crate) fn number(cursor: &mut Cursor<'_>, flags: Flags, set: Characters, base: u32) -> u64
+    requires some { 0 < base }
+    requires few { base ≤ 36 }
+    ensures value { AgreeBelow TOO_LARGE result (number base (each_of (flags_of flags) (members_of set) cursor.old).0) }
+    ensures bound { result ≤ TOO_LARGE }
+    ensures rest { cursor.new ≡ (each_of (flags_of flags) (members_of set) cursor.old).1 }
+    ensures forward { length cursor.new ≤ length cursor.old }
+{
+    let mut value = 0;
+    while let Some(c) = cursor.take(flags, set) {
+        value = TOO_LARGE.min(value * u64::from(base) + u64::from(digit_value(c)));
+    }
+    value
+}

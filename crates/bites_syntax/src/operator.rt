@@ -1,0 +1,143 @@
+//! Operators, which repeat the node before them.
+
+ghost use Rattle.std.specs.Prelude.{◌≡◌, ◌≤◌, length, Ok, if◌then◌else◌, true, false};
+ghost use Rattle.bites_spec.specs.Operator.{is_greedy};
+ghost use Rattle.bites_spec.specs.Pattern.{skip};
+ghost use Rattle.bites_spec.specs.Reading.{after_comma, after_max, after_min, counted, decimal, lazy, plain_operator, whole_count};
+ghost use Rattle.bites_syntax.specs.FlagsView.{flags_of};
+ghost use Rattle.bites_syntax.specs.Operators.{Answers, bounds_of};
+ghost use Rattle.bites_syntax.specs.Parts.{WithSteps};
+
+use crate::cursor::{Characters, Cursor};
+use crate::flags::Flags;
+use crate::number::{TOO_LARGE, number};
+use bites_text::error::Error;
+
+/// How often an operator repeats a node, and whether more turns are preferred.
+#[derive(Clone, Copy)]
+pub(crate) struct Bounds {
+    pub(crate) min: u32,
+    /// None stands for no bound.
+    pub(crate) max: Option<u32>,
+    pub(crate) greedy: bool,
+}
+
+fn is_greedy(flags: Flags, lazy: bool) -> bool
+    ensures { result ≡ is_greedy (flags_of flags) lazy }
+{
+    if flags.swap_greed { lazy } else { !lazy }
+}
+
+/// Reads the mark behind an operator with these bounds.
+pub(crate) fn plain_operator(
+    cursor: &mut Cursor<'_>,
+    flags: Flags,
+    min: u32,
+    max: Option<u32>,
+) -> Bounds
+    ensures reads { plain_operator (flags_of flags) min max (lazy cursor.old) ≡ Ok (bounds_of result, cursor.new) }
+    ensures forward { length cursor.new ≤ length cursor.old }
+{
+    let lazy = cursor.bump_if('?');
+    Bounds {
+        min,
+        max,
+        greedy: is_greedy(flags, lazy),
+    }
+}
+
+fn decimal(cursor: &mut Cursor<'_>, flags: Flags) -> Result<u32, Error>
+    ensures reads { WithSteps cursor.old (λ n. Answers (λ x. x) result cursor.new (decimal n (flags_of flags) cursor.old)) }
+    ensures forward { length cursor.new ≤ length cursor.old }
+{
+    cursor.skip_white();
+    if !cursor.is_at(Characters::Digit) {
+        return Err(Error::DecimalWithoutDigits);
+    }
+    let value = number(cursor, flags, Characters::Digit, 10);
+    cursor.pass_each(flags, Characters::WhiteSpace);
+    if value < TOO_LARGE {
+        Ok(value as u32)
+    } else {
+        Err(Error::InvalidDecimal)
+    }
+}
+
+/// Reads the mark behind the closing brace.
+fn whole_count(
+    cursor: &mut Cursor<'_>,
+    flags: Flags,
+    min: u32,
+    max: Option<u32>,
+) -> Result<Bounds, Error>
+    ensures reads { Answers bounds_of result cursor.new (whole_count (flags_of flags) min max (lazy (skip (flags_of flags) cursor.old))) }
+    ensures forward { length cursor.new ≤ length cursor.old }
+{
+    cursor.skip(flags);
+    let lazy = cursor.bump_if('?');
+    if let Some(max) = max {
+        if max < min {
+            return Err(Error::MinAboveMax);
+        }
+    }
+    Ok(Bounds {
+        min,
+        max,
+        greedy: is_greedy(flags, lazy),
+    })
+}
+
+fn after_max(cursor: &mut Cursor<'_>, flags: Flags, min: u32, max: u32) -> Result<Bounds, Error>
+    ensures reads { Answers bounds_of result cursor.new (after_max (flags_of flags) min max cursor.old) }
+    ensures forward { length cursor.new ≤ length cursor.old }
+{
+    match cursor.bump() {
+        None => Err(Error::UnclosedMax),
+        Some('}') => whole_count(cursor, flags, min, Some(max)),
+        Some(_) => Err(Error::InvalidCount),
+    }
+}
+
+fn after_comma(cursor: &mut Cursor<'_>, flags: Flags, min: u32) -> Result<Bounds, Error>
+    ensures reads { WithSteps cursor.old (λ n. Answers bounds_of result cursor.new (after_comma n (flags_of flags) min cursor.old)) }
+    ensures forward { length cursor.new ≤ length cursor.old }
+{
+    match cursor.peek() {
+        None => Err(Error::UnclosedComma),
+        Some('}') => {
+            cursor.bump();
+            whole_count(cursor, flags, min, None)
+        }
+        Some(_) => {
+            let max = decimal(cursor, flags)?;
+            after_max(cursor, flags, min, max)
+        }
+    }
+}
+
+fn after_min(cursor: &mut Cursor<'_>, flags: Flags, min: u32) -> Result<Bounds, Error>
+    ensures reads { WithSteps cursor.old (λ n. Answers bounds_of result cursor.new (after_min n (flags_of flags) min cursor.old)) }
+    ensures forward { length cursor.new ≤ length cursor.old }
+{
+    match cursor.bump() {
+        None => Err(Error::UnclosedMin),
+        Some('}') => whole_count(cursor, flags, min, Some(min)),
+        Some(',') => {
+            cursor.skip(flags);
+            after_comma(cursor, flags, min)
+        }
+        Some(_) => Err(Error::InvalidCount),
+    }
+}
+
+/// Reads an operator in braces, from behind its opening brace and the gap there.
+pub(crate) fn counted(cursor: &mut Cursor<'_>, flags: Flags) -> Result<Bounds, Error>
+    ensures reads { WithSteps cursor.old (λ n. Answers bounds_of result cursor.new (counted n (flags_of flags) cursor.old)) }
+    ensures forward { length cursor.new ≤ length cursor.old }
+{
+    let Some(_) = cursor.peek() else {
+        return Err(Error::UnclosedCount);
+    };
+    let min = decimal(cursor, flags)?;
+    after_min(cursor, flags, min)
+}
