@@ -20,9 +20,13 @@ pub record Settings : Type 0 where
   pub size_limit : ℕ
   pub nest_limit : ℕ
 
+-- settings by their parts
+abbrev pub settings : List ℕ → Flags → ℕ → ℕ → Settings
+settings pattern flags size_limit nest_limit = record { pattern = pattern; flags = flags; size_limit = size_limit; nest_limit = nest_limit }
+
 -- what a builder of this pattern is made with
 abbrev pub by_default : List ℕ → Settings
-by_default pattern = record { pattern = pattern; flags = no_flags; size_limit = 10485760; nest_limit = 50 }
+by_default pattern = settings pattern no_flags 10485760 50
 
 -- the grammar reads the pattern as this tree, and all limits hold
 pub record Accepts (s : Settings) (t : Tree) : Type 0 where
@@ -32,8 +36,8 @@ pub record Accepts (s : Settings) (t : Tree) : Type 0 where
 -- the pattern has this fault first, or its tree passes this limit first
 pub data Refuses (s : Settings) : Error → Type 0 where
   fault : (m : Message) (e : Error) → Fault (chars s.pattern) s.flags s.nest_limit m → e ≡ error_of m → Refuses s e
-  size : (t : Tree) (e : Error) → Limits (chars s.pattern) s.flags s.nest_limit t → s.size_limit < weight t → e ≡ TooBig → Refuses s e
-  states : (t : Tree) (e : Error) → Limits (chars s.pattern) s.flags s.nest_limit t → weight t ≤ s.size_limit →
+  too_big : (t : Tree) (e : Error) → Limits (chars s.pattern) s.flags s.nest_limit t → s.size_limit < weight t → e ≡ TooBig → Refuses s e
+  many_states : (t : Tree) (e : Error) → Limits (chars s.pattern) s.flags s.nest_limit t → weight t ≤ s.size_limit →
       4294967295 < states t → e ≡ TooManyStates → Refuses s e
-  slots : (t : Tree) (e : Error) → Limits (chars s.pattern) s.flags s.nest_limit t → weight t ≤ s.size_limit → states t ≤ 4294967295 →
+  many_slots : (t : Tree) (e : Error) → Limits (chars s.pattern) s.flags s.nest_limit t → weight t ≤ s.size_limit → states t ≤ 4294967295 →
       2147483648 ≤ greatest (groups_in t) → e ≡ TooManySlots → Refuses s e

@@ -1,14 +1,16 @@
 //! The builder of regexes.
 
-ghost use Rattle.std.specs.Prelude.{◌≡◌, ◌≢◌, IfOk, IfErr};
+ghost use Rattle.std.specs.Prelude.{◌≡◌, ◌≢◌, IfOk, IfErr, chars};
+ghost use Rattle.bites_spec.specs.Measure.{Limits};
+ghost use Rattle.bites_spec.specs.Built.{IsCompilable};
 ghost use Rattle.bites_spec.specs.Tree.{Tree};
 ghost use Rattle.bites_syntax.specs.FlagsView.{flags_of};
-ghost use Rattle.bites_bytes.specs.Settings.{Accepts, Refuses, by_default};
+ghost use Rattle.bites_bytes.specs.Settings.{Accepts, Refuses, by_default, settings};
 
 use crate::bytes::Regex;
-use bites_machine::compile::compile;
+use crate::stand_in::{compile, parse};
 use bites_syntax::flags::Flags;
-use bites_syntax::parse::parse;
+use bites_syntax::tree as syntax;
 use bites_text::error::Error;
 use std::alloc::Global;
 use std::marker::Model;
@@ -34,11 +36,11 @@ pub struct RegexBuilder {
 impl Model for RegexBuilder {
     ghost use Rattle.std.specs.Prelude.{string_bytes};
     ghost use Rattle.bites_syntax.specs.FlagsView.{flags_of};
-    ghost use Rattle.bites_bytes.specs.Settings.{Settings};
+    ghost use Rattle.bites_bytes.specs.Settings.{Settings, settings};
 
     ghost Value = { Settings };
 
-    ghost view = { λ a. record { pattern = string_bytes a.pattern; flags = flags_of a.flags; size_limit = a.size_limit; nest_limit = a.nest_limit } };
+    ghost view = { λ a. settings (string_bytes a.pattern) (flags_of a.flags) a.size_limit a.nest_limit };
 }
 
 impl RegexBuilder {
@@ -144,8 +146,53 @@ impl RegexBuilder {
         ensures refused { IfErr result (λ e. e ≢ Error.Memory → (t : Tree) → Accepts self.now t → ⊥) }
         ensures message { IfErr result (λ e. e ≢ Error.Memory → Refuses self.now e) }
     {
-        let tree = parse(self.alloc, &self.pattern, self.flags, self.nest_limit)?;
-        let program = compile(self.alloc, &tree, &self.pattern, self.size_limit)?;
-        Regex::from_parts(self.alloc, &tree, self.flags, program)
+        build(
+            self.alloc,
+            &self.pattern,
+            self.flags,
+            self.size_limit,
+            self.nest_limit,
+        )
+    }
+}
+
+// A regex of the pattern under these flags and limits.
+fn build(
+    alloc: Global,
+    pattern: &str,
+    flags: Flags,
+    size_limit: usize,
+    nest_limit: u32,
+) -> Result<Regex, Error>
+    ensures kept { IfOk result (λ r. (r.pattern ≡ pattern.now) × (r.flags ≡ flags_of flags)) }
+    ensures accepted { IfOk result (λ r. Accepts (settings pattern.now (flags_of flags) size_limit nest_limit) r.tree) }
+    ensures refused { IfErr result (λ e. e ≢ Error.Memory → (t : Tree) → Accepts (settings pattern.now (flags_of flags) size_limit nest_limit) t → ⊥) }
+    ensures message { IfErr result (λ e. e ≢ Error.Memory → Refuses (settings pattern.now (flags_of flags) size_limit nest_limit) e) }
+{
+    match parse(alloc, pattern, flags, nest_limit) {
+        Ok(tree) => compile_tree(alloc, &tree, pattern, flags, size_limit, nest_limit),
+        Err(error) => Err(error),
+    }
+}
+
+// A regex of the tree that the pattern is read as.
+fn compile_tree(
+    alloc: Global,
+    tree: &syntax::Tree,
+    pattern: &str,
+    flags: Flags,
+    size_limit: usize,
+    nest_limit: u32,
+) -> Result<Regex, Error>
+    requires read { Limits (chars pattern.now) (flags_of flags) nest_limit tree.now }
+    requires compilable { IsCompilable tree.now }
+    ensures kept { IfOk result (λ r. (r.pattern ≡ pattern.now) × (r.flags ≡ flags_of flags)) }
+    ensures accepted { IfOk result (λ r. Accepts (settings pattern.now (flags_of flags) size_limit nest_limit) r.tree) }
+    ensures refused { IfErr result (λ e. e ≢ Error.Memory → (t : Tree) → Accepts (settings pattern.now (flags_of flags) size_limit nest_limit) t → ⊥) }
+    ensures message { IfErr result (λ e. e ≢ Error.Memory → Refuses (settings pattern.now (flags_of flags) size_limit nest_limit) e) }
+{
+    match compile(alloc, tree, pattern, size_limit) {
+        Ok(program) => Regex::from_parts(alloc, tree, flags, program),
+        Err(error) => Err(error),
     }
 }

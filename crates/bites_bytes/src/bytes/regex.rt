@@ -29,10 +29,14 @@ struct Compiled {
 }
 
 impl Model for Compiled {
+    ghost use Rattle.std.specs.Coded.{codes};
     ghost use Rattle.bites_syntax.specs.FlagsView.{flags_of};
+    ghost use Rattle.bites_syntax.specs.TreeCode.{tree_code};
     ghost use Rattle.bites_bytes.specs.Meaning.{Meaning, IsCompiled, meaning};
 
     ghost Value = { Meaning };
+
+    ghost coded = { Prim.hlevel (codes, tree_code) };
 
     ghost view = { λ a. meaning a.program.pattern (flags_of a.flags) a.tree.value a.program.program };
 
@@ -61,9 +65,13 @@ pub struct Regex {
 }
 
 impl Model for Regex {
+    ghost use Rattle.std.specs.Coded.{codes};
+    ghost use Rattle.bites_syntax.specs.TreeCode.{tree_code};
     ghost use Rattle.bites_bytes.specs.Meaning.{Meaning};
 
     ghost Value = { Meaning };
+
+    ghost coded = { Prim.hlevel (codes, tree_code) };
 
     ghost view = { λ a. a.compiled.value };
 }
@@ -127,7 +135,7 @@ impl Regex {
     pub fn is_match_at(&self, haystack: &[u8], start: usize) -> Result<bool, AllocError>
         ensures { IfOk result (λ found. IsTrue found ↔ HasMatch self.now.tree haystack.now start) }
     {
-        vm::is_match(self.alloc, self.compiled.program(), haystack, start)
+        vm::is_match_at(self.alloc, self.compiled.program(), haystack, start)
     }
 
     /// The least end of any match in the haystack, a number of bytes from its start.
@@ -145,7 +153,7 @@ impl Regex {
     ) -> Result<Option<usize>, AllocError>
         ensures { IfOk result (λ end. IsLeastEnd self.now.tree haystack.now start end) }
     {
-        vm::shortest_match(self.alloc, self.compiled.program(), haystack, start)
+        vm::shortest_match_at(self.alloc, self.compiled.program(), haystack, start)
     }
 }
 
