@@ -40,26 +40,26 @@ is_other m n e = grind (arith, nat_tests)
 times : (m n a b : ℕ) → m ≡ n → a ≡ b → m * a ≡ n * b
 times m n a b e f = ap₂ (λ x y. x * y) e f
 
-sum_times : (m n s : ℕ) → (m + n) * s ≡ m * s + n * s
+pub sum_times : (m n s : ℕ) → (m + n) * s ≡ m * s + n * s
 sum_times m n s = grind arith
 
 sized : (s n : ℕ) (b : Size) → b.states ≡ s → suc n * b.states ≡ n * s + s
 sized s n b e = ap (λ x. suc n * x) e ∙ product n s
 
-unbounded_size : (n : ℕ) (is_empty : Bool) (b : Size) → (repeated_size (suc n) None is_empty b).states ≡ suc n * b.states + 1
+pub unbounded_size : (n : ℕ) (is_empty : Bool) (b : Size) → (repeated_size (suc n) None is_empty b).states ≡ suc n * b.states + 1
 unbounded_size n is_empty b = ap (λ (x : Size). x.states) (take_second (suc n == 0) _ (copies (suc n) 1 2 b) (is_positive n))
 
-optional_size : (m : ℕ) (is_empty : Bool) (b : Size) → (repeated_size 0 (Some (suc (suc m))) is_empty b).states ≡ suc (suc m) * b.states + (suc (suc m) + 2)
+pub optional_size : (m : ℕ) (is_empty : Bool) (b : Size) → (repeated_size 0 (Some (suc (suc m))) is_empty b).states ≡ suc (suc m) * b.states + (suc (suc m) + 2)
 optional_size m is_empty b =
     ap (λ (x : Size). x.states) (take_second (suc (suc m) == 1) _ (copies (suc (suc m)) (suc (suc m) + 2) (2 * suc (suc m)) b) (is_several m))
 
-exact_size : (n most : ℕ) (is_empty : Bool) (b : Size) → suc n ≡ most → (repeated_size (suc n) (Some most) is_empty b).states ≡ most * b.states
+pub exact_size : (n most : ℕ) (is_empty : Bool) (b : Size) → suc n ≡ most → (repeated_size (suc n) (Some most) is_empty b).states ≡ most * b.states
 exact_size n most is_empty b e =
     ap (λ (x : Size). x.states)
     (take_second (suc n == 0) _ _ (is_positive n) ∙ take_first (suc n == most) (copies most 0 0 b) _ (is_same (suc n) most e))
     ∙ omega arith
 
-ranged_size : (n most : ℕ) (is_empty : Bool) (b : Size) → suc n < most →
+pub ranged_size : (n most : ℕ) (is_empty : Bool) (b : Size) → suc n < most →
     (repeated_size (suc n) (Some most) is_empty b).states ≡ most * b.states + (most - suc n + 1)
 ranged_size n most is_empty b h =
     ap (λ (x : Size). x.states)

@@ -10,3 +10,4 @@ pub mod LengthLemmas
 pub mod FaultLemmas
 pub mod Parts
 pub mod SizeLemmas
+pub mod EmittedLemmas

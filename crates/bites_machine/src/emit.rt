@@ -1,11 +1,15 @@
 //! The states of a program as they are written, from its end backwards.
 
-ghost use Rattle.std.specs.Prelude.{◌≡◌, ◌<◌, length, slice_set, IfOk};
+ghost use Rattle.std.specs.Prelude.{◌≡◌, ◌+◌, ◌*◌, ◌<◌, ◌≤◌, length, slice_set, None, Some, IfOk};
+ghost use Rattle.bites_spec.specs.Tree as spec;
+ghost use Rattle.bites_spec.specs.Tree.{trees_of, sequence, is_empty_by_form, groups_in, groups_in_all, greatest, IsReduced, AllAreReduced};
+ghost use Rattle.bites_spec.specs.Measure.{size_of, repeated_size};
 ghost use Rattle.bites_machine.specs.States.{state_of};
-ghost use Rattle.bites_machine.specs.Emitted.{emitted, pushed, class_state, choice};
+ghost use Rattle.bites_machine.specs.Emitted.{emitted, pushed, class_state, choice, chosen, again, bounded, loop, star, optional_loop, repeated, grouped, split, emit, emit_all, emit_each};
 
-use bites_syntax::tree::Class;
+use crate::size::is_empty_by_form;
 use crate::state::State;
+use bites_syntax::tree::{Class, Kind, Tree};
 use std::alloc::{AllocError, Global};
 use std::marker::Model;
 
@@ -78,6 +82,15 @@ impl States {
         self.push(State::Ranges { target: to, ranges })
     }
 
+    /// Writes a choice between two states, the first preferred if it is greedy, else the second.
+    fn choose(&mut self, greedy: bool, round: u32, leave: u32) -> Result<u32, AllocError>
+        requires { length self.old < 4294967295 }
+        ensures { IfOk result (λ from. emitted self.new from ≡ pushed self.old (choice greedy round leave)) }
+    {
+        let state = self.choice(greedy, round, leave)?;
+        self.push(state)
+    }
+
     /// A choice between two states, the first preferred if it is greedy, else the second.
     fn choice(&self, greedy: bool, round: u32, leave: u32) -> Result<State, AllocError>
         ensures { IfOk result (λ state. state_of state ≡ choice greedy round leave) }
@@ -85,6 +98,218 @@ impl States {
         Ok(State::Splits {
             targets: vec![in self.alloc; round, leave]?,
             reverse: !greedy,
+        })
+    }
+
+    /// Writes the states of a tree in front of the state `to`, and answers where they are entered.
+    #[cycle(emit)]
+    pub fn emit(&mut self, tree: &Tree, to: u32) -> Result<u32, AllocError>
+        requires reduced { IsReduced tree.now }
+        requires room { length self.old + (size_of tree.now).states ≤ 4294967295 }
+        requires slots { 2 * greatest (groups_in tree.now) + 1 < 4294967296 }
+        ensures { IfOk result (λ from. emitted self.new from ≡ emit tree.now to self.old) }
+    {
+        match tree.kind() {
+            Kind::Empty => self.push(State::Goto {
+                target: to,
+                look: None,
+            }),
+            Kind::Char(c) => self.push(State::Char { target: to, ch: *c }),
+            Kind::Class(class) => self.class(class, to),
+            Kind::Look(look) => self.push(State::Goto {
+                target: to,
+                look: Some(*look),
+            }),
+            Kind::Repetition {
+                min,
+                max,
+                greedy,
+                sub,
+            } => match max {
+                None => self.unbounded(*min, *greedy, sub, to),
+                Some(max) => self.counted(*min, *max, *greedy, sub, to),
+            },
+            Kind::Capture { index, sub, .. } => self.group(*index, sub, to),
+            Kind::Concat(parts) => self.sequence(parts, to),
+            Kind::Alternation(parts) => self.alternation(parts, to),
+        }
+    }
+
+    #[cycle(emit)]
+    pub fn group(&mut self, index: u32, sub: &Tree, to: u32) -> Result<u32, AllocError>
+        requires reduced { IsReduced sub.now }
+        requires room { length self.old + (size_of sub.now).states + 2 ≤ 4294967295 }
+        requires slots { 2 * greatest (groups_in sub.now) + 1 < 4294967296 }
+        requires slot { 2 * index + 1 < 4294967296 }
+        ensures { IfOk result (λ from. emitted self.new from ≡ grouped index (emit sub.now) to self.old) }
+    {
+        let closing = self.push(State::Capture {
+            target: to,
+            slot: 2 * index + 1,
+        })?;
+        let body = self.emit(sub, closing)?;
+        self.push(State::Capture {
+            target: body,
+            slot: 2 * index,
+        })
+    }
+
+    /// Writes at least so many turns, without a bound.
+    #[cycle(emit)]
+    fn unbounded(&mut self, min: u32, greedy: bool, sub: &Tree, to: u32) -> Result<u32, AllocError>
+        requires reduced { IsReduced sub.now }
+        requires room { length self.old + (repeated_size min None (is_empty_by_form sub.now) (size_of sub.now)).states ≤ 4294967295 }
+        requires slots { 2 * greatest (groups_in sub.now) + 1 < 4294967296 }
+        ensures { IfOk result (λ from. emitted self.new from ≡ repeated min None greedy (is_empty_by_form sub.now) (emit sub.now) to self.old) }
+    {
+        if min > 0 {
+            let from = self.looped(greedy, sub, to)?;
+            self.copies(min - 1, sub, from)
+        } else if is_empty_by_form(sub) {
+            self.optional_loop(greedy, sub, to)
+        } else {
+            self.star(greedy, sub, to)
+        }
+    }
+
+    /// Writes at least and at most so many turns.
+    #[cycle(emit)]
+    fn counted(&mut self, min: u32, max: u32, greedy: bool, sub: &Tree, to: u32) -> Result<u32, AllocError>
+        requires reduced { IsReduced sub.now }
+        requires order { min ≤ max }
+        requires some { 1 ≤ max }
+        requires room { length self.old + (repeated_size min (Some max) (is_empty_by_form sub.now) (size_of sub.now)).states ≤ 4294967295 }
+        requires slots { 2 * greatest (groups_in sub.now) + 1 < 4294967296 }
+        ensures { IfOk result (λ from. emitted self.new from ≡ repeated min (Some max) greedy (is_empty_by_form sub.now) (emit sub.now) to self.old) }
+    {
+        if min == max {
+            let from = self.emit(sub, to)?;
+            self.copies(min - 1, sub, from)
+        } else if min == 0 && max > 1 {
+            let from = self.bounded(max, greedy, sub, to)?;
+            self.push(State::Goto {
+                target: from,
+                look: None,
+            })
+        } else {
+            let from = self.bounded(max - min, greedy, sub, to)?;
+            self.copies(min, sub, from)
+        }
+    }
+
+    /// Writes so many copies, one in front of the other.
+    #[cycle(emit)]
+    fn copies(&mut self, count: u32, sub: &Tree, to: u32) -> Result<u32, AllocError>
+        requires reduced { IsReduced sub.now }
+        requires room { length self.old + count * (size_of sub.now).states ≤ 4294967295 }
+        requires slots { 2 * greatest (groups_in sub.now) + 1 < 4294967296 }
+        ensures { IfOk result (λ from. emitted self.new from ≡ again count (emit sub.now) to self.old) }
+    {
+        let mut from = to;
+        for _ in 0..count {
+            from = self.emit(sub, from)?;
+        }
+        Ok(from)
+    }
+
+    /// Writes up to so many copies, and one state that all ways out lead to.
+    #[cycle(emit)]
+    fn bounded(&mut self, count: u32, greedy: bool, sub: &Tree, to: u32) -> Result<u32, AllocError>
+        requires reduced { IsReduced sub.now }
+        requires room { length self.old + count * (size_of sub.now).states + count + 1 ≤ 4294967295 }
+        requires slots { 2 * greatest (groups_in sub.now) + 1 < 4294967296 }
+        ensures { IfOk result (λ from. emitted self.new from ≡ bounded count greedy (emit sub.now) to self.old) }
+    {
+        let out = self.push(State::Goto {
+            target: to,
+            look: None,
+        })?;
+        let mut from = out;
+        for _ in 0..count {
+            let round = self.emit(sub, from)?;
+            from = self.choose(greedy, round, out)?;
+        }
+        Ok(from)
+    }
+
+    /// Writes the body, and behind it a choice between it again and leaving.
+    #[cycle(emit)]
+    fn looped(&mut self, greedy: bool, sub: &Tree, to: u32) -> Result<u32, AllocError>
+        requires reduced { IsReduced sub.now }
+        requires room { length self.old + (size_of sub.now).states + 1 ≤ 4294967295 }
+        requires slots { 2 * greatest (groups_in sub.now) + 1 < 4294967296 }
+        ensures { IfOk result (λ from. emitted self.new from ≡ loop greedy (emit sub.now) to self.old) }
+    {
+        let again = self.push(State::Fail)?;
+        let from = self.emit(sub, again)?;
+        let state = self.choice(greedy, from, to)?;
+        self.put(again, state);
+        Ok(from)
+    }
+
+    /// Writes a choice between the body, which leads back to it, and leaving.
+    #[cycle(emit)]
+    fn star(&mut self, greedy: bool, sub: &Tree, to: u32) -> Result<u32, AllocError>
+        requires reduced { IsReduced sub.now }
+        requires room { length self.old + (size_of sub.now).states + 1 ≤ 4294967295 }
+        requires slots { 2 * greatest (groups_in sub.now) + 1 < 4294967296 }
+        ensures { IfOk result (λ from. emitted self.new from ≡ star greedy (emit sub.now) to self.old) }
+    {
+        let from = self.push(State::Fail)?;
+        let round = self.emit(sub, from)?;
+        let state = self.choice(greedy, round, to)?;
+        self.put(from, state);
+        Ok(from)
+    }
+
+    /// Writes a choice between a loop and leaving, both to one state.
+    #[cycle(emit)]
+    fn optional_loop(&mut self, greedy: bool, sub: &Tree, to: u32) -> Result<u32, AllocError>
+        requires reduced { IsReduced sub.now }
+        requires room { length self.old + (size_of sub.now).states + 3 ≤ 4294967295 }
+        requires slots { 2 * greatest (groups_in sub.now) + 1 < 4294967296 }
+        ensures { IfOk result (λ from. emitted self.new from ≡ optional_loop greedy (emit sub.now) to self.old) }
+    {
+        let out = self.push(State::Goto {
+            target: to,
+            look: None,
+        })?;
+        let round = self.looped(greedy, sub, out)?;
+        self.choose(greedy, round, out)
+    }
+
+    #[cycle(emit)]
+    fn sequence(&mut self, parts: &[Tree], to: u32) -> Result<u32, AllocError>
+        requires reduced { AllAreReduced (trees_of parts.now) }
+        requires room { length self.old + (size_of (sequence (trees_of parts.now))).states ≤ 4294967295 }
+        requires slots { 2 * greatest (groups_in_all (trees_of parts.now)) + 1 < 4294967296 }
+        ensures { IfOk result (λ from. emitted self.new from ≡ emit_all (trees_of parts.now) to self.old) }
+    {
+        let mut from = to;
+        for i in (0..parts.len()).rev() {
+            from = self.emit(&parts[i], from)?;
+        }
+        Ok(from)
+    }
+
+    #[cycle(emit)]
+    fn alternation(&mut self, parts: &[Tree], to: u32) -> Result<u32, AllocError>
+        requires reduced { AllAreReduced (trees_of parts.now) }
+        requires room { length self.old + (size_of (sequence (trees_of parts.now))).states + 2 ≤ 4294967295 }
+        requires slots { 2 * greatest (groups_in_all (trees_of parts.now)) + 1 < 4294967296 }
+        ensures { IfOk result (λ from. emitted self.new from ≡ emit (spec.alternation (trees_of parts.now)) to self.old) }
+    {
+        let out = self.push(State::Goto {
+            target: to,
+            look: None,
+        })?;
+        let mut rounds = Vec::new(self.alloc);
+        for part in parts {
+            rounds.push(self.emit(part, out)?)?;
+        }
+        self.push(State::Splits {
+            targets: rounds,
+            reverse: false,
         })
     }
 }

@@ -26,38 +26,7 @@ use Rattle.bites_spec.specs.Grammar.{ReadsItem, ReadsSequence, ReadsChoice}
 abbrev pub Begins : ℕ → Text → Type 0
 Begins c t = (next : Text) × (t ≡ c ∷ next)
 
-pub escape_begins : {flags : Flags} {t rest : Text} {meaning : Meaning} → ReadsEscape flags t meaning rest → Begins backslash t
-escape_begins (escape.control c d t rest meaning is e m) = (c ∷ rest, is)
-escape_begins (escape.itself c t rest meaning is e m) = (c ∷ rest, is)
-escape_begins (escape.anchor c l t rest meaning is e m) = (c ∷ rest, is)
-escape_begins (escape.word_boundary t rest meaning is e m) = (98 ∷ rest, is)
-escape_begins (escape.named_boundary l t next name rest meaning is r e m) = (98 ∷ left_brace ∷ next, is)
-escape_begins (escape.class c set t rest meaning is e m) = (c ∷ rest, is)
-escape_begins (escape.hexadecimal c n value t next rest meaning is e r s m) = (c ∷ next, is)
-
-pub stuck_escape_begins : {flags : Flags} {t place : Text} {m : Message} → StuckEscape flags t m place → Begins backslash t
-stuck_escape_begins (escape_fault.ends t place m is at names) = ([], is)
-stuck_escape_begins (escape_fault.digit c t rest place m is e at names) = (c ∷ rest, is)
-stuck_escape_begins (escape_fault.property c t rest place m is e at names) = (c ∷ rest, is)
-stuck_escape_begins (escape_fault.strange c t rest place m is d p e at names) = (c ∷ rest, is)
-stuck_escape_begins (escape_fault.hexadecimal c n t next place m is e s) = (c ∷ next, is)
-stuck_escape_begins (escape_fault.boundary_begins t next place m is e at names) = (98 ∷ left_brace ∷ next, is)
-stuck_escape_begins (escape_fault.boundary_ends t next name place m is r some e names) = (98 ∷ left_brace ∷ next, is)
-stuck_escape_begins (escape_fault.boundary_unknown t next name rest place m is r some e at names) = (98 ∷ left_brace ∷ next, is)
-
-bracket_front_begins : {flags : Flags} {t rest : Text} {negated : Bool} {leading : Set} → ReadsBracketFront flags t negated leading rest → Begins left_bracket t
-bracket_front_begins (bracket.front t next behind_caret behind_dashes dashes rest negated leading is c d l) = (next, is)
-
-pub bracket_begins : {flags : Flags} {t rest : Text} {ranges : List Range} → ReadsBracket flags t ranges rest → Begins left_bracket t
-bracket_begins (bracket.bracket t items rest negated leading set ranges f r lists) = bracket_front_begins f
-
-pub stuck_bracket_begins : {flags : Flags} {t place : Text} {m : Message} → StuckBracket flags t m place → Begins left_bracket t
-stuck_bracket_begins (bracket_fault.ends_at_once t next place m is e at names) = (next, is)
-stuck_bracket_begins (bracket_fault.ends_after_caret t next place m is c at names) = (next, is)
-stuck_bracket_begins (bracket_fault.ends_after_dashes t next behind_caret dashes place negated m is c r some at names) = (next, is)
-stuck_bracket_begins (bracket_fault.ends_after_bracket t next behind_caret more place negated m is c e f at names) = (next, is)
-stuck_bracket_begins (bracket_fault.in_members t items place negated leading m f s) = bracket_front_begins f
-
+-- an operator in braces that stops begins with its brace
 pub stuck_count_begins : {flags : Flags} {t place : Text} {m : Message} → StuckCount flags t m place → Begins left_brace t
 stuck_count_begins (count_fault.ends_at_once t next place m is e at names) = (next, is)
 stuck_count_begins (count_fault.in_min t next place m is s) = (next, is)
@@ -69,11 +38,13 @@ stuck_count_begins (count_fault.ends_after_max n most t next more place m is r q
 stuck_count_begins (count_fault.strange_after_max n most c t next more others place m is r q at e names) = (next, is)
 stuck_count_begins (count_fault.crossed n most t next more behind place is_lazy m is r q l less names) = (next, is)
 
+-- an opening begins with its parenthesis
 pub opening_begins : {front inner : Front} {t inside : Text} {opening : Opening} → ReadsOpening front t opening inner inside → Begins left_parenthesis t
 opening_begins (group.number_only t next inside opening inner is at e o i) = (next, is)
 opening_begins (group.named t next begun name inside opening inner is l b r o i) = (next, is)
 opening_begins (group.with_flags t next marks run inside opening inner is e r o i) = (next, is)
 
+-- as does one that stops
 pub stuck_opening_begins : {front : Front} {t place : Text} {m : Message} → StuckOpening front t m place → Begins left_parenthesis t
 stuck_opening_begins (group_fault.looks_around t next place m is at e names) = (next, is)
 stuck_opening_begins (group_fault.too_many t next place m is at e more names) = (next, is)

@@ -21,10 +21,15 @@ use Rattle.bites_spec.specs.Reading as reading
 use Rattle.bites_spec.specs.Reading.{Stop, Found, Answer, Reader, answer, stop, and_then, and_found, counted, at_operator, at_opened, behind_group, at_item, inner}
 use Rattle.bites_spec.proofs.EachLemmas.{skip_shorter}
 use Rattle.bites_spec.proofs.EscapeLemmas.{bool_cases, either_side}
-use Rattle.bites_spec.proofs.GroupLemmas.{least_rank}
-use Rattle.bites_spec.proofs.ChoiceParts.{Facts, StopsBy, LeadsToGroup}
+use Rattle.bites_spec.proofs.ItemCounts as counts
+use Rattle.bites_spec.proofs.ItemCounts.{stuck_count_shorter}
+use Rattle.bites_spec.proofs.BracketLemmas as brackets
+use Rattle.bites_spec.proofs.BracketLemmas.{stuck_escape_begins, stuck_bracket_begins, stuck_escape_shorter, stuck_bracket_shorter}
+use Rattle.bites_spec.proofs.GroupLemmas as groups
+use Rattle.bites_spec.proofs.GroupLemmas.{least_rank, opening_shorter, stuck_opening_shorter}
+use Rattle.bites_spec.proofs.ChoiceParts.{StopsBy, LeadsToGroup}
 use Rattle.bites_spec.proofs.ChoiceShorter.{item_shorter, sequence_shorter}
-use Rattle.bites_spec.proofs.ChoiceBegins.{stuck_escape_begins, stuck_bracket_begins, stuck_count_begins, stuck_opening_begins, opening_begins}
+use Rattle.bites_spec.proofs.ChoiceBegins.{stuck_count_begins, stuck_opening_begins, opening_begins}
 use Rattle.bites_spec.proofs.ChoiceSteps.{operator_stop, inner_step}
 use Rattle.bites_spec.proofs.ChoiceLeads.{StopsAtLimit, GoesOn, sequence_leads, item_leads}
 
@@ -66,31 +71,30 @@ reaches_within (here within high) = within
 at_itself : {t place : Text} {m : Message} (k : Message) → place ≡ t → m ≡ k → 4 ≤ rank k → Reaches t m place
 at_itself k same names high = here (omega (arith, ap length same)) (omega (arith, ap rank names))
 
-module _ (facts : Facts) where
-  mutual
-    choice_reaches : {nest_limit depth : ℕ} {front : Front} {t place : Text} {m : Message} → StuckChoice nest_limit depth front t m place → Reaches t m place
-    choice_reaches (fault.in_first depth front t place m s) = sequence_reaches s
-    choice_reaches (fault.in_later depth front middle t more place nodes m r c) =
-        behind (omega (arith, sequence_shorter facts r, reaches_within (choice_reaches c)))
+mutual
+  choice_reaches : {nest_limit depth : ℕ} {front : Front} {t place : Text} {m : Message} → StuckChoice nest_limit depth front t m place → Reaches t m place
+  choice_reaches (fault.in_first depth front t place m s) = sequence_reaches s
+  choice_reaches (fault.in_later depth front middle t more place nodes m r c) =
+      behind (omega (arith, sequence_shorter r, reaches_within (choice_reaches c)))
 
-    sequence_reaches : {nest_limit depth : ℕ} {front : Front} {t place : Text} {nodes : List Tree} {m : Message} → StuckSequence nest_limit depth front t nodes m place →
-        Reaches t m place
-    sequence_reaches (fault.later depth front middle t next place nodes more m i s) =
-        behind (omega (arith, item_shorter facts i, reaches_within (sequence_reaches s), skip_shorter front.flags t))
-    sequence_reaches (fault.here depth front t place nodes m i) = reaches_more (item_reaches i) (skip_shorter front.flags t)
+  sequence_reaches : {nest_limit depth : ℕ} {front : Front} {t place : Text} {nodes : List Tree} {m : Message} → StuckSequence nest_limit depth front t nodes m place →
+      Reaches t m place
+  sequence_reaches (fault.later depth front middle t next place nodes more m i s) =
+      behind (omega (arith, item_shorter i, reaches_within (sequence_reaches s), skip_shorter front.flags t))
+  sequence_reaches (fault.here depth front t place nodes m i) = reaches_more (item_reaches i) (skip_shorter front.flags t)
 
-    item_reaches : {nest_limit depth : ℕ} {front : Front} {t place : Text} {nodes : List Tree} {m : Message} → StuckItem nest_limit depth front t nodes m place → Reaches t m place
-    item_reaches (fault.unclosed depth front t place nodes m is opened at names) = at_itself message.unclosed_group (at ∙ sym is) names (omega arith)
-    item_reaches (fault.unopened depth front t rest place nodes m is opened at names) = at_itself message.unopened_group at names (omega arith)
-    item_reaches (fault.no_node depth front t place nodes m is none at names) = at_itself message.nothing_to_repeat at names (omega arith)
-    item_reaches (fault.no_node_to_count depth front t place nodes m is none at names) = at_itself message.nothing_to_count at names (omega arith)
-    item_reaches (fault.in_count depth front t place nodes m some s) = behind (facts.stuck_count_shorter front.flags t place m s)
-    item_reaches (fault.in_escape depth front t place nodes m s) = behind (facts.stuck_escape_shorter front.flags t place m s)
-    item_reaches (fault.in_bracket depth front t place nodes m s) = behind (facts.stuck_bracket_shorter front.flags t place m s)
-    item_reaches (fault.in_opening depth front t place nodes m s) = behind (facts.stuck_opening_shorter front t place m s)
-    item_reaches (fault.too_deep depth front inner t place nodes opening m r deep names) = behind (facts.opening_shorter front inner t place opening r)
-    item_reaches (fault.in_group depth front inner t inside place nodes opening m r c) =
-        behind (omega (arith, facts.opening_shorter front inner t inside opening r, reaches_within (choice_reaches c)))
+  item_reaches : {nest_limit depth : ℕ} {front : Front} {t place : Text} {nodes : List Tree} {m : Message} → StuckItem nest_limit depth front t nodes m place → Reaches t m place
+  item_reaches (fault.unclosed depth front t place nodes m is opened at names) = at_itself message.unclosed_group (at ∙ sym is) names (omega arith)
+  item_reaches (fault.unopened depth front t rest place nodes m is opened at names) = at_itself message.unopened_group at names (omega arith)
+  item_reaches (fault.no_node depth front t place nodes m is none at names) = at_itself message.nothing_to_repeat at names (omega arith)
+  item_reaches (fault.no_node_to_count depth front t place nodes m is none at names) = at_itself message.nothing_to_count at names (omega arith)
+  item_reaches (fault.in_count depth front t place nodes m some s) = behind (stuck_count_shorter s)
+  item_reaches (fault.in_escape depth front t place nodes m s) = behind (stuck_escape_shorter s)
+  item_reaches (fault.in_bracket depth front t place nodes m s) = behind (stuck_bracket_shorter s)
+  item_reaches (fault.in_opening depth front t place nodes m s) = behind (stuck_opening_shorter s)
+  item_reaches (fault.too_deep depth front inner t place nodes opening m r deep names) = behind (opening_shorter r)
+  item_reaches (fault.in_group depth front inner t inside place nodes opening m r c) =
+      behind (omega (arith, opening_shorter r, reaches_within (choice_reaches c)))
 
 -- a stop goes on through what comes behind
 through : {A B : Type 0} {m : Message} {place : Text} (a : Answer A) (next : A → Text → Result B Stop) → StopsFirst m place a → StopsFirst m place (and_then a next)
@@ -109,7 +113,7 @@ too_deep_first (here within high) = of_least_rank message.too_much_nesting _ _ _
 too_many_first : (m : Message) (place at : Text) → length place ≤ length at → ComesFirst message.too_many_groups at m place
 too_many_first m place at within = of_least_rank message.too_many_groups m place at within (λ _. least_rank m)
 
-module _ (list_of : Set → List Range) (lists : (set : Set) → Lists (list_of set) set) (nest_limit : ℕ) (facts : Facts) where
+module _ (list_of : Set → List Range) (lists : (set : Set) → Lists (list_of set) set) (nest_limit : ℕ) where
   module _ (go : Reader) (n depth : ℕ) (front : Front) (branches nodes : List Tree) where
     abbrev item : Text → Result Found Stop
     item t = at_item list_of nest_limit go n depth front branches nodes t
@@ -166,7 +170,7 @@ module _ (list_of : Set → List Range) (lists : (set : Set) → Lists (list_of 
     count_first t m place some s fits =
         let b = stuck_count_begins s in
         let answers = counted n front.flags (skip front.flags b.0) in
-        let f = stops_first m place answers (facts.count_first n front.flags t b.0 place m s b.1 (omega (arith, ap length b.1))) in
+        let f = stops_first m place answers (counts.count_first s n b.0 b.1 (omega (arith, ap length b.1))) in
         let operates = at_operator list_of nest_limit go depth front branches nodes message.nothing_to_count (left_brace ∷ b.0) in
         record {
           at = f.at;
@@ -177,19 +181,19 @@ module _ (list_of : Set → List Range) (lists : (set : Set) → Lists (list_of 
     escape_first : (t : Text) (m : Message) (place : Text) → StuckEscape front.flags t m place → length t ≤ n → StopsFirst m place (item t)
     escape_first t m place s fits =
         let b = stuck_escape_begins s in
-        let f = stops_first m place (reading.escape n front.flags b.0) (facts.escape_first n front.flags t b.0 place m s b.1 (omega (arith, ap length b.1))) in
+        let f = stops_first m place (reading.escape n front.flags b.0) (brackets.escape_first s n b.0 b.1 (omega (arith, ap length b.1))) in
         first_along (item t) _ (ap item b.1) (through (reading.escape n front.flags b.0) _ f)
 
     bracket_first : (t : Text) (m : Message) (place : Text) → StuckBracket front.flags t m place → length t ≤ n → StopsFirst m place (item t)
     bracket_first t m place s fits =
         let b = stuck_bracket_begins s in
-        let f = stops_first m place (reading.bracket n front.flags (skip front.flags b.0)) (facts.bracket_first n front.flags t b.0 place m s b.1 (omega (arith, ap length b.1))) in
+        let f = stops_first m place (reading.bracket n front.flags (skip front.flags b.0)) (brackets.bracket_first s n b.0 b.1 (omega (arith, ap length b.1))) in
         first_along (item t) _ (ap item b.1) (through (reading.bracket n front.flags (skip front.flags b.0)) _ f)
 
     opening_first : (t : Text) (m : Message) (place : Text) → StuckOpening front t m place → StopsFirst m place (item t)
     opening_first t m place s =
         let b = stuck_opening_begins s in
-        let f = stops_first m place (reading.opened front (skip front.flags b.0)) (facts.opened_first front t b.0 place m s b.1) in
+        let f = stops_first m place (reading.opened front (skip front.flags b.0)) (groups.opened_first s b.0 b.1) in
         first_along (item t) _ (ap item b.1) (through (reading.opened front (skip front.flags b.0)) _ f)
 
     -- behind a group's opening: too many groups, too deep, or what is inside
@@ -211,7 +215,7 @@ module _ (list_of : Set → List Range) (lists : (set : Set) → Lists (list_of 
           is = ap item b.1 ∙ ap (λ a. and_then a goes_behind) over.1;
           first = too_many_first m place over.0 (omega (arith, over.2, reaches_within reaches));
         })
-        (facts.opened_leads front inner_front t b.0 inside opening r b.1)
+        (groups.opened_leads r b.0 b.1)
 
   mutual
     -- where a choice has a fault, the reader stops, no later
@@ -219,19 +223,19 @@ module _ (list_of : Set → List Range) (lists : (set : Set) → Lists (list_of 
         length t < n → StopsFirst m place (inner list_of nest_limit n depth front branches [] t)
     choice_first (fault.in_first depth front t place m s) n branches fits = sequence_first s n branches fits
     choice_first (fault.in_later depth front middle t more place nodes m r c) n branches fits =
-        let led = sequence_leads list_of lists nest_limit facts r n depth branches fits in
+        let led = sequence_leads list_of lists nest_limit r n depth branches fits in
         first_then _ (inner list_of nest_limit led.0 depth middle (branches ++ sequence_of nodes ∷ []) [] more) led.2
-        (choice_first c led.0 (branches ++ sequence_of nodes ∷ []) (omega (arith, led.1))) (omega (arith, reaches_within (choice_reaches facts c)))
+        (choice_first c led.0 (branches ++ sequence_of nodes ∷ []) (omega (arith, led.1))) (omega (arith, reaches_within (choice_reaches c)))
 
     sequence_first : {depth : ℕ} {front : Front} {t place : Text} {nodes : List Tree} {m : Message} → StuckSequence nest_limit depth front t nodes m place →
         (n : ℕ) (branches : List Tree) → length t < n → StopsFirst m place (inner list_of nest_limit n depth front branches nodes t)
     sequence_first (fault.later depth front middle t next place nodes more m i s) zero branches fits = absurd (omega arith)
     sequence_first (fault.here depth front t place nodes m i) zero branches fits = absurd (omega arith)
     sequence_first (fault.later depth front middle t next place nodes more m i s) (suc n) branches fits =
-        let led = item_leads list_of lists nest_limit facts i n depth branches (omega (arith, skip_shorter front.flags t)) in
+        let led = item_leads list_of lists nest_limit i n depth branches (omega (arith, skip_shorter front.flags t)) in
         first_along _ _ (inner_step list_of nest_limit n depth front branches nodes t)
         (first_then _ (inner list_of nest_limit n depth middle branches more next) led
-        (sequence_first s n branches (omega (arith, item_shorter facts i, skip_shorter front.flags t))) (reaches_within (sequence_reaches facts s)))
+        (sequence_first s n branches (omega (arith, item_shorter i, skip_shorter front.flags t))) (reaches_within (sequence_reaches s)))
     sequence_first (fault.here depth front t place nodes m i) (suc n) branches fits =
         first_along _ _ (inner_step list_of nest_limit n depth front branches nodes t) (item_first i n branches (omega (arith, skip_shorter front.flags t)))
 
@@ -254,7 +258,7 @@ module _ (list_of : Set → List Range) (lists : (set : Set) → Lists (list_of 
         group_first (inner list_of nest_limit n) n depth front branches nodes m place r (at_itself message.too_much_nesting refl names (omega arith))
         (λ room. absurd (omega arith))
     item_first (fault.in_group depth front inner_front t inside place nodes opening m r c) n branches fits =
-        group_first (inner list_of nest_limit n) n depth front branches nodes m place r (choice_reaches facts c)
+        group_first (inner list_of nest_limit n) n depth front branches nodes m place r (choice_reaches c)
         (λ room.
         subst (λ (d : ℕ). StopsFirst m place (inner list_of nest_limit n d inner_front [] [] inside)) (add-one depth)
-        (choice_first c n [] (omega (arith, facts.opening_shorter front inner_front t inside opening r))))
+        (choice_first c n [] (omega (arith, opening_shorter r))))

@@ -22,9 +22,14 @@ use Rattle.bites_spec.specs.Reading.{Stop, Found, Answer, Bounds, Opened, Reader
 use Rattle.bites_spec.proofs.EachLemmas.{skip_shorter}
 use Rattle.bites_spec.proofs.EscapeLemmas.{either_side}
 use Rattle.bites_spec.proofs.RangeLemmas.{lists_once}
-use Rattle.bites_spec.proofs.ChoiceParts.{Facts, ReadsDirective, most_of, LeadsToCount, LeadsToGroup}
+use Rattle.bites_spec.proofs.ChoiceParts.{ReadsDirective, most_of, LeadsToCount, LeadsToGroup}
+use Rattle.bites_spec.proofs.ItemCounts as counts
+use Rattle.bites_spec.proofs.BracketLemmas as brackets
+use Rattle.bites_spec.proofs.BracketLemmas.{escape_begins, bracket_begins}
+use Rattle.bites_spec.proofs.GroupLemmas as groups
+use Rattle.bites_spec.proofs.GroupLemmas.{opening_shorter}
 use Rattle.bites_spec.proofs.ChoiceShorter.{atom_shorter, item_shorter, sequence_shorter, choice_shorter}
-use Rattle.bites_spec.proofs.ChoiceBegins.{escape_begins, bracket_begins, opening_begins, opening_groups, choice_groups, sequence_groups, item_groups}
+use Rattle.bites_spec.proofs.ChoiceBegins.{opening_begins, opening_groups, choice_groups, sequence_groups, item_groups}
 use Rattle.bites_spec.proofs.ChoiceSound.{EndsChoice}
 use Rattle.bites_spec.proofs.ChoiceSteps.{lazy_complete, operator_step, operator_stop, literal_step, inner_step}
 
@@ -84,7 +89,7 @@ goes_then a b d (inr s) second grow shorter = inr (limit_more s refl (omega arit
 some_nodes : (nodes before : List Tree) (last : Tree) → nodes ≡ before ++ last ∷ [] → 0 < length nodes
 some_nodes nodes before last is = omega (arith, ap length is, length-append before (last ∷ []))
 
-module _ (list_of : Set → List Range) (lists : (set : Set) → Lists (list_of set) set) (nest_limit : ℕ) (facts : Facts) where
+module _ (list_of : Set → List Range) (lists : (set : Set) → Lists (list_of set) set) (nest_limit : ℕ) where
   module _ (go : Reader) (n depth : ℕ) (front : Front) (branches nodes : List Tree) where
     -- the node that the reader makes of a set
     same_node : (set : Set) (ranges : List Range) (node : Tree) (rest : Text) → Lists ranges set → node ≡ tree.class ranges →
@@ -103,18 +108,18 @@ module _ (list_of : Set → List Range) (lists : (set : Set) → Lists (list_of 
     escape_leads meaning t next rest r is fits =
         ap item is
         ∙ ap (λ a. and_then a (λ x u. go depth front branches (nodes ++ reading.node_of list_of nest_limit front.flags x ∷ []) u))
-        (facts.escape_leads n front.flags t next rest meaning r is (omega (arith, ap length is)))
+        (brackets.escape_leads r n next is (omega (arith, ap length is)))
 
     bracket_leads : (ranges : List Range) (node : Tree) (t next rest : Text) → ReadsBracket front.flags t ranges rest → t ≡ left_bracket ∷ next → length t ≤ n →
         node ≡ tree.class ranges → item t ≡ go depth front branches (nodes ++ node ∷ []) rest
     bracket_leads ranges node t next rest r is fits same =
-        let led = facts.bracket_leads n front.flags t next rest ranges r is (omega (arith, ap length is)) in
+        let led = brackets.bracket_leads r n next is (omega (arith, ap length is)) in
         ap item is
         ∙ ap (λ a. and_then a (λ set u. go depth front branches (nodes ++ tree.class (list_of set) ∷ []) u)) led.1
         ∙ same_node led.0 ranges node rest led.2 same
 
     -- an atom, of which the reader makes the same node
-    atom_leads : {t rest : Text} {node : Tree} → ReadsAtom front.flags t node rest → length t ≤ n → item t ≡ go depth front branches (nodes ++ node ∷ []) rest
+    pub atom_leads : {t rest : Text} {node : Tree} → ReadsAtom front.flags t node rest → length t ≤ n → item t ≡ go depth front branches (nodes ++ node ∷ []) rest
     atom_leads (grammar.literal c t rest node is plain same) fits =
         ap item is ∙ literal_step list_of nest_limit go n depth front branches nodes c rest plain ∙ with_node _ node rest same
     atom_leads (grammar.any t rest node ranges is l same) fits = ap item is ∙ same_node _ ranges node rest l same
@@ -154,7 +159,7 @@ module _ (list_of : Set → List Range) (lists : (set : Set) → Lists (list_of 
           before = over.2;
           passes = by_count refl over.3;
         }))
-        (facts.count_leads n front.flags t next rest min most greedy r is (omega (arith, ap length is)))
+        (counts.count_leads r n next is (omega (arith, ap length is)))
 
     operator_leads : {t rest : Text} {min : ℕ} {most : Option ℕ} {greedy : Bool} → ReadsOperator front.flags t min most greedy rest →
         length t ≤ n → (before : List Tree) (last : Tree) → nodes ≡ before ++ last ∷ [] →
@@ -175,7 +180,7 @@ module _ (list_of : Set → List Range) (lists : (set : Set) → Lists (list_of 
     -- what an opening parenthesis begins
     directive_leads : {t rest : Text} {flags : Flags} → ReadsDirective front t flags rest → item t ≡ go depth (record front { flags = flags }) branches nodes rest
     directive_leads {t} {rest} {flags} d =
-        ap item d.opens ∙ ap (λ a. and_then a (at_opened list_of nest_limit go depth front branches nodes)) (facts.directive_leads front t d.next rest flags d d.opens)
+        ap item d.opens ∙ ap (λ a. and_then a (at_opened list_of nest_limit go depth front branches nodes)) (groups.directive_leads d d.next d.opens)
 
     group_leads : {t inside : Text} {inner_front : Front} {opening : Opening} (middle : Front) (rest : Text) (all : List Tree) (opens counts : ℕ) →
         ReadsOpening front t opening inner_front inside → length (right_parenthesis ∷ rest) ≤ length inside → inner_front.groups ≤ middle.groups →
@@ -205,7 +210,7 @@ module _ (list_of : Set → List Range) (lists : (set : Set) → Lists (list_of 
           before = omega (arith, over.2, shorter);
           passes = by_number refl (omega (arith, over.3, grow));
         }))
-        (facts.opened_leads front inner_front t b.0 inside opening r b.1)
+        (groups.opened_leads r b.0 b.1)
 
   same_end : (n depth : ℕ) (branches : List Tree) (front behind : Front) (nodes all : List Tree) (rest : Text) → all ≡ nodes → behind ≡ front →
       inner list_of nest_limit n depth front branches nodes rest ≡ inner list_of nest_limit n depth behind branches all rest
@@ -237,7 +242,7 @@ module _ (list_of : Set → List Range) (lists : (set : Set) → Lists (list_of 
         (goes_more _ (found ((branches ++ sequence_of nodes ∷ []) ++ others) behind rest) (found (branches ++ all) behind rest) later
         (ap (λ l. found l behind rest) (append_assoc branches (sequence_of nodes ∷ []) others) ∙ ap (λ l. found (branches ++ l) behind rest) (sym is))
         (omega arith) (omega arith) (omega arith) (omega arith))
-        (choice_groups c) (omega (arith, choice_shorter facts c))
+        (choice_groups c) (omega (arith, choice_shorter c))
 
     -- a sequence leads the reader to what ends it
     pub sequence_leads : {front behind : Front} {t rest : Text} {nodes all : List Tree} (s : ReadsSequence front t nodes all behind rest) (n depth : ℕ) (branches : List Tree) →
@@ -255,12 +260,12 @@ module _ (list_of : Set → List Range) (lists : (set : Set) → Lists (list_of 
         ∙ ap (λ x. at_item list_of nest_limit (inner list_of nest_limit n) n depth x branches all rest) (sym is)))
     sequence_leads (grammar.goes_on front middle behind t next rest nodes more all i s) (suc n) depth branches fits =
         let led = item_leads i n depth branches (omega (arith, skip_shorter front.flags t)) in
-        let later = sequence_leads s n depth branches (omega (arith, item_shorter facts i, skip_shorter front.flags t)) in
+        let later = sequence_leads s n depth branches (omega (arith, item_shorter i, skip_shorter front.flags t)) in
         (later.0, later.1,
         goes_then _ (inner list_of nest_limit n depth middle branches more next) _
         (goes_along (inner list_of nest_limit (suc n) depth front branches nodes t) (at_item list_of nest_limit (inner list_of nest_limit n) n depth front branches nodes (skip front.flags t)) _
         (inner_step list_of nest_limit n depth front branches nodes t) led)
-        later.2 (sequence_groups s) (sequence_shorter facts s))
+        later.2 (sequence_groups s) (sequence_shorter s))
 
     -- an item leads the reader behind it
     pub item_leads : {front behind : Front} {t rest : Text} {nodes all : List Tree} (i : ReadsItem front t nodes all behind rest) (n depth : ℕ) (branches : List Tree) →
@@ -279,6 +284,6 @@ module _ (list_of : Set → List Range) (lists : (set : Set) → Lists (list_of 
         ∙ same_end n depth branches _ _ _ _ rest same changes)
     item_leads (grammar.group front inner_front middle behind t inside rest nodes all bs opening o c is same) n depth branches fits =
         goes_more _ (inner list_of nest_limit n depth (record middle { flags = front.flags }) branches (nodes ++ group_of opening front.groups bs ∷ []) rest) _
-        (group_leads (inner list_of nest_limit n) n depth front branches nodes middle rest bs (open_in_choice c) (count_in_choice c) o (choice_shorter facts c) (choice_groups c)
-        (choice_leads c n (suc depth) [] (omega (arith, facts.opening_shorter front inner_front t inside opening o)) (rest, refl)))
+        (group_leads (inner list_of nest_limit n) n depth front branches nodes middle rest bs (open_in_choice c) (count_in_choice c) o (choice_shorter c) (choice_groups c)
+        (choice_leads c n (suc depth) [] (omega (arith, opening_shorter o)) (rest, refl)))
         (same_end n depth branches _ _ _ _ rest is same) (omega arith) (omega arith) (omega (arith, ap (λ f. f.groups) same)) (omega arith)

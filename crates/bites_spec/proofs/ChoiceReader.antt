@@ -27,16 +27,13 @@ use Rattle.bites_spec.specs.Reading as reading
 use Rattle.bites_spec.specs.Reading.{Stop, Found, Answer, Bounds, Opened, Reader, choose, and_then, and_found, lazy, counted, plain_operator, repeat_last, at_end, at_closing, at_operator, at_opened, behind_group, at_item, inner}
 use Rattle.bites_spec.proofs.EachLemmas.{skip_shorter}
 use Rattle.bites_spec.proofs.EscapeLemmas.{Means, either_side, escape_means}
-use Rattle.bites_spec.proofs.CountLemmas.{count_means}
-use Rattle.bites_spec.proofs.ChoiceParts.{Facts, Opens, most_of, LeadsToCount}
+use Rattle.bites_spec.proofs.CountLemmas.{lazy_reads, count_means}
+use Rattle.bites_spec.proofs.ChoiceParts.{Opens, most_of, LeadsToCount}
+use Rattle.bites_spec.proofs.ItemCounts.{operator_shorter, count_leads}
+use Rattle.bites_spec.proofs.BracketLemmas.{bracket_means}
+use Rattle.bites_spec.proofs.GroupLemmas.{opened_sound, opening_shorter}
 use Rattle.bites_spec.proofs.ChoiceShorter.{atom_shorter, item_shorter}
 use Rattle.bites_spec.proofs.ChoiceSound.{Adds, Stops, in_branch, in_later_branch, Finds, Says, EndsChoice, Choice, adds_choice, says_item, says_bar, says_end, says_atom, says_operator}
-
-lazy_reads : (t : Text) → ReadsLazy t (lazy t).0 (lazy t).1
-lazy_reads [] = ReadsLazy.none [] [] false refl refl refl
-lazy_reads (c ∷ t) =
-    either_side {A = Bool × Text} (λ x. ReadsLazy (c ∷ t) x.0 x.1) (c == question) _ _ (λ b. ReadsLazy.lazy _ t true (ap (λ x. x ∷ t) (eqb-true c question b)) refl)
-    (λ b. ReadsLazy.none _ _ false b refl refl)
 
 -- the faults of a choice, from those of its first branch
 pub stops_choice : {nest_limit depth : ℕ} {front : Front} {t place : Text} {m : Message} → Stops nest_limit depth front t [] m place →
@@ -83,14 +80,14 @@ BracketSays flags t = Means (λ set rest. ((ranges : List Range) → Lists range
 is_plain : {c d : ℕ} → c ≡ d → pattern.one_of (codes "?*+") d ≡ true → pattern.one_of (codes "?*+") c ≡ true
 is_plain is e = subst (λ x. pattern.one_of (codes "?*+") x ≡ true) (sym is) e
 
-module _ (list_of : Set → List Range) (lists : (set : Set) → Lists (list_of set) set) (nest_limit : ℕ) (facts : Facts) where
+module _ (list_of : Set → List Range) (lists : (set : Set) → Lists (list_of set) set) (nest_limit : ℕ) where
   module _ (go : Reader) (n depth : ℕ) (front : Front) (branches : List Tree) (t : Text) (goes : GoSays nest_limit n go) (fits : length (skip front.flags t) ≤ n)
       (room : depth ≤ nest_limit) (groups : front.groups ≤ greatest_number) where
     atom_says : (nodes : List Tree) (node : Tree) (rest : Text) → ReadsAtom front.flags (skip front.flags t) node rest →
         Says nest_limit depth front branches nodes t (go depth front branches (nodes ++ node ∷ []) rest)
     atom_says nodes node rest r =
         says_atom nest_limit depth front t rest branches nodes node _ r room
-        (goes depth front branches (nodes ++ node ∷ []) rest (omega (arith, atom_shorter facts r)) room groups)
+        (goes depth front branches (nodes ++ node ∷ []) rest (omega (arith, atom_shorter r)) room groups)
 
     bar_says : (nodes : List Tree) (more : Text) → bar ∷ more ≡ skip front.flags t →
         Says nest_limit depth front branches nodes t (go depth front (branches ++ sequence_of nodes ∷ []) [] more)
@@ -104,7 +101,7 @@ module _ (list_of : Set → List Range) (lists : (set : Set) → Lists (list_of 
     operator_says [] m u a nothing says = stops_here (nothing refl)
     operator_says (node ∷ nodes) m u (Ok x) nothing says =
         says_operator nest_limit depth front t x.1 branches nodes node x.0 _ says.0 says.1 room
-        (goes depth front branches (repeat_last x.0 node nodes) x.1 (omega (arith, facts.operator_shorter _ _ _ _ _ _ says.0)) room groups)
+        (goes depth front branches (repeat_last x.0 node nodes) x.1 (omega (arith, operator_shorter says.0)) room groups)
     operator_says (node ∷ nodes) m u (Err e) nothing says =
         stops_here (fault.in_count depth front (skip front.flags t) e.place (node ∷ nodes) e.message (omega arith) says)
 
@@ -142,7 +139,7 @@ module _ (list_of : Set → List Range) (lists : (set : Set) → Lists (list_of 
         says_item nest_limit depth front (record (f.behind) { flags = front.flags }) t (drop 1 f.rest) branches nodes (nodes ++ group_of opening front.groups f.branches ∷ []) _
         i (omega (arith, c.opens)) c.counts
         (goes depth (record (f.behind) { flags = front.flags }) branches (nodes ++ group_of opening front.groups f.branches ∷ []) (drop 1 f.rest)
-        (omega (arith, item_shorter facts i)) room found.groups)
+        (omega (arith, item_shorter i)) room found.groups)
     group_says nodes opening inner_front inside (Err e) r deep stops =
         let P : ℕ → Type 0 = λ d. StuckChoice nest_limit d inner_front inside e.message e.place in
         stops_here (fault.in_group depth front inner_front (skip front.flags t) inside e.place nodes opening e.message r (subst P (sym (add-one depth)) (stops_choice stops)))
@@ -155,14 +152,14 @@ module _ (list_of : Set → List Range) (lists : (set : Set) → Lists (list_of 
         (ap (λ f. record front { flags = f }) d.are) in
         says_item nest_limit depth front (record front { flags = flags }) t rest branches nodes nodes _
         i (omega arith) (omega arith)
-        (goes depth (record front { flags = flags }) branches nodes rest (omega (arith, item_shorter facts i)) room groups)
+        (goes depth (record front { flags = flags }) branches nodes rest (omega (arith, item_shorter i)) room groups)
     opened_says nodes (reading.group opening inner_front) rest (r, small) =
         either_side (Says nest_limit depth front branches nodes t) (nat_lt nest_limit (depth + 1)) _ _
         (λ b. stops_here (fault.too_deep depth front inner_front (skip front.flags t) rest nodes opening _ r (ltb-true nest_limit (depth + 1) b) refl))
         (λ b.
         let deep : suc depth ≤ nest_limit = omega (arith, ltb-false nest_limit (depth + 1) b) in
         group_says nodes opening inner_front rest (go (suc depth) inner_front [] [] rest) r deep
-        (goes (suc depth) inner_front [] [] rest (omega (arith, facts.opening_shorter _ _ _ _ _ r)) deep (small groups)))
+        (goes (suc depth) inner_front [] [] rest (omega (arith, opening_shorter r)) deep (small groups)))
 
     parenthesis_says : (nodes : List Tree) (a : Answer Opened) → Means (Opens front (skip front.flags t)) (StuckOpening front (skip front.flags t)) a →
         Says nest_limit depth front branches nodes t (and_then a (at_opened list_of nest_limit go depth front branches nodes))
@@ -184,7 +181,7 @@ module _ (list_of : Set → List Range) (lists : (set : Set) → Lists (list_of 
         CountSays front.flags (left_brace ∷ u) a
     bounded u (Ok x) here is r =
         (r, ⊎_elim (λ led. led.1) (λ over. absurd (let e : reading.stop message.invalid_decimal over.0 ≡ Ok x = sym over.1 ∙ is in cc))
-        (facts.count_leads n front.flags (left_brace ∷ u) u x.1 x.0.0 x.0.1 x.0.2 r refl here))
+        (count_leads r n u refl here))
     bounded u (Err e) here is stuck = stuck
 
     brace_says : (nodes : List Tree) (u : Text) → left_brace ∷ u ≡ skip front.flags t →
@@ -210,7 +207,7 @@ module _ (list_of : Set → List Range) (lists : (set : Set) → Lists (list_of 
         (λ b1. either_side P (c == bar) _ _ (λ b. bar_says nodes u (sym (ap (λ x. x ∷ u) (eqb-true c bar b)) ∙ at))
         (λ b2. either_side P (c == left_parenthesis) _ _ (λ b.
         parenthesis_says nodes _ (subst (λ x. Means (Opens front x) (StuckOpening front x) (reading.opened front (skip front.flags u)))
-        (sym (ap (λ x. x ∷ u) (eqb-true c left_parenthesis b)) ∙ at) (facts.opened_sound front u)))
+        (sym (ap (λ x. x ∷ u) (eqb-true c left_parenthesis b)) ∙ at) (opened_sound front u)))
         (λ b3. either_side P (c == question) _ _ (λ b. (let is = eqb-true c question b in
         plain_says nodes u 0 (Some 1) c at (λ mark r. operator.optional (c ∷ u) u mark.1 0 (Some 1) mark.0 _ (ap (λ x. x ∷ u) is) r refl refl refl)
         (is_plain is refl) (omega arith)))
@@ -226,7 +223,7 @@ module _ (list_of : Set → List Range) (lists : (set : Set) → Lists (list_of 
         (λ b7. either_side P (c == left_bracket) _ _ (λ b.
         bracket_says nodes _
         (subst (λ x. BracketSays front.flags x (reading.bracket n front.flags (skip front.flags u)))
-        (sym (ap (λ x. x ∷ u) (eqb-true c left_bracket b)) ∙ at) (facts.bracket_sound n front.flags u here)))
+        (sym (ap (λ x. x ∷ u) (eqb-true c left_bracket b)) ∙ at) (bracket_means n front.flags u here)))
         (λ b8. either_side P (c == backslash) _ _ (λ b.
         escape_says nodes _
         (subst (λ x. Means (ReadsEscape front.flags x) (StuckEscape front.flags x) (reading.escape n front.flags u))

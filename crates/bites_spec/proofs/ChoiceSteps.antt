@@ -7,13 +7,9 @@ use Rattle.bites_spec.specs.Class.{Set, Lists}
 use Rattle.bites_spec.specs.Tree.{Tree, sequence_of, repetition_of}
 use Rattle.bites_spec.specs.Pattern.{Text, Flags, Front, skip, question, ReadsLazy, bar, right_parenthesis}
 use Rattle.bites_spec.specs.Pattern as pattern
+use Rattle.bites_spec.proofs.GroupFlags.{neither}
 use Rattle.bites_spec.specs.Grammar.{is_special, literal_of}
 use Rattle.bites_spec.specs.Reading.{Stop, Found, Answer, Bounds, Reader, answer, stop, lazy, repeat_last, at_operator, at_item, inner}
-
--- neither of two
-neither : (a b : Bool) → (a || b) ≡ false → (a ≡ false) × (b ≡ false)
-neither true b e = absurd (true≢false e)
-neither false b e = (refl, e)
 
 -- a lazy mark that the relation reads, the function reads
 pub lazy_complete : {t rest : Text} {mark : Bool} → ReadsLazy t mark rest → lazy t ≡ (mark, rest)

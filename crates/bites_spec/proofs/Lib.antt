@@ -42,12 +42,15 @@ pub mod BracketFirst
 pub mod BracketLemmas
 pub mod ChoiceParts
 pub mod ChoiceSound
+pub mod ChoiceSteps
+pub mod ItemCounts
 pub mod ChoiceShorter
 pub mod ChoiceBegins
 pub mod ChoiceReader
-pub mod ChoiceSteps
 pub mod ChoiceLeads
 pub mod ChoiceFirst
+pub mod ItemOnce
 pub mod WholeSound
 mod WholeRanks
 pub mod WholeLaws
+pub mod WholeOnce

@@ -9,9 +9,10 @@ use Rattle.bites_spec.specs.Pattern.{Text, Flags}
 use Rattle.bites_spec.specs.Grammar.{Reading, Reads, at_front}
 use Rattle.bites_spec.specs.Measure.{Limits, IsTooTall, height, open_in_choice, count_in_choice}
 use Rattle.bites_spec.specs.Fault.{IsStuck, Fault, IsFirstStuck, IsReadTooTall, ComesFirst}
-use Rattle.bites_spec.specs.GrammarLaws.{FaultsOnce}
+use Rattle.bites_spec.specs.GrammarLaws.{FaultsOnce, ReaderReads, Refuses, ReaderRefuses}
+use Rattle.bites_spec.specs.RangesOf.{ranges_of}
+use Rattle.bites_spec.proofs.ClassLemmas.{ranges_of_list}
 use Rattle.bites_spec.specs.Reading.{Stop, Found, inner, read}
-use Rattle.bites_spec.proofs.ChoiceParts.{Facts}
 use Rattle.bites_spec.proofs.ChoiceLeads.{Passes, by_nesting, by_count, by_number, StopsAtLimit, choice_leads}
 use Rattle.bites_spec.proofs.ChoiceFirst.{StopsFirst, choice_first}
 use Rattle.bites_spec.proofs.WholeSound.{Within, read_within, read_stuck, within_limits, tall_or_low}
@@ -36,7 +37,7 @@ too_tall_or_low : {nest_limit : ℕ} (t u : Tree) → t ≡ u → IsTooTall nest
 too_tall_or_low t u same (inl tall) low counted = omega (arith, ap height same)
 too_tall_or_low t u same (inr tall) low counted = omega (arith, ap height same)
 
-module _ (list_of : Set → List Range) (lists : (set : Set) → Lists (list_of set) set) (nest_limit : ℕ) (facts : Facts) where
+module _ (list_of : Set → List Range) (lists : (set : Set) → Lists (list_of set) set) (nest_limit : ℕ) where
   -- what is read, the reader answers, or it stops at a limit
   pub read_leads : {pattern : Text} {flags : Flags} {t : Tree} (r : Reading pattern flags t) → Leads nest_limit r (read list_of nest_limit pattern flags)
   read_leads {pattern} {flags} {t} r =
@@ -46,7 +47,7 @@ module _ (list_of : Set → List Range) (lists : (set : Set) → Lists (list_of 
       (λ (s : StopsAtLimit nest_limit 0 (open_in_choice r.reads) (count_in_choice r.reads) r.behind.groups []
       (inner list_of nest_limit (suc (length pattern)) 0 (at_front flags) [] [] pattern)).
       stops s.at (ap ended s.is) s.passes)
-      (choice_leads list_of lists nest_limit facts r.reads (suc (length pattern)) 0 [] (omega arith) refl)
+      (choice_leads list_of lists nest_limit r.reads (suc (length pattern)) 0 [] (omega arith) refl)
 
   -- a tree within the limits is the reader's answer
   pub limits_lead : {pattern : Text} {flags : Flags} {t : Tree} → Limits pattern flags nest_limit t → read list_of nest_limit pattern flags ≡ Ok t
@@ -57,14 +58,14 @@ module _ (list_of : Set → List Range) (lists : (set : Set) → Lists (list_of 
   pub stuck_leads : {pattern : Text} {flags : Flags} {place : Text} {m : Message} → IsStuck pattern flags nest_limit m place →
       StopsFirst m place (read list_of nest_limit pattern flags)
   stuck_leads {pattern} s =
-      let f = choice_first list_of lists nest_limit facts s (suc (length pattern)) [] (omega arith) in
+      let f = choice_first list_of lists nest_limit s (suc (length pattern)) [] (omega arith) in
       record { at = f.at; is = ap ended f.is; first = f.first }
 
   -- the reader's stop is the first fault
   pub stop_is_fault : {pattern : Text} {flags : Flags} (e : Stop) → read list_of nest_limit pattern flags ≡ Err e → Fault pattern flags nest_limit e.message
   stop_is_fault {pattern} {flags} e is = inl (record {
     place = e.place;
-    stuck = read_stuck list_of lists nest_limit facts pattern flags e is;
+    stuck = read_stuck list_of lists nest_limit pattern flags e is;
     first = λ other at s. (let f = stuck_leads s in
         let same : f.at ≡ e = cc in
         subst (λ x. ComesFirst x.message x.place other at) same f.first);
@@ -75,7 +76,7 @@ module _ (list_of : Set → List Range) (lists : (set : Set) → Lists (list_of 
       Fault pattern flags nest_limit message.too_much_nesting
   tall_is_fault {pattern} {flags} t is tall = inr (record {
     t = t;
-    reads = (read_within list_of lists nest_limit facts pattern flags t is).reading;
+    reads = (read_within list_of lists nest_limit pattern flags t is).reading;
     too_tall = tall;
     no_other = λ other at s. absurd (let f = stuck_leads s in cc);
     nesting = refl;
@@ -84,7 +85,7 @@ module _ (list_of : Set → List Range) (lists : (set : Set) → Lists (list_of 
   -- a tree of the reader's that is not too tall is within the limits
   pub low_is_within : {pattern : Text} {flags : Flags} (t : Tree) → read list_of nest_limit pattern flags ≡ Ok t → (IsTooTall nest_limit t → ⊥) →
       Limits pattern flags nest_limit t
-  low_is_within {pattern} {flags} t is low = within_limits (read_within list_of lists nest_limit facts pattern flags t is) low
+  low_is_within {pattern} {flags} t is low = within_limits (read_within list_of lists nest_limit pattern flags t is) low
 
   -- a pattern with a message has no tree within the limits
   pub refused_has_no_tree : (pattern : Text) (flags : Flags) (m : Message) (t : Tree) → Fault pattern flags nest_limit m → Limits pattern flags nest_limit t → ⊥
@@ -123,3 +124,29 @@ faults_once pattern flags nest_limit m k (inl f) (inl g) = rank_once m k (same_r
 faults_once pattern flags nest_limit m k (inl f) (inr g) = absurd (g.no_other m f.place f.stuck)
 faults_once pattern flags nest_limit m k (inr f) (inl g) = absurd (f.no_other k g.place g.stuck)
 faults_once pattern flags nest_limit m k (inr f) (inr g) = f.nesting ∙ sym g.nesting
+
+-- the function answers the trees within the limits
+pub reader_reads : ReaderReads
+reader_reads pattern flags nest_limit t =
+    (λ l. (limits_lead ranges_of ranges_of_list nest_limit l, λ tall. too_tall_or_low t t refl tall l.low l.counted_height),
+    λ answered. low_is_within ranges_of ranges_of_list nest_limit t answered.0 answered.1)
+
+refuses : (pattern : Text) (flags : Flags) (nest_limit : ℕ) (m : Message) (a : Result Tree Stop) → read ranges_of nest_limit pattern flags ≡ a →
+    Fault pattern flags nest_limit m → Refuses nest_limit m a
+refuses pattern flags nest_limit m (Ok t) is (inl f) = absurd (let s = stuck_leads ranges_of ranges_of_list nest_limit f.stuck in cc)
+refuses pattern flags nest_limit m (Ok t) is (inr f) =
+    elim (read_leads ranges_of ranges_of_list nest_limit f.reads) [
+      answers same ↦ (let one : f.t ≡ t = cc in (subst (IsTooTall nest_limit) one f.too_tall, f.nesting))
+    | stops e stopped passes ↦ absurd (cc)
+    ]
+refuses pattern flags nest_limit m (Err e) is f = faults_once pattern flags nest_limit m e.message f (stop_is_fault ranges_of ranges_of_list nest_limit e is)
+
+refused : (pattern : Text) (flags : Flags) (nest_limit : ℕ) (m : Message) (a : Result Tree Stop) → read ranges_of nest_limit pattern flags ≡ a →
+    Refuses nest_limit m a → Fault pattern flags nest_limit m
+refused pattern flags nest_limit m (Ok t) is r = subst (Fault pattern flags nest_limit) (sym r.1) (tall_is_fault ranges_of ranges_of_list nest_limit t is r.0)
+refused pattern flags nest_limit m (Err e) is r = subst (Fault pattern flags nest_limit) (sym r) (stop_is_fault ranges_of ranges_of_list nest_limit e is)
+
+-- the function refuses by the first fault
+pub reader_refuses : ReaderRefuses
+reader_refuses pattern flags nest_limit m =
+    (refuses pattern flags nest_limit m (read ranges_of nest_limit pattern flags) refl, refused pattern flags nest_limit m (read ranges_of nest_limit pattern flags) refl)

@@ -10,7 +10,6 @@ use Rattle.bites_spec.specs.Grammar.{Reading, at_front}
 use Rattle.bites_spec.specs.Measure.{Limits, IsTooTall, height, open_in_choice, count_in_choice}
 use Rattle.bites_spec.specs.Fault.{IsStuck}
 use Rattle.bites_spec.specs.Reading.{Stop, Found, inner, read}
-use Rattle.bites_spec.proofs.ChoiceParts.{Facts}
 use Rattle.bites_spec.proofs.ChoiceSound.{Says, Choice, adds_choice}
 use Rattle.bites_spec.proofs.ChoiceReader.{inner_says, stops_choice}
 
@@ -42,12 +41,12 @@ whole pattern flags nest_limit (Ok f) found =
     }
 whole pattern flags nest_limit (Err e) stops = stops_choice stops
 
-module _ (list_of : Set → List Range) (lists : (set : Set) → Lists (list_of set) set) (nest_limit : ℕ) (facts : Facts) where
+module _ (list_of : Set → List Range) (lists : (set : Set) → Lists (list_of set) set) (nest_limit : ℕ) where
   -- what the reader answers, the relations say
   pub read_says : (pattern : Text) (flags : Flags) → ReadSays pattern flags nest_limit (read list_of nest_limit pattern flags)
   read_says pattern flags =
       whole pattern flags nest_limit _
-      (inner_says list_of lists nest_limit facts (suc (length pattern)) 0 (at_front flags) [] [] pattern (omega arith) (omega arith) (omega arith))
+      (inner_says list_of lists nest_limit (suc (length pattern)) 0 (at_front flags) [] [] pattern (omega arith) (omega arith) (omega arith))
 
   -- a tree that the reader answers is read, and within the limits where it is not too tall
   pub read_within : (pattern : Text) (flags : Flags) (t : Tree) → read list_of nest_limit pattern flags ≡ Ok t → Within pattern flags nest_limit t

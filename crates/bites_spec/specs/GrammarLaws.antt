@@ -1,13 +1,15 @@
 -- What has to hold of the grammar and its faults.
-use Rattle.std.specs.Prelude.{◌≡◌, ℕ, ◌⊎◌, List}
+use Rattle.std.specs.Prelude.{◌≡◌, ℕ, ◌⊎◌, ◌↔◌, List, Result, Ok, Err}
 use Rattle.bites_spec.specs.Range.{Range}
 use Rattle.bites_spec.specs.Class.{Set, Lists}
 use Rattle.bites_spec.specs.Tree.{Tree}
 use Rattle.bites_spec.specs.Built.{IsCompilable}
-use Rattle.bites_spec.specs.Message.{Message}
+use Rattle.bites_spec.specs.Message.{Message, too_much_nesting}
 use Rattle.bites_spec.specs.Pattern.{Text, Flags}
 use Rattle.bites_spec.specs.Grammar.{Reads}
-use Rattle.bites_spec.specs.Measure.{Limits}
+use Rattle.bites_spec.specs.Measure.{Limits, IsTooTall}
+use Rattle.bites_spec.specs.RangesOf.{ranges_of}
+use Rattle.bites_spec.specs.Reading.{Stop, read}
 use Rattle.bites_spec.specs.Fault.{Fault}
 
 -- each set of characters has a list of ranges
@@ -31,6 +33,23 @@ abbrev pub ReadOrRefused : Type 0
 ReadOrRefused =
     (pattern : Text) (flags : Flags) (nest_limit : ℕ) →
     ((t : Tree) × Limits pattern flags nest_limit t) ⊎ ((m : Message) × Fault pattern flags nest_limit m)
+
+-- the grammar's function answers a tree that is not too tall just where the pattern has it within the limits
+abbrev pub ReaderReads : Type 0
+ReaderReads =
+    (pattern : Text) (flags : Flags) (nest_limit : ℕ) (t : Tree) →
+    Limits pattern flags nest_limit t ↔ ((read ranges_of nest_limit pattern flags ≡ Ok t) × (IsTooTall nest_limit t → ⊥))
+
+-- an answer of the function refuses the pattern by this message: it stops there, or the tree is too tall
+abbrev pub Refuses : ℕ → Message → Result Tree Stop → Type 0
+Refuses nest_limit m (Ok t) = IsTooTall nest_limit t × (m ≡ too_much_nesting)
+Refuses nest_limit m (Err e) = m ≡ e.message
+
+-- the grammar's function refuses a pattern just by the pattern's message
+abbrev pub ReaderRefuses : Type 0
+ReaderRefuses =
+    (pattern : Text) (flags : Flags) (nest_limit : ℕ) (m : Message) →
+    Fault pattern flags nest_limit m ↔ Refuses nest_limit m (read ranges_of nest_limit pattern flags)
 
 -- a program can hold the tree of a pattern
 abbrev pub ReadIsCompilable : Type 0

@@ -5,7 +5,7 @@
 
 ghost use Rattle.bites_spec.specs.Class.{ListsOnce};
 ghost use Rattle.bites_spec.specs.Laws.{MatchIsParse, FirstRunIsFirst, FirstRunIsOne, RunsAreParses, PlainRunsAreSimple, FirstRunIsFound, LeastEndIsLeast, ParsesAreListed, LongestIsFound, ParsesEndAtMatches, StaticCountIsLeast, SpansGrow, PiecesAndMatches, ReplacedIsJoined};
-ghost use Rattle.bites_spec.specs.GrammarLaws.{ListsAll, ReadIsCompilable};
+ghost use Rattle.bites_spec.specs.GrammarLaws.{ListsAll, ReadIsCompilable, ReadsOnce, FaultsOnce, RefusedHasNoTree, ReadOrRefused, ReaderReads, ReaderRefuses};
 ghost use Rattle.bites_spec.specs.RangesOf.{RangesOfList};
 
 pub fn match_is_parse()
@@ -78,4 +78,28 @@ pub fn ranges_of_a_set_list_it()
 
 pub fn read_trees_are_compilable()
     ensures { ReadIsCompilable }
+{}
+
+pub fn patterns_have_one_tree()
+    ensures { ReadsOnce }
+{}
+
+pub fn patterns_have_one_message()
+    ensures { FaultsOnce }
+{}
+
+pub fn refused_patterns_have_no_tree()
+    ensures { RefusedHasNoTree }
+{}
+
+pub fn patterns_are_read_or_refused()
+    ensures { ReadOrRefused }
+{}
+
+pub fn reader_reads()
+    ensures { ReaderReads }
+{}
+
+pub fn reader_refuses()
+    ensures { ReaderRefuses }
 {}

@@ -1,5 +1,5 @@
 -- Laws of the two connectives that classes need.
-use Rattle.std.proofs.Common.{◌≡◌, Bool, true, false, not, ◌&&◌, ◌||◌, refl, sym, true≢false}
+use Rattle.std.proofs.Common.{◌≡◌, Bool, true, false, ◌&&◌, ◌||◌, refl, sym}
 
 -- how a chain of choices groups
 pub or_assoc : (a b c : Bool) → (a || (b || c)) ≡ ((a || b) || c)

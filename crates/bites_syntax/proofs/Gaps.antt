@@ -1,10 +1,10 @@
 -- The ranges between the greatest ranges of a set.
-use Rattle.std.proofs.Common.{◌≡◌, ◌≢◌, ℕ, zero, suc, ◌+◌, ◌-◌, ◌<◌, ◌≤◌, ◌⊎◌, Bool, true, false, not, ◌&&◌, ◌||◌, List, [], ◌∷◌, ◌++◌, length, get_or, drop, append_assoc, subst, inl, inr, refl, sym, ap, ◌∙◌, arith, eq-eqb, ne_eqb, le-leb}
+use Rattle.std.proofs.Common.{◌≡◌, ◌≢◌, ℕ, zero, suc, ◌+◌, ◌-◌, ◌<◌, ◌≤◌, ◌⊎◌, true, not, ◌&&◌, List, [], ◌∷◌, ◌++◌, length, get_or, drop, append_assoc, subst, inl, inr, refl, sym, ap, ◌∙◌, arith, eq-eqb, ne_eqb, le-leb}
 use Rattle.std.specs.Prelude.{nat_le, nat_lt, ◌==◌, if◌then◌else◌}
 use Rattle.std.proofs.lemmas.Bool.{lt-leb, cases_lt, cases_eq, lt-ltb, le-ltb}
 use Rattle.std.proofs.lemmas.List.{at_drop_more, at_drop_all, drop_more}
-use Rattle.bites_spec.specs.Range.{Range, in_range, in_ranges}
-use Rattle.bites_spec.specs.Class.{is_scalar, complement, following, IsRange, AreGreatest, Lists}
+use Rattle.bites_spec.specs.Range.{Range, in_ranges}
+use Rattle.bites_spec.specs.Class.{is_scalar, complement, following, AreGreatest, Lists}
 use Rattle.bites_spec.proofs.RangeLemmas.{Within, is_range, none_below, tail_is_greatest, scalar_within, within_scalar, following_within, after_following, in_first}
 use Rattle.bites_spec.proofs.ClassLemmas.{StartsFrom, none_before, starts_lower, starts_behind, put_before}
 use Rattle.bites_syntax.proofs.Merging.{in_range-within, in_range-above}

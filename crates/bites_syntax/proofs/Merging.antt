@@ -1,12 +1,12 @@
 -- Ranges that do not fall are merged into the greatest ones.
-use Rattle.std.proofs.Common.{◌≡◌, ℕ, ◌<◌, ◌≤◌, max, Bool, true, false, ◌||◌, List, [], ◌∷◌, Option, Some, None, inl, inr, refl, sym, ap, ◌∙◌, arith, le-leb}
+use Rattle.std.proofs.Common.{◌≡◌, ℕ, ◌<◌, ◌≤◌, max, true, false, ◌||◌, List, [], ◌∷◌, Option, Some, None, inl, inr, refl, sym, ap, ◌∙◌, arith, le-leb}
 use Rattle.std.specs.Prelude.{nat_le, if◌then◌else◌}
 use Rattle.std.proofs.lemmas.Bool.{lt-leb, cases_lt}
 use Rattle.bites_spec.specs.Range.{Range, in_range, in_ranges}
 use Rattle.bites_spec.specs.Class.{is_scalar, following, IsRange, AreGreatest, Lists}
-use Rattle.bites_spec.proofs.RangeLemmas.{scalar_within, following_within, after_following}
+use Rattle.bites_spec.proofs.RangeLemmas.{scalar_within, following_within}
 use Rattle.bites_spec.proofs.ClassLemmas.{StartsFrom, put_before}
-use Rattle.bites_syntax.proofs.Bools.{or_assoc, or_false}
+use Rattle.bites_syntax.proofs.Bools.{or_assoc}
 
 -- ranges that begin no lower than a number and do not fall
 abbrev pub RiseFrom : ℕ → List Range → Type 0

@@ -1,4 +1,5 @@
 pub mod FlagsView
+pub mod Groups
 pub mod Meanings
 pub mod Numbers
 pub mod Operators
@@ -8,3 +9,4 @@ pub mod Steps
 pub mod TreeCode
 pub mod View
 pub mod TreeFalls
+pub mod Cases

@@ -1,8 +1,11 @@
 -- What the program's types stand for in the definitions.
+use Rattle.bites_spec.specs.Class as sets
 use Rattle.bites_spec.specs.Look as assertion
 use Rattle.bites_spec.specs.Tree.{Tree, empty, char, class, look, repetition, group, sequence, alternation, trees_of}
 use Rattle.bites_syntax.specs.declared.look.Look as declared
 use Rattle.bites_syntax.specs.declared.look.Look.TheVariants.{Start, End, StartLf, EndLf, StartCrlf, EndCrlf, Word, WordNegate, WordStart, WordEnd, WordStartHalf, WordEndHalf}
+use Rattle.bites_syntax.specs.declared.named.NamedClass.{NamedClass}
+use Rattle.bites_syntax.specs.declared.named.NamedClass.TheVariants as named
 use Rattle.bites_syntax.specs.declared.tree.Kind.{Kind}
 use Rattle.bites_syntax.specs.declared.tree.Kind.TheVariants.{Empty, Char, Class, Look, Repetition, Capture, Concat, Alternation}
 
@@ -20,6 +23,23 @@ look_of WordStart = assertion.word_start
 look_of WordEnd = assertion.word_end
 look_of WordStartHalf = assertion.word_start_half
 look_of WordEndHalf = assertion.word_end_half
+
+-- a named class of the program as one of the definitions
+abbrev pub named_of : NamedClass → sets.NamedClass
+named_of named.Alnum = sets.alnum
+named_of named.Alpha = sets.alpha
+named_of named.Ascii = sets.ascii
+named_of named.Blank = sets.blank
+named_of named.Cntrl = sets.cntrl
+named_of named.Digit = sets.digit
+named_of named.Graph = sets.graph
+named_of named.Lower = sets.lower
+named_of named.Print = sets.print
+named_of named.Punct = sets.punct
+named_of named.Space = sets.space
+named_of named.Upper = sets.upper
+named_of named.Word = sets.word
+named_of named.Xdigit = sets.xdigit
 
 -- a node of the program as a tree, where each part is one already
 abbrev pub tree_of : Kind → Tree

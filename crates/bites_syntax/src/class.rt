@@ -1,8 +1,10 @@
 //! Sets of characters.
 
-ghost use Rattle.std.specs.Prelude.{◌≡◌, ◌<◌, true, [], IfOk, MatchOption};
+ghost use Rattle.std.specs.Prelude.{◌≡◌, ◌<◌, true, codes, if◌then◌else◌, IsTrue, [], IfOk, MatchOption};
 ghost use Rattle.bites_spec.specs.Range.{in_ranges};
-ghost use Rattle.bites_spec.specs.Class.{AreGreatest, Lists, complement, following, is_scalar};
+ghost use Rattle.bites_spec.specs.Class.{AreGreatest, Lists, complement, following, is_scalar, is_letter, none, single};
+ghost use Rattle.bites_spec.specs.Grammar.{two_cases};
+ghost use Rattle.bites_spec.specs.Pattern.{one_of};
 
 use std::alloc::{AllocError, Global};
 use std::marker::Model;
@@ -51,6 +53,32 @@ impl Class {
     {
         Ok(Class {
             ranges: gaps(alloc, ranges)?,
+        })
+    }
+
+    /// The class of what a dot stands for: all characters, or all but a line feed, or all but a
+    /// line feed and a carriage return. It refuses only for memory.
+    pub fn dot(alloc: Global, matches_new_line: bool, crlf: bool) -> Result<Class, AllocError>
+        ensures { IfOk result (λ class. Lists class (complement
+            (if matches_new_line then none else if crlf then one_of (codes "\n\r") else single 10))) }
+    {
+        if matches_new_line {
+            Class::all_but(alloc, &[])
+        } else if crlf {
+            Class::all_but(alloc, &[('\n', '\n'), ('\r', '\r')])
+        } else {
+            Class::all_but(alloc, &[('\n', '\n')])
+        }
+    }
+
+    /// The class of both cases of an ASCII letter. It refuses only for memory.
+    pub fn two_cases(alloc: Global, letter: char) -> Result<Class, AllocError>
+        requires { IsTrue (is_letter letter) }
+        ensures { IfOk result (λ class. class ≡ two_cases letter) }
+    {
+        let (upper, lower) = (letter.to_ascii_uppercase(), letter.to_ascii_lowercase());
+        Ok(Class {
+            ranges: vec![in alloc; (upper, upper), (lower, lower)]?,
         })
     }
 

@@ -1,5 +1,17 @@
 //! The flags in force at a place of a pattern.
 
+ghost use Rattle.std.specs.Prelude.{◌≡◌, ◌≤◌, ◌==◌, [], length, codes, true, if◌then◌else◌, MatchResult, OnOk};
+ghost use Rattle.bites_spec.specs.Group.{changed, is_flag_mark, put_flag};
+ghost use Rattle.bites_spec.specs.Pattern.{Front, dash, one_of};
+ghost use Rattle.bites_spec.specs.Reading.{flags_from};
+ghost use Rattle.bites_syntax.specs.FlagsView.{flags_of};
+ghost use Rattle.bites_syntax.specs.Groups.{ends_flags};
+ghost use Rattle.bites_syntax.specs.Parts.{Refuses};
+
+use crate::cursor::Cursor;
+use bites_text::error::Error;
+use std::alloc::Global;
+
 /// The flags under which a pattern is read.
 #[derive(Clone, Copy, Debug, Default, PartialEq, Eq)]
 pub struct Flags {
@@ -15,4 +27,81 @@ pub struct Flags {
     pub swap_greed: bool,
     /// White space and comments between the parts of a pattern have no meaning.
     pub ignore_whitespace: bool,
+}
+
+/// The flags with that of a letter set or taken away.
+fn put_flag(on: bool, c: char, flags: Flags) -> Flags
+    ensures { flags_of result ≡ put_flag on c (flags_of flags) }
+{
+    let mut flags = flags;
+    match c {
+        'i' => flags.case_insensitive = on,
+        'm' => flags.multi_line = on,
+        's' => flags.dot_matches_new_line = on,
+        'U' => flags.swap_greed = on,
+        'R' => flags.crlf = on,
+        'x' => flags.ignore_whitespace = on,
+        _ => {}
+    }
+    flags
+}
+
+/// What a run of letters makes of the flags; those behind a dash are taken away.
+pub(crate) fn changed(run: &[char], flags: Flags) -> Flags
+    ensures { flags_of result ≡ changed true run.now (flags_of flags) }
+{
+    let mut on = true;
+    let mut flags = flags;
+    for c in run {
+        flags = put_flag(on, *c, flags);
+        on = on && *c != '-';
+    }
+    flags
+}
+
+/// Whether the character is a letter of flags or the dash between them.
+fn is_flag_mark(c: char) -> bool
+    ensures { result ≡ is_flag_mark c }
+{
+    matches!(c, 'i' | 'm' | 's' | 'U' | 'R' | 'u' | 'x' | '-')
+}
+
+fn ends_run(c: char) -> bool
+    ensures { result ≡ one_of (codes ":)") c }
+{
+    c == ':' || c == ')'
+}
+
+/// Reads letters of flags and a dash, up to what ends them or to the end of the pattern.
+pub(crate) fn flag_run(alloc: Global, cursor: &mut Cursor<'_>) -> Result<Vec<char>, Error>
+    ensures reads { MatchResult result (λ run. (front : Front) → flags_from front [] cursor.old ≡ flags_from front run.items cursor.new) (λ e. (front : Front) → Refuses e (flags_from front [] cursor.old)) }
+    ensures ends { OnOk result (ends_flags cursor.new ≡ true) }
+    ensures forward { length cursor.new ≤ length cursor.old }
+{
+    let mut run = Vec::new(alloc);
+    while let Some(c) = cursor.peek() {
+        if ends_run(c) {
+            break;
+        }
+        if !is_flag_mark(c) {
+            return Err(Error::UnrecognizedFlag);
+        }
+        if run.contains(&c) {
+            return Err(repeated(c));
+        }
+        run.push(c)?;
+        cursor.bump();
+    }
+    Ok(run)
+}
+
+/// The error at a mark that stands a second time.
+fn repeated(c: char) -> Error
+    ensures { result ≡ (if c == dash then Error.RepeatedNegation else Error.DuplicateFlag) }
+{
+    if c == '-' {
+        Error::RepeatedNegation
+    } else {
+        Error::DuplicateFlag
+    }
 }

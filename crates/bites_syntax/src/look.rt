@@ -1,8 +1,10 @@
 //! Assertions: what holds between two bytes of a haystack.
 
 ghost use Rattle.std.specs.Prelude.{◌≡◌, ◌≤◌, length};
-ghost use Rattle.bites_spec.specs.Look.{holds, holds_between, before, is_byte, is_word, is_word_byte};
+ghost use Rattle.bites_spec.specs.Look.{holds, holds_between, before, is_byte, is_word};
 ghost use Rattle.bites_syntax.specs.View.{look_of};
+
+use bites_text::utf8::is_word_byte;
 
 /// An assertion. It consumes nothing.
 #[derive(Clone, Copy, PartialEq, Eq, Debug)]
@@ -101,11 +103,4 @@ fn is_word(byte: Option<u8>) -> bool
     ensures { result ≡ is_word byte }
 {
     byte.is_some_and(is_word_byte)
-}
-
-/// Whether the byte is an ASCII letter, an ASCII digit or an underscore.
-fn is_word_byte(byte: u8) -> bool
-    ensures { result ≡ is_word_byte byte }
-{
-    matches!(byte, b'0'..=b'9' | b'A'..=b'Z' | b'a'..=b'z' | b'_')
 }

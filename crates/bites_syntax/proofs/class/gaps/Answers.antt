@@ -1,4 +1,4 @@
-use Rattle.std.proofs.Common.{◌≡◌, ◌<◌, ◌≤◌, ◌+◌, List, ◌∷◌, [], ◌++◌, drop, get_or, sym, ap, ◌∙◌, arith, append-nil}
+use Rattle.std.proofs.Common.{◌≡◌, ◌+◌, List, [], ◌++◌, drop, get_or, sym, ap, ◌∙◌, append-nil}
 use Rattle.bites_spec.specs.Range.{Range}
 use Rattle.bites_spec.specs.Class.{following}
 use Rattle.bites_syntax.proofs.Gaps.{gaps, gap_before, no_gap_before, none_behind, gap_at_end, lists_others, following_below}
