@@ -24,16 +24,19 @@ least_end t p hay fit built s end (o, least, is) =
     let P : Option ℕ → Type 0 = λ e. IsLeastEnd t hay s e in subst P (sym is) (LeastEnd-IsLeastEnd t p hay fit built s o least)
 
 -- whether the regex matches is whether its program runs
-pub found_match : {E : Type 0} (regex : Meaning) → IsCompiled regex → (hay : List ℕ) (s : ℕ) (o : Result Bool E) →
-    IfOk o (λ found. IsTrue found ↔ HasRun regex.program hay s) → IfOk o (λ found. IsTrue found ↔ HasMatch regex.tree hay s)
-found_match regex is hay s (Ok found) h = (
-  λ yes. run_match regex.tree regex.program hay is.compilable is.built s (h.0 yes),
-  λ m. h.1 (match_run regex.tree regex.program hay is.compilable is.built s m),
-)
-found_match regex is hay s (Err e) h = h
+pub found_match : {E : Type 0} (regex : Meaning) (p : Program) → p ≡ regex.program → IsCompiled regex → (hay : List ℕ) (s : ℕ) (o : Result Bool E) →
+    IfOk o (λ found. IsTrue found ↔ HasRun p hay s) → IfOk o (λ found. IsTrue found ↔ HasMatch regex.tree hay s)
+found_match regex p same is hay s (Ok found) h =
+    let built : Built regex.tree p = let P : Program → Type 0 = λ q. Built regex.tree q in subst P (sym same) is.built in (
+      λ yes. run_match regex.tree p hay is.compilable built s (h.0 yes),
+      λ m. h.1 (match_run regex.tree p hay is.compilable built s m),
+    )
+found_match regex p same is hay s (Err e) h = h
 
 -- where the regex's matches end first is where its program's runs do
-pub least_match : {E : Type 0} (regex : Meaning) → IsCompiled regex → (hay : List ℕ) (s : ℕ) (o : Result (Option ℕ) E) →
-    IfOk o (λ end. IsLeastRunEnd regex.program hay s end) → IfOk o (λ end. IsLeastEnd regex.tree hay s end)
-least_match regex is hay s (Ok end) h = least_end regex.tree regex.program hay is.compilable is.built s end h
-least_match regex is hay s (Err e) h = h
+pub least_match : {E : Type 0} (regex : Meaning) (p : Program) → p ≡ regex.program → IsCompiled regex → (hay : List ℕ) (s : ℕ) (o : Result (Option ℕ) E) →
+    IfOk o (λ end. IsLeastRunEnd p hay s end) → IfOk o (λ end. IsLeastEnd regex.tree hay s end)
+least_match regex p same is hay s (Ok end) h =
+    let built : Built regex.tree p = let P : Program → Type 0 = λ q. Built regex.tree q in subst P (sym same) is.built in
+    least_end regex.tree p hay is.compilable built s end h
+least_match regex p same is hay s (Err e) h = h

@@ -6,7 +6,7 @@ pub mod builder;
 pub mod class;
 pub(crate) mod cursor;
 pub(crate) mod escape;
-pub(crate) mod flags;
+pub mod flags;
 pub mod look;
 pub mod name;
 pub mod named;

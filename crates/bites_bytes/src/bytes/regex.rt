@@ -1,13 +1,14 @@
 //! A compiled regular expression and its searches.
 
 ghost use Rattle.std.specs.Prelude.{◌≡◌, ◌≢◌, ◌↔◌, IsTrue, IfOk, IfErr};
-ghost use Rattle.bites_spec.specs.Tree.{Tree};
+ghost use Rattle.bites_spec.specs.Tree.{Tree, captures_len};
+ghost use Rattle.bites_machine.specs.Names.{names_of, static_captures_len};
 ghost use Rattle.bites_spec.specs.Found.{HasMatch, IsLeastEnd};
 ghost use Rattle.bites_bytes.specs.Meaning.{Meaning, IsCompiled, meaning};
 ghost use Rattle.bites_syntax.specs.FlagsView.{flags_of};
 ghost use Rattle.bites_bytes.specs.Settings.{Accepts, Refuses, by_default, no_flags};
 
-use crate::bytes::RegexBuilder;
+use crate::bytes::{CaptureNames, RegexBuilder};
 use bites_machine::program::Program;
 use bites_machine::vm;
 use bites_syntax::flags::Flags;
@@ -38,9 +39,9 @@ impl Model for Compiled {
 
     ghost coded = { Prim.hlevel (codes, tree_code) };
 
-    ghost view = { λ a. meaning a.program.pattern (flags_of a.flags) a.tree.value a.program.program };
+    ghost view = { λ a. meaning (flags_of a.flags) a.tree.value a.program };
 
-    ghost invariant = { λ a. IsCompiled (meaning a.program.pattern (flags_of a.flags) a.tree.value a.program.program) };
+    ghost invariant = { λ a. IsCompiled (meaning (flags_of a.flags) a.tree.value a.program) };
 }
 
 impl Compiled {
@@ -51,6 +52,46 @@ impl Compiled {
         ensures compiled { IsCompiled self.now }
     {
         &self.program
+    }
+
+    fn captures_len(&self) -> usize
+        ensures { result ≡ captures_len self.now.tree }
+    {
+        self.program.slots() / 2
+    }
+
+    fn static_captures_len(&self) -> Option<usize>
+        ensures { result ≡ static_captures_len self.now.tree }
+    {
+        self.program.static_captures_len()
+    }
+
+    fn capture_names(&self) -> CaptureNames<'_>
+        ensures { names_left result ≡ names_of self.now.tree }
+    {
+        CaptureNames::new(&self.program)
+    }
+
+    fn is_match_at(
+        &self,
+        alloc: Global,
+        haystack: &[u8],
+        start: usize,
+    ) -> Result<bool, AllocError>
+        ensures { IfOk result (λ found. IsTrue found ↔ HasMatch self.now.tree haystack.now start) }
+    {
+        vm::is_match_at(alloc, self.program(), haystack, start)
+    }
+
+    fn shortest_match_at(
+        &self,
+        alloc: Global,
+        haystack: &[u8],
+        start: usize,
+    ) -> Result<Option<usize>, AllocError>
+        ensures { IfOk result (λ end. IsLeastEnd self.now.tree haystack.now start end) }
+    {
+        vm::shortest_match_at(alloc, self.program(), haystack, start)
     }
 }
 
@@ -97,8 +138,8 @@ impl Regex {
         flags: Flags,
         program: Program,
     ) -> Result<Regex, Error>
-        requires { IsCompiled (meaning program.pattern (flags_of flags) tree.now program.program) }
-        ensures made { IfOk result (λ r. r ≡ meaning program.pattern (flags_of flags) tree.now program.program) }
+        requires { IsCompiled (meaning (flags_of flags) tree.now program) }
+        ensures made { IfOk result (λ r. r ≡ meaning (flags_of flags) tree.now program) }
         ensures refused { IfErr result (λ e. e ≡ Error.Memory) }
     {
         let compiled = Compiled {
@@ -135,7 +176,7 @@ impl Regex {
     pub fn is_match_at(&self, haystack: &[u8], start: usize) -> Result<bool, AllocError>
         ensures { IfOk result (λ found. IsTrue found ↔ HasMatch self.now.tree haystack.now start) }
     {
-        vm::is_match_at(self.alloc, self.compiled.program(), haystack, start)
+        self.compiled.is_match_at(self.alloc, haystack, start)
     }
 
     /// The least end of any match in the haystack, a number of bytes from its start.
@@ -153,7 +194,32 @@ impl Regex {
     ) -> Result<Option<usize>, AllocError>
         ensures { IfOk result (λ end. IsLeastEnd self.now.tree haystack.now start end) }
     {
-        vm::shortest_match_at(self.alloc, self.compiled.program(), haystack, start)
+        self.compiled.shortest_match_at(self.alloc, haystack, start)
+    }
+}
+
+impl Regex {
+    /// The number of groups, group 0 counted: one more than the greatest number of a group that is left in the tree.
+    pub fn captures_len(&self) -> usize
+        ensures { result ≡ captures_len self.now.tree }
+    {
+        self.compiled.captures_len()
+    }
+
+    /// How many groups take part in every match, group 0 counted, where the form of the pattern says so.
+    ///
+    /// At least so many groups take part; more may.
+    pub fn static_captures_len(&self) -> Option<usize>
+        ensures { result ≡ static_captures_len self.now.tree }
+    {
+        self.compiled.static_captures_len()
+    }
+
+    /// The name of each group, if it has one, from group 0 on, which has none.
+    pub fn capture_names(&self) -> CaptureNames<'_>
+        ensures { names_left result ≡ names_of self.now.tree }
+    {
+        self.compiled.capture_names()
     }
 }
 
