@@ -53,7 +53,7 @@ impl States {
     }
 
     /// Writes one more state, and answers its number.
-    fn push(&mut self, state: State) -> Result<u32, AllocError>
+    pub fn push(&mut self, state: State) -> Result<u32, AllocError>
         requires { length self.old < 4294967295 }
         ensures { IfOk result (λ number. emitted self.new number ≡ pushed self.old (state_of state)) }
     {

@@ -2,7 +2,9 @@
 #![tactic(auto)]
 
 pub mod assertion;
+mod compiler;
 mod emit;
+mod groups;
 pub mod program;
 mod set;
 mod size;

@@ -1,8 +1,12 @@
-ghost use Rattle.std.specs.Prelude.{◌≡◌, ◌≢◌, ◌<◌, ℕ, length, None, Some, IfSome, IfNone, slice_index_or};
-ghost use Rattle.std.specs.Option.{option_copied};
+ghost use Rattle.std.specs.Prelude.{◌≡◌, ◌≢◌, ◌<◌, ◌≤◌, ◌^◌, ℕ, length, None, Some, IfSome, IfNone, slice_index_or, sum_by};
+ghost use Rattle.std.specs.Option.{option_copied, SomeIff};
 ghost use Rattle.bites_spec.specs.Program.{state_at, targets, IsWellFormed};
-ghost use Rattle.bites_machine.specs.States.{state_of};
+ghost use Rattle.bites_spec.specs.Program.{targets_of};
+ghost use Rattle.bites_spec.specs.Faults.{first_fault};
+ghost use Rattle.bites_machine.specs.States.{state_of, states_of, program_of};
+ghost use Rattle.bites_machine.specs.Contents.{contents_by};
 
+pub use crate::compiler::compile;
 use crate::state::State;
 use std::marker::Model;
 
@@ -11,7 +15,7 @@ use std::marker::Model;
 pub struct Program {
     states: Vec<State>,
     start: u32,
-    slots: u32,
+    slots: usize,
     targets: usize,
     pattern: String,
     names: Vec<Option<String>>,
@@ -31,6 +35,31 @@ impl Model for Program {
 }
 
 impl Program {
+    /// A program of states that have no fault. None if a `usize` cannot hold the number of edges.
+    pub(crate) fn new(
+        states: Vec<State>,
+        start: u32,
+        slots: usize,
+        pattern: String,
+        names: Vec<Option<String>>,
+        static_captures_len: Option<usize>,
+    ) -> Option<Program>
+        requires { first_fault (program_of states.items start slots) ≡ None }
+        ensures made { IfSome result (λ p. p ≡ contents_by states.items start slots pattern names.items static_captures_len) }
+        ensures none { IfNone result (2 ^ 64 ≤ targets (program_of states.items start slots)) }
+    {
+        let targets = edges(&states)?;
+        Some(Program {
+            states,
+            start,
+            slots,
+            targets,
+            pattern,
+            names,
+            static_captures_len,
+        })
+    }
+
     /// The state with this number.
     pub fn state(&self, number: u32) -> &State
         requires { number < length self.now.program.states }
@@ -60,7 +89,7 @@ impl Program {
     pub fn slots(&self) -> usize
         ensures { result ≡ self.now.program.slots }
     {
-        self.slots as usize
+        self.slots
     }
 
     /// The number of edges.
@@ -109,4 +138,15 @@ impl Program {
     {
         self.static_captures_len
     }
+}
+
+/// The number of edges of the states, if a `usize` can hold it.
+fn edges(states: &[State]) -> Option<usize>
+    ensures { SomeIff result (sum_by (λ s. length (targets_of s)) (states_of states.now) < 2 ^ 64) (sum_by (λ s. length (targets_of s)) (states_of states.now)) }
+{
+    let mut count = 0usize;
+    for state in states {
+        count = count.checked_add(state.edges())?;
+    }
+    Some(count)
 }

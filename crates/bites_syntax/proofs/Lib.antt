@@ -8,3 +8,8 @@ pub mod NumberLemmas
 pub mod PartLemmas
 pub mod FlagLemmas
 pub mod NameLemmas
+pub mod GroupLemmas
+pub mod TreeParts
+pub mod EscapedText
+pub mod GroupCounts
+pub mod NodeLemmas

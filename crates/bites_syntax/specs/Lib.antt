@@ -1,8 +1,10 @@
 pub mod FlagsView
 pub mod Groups
 pub mod Meanings
+pub mod Nodes
 pub mod Numbers
 pub mod Operators
+pub mod Openings
 pub mod Parts
 pub mod Sets
 pub mod Steps
@@ -10,3 +12,4 @@ pub mod TreeCode
 pub mod View
 pub mod TreeFalls
 pub mod Cases
+pub mod Escaped

@@ -1,4 +1,4 @@
-//! The tree of a pattern, and the parser that reads it.
+//! The tree of a pattern, and its parts.
 #![tactic(auto)]
 
 pub(crate) mod bracket;
@@ -6,11 +6,14 @@ pub mod builder;
 pub mod class;
 pub(crate) mod cursor;
 pub(crate) mod escape;
-pub mod flags;
+pub(crate) mod flags;
+pub(crate) mod group;
 pub mod look;
+pub mod measure;
 pub mod name;
 pub mod named;
 pub(crate) mod names;
+pub(crate) mod node;
 pub(crate) mod number;
 pub(crate) mod operator;
 pub mod tree;

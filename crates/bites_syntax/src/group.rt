@@ -1,0 +1,149 @@
+//! What opens a group.
+
+ghost use Rattle.std.specs.Prelude.{◌≡◌, ◌≤◌, ◌+◌, [], length, true};
+ghost use Rattle.bites_spec.specs.Group.{begins_look_around, ends_with_dash};
+ghost use Rattle.bites_spec.specs.Pattern as pattern;
+ghost use Rattle.bites_spec.specs.Pattern.{Text};
+ghost use Rattle.bites_spec.specs.Reading.{flags_end, flags_from, flags_unclosed, named_group, no_name, opened};
+ghost use Rattle.bites_text.specs.Messages.{error_of};
+ghost use Rattle.bites_syntax.specs.Groups.{ends_flags};
+ghost use Rattle.bites_syntax.specs.Openings.{IsFront, IsOpened};
+ghost use Rattle.bites_syntax.specs.Parts.{Agrees};
+
+use crate::cursor::Cursor;
+use crate::flags::{Flags, changed, flag_run};
+use crate::name::Name;
+use crate::names::{Names, name};
+use bites_text::error::Error;
+use std::alloc::Global;
+
+/// What the front of a pattern decides for its rest.
+#[derive(Drop)]
+pub(crate) struct Front {
+    pub(crate) flags: Flags,
+    /// How many groups with a number were opened.
+    pub(crate) groups: u32,
+    pub(crate) names: Names,
+}
+
+/// What stands behind an opening parenthesis.
+#[derive(Drop)]
+pub(crate) enum Opened {
+    /// A whole directive; no group is opened.
+    Directive,
+    Unnumbered,
+    /// A group with a number, and perhaps a name.
+    Numbered(Option<Name>),
+}
+
+/// The error where the pattern ends behind these flags.
+fn unclosed(run: &[char]) -> Error
+    ensures { result ≡ error_of (flags_unclosed run.now) }
+{
+    if run.is_empty() {
+        Error::UnclosedQuestion
+    } else {
+        Error::UnclosedFlags
+    }
+}
+
+fn ends_with_dash(run: &[char]) -> bool
+    ensures { result ≡ ends_with_dash run.now }
+{
+    match run.last() {
+        Some(c) => *c == '-',
+        None => false,
+    }
+}
+
+/// What flags and the character behind them open.
+fn flags_end(run: &[char], end: char, front: &mut Front) -> Result<Opened, Error>
+    ensures { (g : pattern.Front) → (rest : Text) → IsFront front.old g → Agrees (λ o x. IsOpened o front.new g x) result rest (flags_end g run.now end rest) }
+{
+    if run.is_empty() {
+        return if end == ':' {
+            Ok(Opened::Unnumbered)
+        } else {
+            Err(Error::EmptyFlags)
+        };
+    }
+    if ends_with_dash(run) {
+        return Err(Error::DanglingNegation);
+    }
+    front.flags = changed(run, front.flags);
+    if end == ':' {
+        Ok(Opened::Unnumbered)
+    } else {
+        Ok(Opened::Directive)
+    }
+}
+
+/// Reads flags and what ends them, from behind the question mark.
+fn open_by_flags(alloc: Global, cursor: &mut Cursor<'_>, front: &mut Front) -> Result<Opened, Error>
+    ensures reads { (g : pattern.Front) → IsFront front.old g → Agrees (λ o x. IsOpened o front.new g x) result cursor.new (flags_from g [] cursor.old) }
+    ensures forward { length cursor.new ≤ length cursor.old }
+{
+    let run = flag_run(alloc, cursor)?;
+    match cursor.bump() {
+        Some(end) => flags_end(&run, end, front),
+        None => Err(unclosed(&run)),
+    }
+}
+
+/// Reads a name and its closing bracket, and opens the group of that name.
+fn named_group(alloc: Global, cursor: &mut Cursor<'_>, front: &mut Front) -> Result<Opened, Error>
+    ensures reads { (g : pattern.Front) → IsFront front.old g → Agrees (λ o x. IsOpened o front.new g x) result cursor.new (named_group g cursor.old) }
+    ensures forward { length cursor.new ≤ length cursor.old }
+{
+    let Some(groups) = front.groups.checked_add(1) else {
+        return Err(Error::TooManyGroups);
+    };
+    let text = name(alloc, cursor, &front.names)?;
+    front.names.insert(text.clone()?)?;
+    front.groups = groups;
+    Ok(Opened::Numbered(Some(Name::from(text))))
+}
+
+/// Reads what opens a group that has no name.
+fn no_name(alloc: Global, cursor: &mut Cursor<'_>, front: &mut Front) -> Result<Opened, Error>
+    ensures reads { (g : pattern.Front) → IsFront front.old g → Agrees (λ o x. IsOpened o front.new g x) result cursor.new (no_name g cursor.old) }
+    ensures forward { length cursor.new ≤ length cursor.old }
+{
+    if cursor.bump_if('?') {
+        return open_by_flags(alloc, cursor, front);
+    }
+    let Some(groups) = front.groups.checked_add(1) else {
+        return Err(Error::TooManyGroups);
+    };
+    front.groups = groups;
+    Ok(Opened::Numbered(None))
+}
+
+/// Whether look-around stands here.
+fn begins_look_around(cursor: &Cursor<'_>) -> bool
+    ensures { result ≡ begins_look_around cursor.now }
+{
+    cursor.begins("?=") || cursor.begins("?!") || cursor.begins("?<=") || cursor.begins("?<!")
+}
+
+/// Reads what opens a group or is a directive, from behind the parenthesis and the gap there. An
+/// error leaves the cursor and the front in no known state.
+pub(crate) fn open_group(
+    alloc: Global,
+    cursor: &mut Cursor<'_>,
+    front: &mut Front,
+) -> Result<Opened, Error>
+    ensures reads { (g : pattern.Front) → IsFront front.old g → Agrees (λ o x. IsOpened o front.new g x) result cursor.new (opened g cursor.old) }
+    ensures forward { length cursor.new ≤ length cursor.old }
+{
+    if begins_look_around(cursor) {
+        return Err(Error::LookAround);
+    }
+    if cursor.bump_over("?P<") {
+        return named_group(alloc, cursor, front);
+    }
+    if cursor.bump_over("?<") {
+        return named_group(alloc, cursor, front);
+    }
+    no_name(alloc, cursor, front)
+}

@@ -1,0 +1,158 @@
+//! Measures of trees.
+
+ghost use Rattle.std.specs.Prelude.{◌≡◌, ◌<◌, ◌^◌, min, length};
+ghost use Rattle.bites_spec.specs.Measure.{height, tallest, static_count, static_sum, static_agreed};
+ghost use Rattle.bites_spec.specs.Tree.{is_empty_by_form, all_are_empty, some_is_empty, groups_in, groups_in_all, greatest, captures_len, trees_of};
+
+use crate::tree::{Kind, Tree};
+
+/// The height of a tree: 0 without parts, else one more than that of the tallest part. A height
+/// that 32 bits do not hold is answered as `u32::MAX`.
+#[cycle(height)]
+pub fn height(tree: &Tree) -> u32
+    ensures { result ≡ min (height tree.now) 4294967295 }
+{
+    match tree.kind() {
+        Kind::Empty | Kind::Char(_) | Kind::Class(_) | Kind::Look(_) => 0,
+        Kind::Repetition { sub, .. } | Kind::Capture { sub, .. } => height(sub).saturating_add(1),
+        Kind::Concat(parts) | Kind::Alternation(parts) => tallest(parts).saturating_add(1),
+    }
+}
+
+/// The height of the tallest tree.
+#[cycle(height)]
+fn tallest(parts: &[Tree]) -> u32
+    ensures { result ≡ min (tallest (trees_of parts.now)) 4294967295 }
+{
+    let mut most = 0;
+    for part in parts {
+        most = height(part).max(most);
+    }
+    most
+}
+
+/// Whether the tree matches the empty text by its form alone.
+#[cycle(empty)]
+pub fn is_empty_by_form(tree: &Tree) -> bool
+    ensures { result ≡ is_empty_by_form tree.now }
+{
+    match tree.kind() {
+        Kind::Empty | Kind::Look(_) => true,
+        Kind::Char(_) | Kind::Class(_) => false,
+        Kind::Repetition { min, sub, .. } => *min == 0 || is_empty_by_form(sub),
+        Kind::Capture { sub, .. } => is_empty_by_form(sub),
+        Kind::Concat(parts) => all_are_empty(parts),
+        Kind::Alternation(parts) => some_is_empty(parts),
+    }
+}
+
+/// Whether all trees match the empty text by their form.
+#[cycle(empty)]
+fn all_are_empty(parts: &[Tree]) -> bool
+    ensures { result ≡ all_are_empty (trees_of parts.now) }
+{
+    for part in parts {
+        if !is_empty_by_form(part) {
+            return false;
+        }
+    }
+    true
+}
+
+/// Whether one of the trees matches the empty text by its form.
+#[cycle(empty)]
+fn some_is_empty(parts: &[Tree]) -> bool
+    ensures { result ≡ some_is_empty (trees_of parts.now) }
+{
+    for part in parts {
+        if is_empty_by_form(part) {
+            return true;
+        }
+    }
+    false
+}
+
+/// One more than the greatest number of a group in the tree.
+pub fn captures_len(tree: &Tree) -> usize
+    ensures { result ≡ captures_len tree.now }
+{
+    greatest_group(tree) as usize + 1
+}
+
+/// The greatest number of a group in the tree, or 0 where there is none.
+#[cycle(groups)]
+fn greatest_group(tree: &Tree) -> u32
+    ensures { result ≡ greatest (groups_in tree.now) }
+{
+    match tree.kind() {
+        Kind::Empty | Kind::Char(_) | Kind::Class(_) | Kind::Look(_) => 0,
+        Kind::Repetition { sub, .. } => greatest_group(sub),
+        Kind::Capture { index, sub, .. } => greatest_group(sub).max(*index),
+        Kind::Concat(parts) | Kind::Alternation(parts) => greatest_group_of(parts),
+    }
+}
+
+/// The greatest number of a group in the trees.
+#[cycle(groups)]
+fn greatest_group_of(parts: &[Tree]) -> u32
+    ensures { result ≡ greatest (groups_in_all (trees_of parts.now)) }
+{
+    let mut most = 0;
+    for part in parts {
+        most = greatest_group(part).max(most);
+    }
+    most
+}
+
+/// How many groups of the tree take part at least in a match, where its form says so.
+#[cycle(count)]
+pub fn static_count(tree: &Tree) -> Option<usize>
+    requires { length (groups_in tree.now) < 2 ^ 64 }
+    ensures { result ≡ static_count tree.now }
+{
+    match tree.kind() {
+        Kind::Empty | Kind::Char(_) | Kind::Class(_) | Kind::Look(_) => Some(0),
+        Kind::Repetition { min, sub, .. } => {
+            let count = static_count(sub)?;
+            if *min == 0 && count != 0 {
+                None
+            } else {
+                Some(count)
+            }
+        }
+        Kind::Capture { sub, .. } => Some(static_count(sub)? + 1),
+        Kind::Concat(parts) => static_sum(parts),
+        Kind::Alternation(parts) => static_agreed(parts),
+    }
+}
+
+/// The sum of the counts of the trees, where each has one.
+#[cycle(count)]
+fn static_sum(parts: &[Tree]) -> Option<usize>
+    requires { length (groups_in_all (trees_of parts.now)) < 2 ^ 64 }
+    ensures { result ≡ static_sum (trees_of parts.now) }
+{
+    let mut sum = 0;
+    for part in parts {
+        sum += static_count(part)?;
+    }
+    Some(sum)
+}
+
+/// The count of each tree, where they agree.
+#[cycle(count)]
+fn static_agreed(parts: &[Tree]) -> Option<usize>
+    requires { length (groups_in_all (trees_of parts.now)) < 2 ^ 64 }
+    ensures { result ≡ static_agreed (trees_of parts.now) }
+{
+    let [first, rest @ ..] = parts else {
+        return None;
+    };
+    let count = static_count(first)?;
+    for part in rest {
+        if static_count(part)? != count {
+            return None;
+        }
+    }
+    Some(count)
+}
