@@ -1,13 +1,13 @@
 -- What a builder of regexes was told, and what it then answers.
-use Rattle.std.specs.Prelude.{◌≡◌, ℕ, ◌<◌, ◌≤◌, false, List, chars}
+use Rattle.std.specs.Prelude.{◌≡◌, ℕ, false, List, chars}
 use Rattle.bites_spec.specs.Pattern.{Flags}
-use Rattle.bites_spec.specs.Tree.{Tree, greatest, groups_in}
+use Rattle.bites_spec.specs.Tree.{Tree}
 use Rattle.bites_spec.specs.Message.{Message}
 use Rattle.bites_spec.specs.Fault.{Fault}
-use Rattle.bites_spec.specs.Measure.{Limits, TreeLimits, weight, states}
+use Rattle.bites_spec.specs.Measure.{Limits, TreeLimits}
 use Rattle.bites_text.specs.Messages.{error_of}
 use Rattle.bites_text.specs.declared.error.Error.{Error}
-use Rattle.bites_text.specs.declared.error.Error.TheVariants.{TooBig, TooManyStates, TooManySlots}
+use Rattle.bites_machine.specs.Compiled as compiled
 
 -- no flag is set
 abbrev pub no_flags : Flags
@@ -33,11 +33,8 @@ pub record Accepts (s : Settings) (t : Tree) : Type 0 where
   pub read : Limits (chars s.pattern) s.flags s.nest_limit t
   pub small : TreeLimits s.size_limit t
 
--- the pattern has this fault first, or its tree passes this limit first
-pub data Refuses (s : Settings) : Error → Type 0 where
-  fault : (m : Message) (e : Error) → Fault (chars s.pattern) s.flags s.nest_limit m → e ≡ error_of m → Refuses s e
-  too_big : (t : Tree) (e : Error) → Limits (chars s.pattern) s.flags s.nest_limit t → s.size_limit < weight t → e ≡ TooBig → Refuses s e
-  many_states : (t : Tree) (e : Error) → Limits (chars s.pattern) s.flags s.nest_limit t → weight t ≤ s.size_limit →
-      4294967295 < states t → e ≡ TooManyStates → Refuses s e
-  many_slots : (t : Tree) (e : Error) → Limits (chars s.pattern) s.flags s.nest_limit t → weight t ≤ s.size_limit → states t ≤ 4294967295 →
-      2147483648 ≤ greatest (groups_in t) → e ≡ TooManySlots → Refuses s e
+-- the error of a pattern that is not accepted, where memory suffices: that of its first fault, or of the first limit that
+-- its tree passes
+pub data Refuses (s : Settings) (e : Error) : Type 0 where
+  fault : (m : Message) → Fault (chars s.pattern) s.flags s.nest_limit m → e ≡ error_of m → Refuses s e
+  limit : (t : Tree) → Limits (chars s.pattern) s.flags s.nest_limit t → compiled.Refuses s.size_limit t e → Refuses s e

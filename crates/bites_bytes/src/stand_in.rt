@@ -8,7 +8,6 @@ ghost use Rattle.bites_spec.specs.Built.{Built, IsCompilable};
 ghost use Rattle.bites_syntax.specs.FlagsView.{flags_of};
 ghost use Rattle.bites_text.specs.Messages.{error_of};
 
-use bites_machine::program::Program;
 use bites_syntax::flags::Flags;
 use bites_syntax::tree::Tree;
 use bites_text::error::Error;
@@ -23,12 +22,3 @@ pub fn parse(alloc: Global, pattern: &str, flags: Flags, nest_limit: u32) -> Res
     Err(Error::Memory)
 }
 
-pub fn compile(alloc: Global, tree: &Tree, pattern: &str, size_limit: usize) -> Result<Program, Error>
-    requires { IsCompilable tree.now }
-    ensures built { IfOk result (λ p. Built tree.now p.program) }
-    ensures pattern { IfOk result (λ p. p.pattern ≡ pattern.now) }
-    ensures small { IfOk result (λ p. TreeLimits size_limit tree.now) }
-    ensures refused { IfErr result (λ e. (e ≡ Error.Memory) ⊎ ((e ≡ Error.TooBig) × (size_limit < weight tree.now)) ⊎ ((e ≡ Error.TooManyStates) × (weight tree.now ≤ size_limit) × (4294967295 < states tree.now)) ⊎ ((e ≡ Error.TooManySlots) × (weight tree.now ≤ size_limit) × (states tree.now ≤ 4294967295) × (2147483648 ≤ greatest (groups_in tree.now)))) }
-{
-    Err(Error::Memory)
-}

@@ -5,6 +5,7 @@ ghost use Rattle.bites_spec.specs.Tree.{Tree, captures_len};
 ghost use Rattle.bites_machine.specs.Names.{names_of, static_captures_len};
 ghost use Rattle.bites_spec.specs.Found.{HasMatch, IsLeastEnd};
 ghost use Rattle.bites_bytes.specs.Meaning.{Meaning, IsCompiled, meaning};
+ghost use Rattle.bites_bytes.specs.Names.{names_left};
 ghost use Rattle.bites_syntax.specs.FlagsView.{flags_of};
 ghost use Rattle.bites_bytes.specs.Settings.{Accepts, Refuses, by_default, no_flags};
 
