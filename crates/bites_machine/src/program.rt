@@ -137,6 +137,13 @@ impl Program {
         &self.pattern
     }
 
+    /// The number of groups of the pattern, group 0 counted; 0 if the program was made of states.
+    pub fn groups(&self) -> usize
+        ensures { result ≡ length self.now.names }
+    {
+        self.names.len()
+    }
+
     /// The name of the group with this number, if there is such a group and it has one.
     pub fn name(&self, group: usize) -> Option<&str>
         ensures { option_copied result ≡ slice_index_or self.now.names group None }
