@@ -3,7 +3,6 @@ pub mod Hexadecimal
 pub mod Meanings
 pub mod Members
 pub mod Groups
-pub mod Meanings
 pub mod Nodes
 pub mod Numbers
 pub mod Operators
