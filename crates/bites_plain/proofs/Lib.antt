@@ -1,4 +1,5 @@
 pub mod PlaceLemmas
+pub mod ReplacedLemmas
 pub mod RowLemmas
 pub mod SeenLemmas
 pub mod SuccessiveLemmas

@@ -156,9 +156,10 @@ module _ (p : Program) (hay : List ℕ) where
     found_lies place spots le found =
         let h = sound is_same_spot (leads p hay) (matches p hay) same_is same_refl (match_ends p hay) (enough p hay) (is_seen []) (at p.start place) (at p.start place ∷ spots) (sym found) in
         let same : h.0 ≡ spots = behind (at p.start place) h.0 spots (sym h.1) in
-        let runs = subst (λ (r : List Spot). Runs p hay (at p.start place) r (last_of (at p.start place) r).place) same (on_to_match (at p.start place) h.0 h.2) in
-        (Runs-forward p hay (at p.start place) spots (last_of (at p.start place) spots).place runs,
-        run_within (at p.start place) spots (last_of (at p.start place) spots).place (well.start, le) runs)
+        let runs = subst (λ (r : List Spot). Runs p hay (at p.start place) r (last_of (at p.start place) r).place) same (on_to_match (at p.start place) h.0 h.2) in (
+          Runs-forward p hay (at p.start place) spots (last_of (at p.start place) spots).place runs,
+          run_within (at p.start place) spots (last_of (at p.start place) spots).place (well.start, le) runs,
+        )
       where
         behind : (s : Spot) (a b : List Spot) → s ∷ a ≡ s ∷ b → a ≡ b
         behind s a b e = cc

@@ -6,6 +6,7 @@
 
 pub mod parses;
 pub mod piece;
+pub mod pieces;
 pub mod run;
 pub mod span;
 pub mod spans;
