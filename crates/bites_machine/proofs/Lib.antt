@@ -5,7 +5,6 @@ pub mod SweepLemmas
 pub mod EmitLemmas
 pub mod CompiledLemmas
 pub mod StateLemmas
-pub mod AssertionLemmas
 pub mod LengthLemmas
 pub mod SearchLemmas
 pub mod SearchedRanges

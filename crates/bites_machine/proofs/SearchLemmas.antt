@@ -1,10 +1,10 @@
 -- What a search of the program of a tree says of the tree.
-use Rattle.std.proofs.Common.{◌≡◌, ◌↔◌, ℕ, Bool, false, List, Option, sym, subst, ◌∙◌, true≢false}
+use Rattle.std.proofs.Common.{◌≡◌, ◌↔◌, ℕ, Bool, List, Option, sym, subst}
 use Rattle.std.specs.Prelude.{IsTrue}
 use Rattle.bites_spec.specs.Tree.{Tree}
 use Rattle.bites_spec.specs.Program.{Program}
 use Rattle.bites_spec.specs.Built.{Built, IsCompilable}
-use Rattle.bites_spec.specs.Found.{IsLeastEnd, HasMatch, NoMatch}
+use Rattle.bites_spec.specs.Found.{IsLeastEnd, HasMatch}
 use Rattle.bites_spec.proofs.BuiltLemmas.{run_is_match, match_is_run}
 use Rattle.bites_spec.proofs.FoundLemmas.{LeastEnd-IsLeastEnd}
 use Rattle.bites_machine.specs.Ends.{IsLeastRunEnd, HasRun}
@@ -21,9 +21,6 @@ module _ (t : Tree) (p : Program) (hay : List ℕ) (fit : IsCompilable t) (built
   pub HasMatch-HasRun : HasMatch t hay s → HasRun p hay s
   HasMatch-HasRun (i, j, among, matches) = let m = match_is_run t p hay fit built i j matches in (j, (i, among, m.0, m.1))
 
-  -- an answer on runs is the answer on matches: true where there is one, and false where there is none
+  -- an answer on runs is the answer on matches
   pub found-HasMatch : (found : Bool) → IsTrue found ↔ HasRun p hay s → IsTrue found ↔ HasMatch t hay s
   found-HasMatch found is = (λ yes. HasRun-HasMatch (is.0 yes), λ h. is.1 (HasMatch-HasRun h))
-
-  pub not_found-NoMatch : (found : Bool) → IsTrue found ↔ HasRun p hay s → found ≡ false → NoMatch t hay s
-  not_found-NoMatch found is e = λ i among j matches. true≢false (sym (is.1 (HasMatch-HasRun (i, j, among, matches))) ∙ e)

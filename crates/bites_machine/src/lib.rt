@@ -1,7 +1,6 @@
 //! Programs that are compiled from the tree of a pattern, and the machine that runs them.
 #![tactic(auto)]
 
-pub mod assertion;
 mod compiler;
 mod emit;
 mod fault;

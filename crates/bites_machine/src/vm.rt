@@ -9,7 +9,6 @@ ghost use Rattle.bites_machine.specs.States.{state_of};
 ghost use Rattle.bites_machine.specs.Members.{with_states};
 ghost use Rattle.bites_machine.specs.Ends.{next_character, targets_over, targets_at, EndsIn, GoesOn, HasRun, IsLeastRunEnd};
 
-use crate::assertion::holds;
 use crate::program::Program;
 use crate::set::StateSet;
 use crate::state::State;
@@ -144,7 +143,7 @@ fn follow(
             target,
             look: Some(look),
         } => {
-            if holds(*look, haystack, place) {
+            if look.is_match(haystack, place) {
                 current.insert(*target);
             }
         }
