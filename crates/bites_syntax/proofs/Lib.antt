@@ -11,3 +11,4 @@ pub mod NameLemmas
 pub mod GroupLemmas
 pub mod TreeParts
 pub mod NodeLemmas
+pub mod AtomLemmas

@@ -1,3 +1,4 @@
+pub mod Atoms
 pub mod FlagsView
 pub mod Groups
 pub mod Meanings

@@ -1,6 +1,7 @@
 //! The tree of a pattern, and its parts.
 #![tactic(auto)]
 
+pub(crate) mod atom;
 pub(crate) mod bracket;
 pub mod builder;
 pub mod class;
