@@ -12,3 +12,6 @@ pub mod GroupLemmas
 pub mod TreeParts
 pub mod NodeLemmas
 pub mod AtomLemmas
+pub mod RowLemmas
+pub mod ProgressLemmas
+pub mod ReachedLemmas

@@ -7,6 +7,7 @@ pub mod Numbers
 pub mod Operators
 pub mod Openings
 pub mod Parts
+pub mod Progress
 pub mod Sets
 pub mod Steps
 pub mod TreeCode

@@ -17,4 +17,5 @@ pub(crate) mod names;
 pub(crate) mod node;
 pub(crate) mod number;
 pub(crate) mod operator;
+pub mod parse;
 pub mod tree;
