@@ -1,9 +1,8 @@
 pub mod FlagsView
+pub mod Groups
 pub mod Hexadecimal
 pub mod Meanings
 pub mod Members
-pub mod Groups
-pub mod Meanings
 pub mod Nodes
 pub mod Numbers
 pub mod Operators
