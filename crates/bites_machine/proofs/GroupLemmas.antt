@@ -1,5 +1,5 @@
 -- What is known of the groups of a tree.
-use Rattle.std.proofs.Common.{◌≡◌, ◌≢◌, ℕ, zero, suc, ◌+◌, ◌*◌, ◌<◌, ◌≤◌, max, Bool, true, false, cond, List, [], ◌∷◌, ◌++◌, length, map, drop, get_or, Option, Some, None, IfSome, refl, sym, ap, ap₂, ◌∙◌, subst, arith, ◌⊎◌, inl, inr, ⊎_elim, slice_set, eq-eqb, ne_eqb}
+use Rattle.std.proofs.Common.{◌≡◌, ◌≢◌, ℕ, zero, suc, ◌+◌, ◌*◌, ◌<◌, ◌≤◌, max, Bool, true, false, cond, List, [], ◌∷◌, ◌++◌, length, map, drop, get_or, Option, Some, None, IfSome, refl, sym, ap, ap₂, ◌∙◌, subst, arith, length-append, ◌⊎◌, inl, inr, ⊎_elim, slice_set, eq-eqb, ne_eqb}
 use Rattle.std.specs.Prelude.{◌==◌, not, ◌&&◌, sum_by, replicate}
 use Rattle.std.specs.List.{range_with_len}
 use Rattle.std.proofs.lemmas.List.{length-set, get_or-set_same, get_or-set_other, get_or-replicate, length-replicate, ext_get_or, map-append}
@@ -13,99 +13,6 @@ use Rattle.bites_machine.specs.Names.{filled, names_of}
 use Rattle.bites_machine.proofs.FaultLemmas.{greatest-append}
 use Rattle.bites_machine.proofs.LengthLemmas.{product}
 use Rattle.bites_machine.proofs.EmittedLemmas.{all_from, loop-room, exact-room, several-room, ranged_or_once-room}
-
--- the number of a choice whose first branch has this number
-abbrev pub from_first : Option ℕ → Trees → Option ℕ
-from_first c no_tree = c
-from_first c (tree_and u ts) = agreed c (static_count (alternation (tree_and u ts)))
-
-pub from_first-alternation : (t : Tree) (ts : Trees) → static_count (alternation (tree_and t ts)) ≡ from_first (static_count t) ts
-from_first-alternation t no_tree = refl
-from_first-alternation t (tree_and u ts) = refl
-
-agreed_self : (m : ℕ) → agreed (Some m) (Some m) ≡ Some m
-agreed_self m = ap (λ b. cond b (Some m) None) (eq-eqb m m refl)
-
-agreed_other : (m n : ℕ) → m ≢ n → agreed (Some m) (Some n) ≡ None
-agreed_other m n h = ap (λ b. cond b (Some m) None) (ne_eqb m n h)
-
-twice_cond : (m : ℕ) (b : Bool) → agreed (Some m) (cond b (Some m) None) ≡ cond b (Some m) None
-twice_cond m true = agreed_self m
-twice_cond m false = refl
-
-agreed_twice : (m : ℕ) (x : Option ℕ) → agreed (Some m) (agreed (Some m) x) ≡ agreed (Some m) x
-agreed_twice m None = refl
-agreed_twice m (Some n) = twice_cond m (m == n)
-
--- a branch with the same number changes nothing
-pub from_first-same : (m : ℕ) (u : Tree) (ts : Trees) → static_count u ≡ Some m → from_first (Some m) (tree_and u ts) ≡ from_first (Some m) ts
-from_first-same m u no_tree e = ap (λ x. agreed (Some m) x) e ∙ agreed_self m
-from_first-same m u (tree_and v ts) e =
-    ap (λ x. agreed (Some m) (agreed x (static_count (alternation (tree_and v ts))))) e ∙ agreed_twice m (static_count (alternation (tree_and v ts)))
-
-other_cond : (m n : ℕ) (b : Bool) → m ≢ n → agreed (Some m) (cond b (Some n) None) ≡ None
-other_cond m n true h = agreed_other m n h
-other_cond m n false h = refl
-
-other_agreed : (m n : ℕ) (x : Option ℕ) → m ≢ n → agreed (Some m) (agreed (Some n) x) ≡ None
-other_agreed m n None h = refl
-other_agreed m n (Some k) h = other_cond m n (n == k) h
-
--- a branch with another number, or none, leaves none
-pub from_first-other : (m n : ℕ) (u : Tree) (ts : Trees) → static_count u ≡ Some n → m ≢ n → from_first (Some m) (tree_and u ts) ≡ None
-from_first-other m n u no_tree e h = ap (λ x. agreed (Some m) x) e ∙ agreed_other m n h
-from_first-other m n u (tree_and v ts) e h =
-    ap (λ x. agreed (Some m) (agreed x (static_count (alternation (tree_and v ts))))) e ∙ other_agreed m n (static_count (alternation (tree_and v ts))) h
-
-pub from_first-none : (m : ℕ) (u : Tree) (ts : Trees) → static_count u ≡ None → from_first (Some m) (tree_and u ts) ≡ None
-from_first-none m u no_tree e = ap (λ x. agreed (Some m) x) e
-from_first-none m u (tree_and v ts) e = ap (λ x. agreed (Some m) (agreed x (static_count (alternation (tree_and v ts))))) e
-
-both_none : (x : Option ℕ) → both x None ≡ None
-both_none None = refl
-both_none (Some m) = refl
-
--- where the parts from some place on have no number, all parts have none
-pub static_none : (ts : List Tree) (i : ℕ) → static_count (sequence (trees_of (drop i ts))) ≡ None → static_count (sequence (trees_of ts)) ≡ None
-static_none [] zero e = e
-static_none [] (suc i) e = e
-static_none (t ∷ ts) zero e = e
-static_none (t ∷ ts) (suc i) e = ap (λ x. both (static_count t) x) (static_none ts i e) ∙ both_none (static_count t)
-
--- if there is a number, it is at most n
-pub record Within (o : Option ℕ) (n : ℕ) : Type 0 where
-  pub within : (m : ℕ) → o ≡ Some m → m ≤ n
-
-Within-none : (n : ℕ) → Within None n
-Within-none n = record { within = λ m e. cc }
-
-Within-some : (k n : ℕ) → k ≤ n → Within (Some k) n
-Within-some k n h = record { within = λ m e. let f : k ≡ m = cc in omega arith }
-
-Within-more : (o : Option ℕ) (m n : ℕ) → m ≤ n → Within o m → Within o n
-Within-more o m n h w = record { within = λ k e. omega (arith, w.within k e) }
-
-Within-both : (a b : Option ℕ) (m n : ℕ) → Within a m → Within b n → Within (both a b) (m + n)
-Within-both None b m n v w = Within-none (m + n)
-Within-both (Some j) None m n v w = Within-none (m + n)
-Within-both (Some j) (Some k) m n v w = Within-some (j + k) (m + n) (omega (arith, v.within j refl, w.within k refl))
-
-Within-cond : (c : Bool) (k n : ℕ) → k ≤ n → Within (cond c (Some k) None) n
-Within-cond true k n h = Within-some k n h
-Within-cond false k n h = Within-none n
-
-Within-cond_none : (c : Bool) (k n : ℕ) → k ≤ n → Within (cond c None (Some k)) n
-Within-cond_none true k n h = Within-none n
-Within-cond_none false k n h = Within-some k n h
-
-Within-agreed : (a b : Option ℕ) (m : ℕ) → Within a m → Within (agreed a b) m
-Within-agreed None b m v = Within-none m
-Within-agreed (Some j) None m v = Within-none m
-Within-agreed (Some j) (Some k) m v = Within-cond (j == k) j m (v.within j refl)
-
-Within-repeated : (min : ℕ) (a : Option ℕ) (m : ℕ) → Within a m → Within (repeated_count min a) m
-Within-repeated min None m v = Within-none m
-Within-repeated min (Some k) m v = Within-cond_none ((min == 0) && not (k == 0)) k m (v.within k refl)
 
 -- a copy at least
 positive_times : (n s : ℕ) → 0 < n → s ≤ n * s
@@ -127,56 +34,22 @@ body_fits (suc n) (Some most) is_empty b fit =
     (cases_lt (suc n) most)
 
 mutual
-  -- no more groups are sure to take part than there are states
-  pub static_fits : (t : Tree) → IsReduced t → Within (static_count t) (size_of t).states
-  static_fits empty reduced = Within-some 0 _ (omega arith)
-  static_fits (char c) reduced = Within-some 0 _ (omega arith)
-  static_fits (class rs) reduced = Within-some 0 _ (omega arith)
-  static_fits (look l) reduced = Within-some 0 _ (omega arith)
-  static_fits (repetition min most greedy t) reduced =
-      Within-repeated min (static_count t) _
-      (Within-more (static_count t) (size_of t).states _ (body_fits min most (is_empty_by_form t) (size_of t) reduced.0) (static_fits t reduced.1))
-  static_fits (group k name t) reduced =
-      Within-more (both (Some 1) (static_count t)) (1 + (size_of t).states) _ (omega arith)
-      (Within-both (Some 1) (static_count t) 1 (size_of t).states (Within-some 1 1 (omega arith)) (static_fits t reduced.1))
-  static_fits (sequence ts) reduced = static_sum_fits ts reduced.1
-  static_fits (alternation no_tree) reduced = Within-none _
-  static_fits (alternation (tree_and t ts)) reduced =
-      subst (λ o. Within o (size_of (alternation (tree_and t ts))).states) (sym (from_first-alternation t ts))
-      (Within-more (from_first (static_count t) ts) (size_of t).states _ (omega arith) (first_fits (static_count t) ts (size_of t).states (static_fits t reduced.1.0)))
+  -- there are no more groups than states
+  pub groups_fit : (t : Tree) → IsReduced t → length (groups_in t) ≤ (size_of t).states
+  groups_fit empty reduced = omega arith
+  groups_fit (char c) reduced = omega arith
+  groups_fit (class rs) reduced = omega arith
+  groups_fit (look l) reduced = omega arith
+  groups_fit (repetition min most greedy t) reduced =
+      omega (arith, groups_fit t reduced.1, body_fits min most (is_empty_by_form t) (size_of t) reduced.0)
+  groups_fit (group k name t) reduced = omega (arith, groups_fit t reduced.1)
+  groups_fit (sequence ts) reduced = all_groups_fit ts reduced.1
+  groups_fit (alternation ts) reduced = omega (arith, all_groups_fit ts reduced.1)
 
-  pub static_sum_fits : (ts : Trees) → AllAreReduced ts → Within (static_count (sequence ts)) (size_of (sequence ts)).states
-  static_sum_fits no_tree reduced = Within-some 0 _ (omega arith)
-  static_sum_fits (tree_and t ts) reduced =
-      Within-both (static_count t) (static_count (sequence ts)) (size_of t).states (size_of (sequence ts)).states (static_fits t reduced.0) (static_sum_fits ts reduced.1)
-
-  first_fits : (o : Option ℕ) (ts : Trees) (n : ℕ) → Within o n → Within (from_first o ts) n
-  first_fits o no_tree n w = w
-  first_fits o (tree_and u ts) n w = Within-agreed o _ n w
-
--- the greatest number so far, with one more part
-pub more_greatest : (ts : Trees) (u : Tree) (rest : Trees) (old new own all : ℕ) → ts ≡ tree_and u rest → own ≡ greatest (groups_in u) → new ≡ max own old →
-    max old (greatest (groups_in_all ts)) ≡ all → max new (greatest (groups_in_all rest)) ≡ all
-more_greatest ts u rest old new own all e f g h =
-    let parts = ap (λ (xs : Trees). greatest (groups_in_all xs)) e in
-    omega (arith, parts, greatest-append (groups_in u) (groups_in_all rest), f, g, h)
-
--- a row whose first part is known
-pub static_of_row : (ts : List Tree) (t : Tree) (others : List Tree) (m : ℕ) → ts ≡ t ∷ others → Some m ≡ static_count t →
-    static_count (alternation (trees_of ts)) ≡ from_first (Some m) (trees_of others)
-static_of_row ts t others m e f =
-    ap (λ (xs : List Tree). static_count (alternation (trees_of xs))) e ∙ from_first-alternation t (trees_of others)
-    ∙ ap (λ o. from_first o (trees_of others)) (sym f)
-
--- the parts behind the first one
-pub others_fit : (ts : List Tree) (t : Tree) (others : List Tree) → ts ≡ t ∷ others → AllAreReduced (trees_of ts) → (size_of (sequence (trees_of ts))).states ≤ 4294967295 →
-    IsReduced t × AllAreReduced (trees_of others) × ((size_of (sequence (trees_of others))).states ≤ 4294967295) × ((size_of t).states ≤ 4294967295)
-    × (height (sequence (trees_of others)) ≤ height (sequence (trees_of ts))) × (height t < height (sequence (trees_of ts)))
-others_fit ts t others e reduced room =
-    let both = subst (λ (xs : List Tree). AllAreReduced (trees_of xs)) e reduced in
-    let sized = ap (λ (xs : List Tree). (size_of (sequence (trees_of xs))).states) e in
-    let tall = ap (λ (xs : List Tree). height (sequence (trees_of xs))) e in
-    (both.0, both.1, omega (arith, sized, room), omega (arith, sized, room), omega (arith, tall), omega (arith, tall))
+  all_groups_fit : (ts : Trees) → AllAreReduced ts → length (groups_in_all ts) ≤ (size_of (sequence ts)).states
+  all_groups_fit no_tree reduced = omega arith
+  all_groups_fit (tree_and t ts) reduced =
+      omega (arith, length-append (groups_in t) (groups_in_all ts), groups_fit t reduced.0, all_groups_fit ts reduced.1)
 
 pub length-filled : (gs : List (ℕ × Option (List ℕ))) (ns : List (Option (List ℕ))) → length (filled gs ns) ≡ length ns
 length-filled [] ns = refl

@@ -1,5 +1,5 @@
 -- What is in a program: its states, and what is known of its pattern.
-use Rattle.std.specs.Prelude.{ℕ, List, Option, String, string_bytes}
+use Rattle.std.specs.Prelude.{ℕ, List, Option, None, [], String, string_bytes}
 use Rattle.bites_spec.specs.Program.{Program}
 use Rattle.bites_machine.specs.States.{program_of}
 use Rattle.bites_machine.specs.Names.{bytes_of}
@@ -22,3 +22,7 @@ contents_by states start slots pattern names static_captures_len = record {
   names = bytes_of names;
   static_captures_len = static_captures_len;
 }
+
+-- what is in a program that was made of states alone
+abbrev pub contents_of_states : Program → Contents
+contents_of_states p = record { program = p; pattern = []; names = []; static_captures_len = None }

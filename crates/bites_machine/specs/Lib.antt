@@ -8,3 +8,4 @@ pub mod Classes
 pub mod Sizes
 pub mod Names
 pub mod Compiled
+pub mod Bad

@@ -13,10 +13,11 @@ ghost use Rattle.bites_machine.specs.States.{states_of, program_of};
 ghost use Rattle.bites_machine.specs.Compiled.{compiled, contents, Refuses};
 
 use crate::emit::States;
-use crate::groups::{greatest_group, names_weight, no_names, static_captures_len, write_names};
+use crate::groups::{names_weight, no_names, static_captures_len, write_names};
 use crate::program::Program;
 use crate::size::{Size, size_of};
 use crate::state::State;
+use bites_syntax::measure::captures_len;
 use bites_syntax::tree::Tree;
 use bites_text::error::Error;
 use std::alloc::{AllocError, Global};
@@ -52,34 +53,33 @@ fn within_limits(tree: &Tree, size_limit: usize) -> Result<usize, Error>
     ensures refused { IfErr result (Refuses size_limit tree.now) }
 {
     let size = size_of(tree);
-    let last_group = greatest_group(tree);
-    match weight_of(tree, size, last_group) {
+    let captures = captures_len(tree);
+    match weight_of(tree, size, captures) {
         Some(weight) if weight <= size_limit => {}
         _ => return Err(Error::TooBig),
     }
     if size.states() > 4294967292 {
         return Err(Error::TooManyStates);
     }
-    if last_group >= 2147483648 {
+    if captures > 2147483648 {
         return Err(Error::TooManySlots);
     }
-    Ok(last_group as usize + 1)
+    Ok(captures)
 }
 
 /// The weight of the tree's program, if a `usize` can hold it.
-fn weight_of(tree: &Tree, size: Size, last_group: u32) -> Option<usize>
+fn weight_of(tree: &Tree, size: Size, captures: usize) -> Option<usize>
     requires size { size ≡ held_size (size_of tree.now) }
-    requires last_group { last_group ≡ greatest (groups_in tree.now) }
+    requires captures { captures ≡ captures_len tree.now }
     ensures { SomeIff result (weight tree.now < 2 ^ 64) (weight tree.now) }
 {
     let states = size.states().saturating_add(3).checked_mul(32)?;
     let targets = size.targets().checked_mul(4)?;
     let ranges = size.ranges().checked_mul(8)?;
-    let captures = 16 * (last_group as usize + 1);
     states
         .checked_add(targets)?
         .checked_add(ranges)?
-        .checked_add(captures)?
+        .checked_add(captures.checked_mul(16)?)?
         .checked_add(names_weight(tree))
 }
 

@@ -1,38 +1,14 @@
 //! What a program knows of the groups of its tree.
 
 ghost use Rattle.std.specs.Prelude.{◌≡◌, ◌+◌, ◌<◌, ◌≤◌, ◌==◌, length, replicate, None, IfOk, OnOk, sum_by, option_map, string_bytes};
-ghost use Rattle.bites_spec.specs.Tree.{trees_of, sequence, alternation, groups_in, groups_in_all, greatest, names_in, names_in_all, IsReduced, AllAreReduced};
-ghost use Rattle.bites_spec.specs.Measure as measure;
+ghost use Rattle.bites_spec.specs.Tree.{trees_of, sequence, groups_in, groups_in_all, greatest, names_in, names_in_all, IsReduced};
 ghost use Rattle.bites_spec.specs.Measure.{name_weight, groups_of, size_of};
 ghost use Rattle.bites_machine.specs.Sizes.{held};
 ghost use Rattle.bites_machine.specs.Names.{bytes_of, filled, static_captures_len};
 
+use bites_syntax::measure::static_count;
 use bites_syntax::tree::{Kind, Name, Tree};
 use std::alloc::{AllocError, Global};
-
-/// The greatest number of a group in the tree, or 0.
-#[cycle(greatest)]
-pub fn greatest_group(tree: &Tree) -> u32
-    ensures { result ≡ greatest (groups_in tree.now) }
-{
-    match tree.kind() {
-        Kind::Empty | Kind::Char(_) | Kind::Class(_) | Kind::Look(_) => 0,
-        Kind::Repetition { sub, .. } => greatest_group(sub),
-        Kind::Capture { index, sub, .. } => greatest_group(sub).max(*index),
-        Kind::Concat(parts) | Kind::Alternation(parts) => greatest_group_in(parts),
-    }
-}
-
-#[cycle(greatest)]
-fn greatest_group_in(parts: &[Tree]) -> u32
-    ensures { result ≡ greatest (groups_in_all (trees_of parts.now)) }
-{
-    let mut greatest = 0;
-    for part in parts {
-        greatest = greatest_group(part).max(greatest);
-    }
-    greatest
-}
 
 /// What the names of the groups weigh. A weight that is too large for a `usize` is held as the greatest.
 #[cycle(names_weight)]
@@ -67,58 +43,6 @@ fn weight_of_name(name: &Name) -> usize
     ensures { result ≡ held (name_weight name.now) }
 {
     name.as_str().len().saturating_add(4)
-}
-
-/// How many groups take part at least, where the form says so.
-#[cycle(static_count)]
-pub fn static_count(tree: &Tree) -> Option<usize>
-    requires reduced { IsReduced tree.now }
-    requires room { (size_of tree.now).states ≤ 4294967295 }
-    ensures { result ≡ measure.static_count tree.now }
-{
-    match tree.kind() {
-        Kind::Empty | Kind::Char(_) | Kind::Class(_) | Kind::Look(_) => Some(0),
-        Kind::Repetition { min, sub, .. } => {
-            let count = static_count(sub)?;
-            if *min == 0 && count != 0 {
-                None
-            } else {
-                Some(count)
-            }
-        }
-        Kind::Capture { sub, .. } => Some(1 + static_count(sub)?),
-        Kind::Concat(parts) => static_sum(parts),
-        Kind::Alternation(parts) => static_agreement(parts),
-    }
-}
-
-#[cycle(static_count)]
-fn static_sum(parts: &[Tree]) -> Option<usize>
-    requires reduced { AllAreReduced (trees_of parts.now) }
-    requires room { (size_of (sequence (trees_of parts.now))).states ≤ 4294967295 }
-    ensures { result ≡ measure.static_count (sequence (trees_of parts.now)) }
-{
-    let mut sum = 0;
-    for i in (0..parts.len()).rev() {
-        sum += static_count(&parts[i])?;
-    }
-    Some(sum)
-}
-
-#[cycle(static_count)]
-fn static_agreement(parts: &[Tree]) -> Option<usize>
-    requires reduced { AllAreReduced (trees_of parts.now) }
-    requires room { (size_of (sequence (trees_of parts.now))).states ≤ 4294967295 }
-    ensures { result ≡ measure.static_count (alternation (trees_of parts.now)) }
-{
-    let (first, others) = parts.split_first()?;
-    let count = static_count(first)?;
-    for part in others {
-        if static_count(part)? != count {
-            return None;
-        }
-    }
-    Some(count)
 }
 
 /// How many groups take part in every match, with group 0, if the form of the tree says so.

@@ -4,6 +4,7 @@
 pub mod assertion;
 mod compiler;
 mod emit;
+mod fault;
 mod groups;
 pub mod program;
 mod set;

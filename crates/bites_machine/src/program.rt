@@ -1,13 +1,17 @@
-ghost use Rattle.std.specs.Prelude.{◌≡◌, ◌≢◌, ◌<◌, ◌≤◌, ◌^◌, ℕ, length, None, Some, IfSome, IfNone, slice_index_or, sum_by};
+ghost use Rattle.std.specs.Prelude.{◌≡◌, ◌≢◌, ◌<◌, ◌≤◌, ◌^◌, ℕ, length, None, Some, IfSome, IfNone, IfOk, IfErr, OnOk, slice_index_or, sum_by};
 ghost use Rattle.std.specs.Option.{option_copied, SomeIff};
 ghost use Rattle.bites_spec.specs.Program.{state_at, targets, IsWellFormed};
 ghost use Rattle.bites_spec.specs.Program.{targets_of};
 ghost use Rattle.bites_spec.specs.Faults.{first_fault};
 ghost use Rattle.bites_machine.specs.States.{state_of, states_of, program_of};
-ghost use Rattle.bites_machine.specs.Contents.{contents_by};
+ghost use Rattle.bites_machine.specs.Contents.{contents_by, contents_of_states};
+ghost use Rattle.bites_machine.specs.Bad.{IsBad};
 
 pub use crate::compiler::compile;
+pub use crate::fault::BadProgram;
+use crate::fault::first_fault_of;
 use crate::state::State;
+use std::alloc::Global;
 use std::marker::Model;
 
 /// A well-formed program, with the pattern that it was compiled from and the names of its groups.
@@ -35,6 +39,33 @@ impl Model for Program {
 }
 
 impl Program {
+    /// A program of these states, of the empty pattern and without names.
+    ///
+    /// It answers the first fault of the number of states, of the number of slots, of the start, and then
+    /// of each state in order. `Memory` comes last, only where a `usize` cannot hold the number of edges:
+    /// the call takes no memory.
+    pub fn from_states(alloc: Global, states: Vec<State>, start: u32, slots: u32) -> Result<Program, BadProgram>
+        ensures made { IfOk result (λ p. p ≡ contents_of_states (program_of states.items start slots)) }
+        ensures no_fault { OnOk result (first_fault (program_of states.items start slots) ≡ None) }
+        ensures refused { IfErr result (IsBad (program_of states.items start slots)) }
+    {
+        if states.len() > 4294967295 {
+            return Err(BadProgram::TooMany);
+        }
+        if slots < 2 || slots % 2 != 0 {
+            return Err(BadProgram::BadSlot);
+        }
+        if start as usize >= states.len() {
+            return Err(BadProgram::BadStart);
+        }
+        if let Some(fault) = first_fault_of(&states, slots) {
+            return Err(fault);
+        }
+        let pattern = String::new(alloc);
+        let names = Vec::new(alloc);
+        Program::new(states, start, slots as usize, pattern, names, None).ok_or(BadProgram::Memory)
+    }
+
     /// A program of states that have no fault. None if a `usize` cannot hold the number of edges.
     pub(crate) fn new(
         states: Vec<State>,
@@ -104,6 +135,13 @@ impl Program {
         ensures { result.now ≡ self.now.pattern }
     {
         &self.pattern
+    }
+
+    /// The number of groups of the pattern, group 0 counted; 0 if the program was made of states.
+    pub fn groups(&self) -> usize
+        ensures { result ≡ length self.now.names }
+    {
+        self.names.len()
     }
 
     /// The name of the group with this number, if there is such a group and it has one.

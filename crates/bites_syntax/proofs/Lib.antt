@@ -1,4 +1,3 @@
-pub mod Bools
 pub mod Merging
 pub mod RangeLists
 pub mod Gaps

@@ -3,6 +3,7 @@ pub mod Groups
 pub mod Hexadecimal
 pub mod Meanings
 pub mod Members
+pub mod Groups
 pub mod Nodes
 pub mod Numbers
 pub mod Operators
