@@ -1,5 +1,4 @@
 pub mod FlagsView
-pub mod Groups
 pub mod Hexadecimal
 pub mod Meanings
 pub mod Members
