@@ -1,5 +1,5 @@
 -- The ends of a haystack are where a byte is missing.
-use Rattle.std.proofs.Common.{◌≡◌, ℕ, zero, suc, ◌<◌, ◌≤◌, Bool, true, false, List, length, get_or, Option, Some, None, is_none, refl, sym, ap, ap₂, ◌∙◌, ⊎_elim, arith, eq-eqb, ne_eqb, slice_get}
+use Rattle.std.proofs.Common.{◌≡◌, ℕ, zero, suc, ◌<◌, ◌≤◌, List, length, is_none, refl, sym, ap, ap₂, ◌∙◌, ⊎_elim, arith, eq-eqb, ne_eqb}
 use Rattle.std.specs.Prelude.{◌==◌}
 use Rattle.std.proofs.lemmas.Bool.{cases_lt}
 use Rattle.std.proofs.lemmas.Option.{slice_get-get_or, slice_get_past}

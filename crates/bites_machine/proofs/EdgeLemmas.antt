@@ -1,14 +1,13 @@
 -- The edges of a state, apart into those that take a character and those that take nothing; what a set has once states enter it.
-use Rattle.std.proofs.Common.{◌≡◌, ℕ, zero, suc, ◌+◌, ◌<◌, ◌≤◌, Bool, true, false, cond, ◌&&◌, ◌||◌, length-append, List, [], ◌∷◌, ◌++◌, map, reverse, length, get_or, take, Option, Some, None, refl, sym, ap, ◌∙◌, subst, inl, inr, ⊎_elim, ◌⊎◌, true≢false, arith, ltb-true, lt-ltb, eqb-true}
+use Rattle.std.proofs.Common.{◌≡◌, ℕ, zero, suc, ◌+◌, ◌<◌, ◌≤◌, Bool, true, false, cond, ◌&&◌, ◌||◌, length-append, List, [], ◌∷◌, ◌++◌, map, reverse, length, get_or, take, Option, Some, None, refl, sym, ap, ◌∙◌, subst, inl, inr, ⊎_elim, ◌⊎◌, true≢false, arith, ltb-true, eqb-true}
 use Rattle.std.specs.Prelude.{nat_lt, ◌==◌, if◌then◌else◌}
-use Rattle.std.specs.List.{list_any}
 use Rattle.std.proofs.lemmas.List.{take-append-le}
 use mathlib.Core.List.{reverse-cons}
 use Rattle.bites_spec.specs.Utf8.{piece, character}
 use Rattle.bites_spec.specs.Look.{Look, holds}
 use Rattle.bites_spec.specs.Range.{in_ranges}
 use Rattle.bites_spec.specs.Walks.{Among}
-use Rattle.bites_spec.specs.Program.{State, Spot, at, edges, taking, looking, targets_of, char, ranges, splits, goto, capture, fail, match}
+use Rattle.bites_spec.specs.Program.{State, Spot, at, edges, taking, looking, char, ranges, splits, goto, capture, fail, match}
 use Rattle.bites_spec.proofs.SlotLemmas.{Among-left, Among-right}
 use Rattle.bites_spec.proofs.ListedLemmas.{Among-under}
 use Rattle.bites_machine.specs.Members.{is_member, with_state, with_states}

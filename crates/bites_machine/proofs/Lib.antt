@@ -7,7 +7,10 @@ pub mod CompiledLemmas
 pub mod StateLemmas
 pub mod AssertionLemmas
 pub mod LengthLemmas
+pub mod SearchLemmas
+pub mod SearchedRanges
 pub mod FaultLemmas
-pub mod Parts
 pub mod SizeLemmas
 pub mod EmittedLemmas
+pub mod GroupLemmas
+pub mod BadLemmas

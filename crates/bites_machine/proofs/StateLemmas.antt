@@ -1,8 +1,8 @@
 -- What the states of a well-formed program lead to.
-use Rattle.std.proofs.Common.{◌≡◌, ℕ, zero, suc, ◌<◌, ◌≤◌, Bool, true, false, List, [], ◌∷◌, length, get_or, refl, sym, ap, ◌∙◌, subst, inl, inr, ⊎_elim, arith}
+use Rattle.std.proofs.Common.{◌≡◌, ℕ, zero, suc, ◌<◌, Bool, true, false, List, [], ◌∷◌, length, refl, sym, subst, inl}
 use Rattle.bites_spec.specs.Walks.{Among}
 use Rattle.bites_spec.specs.Program as program
-use Rattle.bites_spec.specs.Program.{Program, IsWellFormed, AreStates, targets_of, state_at, is_match}
+use Rattle.bites_spec.specs.Program.{Program, IsWellFormed, AreStates, HasRanges, targets_of, state_at, is_match}
 use Rattle.bites_machine.proofs.EdgeLemmas.{Among-reversed}
 use Rattle.bites_machine.specs.States.{state_of}
 use Rattle.bites_machine.specs.declared.state.State.{State}
@@ -21,6 +21,15 @@ targets_below len slots (s ∷ ss) (suc q) are t h = targets_below len slots ss 
 -- each target is a state
 pub targets_known : (p : Program) → IsWellFormed p → (s : program.State) (q : ℕ) → s ≡ state_at p.states q → (t : ℕ) → Among (targets_of s) t → t < length p.states
 targets_known p well s q e t h = targets_below (length p.states) p.slots p.states q well.states t (subst (λ s. Among (targets_of s) t) e h)
+
+ranges_rise : (len slots : ℕ) (ss : List program.State) (q : ℕ) → AreStates len slots ss → HasRanges (state_at ss q)
+ranges_rise len slots [] q are = tt
+ranges_rise len slots (s ∷ ss) zero are = are.1
+ranges_rise len slots (s ∷ ss) (suc q) are = ranges_rise len slots ss q are.3
+
+-- the ranges of each state rise
+pub ranges_known : (p : Program) → IsWellFormed p → (s : program.State) (q : ℕ) → s ≡ state_at p.states q → HasRanges s
+ranges_known p well s q e = subst HasRanges (sym e) (ranges_rise (length p.states) p.slots p.states q well.states)
 
 -- a state other than the match is none
 pub no_match : (s : State) → (s ≡ Match → ⊥) → is_match (state_of s) ≡ false

@@ -1,14 +1,14 @@
 -- A sweep over the places with a set of states: what the set keeps, and what it has found at the end.
-use Rattle.std.proofs.Common.{◌≡◌, ◌≢◌, ℕ, zero, suc, ◌+◌, ◌<◌, ◌≤◌, Bool, true, false, cond, List, [], ◌∷◌, ◌++◌, length, get_or, take, take_all, le_of_eq, Option, Some, None, option_map, refl, sym, ap, ◌∙◌, subst, inl, inr, ⊎_elim, ◌⊎◌, true≢false, arith, leb-true, leb-false, le-leb}
-use Rattle.std.specs.Prelude.{nat_le, IsTrue}
+use Rattle.std.proofs.Common.{◌≡◌, ℕ, zero, suc, ◌+◌, ◌<◌, ◌≤◌, Bool, true, false, cond, List, [], ◌∷◌, ◌++◌, length, get_or, take, take_all, le_of_eq, Some, None, refl, sym, ap, ◌∙◌, subst, inl, inr, ⊎_elim, ◌⊎◌, true≢false, arith, leb-true, le-leb}
+use Rattle.std.specs.Prelude.{nat_le}
 use Rattle.std.proofs.lemmas.List.{take_more}
 use Rattle.bites_spec.specs.Utf8.{piece, places, places_within, step_len}
 use Rattle.bites_spec.specs.Walks.{Among}
 use Rattle.bites_spec.specs.Program.{State, Program, Spot, at, edges, state_at, is_match}
-use Rattle.bites_spec.specs.Run.{Run, leads, matches, Runs, IsRun, NoRun, LeastEnd}
-use Rattle.bites_spec.proofs.PieceLemmas.{piece_some, piece_none, piece_within, Among-places}
+use Rattle.bites_spec.specs.Run.{Runs, IsRun}
+use Rattle.bites_spec.proofs.PieceLemmas.{piece_none, Among-places}
 use Rattle.bites_machine.specs.Members.{with_state, with_states}
-use Rattle.bites_machine.specs.Ends.{next_character, targets_over, targets_at, EndsIn, EndsFrom, HasRun, IsLeastRunEnd}
+use Rattle.bites_machine.specs.Ends.{next_character, targets_over, targets_at, EndsIn, EndsFrom, GoesOn, IsLeastRunEnd}
 use Rattle.bites_machine.proofs.EdgeLemmas.{IsBeside, IsOver, Among-apart, edges_apart, edge_at, edge_over, with_state-apart, with_state-kept, with_state-entered, with_states-apart, with_states-kept, with_states-entered, take-with_states, Among-get_or}
 
 bool_cases : (b : Bool) → (b ≡ true) ⊎ (b ≡ false)
@@ -135,17 +135,19 @@ module _ (p : Program) (hay : List ℕ) (i : ℕ) where
     closing_found found = now.ends i (q, q_among, [], (found, refl))
 
   -- once all are covered, each run goes on over the piece from the next set
-  pub closed : (entered set next : List ℕ) (k : ℕ) → IsClosing entered set next k → length set ≤ k → (j : ℕ) → EndsIn p hay entered i j →
-      (0 < (piece hay i).len) × EndsIn p hay next (i + (piece hay i).len) j
-  closed entered set next k now le j (q, among, r, runs) = go r q (now.whole q among) runs
+  pub closed : (entered set next : List ℕ) (k : ℕ) → IsClosing entered set next k → length set ≤ k → GoesOn p hay i entered next
+  closed entered set next k now le = record {
+    on = λ j h. go j h.2 h.0 (now.whole h.0 h.1) h.3;
+    back = now.next_ends;
+  }
     where
       is_covered : (q : ℕ) → Among set q → IsCovered set next q
       is_covered q a = now.covered q (subst (λ l. Among l q) (sym (take_all k set le)) a)
 
-      go : (r : List Spot) (q : ℕ) → Among set q → Runs p hay (at q i) r j → (0 < (piece hay i).len) × EndsIn p hay next (i + (piece hay i).len) j
-      go [] q among runs = absurd (true≢false (sym runs.0 ∙ (is_covered q among).no_match))
-      go (t ∷ r) q among runs =
-          ⊎_elim (λ a. go r t.state a.0 (subst (λ x. Runs p hay (at t.state x) r j) a.1 runs.1))
+      go : (j : ℕ) (r : List Spot) (q : ℕ) → Among set q → Runs p hay (at q i) r j → (0 < (piece hay i).len) × EndsIn p hay next (i + (piece hay i).len) j
+      go j [] q among runs = absurd (true≢false (sym runs.0 ∙ (is_covered q among).no_match))
+      go j (t ∷ r) q among runs =
+          ⊎_elim (λ a. go j r t.state a.0 (subst (λ x. Runs p hay (at t.state x) r j) a.1 runs.1))
           (λ a. (a.1, (t.state, a.0, r, subst (λ x. Runs p hay (at t.state x) r j) a.2 runs.1)))
           ((is_covered q among).leads_in t runs.0)
 
@@ -196,13 +198,10 @@ module _ (p : Program) (hay : List ℕ) (start : ℕ) where
             omega (arith, later.0)
 
     -- from the next place on, with the set that the pieces lead to
-    pub sweeping_step : (next : List ℕ) → 0 < (piece hay i).len →
-        ((j : ℕ) → EndsIn p hay entered i j → (0 < (piece hay i).len) × EndsIn p hay next (i + (piece hay i).len) j) →
-        ((j : ℕ) → EndsIn p hay next (i + (piece hay i).len) j → EndsIn p hay entered i j) →
-        IsSweeping (i + (piece hay i).len) next
-    sweeping_step next some forth back = record {
-      on = λ j h. ⊎_elim (λ a. inl (forth j a).1) (λ a. inr (subst (λ s. EndsFrom p hay s j) one_step a)) (entered_on j h);
-      set_back = λ j h. entered_back j (back j h);
+    pub sweeping_step : (next : List ℕ) → 0 < (piece hay i).len → GoesOn p hay i entered next → IsSweeping (i + (piece hay i).len) next
+    sweeping_step next some goes = record {
+      on = λ j h. ⊎_elim (λ a. inl (goes.on j a).1) (λ a. inr (subst (λ s. EndsFrom p hay s j) one_step a)) (entered_on j h);
+      set_back = λ j h. entered_back j (goes.back j h);
       rest_back = λ j h. now.rest_back j (a_place_on j (subst (λ s. EndsFrom p hay s j) (sym one_step) h));
     }
       where
@@ -213,13 +212,11 @@ module _ (p : Program) (hay : List ℕ) (start : ℕ) where
         a_place_on j (k, among, r, run) = (k, subst (λ l. Among l k) (sym (places-here hay i le)) (inr among), r, run)
 
     -- at the end of the haystack there is no run, if none goes on
-    pub sweeping_done : length hay ≤ i →
-        ((next : List ℕ) × ((j : ℕ) → EndsIn p hay entered i j → (0 < (piece hay i).len) × EndsIn p hay next (i + (piece hay i).len) j)) →
-        IsLeastRunEnd p hay start None
-    sweeping_done end (next, forth) = (None, (λ k among o j run. no_end j (entered_on j (k, among, o, run))), refl)
+    pub sweeping_done : (next : List ℕ) → length hay ≤ i → GoesOn p hay i entered next → IsLeastRunEnd p hay start None
+    sweeping_done next end goes = (None, (λ k among o j run. no_end j (entered_on j (k, among, o, run))), refl)
       where
         no_end : (j : ℕ) → EndsIn p hay entered i j ⊎ EndsFrom p hay (i + step_len hay i) j → ⊥
-        no_end j (inl a) = let none = piece_none hay i end in let some = (forth j a).0 in omega arith
+        no_end j (inl a) = let none = piece_none hay i end in let some = (goes.on j a).0 in omega arith
         no_end j (inr a) = subst (λ l. Among l a.0) (places-past hay (i + step_len hay i) (omega arith)) a.1
 
   -- past the end of the haystack no run begins

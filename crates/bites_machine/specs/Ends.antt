@@ -1,5 +1,5 @@
 -- Where runs end that go on from a set of states, or begin at a place from a start on.
-use Rattle.std.specs.Prelude.{ℕ, ◌≡◌, ◌+◌, ◌<◌, ◌≤◌, List, [], ◌∷◌, Option, Some, None, option_map, if◌then◌else◌, nat_lt, ◌==◌}
+use Rattle.std.specs.Prelude.{ℕ, ◌+◌, ◌<◌, ◌≡◌, List, [], ◌∷◌, Option, Some, None, option_map, if◌then◌else◌, nat_lt, ◌==◌}
 use Rattle.bites_spec.specs.Utf8.{piece, places, character}
 use Rattle.bites_spec.specs.Look.{holds}
 use Rattle.bites_spec.specs.Range.{in_ranges}
@@ -37,6 +37,11 @@ module _ (p : Program) (hay : List ℕ) where
   -- from a state of the set, at place i, a run goes on to a match at j
   abbrev pub EndsIn : List ℕ → ℕ → ℕ → Type 0
   EndsIn set i j = (q : ℕ) × Among set q × (r : List Spot) × Runs p hay (at q i) r j
+
+  -- The runs from the set, at place i, are those that go on over the piece there from the next set.
+  pub record GoesOn (i : ℕ) (set next : List ℕ) : Type 0 where
+    pub on : (j : ℕ) → EndsIn set i j → (0 < (piece hay i).len) × EndsIn next (i + (piece hay i).len) j
+    pub back : (j : ℕ) → EndsIn next (i + (piece hay i).len) j → EndsIn set i j
 
   -- from a place from s on a run goes to a match at j
   abbrev pub EndsFrom : ℕ → ℕ → Type 0

@@ -12,13 +12,21 @@ pub fn holds(look: Look, haystack: &[u8], place: usize) -> bool
     requires { place ≤ length haystack.now }
     ensures { result ≡ spec.holds (look_of look) haystack.now place }
 {
-    holds_between(look, byte_before(haystack, place), byte_after(haystack, place))
+    holds_between(
+        look,
+        byte_before(haystack, place),
+        byte_after(haystack, place),
+    )
 }
 
 fn byte_before(haystack: &[u8], place: usize) -> Option<u8>
     ensures { result ≡ spec.before haystack.now place }
 {
-    if place == 0 { None } else { byte_after(haystack, place - 1) }
+    if place == 0 {
+        None
+    } else {
+        byte_after(haystack, place - 1)
+    }
 }
 
 fn byte_after(haystack: &[u8], place: usize) -> Option<u8>

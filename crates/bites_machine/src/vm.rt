@@ -1,13 +1,13 @@
 //! The machine: it walks a haystack from place to place with the set of all states that a run may be in.
 
-ghost use Rattle.std.specs.Prelude.{◌≡◌, ℕ, ◌+◌, ◌<◌, ◌≤◌, ◌↔◌, [], length, IsTrue, false, IfOk};
+ghost use Rattle.std.specs.Prelude.{◌≡◌, ℕ, ◌<◌, ◌≤◌, ◌↔◌, [], length, IsTrue, IsFalse, IfOk};
 ghost use Rattle.bites_spec.specs.Utf8.{piece, character};
 ghost use Rattle.bites_spec.specs.Range.{in_ranges};
 ghost use Rattle.bites_spec.specs.Walks.{Among};
-ghost use Rattle.bites_spec.specs.Program.{targets_of, IsWellFormed};
+ghost use Rattle.bites_spec.specs.Program.{targets_of, AreRanges, HasRanges, IsWellFormed};
 ghost use Rattle.bites_machine.specs.States.{state_of};
 ghost use Rattle.bites_machine.specs.Members.{with_states};
-ghost use Rattle.bites_machine.specs.Ends.{next_character, targets_over, targets_at, EndsIn, HasRun, IsLeastRunEnd};
+ghost use Rattle.bites_machine.specs.Ends.{next_character, targets_over, targets_at, EndsIn, GoesOn, HasRun, IsLeastRunEnd};
 
 use crate::assertion::holds;
 use crate::program::Program;
@@ -21,7 +21,12 @@ use std::mem;
 /// no run does, or where `start` lies past the end of the haystack.
 ///
 /// It looks at each state once at most at each place, and takes no memory once it has begun to walk.
-pub fn shortest_match_at(alloc: Global, program: &Program, haystack: &[u8], start: usize) -> Result<Option<usize>, AllocError>
+pub fn shortest_match_at(
+    alloc: Global,
+    program: &Program,
+    haystack: &[u8],
+    start: usize,
+) -> Result<Option<usize>, AllocError>
     ensures { IfOk result (λ end. IsLeastRunEnd program.now.program haystack.now start end) }
 {
     if start > haystack.len() {
@@ -48,7 +53,12 @@ pub fn shortest_match_at(alloc: Global, program: &Program, haystack: &[u8], star
 }
 
 /// Whether some run begins at `start` or at a place behind it and gets to a match.
-pub fn is_match_at(alloc: Global, program: &Program, haystack: &[u8], start: usize) -> Result<bool, AllocError>
+pub fn is_match_at(
+    alloc: Global,
+    program: &Program,
+    haystack: &[u8],
+    start: usize,
+) -> Result<bool, AllocError>
     ensures { IfOk result (λ found. IsTrue found ↔ HasRun program.now.program haystack.now start) }
 {
     let end = shortest_match_at(alloc, program, haystack, start)?;
@@ -82,11 +92,7 @@ fn close(
     requires next { next.old.bound ≡ length program.now.program.states }
     requires empty { next.old.members ≡ [] }
     ensures found { IsTrue result → EndsIn program.now.program haystack.now current.old.members place place }
-    ensures on { result ≡ false → (j : ℕ) → EndsIn program.now.program haystack.now current.old.members place j →
-        (0 < (piece haystack.now place).len)
-        × EndsIn program.now.program haystack.now next.new.members (place + (piece haystack.now place).len) j }
-    ensures back { (j : ℕ) → EndsIn program.now.program haystack.now next.new.members (place + (piece haystack.now place).len) j →
-        EndsIn program.now.program haystack.now current.old.members place j }
+    ensures on { IsFalse result → GoesOn program.now.program haystack.now place current.old.members next.new.members }
     ensures current { current.new.bound ≡ current.old.bound }
     ensures next { next.new.bound ≡ next.old.bound }
 {
@@ -114,6 +120,7 @@ fn follow(
 )
     requires place { place ≤ length haystack.now }
     requires targets { (q : ℕ) → Among (targets_of (state_of state.now)) q → q < current.old.bound }
+    requires ranges { HasRanges (state_of state.now) }
     requires bounds { next.old.bound ≡ current.old.bound }
     ensures current { current.new.members ≡ with_states current.old.members (targets_at haystack.now place (state_of state.now)) }
     ensures next { next.new.members ≡ with_states next.old.members (targets_over taken (state_of state.now)) }
@@ -146,9 +153,26 @@ fn follow(
     }
 }
 
-// Whether the character lies in one of the ranges.
+// Whether the character lies in one of the ranges, each of which begins above the one before.
 fn is_in_ranges(ranges: &[(char, char)], c: char) -> bool
+    requires { AreRanges ranges.now }
     ensures { result ≡ in_ranges ranges.now c }
 {
-    ranges.iter().any(|r| r.0 <= c && c <= r.1)
+    let mut low = 0;
+    let mut high = ranges.len();
+    while low < high {
+        let middle = low + (high - low) / 2;
+        let (first, last) = ranges[middle];
+        if last < c {
+            low = middle + 1;
+        } else if c < first {
+            high = middle;
+        } else {
+            return true;
+        }
+    }
+    false
 }
+
+#[cfg(test)]
+mod tests;

@@ -1,14 +1,10 @@
 -- The other cases of the letters in a range and in lists of ranges.
-use Rattle.std.proofs.Common.{◌≡◌, ℕ, ◌+◌, ◌-◌, ◌<◌, ◌≤◌, max, min, Bool, true, false, ◌&&◌, ◌||◌, List, [], ◌∷◌, ◌++◌, length, get_or, take, inl, inr, refl, sym, ap, ap₂, ◌∙◌, arith, leb-true}
+use Rattle.std.proofs.Common.{◌≡◌, ℕ, ◌+◌, ◌-◌, ◌≤◌, max, min, Bool, true, false, ◌&&◌, inl, inr, refl, sym, ◌∙◌, arith, leb-true}
 use Rattle.std.specs.Ordering.{nat_cmp, ord_max, ord_min}
 use Rattle.std.specs.Char.{UppercasesTo, LowercasesTo}
 use Rattle.std.proofs.lemmas.Bool.{cases_lt, cases_eq, lt-ltb, le-ltb, eq-eqb, ne_eqb, and_parts, and_from}
-use Rattle.std.proofs.lemmas.List.{take_more}
-use Rattle.bites_spec.specs.Range.{Range, in_range, in_ranges}
-use Rattle.bites_spec.specs.Class.{is_lower, is_upper, folded}
-use Rattle.bites_spec.proofs.ClassLemmas.{in_ranges-append, in_ranges-push}
-use Rattle.bites_syntax.specs.Cases.{other_case}
-use Rattle.bites_syntax.proofs.Bools.{or_assoc, or_true, or_false, and_or}
+use Rattle.bites_spec.specs.Range.{Range, in_range}
+use Rattle.bites_spec.specs.Class.{is_lower, is_upper}
 use Rattle.bites_syntax.proofs.Merging.{in_range-within}
 
 -- the greater of two characters
@@ -80,33 +76,3 @@ in_lower_case start end low high first last is_low is_high some low_low low_high
     (λ e. (let parts = and_parts (is_lower c) (in_range (start, end) (c - 32)) e in
     let u = within (97, 122) c parts.0 in let w = within (start, end) (c - 32) parts.1 in
     in_range-within (first, last) c (omega (arith, u.0, w.0, f, at_low)) (omega (arith, u.1, w.1, l, at_high))))
-
-grouped : (a b c d : Bool) → ((a || b) || (c || d)) ≡ (((a || c) || d) || b)
-grouped true b c d = refl
-grouped false true c d = sym (or_true (c || d))
-grouped false false c d = sym (or_false (c || d))
-
-other_case-push : (ranges : List Range) (r : Range) (c : ℕ) → other_case (in_ranges (ranges ++ r ∷ [])) c ≡
-    ((other_case (in_ranges ranges) c || (is_upper c && in_range r (c + 32))) || (is_lower c && in_range r (c - 32)))
-other_case-push ranges r c =
-    ap₂ (λ a b. (is_lower c && a) || (is_upper c && b)) (in_ranges-push ranges r (c - 32)) (in_ranges-push ranges r (c + 32))
-    ∙ ap₂ (λ a b. a || b) (and_or (is_lower c) (in_ranges ranges (c - 32)) (in_range r (c - 32))) (and_or (is_upper c) (in_ranges ranges (c + 32)) (in_range r (c + 32)))
-    ∙ grouped (is_lower c && in_ranges ranges (c - 32)) (is_lower c && in_range r (c - 32)) (is_upper c && in_ranges ranges (c + 32)) (is_upper c && in_range r (c + 32))
-
--- the other cases of one range more
-pub other_case-more : (ranges others upper lower : List Range) (i : ℕ) → i < length ranges →
-    ((c : ℕ) → in_ranges others c ≡ other_case (in_ranges (take i ranges)) c) →
-    ((c : ℕ) → in_ranges upper c ≡ (in_ranges others c || (is_upper c && in_range ((get_or ranges i (0, 0)).0, (get_or ranges i (0, 0)).1) (c + 32)))) →
-    ((c : ℕ) → in_ranges lower c ≡ (in_ranges upper c || (is_lower c && in_range ((get_or ranges i (0, 0)).0, (get_or ranges i (0, 0)).1) (c - 32)))) →
-    (c : ℕ) → in_ranges lower c ≡ other_case (in_ranges (take (i + 1) ranges)) c
-other_case-more ranges others upper lower i inside so_far up low c =
-    let r : Range = get_or ranges i (0, 0) in
-    low c ∙ ap (λ b. b || (is_lower c && in_range r (c - 32))) (up c ∙ ap (λ b. b || (is_upper c && in_range r (c + 32))) (so_far c))
-    ∙ sym (ap (λ s. other_case (in_ranges s) c) (take_more ranges i (0, 0) inside) ∙ other_case-push (take i ranges) r c)
-
--- a list with the other cases behind it is folded
-pub folded-other_case : (ranges others : List Range) → ((c : ℕ) → in_ranges others c ≡ other_case (in_ranges ranges) c) →
-    (c : ℕ) → in_ranges (ranges ++ others) c ≡ folded (in_ranges ranges) c
-folded-other_case ranges others other c =
-    in_ranges-append ranges others c ∙ ap (λ b. in_ranges ranges c || b) (other c)
-    ∙ or_assoc (in_ranges ranges c) (is_lower c && in_ranges ranges (c - 32)) (is_upper c && in_ranges ranges (c + 32))

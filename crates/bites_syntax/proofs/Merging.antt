@@ -1,12 +1,12 @@
 -- Ranges that do not fall are merged into the greatest ones.
-use Rattle.std.proofs.Common.{◌≡◌, ℕ, ◌<◌, ◌≤◌, max, true, false, ◌||◌, List, [], ◌∷◌, Option, Some, None, inl, inr, refl, sym, ap, ◌∙◌, arith, le-leb}
+use Rattle.std.proofs.Common.{◌≡◌, ℕ, ◌<◌, ◌≤◌, max, true, false, ◌||◌, List, [], ◌∷◌, Option, Some, None, inl, inr, refl, ap, ◌∙◌, arith, le-leb}
 use Rattle.std.specs.Prelude.{nat_le, if◌then◌else◌}
 use Rattle.std.proofs.lemmas.Bool.{lt-leb, cases_lt}
 use Rattle.bites_spec.specs.Range.{Range, in_range, in_ranges}
 use Rattle.bites_spec.specs.Class.{is_scalar, following, IsRange, AreGreatest, Lists}
 use Rattle.bites_spec.proofs.RangeLemmas.{scalar_within, following_within}
 use Rattle.bites_spec.proofs.ClassLemmas.{StartsFrom, put_before}
-use Rattle.bites_syntax.proofs.Bools.{or_assoc}
+use Rattle.std.proofs.Math.Bool.{or_assoc}
 
 -- ranges that begin no lower than a number and do not fall
 abbrev pub RiseFrom : ℕ → List Range → Type 0
@@ -76,7 +76,7 @@ merges r (s ∷ ranges) is rise = elim (cases_lt (following r.1) s.0) [
         greatest = m.greatest;
         starts = m.starts;
         same = λ c scalar. m.same c scalar ∙ ap (λ b. b || in_ranges ranges c) (in_longer r s is rise.0 near c scalar)
-            ∙ sym (or_assoc (in_range r c) (in_range s c) (in_ranges ranges c));
+            ∙ or_assoc (in_range r c) (in_range s c) (in_ranges ranges c);
       })
   | inl apart ↦ (
       let m = merges s ranges rise.1 rise.2 in

@@ -113,15 +113,6 @@ abbrev pub agreed_with : ℕ → Trees → Option ℕ
 agreed_with n no_tree = Some n
 agreed_with n (tree_and t ts) = agreed (Some n) (static_agreed (tree_and t ts))
 
--- it is that of the first part with the others
-pub agreed_first : (n : ℕ) (t : Tree) (ts : Trees) → static_count t ≡ Some n → static_agreed (tree_and t ts) ≡ agreed_with n ts
-agreed_first n t no_tree e = e
-agreed_first n t (tree_and u ts) e = ap (λ o. agreed o (static_agreed (tree_and u ts))) e
-
-agreed_none : (o : Option ℕ) → agreed o None ≡ None
-agreed_none None = refl
-agreed_none (Some n) = refl
-
 agreed_twice : (n : ℕ) (o : Option ℕ) → agreed (Some n) (agreed (Some n) o) ≡ agreed (Some n) o
 agreed_twice n None = refl
 agreed_twice n (Some m) = elim (cases_eq n m) [
@@ -152,11 +143,6 @@ agreed_other n m t (tree_and u ts) e apart =
 pub agreed_without : (n : ℕ) (t : Tree) (ts : Trees) → static_count t ≡ None → agreed_with n (tree_and t ts) ≡ None
 agreed_without n t no_tree e = ap (λ o. agreed (Some n) o) e
 agreed_without n t (tree_and u ts) e = ap (λ o. agreed (Some n) (agreed o (static_agreed (tree_and u ts)))) e
-
--- alone or with others, a first part without a count leaves none
-pub agreed_first_without : (t : Tree) (ts : Trees) → static_count t ≡ None → static_agreed (tree_and t ts) ≡ None
-agreed_first_without t no_tree e = e
-agreed_first_without t (tree_and u ts) e = ap (λ o. agreed o (static_agreed (tree_and u ts))) e
 
 -- a sum that goes on
 pub sum_more : (m n : ℕ) (o : Option ℕ) → both (Some m) (both (Some n) o) ≡ both (Some (m + n)) o

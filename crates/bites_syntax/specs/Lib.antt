@@ -1,7 +1,9 @@
 pub mod Atoms
 pub mod FlagsView
-pub mod Groups
+pub mod Hexadecimal
 pub mod Meanings
+pub mod Members
+pub mod Groups
 pub mod Nodes
 pub mod Numbers
 pub mod Operators
@@ -14,3 +16,4 @@ pub mod TreeCode
 pub mod View
 pub mod TreeFalls
 pub mod Cases
+pub mod Escaped

@@ -82,7 +82,8 @@ impl ClassBuilder {
     /// Adds the upper cases of the lower case letters from `start` to `end`.
     fn push_upper_case(&mut self, start: char, end: char) -> Result<(), AllocError>
         ensures { OnOk result
-            ((c : ℕ) → in_ranges self.new c ≡ (in_ranges self.old c || (is_upper c && in_range (start, end) (c + 32)))) }
+            ((c : ℕ) → in_ranges self.new c
+            ≡ (in_ranges self.old c || (is_upper c && in_range (start, end) (c + 32)))) }
     {
         let (low, high) = (start.max('a'), end.min('z'));
         if low <= high {
@@ -94,7 +95,8 @@ impl ClassBuilder {
     /// Adds the lower cases of the upper case letters from `start` to `end`.
     fn push_lower_case(&mut self, start: char, end: char) -> Result<(), AllocError>
         ensures { OnOk result
-            ((c : ℕ) → in_ranges self.new c ≡ (in_ranges self.old c || (is_lower c && in_range (start, end) (c - 32)))) }
+            ((c : ℕ) → in_ranges self.new c
+            ≡ (in_ranges self.old c || (is_lower c && in_range (start, end) (c - 32)))) }
     {
         let (low, high) = (start.max('A'), end.min('Z'));
         if low <= high {

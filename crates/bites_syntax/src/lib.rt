@@ -9,6 +9,7 @@ pub(crate) mod cursor;
 pub(crate) mod escape;
 pub(crate) mod flags;
 pub(crate) mod group;
+pub(crate) mod hexadecimal;
 pub mod look;
 pub mod measure;
 pub mod name;

@@ -1,13 +1,15 @@
 //! The tree of a pattern.
 
-ghost use Rattle.std.specs.Prelude.{◌≡◌};
+ghost use Rattle.std.specs.Prelude.{◌≡◌, IfOk, string_bytes, chars, encode_utf8_all};
 ghost use Rattle.bites_spec.specs.Tree as spec;
 ghost use Rattle.bites_spec.specs.Tree.{trees_of};
+ghost use Rattle.bites_syntax.specs.Escaped.{escaped, is_marked};
 ghost use Rattle.bites_syntax.specs.View.{tree_of, look_of};
 
 pub use crate::class::Class;
 pub use crate::look::Look;
 pub use crate::name::Name;
+use std::alloc::{AllocError, Global};
 use std::marker::Model;
 
 /// The tree of a pattern. A contract sees what it stands for.
@@ -151,4 +153,46 @@ impl Tree {
             kind: Kind::Alternation(parts),
         }
     }
+}
+
+/// The text as a pattern that matches it alone: a backslash stands before each of the characters
+/// `\ . + * ? ( ) | [ ] { } ^ $ # & - ~`. It refuses only for memory.
+pub fn escape(alloc: Global, text: &str) -> Result<String, AllocError>
+    ensures { IfOk result
+        (λ pattern. string_bytes pattern ≡ encode_utf8_all (escaped (chars text.now))) }
+{
+    let mut pattern = String::new(alloc);
+    for c in text.chars() {
+        if is_marked(c) {
+            pattern.push('\\')?;
+        }
+        pattern.push(c)?;
+    }
+    Ok(pattern)
+}
+
+/// Whether the character may have a meaning in a pattern.
+fn is_marked(c: char) -> bool
+    ensures { result ≡ is_marked c }
+{
+    matches!(
+        c,
+        '\\' | '.'
+            | '+'
+            | '*'
+            | '?'
+            | '('
+            | ')'
+            | '|'
+            | '['
+            | ']'
+            | '{'
+            | '}'
+            | '^'
+            | '$'
+            | '#'
+            | '&'
+            | '-'
+            | '~'
+    )
 }

@@ -1,5 +1,5 @@
 -- The piece at the front by the bytes behind the first one, each read at its place.
-use Rattle.std.proofs.Common.{◌≡◌, ℕ, zero, suc, ◌+◌, ◌-◌, ◌*◌, ◌<◌, ◌≤◌, Bool, true, false, List, [], ◌∷◌, length, drop, take, get_or, Option, Some, None, IsSome, refl, sym, ap, subst, ◌∙◌, arith, ◌⊎◌, inl, inr}
+use Rattle.std.proofs.Common.{◌≡◌, ℕ, ◌-◌, ◌<◌, ◌≤◌, Bool, true, false, List, [], ◌∷◌, length, drop, take, get_or, Option, Some, None, IsSome, refl, sym, ap, subst, ◌∙◌, arith, inl}
 use Rattle.std.specs.Option.{SomeIff}
 use Rattle.std.specs.Char.{IsScalar, InScalarRange}
 use Rattle.std.proofs.lemmas.List.{take_all}
@@ -80,42 +80,53 @@ row_4_whole r b (x ∷ y ∷ []) first second third = absurd (omega (arith, thir
 row_4_whole r b (x ∷ y ∷ z ∷ rest) first second third =
     let e = first.lies in let f = second.lies in let g = third.lies in simp (e, f, g)
 
+-- a test of the byte at that place that was true
 pub fits_at : (r : Range) (rest : List ℕ) (i : ℕ) (answer : Bool) → i < length rest → answer ≡ in_range r (get_or rest i 0) → answer ≡ true → FitsAt r rest i
 fits_at r rest i answer there is lies = record { there = there; lies = sym is ∙ lies }
 
+-- and one that was false
 pub stops_at : (r : Range) (rest : List ℕ) (i : ℕ) (answer : Bool) → answer ≡ in_range r (get_or rest i 0) → answer ≡ false → StopsAt r rest i
 stops_at r rest i answer is stops = λ _. sym is ∙ stops
 
--- the rows of two, three and four bytes, cut off behind so many, or whole
+-- a first byte of two, with no second one
 pub two_part_1 : (b : ℕ) (rest : List ℕ) → 0xC2 ≤ b → b ≤ 0xDF → StopsAt continuation rest 0 → front_piece (b ∷ rest) ≡ invalid 1
 two_part_1 b rest l h stops = two_row b rest l h ∙ row_2_part_1 continuation b rest stops
 
+-- and with one
 pub two_whole : (b : ℕ) (rest : List ℕ) → 0xC2 ≤ b → b ≤ 0xDF → FitsAt continuation rest 0 → front_piece (b ∷ rest) ≡ whole (b ∷ get_or rest 0 0 ∷ [])
 two_whole b rest l h first = two_row b rest l h ∙ row_2_whole continuation b rest first
 
+-- a first byte of three, with no second one
 pub three_part_1 : (b : ℕ) (rest : List ℕ) → 0xE0 ≤ b → b ≤ 0xEF → StopsAt (second_range b) rest 0 → front_piece (b ∷ rest) ≡ invalid 1
 three_part_1 b rest l h stops = three_row b rest l h ∙ row_3_part_1 (second_range b) b rest stops
 
+-- with no third one
 pub three_part_2 : (b : ℕ) (rest : List ℕ) → 0xE0 ≤ b → b ≤ 0xEF → FitsAt (second_range b) rest 0 → StopsAt continuation rest 1 → front_piece (b ∷ rest) ≡ invalid 2
 three_part_2 b rest l h first stops = three_row b rest l h ∙ row_3_part_2 (second_range b) b rest first stops
 
+-- and with both
 pub three_whole : (b : ℕ) (rest : List ℕ) → 0xE0 ≤ b → b ≤ 0xEF → FitsAt (second_range b) rest 0 → FitsAt continuation rest 1 → front_piece (b ∷ rest) ≡ whole (b ∷ get_or rest 0 0 ∷ get_or rest 1 0 ∷ [])
 three_whole b rest l h first second = three_row b rest l h ∙ row_3_whole (second_range b) b rest first second
 
+-- a first byte of four, with no second one
 pub four_part_1 : (b : ℕ) (rest : List ℕ) → 0xF0 ≤ b → b ≤ 0xF4 → StopsAt (second_range b) rest 0 → front_piece (b ∷ rest) ≡ invalid 1
 four_part_1 b rest l h stops = four_row b rest l h ∙ row_4_part_1 (second_range b) b rest stops
 
+-- with no third one
 pub four_part_2 : (b : ℕ) (rest : List ℕ) → 0xF0 ≤ b → b ≤ 0xF4 → FitsAt (second_range b) rest 0 → StopsAt continuation rest 1 → front_piece (b ∷ rest) ≡ invalid 2
 four_part_2 b rest l h first stops = four_row b rest l h ∙ row_4_part_2 (second_range b) b rest first stops
 
+-- with no fourth one
 pub four_part_3 : (b : ℕ) (rest : List ℕ) → 0xF0 ≤ b → b ≤ 0xF4 → FitsAt (second_range b) rest 0 → FitsAt continuation rest 1 → StopsAt continuation rest 2 → front_piece (b ∷ rest) ≡ invalid 3
 four_part_3 b rest l h first second stops =
     four_row b rest l h ∙ row_4_part_3 (second_range b) b rest first second stops
 
+-- and with all three
 pub four_whole : (b : ℕ) (rest : List ℕ) → 0xF0 ≤ b → b ≤ 0xF4 → FitsAt (second_range b) rest 0 → FitsAt continuation rest 1 → FitsAt continuation rest 2 → front_piece (b ∷ rest) ≡ whole (b ∷ get_or rest 0 0 ∷ get_or rest 1 0 ∷ get_or rest 2 0 ∷ [])
 four_whole b rest l h first second third =
     four_row b rest l h ∙ row_4_whole (second_range b) b rest first second third
 
+-- where a third or fourth byte lies
 pub continuation_bounds : (x : ℕ) → in_range continuation x ≡ true → (0x80 ≤ x) × (x ≤ 0xBF)
 continuation_bounds x e = grind (arith, nat_tests)
 
@@ -127,6 +138,7 @@ pub record SecondBounds (b x : ℕ) : Type 0 where
   pub not_past : b ≡ 0xF4 → x ≤ 0x8F
   pub not_short : b ≡ 0xF0 → 0x90 ≤ x
 
+-- a byte in the range of a second one has these bounds
 pub second_bounds : (b x : ℕ) → in_range (second_range b) x ≡ true → SecondBounds b x
 second_bounds b x e = record { from = grind (arith, nat_tests); to = grind (arith, nat_tests); no_surrogate = λ is. grind (arith, nat_tests); not_past = λ is. grind (arith, nat_tests); not_short = λ is. grind (arith, nat_tests) }
 
@@ -139,19 +151,24 @@ pub decoded_is : (made : Option ℕ) (v : ℕ) (bytes : List ℕ) (p : Piece) �
 decoded_is made v bytes p is same range iff succeeds =
     scalar_is made v iff (succeeds (subst InScalarRange (sym same) range)) ∙ ap Some same ∙ sym (ap (λ (q : Piece). q.decoded) is)
 
+-- what a whole sequence of two bytes spells is a character
 pub two_scalar : (b x : ℕ) → 0xC2 ≤ b → b ≤ 0xDF → x ≤ 0xBF → InScalarRange (scalar_value (b ∷ x ∷ []))
 two_scalar b x l h m = inl (omega arith)
 
+-- one of three
 pub three_scalar : (b x y : ℕ) → 0xE0 ≤ b → b ≤ 0xEF → SecondBounds b x → y ≤ 0xBF → InScalarRange (scalar_value (b ∷ x ∷ y ∷ []))
 three_scalar b x y l h s m = grind arith
 
+-- one of four
 pub four_scalar : (b x y z : ℕ) → 0xF0 ≤ b → b ≤ 0xF4 → SecondBounds b x → y ≤ 0xBF → z ≤ 0xBF → InScalarRange (scalar_value (b ∷ x ∷ y ∷ z ∷ []))
 four_scalar b x y z l h s m n = grind arith
 
+-- a slice is its first byte and what is behind it
 pub front_parts : (bytes : List ℕ) → 1 ≤ length bytes → get_or bytes 0 0 ∷ take (length bytes - 1) (drop 1 bytes) ≡ bytes
 front_parts [] some = absurd (omega arith)
 front_parts (b ∷ bytes) some = ap (λ rest. b ∷ rest) (take_all (length (b ∷ bytes) - 1) bytes (omega arith))
 
+-- the piece at the end
 pub front_end : (bytes : List ℕ) → length bytes < 1 → front_piece bytes ≡ invalid 0
 unfolding front_piece
 front_end [] none = refl

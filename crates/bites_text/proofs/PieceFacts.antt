@@ -1,5 +1,5 @@
 -- What a caller that walks over a haystack uses: how many bytes a piece takes, and the piece at the front of what is left.
-use Rattle.std.proofs.Common.{◌≡◌, ℕ, zero, suc, ◌+◌, ◌<◌, ◌≤◌, Bool, true, false, max, List, [], ◌∷◌, ◌-◌, length, length-drop, take, drop, ap, subst, sym, arith, ◌⊎◌, ⊎_elim}
+use Rattle.std.proofs.Common.{◌≡◌, ℕ, zero, suc, ◌<◌, ◌≤◌, max, List, [], ◌∷◌, ◌-◌, length, length-drop, take, drop, ap, arith, ⊎_elim}
 use Rattle.std.specs.Prelude.{◌==◌}
 use Rattle.std.proofs.lemmas.List.{take_all}
 use Rattle.bites_spec.proofs.PieceLemmas.{piece_within, piece_some}
@@ -43,21 +43,22 @@ piece_by-short zero bytes le =
     at_most n h = omega arith
 piece_by-short (suc n) bytes le = le
 
+-- a piece has at most four bytes
 pub front_short : (bytes : List ℕ) → (front_piece bytes).len ≤ 4
 unfolding front_piece
 front_short [] = omega arith
 front_short (b ∷ bytes) =
     piece_by-short (whole_len well_formed_rows (b ∷ bytes)) (b ∷ bytes) (whole_len-short well_formed_rows (b ∷ bytes) rows-short)
 
-pub front_within : (bytes : List ℕ) → (front_piece bytes).len ≤ length bytes
+front_within : (bytes : List ℕ) → (front_piece bytes).len ≤ length bytes
 unfolding piece
 front_within bytes = omega (arith, piece_within bytes 0 (omega arith))
 
-pub front_some : (bytes : List ℕ) → 0 < length bytes → 0 < (front_piece bytes).len
+front_some : (bytes : List ℕ) → 0 < length bytes → 0 < (front_piece bytes).len
 unfolding piece
 front_some bytes some = piece_some bytes 0 some
 
--- a piece has at most four bytes
+-- at any place
 pub piece-short : (hay : List ℕ) (i : ℕ) → (piece hay i).len ≤ 4
 unfolding piece
 piece-short hay i = front_short (drop i hay)
@@ -68,6 +69,7 @@ pub record FrontLen (bytes : List ℕ) (n : ℕ) : Type 0 where
   pub within : n ≤ length bytes
   pub further : 0 < length bytes → 0 < n
 
+-- what the clauses of the decoders say of it
 pub front_len : (bytes : List ℕ) (n : ℕ) → n ≡ (front_piece bytes).len → FrontLen bytes n
 front_len bytes n is =
     let le = front_short bytes in

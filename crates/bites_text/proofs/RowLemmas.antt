@@ -1,17 +1,18 @@
 -- The row of a first byte, and the piece at the front that it leads to.
-use Rattle.std.proofs.Common.{◌≡◌, ℕ, zero, suc, ◌+◌, ◌<◌, ◌≤◌, Bool, true, false, cond, max, List, [], ◌∷◌, length, take, get_or, Option, Some, None, refl, sym, ap, ◌∙◌, subst, arith, ◌⊎◌, inl, inr, ⊎_elim}
-use Rattle.std.specs.Prelude.{nat_le, ◌==◌, ◌&&◌, filter}
+use Rattle.std.proofs.Common.{◌≡◌, ℕ, suc, ◌<◌, ◌≤◌, Bool, true, false, cond, max, List, [], ◌∷◌, length, take, Some, None, refl, sym, ap, ◌∙◌, subst, arith, ◌⊎◌, inl, inr, ⊎_elim}
+use Rattle.std.specs.Prelude.{◌==◌, filter}
 use Rattle.std.proofs.lemmas.Bool.Decides.{nat_tests}
 use Rattle.bites_spec.specs.Range.{Range, in_range}
 use Rattle.bites_spec.specs.Utf8.{Piece, front_piece, piece_by, fitting, whole_len, begun_len, well_formed_rows, continuation, scalar_value}
 use Rattle.bites_text.specs.Rows.{second_range}
 
+-- a test is true or false
 pub bool_cases : (t : Bool) → (t ≡ true) ⊎ (t ≡ false)
 bool_cases true = inl refl
 bool_cases false = inr refl
 
 -- the first byte of the row may be this one; an empty row is kept too
-pub begins : ℕ → List Range → Bool
+begins : ℕ → List Range → Bool
 begins b [] = true
 begins b (r ∷ row) = in_range r b
 
@@ -54,11 +55,12 @@ begun_len-filter ((r ∷ row) ∷ rows) b rest =
     max-zero : (n : ℕ) → max 0 n ≡ n
     max-zero n = omega arith
 
--- the piece at the front, where this row alone begins with the first byte
+-- the piece of a row whose bytes behind the first are these, where they all fit and where they do not
 unfoldable pub chosen : List Range → ℕ → List ℕ → Bool → Piece
 chosen row b rest true = record { decoded = Some (scalar_value (b ∷ take (length row) rest)); len = suc (length row) }
 chosen row b rest false = record { decoded = None; len = suc (fitting row rest) }
 
+-- the piece at the front, where this row alone begins with the first byte
 unfoldable pub row_piece : List Range → ℕ → List ℕ → Piece
 row_piece row b rest = chosen row b rest (fitting row rest == length row)
 
@@ -77,7 +79,8 @@ same_number m n t = grind (arith, nat_tests)
 abbrev OnlyRow : Range → List Range → ℕ → Type 0
 OnlyRow r row b = filter (begins b) well_formed_rows ≡ (r ∷ row) ∷ []
 
-pub one_row : (r : Range) (row : List Range) (b : ℕ) (rest : List ℕ) → in_range r b ≡ true → OnlyRow r row b → front_piece (b ∷ rest) ≡ row_piece row b rest
+-- where a first byte has one row, the piece at the front is that row's
+one_row : (r : Range) (row : List Range) (b : ℕ) (rest : List ℕ) → in_range r b ≡ true → OnlyRow r row b → front_piece (b ∷ rest) ≡ row_piece row b rest
 unfolding front_piece row_piece chosen
 one_row r row b rest is only =
     ⊎_elim
@@ -157,6 +160,7 @@ unfolding front_piece
 lone_piece b rest h =
     ap (λ w. piece_by w (b ∷ rest)) (whole_len-filter well_formed_rows b rest ∙ ap (λ rows. whole_len rows (b ∷ rest)) (no_row b h)) ∙ ap (λ n. let p : Piece = record { decoded = None; len = max 1 n } in p) (begun_len-filter well_formed_rows b rest ∙ ap (λ rows. begun_len rows (b ∷ rest)) (no_row b h))
 
+-- the row of a first byte from C2 to DF
 pub two_row : (b : ℕ) (rest : List ℕ) → 0xC2 ≤ b → b ≤ 0xDF → front_piece (b ∷ rest) ≡ row_piece (continuation ∷ []) b rest
 two_row b rest l h = one_row (0xC2, 0xDF) (continuation ∷ []) b rest (inside 0xC2 0xDF b l h) (only_C2 b l h)
 
@@ -169,6 +173,7 @@ along b e rest behind is h = subst (λ n. front_piece (n ∷ rest) ≡ row_piece
 three_cases : (b : ℕ) → 0xE0 ≤ b → b ≤ 0xEF → (b ≡ 0xE0) ⊎ (((0xE1 ≤ b) × (b ≤ 0xEC)) ⊎ ((b ≡ 0xED) ⊎ ((0xEE ≤ b) × (b ≤ 0xEF))))
 three_cases b l h = grind arith
 
+-- the row of a first byte from E0 to EF
 pub three_row : (b : ℕ) (rest : List ℕ) → 0xE0 ≤ b → b ≤ 0xEF → front_piece (b ∷ rest) ≡ row_piece (second_range b ∷ continuation ∷ []) b rest
 three_row b rest l h =
     let usual : List Range = continuation ∷ [] in
@@ -181,6 +186,7 @@ three_row b rest l h =
 four_cases : (b : ℕ) → 0xF0 ≤ b → b ≤ 0xF4 → (b ≡ 0xF0) ⊎ (((0xF1 ≤ b) × (b ≤ 0xF3)) ⊎ (b ≡ 0xF4))
 four_cases b l h = grind arith
 
+-- the row of a first byte from F0 to F4
 pub four_row : (b : ℕ) (rest : List ℕ) → 0xF0 ≤ b → b ≤ 0xF4 → front_piece (b ∷ rest) ≡ row_piece (second_range b ∷ continuation ∷ continuation ∷ []) b rest
 four_row b rest l h =
     let usual : List Range = continuation ∷ continuation ∷ [] in

@@ -1,5 +1,5 @@
-use Rattle.std.proofs.Common.{◌∙◌, ap₂, is_none, slice_get}
-use Rattle.bites_spec.specs.Look.{holds_between, before}
+use Rattle.std.proofs.Common.{◌∙◌, ap₂, is_none}
+use Rattle.bites_spec.specs.Look.{holds_between}
 use Rattle.bites_syntax.specs.View.{look_of}
 use Rattle.bites_machine.proofs.AssertionLemmas.{holds-between}
 use Rattle.bites_machine.proofs.assertion.holds.Goals as goal

@@ -1,12 +1,12 @@
-use Rattle.std.proofs.Common.{◌≡◌, ℕ, ◌+◌, ◌<◌, ◌≤◌, length, true, false, sym, ap, ◌∙◌, subst, arith, get_or, Some, None, true≢false, refl, ⊎_elim, le_trans, add-one-le}
+use Rattle.std.proofs.Common.{◌<◌, ◌≤◌, length, sym, ap, ◌∙◌, arith, true≢false, refl, ⊎_elim, le_trans, add-one-le}
 use Rattle.bites_machine.specs.Ends.{targets_at}
 use Rattle.std.proofs.lemmas.Option.{get_or_from_slice_get, slice_get_within, slice_get-get_or}
 use Rattle.std.proofs.lemmas.Bool.{cases_lt}
-use Rattle.bites_spec.specs.Program.{is_match, state_at}
+use Rattle.bites_spec.specs.Program.{is_match}
 use Rattle.bites_machine.specs.States.{state_of}
-use Rattle.bites_machine.proofs.StateLemmas.{targets_known, no_match}
+use Rattle.bites_machine.proofs.StateLemmas.{targets_known, ranges_known, no_match}
 use Rattle.bites_machine.proofs.EdgeLemmas.{with_states-longer}
-use Rattle.bites_machine.proofs.SweepLemmas.{closing_start, closing_step, closing_found, closed}
+use Rattle.bites_machine.proofs.SweepLemmas.{closing_step, closing_found, closed}
 use Rattle.bites_machine.proofs.vm.close.Goals.{in-Match, in_default-matches}
 use Rattle.bites_machine.proofs.vm.close.Goals as goal
 
@@ -18,7 +18,7 @@ returns-then-matches-clause-found c = λ yes.
     (slice_get_within c.loop-number.current.members c.loop-number.visited c.in-Some.number there)
     (get_or_from_slice_get c.loop-number.current.members c.loop-number.visited c.in-Some.number 0 there)
     (elim c.match-matches.branch [
-      in-Match w ↦ ap is_match (sym c.state-state.ensures) ∙ ap (λ s. is_match (state_of s)) w.in-Match.is
+      | in-Match w ↦ ap is_match (sym c.state-state.ensures) ∙ ap (λ s. is_match (state_of s)) w.in-Match.is
       | in_default-matches w ↦ absurd (true≢false (sym c.if-matches.true ∙ w.matches-is))
     ])
 
@@ -26,6 +26,10 @@ pub follow-requires-clause-targets : goal.follow-requires-clause-targets
 follow-requires-clause-targets c =
     rw c.loop-number.invariant.current_bound
     (targets_known c.args.program.now.program c.requires.well_formed (state_of c.state-state.result.now) c.in-Some.number c.state-state.ensures)
+
+pub follow-requires-clause-ranges : goal.follow-requires-clause-ranges
+follow-requires-clause-ranges c =
+    ranges_known c.args.program.now.program c.requires.well_formed (state_of c.state-state.result.now) c.in-Some.number c.state-state.ensures
 
 pub overflow_add-visited : goal.overflow_add-visited
 overflow_add-visited c =
@@ -42,7 +46,7 @@ loop-number-preserved c =
           c.loop-number.current.members c.loop-number.next.members c.loop-number.visited c.in-Some.number c.loop-number.invariant.closing
           lt (get_or_from_slice_get c.loop-number.current.members c.loop-number.visited c.in-Some.number 0 there)
           (elim c.match-matches.branch [
-            in-Match w ↦ absurd (true≢false (sym w.matches-is ∙ c.if-matches.false))
+            | in-Match w ↦ absurd (true≢false (sym w.matches-is ∙ c.if-matches.false))
             | in_default-matches w ↦ ap is_match (sym c.state-state.ensures) ∙ no_match c.state-state.result.now w.in_default-matches.not-Match
           ]));
       current_bound = c.follow.ensures.current_bound ∙ c.loop-number.invariant.current_bound;
@@ -51,9 +55,10 @@ loop-number-preserved c =
     }
 
 pub returns-clause-on : goal.returns-clause-on
-returns-clause-on c = λ no j h.
+returns-clause-on c = λ ends.
     closed c.args.program.now.program c.args.haystack.now c.args.place c.args.current.now.members
     c.loop-number.current.members c.loop-number.next.members c.loop-number.visited c.loop-number.invariant.closing
-    (⊎_elim (λ (lt : c.loop-number.visited < length c.loop-number.current.members). absurd (c.in_default.not-Some _ (c.get.ensures.member ∙ slice_get-get_or c.loop-number.current.members c.loop-number.visited 0 lt)))
+    (⊎_elim (λ (lt : c.loop-number.visited < length c.loop-number.current.members).
+    absurd (c.in_default.not-Some _ (c.get.ensures.member ∙ slice_get-get_or c.loop-number.current.members c.loop-number.visited 0 lt)))
     (λ (le : length c.loop-number.current.members ≤ c.loop-number.visited). le)
-    (cases_lt c.loop-number.visited (length c.loop-number.current.members))) j h
+    (cases_lt c.loop-number.visited (length c.loop-number.current.members)))

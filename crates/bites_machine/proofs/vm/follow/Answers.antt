@@ -1,4 +1,4 @@
-use Rattle.std.proofs.Common.{ap, ◌<◌, subst, sym}
+use Rattle.std.proofs.Common.{ap, subst}
 use Rattle.bites_spec.specs.Walks.{Among}
 use Rattle.bites_spec.specs.Program.{targets_of}
 use Rattle.bites_machine.specs.States.{state_of}

@@ -1,10 +1,10 @@
-use Rattle.std.proofs.Common.{◌≡◌, ℕ, ◌+◌, ◌-◌, ◌<◌, ◌≤◌, [], length, sym, ap, ◌∙◌, subst, refl, arith, true, false, ⊎_elim}
+use Rattle.std.proofs.Common.{◌<◌, ◌≤◌, length, sym, ap, ◌∙◌, subst, arith, ⊎_elim}
 use Rattle.std.proofs.lemmas.Bool.{cases_lt}
 use Rattle.bites_spec.specs.Utf8.{piece}
 use Rattle.bites_spec.proofs.PieceLemmas.{piece_within, piece_some}
-use Rattle.bites_machine.specs.Ends.{EndsIn}
+use Rattle.bites_machine.specs.Ends.{EndsIn, GoesOn}
 use Rattle.bites_machine.specs.Members.{with_state}
-use Rattle.bites_machine.proofs.SweepLemmas.{sweeping_past, sweeping_found, sweeping_step, sweeping_done, sweeping_start}
+use Rattle.bites_machine.proofs.SweepLemmas.{sweeping_past, sweeping_found, sweeping_step, sweeping_done}
 use Rattle.bites_machine.proofs.vm.shortest_match_at.Goals as goal
 
 pub returns-then-start-haystack : goal.returns-then-start-haystack
@@ -31,8 +31,8 @@ returns-then-len-eq0 c =
     let end : length c.args.haystack.now ≤ c.loop-ch.place =
     ⊎_elim (λ (lt : c.loop-ch.place < length c.args.haystack.now). let some = piece_some c.args.haystack.now c.loop-ch.place lt in absurd (omega arith))
     (λ (le : length c.args.haystack.now ≤ c.loop-ch.place). le) (cases_lt c.loop-ch.place (length c.args.haystack.now)) in
-    sweeping_done p hay c.args.start i c.loop-ch.current.members c.loop-ch.invariant.sweeping c.loop-ch.invariant.within end
-    (c.close.new.next.members, (λ j h. c.close.ensures.on c.if-close.false j (subst (λ s. EndsIn p hay s i j) (sym entered) h)))
+    sweeping_done p hay c.args.start i c.loop-ch.current.members c.loop-ch.invariant.sweeping c.loop-ch.invariant.within
+    c.close.new.next.members end (subst (λ s. GoesOn p hay i s c.close.new.next.members) entered (c.close.ensures.on c.if-close.false))
 
 pub overflow_add-place : goal.overflow_add-place
 overflow_add-place c =
@@ -55,9 +55,7 @@ loop-ch-preserved c =
     record {
       sweeping = rw (c.swap.ensures.x_after, c.piece_at-ch.ensures.len)
           (sweeping_step p hay c.args.start i c.loop-ch.current.members c.loop-ch.invariant.sweeping c.loop-ch.invariant.within
-          c.close.new.next.members some
-          (λ j h. c.close.ensures.on c.if-close.false j (subst (λ s. EndsIn p hay s i j) (sym entered) h))
-          (λ j h. subst (λ s. EndsIn p hay s i j) entered (c.close.ensures.back j h)));
+          c.close.new.next.members some (subst (λ s. GoesOn p hay i s c.close.new.next.members) entered (c.close.ensures.on c.if-close.false)));
       next_empty = c.clear.ensures.empty;
       within = omega arith;
       current_bound = ap (λ s. s.bound) c.swap.ensures.x_after ∙ c.close.ensures.next ∙ c.loop-ch.invariant.next_bound;

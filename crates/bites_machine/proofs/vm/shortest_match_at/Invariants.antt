@@ -1,4 +1,4 @@
-use Rattle.std.proofs.Common.{◌≡◌, ◌≤◌, ◌-◌, ◌+◌, [], length}
+use Rattle.std.proofs.Common.{◌≡◌, ◌≤◌, ◌-◌, [], length}
 use Rattle.bites_machine.proofs.SweepLemmas.{IsSweeping}
 use Rattle.bites_machine.proofs.vm.shortest_match_at.Given as goal
 

@@ -1,4 +1,4 @@
-use Rattle.std.proofs.Common.{◌≡◌, ◌∷◌, ◌∙◌, ℕ, List, ◌-◌, length, drop, take, get_or, Some, inl, inr, sym, ap, arith}
+use Rattle.std.proofs.Common.{◌∙◌, ℕ, List, ◌-◌, length, drop, take, get_or, Some, inl, inr, sym, ap, arith}
 use Rattle.bites_spec.specs.Utf8.{Piece, front_piece}
 use Rattle.bites_text.proofs.FrontLemmas.{front_parts, front_end}
 use Rattle.bites_text.proofs.PieceFacts.{front_len}

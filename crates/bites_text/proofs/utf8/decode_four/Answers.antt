@@ -1,7 +1,7 @@
-use Rattle.std.proofs.Common.{◌≡◌, ◌∷◌, [], ◌<◌, length, get_or, Some, List, ℕ, sym, ap, arith}
-use Rattle.bites_spec.specs.Utf8.{Piece, front_piece, continuation, scalar_value}
+use Rattle.std.proofs.Common.{◌∷◌, [], get_or, sym, ap, arith}
+use Rattle.bites_spec.specs.Utf8.{Piece, front_piece, continuation}
 use Rattle.bites_text.specs.Rows.{second_range}
-use Rattle.bites_text.proofs.FrontLemmas.{FitsAt, StopsAt, invalid, whole, fits_at, stops_at, decoded_is, continuation_bounds, second_bounds, four_part_1, four_part_2, four_part_3, four_whole, four_scalar}
+use Rattle.bites_text.proofs.FrontLemmas.{fits_at, stops_at, decoded_is, continuation_bounds, second_bounds, four_part_1, four_part_2, four_part_3, four_whole, four_scalar}
 use Rattle.bites_text.proofs.utf8.decode_four.Goals as goal
 
 pub returns-in-empty : goal.returns-in-empty
@@ -56,6 +56,6 @@ returns-in-len3-up c =
     let is = four_whole b s c.requires.from c.requires.to first second third in
     let made = c.from_u32.ensures in
     record {
-    decoded = decoded_is c.from_u32.result _ (b ∷ get_or s 0 0 ∷ get_or s 1 0 ∷ get_or s 2 0 ∷ []) (front_piece (b ∷ s)) is (omega arith) (four_scalar b (get_or s 0 0) (get_or s 1 0) (get_or s 2 0) c.requires.from c.requires.to (second_bounds b (get_or s 0 0) first.lies) (continuation_bounds (get_or s 1 0) second.lies).1 (continuation_bounds (get_or s 2 0) third.lies).1) made.value made.succeeds;
-    len = ap (λ (p : Piece). p.len) (sym is)
+      decoded = decoded_is c.from_u32.result _ (b ∷ get_or s 0 0 ∷ get_or s 1 0 ∷ get_or s 2 0 ∷ []) (front_piece (b ∷ s)) is (omega arith) (four_scalar b (get_or s 0 0) (get_or s 1 0) (get_or s 2 0) c.requires.from c.requires.to (second_bounds b (get_or s 0 0) first.lies) (continuation_bounds (get_or s 1 0) second.lies).1 (continuation_bounds (get_or s 2 0) third.lies).1) made.value made.succeeds;
+      len = ap (λ (p : Piece). p.len) (sym is);
     }

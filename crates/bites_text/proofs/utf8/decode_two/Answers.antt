@@ -1,7 +1,6 @@
-use Rattle.std.proofs.Common.{◌≡◌, ◌∷◌, [], ◌<◌, length, get_or, Some, List, ℕ, sym, ap, arith}
-use Rattle.bites_spec.specs.Utf8.{Piece, front_piece, continuation, scalar_value}
-use Rattle.bites_text.specs.Rows.{second_range}
-use Rattle.bites_text.proofs.FrontLemmas.{FitsAt, StopsAt, invalid, whole, fits_at, stops_at, decoded_is, continuation_bounds, second_bounds, two_part_1, two_whole, two_scalar}
+use Rattle.std.proofs.Common.{◌∷◌, [], get_or, sym, ap, arith}
+use Rattle.bites_spec.specs.Utf8.{Piece, front_piece, continuation}
+use Rattle.bites_text.proofs.FrontLemmas.{fits_at, stops_at, decoded_is, continuation_bounds, two_part_1, two_whole, two_scalar}
 use Rattle.bites_text.proofs.utf8.decode_two.Goals as goal
 
 pub returns-in_default : goal.returns-in_default
@@ -27,6 +26,6 @@ returns-in-len1-up c =
     let is = two_whole b s c.requires.from c.requires.to first in
     let made = c.from_u32.ensures in
     record {
-    decoded = decoded_is c.from_u32.result _ (b ∷ get_or s 0 0 ∷ []) (front_piece (b ∷ s)) is (omega arith) (two_scalar b (get_or s 0 0) c.requires.from c.requires.to low.1) made.value made.succeeds;
-    len = ap (λ (p : Piece). p.len) (sym is)
+      decoded = decoded_is c.from_u32.result _ (b ∷ get_or s 0 0 ∷ []) (front_piece (b ∷ s)) is (omega arith) (two_scalar b (get_or s 0 0) c.requires.from c.requires.to low.1) made.value made.succeeds;
+      len = ap (λ (p : Piece). p.len) (sym is);
     }

@@ -1,4 +1,4 @@
-use Rattle.std.proofs.Common.{sym, ◌∙◌, ap, le-ltb, ◌<◌, length, subst, ◌≤◌, vec_len}
+use Rattle.std.proofs.Common.{sym, ◌∙◌, ap, le-ltb, ◌<◌, length, subst, ◌≤◌}
 use Rattle.bites_machine.proofs.MemberLemmas.{found_there, found_none}
 use Rattle.bites_machine.proofs.set.StateSet.contains.Goals as goal
 

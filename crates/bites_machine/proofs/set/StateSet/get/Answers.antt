@@ -1,4 +1,4 @@
-use Rattle.std.proofs.Common.{◌<◌, ◌≤◌, ◌≡◌, ◌∙◌, sym, ap, length, arith, ℕ, Option, Some, None, Bor, refl, is_some, ltb-true, true}
+use Rattle.std.proofs.Common.{◌<◌, ◌≡◌, ◌∙◌, sym, ap, length, arith, ℕ, Option, Some, None, Bor, refl, is_some, ltb-true, true}
 use Rattle.std.specs.Option.{option_copied}
 use Rattle.bites_machine.proofs.MemberLemmas.{IsIndexed-length}
 use Rattle.bites_machine.proofs.set.StateSet.get.Goals as goal

@@ -1,4 +1,4 @@
-use Rattle.std.proofs.Common.{sym, ◌∙◌, ap, ◌<◌, ◌≤◌, ◌+◌, ◌≡◌, ◌++◌, ◌∷◌, [], List, ℕ, Bool, length, subst, vec_len, vec_capacity, arith, length-append, cond, true, false, is_ok}
+use Rattle.std.proofs.Common.{sym, ◌∙◌, ap, ◌<◌, ◌≤◌, ◌≡◌, ◌++◌, ◌∷◌, [], length, vec_len, vec_capacity, arith, length-append, cond, false}
 use Rattle.std.proofs.Math.ListN.{set, length-set}
 use Rattle.bites_machine.specs.Members.{is_member, with_state, IsIndexed}
 use Rattle.bites_machine.proofs.MemberLemmas.{IsIndexed-push, IsIndexed-length, with_state-new}

@@ -1,4 +1,3 @@
-use Rattle.std.proofs.Common.{sym, subst, ◌<◌}
 use Rattle.bites_machine.proofs.EdgeLemmas.{Among-get_or}
 use Rattle.bites_machine.proofs.set.StateSet.insert_all.Goals as goal
 

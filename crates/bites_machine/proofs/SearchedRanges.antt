@@ -1,0 +1,82 @@
+-- A search in ranges that rise.
+use Rattle.std.proofs.Common.{◌≡◌, ℕ, zero, suc, ◌+◌, ◌<◌, ◌≤◌, Bool, true, false, ◌&&◌, List, [], ◌∷◌, length, get_or, refl, ap, ap₂, ◌∙◌, subst, arith, ⊎_elim, le-leb}
+use Rattle.std.specs.Prelude.{nat_le}
+use Rattle.std.proofs.lemmas.Bool.{cases_lt}
+use Rattle.std.proofs.lemmas.List.Folds.{list_any_at, list_any_none}
+use Rattle.std.proofs.lemmas.List.{get_or_default}
+use Rattle.std.proofs.lemmas.Bool.Decides.{nat_tests}
+use Rattle.bites_spec.specs.Range.{Range, in_range, in_ranges}
+use Rattle.bites_spec.specs.Program.{AreRanges}
+
+-- the range at an index
+abbrev pub range_at : List Range → ℕ → Range
+range_at rs k = get_or rs k (0, 0)
+
+each_range : (rs : List Range) → AreRanges rs → (k : ℕ) → k < length rs → (range_at rs k).0 ≤ (range_at rs k).1
+each_range [] are k lt = absurd (omega arith)
+each_range (r ∷ []) are zero lt = are
+each_range (r ∷ []) are (suc k) lt = absurd (omega arith)
+each_range (r ∷ s ∷ rs) are zero lt = are.0
+each_range (r ∷ s ∷ rs) are (suc k) lt = each_range (s ∷ rs) are.2 k (omega arith)
+
+-- a range ends below the beginning of each later one
+apart : (rs : List Range) → AreRanges rs → (k m : ℕ) → k < m → m < length rs → (range_at rs k).1 < (range_at rs m).0
+apart [] are k m lt within = absurd (omega arith)
+apart (r ∷ []) are k zero lt within = absurd (omega arith)
+apart (r ∷ []) are k (suc m) lt within = absurd (omega arith)
+apart (r ∷ s ∷ rs) are k zero lt within = absurd (omega arith)
+apart (r ∷ s ∷ rs) are zero (suc zero) lt within = are.1
+apart (r ∷ s ∷ rs) are zero (suc (suc m)) lt within =
+    let more = apart (s ∷ rs) are.2 zero (suc m) (omega arith) (omega arith) in
+    let own = each_range (s ∷ rs) are.2 zero (omega arith) in
+    omega (arith, are.1)
+apart (r ∷ s ∷ rs) are (suc k) (suc m) lt within = apart (s ∷ rs) are.2 k m (omega arith) (omega arith)
+
+-- the ranges below an index end below c
+abbrev pub AllEndBelow : List Range → ℕ → ℕ → Type 0
+AllEndBelow rs n c = (k : ℕ) → k < n → (range_at rs k).1 < c
+
+-- the ranges from an index on begin above c
+abbrev pub AllBeginAbove : List Range → ℕ → ℕ → Type 0
+AllBeginAbove rs n c = (k : ℕ) → n ≤ k → k < length rs → c < (range_at rs k).0
+
+-- a range that ends below c leaves only those behind it
+pub below_more : (rs : List Range) (m c : ℕ) → AreRanges rs → m < length rs → (range_at rs m).1 < c → AllEndBelow rs (m + 1) c
+below_more rs m c are within lt k below =
+    ⊎_elim
+    (λ (less : k < m). let before = apart rs are k m less within in let own = each_range rs are m within in omega arith)
+    (λ (ge : m ≤ k). let e : m ≡ k = omega arith in subst (λ x. (range_at rs x).1 < c) e lt)
+    (cases_lt k m)
+
+-- a range that begins above c leaves only those before it
+pub above_more : (rs : List Range) (m c : ℕ) → AreRanges rs → m < length rs → c < (range_at rs m).0 → AllBeginAbove rs m c
+above_more rs m c are within lt k from below =
+    ⊎_elim
+    (λ (less : m < k). let behind = apart rs are m k less below in let own = each_range rs are m within in omega arith)
+    (λ (ge : k ≤ m). let e : m ≡ k = omega arith in subst (λ x. c < (range_at rs x).0) e lt)
+    (cases_lt m k)
+
+-- the range at an index has c
+pub hit : (rs : List Range) (m c : ℕ) → m < length rs → (range_at rs m).0 ≤ c → c ≤ (range_at rs m).1 → in_ranges rs c ≡ true
+hit rs m c within from to =
+    list_any_at (λ r. in_range r c) rs m (0, 0) within
+    (ap₂ ◌&&◌ (le-leb (range_at rs m).0 c from) (le-leb c (range_at rs m).1 to))
+
+and_false_right : (a b : Bool) → b ≡ false → (a && b) ≡ false
+and_false_right true b e = e
+and_false_right false b e = refl
+
+not_le : (a b : ℕ) → b < a → nat_le a b ≡ false
+not_le a b lt = grind (arith, nat_tests)
+
+-- no range is left between the two parts
+pub no_hit : (rs : List Range) (n m c : ℕ) → AllEndBelow rs n c → AllBeginAbove rs m c → m ≤ n → in_ranges rs c ≡ false
+no_hit rs n m c below above le =
+    list_any_none (λ r. in_range r c) rs (λ k d lt. ap (λ r. in_range r c) (get_or_default rs k d (0, 0) lt) ∙ misses k lt)
+  where
+    misses : (k : ℕ) → k < length rs → in_range (range_at rs k) c ≡ false
+    misses k lt =
+        ⊎_elim
+        (λ (less : k < n). let ends = below k less in and_false_right (nat_le (range_at rs k).0 c) (nat_le c (range_at rs k).1) (not_le c (range_at rs k).1 ends))
+        (λ (ge : n ≤ k). let begins = above k (omega (arith, le, ge)) lt in ap (λ b. b && nat_le c (range_at rs k).1) (not_le (range_at rs k).0 c begins))
+        (cases_lt k n)

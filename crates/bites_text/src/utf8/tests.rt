@@ -1,0 +1,109 @@
+//! Characters in bytes, against the published table and against std.
+
+use super::*;
+use std::process::Abort;
+
+/// The table of well-formed byte sequences, a range for each byte.
+const ROWS: [&[(u8, u8)]; 9] = [
+    &[(0x00, 0x7F)],
+    &[(0xC2, 0xDF), (0x80, 0xBF)],
+    &[(0xE0, 0xE0), (0xA0, 0xBF), (0x80, 0xBF)],
+    &[(0xE1, 0xEC), (0x80, 0xBF), (0x80, 0xBF)],
+    &[(0xED, 0xED), (0x80, 0x9F), (0x80, 0xBF)],
+    &[(0xEE, 0xEF), (0x80, 0xBF), (0x80, 0xBF)],
+    &[(0xF0, 0xF0), (0x90, 0xBF), (0x80, 0xBF), (0x80, 0xBF)],
+    &[(0xF1, 0xF3), (0x80, 0xBF), (0x80, 0xBF), (0x80, 0xBF)],
+    &[(0xF4, 0xF4), (0x80, 0x8F), (0x80, 0xBF), (0x80, 0xBF)],
+];
+
+/// Each byte at an end of a range of the table, and the bytes beside them.
+const BYTES: [u8; 24] = [
+    0x00, 0x7F, 0x80, 0x8F, 0x90, 0x9F, 0xA0, 0xBF, 0xC0, 0xC1, 0xC2, 0xDF, 0xE0, 0xE1, 0xEC, 0xED,
+    0xEE, 0xEF, 0xF0, 0xF1, 0xF3, 0xF4, 0xF5, 0xFF,
+];
+
+/// How many bytes at the front the row fits.
+fn fitting(row: &[(u8, u8)], bytes: &[u8]) -> usize {
+    let mut len = 0usize;
+    for ((low, high), byte) in row.iter().zip(bytes) {
+        if byte < low || high < byte {
+            return len;
+        }
+        len = len.saturating_add(1);
+    }
+    len
+}
+
+/// The length of the piece at the front, and whether a whole row stands there.
+fn by_table(bytes: &[u8]) -> (bool, usize) {
+    let mut longest = bytes.len().min(1);
+    for row in ROWS {
+        let len = fitting(row, bytes);
+        if len == row.len() {
+            return (true, len);
+        }
+        longest = longest.max(len);
+    }
+    (false, longest)
+}
+
+/// The piece at the front as std's own reader of lossy text has it.
+fn by_std(bytes: &[u8]) -> (Option<char>, usize) {
+    match bytes.utf8_chunks().next() {
+        None => (None, 0),
+        Some(chunk) => match chunk.valid().chars().next() {
+            Some(c) => (Some(c), c.len_utf8()),
+            None => (None, chunk.invalid().len()),
+        },
+    }
+}
+
+fn check(rt: &impl Abort, bytes: &[u8]) {
+    let found = decode(bytes);
+    assert_eq!(rt; found, by_std(bytes), "at {bytes:?}");
+    assert_eq!(rt;
+        (found.0.is_some(), found.1),
+        by_table(bytes),
+        "at {bytes:?}"
+    );
+    let lossy = (found.0.unwrap_or('\u{FFFD}'), found.1);
+    assert_eq!(rt; decode_lossy(bytes), lossy, "at {bytes:?}");
+}
+
+#[test]
+fn boundary_bytes(rt: HostRuntime) {
+    check(&rt, &[]);
+    for a in BYTES {
+        check(&rt, &[a]);
+        for b in BYTES {
+            check(&rt, &[a, b]);
+            for c in BYTES {
+                check(&rt, &[a, b, c]);
+                for d in BYTES {
+                    check(&rt, &[a, b, c, d]);
+                }
+            }
+        }
+    }
+}
+
+#[test]
+fn worked_pieces(rt: HostRuntime) {
+    assert_eq!(rt; decode(b""), (None, 0));
+    assert_eq!(rt; decode(b"\xF0\x82\x82\xAC"), (None, 1));
+    assert_eq!(rt; decode(b"\xF0\x9D\x9D"), (None, 3));
+    assert_eq!(rt; decode(b"\xE2\x98\xF0"), (None, 2));
+    assert_eq!(rt; decode(b"\xFF"), (None, 1));
+    assert_eq!(rt; decode(b"\xE2\x98\x83!"), (Some('\u{2603}'), 3));
+    assert_eq!(rt; decode(b"\xF4\x8F\xBF\xBF"), (Some('\u{10FFFF}'), 4));
+    assert_eq!(rt; decode_lossy(b""), ('\u{FFFD}', 0));
+    assert_eq!(rt; decode_lossy(b"\xED\xA0\x80"), ('\u{FFFD}', 1));
+}
+
+#[test]
+fn word_bytes(rt: HostRuntime) {
+    let word = b"0123456789ABCDEFGHIJKLMNOPQRSTUVWXYZ_abcdefghijklmnopqrstuvwxyz";
+    for byte in 0..=255 {
+        assert_eq!(rt; is_word_byte(byte), word.contains(&byte), "at {byte:02x}");
+    }
+}
