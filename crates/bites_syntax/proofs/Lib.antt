@@ -17,3 +17,7 @@ pub mod TreeParts
 pub mod EscapedText
 pub mod GroupCounts
 pub mod NodeLemmas
+pub mod AtomLemmas
+pub mod RowLemmas
+pub mod ProgressLemmas
+pub mod ReachedLemmas

@@ -1,3 +1,4 @@
+pub mod Atoms
 pub mod FlagsView
 pub mod Hexadecimal
 pub mod Meanings
@@ -8,6 +9,7 @@ pub mod Numbers
 pub mod Operators
 pub mod Openings
 pub mod Parts
+pub mod Progress
 pub mod Sets
 pub mod Steps
 pub mod TreeCode

@@ -13,15 +13,13 @@ use Rattle.bites_syntax.specs.Parts.{Refuses, error_in}
 unfoldable pub Has : List Range → Set → Type 0
 Has ranges set = (c : ℕ) → is_scalar c ≡ true → in_ranges ranges c ≡ set c
 
--- from ranges that have the set so far: the reader goes on with more, at the text that is left, and the new ranges have that;
--- or it stops with the error
+-- the reader adds a part of a class to any set that the ranges had, as the new ranges do, or stops with the error
 abbrev pub Adds : List Range → List Range → Result (Unit {0}) Error → Text → (Members → Set → Answer Set) → Type 0
 Adds old new result rest read =
     (go : Members) (set : Set) → Has old set →
     MatchResult result (λ _. (more : Set) × (read go set ≡ go more rest) × Has new more) (λ e. Refuses e (read go set))
 
--- from ranges that have the set so far: the reader answers a set that the new ranges have, and the text that is left;
--- or it stops with the error
+-- from any set that the ranges had, the reader comes to the set that the new ranges have, or stops with the error
 abbrev pub Completes : List Range → List Range → Result (Unit {0}) Error → Text → (Set → Answer Set) → Type 0
 Completes old new result rest read =
     (set : Set) → Has old set →

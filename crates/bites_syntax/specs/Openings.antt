@@ -1,5 +1,5 @@
 -- What stands behind an opening parenthesis, and what the front of the pattern decides.
-use Rattle.std.specs.Prelude.{◌≡◌, Option, option_map, encode_utf8_all}
+use Rattle.std.specs.Prelude.{◌≡◌, ◌+◌, Option, option_map, encode_utf8_all}
 use Rattle.bites_spec.specs.Pattern as pattern
 use Rattle.bites_spec.specs.Pattern.{Text}
 use Rattle.bites_spec.specs.Group.{numbered, unnumbered}
@@ -21,4 +21,5 @@ abbrev pub IsOpened : Opened → Front → pattern.Front → reading.Opened → 
 IsOpened Directive f g x = (flags : pattern.Flags) × (x ≡ reading.directive flags) × IsFront f (record g { flags = flags })
 IsOpened Unnumbered f g x = (inner : pattern.Front) × (x ≡ reading.group unnumbered inner) × IsFront f inner
 IsOpened (Numbered name) f g x =
-    (text : Option Text) × (inner : pattern.Front) × (x ≡ reading.group (numbered text) inner) × (name ≡ option_map encode_utf8_all text) × IsFront f inner
+    (text : Option Text) × (inner : pattern.Front) × (x ≡ reading.group (numbered text) inner) × (name ≡ option_map encode_utf8_all text)
+    × (inner.groups ≡ g.groups + 1) × IsFront f inner

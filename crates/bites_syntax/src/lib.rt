@@ -1,6 +1,7 @@
 //! The tree of a pattern, and its parts.
 #![tactic(auto)]
 
+pub(crate) mod atom;
 pub(crate) mod bracket;
 pub mod builder;
 pub mod class;
@@ -17,4 +18,5 @@ pub(crate) mod names;
 pub(crate) mod node;
 pub(crate) mod number;
 pub(crate) mod operator;
+pub mod parse;
 pub mod tree;

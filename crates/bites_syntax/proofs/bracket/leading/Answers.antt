@@ -1,4 +1,3 @@
-use Rattle.std.proofs.Common.{◌≡◌, ◌∷◌, drop, ap, ◌∙◌}
 use Rattle.bites_syntax.specs.FlagsView.{flags_of}
 use Rattle.bites_syntax.proofs.CursorLemmas.{peeked}
 use Rattle.bites_syntax.proofs.MemberParts.{leading_bracket, leading_dashes}

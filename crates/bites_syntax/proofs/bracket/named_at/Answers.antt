@@ -1,4 +1,4 @@
-use Rattle.std.proofs.Common.{◌≡◌, [], drop, map, sym, ap, ◌∙◌}
+use Rattle.std.proofs.Common.{map, sym, ap, ◌∙◌}
 use Rattle.std.proofs.lemmas.List.{drop_all}
 use Rattle.bites_syntax.specs.Members.{named_at}
 use Rattle.bites_syntax.specs.View.{named_of}

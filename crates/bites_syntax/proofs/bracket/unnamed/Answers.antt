@@ -1,6 +1,5 @@
-use Rattle.std.proofs.Common.{◌≡◌, ◌≤◌, length, arith, refl, ap, ◌∙◌}
+use Rattle.std.proofs.Common.{◌≤◌, length, arith}
 use Rattle.std.proofs.lemmas.Result.{err_from_is_err_and}
-use Rattle.bites_spec.specs.Reading.{after_first}
 use Rattle.bites_syntax.specs.FlagsView.{flags_of}
 use Rattle.bites_syntax.proofs.MemberParts.{Adds_by, unnamed_fault, unnamed_leads}
 use Rattle.bites_syntax.proofs.bracket.unnamed.Goals as goal

@@ -1,4 +1,4 @@
-use Rattle.std.proofs.Common.{◌≡◌, ◌++◌, string_bytes, append-nil, arith, sym, ap, ◌∙◌}
+use Rattle.std.proofs.Common.{◌++◌, string_bytes, append-nil, arith, sym, ap, ◌∙◌}
 use Rattle.bites_spec.specs.Escape.{is_boundary_letter}
 use Rattle.bites_syntax.specs.FlagsView.{flags_of}
 use Rattle.bites_syntax.proofs.CursorLemmas.{each_more, each_ends}

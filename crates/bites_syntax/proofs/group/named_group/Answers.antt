@@ -18,6 +18,7 @@ returns-clause-reads c = λ g is.
         record (with_group g) { names = read.0 ∷ g.names },
         refl,
         ap Some (c.from.ensures ∙ sym bytes),
+        refl,
         record {
           flags = is.flags;
           groups = c.in-Some.ensures.1 ∙ ap (λ n. n + 1) is.groups;

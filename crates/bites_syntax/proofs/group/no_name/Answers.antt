@@ -9,5 +9,5 @@ returns-clause-reads c = λ g is.
     let room : g.groups + 1 ≤ 4294967295 = omega (arith, is.groups, c.in-Some.ensures.0) in (
       group (numbered None) (with_group g),
       rw c.if-bump_if.ensures.rest (no_name_plain g c.args.cursor.now (sym c.if-bump_if.ensures.value) room),
-      (None, with_group g, refl, refl, record { flags = is.flags; groups = c.in-Some.ensures.1 ∙ ap (λ n. n + 1) is.groups; names = is.names }),
+      (None, with_group g, refl, refl, refl, record { flags = is.flags; groups = c.in-Some.ensures.1 ∙ ap (λ n. n + 1) is.groups; names = is.names }),
     )

@@ -1,7 +1,7 @@
-use Rattle.std.proofs.Common.{◌≡◌, ◌∷◌, false, true, refl, sym, ap, ◌∙◌}
+use Rattle.std.proofs.Common.{◌≡◌, ◌∷◌, refl, sym, ap, ◌∙◌}
 use Rattle.bites_spec.specs.Escape.{is_hex_digit}
 use Rattle.bites_spec.specs.Message.{brace_hex_invalid}
-use Rattle.bites_spec.specs.Pattern.{next_is, right_brace}
+use Rattle.bites_spec.specs.Pattern.{right_brace}
 use Rattle.bites_syntax.specs.FlagsView.{flags_of}
 use Rattle.bites_syntax.specs.Parts.{error_in}
 use Rattle.bites_syntax.specs.Steps.{each_of}

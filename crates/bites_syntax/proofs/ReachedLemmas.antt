@@ -1,0 +1,137 @@
+-- How far a choice is read.
+use Rattle.std.proofs.Common.{◌≡◌, ◌<◌, ◌≤◌, ◌⊎◌, ℕ, zero, suc, List, [], ◌∷◌, ◌++◌, length, drop, refl, sym, ap, subst, ◌∙◌, Option, Some, Result, Ok, Err, inl, inr, ⊎_elim, arith}
+use Rattle.bites_spec.specs.Grammar.{at_front, group_of}
+use Rattle.bites_spec.specs.Group.{Opening}
+use Rattle.bites_spec.specs.Pattern as pattern
+use Rattle.bites_spec.specs.RangesOf.{ranges_of}
+use Rattle.bites_spec.specs.Reading.{Found, Stop, and_found, behind_group, inner, read}
+use Rattle.bites_spec.specs.Tree.{Tree, choice_of}
+use Rattle.bites_text.specs.declared.error.Error.{Error}
+use Rattle.bites_syntax.specs.declared.node.Node.{Node}
+use Rattle.bites_syntax.specs.declared.parse.OpenGroup.{OpenGroup}
+use Rattle.bites_syntax.specs.declared.parse.Parser.{Parser}
+use Rattle.bites_syntax.specs.declared.parse.Rows.{Rows}
+use Rattle.bites_syntax.specs.Nodes.{AreNodes, StandsFor}
+use Rattle.bites_syntax.specs.Openings.{IsFront}
+use Rattle.bites_syntax.specs.Parts.{error_in, Refuses}
+use Rattle.bites_syntax.specs.Progress.{IsAt, GoesOn, Enters, Ends, ReadsAs}
+
+-- what the reader is asked at the start, it is asked where the parser is
+pub record Reached (limit depth n : ℕ) (start : pattern.Front) (text : pattern.Text) (p : Parser) (rows : Rows) : Type 0 where
+  pub g : pattern.Front
+  pub branches : List Tree
+  pub nodes : List Tree
+  pub steps : ℕ
+  pub is_at : IsAt limit p rows g branches nodes
+  pub room : length p.cursor ≤ steps
+  pub same : inner ranges_of limit (suc n) depth start [] [] text ≡ inner ranges_of limit (suc steps) depth g branches nodes p.cursor
+
+-- the same for each front that the parser's stands for, and each number of steps that is enough
+abbrev pub Reaches : ℕ → ℕ → Parser → Parser → Rows → Type 0
+Reaches limit depth from p rows = (start : pattern.Front) → IsFront from.front start → (n : ℕ) → length from.cursor ≤ n → Reached limit depth n start from.cursor p rows
+
+-- before the first step
+pub reached_start : (limit depth : ℕ) (p : Parser) (rows : Rows) → rows.branches.items ≡ [] → rows.nodes.items ≡ [] → Reaches limit depth p p rows
+reached_start limit depth p rows no_branches no_nodes = λ start is n room.
+    record { g = start; branches = []; nodes = []; steps = n; is_at = record { front = is; branches_are = rw no_branches tt; nodes_are = rw no_nodes tt }; room = room; same = refl }
+
+module _ (limit depth n : ℕ) (start : pattern.Front) (text : pattern.Text) (p : Parser) (rows : Rows) where
+  -- behind an item
+  pub reached_item : (q : Parser) (after : Rows) (r : Reached limit depth n start text p rows) →
+      GoesOn limit depth r.steps q after (inner ranges_of limit (suc r.steps) depth r.g r.branches r.nodes p.cursor) → length q.cursor < length p.cursor →
+      Reached limit depth n start text q after
+  reached_item q after r on less = by_steps r.steps refl
+    where
+      by_steps : (m : ℕ) → r.steps ≡ m → Reached limit depth n start text q after
+      by_steps zero is = absurd (omega (arith, r.room, is))
+      by_steps (suc m) is = record {
+        g = on.g;
+        branches = on.branches;
+        nodes = on.nodes;
+        steps = m;
+        is_at = on.is_at;
+        room = omega (arith, r.room, is);
+        same = r.same ∙ on.same ∙ ap (λ k. inner ranges_of limit k depth on.g on.branches on.nodes q.cursor) is;
+      }
+
+  -- at the end of the choice
+  pub reached_end : (q : Parser) (after : Rows) (node : Node) (r : Reached limit depth n start text p rows) →
+      Ends limit q after r.g (inner ranges_of limit (suc r.steps) depth r.g r.branches r.nodes p.cursor) →
+      ((ts : List Tree) → AreNodes limit after.branches.items ts → StandsFor limit node (choice_of ts)) →
+      ReadsAs limit q node (inner ranges_of limit (suc n) depth start [] [] text)
+  reached_end q after node r ends stands = record {
+    found = record { branches = ends.branches; behind = r.g; rest = q.cursor };
+    same = r.same ∙ ends.same;
+    rest = refl;
+    front = ends.front;
+    node_is = stands ends.branches ends.branches_are;
+  }
+
+  -- a fault
+  pub reached_fault : (e : Error) (r : Reached limit depth n start text p rows) → Refuses e (inner ranges_of limit (suc r.steps) depth r.g r.branches r.nodes p.cursor) →
+      Refuses e (inner ranges_of limit (suc n) depth start [] [] text)
+  reached_fault e r fault = ⊎_elim (λ m. inl m) (λ f. inr (ap error_in r.same ∙ f)) fault
+
+fault_inside : (a : Result Found Stop) (f : Found → Result Found Stop) (e : Error) → error_in a ≡ Some e → error_in (and_found a f) ≡ Some e
+fault_inside (Ok x) f e fault = absurd (let wrong : error_in (Ok x) ≡ Some e = fault in cc)
+fault_inside (Err s) f e fault = fault
+
+-- what is read inside a group, by one step less
+inside_by : (limit depth m : ℕ) (q : Parser) (opens : OpenGroup) (g : pattern.Front) (bs ts : List Tree) (a : Result Found Stop) (enters : Enters limit depth m q opens g bs ts a) →
+    (P : Result Found Stop → Type 0) → length q.cursor < m → ((k : ℕ) → length q.cursor ≤ k → P (inner ranges_of limit (suc k) (suc depth) enters.inside [] [] q.cursor)) →
+    P (inner ranges_of limit m (suc depth) enters.inside [] [] q.cursor)
+inside_by limit depth zero q opens g bs ts a enters P less reads = absurd (omega arith)
+inside_by limit depth (suc k) q opens g bs ts a enters P less reads = reads k (omega arith)
+
+module _ (limit depth n : ℕ) (start : pattern.Front) (text : pattern.Text) (p : Parser) (rows : Rows) (q : Parser) (opens : OpenGroup)
+    (r : Reached limit depth n start text p rows)
+    (enters : Enters limit depth r.steps q opens r.g r.branches r.nodes (inner ranges_of limit (suc r.steps) depth r.g r.branches r.nodes p.cursor))
+    (less : length q.cursor < length p.cursor) where
+  -- a fault in a group
+  pub fault_in_group : (e : Error) → ((k : ℕ) → length q.cursor ≤ k → Refuses e (inner ranges_of limit (suc k) (suc depth) enters.inside [] [] q.cursor)) →
+      Refuses e (inner ranges_of limit (suc n) depth start [] [] text)
+  fault_in_group e reads =
+      let here = inside_by limit depth r.steps q opens r.g r.branches r.nodes _ enters (λ a. Refuses e a) (omega (arith, r.room)) reads in
+      ⊎_elim (λ m. inl m)
+      (λ f. inr (ap error_in (r.same ∙ enters.same)
+      ∙ fault_inside _ (behind_group ranges_of limit (inner ranges_of limit r.steps) depth r.g r.branches r.nodes enters.opening) e f)) here
+
+  -- behind a group
+  pub reached_group : (inside behind : Parser) (after : Rows) (node : Node) →
+      ((k : ℕ) → length q.cursor ≤ k → ReadsAs limit inside node (inner ranges_of limit (suc k) (suc depth) enters.inside [] [] q.cursor)) →
+      length inside.cursor ≤ length q.cursor → behind.cursor ≡ drop 1 inside.cursor → length behind.cursor ≤ length inside.cursor →
+      behind.front ≡ record (inside.front) { flags = opens.flags } →
+      AreNodes limit after.branches.items r.branches →
+      ((branches : List Tree) → StandsFor limit node (choice_of branches) → AreNodes limit after.nodes.items (r.nodes ++ group_of enters.opening r.g.groups branches ∷ [])) →
+      Reached limit depth n start text behind after
+  reached_group inside behind after node reads forward bumped shorter front branches_are nodes_are = by_steps r.steps refl
+    where
+      here : ReadsAs limit inside node (inner ranges_of limit r.steps (suc depth) enters.inside [] [] q.cursor)
+      here = inside_by limit depth r.steps q opens r.g r.branches r.nodes _ enters (λ a. ReadsAs limit inside node a) (omega (arith, r.room)) reads
+
+      front_is : IsFront behind.front (record (here.found.behind) { flags = r.g.flags })
+      front_is = rw front (record { flags = enters.outer; groups = here.front.groups; names = here.front.names })
+
+      goes : and_found (inner ranges_of limit r.steps (suc depth) enters.inside [] [] q.cursor) (behind_group ranges_of limit (inner ranges_of limit r.steps) depth r.g r.branches r.nodes enters.opening)
+          ≡ inner ranges_of limit r.steps depth (record (here.found.behind) { flags = r.g.flags }) r.branches (r.nodes ++ group_of enters.opening r.g.groups here.found.branches ∷ []) behind.cursor
+      goes = ap (λ a. and_found a (behind_group ranges_of limit (inner ranges_of limit r.steps) depth r.g r.branches r.nodes enters.opening)) here.same
+          ∙ ap (λ t. inner ranges_of limit r.steps depth (record (here.found.behind) { flags = r.g.flags }) r.branches (r.nodes ++ group_of enters.opening r.g.groups here.found.branches ∷ []) t)
+          (ap (drop 1) here.rest ∙ sym bumped)
+
+      by_steps : (m : ℕ) → r.steps ≡ m → Reached limit depth n start text behind after
+      by_steps zero is = absurd (omega (arith, r.room, is))
+      by_steps (suc m) is = record {
+        g = record (here.found.behind) { flags = r.g.flags };
+        branches = r.branches;
+        nodes = r.nodes ++ group_of enters.opening r.g.groups here.found.branches ∷ [];
+        steps = m;
+        is_at = record { front = front_is; branches_are = branches_are; nodes_are = nodes_are here.found.branches here.node_is };
+        room = omega (arith, r.room, is);
+        same = r.same ∙ enters.same ∙ goes
+        ∙ ap (λ k. inner ranges_of limit k depth (record (here.found.behind) { flags = r.g.flags }) r.branches (r.nodes ++ group_of enters.opening r.g.groups here.found.branches ∷ []) behind.cursor) is;
+      }
+
+-- the whole pattern
+pub read_is : (limit : ℕ) (text : pattern.Text) (flags : pattern.Flags) (found : Found) → inner ranges_of limit (suc (length text)) 0 (at_front flags) [] [] text ≡ Ok found →
+    read ranges_of limit text flags ≡ Ok (choice_of found.branches)
+read_is limit text flags found same = rw (same, read) refl

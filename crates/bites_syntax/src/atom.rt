@@ -1,0 +1,101 @@
+//! Items that are nodes of their own and no groups.
+
+ghost use Rattle.std.specs.Prelude.{◌≡◌, ◌≤◌, length, IfOk};
+ghost use Rattle.bites_spec.specs.Class as set;
+ghost use Rattle.bites_spec.specs.Class.{Lists};
+ghost use Rattle.bites_spec.specs.Escape as escape;
+ghost use Rattle.bites_spec.specs.Grammar.{caret_look, dollar_look, dot_set, literal_of};
+ghost use Rattle.bites_spec.specs.RangesOf.{ranges_of};
+ghost use Rattle.bites_spec.specs.Reading.{node_of};
+ghost use Rattle.bites_spec.specs.Tree as spec;
+ghost use Rattle.bites_syntax.specs.Atoms.{atom};
+ghost use Rattle.bites_syntax.specs.FlagsView.{flags_of};
+ghost use Rattle.bites_syntax.specs.Meanings.{IsMeaning};
+ghost use Rattle.bites_syntax.specs.Parts.{Agrees, WithSteps};
+ghost use Rattle.bites_syntax.specs.View.{look_of};
+
+use crate::bracket::bracket;
+use crate::class::Class;
+use crate::cursor::Cursor;
+use crate::escape::{Meaning, escape};
+use crate::flags::Flags;
+use crate::look::Look;
+use crate::tree::Tree;
+use bites_text::error::Error;
+use std::alloc::{AllocError, Global};
+
+/// The tree of a character, by the flags in force. It refuses only for memory.
+fn literal(alloc: Global, flags: Flags, c: char) -> Result<Tree, AllocError>
+    ensures { IfOk result (λ tree. tree ≡ literal_of (flags_of flags) c) }
+{
+    if flags.case_insensitive && c.is_ascii_alphabetic() {
+        return Ok(Tree::class(Class::two_cases(alloc, c)?));
+    }
+    Ok(Tree::char(c))
+}
+
+/// The tree of a dot. It refuses only for memory.
+fn any(alloc: Global, flags: Flags) -> Result<Tree, AllocError>
+    ensures { IfOk result (λ tree. tree ≡ spec.class (ranges_of (dot_set (flags_of flags)))) }
+{
+    let class = Class::dot(alloc, flags.dot_matches_new_line, flags.crlf)?;
+    Ok(Tree::class(class))
+}
+
+fn line_start(flags: Flags) -> Look
+    ensures { look_of result ≡ caret_look (flags_of flags) }
+{
+    match (flags.multi_line, flags.crlf) {
+        (true, true) => Look::StartCrlf,
+        (true, false) => Look::StartLf,
+        (false, _) => Look::Start,
+    }
+}
+
+fn line_end(flags: Flags) -> Look
+    ensures { look_of result ≡ dollar_look (flags_of flags) }
+{
+    match (flags.multi_line, flags.crlf) {
+        (true, true) => Look::EndCrlf,
+        (true, false) => Look::EndLf,
+        (false, _) => Look::End,
+    }
+}
+
+/// The tree of an escape. It refuses only for memory.
+fn escaped(alloc: Global, flags: Flags, meaning: Meaning) -> Result<Tree, AllocError>
+    ensures { (m : escape.Meaning) → IsMeaning meaning m → IfOk result (λ tree. tree ≡ node_of ranges_of 0 (flags_of flags) m) }
+{
+    match meaning {
+        Meaning::Character(c) => literal(alloc, flags, c),
+        Meaning::Characters(class) => Ok(Tree::class(class)),
+        Meaning::Assertion(look) => Ok(Tree::look(look)),
+    }
+}
+
+/// Reads the node that begins with a character, from behind that character.
+pub(crate) fn atom(
+    alloc: Global,
+    cursor: &mut Cursor<'_>,
+    flags: Flags,
+    c: char,
+) -> Result<Tree, Error>
+    ensures reads { WithSteps cursor.old (λ n. Agrees (λ tree t. tree ≡ t) result cursor.new (atom n (flags_of flags) c cursor.old)) }
+    ensures forward { length cursor.new ≤ length cursor.old }
+{
+    match c {
+        '[' => {
+            cursor.skip(flags);
+            let class = bracket(alloc, cursor, flags)?;
+            Ok(Tree::class(class))
+        }
+        '\\' => {
+            let meaning = escape(alloc, cursor, flags)?;
+            Ok(escaped(alloc, flags, meaning)?)
+        }
+        '.' => Ok(any(alloc, flags)?),
+        '^' => Ok(Tree::look(line_start(flags))),
+        '$' => Ok(Tree::look(line_end(flags))),
+        _ => Ok(literal(alloc, flags, c)?),
+    }
+}

@@ -1,0 +1,324 @@
+//! Reading a pattern.
+
+ghost use Rattle.std.specs.Prelude.{◌≡◌, ◌≢◌, ◌++◌, ◌≤◌, ◌<◌, ◌⊎◌, ◌∷◌, [], ℕ, suc, List, length, chars, IfOk, MatchResult, Ok};
+ghost use Rattle.bites_spec.specs.Message as message;
+ghost use Rattle.bites_spec.specs.Pattern as pattern;
+ghost use Rattle.bites_spec.specs.Pattern.{Text, right_parenthesis, skip};
+ghost use Rattle.bites_spec.specs.RangesOf.{ranges_of};
+ghost use Rattle.bites_spec.specs.Reading.{and_then, at_item, at_opened, at_operator, counted, inner, lazy, opened, plain_operator, read, repeat_last};
+ghost use Rattle.bites_spec.specs.Grammar.{group_of};
+ghost use Rattle.bites_spec.specs.Group.{Opening};
+ghost use Rattle.bites_spec.specs.Tree as spec;
+ghost use Rattle.bites_spec.specs.Tree.{choice_of, sequence_of};
+ghost use Rattle.bites_syntax.specs.Atoms.{atom};
+ghost use Rattle.bites_syntax.specs.Nodes.{AreNodes, IsNumbered, StandsFor};
+ghost use Rattle.bites_syntax.specs.Progress.{HasRoom, IsAt, IsChoice, IsForward, Steps};
+ghost use Rattle.bites_syntax.specs.Operators.{bounds_of};
+ghost use Rattle.bites_syntax.specs.Parts.{Refuses, WithSteps};
+ghost use Rattle.bites_syntax.specs.Openings.{IsFront};
+ghost use Rattle.bites_syntax.specs.FlagsView.{flags_of};
+ghost use Rattle.bites_spec.specs.Measure.{height, IsTooTall};
+
+pub use crate::flags::Flags;
+use crate::atom::atom;
+use crate::cursor::Cursor;
+use crate::group::{Front, Opened, open_group};
+use crate::names::Names;
+use crate::node::{Node, Numbered, choice_of, group_of, repetition_of, sequence_of};
+use crate::operator::{Bounds, counted, plain_operator};
+use crate::tree::Tree;
+use bites_text::error::Error;
+use std::alloc::{AllocError, Global};
+use std::mem;
+
+/// What is read of a choice: its whole branches, and the nodes of the sequence behind them.
+#[derive(Drop)]
+struct Rows {
+    branches: Vec<Node>,
+    nodes: Vec<Node>,
+}
+
+/// A group that is open.
+#[derive(Drop)]
+struct OpenGroup {
+    /// The flags in force before it.
+    flags: Flags,
+    /// None for a group without a number.
+    numbered: Option<Numbered>,
+}
+
+/// What was read in one step.
+#[derive(Drop)]
+enum Step {
+    /// A whole item, or a bar.
+    Item,
+    /// What opens a group.
+    Group(OpenGroup),
+    /// Nothing: the choice ends here.
+    End,
+}
+
+/// A pattern that is read.
+#[derive(Drop)]
+struct Parser<'a> {
+    cursor: Cursor<'a>,
+    front: Front,
+}
+
+impl Rows {
+    fn new(alloc: Global) -> Rows
+        ensures branches { result.branches.items ≡ [] }
+        ensures nodes { result.nodes.items ≡ [] }
+    {
+        Rows {
+            branches: Vec::new(alloc),
+            nodes: Vec::new(alloc),
+        }
+    }
+
+    /// Makes the nodes a branch.
+    fn end_branch(&mut self, alloc: Global, limit: u32) -> Result<(), AllocError>
+        ensures { (bs ts : List spec.Tree) → AreNodes limit self.old.branches.items bs → AreNodes limit self.old.nodes.items ts → IfOk result (λ _. AreNodes limit self.new.branches.items (bs ++ sequence_of ts ∷ []) × (self.new.nodes.items ≡ [])) }
+    {
+        let nodes = mem::replace(&mut self.nodes, Vec::new(alloc));
+        let branch = sequence_of(alloc, nodes, limit)?;
+        self.branches.push(branch)?;
+        Ok(())
+    }
+
+    /// Repeats the last node.
+    fn repeat(&mut self, alloc: Global, limit: u32, bounds: Bounds) -> Result<(), AllocError>
+        ensures branches { self.new.branches.items ≡ self.old.branches.items }
+        ensures nodes { (t : spec.Tree) → (ts : List spec.Tree) → AreNodes limit self.old.nodes.items (t ∷ ts) → IfOk result (λ _. AreNodes limit self.new.nodes.items (repeat_last (bounds_of bounds) t ts)) }
+    {
+        if let Some(node) = self.nodes.pop() {
+            let node = repetition_of(alloc, bounds, node, limit)?;
+            self.nodes.push(node)?;
+        }
+        Ok(())
+    }
+}
+
+/// The node of a group whose choice is read.
+fn close_group(
+    alloc: Global,
+    rows: &mut Rows,
+    group: OpenGroup,
+    choice: Node,
+    limit: u32,
+) -> Result<Flags, AllocError>
+    ensures branches { rows.new.branches.items ≡ rows.old.branches.items }
+    ensures flags { IfOk result (λ flags. flags ≡ group.flags) }
+    ensures nodes { (opening : Opening) → (before : ℕ) → (branches nodes : List spec.Tree) → IsNumbered group.numbered opening before → StandsFor limit choice (choice_of branches) → AreNodes limit rows.old.nodes.items nodes → IfOk result (λ _. AreNodes limit rows.new.nodes.items (nodes ++ group_of opening before branches ∷ [])) }
+{
+    let node = group_of(alloc, group.numbered, choice, limit)?;
+    rows.nodes.push(node)?;
+    Ok(group.flags)
+}
+
+
+/// Opens a group, unless too many are open.
+fn enter(depth: u32, limit: u32, group: OpenGroup) -> Result<Step, Error>
+    ensures { MatchResult result (λ step. (step ≡ Step.Group group) × (depth < limit)) (λ e. (e ≡ Error.TooMuchNesting) × (limit ≤ depth)) }
+{
+    if depth < limit {
+        Ok(Step::Group(group))
+    } else {
+        Err(Error::TooMuchNesting)
+    }
+}
+
+impl Parser<'_> {
+    /// Reads what stands behind `?`, `*` or `+`, with these bounds, and repeats the last node.
+    fn repeat(
+        &mut self,
+        alloc: Global,
+        limit: u32,
+        rows: &mut Rows,
+        min: u32,
+        max: Option<u32>,
+    ) -> Result<Step, Error>
+        ensures steps { (g : pattern.Front) → (bs ts : List spec.Tree) → IsAt limit self.old rows.old g bs ts → (depth n : ℕ) → (at : Text) → Steps limit depth n g bs ts result self.new rows.new (at_operator ranges_of limit (inner ranges_of limit n) depth g bs ts message.nothing_to_repeat at (plain_operator g.flags min max (lazy self.old.cursor))) }
+        ensures room { (depth : ℕ) → HasRoom limit depth result }
+        ensures forward { length self.new.cursor ≤ length self.old.cursor }
+    {
+        if rows.nodes.is_empty() {
+            return Err(Error::NothingToRepeat);
+        }
+        let bounds = plain_operator(&mut self.cursor, self.front.flags, min, max);
+        rows.repeat(alloc, limit, bounds)?;
+        Ok(Step::Item)
+    }
+
+    /// Reads an operator in braces from behind its brace, and repeats the last node.
+    fn repeat_counted(&mut self, alloc: Global, limit: u32, rows: &mut Rows) -> Result<Step, Error>
+        ensures steps { (g : pattern.Front) → (bs ts : List spec.Tree) → IsAt limit self.old rows.old g bs ts → (depth : ℕ) → (at : Text) → WithSteps self.old.cursor (λ n. Steps limit depth n g bs ts result self.new rows.new (at_operator ranges_of limit (inner ranges_of limit n) depth g bs ts message.nothing_to_count at (counted n g.flags (skip g.flags self.old.cursor)))) }
+        ensures room { (depth : ℕ) → HasRoom limit depth result }
+        ensures forward { length self.new.cursor ≤ length self.old.cursor }
+    {
+        if rows.nodes.is_empty() {
+            return Err(Error::NothingToCount);
+        }
+        self.cursor.skip(self.front.flags);
+        let bounds = counted(&mut self.cursor, self.front.flags)?;
+        rows.repeat(alloc, limit, bounds)?;
+        Ok(Step::Item)
+    }
+
+    /// Reads what opens a group or is a directive, from behind its parenthesis.
+    fn open(&mut self, alloc: Global, limit: u32, depth: u32) -> Result<Step, Error>
+        ensures steps { (rows : Rows) → (g : pattern.Front) → (bs ts : List spec.Tree) → IsAt limit self.old rows g bs ts → (n : ℕ) → Steps limit depth n g bs ts result self.new rows (and_then (opened g (skip g.flags self.old.cursor)) (at_opened ranges_of limit (inner ranges_of limit n) depth g bs ts)) }
+        ensures room { HasRoom limit depth result }
+        ensures forward { length self.new.cursor ≤ length self.old.cursor }
+    {
+        let flags = self.front.flags;
+        self.cursor.skip(flags);
+        match open_group(alloc, &mut self.cursor, &mut self.front)? {
+            Opened::Directive => Ok(Step::Item),
+            Opened::Unnumbered => enter(
+                depth,
+                limit,
+                OpenGroup {
+                    flags,
+                    numbered: None,
+                },
+            ),
+            Opened::Numbered(name) => {
+                let numbered = Numbered {
+                    index: self.front.groups,
+                    name,
+                };
+                enter(
+                    depth,
+                    limit,
+                    OpenGroup {
+                        flags,
+                        numbered: Some(numbered),
+                    },
+                )
+            }
+        }
+    }
+
+    /// Reads an item or a bar from behind its first character.
+    fn item(
+        &mut self,
+        alloc: Global,
+        limit: u32,
+        depth: u32,
+        rows: &mut Rows,
+        c: char,
+    ) -> Result<Step, Error>
+        requires { c ≢ right_parenthesis }
+        ensures steps { (g : pattern.Front) → (bs ts : List spec.Tree) → IsAt limit self.old rows.old g bs ts → WithSteps self.old.cursor (λ n. Steps limit depth n g bs ts result self.new rows.new (at_item ranges_of limit (inner ranges_of limit n) n depth g bs ts (c ∷ self.old.cursor))) }
+        ensures room { HasRoom limit depth result }
+        ensures forward { length self.new.cursor ≤ length self.old.cursor }
+    {
+        match c {
+            '|' => {
+                rows.end_branch(alloc, limit)?;
+                Ok(Step::Item)
+            }
+            '(' => self.open(alloc, limit, depth),
+            '?' => self.repeat(alloc, limit, rows, 0, Some(1)),
+            '*' => self.repeat(alloc, limit, rows, 0, None),
+            '+' => self.repeat(alloc, limit, rows, 1, None),
+            '{' => self.repeat_counted(alloc, limit, rows),
+            _ => self.push_atom(alloc, rows, c),
+        }
+    }
+
+    /// Reads an item that is a node, from behind its first character.
+    fn push_atom(&mut self, alloc: Global, rows: &mut Rows, c: char) -> Result<Step, Error>
+        ensures steps { (limit : ℕ) → (g : pattern.Front) → (bs ts : List spec.Tree) → IsAt limit self.old rows.old g bs ts → (depth : ℕ) → WithSteps self.old.cursor (λ n. Steps limit depth n g bs ts result self.new rows.new (and_then (atom n g.flags c self.old.cursor) (λ node rest. inner ranges_of limit n depth g bs (ts ++ node ∷ []) rest))) }
+        ensures room { (limit depth : ℕ) → HasRoom limit depth result }
+        ensures forward { length self.new.cursor ≤ length self.old.cursor }
+    {
+        let tree = atom(alloc, &mut self.cursor, self.front.flags, c)?;
+        rows.nodes.push(Node::leaf(tree))?;
+        Ok(Step::Item)
+    }
+}
+
+impl Parser<'_> {
+    /// Reads a step of a choice: a gap, and an item, a bar, what opens a group, or nothing where
+    /// the choice ends.
+    fn step(
+        &mut self,
+        alloc: Global,
+        limit: u32,
+        depth: u32,
+        rows: &mut Rows,
+    ) -> Result<Step, Error>
+        ensures steps { (g : pattern.Front) → (bs ts : List spec.Tree) → IsAt limit self.old rows.old g bs ts → WithSteps self.old.cursor (λ n. Steps limit depth n g bs ts result self.new rows.new (inner ranges_of limit (suc n) depth g bs ts self.old.cursor)) }
+        ensures forward { IsForward limit depth result self.old.cursor self.new.cursor }
+    {
+        self.cursor.skip(self.front.flags);
+        let Some(c) = self.cursor.peek() else {
+            if depth > 0 {
+                return Err(Error::UnclosedGroup);
+            }
+            rows.end_branch(alloc, limit)?;
+            return Ok(Step::End);
+        };
+        if c == ')' {
+            if depth == 0 {
+                return Err(Error::UnopenedGroup);
+            }
+            rows.end_branch(alloc, limit)?;
+            return Ok(Step::End);
+        }
+        self.cursor.bump();
+        self.item(alloc, limit, depth, rows, c)
+    }
+}
+
+impl Parser<'_> {
+    /// Reads a choice, up to what closes the group that it stands in, or to the end. It calls
+    /// itself once for each open group, at most `limit` deep.
+    fn choice(&mut self, alloc: Global, limit: u32, depth: u32) -> Result<Node, Error>
+        ensures reads { (g : pattern.Front) → IsFront self.old.front g → WithSteps self.old.cursor (λ n. IsChoice limit result self.new (inner ranges_of limit (suc n) depth g [] [] self.old.cursor)) }
+        ensures forward { length self.new.cursor ≤ length self.old.cursor }
+    {
+        let mut rows = Rows::new(alloc);
+        loop {
+            match self.step(alloc, limit, depth, &mut rows)? {
+                Step::Item => {}
+                Step::Group(group) => {
+                    let choice = self.choice(alloc, limit, depth + 1)?;
+                    self.front.flags = close_group(alloc, &mut rows, group, choice, limit)?;
+                    self.cursor.bump();
+                }
+                Step::End => return Ok(choice_of(alloc, rows.branches, limit)?),
+            }
+        }
+    }
+}
+
+/// The tree of a pattern under these flags, with at most `nest_limit` groups open at once and a
+/// tree no taller than that.
+///
+/// An error is that of the first fault of the pattern, or `TooMuchNesting` where the whole pattern
+/// is read and its tree is too tall, or `Memory` where memory runs out.
+pub fn parse(
+    alloc: Global,
+    pattern: &str,
+    flags: Flags,
+    nest_limit: u32,
+) -> Result<Tree, Error>
+    ensures { MatchResult result
+        (λ t. (read ranges_of nest_limit (chars pattern.now) (flags_of flags) ≡ Ok t) × (height t ≤ nest_limit) × (height t < 4294967295))
+        (λ e. Refuses e (read ranges_of nest_limit (chars pattern.now) (flags_of flags)) ⊎ ((e ≡ Error.TooMuchNesting) × IfOk (read ranges_of nest_limit (chars pattern.now) (flags_of flags)) (IsTooTall nest_limit))) }
+{
+    let front = Front {
+        flags,
+        groups: 0,
+        names: Names::new(alloc),
+    };
+    let cursor = Cursor::new(pattern);
+    let mut parser = Parser { cursor, front };
+    match parser.choice(alloc, nest_limit, 0)? {
+        Node::Kept { tree, .. } => Ok(tree),
+        Node::TooTall => Err(Error::TooMuchNesting),
+    }
+}
