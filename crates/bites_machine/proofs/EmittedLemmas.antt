@@ -11,7 +11,7 @@ use Rattle.bites_syntax.specs.declared.tree.Kind.{Kind}
 use Rattle.bites_machine.specs.Emitted.{Emitted, emitted, Emitter, pushed, in_front, again, choice, options, bounded, around, loop, star, optional_loop, counted, repeated, grouped, writing, Branches, branches, with_branch, split, emit, emit_all, emit_each}
 use Rattle.bites_machine.proofs.EmitLemmas.{length_pushed}
 use Rattle.bites_machine.proofs.LengthLemmas.{Grows-emit, Grows-again, Grows-options, Grows-bounded, Grows-loop, Grows-emit_all, Grows-emit_each, sum_times, unbounded_size, exact_size, ranged_size, optional_size}
-use Rattle.bites_machine.proofs.Parts.{parts_from, parts_end}
+use Rattle.bites_syntax.proofs.TreeParts.{parts_from, parts_end}
 use Rattle.bites_machine.proofs.FaultLemmas.{greatest-append}
 
 -- branches behind others

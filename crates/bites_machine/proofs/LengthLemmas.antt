@@ -14,7 +14,7 @@ use Rattle.bites_machine.proofs.EmitLemmas.{length_pushed}
 pub record Grows (ss : List State) (e : List State) (n : ℕ) : Type 0 where
   pub len : length e ≡ length ss + n
 
-product : (n s : ℕ) → suc n * s ≡ n * s + s
+pub product : (n s : ℕ) → suc n * s ≡ n * s + s
 product n s = grind arith
 
 take_first : (c : Bool) (x y : Size) → c ≡ true → cond c x y ≡ x

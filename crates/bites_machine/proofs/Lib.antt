@@ -10,6 +10,7 @@ pub mod LengthLemmas
 pub mod SearchLemmas
 pub mod SearchedRanges
 pub mod FaultLemmas
-pub mod Parts
 pub mod SizeLemmas
 pub mod EmittedLemmas
+pub mod GroupLemmas
+pub mod BadLemmas

@@ -1,9 +1,12 @@
 -- Sizes whose numbers are held.
-use Rattle.std.proofs.Common.{◌≡◌, ℕ, ◌+◌, List, length, sym, ap, ap₂, ◌∙◌, arith}
+use Rattle.std.proofs.Common.{◌≡◌, ℕ, suc, ◌+◌, List, [], ◌∷◌, length, refl, sym, ap, ap₂, ◌∙◌, arith}
 use Rattle.bites_spec.specs.Tree.{Tree, sequence, alternation, trees_of, count}
 use Rattle.bites_spec.specs.Measure.{Size, size, size_of}
 use Rattle.bites_machine.specs.Sizes.{held, held_size, both_sizes}
-use Rattle.bites_machine.proofs.Parts.{count-trees_of}
+
+count-trees_of : (ts : List Tree) → count (trees_of ts) ≡ length ts
+count-trees_of [] = refl
+count-trees_of (t ∷ ts) = ap suc (count-trees_of ts)
 
 same_sizes : (a b c x y z : ℕ) → a ≡ x → b ≡ y → c ≡ z → size a b c ≡ size x y z
 same_sizes a b c x y z e f g = ap (λ k. size k b c) e ∙ ap (λ k. size x k c) f ∙ ap (λ k. size x y k) g

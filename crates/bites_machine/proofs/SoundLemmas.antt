@@ -1,5 +1,8 @@
 -- Programs that have no fault.
-use Rattle.std.proofs.Common.{◌≡◌, Option, Some, None, IsTrue, is_none, refl}
+use Rattle.std.proofs.Common.{◌≡◌, Option, Some, None, IsTrue, is_none, refl, sym, subst, Result, Ok, Err, IfOk, IfSome}
+use Rattle.std.specs.Option.{ok_or}
+use Rattle.bites_text.specs.declared.error.Error.{Error}
+use Rattle.bites_machine.specs.Contents.{Contents}
 use Rattle.bites_spec.specs.Program.{Program, IsWellFormed}
 use Rattle.bites_spec.specs.Faults.{Fault, first_fault}
 use Rattle.bites_spec.proofs.FaultLemmas.{first_fault-IsWellFormed}
@@ -11,3 +14,9 @@ none_is (Some f) h = cc
 -- a program without a fault is well-formed
 pub sound_program : (p : Program) → IsTrue (is_none (first_fault p)) → IsWellFormed p
 sound_program p h = first_fault-IsWellFormed p (none_is (first_fault p) h)
+
+-- what holds of the contents that a program has holds of the program that is answered
+pub ok_or_program : (o : Option Contents) (r : Result Contents Error) (e : Error) (x : Contents) → r ≡ ok_or o e → IfSome o (λ p. p ≡ x) →
+    (P : Contents → Type 0) → P x → IfOk r P
+ok_or_program None r e x is made P h = subst (λ s. IfOk s P) (sym is) tt
+ok_or_program (Some p) r e x is made P h = subst (λ s. IfOk s P) (sym is) (subst P (sym made) h)

@@ -4,6 +4,8 @@ pub mod Fields
 pub mod Members
 pub mod Ends
 pub mod Emitted
-pub mod Compiled
 pub mod Classes
 pub mod Sizes
+pub mod Names
+pub mod Compiled
+pub mod Bad

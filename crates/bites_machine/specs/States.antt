@@ -1,5 +1,5 @@
 -- The states of a program.
-use Rattle.std.specs.Prelude.{List, map, option_map}
+use Rattle.std.specs.Prelude.{ℕ, List, map, option_map}
 use Rattle.bites_spec.specs.Program as program
 use Rattle.bites_syntax.specs.View.{look_of}
 use Rattle.bites_machine.specs.declared.state.State.{State}
@@ -18,3 +18,7 @@ state_of Match = program.match
 -- what states stand for
 abbrev pub states_of : List State → List program.State
 states_of states = map state_of states
+
+-- a program of these states
+abbrev pub program_of : List State → ℕ → ℕ → program.Program
+program_of states start slots = record { states = states_of states; start = start; slots = slots }

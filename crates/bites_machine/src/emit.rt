@@ -7,8 +7,8 @@ ghost use Rattle.bites_spec.specs.Measure.{size_of, repeated_size};
 ghost use Rattle.bites_machine.specs.States.{state_of};
 ghost use Rattle.bites_machine.specs.Emitted.{emitted, pushed, class_state, choice, chosen, again, bounded, loop, star, optional_loop, repeated, grouped, split, emit, emit_all, emit_each};
 
-use crate::size::is_empty_by_form;
 use crate::state::State;
+use bites_syntax::measure::is_empty_by_form;
 use bites_syntax::tree::{Class, Kind, Tree};
 use std::alloc::{AllocError, Global};
 use std::marker::Model;
@@ -53,7 +53,7 @@ impl States {
     }
 
     /// Writes one more state, and answers its number.
-    fn push(&mut self, state: State) -> Result<u32, AllocError>
+    pub fn push(&mut self, state: State) -> Result<u32, AllocError>
         requires { length self.old < 4294967295 }
         ensures { IfOk result (λ number. emitted self.new number ≡ pushed self.old (state_of state)) }
     {

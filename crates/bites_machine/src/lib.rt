@@ -2,7 +2,10 @@
 #![tactic(auto)]
 
 pub mod assertion;
+mod compiler;
 mod emit;
+mod fault;
+mod groups;
 pub mod program;
 mod set;
 mod size;

@@ -1,9 +1,17 @@
-ghost use Rattle.std.specs.Prelude.{◌≡◌, ◌≢◌, ◌<◌, ℕ, length, None, Some, IfSome, IfNone, slice_index_or};
-ghost use Rattle.std.specs.Option.{option_copied};
+ghost use Rattle.std.specs.Prelude.{◌≡◌, ◌≢◌, ◌<◌, ◌≤◌, ◌^◌, ℕ, length, None, Some, IfSome, IfNone, IfOk, IfErr, OnOk, slice_index_or, sum_by};
+ghost use Rattle.std.specs.Option.{option_copied, SomeIff};
 ghost use Rattle.bites_spec.specs.Program.{state_at, targets, IsWellFormed};
-ghost use Rattle.bites_machine.specs.States.{state_of};
+ghost use Rattle.bites_spec.specs.Program.{targets_of};
+ghost use Rattle.bites_spec.specs.Faults.{first_fault};
+ghost use Rattle.bites_machine.specs.States.{state_of, states_of, program_of};
+ghost use Rattle.bites_machine.specs.Contents.{contents_by, contents_of_states};
+ghost use Rattle.bites_machine.specs.Bad.{IsBad};
 
+pub use crate::compiler::compile;
+pub use crate::fault::BadProgram;
+use crate::fault::first_fault_of;
 use crate::state::State;
+use std::alloc::Global;
 use std::marker::Model;
 
 /// A well-formed program, with the pattern that it was compiled from and the names of its groups.
@@ -11,7 +19,7 @@ use std::marker::Model;
 pub struct Program {
     states: Vec<State>,
     start: u32,
-    slots: u32,
+    slots: usize,
     targets: usize,
     pattern: String,
     names: Vec<Option<String>>,
@@ -31,6 +39,58 @@ impl Model for Program {
 }
 
 impl Program {
+    /// A program of these states, of the empty pattern and without names.
+    ///
+    /// It answers the first fault of the number of states, of the number of slots, of the start, and then
+    /// of each state in order. `Memory` comes last, only where a `usize` cannot hold the number of edges:
+    /// the call takes no memory.
+    pub fn from_states(alloc: Global, states: Vec<State>, start: u32, slots: u32) -> Result<Program, BadProgram>
+        ensures made { IfOk result (λ p. p ≡ contents_of_states (program_of states.items start slots)) }
+        ensures no_fault { OnOk result (first_fault (program_of states.items start slots) ≡ None) }
+        ensures refused { IfErr result (IsBad (program_of states.items start slots)) }
+    {
+        if states.len() > 4294967295 {
+            return Err(BadProgram::TooMany);
+        }
+        if slots < 2 || slots % 2 != 0 {
+            return Err(BadProgram::BadSlot);
+        }
+        if start as usize >= states.len() {
+            return Err(BadProgram::BadStart);
+        }
+        if let Some(fault) = first_fault_of(&states, slots) {
+            return Err(fault);
+        }
+        let pattern = String::new(alloc);
+        let names = Vec::new(alloc);
+        Program::new(states, start, slots as usize, pattern, names, None).ok_or(BadProgram::Memory)
+    }
+
+    /// A program of states that have no fault. None if a `usize` cannot hold the number of edges.
+    pub(crate) fn new(
+        states: Vec<State>,
+        start: u32,
+        slots: usize,
+        pattern: String,
+        names: Vec<Option<String>>,
+        static_captures_len: Option<usize>,
+    ) -> Option<Program>
+        requires { first_fault (program_of states.items start slots) ≡ None }
+        ensures made { IfSome result (λ p. p ≡ contents_by states.items start slots pattern names.items static_captures_len) }
+        ensures none { IfNone result (2 ^ 64 ≤ targets (program_of states.items start slots)) }
+    {
+        let targets = edges(&states)?;
+        Some(Program {
+            states,
+            start,
+            slots,
+            targets,
+            pattern,
+            names,
+            static_captures_len,
+        })
+    }
+
     /// The state with this number.
     pub fn state(&self, number: u32) -> &State
         requires { number < length self.now.program.states }
@@ -60,7 +120,7 @@ impl Program {
     pub fn slots(&self) -> usize
         ensures { result ≡ self.now.program.slots }
     {
-        self.slots as usize
+        self.slots
     }
 
     /// The number of edges.
@@ -75,6 +135,13 @@ impl Program {
         ensures { result.now ≡ self.now.pattern }
     {
         &self.pattern
+    }
+
+    /// The number of groups of the pattern, group 0 counted; 0 if the program was made of states.
+    pub fn groups(&self) -> usize
+        ensures { result ≡ length self.now.names }
+    {
+        self.names.len()
     }
 
     /// The name of the group with this number, if there is such a group and it has one.
@@ -109,4 +176,15 @@ impl Program {
     {
         self.static_captures_len
     }
+}
+
+/// The number of edges of the states, if a `usize` can hold it.
+fn edges(states: &[State]) -> Option<usize>
+    ensures { SomeIff result (sum_by (λ s. length (targets_of s)) (states_of states.now) < 2 ^ 64) (sum_by (λ s. length (targets_of s)) (states_of states.now)) }
+{
+    let mut count = 0usize;
+    for state in states {
+        count = count.checked_add(state.edges())?;
+    }
+    Some(count)
 }

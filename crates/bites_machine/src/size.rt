@@ -1,53 +1,14 @@
 //! Measures of a tree, taken before any state is made.
 
-ghost use Rattle.std.specs.Prelude.{◌≡◌, ◌≤◌, IfSome, sum_by};
-ghost use Rattle.bites_spec.specs.Tree.{is_empty_by_form, all_are_empty, some_is_empty, trees_of, sequence, groups_in, groups_in_all, greatest, names_in, names_in_all, IsReduced, AllAreReduced};
+ghost use Rattle.std.specs.Prelude.{◌≡◌, ◌≤◌, IfSome};
+ghost use Rattle.bites_spec.specs.Tree.{is_empty_by_form, trees_of, sequence, IsReduced, AllAreReduced};
 ghost use Rattle.bites_spec.specs.Measure as measure;
-ghost use Rattle.bites_spec.specs.Measure.{name_weight};
 ghost use Rattle.bites_machine.specs.Classes.{HasClasses, AllHaveClasses};
-ghost use Rattle.bites_machine.specs.Sizes.{held, held_size, both_sizes};
+ghost use Rattle.bites_machine.specs.Sizes.{held_size, both_sizes};
 
+use bites_syntax::measure::is_empty_by_form;
 use bites_syntax::tree::{Kind, Tree};
 use std::marker::Model;
-
-/// Whether the tree matches the empty text by its form alone.
-#[cycle(empty)]
-pub fn is_empty_by_form(tree: &Tree) -> bool
-    ensures { result ≡ is_empty_by_form tree.now }
-{
-    match tree.kind() {
-        Kind::Empty | Kind::Look(_) => true,
-        Kind::Char(_) | Kind::Class(_) => false,
-        Kind::Repetition { min, sub, .. } => *min == 0 || is_empty_by_form(sub),
-        Kind::Capture { sub, .. } => is_empty_by_form(sub),
-        Kind::Concat(parts) => all_are_empty(parts),
-        Kind::Alternation(parts) => some_is_empty(parts),
-    }
-}
-
-#[cycle(empty)]
-fn all_are_empty(parts: &[Tree]) -> bool
-    ensures { result ≡ all_are_empty (trees_of parts.now) }
-{
-    for part in parts {
-        if !is_empty_by_form(part) {
-            return false;
-        }
-    }
-    true
-}
-
-#[cycle(empty)]
-fn some_is_empty(parts: &[Tree]) -> bool
-    ensures { result ≡ some_is_empty (trees_of parts.now) }
-{
-    for part in parts {
-        if is_empty_by_form(part) {
-            return true;
-        }
-    }
-    false
-}
 
 /// What the states of a tree take. A number that is too large for a `usize` is held as the greatest.
 #[derive(Clone, Copy)]

@@ -1,3 +1,6 @@
+ghost use Rattle.std.specs.Prelude.{◌≡◌, length};
+ghost use Rattle.bites_spec.specs.Program.{targets_of};
+
 use bites_syntax::look::Look;
 
 /// A state of a program: what it asks of the haystack, and the numbers of the states that it leads to.
@@ -32,4 +35,19 @@ pub enum State {
     Fail,
     /// The match is found.
     Match,
+}
+
+impl State {
+    ghost use Rattle.bites_machine.specs.States.{state_of};
+
+    /// The number of edges.
+    pub fn edges(&self) -> usize
+        ensures { result ≡ length (targets_of (state_of self.now)) }
+    {
+        match self {
+            State::Char { .. } | State::Ranges { .. } | State::Goto { .. } | State::Capture { .. } => 1,
+            State::Splits { targets, .. } => targets.len(),
+            State::Fail | State::Match => 0,
+        }
+    }
 }

@@ -173,3 +173,6 @@ fn is_in_ranges(ranges: &[(char, char)], c: char) -> bool
     }
     false
 }
+
+#[cfg(test)]
+mod tests;

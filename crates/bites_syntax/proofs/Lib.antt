@@ -4,6 +4,11 @@ pub mod Gaps
 pub mod CaseLemmas
 pub mod CursorLemmas
 pub mod NumberLemmas
+pub mod BracketParts
+pub mod EscapeParts
+pub mod MemberParts
+pub mod NamedParts
+pub mod HexadecimalLemmas
 pub mod PartLemmas
 pub mod FlagLemmas
 pub mod NameLemmas
@@ -11,3 +16,4 @@ pub mod GroupLemmas
 pub mod TreeParts
 pub mod EscapedText
 pub mod GroupCounts
+pub mod NodeLemmas

@@ -1,6 +1,9 @@
 pub mod FlagsView
-pub mod Groups
+pub mod Hexadecimal
 pub mod Meanings
+pub mod Members
+pub mod Groups
+pub mod Nodes
 pub mod Numbers
 pub mod Operators
 pub mod Openings

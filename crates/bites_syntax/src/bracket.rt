@@ -1,21 +1,334 @@
 //! Classes in brackets.
 
-ghost use Rattle.std.specs.Prelude.{◌≤◌, length};
-ghost use Rattle.bites_spec.specs.Class.{Lists};
-ghost use Rattle.bites_spec.specs.Reading.{bracket};
+ghost use Rattle.std.specs.Prelude.{◌≡◌, ℕ, suc, [], ◌≤◌, ◌<◌, Bool, true, false, length, codes, drop, ◌++◌, ◌∷◌, IfOk, OnOk, map, MatchOption, MatchResult, None, Some};
+ghost use Rattle.bites_spec.specs.Class.{Lists, Set, name_of, named_classes, single};
+ghost use Rattle.bites_spec.specs.Bracket.{is_set_operator, with_cases, with_negation};
+ghost use Rattle.bites_spec.specs.Escape as spec;
+ghost use Rattle.bites_spec.specs.Pattern.{Text, begins, next_is, one_of, skip};
+ghost use Rattle.bites_spec.specs.Reading.{after_dash, after_first, alone, bracket, class_end, class_members, member, named, range};
 ghost use Rattle.bites_syntax.specs.FlagsView.{flags_of};
+ghost use Rattle.bites_syntax.specs.Meanings.{IsMeaning};
+ghost use Rattle.bites_syntax.specs.Members.{Adds, AnswersCaret, AnswersLeading, Completes, Has, IsOperatorError, leading_set, members_named, named_at};
 ghost use Rattle.bites_syntax.specs.Parts.{Agrees, WithSteps};
+ghost use Rattle.bites_syntax.specs.View.{named_of};
 
+use crate::builder::ClassBuilder;
 use crate::class::Class;
-use crate::cursor::Cursor;
+use crate::cursor::{Characters, Cursor};
+use crate::escape::{Meaning, escape, named_class, other_characters};
 use crate::flags::Flags;
+use crate::named::NamedClass;
 use bites_text::error::Error;
-use std::alloc::Global;
+use std::alloc::{AllocError, Global};
+
+/// The place behind this opening, a name and `:]`, if they stand here.
+fn behind_name<'a>(cursor: &Cursor<'a>, opening: &str, name: NamedClass) -> Option<Cursor<'a>>
+    ensures { let text = opening.now ++ name_of (named_of name) ++ codes ":]" in
+        MatchOption result (begins text cursor.now ≡ false) (λ rest. (begins text cursor.now ≡ true) × (rest ≡ drop (length text) cursor.now)) }
+{
+    let mut ahead = cursor.ahead();
+    if !ahead.bump_over(opening) {
+        return None;
+    }
+    if !ahead.bump_over(name.name()) {
+        return None;
+    }
+    if !ahead.bump_over(":]") {
+        return None;
+    }
+    Some(ahead)
+}
+
+/// The first of these named classes that stands here, whether it is negated, and the place behind
+/// it.
+fn named_at<'a>(cursor: &Cursor<'a>, names: &[NamedClass]) -> Option<(NamedClass, bool, Cursor<'a>)>
+    ensures { MatchOption result (named_at cursor.now (map named_of names.now) ≡ None)
+        (λ x. named_at cursor.now (map named_of names.now) ≡ Some (named_of x.0, x.1, x.2)) }
+{
+    'names: for name in names {
+        if let Some(behind) = behind_name(cursor, "[:", *name) {
+            return Some((*name, false, behind));
+        }
+        if let Some(behind) = behind_name(cursor, "[:^", *name) {
+            return Some((*name, true, behind));
+        }
+    }
+    None
+}
+
+/// The characters of a named class, or all others.
+fn class_named(alloc: Global, name: NamedClass, negated: bool) -> Result<Class, AllocError>
+    ensures { IfOk result (λ class. Lists class (members_named (named_of name) negated)) }
+{
+    if negated {
+        other_characters(alloc, name)
+    } else {
+        named_class(alloc, name)
+    }
+}
+
+/// Reads a named class, and adds its characters.
+fn named(alloc: Global, cursor: &mut Cursor<'_>, builder: &mut ClassBuilder) -> Result<(), Error>
+    ensures reads { Adds builder.old builder.new result cursor.new (λ go set. named go set cursor.old named_classes) }
+    ensures forward { length cursor.new ≤ length cursor.old }
+    ensures progress { OnOk result (length cursor.new < length cursor.old) }
+{
+    let Some((name, negated, behind)) = named_at(cursor, &NamedClass::ALL) else {
+        return Err(Error::NestedClass);
+    };
+    let class = class_named(alloc, name, negated)?;
+    builder.extend(class.ranges())?;
+    *cursor = behind;
+    Ok(())
+}
+
+/// Reads what may be an end of a range: a character or an escape.
+fn class_end(alloc: Global, cursor: &mut Cursor<'_>, flags: Flags) -> Result<Meaning, Error>
+    ensures reads { (n : ℕ) → length cursor.old ≤ suc n → Agrees IsMeaning result cursor.new (class_end n (flags_of flags) cursor.old) }
+    ensures forward { length cursor.new ≤ length cursor.old }
+    ensures progress { OnOk result (length cursor.new < length cursor.old) }
+{
+    match cursor.bump() {
+        None => Err(Error::UnclosedClass),
+        Some('\\') => escape(alloc, cursor, flags),
+        Some(c) => Ok(Meaning::Character(c)),
+    }
+}
+
+/// Adds the characters of a member that is no range.
+fn add_alone(builder: &mut ClassBuilder, member: Meaning) -> Result<(), Error>
+    ensures { (m : spec.Meaning) → IsMeaning member m → (rest : Text) → Adds builder.old builder.new result rest (λ go set. alone go set m rest) }
+{
+    match member {
+        Meaning::Character(c) => builder.push(c, c)?,
+        Meaning::Characters(class) => builder.extend(class.ranges())?,
+        Meaning::Assertion(_) => return Err(Error::InvalidClassEscape),
+    }
+    Ok(())
+}
+
+/// Adds the characters of a range.
+fn add_range(builder: &mut ClassBuilder, first: Meaning, second: Meaning) -> Result<(), Error>
+    ensures { (m k : spec.Meaning) → IsMeaning first m → IsMeaning second k → (rest : Text) →
+        Adds builder.old builder.new result rest (λ go set. range go set m k rest) }
+{
+    let (Meaning::Character(low), Meaning::Character(high)) = (first, second) else {
+        return Err(Error::RangeOfNoCharacter);
+    };
+    if high < low {
+        return Err(Error::InvalidRange);
+    }
+    builder.push(low, high)?;
+    Ok(())
+}
+
+/// Reads what stands behind an end and its gap, from the dash there.
+fn after_dash(
+    alloc: Global,
+    cursor: &mut Cursor<'_>,
+    flags: Flags,
+    builder: &mut ClassBuilder,
+    first: Meaning,
+) -> Result<(), Error>
+    ensures reads { (t : Text) → cursor.old ≡ 45 ∷ t → (n : ℕ) → length t ≤ n → (m : spec.Meaning) → IsMeaning first m →
+        Adds builder.old builder.new result cursor.new (λ go set. after_dash go n (flags_of flags) set m cursor.old (skip (flags_of flags) t)) }
+    ensures forward { length cursor.new ≤ length cursor.old }
+{
+    let mut ahead = cursor.ahead();
+    ahead.bump();
+    ahead.skip(flags);
+    match ahead.peek() {
+        None => Err(Error::UnclosedAfterDash),
+        Some(']' | '-') => add_alone(builder, first),
+        Some(_) => {
+            *cursor = ahead;
+            let second = class_end(alloc, cursor, flags)?;
+            add_range(builder, first, second)
+        }
+    }
+}
+
+/// Reads what stands behind an end and its gap, and adds the member.
+fn after_first(
+    alloc: Global,
+    cursor: &mut Cursor<'_>,
+    flags: Flags,
+    builder: &mut ClassBuilder,
+    first: Meaning,
+) -> Result<(), Error>
+    ensures reads { WithSteps cursor.old (λ n. (m : spec.Meaning) → IsMeaning first m →
+        Adds builder.old builder.new result cursor.new (λ go set. after_first go n (flags_of flags) set m cursor.old)) }
+    ensures forward { length cursor.new ≤ length cursor.old }
+{
+    match cursor.peek() {
+        None => Err(Error::UnclosedAfterMember),
+        Some('-') => after_dash(alloc, cursor, flags, builder, first),
+        Some(_) => add_alone(builder, first),
+    }
+}
+
+/// Why the operator on sets that stands here is refused, if one stands here.
+fn set_operator(cursor: &Cursor<'_>) -> Option<Error>
+    ensures { IsOperatorError result cursor.now }
+{
+    if cursor.begins("&&") {
+        Some(Error::ClassIntersection)
+    } else if cursor.begins("--") {
+        Some(Error::ClassDifference)
+    } else if cursor.begins("~~") {
+        Some(Error::ClassSymmetricDifference)
+    } else {
+        None
+    }
+}
+
+/// Reads a member that is no named class, and adds its characters.
+fn unnamed(
+    alloc: Global,
+    cursor: &mut Cursor<'_>,
+    flags: Flags,
+    builder: &mut ClassBuilder,
+) -> Result<(), Error>
+    requires { next_is (one_of (codes "[]")) cursor.old ≡ false }
+    ensures reads { (n : ℕ) → length cursor.old ≤ suc n →
+        Adds builder.old builder.new result cursor.new (λ go set. member go n (flags_of flags) set cursor.old) }
+    ensures forward { length cursor.new ≤ length cursor.old }
+    ensures progress { OnOk result (length cursor.new < length cursor.old) }
+{
+    if let Some(error) = set_operator(cursor) {
+        return Err(error);
+    }
+    let first = class_end(alloc, cursor, flags)?;
+    cursor.skip(flags);
+    after_first(alloc, cursor, flags, builder, first)
+}
+
+/// Reads a member, and adds its characters.
+fn member(
+    alloc: Global,
+    cursor: &mut Cursor<'_>,
+    flags: Flags,
+    builder: &mut ClassBuilder,
+) -> Result<(), Error>
+    requires { next_is (single 93) cursor.old ≡ false }
+    ensures reads { (n : ℕ) → length cursor.old ≤ suc n →
+        Adds builder.old builder.new result cursor.new (λ go set. member go n (flags_of flags) set cursor.old) }
+    ensures forward { length cursor.new ≤ length cursor.old }
+    ensures progress { OnOk result (length cursor.new < length cursor.old) }
+{
+    match cursor.peek() {
+        Some('[') => named(alloc, cursor, builder),
+        _ => unnamed(alloc, cursor, flags, builder),
+    }
+}
+
+/// Reads all members and the closing bracket, and adds their characters.
+fn members(
+    alloc: Global,
+    cursor: &mut Cursor<'_>,
+    flags: Flags,
+    builder: &mut ClassBuilder,
+) -> Result<(), Error>
+    ensures reads { WithSteps cursor.old (λ n. Completes builder.old builder.new result cursor.new (λ set. class_members n (flags_of flags) set cursor.old)) }
+    ensures forward { length cursor.new ≤ length cursor.old }
+{
+    cursor.skip(flags);
+    'members: while !cursor.bump_if(']') {
+        member(alloc, cursor, flags, builder)?;
+        cursor.skip(flags);
+    }
+    Ok(())
+}
+
+/// Reads a caret and its gap, if one stands here, and tells whether one did.
+fn caret(cursor: &mut Cursor<'_>, flags: Flags) -> Result<bool, Error>
+    ensures reads { (n : ℕ) → AnswersCaret result cursor.new n (flags_of flags) cursor.old }
+    ensures forward { length cursor.new ≤ length cursor.old }
+{
+    if cursor.peek().is_none() {
+        return Err(Error::UnclosedClass);
+    }
+    if !cursor.bump_if('^') {
+        return Ok(false);
+    }
+    cursor.skip(flags);
+    match cursor.peek() {
+        None => Err(Error::UnclosedAfterCaret),
+        Some(_) => Ok(true),
+    }
+}
+
+/// Reads the dashes or the closing bracket that stand for themselves before the members.
+fn leading(cursor: &mut Cursor<'_>, flags: Flags) -> Result<Option<char>, Error>
+    ensures reads { WithSteps cursor.old (λ n. (negated : Bool) → AnswersLeading result cursor.new n (flags_of flags) negated cursor.old) }
+    ensures forward { length cursor.new ≤ length cursor.old }
+{
+    match cursor.peek() {
+        None => Err(Error::UnclosedClass),
+        Some('-') => {
+            cursor.pass_each(flags, Characters::Dash);
+            unless_at_end(cursor, '-', Error::UnclosedAfterDash)
+        }
+        Some(']') => {
+            cursor.bump();
+            cursor.skip(flags);
+            unless_at_end(cursor, ']', Error::UnclosedAfterBracket)
+        }
+        Some(_) => Ok(None),
+    }
+}
+
+/// This character, or this error where the pattern ends.
+fn unless_at_end(cursor: &Cursor<'_>, c: char, error: Error) -> Result<Option<char>, Error>
+    ensures { MatchResult result
+        (λ leading. (leading ≡ Some c) × (d : ℕ) × (t : Text) × (cursor.now ≡ d ∷ t))
+        (λ e. (e ≡ error) × (cursor.now ≡ [])) }
+{
+    match cursor.peek() {
+        None => Err(error),
+        Some(_) => Ok(Some(c)),
+    }
+}
+
+/// A builder with the character that stands for itself before the members.
+fn started(alloc: Global, leading: Option<char>) -> Result<ClassBuilder, AllocError>
+    ensures { IfOk result (λ builder. Has builder (leading_set leading)) }
+{
+    let mut builder = ClassBuilder::new(alloc);
+    if let Some(c) = leading {
+        builder.push(c, c)?;
+    }
+    Ok(builder)
+}
+
+/// The class of the builder, under the flags and under the caret.
+fn finished(
+    alloc: Global,
+    mut builder: ClassBuilder,
+    flags: Flags,
+    negated: bool,
+) -> Result<Class, AllocError>
+    ensures { (set : Set) → Has builder set → IfOk result (λ class. Lists class (with_negation negated (with_cases (flags_of flags) set))) }
+{
+    if flags.case_insensitive {
+        builder.add_cases(alloc)?;
+    }
+    let class = builder.build(alloc)?;
+    if negated {
+        class.negate(alloc)
+    } else {
+        Ok(class)
+    }
+}
 
 /// Reads a class, from behind its opening bracket and the gap there.
 pub(crate) fn bracket(alloc: Global, cursor: &mut Cursor<'_>, flags: Flags) -> Result<Class, Error>
     ensures reads { WithSteps cursor.old (λ n. Agrees Lists result cursor.new (bracket n (flags_of flags) cursor.old)) }
     ensures forward { length cursor.new ≤ length cursor.old }
 {
-    Err(Error::Memory)
+    let negated = caret(cursor, flags)?;
+    let leading = leading(cursor, flags)?;
+    let mut builder = started(alloc, leading)?;
+    members(alloc, cursor, flags, &mut builder)?;
+    Ok(finished(alloc, builder, flags, negated)?)
 }

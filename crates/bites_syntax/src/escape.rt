@@ -1,17 +1,23 @@
 //! Escapes: what a backslash begins.
 
-ghost use Rattle.std.specs.Prelude.{◌≤◌, length};
-ghost use Rattle.bites_spec.specs.Reading.{escape};
+ghost use Rattle.std.specs.Prelude.{◌≡◌, ◌≤◌, length, IfOk, OnOk, option_map, string_bytes};
+ghost use Rattle.bites_spec.specs.Class.{Lists, complement, members};
+ghost use Rattle.bites_spec.specs.Escape.{assertion_of, boundary_of, class_of, control_of, digits_of, escapes_itself, is_boundary_letter};
+ghost use Rattle.bites_spec.specs.Reading.{boundary, boundary_name, escape, meaning_of, simple};
 ghost use Rattle.bites_syntax.specs.FlagsView.{flags_of};
-ghost use Rattle.bites_syntax.specs.Meanings.{IsMeaning};
+ghost use Rattle.bites_syntax.specs.Meanings.{IsClassOf, IsMeaning, IsMeaningOf, IsLook};
 ghost use Rattle.bites_syntax.specs.Parts.{Agrees, WithSteps};
+ghost use Rattle.bites_syntax.specs.Steps.{each_of};
+ghost use Rattle.bites_syntax.specs.View.{look_of, named_of};
 
 use crate::class::Class;
-use crate::cursor::Cursor;
+use crate::cursor::{Characters, Cursor};
 use crate::flags::Flags;
+use crate::hexadecimal::hexadecimal;
 use crate::look::Look;
+use crate::named::NamedClass;
 use bites_text::error::Error;
-use std::alloc::Global;
+use std::alloc::{AllocError, Global};
 
 /// What an escape stands for.
 #[derive(Drop)]
@@ -21,10 +27,183 @@ pub(crate) enum Meaning {
     Assertion(Look),
 }
 
+fn control(c: char) -> Option<char>
+    ensures { result ≡ control_of c }
+{
+    match c {
+        'a' => Some('\x07'),
+        'f' => Some('\x0C'),
+        't' => Some('\t'),
+        'n' => Some('\n'),
+        'r' => Some('\r'),
+        'v' => Some('\x0B'),
+        _ => None,
+    }
+}
+
+fn assertion(c: char) -> Option<Look>
+    ensures { option_map look_of result ≡ assertion_of c }
+{
+    match c {
+        'A' => Some(Look::Start),
+        'z' => Some(Look::End),
+        'B' => Some(Look::WordNegate),
+        '<' => Some(Look::WordStart),
+        '>' => Some(Look::WordEnd),
+        _ => None,
+    }
+}
+
+/// The class of the characters of a named class.
+pub(crate) fn named_class(alloc: Global, name: NamedClass) -> Result<Class, AllocError>
+    ensures { IfOk result (λ class. Lists class (members (named_of name))) }
+{
+    Ok(Class::from_ranges(Vec::from_slice(alloc, name.ranges())?))
+}
+
+/// The class of all characters but those of a named class.
+pub(crate) fn other_characters(alloc: Global, name: NamedClass) -> Result<Class, AllocError>
+    ensures { IfOk result (λ class. Lists class (complement (members (named_of name)))) }
+{
+    Class::all_but(alloc, name.ranges())
+}
+
+fn perl_class(alloc: Global, c: char) -> Result<Option<Class>, AllocError>
+    ensures { IfOk result (λ found. IsClassOf found (class_of c)) }
+{
+    let class = match c {
+        'd' => named_class(alloc, NamedClass::Digit)?,
+        's' => named_class(alloc, NamedClass::Space)?,
+        'w' => named_class(alloc, NamedClass::Word)?,
+        'D' => other_characters(alloc, NamedClass::Digit)?,
+        'S' => other_characters(alloc, NamedClass::Space)?,
+        'W' => other_characters(alloc, NamedClass::Word)?,
+        _ => return Ok(None),
+    };
+    Ok(Some(class))
+}
+
+fn escapes_itself(c: char) -> bool
+    ensures { result ≡ escapes_itself c }
+{
+    c.is_ascii() && !c.is_ascii_alphanumeric() && c != '<' && c != '>'
+}
+
+/// How many hexadecimal digits stand behind the character where there are no braces.
+fn digits(c: char) -> Option<u32>
+    ensures { result ≡ digits_of c }
+{
+    match c {
+        'x' => Some(2),
+        'u' => Some(4),
+        'U' => Some(8),
+        _ => None,
+    }
+}
+
+/// What the character behind a backslash means alone.
+fn meaning_alone(alloc: Global, c: char) -> Result<Option<Meaning>, AllocError>
+    ensures { IfOk result (λ found. IsMeaningOf found (meaning_of c)) }
+{
+    if let Some(control) = control(c) {
+        return Ok(Some(Meaning::Character(control)));
+    }
+    if let Some(look) = assertion(c) {
+        return Ok(Some(Meaning::Assertion(look)));
+    }
+    if let Some(class) = perl_class(alloc, c)? {
+        return Ok(Some(Meaning::Characters(class)));
+    }
+    if escapes_itself(c) {
+        return Ok(Some(Meaning::Character(c)));
+    }
+    Ok(None)
+}
+
+/// The word boundary with this name.
+fn boundary_of(name: &str) -> Option<Look>
+    ensures { option_map look_of result ≡ boundary_of name.now }
+{
+    match name {
+        "start" => Some(Look::WordStart),
+        "end" => Some(Look::WordEnd),
+        "start-half" => Some(Look::WordStartHalf),
+        "end-half" => Some(Look::WordEndHalf),
+        _ => None,
+    }
+}
+
+/// Reads the name of a word boundary and its closing brace.
+fn boundary_name(alloc: Global, cursor: &mut Cursor<'_>, flags: Flags) -> Result<Look, Error>
+    ensures reads { let name = each_of (flags_of flags) is_boundary_letter cursor.old in
+        Agrees IsLook result cursor.new (boundary_name name.0 name.1) }
+    ensures forward { length cursor.new ≤ length cursor.old }
+{
+    let name = letters(alloc, cursor, flags)?;
+    if !cursor.bump_if('}') {
+        return Err(Error::UnclosedBoundary);
+    }
+    boundary_of(&name).ok_or(Error::UnrecognizedBoundary)
+}
+
+/// Reads all letters and dashes that stand here, and the gap behind each.
+fn letters(alloc: Global, cursor: &mut Cursor<'_>, flags: Flags) -> Result<String, AllocError>
+    ensures letters { IfOk result (λ name. string_bytes name ≡ (each_of (flags_of flags) is_boundary_letter cursor.old).0) }
+    ensures rest { OnOk result (cursor.new ≡ (each_of (flags_of flags) is_boundary_letter cursor.old).1) }
+    ensures forward { length cursor.new ≤ length cursor.old }
+{
+    let mut letters = String::new(alloc);
+    while let Some(c) = cursor.take(flags, Characters::BoundaryLetter) {
+        letters.push(c)?;
+    }
+    Ok(letters)
+}
+
+/// Reads a word boundary from behind its `b`.
+fn boundary(alloc: Global, cursor: &mut Cursor<'_>, flags: Flags) -> Result<Look, Error>
+    ensures reads { WithSteps cursor.old (λ n. Agrees IsLook result cursor.new (boundary n (flags_of flags) cursor.old)) }
+    ensures forward { length cursor.new ≤ length cursor.old }
+{
+    let mut ahead = cursor.ahead();
+    if !ahead.bump_if('{') {
+        return Ok(Look::Word);
+    }
+    ahead.skip(flags);
+    match ahead.peek() {
+        None => Err(Error::UnfinishedBoundary),
+        Some(c) if Characters::BoundaryLetter.contains(c) => {
+            *cursor = ahead;
+            boundary_name(alloc, cursor, flags)
+        }
+        Some(_) => Ok(Look::Word),
+    }
+}
+
+/// Reads an escape other than of a word boundary, from behind this character.
+fn simple(alloc: Global, cursor: &mut Cursor<'_>, flags: Flags, c: char) -> Result<Meaning, Error>
+    ensures reads { WithSteps cursor.old (λ n. Agrees IsMeaning result cursor.new (simple n (flags_of flags) c cursor.old)) }
+    ensures forward { length cursor.new ≤ length cursor.old }
+{
+    if let Some(meaning) = meaning_alone(alloc, c)? {
+        return Ok(meaning);
+    }
+    let Some(count) = digits(c) else {
+        return Err(Error::UnrecognizedEscape);
+    };
+    cursor.skip(flags);
+    Ok(Meaning::Character(hexadecimal(cursor, flags, count)?))
+}
+
 /// Reads what stands behind a backslash.
 pub(crate) fn escape(alloc: Global, cursor: &mut Cursor<'_>, flags: Flags) -> Result<Meaning, Error>
     ensures reads { WithSteps cursor.old (λ n. Agrees IsMeaning result cursor.new (escape n (flags_of flags) cursor.old)) }
     ensures forward { length cursor.new ≤ length cursor.old }
 {
-    Err(Error::Memory)
+    match cursor.bump() {
+        None => Err(Error::EscapeUnfinished),
+        Some('0'..='9') => Err(Error::Backreference),
+        Some('p' | 'P') => Err(Error::UnicodeClass),
+        Some('b') => Ok(Meaning::Assertion(boundary(alloc, cursor, flags)?)),
+        Some(c) => simple(alloc, cursor, flags, c),
+    }
 }

@@ -4,7 +4,7 @@ use Rattle.bites_spec.specs.Measure.{size, size_of}
 use Rattle.bites_syntax.specs.View.{tree_of}
 use Rattle.bites_syntax.specs.declared.tree.Kind.{Kind}
 use Rattle.bites_machine.specs.Sizes.{held_size, both_sizes}
-use Rattle.bites_machine.proofs.Parts.{read_below, parts_from, parts_end, count-trees_of}
+use Rattle.bites_syntax.proofs.TreeParts.{read_below, parts_from, parts_end}
 use Rattle.bites_machine.proofs.SizeLemmas.{both_sizes-none, alternation_size}
 use Rattle.bites_machine.proofs.size.+size.Goals as goal
 

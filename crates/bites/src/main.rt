@@ -1,0 +1,35 @@
+//! `bites`: searches standard input for a pattern.
+//!
+//! `bites is PATTERN` prints `match` or `none`; the status is 0 if something matched, 1 if nothing did and 2 for a
+//! fault, which is one line on standard error.
+#![tactic(auto)]
+
+mod run;
+#[cfg(test)]
+mod tests;
+
+use run::run;
+use std::process::ExitCode;
+use std::rt::Env;
+use std::{env, io};
+
+fn main(rt: HostRuntime) -> ExitCode {
+    // A word that is no UTF-8 can't be a pattern here: then there are no words, which answers the usage line.
+    let words = words(&rt).unwrap_or(Vec::new(rt.alloc()));
+    ExitCode::from(run(
+        rt.alloc(),
+        words.as_slice(),
+        &mut rt.stdin(),
+        &mut rt.stdout(),
+        &mut rt.stderr(),
+    ))
+}
+
+// The words behind the program's name.
+fn words(rt: &(impl Env + AllocGlobal)) -> io::Result<Vec<String>> {
+    let mut words = Vec::new(rt.alloc());
+    for word in env::args(rt)?.skip(1) {
+        words.push(word)?;
+    }
+    Ok(words)
+}

@@ -1,0 +1,4 @@
+use Rattle.bites_bytes.proofs.bytes.builder.RegexBuilder.build.Goals as goal
+
+pub returns-clause-message : goal.returns-clause-message
+returns-clause-message c = rw (← c.self.view_is, ← c.deref.ensures) c.build.ensures.message

@@ -1,0 +1,8 @@
+//! Regular expressions over byte strings.
+//!
+//! [`bytes::Regex`] is a compiled pattern. Its contracts speak of the tree of its pattern: a search answers a match
+//! exactly if the tree matches there.
+#![tactic(auto)]
+
+pub mod bytes;
+pub mod stand_in;

@@ -1,0 +1,32 @@
+-- The checks of states that are to be a program.
+use Rattle.std.proofs.Common.{◌≡◌, ℕ, ◌+◌, ◌<◌, ◌≤◌, Bool, true, false, cond, not, ◌&&◌, List, [], ◌∷◌, ◌++◌, length, reverse, drop, get_or, Option, Some, None, refl, sym, ap, ◌∙◌, subst, arith}
+use Rattle.std.specs.Prelude.{nat_lt, nat_le}
+use Rattle.std.specs.List.{list_all}
+use Rattle.std.proofs.lemmas.List.{reverse-append}
+use Rattle.std.proofs.lemmas.List.Folds.{list_all-append}
+use Rattle.bites_spec.specs.Program as program
+use Rattle.bites_spec.specs.Program.{targets_of}
+use Rattle.bites_spec.specs.Faults.{are_ranges}
+
+-- the ranges behind one that ends there
+abbrev pub ranges_after : Option ℕ → List (ℕ × ℕ) → Bool
+ranges_after None rs = are_ranges rs
+ranges_after (Some end) [] = true
+ranges_after (Some end) (r ∷ rs) = nat_lt end r.0 && are_ranges (r ∷ rs)
+
+and_turned : (a b : Bool) → (a && (b && true)) ≡ (b && a)
+and_turned true true = refl
+and_turned true false = refl
+and_turned false true = refl
+and_turned false false = refl
+
+list_all-reverse : (p : ℕ → Bool) (xs : List ℕ) → list_all p (reverse xs) ≡ list_all p xs
+list_all-reverse p [] = refl
+list_all-reverse p (x ∷ xs) =
+    ap (list_all p) (reverse-append (x ∷ []) xs) ∙ list_all-append p (reverse xs) (x ∷ [])
+    ∙ ap (λ b. b && (p x && true)) (list_all-reverse p xs) ∙ and_turned (list_all p xs) (p x)
+
+-- the targets of a split, whichever is preferred
+pub list_all-splits : (p : ℕ → Bool) (qs : List ℕ) (is_reversed : Bool) → list_all p (targets_of (program.splits qs is_reversed)) ≡ list_all p qs
+list_all-splits p qs true = list_all-reverse p qs
+list_all-splits p qs false = refl

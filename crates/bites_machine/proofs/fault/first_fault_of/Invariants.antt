@@ -1,0 +1,9 @@
+use Rattle.std.proofs.Common.{◌≡◌, length, drop}
+use Rattle.bites_spec.specs.Walks.{first_among}
+use Rattle.bites_spec.specs.Faults.{fault_of}
+use Rattle.bites_machine.specs.States.{states_of}
+use Rattle.bites_machine.proofs.fault.first_fault_of.Given as goal
+
+abbrev pub invariant-loop-state : goal.invariant-loop-state
+invariant-loop-state l =
+    first_among (fault_of (length l.states) l.slots) (states_of l.states) ≡ first_among (fault_of (length l.states) l.slots) (states_of (drop l.state-index l.states))

@@ -1,0 +1,19 @@
+use Rattle.std.proofs.Common.{◌≡◌, ◌+◌, ◌*◌, ◌-◌, ◌<◌, ◌≤◌, max, length, drop}
+use Rattle.std.specs.Prelude.{sum_by}
+use Rattle.bites_spec.specs.Tree.{sequence, trees_of, groups_in_all, greatest, names_in_all}
+use Rattle.bites_spec.specs.Measure.{height, name_weight, groups_of}
+use Rattle.bites_machine.specs.Sizes.{held}
+use Rattle.bites_machine.specs.Names.{bytes_of, filled}
+use Rattle.bites_machine.proofs.groups.+write_names.Given as goal
+
+abbrev pub decreases-write_names : goal.decreases-write_names
+decreases-write_names l = 2 * height l.tree.now
+
+abbrev pub decreases-write_names_of_all : goal.decreases-write_names_of_all
+decreases-write_names_of_all l = 2 * height (sequence (trees_of l.parts.now)) - 1
+
+abbrev pub invariant-write_names_of_all-loop-part : goal.invariant-write_names_of_all-loop-part
+invariant-write_names_of_all-loop-part l = record {
+  written : filled (groups_of (sequence (trees_of (drop l.part-index l.parts)))) (bytes_of l.names.items) ≡ filled (groups_of (sequence (trees_of l.parts))) (bytes_of l.initial.names.items);
+  len : length l.names.items ≡ length l.initial.names.items;
+}

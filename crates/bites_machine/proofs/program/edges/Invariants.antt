@@ -1,0 +1,11 @@
+use Rattle.std.proofs.Common.{◌≡◌, ◌+◌, ◌<◌, ◌^◌, length, drop}
+use Rattle.std.specs.Prelude.{sum_by}
+use Rattle.bites_spec.specs.Program.{targets_of}
+use Rattle.bites_machine.specs.States.{states_of}
+use Rattle.bites_machine.proofs.program.edges.Given as goal
+
+abbrev pub invariant-loop-state : goal.invariant-loop-state
+invariant-loop-state l = record {
+  total : l.count + sum_by (λ s. length (targets_of s)) (states_of (drop l.state-index l.states)) ≡ sum_by (λ s. length (targets_of s)) (states_of l.states);
+  within : l.count < 2 ^ 64;
+}

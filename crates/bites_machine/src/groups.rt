@@ -1,0 +1,103 @@
+//! What a program knows of the groups of its tree.
+
+ghost use Rattle.std.specs.Prelude.{◌≡◌, ◌+◌, ◌<◌, ◌≤◌, ◌==◌, length, replicate, None, IfOk, OnOk, sum_by, option_map, string_bytes};
+ghost use Rattle.bites_spec.specs.Tree.{trees_of, sequence, groups_in, groups_in_all, greatest, names_in, names_in_all, IsReduced};
+ghost use Rattle.bites_spec.specs.Measure.{name_weight, groups_of, size_of};
+ghost use Rattle.bites_machine.specs.Sizes.{held};
+ghost use Rattle.bites_machine.specs.Names.{bytes_of, filled, static_captures_len};
+
+use bites_syntax::measure::static_count;
+use bites_syntax::tree::{Kind, Name, Tree};
+use std::alloc::{AllocError, Global};
+
+/// What the names of the groups weigh. A weight that is too large for a `usize` is held as the greatest.
+#[cycle(names_weight)]
+pub fn names_weight(tree: &Tree) -> usize
+    ensures { result ≡ held (sum_by name_weight (names_in tree.now)) }
+{
+    match tree.kind() {
+        Kind::Empty | Kind::Char(_) | Kind::Class(_) | Kind::Look(_) => 0,
+        Kind::Repetition { sub, .. } => names_weight(sub),
+        Kind::Capture {
+            name: Some(name),
+            sub,
+            ..
+        } => weight_of_name(name).saturating_add(names_weight(sub)),
+        Kind::Capture { sub, .. } => names_weight(sub),
+        Kind::Concat(parts) | Kind::Alternation(parts) => names_weight_of_all(parts),
+    }
+}
+
+#[cycle(names_weight)]
+fn names_weight_of_all(parts: &[Tree]) -> usize
+    ensures { result ≡ held (sum_by name_weight (names_in_all (trees_of parts.now))) }
+{
+    let mut all = 0usize;
+    for part in parts {
+        all = all.saturating_add(names_weight(part));
+    }
+    all
+}
+
+fn weight_of_name(name: &Name) -> usize
+    ensures { result ≡ held (name_weight name.now) }
+{
+    name.as_str().len().saturating_add(4)
+}
+
+/// How many groups take part in every match, with group 0, if the form of the tree says so.
+pub fn static_captures_len(tree: &Tree) -> Option<usize>
+    requires reduced { IsReduced tree.now }
+    requires room { (size_of tree.now).states ≤ 4294967295 }
+    ensures { result ≡ static_captures_len tree.now }
+{
+    Some(1 + static_count(tree)?)
+}
+
+/// Writes the name of each group of the tree to its place.
+#[cycle(write_names)]
+pub fn write_names(alloc: Global, tree: &Tree, names: &mut Vec<Option<String>>) -> Result<(), AllocError>
+    requires { greatest (groups_in tree.now) < length names.old.items }
+    ensures { OnOk result (bytes_of names.new.items ≡ filled (groups_of tree.now) (bytes_of names.old.items)) }
+{
+    match tree.kind() {
+        Kind::Empty | Kind::Char(_) | Kind::Class(_) | Kind::Look(_) => Ok(()),
+        Kind::Repetition { sub, .. } => write_names(alloc, sub, names),
+        Kind::Capture { index, name, sub } => {
+            names[*index as usize] = copy_of_name(alloc, name)?;
+            write_names(alloc, sub, names)
+        }
+        Kind::Concat(parts) | Kind::Alternation(parts) => write_names_of_all(alloc, parts, names),
+    }
+}
+
+#[cycle(write_names)]
+fn write_names_of_all(alloc: Global, parts: &[Tree], names: &mut Vec<Option<String>>) -> Result<(), AllocError>
+    requires { greatest (groups_in_all (trees_of parts.now)) < length names.old.items }
+    ensures { OnOk result (bytes_of names.new.items ≡ filled (groups_of (sequence (trees_of parts.now))) (bytes_of names.old.items)) }
+{
+    for part in parts {
+        write_names(alloc, part, names)?;
+    }
+    Ok(())
+}
+
+fn copy_of_name(alloc: Global, name: &Option<Name>) -> Result<Option<String>, AllocError>
+    ensures { IfOk result (λ copy. option_map string_bytes copy ≡ name.now) }
+{
+    match name {
+        Some(name) => Ok(Some(String::from_str(alloc, name.as_str())?)),
+        None => Ok(None),
+    }
+}
+
+/// So many groups without a name.
+pub fn no_names(alloc: Global, count: usize) -> Result<Vec<Option<String>>, AllocError>
+    ensures { IfOk result (λ names. bytes_of names.items ≡ replicate count None) }
+{
+    let mut names = Vec::new(alloc);
+    for _ in 0..count {
+        names.push(None)?;
+    }
+    Ok(names)
+}

@@ -1,0 +1,6 @@
+pub mod PlaceLemmas
+pub mod ReplacedLemmas
+pub mod RowLemmas
+pub mod SeenLemmas
+pub mod SuccessiveLemmas
+pub mod WayLemmas

@@ -1,0 +1,2 @@
+pub mod Successive
+pub mod Walk

@@ -1,0 +1,70 @@
+//! The successive runs of a program in a haystack.
+
+ghost use Rattle.std.specs.Prelude.{◌≡◌, ◌<◌, ◌≤◌, map, length, IfOk, IfSome};
+ghost use Rattle.bites_plain.specs.Successive.{IsDue, AreSuccessive, is_empty_at, span_of_run};
+
+use crate::piece::piece_at;
+use crate::run::{Run, first_run};
+use crate::span::Span;
+use bites_machine::program::Program;
+use std::alloc::{AllocError, Global};
+use std::marker::Model;
+
+/// The successive runs: the first run from 0, then what is due behind each.
+pub fn successive_runs(
+    alloc: Global,
+    program: &Program,
+    haystack: &[u8],
+) -> Result<Vec<Run>, AllocError>
+    ensures { IfOk result (λ runs. AreSuccessive program.now.program haystack.now runs.items) }
+{
+    let mut runs = Vec::new(alloc);
+    let mut due = first_run(alloc, program, haystack, 0)?;
+    while let Some(run) = due {
+        due = due_behind(alloc, program, haystack, run.end())?;
+        runs.push(run)?;
+    }
+    Ok(runs)
+}
+
+/// The first run from the end of the one before; where that is empty and ends there, the first run from one
+/// piece later.
+fn due_behind(
+    alloc: Global,
+    program: &Program,
+    haystack: &[u8],
+    end: usize,
+) -> Result<Option<Run>, AllocError>
+    requires { end ≤ length haystack.now }
+    ensures due { IfOk result (λ due. IsDue program.now.program haystack.now end due) }
+    ensures grows { IfOk result (λ due. IfSome due (λ run. end < run.end)) }
+    ensures within { IfOk result (λ due. IfSome due (λ run. run.end ≤ length haystack.now)) }
+{
+    let due = first_run(alloc, program, haystack, end)?;
+    if !is_empty_at(&due, end) {
+        return Ok(due);
+    }
+    let (_, len) = piece_at(haystack, end);
+    first_run(alloc, program, haystack, end + len.max(1))
+}
+
+/// Whether there is a run, and it begins and ends at the place.
+fn is_empty_at(run: &Option<Run>, place: usize) -> bool
+    ensures { result ≡ is_empty_at place run.now }
+{
+    match run {
+        Some(run) => run.start() == place && run.end() == place,
+        None => false,
+    }
+}
+
+/// Where runs begin and end.
+pub fn spans_of(alloc: Global, runs: &[Run]) -> Result<Vec<Span>, AllocError>
+    ensures { IfOk result (λ spans. spans.items ≡ map span_of_run runs.now) }
+{
+    let mut spans = Vec::new(alloc);
+    for run in runs {
+        spans.push(Span::new(run.start(), run.end()))?;
+    }
+    Ok(spans)
+}

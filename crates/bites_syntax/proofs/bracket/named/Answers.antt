@@ -1,0 +1,29 @@
+use Rattle.std.proofs.Common.{◌≡◌, ◌<◌, length, Some, inr, ap, arith}
+use Rattle.bites_spec.specs.Class.{named_classes, union}
+use Rattle.bites_syntax.specs.Members.{members_named, named_at}
+use Rattle.bites_syntax.specs.Parts.{error_in}
+use Rattle.bites_syntax.specs.View.{named_of}
+use Rattle.bites_syntax.proofs.BracketParts.{Has_extend}
+use Rattle.bites_syntax.proofs.NamedParts.{named_none, named_shorter, named_some}
+use Rattle.bites_syntax.proofs.bracket.named.Goals as goal
+
+pub returns-in_default-clause-reads : goal.returns-in_default-clause-reads
+returns-in_default-clause-reads c = λ go set has. inr (ap error_in (named_none go set c.args.cursor.now named_classes c.in_default.ensures))
+
+pub returns-clause-reads : goal.returns-clause-reads
+returns-clause-reads c = λ go set has.
+    let found : named_at c.args.cursor.now named_classes ≡ Some (named_of c.in-Some.name, c.in-Some.negated, c.in-Some.behind) = c.in-Some.ensures in (
+      union set (members_named (named_of c.in-Some.name) c.in-Some.negated),
+      named_some go set c.args.cursor.now _ named_classes _ _ found,
+      Has_extend _ _ _ set _ has (rw c.ranges-2.ensures.ranges c.in_ok-class.ensures) c.in_ok-extend.ensures.added,
+    )
+
+pub returns-clause-progress : goal.returns-clause-progress
+returns-clause-progress c =
+    let found : named_at c.args.cursor.now named_classes ≡ Some (named_of c.in-Some.name, c.in-Some.negated, c.in-Some.behind) = c.in-Some.ensures in
+    named_shorter c.args.cursor.now _ named_classes _ _ found
+
+pub returns-clause-forward : goal.returns-clause-forward
+returns-clause-forward c =
+    let less : length c.in-Some.behind < length c.args.cursor.now = returns-clause-progress c in
+    omega arith

@@ -1,0 +1,22 @@
+use Rattle.std.proofs.Common.{◌≡◌, ◌∷◌, false, true, refl, sym, ap, ◌∙◌}
+use Rattle.bites_spec.specs.Escape.{is_hex_digit}
+use Rattle.bites_spec.specs.Message.{brace_hex_invalid}
+use Rattle.bites_spec.specs.Pattern.{next_is, right_brace}
+use Rattle.bites_syntax.specs.FlagsView.{flags_of}
+use Rattle.bites_syntax.specs.Parts.{error_in}
+use Rattle.bites_syntax.specs.Steps.{each_of}
+use Rattle.bites_syntax.proofs.HexadecimalLemmas.{braces_closed, braces_empty, scalar_answers}
+use Rattle.bites_syntax.proofs.hexadecimal.in_braces.Goals as goal
+
+pub returns-in-Some-eq125-clause-reads : goal.returns-in-Some-eq125-clause-reads
+returns-in-Some-eq125-clause-reads c =
+    let behind : (each_of (flags_of c.args.flags) is_hex_digit c.args.cursor.now).1 ≡ right_brace ∷ c.bump.new.self =
+    sym c.number-value.ensures.rest ∙ rw (← c.in-Some-eq125.field-0-test) c.in-Some-eq125.ensures.value in
+    ap error_in (braces_empty (flags_of c.args.flags) c.args.cursor.now _ (sym c.if-empty.ensures) behind)
+
+pub returns-in-Some-eq125-2-clause-reads : goal.returns-in-Some-eq125-2-clause-reads
+returns-in-Some-eq125-2-clause-reads c =
+    let behind : (each_of (flags_of c.args.flags) is_hex_digit c.args.cursor.now).1 ≡ right_brace ∷ c.bump.new.self =
+    sym c.number-value.ensures.rest ∙ rw (← c.in-Some-eq125.field-0-test) c.in-Some-eq125.ensures.value in
+    rw (braces_closed (flags_of c.args.flags) c.args.cursor.now _ (sym c.if-empty.ensures) behind)
+    (scalar_answers brace_hex_invalid _ (each_of (flags_of c.args.flags) is_hex_digit c.args.cursor.now).0 c.bump.new.self _ _ _ c.number-value.ensures.value c.character.ensures c.ok_or.ensures.value refl)

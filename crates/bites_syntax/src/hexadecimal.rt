@@ -1,0 +1,98 @@
+//! Characters by their hexadecimal numbers.
+
+ghost use Rattle.std.specs.Prelude.{◌≡◌, ◌≤◌, length, MatchOption, MatchResult, Ok, Some, true, false, drop, ◌∷◌, []};
+ghost use Rattle.std.specs.Char.{digit_value};
+ghost use Rattle.bites_spec.specs.Class.{is_scalar};
+ghost use Rattle.bites_spec.specs.Escape.{is_hex_digit};
+ghost use Rattle.bites_spec.specs.Message.{fixed_hex_invalid};
+ghost use Rattle.bites_spec.specs.Reading.{and_then, exactly, hexadecimal, in_braces, scalar};
+ghost use Rattle.bites_syntax.specs.FlagsView.{flags_of};
+ghost use Rattle.bites_syntax.specs.Hexadecimal.{AnswersDigit, AnswersNumber, fixed_number};
+ghost use Rattle.bites_syntax.specs.Operators.{Answers};
+ghost use Rattle.bites_syntax.specs.Parts.{WithSteps};
+ghost use Rattle.bites_syntax.specs.Steps.{each_of};
+
+use crate::cursor::{Characters, Cursor};
+use crate::flags::Flags;
+use crate::number::{TOO_LARGE, number};
+use bites_text::error::Error;
+
+/// The character with this number, if there is one.
+fn character(value: u64) -> Option<char>
+    ensures { MatchOption result (is_scalar value ≡ false) (λ c. (is_scalar value ≡ true) × (c ≡ value)) }
+{
+    match u32::try_from(value) {
+        Ok(code) => char::from_u32(code),
+        Err(_) => None,
+    }
+}
+
+/// Reads one digit.
+fn hex_digit(cursor: &mut Cursor<'_>) -> Result<u32, Error>
+    ensures reads { AnswersDigit result cursor.new cursor.old }
+    ensures forward { length cursor.new ≤ length cursor.old }
+{
+    match cursor.bump() {
+        None => Err(Error::FixedHexUnfinished),
+        Some(c) => c.to_digit(16).ok_or(Error::FixedHexDigit),
+    }
+}
+
+/// Reads so many digits, with gaps between them, and gives their number; one that is too large
+/// becomes `TOO_LARGE`.
+fn exactly(cursor: &mut Cursor<'_>, flags: Flags, count: u32) -> Result<u64, Error>
+    ensures reads { AnswersNumber TOO_LARGE result cursor.new (fixed_number 0 count (flags_of flags) cursor.old) }
+    ensures forward { length cursor.new ≤ length cursor.old }
+{
+    let mut value = 0;
+    let mut left = count;
+    while left > 0 {
+        left -= 1;
+        value = TOO_LARGE.min(value * 16 + u64::from(hex_digit(cursor)?));
+        if left > 0 {
+            cursor.skip(flags);
+        }
+    }
+    Ok(value)
+}
+
+/// Reads a number of so many digits.
+fn fixed(cursor: &mut Cursor<'_>, flags: Flags, count: u32) -> Result<char, Error>
+    ensures reads { Answers (λ c. c) result cursor.new (and_then (exactly count (flags_of flags) cursor.old) (scalar fixed_hex_invalid)) }
+    ensures forward { length cursor.new ≤ length cursor.old }
+{
+    let value = exactly(cursor, flags, count)?;
+    character(value).ok_or(Error::FixedHexInvalid)
+}
+
+/// Reads a number from behind its opening brace and the gap there.
+fn in_braces(cursor: &mut Cursor<'_>, flags: Flags) -> Result<char, Error>
+    ensures reads { let digits = each_of (flags_of flags) is_hex_digit cursor.old in
+        Answers (λ c. c) result cursor.new (in_braces digits.0 digits.1) }
+    ensures forward { length cursor.new ≤ length cursor.old }
+{
+    let empty = !cursor.is_at(Characters::HexDigit);
+    let value = number(cursor, flags, Characters::HexDigit, 16);
+    match cursor.bump() {
+        None => Err(Error::BraceHexUnclosed),
+        Some('}') if empty => Err(Error::BraceHexEmpty),
+        Some('}') => character(value).ok_or(Error::BraceHexInvalid),
+        Some(_) => Err(Error::BraceHexDigit),
+    }
+}
+
+/// Reads the number behind `x`, `u` or `U` and the gap there: in braces, or of so many digits.
+pub(crate) fn hexadecimal(cursor: &mut Cursor<'_>, flags: Flags, count: u32) -> Result<char, Error>
+    ensures reads { WithSteps cursor.old (λ n. Answers (λ c. c) result cursor.new (hexadecimal n (flags_of flags) count cursor.old)) }
+    ensures forward { length cursor.new ≤ length cursor.old }
+{
+    match cursor.peek() {
+        None => Err(Error::HexUnfinished),
+        Some('{') => {
+            cursor.bump();
+            cursor.skip(flags);
+            in_braces(cursor, flags)
+        }
+        Some(_) => fixed(cursor, flags, count),
+    }
+}
