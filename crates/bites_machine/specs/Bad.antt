@@ -1,5 +1,5 @@
 -- The faults of states that are to be a program.
-use Rattle.std.specs.Prelude.{◌≡◌, ◌≤◌, ◌^◌, List, Option, Some, None}
+use Rattle.std.specs.Prelude.{◌≡◌, ◌≤◌, ◌^◌, ℕ, List, Option, Some, None, codes}
 use Rattle.bites_spec.specs.Program.{Program, targets}
 use Rattle.bites_spec.specs.Faults as faults
 use Rattle.bites_spec.specs.Faults.{Fault, first_fault}
@@ -23,3 +23,12 @@ IsBad p BadStart = first_fault p ≡ Some faults.bad_start
 IsBad p BadTarget = first_fault p ≡ Some faults.bad_target
 IsBad p BadRanges = first_fault p ≡ Some faults.bad_ranges
 IsBad p Memory = (first_fault p ≡ None) × (2 ^ 64 ≤ targets p)
+
+-- the text of a fault
+abbrev pub text_of : BadProgram → List ℕ
+text_of TooMany = codes "too many states"
+text_of BadSlot = codes "a slot is out of range"
+text_of BadStart = codes "the start is no state"
+text_of BadTarget = codes "a target is no state"
+text_of BadRanges = codes "ranges are out of order"
+text_of Memory = codes "out of memory"

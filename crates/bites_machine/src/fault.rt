@@ -1,12 +1,12 @@
 //! Faults of states that are to be a program.
 
-ghost use Rattle.std.specs.Prelude.{◌≡◌, MatchOption, IfSome, IfNone, nat_lt, length, None};
+ghost use Rattle.std.specs.Prelude.{◌≡◌, MatchOption, IfSome, IfNone, nat_lt, length, Some, None};
 ghost use Rattle.std.specs.List.{list_all};
 ghost use Rattle.bites_spec.specs.Walks.{first_among};
 ghost use Rattle.bites_spec.specs.Program.{targets_of};
 ghost use Rattle.bites_spec.specs.Faults as faults;
 ghost use Rattle.bites_machine.specs.States.{state_of, states_of};
-ghost use Rattle.bites_machine.specs.Bad.{Finds};
+ghost use Rattle.bites_machine.specs.Bad.{Finds, text_of};
 
 use crate::state::State;
 use std::fmt;
@@ -30,7 +30,9 @@ pub enum BadProgram {
 
 impl BadProgram {
     /// The message: one line of ASCII with no line end.
-    pub const fn text(&self) -> &'static str {
+    pub const fn text(&self) -> &'static str
+        ensures { result.now ≡ text_of self.now }
+    {
         match self {
             BadProgram::TooMany => "too many states",
             BadProgram::BadSlot => "a slot is out of range",
@@ -43,6 +45,8 @@ impl BadProgram {
 }
 
 impl fmt::Display for BadProgram {
+    ghost output = { λ fault. Some (text_of fault) };
+
     fn fmt<W: fmt::Write>(&self, f: &mut fmt::Formatter<W>) -> fmt::Result {
         f.write_str(self.text())
     }
