@@ -5,4 +5,3 @@
 #![tactic(auto)]
 
 pub mod bytes;
-pub mod stand_in;

@@ -21,3 +21,4 @@ pub mod AtomLemmas
 pub mod RowLemmas
 pub mod ProgressLemmas
 pub mod ReachedLemmas
+pub mod ParseLemmas

@@ -1,6 +1,6 @@
 //! Reading a pattern.
 
-ghost use Rattle.std.specs.Prelude.{◌≡◌, ◌≢◌, ◌++◌, ◌≤◌, ◌<◌, ◌⊎◌, ◌∷◌, [], ℕ, suc, List, length, chars, IfOk, MatchResult, Ok};
+ghost use Rattle.std.specs.Prelude.{◌≡◌, ◌≢◌, ◌++◌, ◌≤◌, ◌<◌, ◌⊎◌, ◌∷◌, [], ℕ, suc, List, length, chars, IfOk, IfErr, MatchResult, Ok};
 ghost use Rattle.bites_spec.specs.Message as message;
 ghost use Rattle.bites_spec.specs.Pattern as pattern;
 ghost use Rattle.bites_spec.specs.Pattern.{Text, right_parenthesis, skip};
@@ -17,7 +17,11 @@ ghost use Rattle.bites_syntax.specs.Operators.{bounds_of};
 ghost use Rattle.bites_syntax.specs.Parts.{Refuses, WithSteps};
 ghost use Rattle.bites_syntax.specs.Openings.{IsFront};
 ghost use Rattle.bites_syntax.specs.FlagsView.{flags_of};
-ghost use Rattle.bites_spec.specs.Measure.{height, IsTooTall};
+ghost use Rattle.bites_spec.specs.Message.{Message};
+ghost use Rattle.bites_spec.specs.Built.{IsCompilable};
+ghost use Rattle.bites_spec.specs.Fault.{Fault};
+ghost use Rattle.bites_spec.specs.Measure.{height, IsTooTall, Limits};
+ghost use Rattle.bites_text.specs.Messages.{error_of};
 
 pub use crate::flags::Flags;
 use crate::atom::atom;
@@ -295,20 +299,35 @@ impl Parser<'_> {
     }
 }
 
-/// The tree of a pattern under these flags, with at most `nest_limit` groups open at once and a
-/// tree no taller than that.
+/// Reads a pattern as the tree that the grammar gives it under the flags.
 ///
-/// An error is that of the first fault of the pattern, or `TooMuchNesting` where the whole pattern
-/// is read and its tree is too tall, or `Memory` where memory runs out.
+/// It answers a tree exactly if the grammar reads the pattern within the limits: at most `nest_limit` groups open at
+/// once, a tree no taller than `nest_limit`, and counts and group numbers of at most 4294967295. Else the error is the
+/// message of the pattern's first fault, or want of memory. It takes time linear in the pattern, but for the sorting of
+/// classes, and its recursion goes only into groups, so as deep as `nest_limit`; no taller tree is held meanwhile.
 pub fn parse(
     alloc: Global,
     pattern: &str,
     flags: Flags,
     nest_limit: u32,
 ) -> Result<Tree, Error>
-    ensures { MatchResult result
-        (λ t. (read ranges_of nest_limit (chars pattern.now) (flags_of flags) ≡ Ok t) × (height t ≤ nest_limit) × (height t < 4294967295))
-        (λ e. Refuses e (read ranges_of nest_limit (chars pattern.now) (flags_of flags)) ⊎ ((e ≡ Error.TooMuchNesting) × IfOk (read ranges_of nest_limit (chars pattern.now) (flags_of flags)) (IsTooTall nest_limit))) }
+    ensures read { IfOk result (λ t. Limits (chars pattern.now) (flags_of flags) nest_limit t) }
+    ensures compilable { IfOk result (λ t. IsCompilable t) }
+    ensures refused { IfErr result (λ e. e ≢ Error.Memory → (t : spec.Tree) → Limits (chars pattern.now) (flags_of flags) nest_limit t → ⊥) }
+    ensures message { IfErr result (λ e. e ≢ Error.Memory → (m : Message) × (e ≡ error_of m) × Fault (chars pattern.now) (flags_of flags) nest_limit m) }
+{
+    read_pattern(alloc, pattern, flags, nest_limit)
+}
+
+// The tree that the grammar's function on lists answers, or the error of its stop or of a tree that is too tall.
+fn read_pattern(
+    alloc: Global,
+    pattern: &str,
+    flags: Flags,
+    nest_limit: u32,
+) -> Result<Tree, Error>
+    ensures reads { IfOk result (λ t. (read ranges_of nest_limit (chars pattern.now) (flags_of flags) ≡ Ok t) × (height t ≤ nest_limit) × (height t < 4294967295)) }
+    ensures refuses { IfErr result (λ e. Refuses e (read ranges_of nest_limit (chars pattern.now) (flags_of flags)) ⊎ ((e ≡ Error.TooMuchNesting) × ((t : spec.Tree) × (read ranges_of nest_limit (chars pattern.now) (flags_of flags) ≡ Ok t) × IsTooTall nest_limit t))) }
 {
     let front = Front {
         flags,

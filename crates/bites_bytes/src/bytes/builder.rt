@@ -8,9 +8,8 @@ ghost use Rattle.bites_syntax.specs.FlagsView.{flags_of};
 ghost use Rattle.bites_bytes.specs.Settings.{Accepts, Refuses, by_default, settings};
 
 use crate::bytes::Regex;
-use crate::stand_in::parse;
 use bites_machine::program::compile;
-use bites_syntax::flags::Flags;
+use bites_syntax::parse::{Flags, parse};
 use bites_syntax::tree as syntax;
 use bites_text::error::Error;
 use std::alloc::Global;

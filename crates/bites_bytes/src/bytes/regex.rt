@@ -12,7 +12,7 @@ ghost use Rattle.bites_bytes.specs.Settings.{Accepts, Refuses, by_default, no_fl
 use crate::bytes::{CaptureNames, RegexBuilder};
 use bites_machine::program::Program;
 use bites_machine::vm;
-use bites_syntax::flags::Flags;
+use bites_syntax::parse::Flags;
 use bites_syntax::tree::Tree;
 use bites_text::error::Error;
 use std::alloc::{AllocError, Global};

@@ -1,22 +1,18 @@
-use Rattle.std.proofs.Common.{◌≡◌, ◌∙◌, sym, ap, subst, refl, arith, suc, length, [], Ok}
 use Rattle.std.specs.Prelude.{chars}
-use Rattle.bites_spec.specs.Grammar.{at_front}
-use Rattle.bites_spec.specs.RangesOf.{ranges_of}
-use Rattle.bites_spec.specs.Reading.{inner}
-use Rattle.bites_spec.specs.Tree.{choice_of}
-use Rattle.bites_syntax.specs.declared.node.Node.TheVariants.{Kept}
 use Rattle.bites_syntax.specs.FlagsView.{flags_of}
-use Rattle.bites_syntax.specs.Nodes.{StandsFor}
-use Rattle.bites_syntax.proofs.ReachedLemmas.{read_is}
+use Rattle.bites_syntax.proofs.ParseLemmas.{read_clause, compilable_clause, message_clause, refused_clause}
 use Rattle.bites_syntax.proofs.parse.parse.Goals as goal
 
-pub returns-in-Kept : goal.returns-in-Kept
-returns-in-Kept c =
-    let text = chars c.args.pattern.now in
-    let reads = c.in_ok-tree.ensures.reads (at_front (flags_of c.args.flags)) (record { flags = refl; groups = refl; names = c.new.ensures }) (length text)
-    (omega (arith, ap length c.new-cursor.ensures)) in
-    let stands : StandsFor c.args.nest_limit (Kept c.in-Kept.tree c.in-Kept.height) (choice_of reads.found.branches) =
-    subst (λ x. StandsFor c.args.nest_limit x (choice_of reads.found.branches)) c.in-Kept.is reads.node_is in
-    let same : inner ranges_of c.args.nest_limit (suc (length text)) 0 (at_front (flags_of c.args.flags)) [] [] text ≡ Ok reads.found =
-    ap (inner ranges_of c.args.nest_limit (suc (length text)) 0 (at_front (flags_of c.args.flags)) [] []) (sym c.new-cursor.ensures) ∙ reads.same in
-    (read_is c.args.nest_limit text (flags_of c.args.flags) reads.found same ∙ ap Ok (sym stands.0), rw stands.0 stands.2, rw stands.0 stands.3)
+pub returns-clause-read : goal.returns-clause-read
+returns-clause-read c = read_clause (chars c.args.pattern.now) (flags_of c.args.flags) c.args.nest_limit c.read_pattern.result c.read_pattern.ensures.reads
+
+pub returns-clause-compilable : goal.returns-clause-compilable
+returns-clause-compilable c = compilable_clause (chars c.args.pattern.now) (flags_of c.args.flags) c.args.nest_limit c.read_pattern.result c.read_pattern.ensures.reads
+
+pub returns-clause-message : goal.returns-clause-message
+returns-clause-message c = message_clause (chars c.args.pattern.now) (flags_of c.args.flags) c.args.nest_limit c.read_pattern.result c.read_pattern.ensures.refuses
+
+pub returns-clause-refused : goal.returns-clause-refused
+returns-clause-refused c =
+    refused_clause (chars c.args.pattern.now) (flags_of c.args.flags) c.args.nest_limit c.read_pattern.result
+    (message_clause (chars c.args.pattern.now) (flags_of c.args.flags) c.args.nest_limit c.read_pattern.result c.read_pattern.ensures.refuses)
