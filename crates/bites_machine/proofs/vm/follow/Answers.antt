@@ -20,8 +20,8 @@ pub insert-requires-in-Goto-default-None : goal.insert-requires-in-Goto-default-
 insert-requires-in-Goto-default-None c =
     one_target c.args.state.now _ c.in-Goto-default-None.target c.requires.targets (ap (λ s. targets_of (state_of s)) c.in-Goto-default-None.is)
 
-pub insert-requires-then-holds : goal.insert-requires-then-holds
-insert-requires-then-holds c =
+pub insert-requires-then-is_match : goal.insert-requires-then-is_match
+insert-requires-then-is_match c =
     one_target c.args.state.now _ c.in-Goto-default-Some.target c.requires.targets (ap (λ s. targets_of (state_of s)) c.in-Goto-default-Some.is)
 
 pub insert-requires-in-Capture : goal.insert-requires-in-Capture
