@@ -102,11 +102,7 @@ fn read_all<R: Read>(alloc: Global, input: &mut R) -> Result<Vec<u8>, Fault> {
 }
 
 // Prints `match` if the regex matches somewhere, else `none`.
-fn is_match<W: Write>(
-    regex: &Regex,
-    haystack: &[u8],
-    out: &mut W,
-) -> Result<Outcome, Fault> {
+fn is_match<W: Write>(regex: &Regex, haystack: &[u8], out: &mut W) -> Result<Outcome, Fault> {
     let (text, outcome) = if regex.is_match(haystack)? {
         ("match\n", Outcome::Found)
     } else {

@@ -130,7 +130,10 @@ fn tells_the_first_fault(rt: HostRuntime) -> Result<(), Fail> {
         &mut err,
     );
     assert_eq!(rt; status, 2);
-    assert_eq!(rt; err.as_slice(), b"bites: found closing ')' without matching '('\n".as_slice());
+    assert_eq!(rt;
+        err.as_slice(),
+        b"bites: found closing ')' without matching '('\n".as_slice()
+    );
     Ok(())
 }
 
@@ -148,7 +151,10 @@ fn tells_that_reading_failed(rt: HostRuntime) -> Result<(), Fail> {
         &mut err,
     );
     assert_eq!(rt; status, 2);
-    assert_eq!(rt; err.as_slice(), b"bites: cannot read standard input\n".as_slice());
+    assert_eq!(rt;
+        err.as_slice(),
+        b"bites: cannot read standard input\n".as_slice()
+    );
     Ok(())
 }
 
@@ -166,7 +172,10 @@ fn tells_that_writing_failed(rt: HostRuntime) -> Result<(), Fail> {
         &mut err,
     );
     assert_eq!(rt; status, 2);
-    assert_eq!(rt; err.as_slice(), b"bites: cannot write standard output\n".as_slice());
+    assert_eq!(rt;
+        err.as_slice(),
+        b"bites: cannot write standard output\n".as_slice()
+    );
     // The status is 2 also where the fault can't be told.
     let mut more: &[u8] = b"banana";
     let again = run(

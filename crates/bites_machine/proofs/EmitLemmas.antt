@@ -53,7 +53,7 @@ Agrees-before last m ss more e a = record { same = λ q from below. a.same q fro
 Agrees-unset : (last : List State) (m i : ℕ) (ss : List State) (s : State) → i < m → Agrees last m (slice_set ss i s) → Agrees last m ss
 Agrees-unset last m i ss s h a = record {
   same = λ q from below.
-  a.same q from (omega (arith, length-set ss i s)) ∙ get_or-set_other ss i q s program.fail (λ (is : q ≡ i). omega arith);
+      a.same q from (omega (arith, length-set ss i s)) ∙ get_or-set_other ss i q s program.fail (λ (is : q ≡ i). omega arith);
 }
 
 last_pushed : (last : List State) (m : ℕ) (ss : List State) (s : State) → m ≤ length ss → Agrees last m (ss ++ s ∷ []) → state_at last (length ss) ≡ s
@@ -101,7 +101,7 @@ pub Forms-one : (make : ℕ → State) (to : ℕ) (ss : List State) → Forms (�
 Forms-one make to ss = record {
   extends = Extends-push ss (make to);
   form = λ last a.
-  (length ss ∷ [], (last_pushed last (length ss) ss (make to) (omega arith) a, refl), Counts-one (length ss) _ (length_pushed ss (make to)));
+      (length ss ∷ [], (last_pushed last (length ss) ss (make to) (omega arith) a, refl), Counts-one (length ss) _ (length_pushed ss (make to)));
 }
 
 pub Forms-behind : (first rest : List State → Part) (to : ℕ) (ss : List State) (e f : Emitted) →
@@ -109,9 +109,9 @@ pub Forms-behind : (first rest : List State → Part) (to : ℕ) (ss : List Stat
 Forms-behind first rest to ss e f r s = record {
   extends = Extends-trans ss e.states f.states r.extends s.extends;
   form = λ last a.
-  let x = s.form last (Agrees-later last (length ss) (length e.states) f.states r.extends.longer a) in
-  let y = r.form last (Agrees-before last (length ss) e.states f.states s.extends a) in
-  (x.0 ++ y.0, (e.from, x.0, y.0, x.1, y.1, refl), Counts-append x.0 y.0 (length ss) (length e.states) (length f.states) x.2 y.2);
+      let x = s.form last (Agrees-later last (length ss) (length e.states) f.states r.extends.longer a) in
+      let y = r.form last (Agrees-before last (length ss) e.states f.states s.extends a) in
+      (x.0 ++ y.0, (e.from, x.0, y.0, x.1, y.1, refl), Counts-append x.0 y.0 (length ss) (length e.states) (length f.states) x.2 y.2);
 }
 
 -- a body in front of any state, behind any states
@@ -144,15 +144,15 @@ module _ (part : List State → Part) (body : Emitter) (inside : FormsBody part 
       record {
         extends = Extends-trans ss f.states (f.states ++ state ∷ []) both (Extends-push f.states state);
         form = λ last a.
-        let before = Agrees-before last (length ss) f.states (f.states ++ state ∷ []) (Extends-push f.states state) a in
-        let x = s.form last (Agrees-later last (length ss) (length e.states) f.states r.extends.longer before) in
-        let y = r.form last (Agrees-before last (length ss) e.states f.states s.extends before) in (
-          (length f.states ∷ x.0) ++ y.0,
-          (f.from, e.from, x.0, y.0, last_pushed last (length ss) f.states state both.longer a, x.1, y.1, refl),
-          Counts-append (length f.states ∷ x.0) y.0 (length ss) (length e.states) _
-              (Counts-append (length f.states ∷ []) x.0 (length e.states) (length f.states) _ (Counts-one (length f.states) _ (length_pushed f.states state)) x.2)
-              y.2,
-        );
+            let before = Agrees-before last (length ss) f.states (f.states ++ state ∷ []) (Extends-push f.states state) a in
+            let x = s.form last (Agrees-later last (length ss) (length e.states) f.states r.extends.longer before) in
+            let y = r.form last (Agrees-before last (length ss) e.states f.states s.extends before) in (
+              (length f.states ∷ x.0) ++ y.0,
+              (f.from, e.from, x.0, y.0, last_pushed last (length ss) f.states state both.longer a, x.1, y.1, refl),
+              Counts-append (length f.states ∷ x.0) y.0 (length ss) (length e.states) _
+                  (Counts-append (length f.states ∷ []) x.0 (length e.states) (length f.states) _ (Counts-one (length f.states) _ (length_pushed f.states state)) x.2)
+                  y.2,
+            );
       }
 
   pub Forms-bounded : (n : ℕ) (greedy : Bool) (to : ℕ) (ss : List State) →
@@ -164,11 +164,11 @@ module _ (part : List State → Part) (body : Emitter) (inside : FormsBody part 
       record {
         extends = Extends-trans ss (ss ++ goto ∷ []) e.states (Extends-push ss goto) r.extends;
         form = λ last a.
-        let x = r.form last (Agrees-later last (length ss) (length (ss ++ goto ∷ [])) e.states (omega (arith, length_pushed ss goto)) a) in (
-          length ss ∷ x.0,
-          (length ss, x.0, x.1, last_pushed last (length ss) ss goto (omega arith) (Agrees-before last (length ss) (ss ++ goto ∷ []) e.states r.extends a), refl),
-          Counts-append_up (length ss ∷ []) x.0 (length ss) _ (length e.states) (Counts-one (length ss) _ (length_pushed ss goto)) x.2,
-        );
+            let x = r.form last (Agrees-later last (length ss) (length (ss ++ goto ∷ [])) e.states (omega (arith, length_pushed ss goto)) a) in (
+              length ss ∷ x.0,
+              (length ss, x.0, x.1, last_pushed last (length ss) ss goto (omega arith) (Agrees-before last (length ss) (ss ++ goto ∷ []) e.states r.extends a), refl),
+              Counts-append_up (length ss ∷ []) x.0 (length ss) _ (length e.states) (Counts-one (length ss) _ (length_pushed ss goto)) x.2,
+            );
       }
 
   -- what stands around the place of a choice, once the choice is written to it
@@ -188,13 +188,13 @@ module _ (part : List State → Part) (body : Emitter) (inside : FormsBody part 
         extends = Extends-set ss e.states (length ss) s extends (omega arith);
         place = λ last a. last_set last (length ss) (length ss) e.states s (omega arith) (omega (arith, long, r.extends.longer)) a;
         form = λ last a.
-        let x = r.form last (Agrees-unset last (length (ss ++ program.fail ∷ [])) (length ss) e.states s (omega (arith, long))
-        (Agrees-later last (length ss) (length (ss ++ program.fail ∷ [])) (slice_set e.states (length ss) s) (omega (arith, long)) a)) in (
-          x.0,
-          x.1,
-          subst (λ n. Counts (length ss ∷ x.0) (length ss) n) (sym (length-set e.states (length ss) s))
-              (Counts-append_up (length ss ∷ []) x.0 (length ss) _ (length e.states) (Counts-one (length ss) _ long) x.2),
-        );
+            let x = r.form last (Agrees-unset last (length (ss ++ program.fail ∷ [])) (length ss) e.states s (omega (arith, long))
+            (Agrees-later last (length ss) (length (ss ++ program.fail ∷ [])) (slice_set e.states (length ss) s) (omega (arith, long)) a)) in (
+              x.0,
+              x.1,
+              subst (λ n. Counts (length ss ∷ x.0) (length ss) n) (sym (length-set e.states (length ss) s))
+                  (Counts-append_up (length ss ∷ []) x.0 (length ss) _ (length e.states) (Counts-one (length ss) _ long) x.2),
+            );
       }
 
   pub Forms-loop : (greedy : Bool) → FormsBody (λ l. Loop l greedy (part l)) (loop greedy body)
@@ -226,17 +226,22 @@ module _ (part : List State → Part) (body : Emitter) (inside : FormsBody part 
       record {
         extends = Extends-trans ss e.states (e.states ++ state ∷ []) both (Extends-push e.states state);
         form = λ last a.
-        let before = Agrees-before last (length ss) e.states (e.states ++ state ∷ []) (Extends-push e.states state) a in
-        let x = r.form last (Agrees-later last (length ss) (length more) e.states (omega (arith, length_pushed ss goto)) before) in (
-          (length e.states ∷ length ss ∷ x.0),
-          (
-            e.from, length ss, x.0, x.1, last_pushed last (length ss) e.states state both.longer a,
-            last_pushed last (length ss) ss goto (omega arith) (Agrees-before last (length ss) more e.states r.extends before), refl,
-          ),
-          Counts-append (length e.states ∷ []) (length ss ∷ x.0) (length ss) (length e.states) _
-              (Counts-one (length e.states) _ (length_pushed e.states state))
-              (Counts-append_up (length ss ∷ []) x.0 (length ss) (length more) (length e.states) (Counts-one (length ss) _ (length_pushed ss goto)) x.2),
-        );
+            let before = Agrees-before last (length ss) e.states (e.states ++ state ∷ []) (Extends-push e.states state) a in
+            let x = r.form last (Agrees-later last (length ss) (length more) e.states (omega (arith, length_pushed ss goto)) before) in (
+              (length e.states ∷ length ss ∷ x.0),
+              (
+                e.from,
+                length ss,
+                x.0,
+                x.1,
+                last_pushed last (length ss) e.states state both.longer a,
+                last_pushed last (length ss) ss goto (omega arith) (Agrees-before last (length ss) more e.states r.extends before),
+                refl,
+              ),
+              Counts-append (length e.states ∷ []) (length ss ∷ x.0) (length ss) (length e.states) _
+                  (Counts-one (length e.states) _ (length_pushed e.states state))
+                  (Counts-append_up (length ss ∷ []) x.0 (length ss) (length more) (length e.states) (Counts-one (length ss) _ (length_pushed ss goto)) x.2),
+            );
       }
 
   Forms-counted : (n more : ℕ) (greedy : Bool) → FormsBody (λ l. Counted l n more greedy (part l)) (counted n more greedy body)
@@ -291,21 +296,27 @@ alternation_forms ts to ss b r =
     record {
       extends = Extends-trans ss b.states (b.states ++ state ∷ []) both (Extends-push b.states state);
       form = λ last a.
-      let before = Agrees-before last (length ss) b.states (b.states ++ state ∷ []) (Extends-push b.states state) a in
-      let x = r.form last (Agrees-later last (length ss) (length more) b.states (omega (arith, length_pushed ss goto)) before) in (
-        (length b.states ∷ length ss ∷ x.0),
-        (
-          length ss, b.rounds, x.0, last_pushed last (length ss) b.states state both.longer a, x.1,
-          last_pushed last (length ss) ss goto (omega arith) (Agrees-before last (length ss) more b.states r.extends before), refl,
-        ),
-        Counts-append (length b.states ∷ []) (length ss ∷ x.0) (length ss) (length b.states) _
-            (Counts-one (length b.states) _ (length_pushed b.states state))
-            (Counts-append_up (length ss ∷ []) x.0 (length ss) (length more) (length b.states) (Counts-one (length ss) _ (length_pushed ss goto)) x.2),
-      );
+          let before = Agrees-before last (length ss) b.states (b.states ++ state ∷ []) (Extends-push b.states state) a in
+          let x = r.form last (Agrees-later last (length ss) (length more) b.states (omega (arith, length_pushed ss goto)) before) in (
+            (length b.states ∷ length ss ∷ x.0),
+            (
+              length ss,
+              b.rounds,
+              x.0,
+              last_pushed last (length ss) b.states state both.longer a,
+              x.1,
+              last_pushed last (length ss) ss goto (omega arith) (Agrees-before last (length ss) more b.states r.extends before),
+              refl,
+            ),
+            Counts-append (length b.states ∷ []) (length ss ∷ x.0) (length ss) (length b.states) _
+                (Counts-one (length b.states) _ (length_pushed b.states state))
+                (Counts-append_up (length ss ∷ []) x.0 (length ss) (length more) (length b.states) (Counts-one (length ss) _ (length_pushed ss goto)) x.2),
+          );
     }
 
 mutual
   unfolding emit emit_all emit_each
+
   -- What is written for a tree has its form.
   pub Forms-emit : (t : Tree) → FormsBody (λ l. HasForm l t) (emit t)
   Forms-emit empty to ss = Forms-one (λ next. program.goto next None) to ss
@@ -336,7 +347,7 @@ mutual
       record {
         extends = Extends-trans ss e.states b.states r.extends s.extends;
         form = λ last a.
-        let x = r.form last (Agrees-before last (length ss) e.states b.states s.extends a) in
-        let y = s.form last (Agrees-later last (length ss) (length e.states) b.states r.extends.longer a) in
-        (x.0 ++ y.0, (x.0, y.0, x.1, y.1, refl), Counts-append_up x.0 y.0 (length ss) (length e.states) (length b.states) x.2 y.2);
+            let x = r.form last (Agrees-before last (length ss) e.states b.states s.extends a) in
+            let y = s.form last (Agrees-later last (length ss) (length e.states) b.states r.extends.longer a) in
+            (x.0 ++ y.0, (x.0, y.0, x.1, y.1, refl), Counts-append_up x.0 y.0 (length ss) (length e.states) (length b.states) x.2 y.2);
       }

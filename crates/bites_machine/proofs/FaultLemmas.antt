@@ -216,6 +216,7 @@ module _ (n slots : ℕ) where
 
   mutual
     unfolding emit emit_all emit_each
+
     -- What is written for a tree has no fault.
     pub Sound-emit : (t : Tree) → HasClasses t → HasSlots (groups_in t) → SoundBody (emit t)
     Sound-emit empty classes few to ss all h le = Sound-push ss (program.goto to None) all (fine_goto to h) le

@@ -127,8 +127,12 @@ module _ (body : Emitter) (s : ℕ) (adds : (to : ℕ) (ss : List State) → Gro
       let f = bounded (suc more) greedy body to ss in
       record {
         len = omega (
-          arith, (Grows-bounded (suc more) greedy to ss).len, (Grows-again (suc n) f.from f.states).len, ranged_size n most is_empty b (omega arith),
-          times most (suc n + suc more) b.states s e is, sum_times (suc n) (suc more) s
+          arith,
+          (Grows-bounded (suc more) greedy to ss).len,
+          (Grows-again (suc n) f.from f.states).len,
+          ranged_size n most is_empty b (omega arith),
+          times most (suc n + suc more) b.states s e is,
+          sum_times (suc n) (suc more) s,
         );
       }
 
@@ -151,6 +155,7 @@ module _ (body : Emitter) (s : ℕ) (adds : (to : ℕ) (ss : List State) → Gro
 
 mutual
   unfolding emit emit_all emit_each
+
   -- As many states are written for a tree as its size says.
   pub Grows-emit : (t : Tree) → IsReduced t → (to : ℕ) (ss : List State) → Grows ss (emit t to ss).states (size_of t).states
   Grows-emit empty reduced to ss = record { len = omega (arith, length_pushed ss (program.goto to None)) }

@@ -29,7 +29,12 @@ use std::alloc::{AllocError, Global};
 /// A tree that is too heavy is refused with `TooBig` before any state is made, then one with more
 /// than 4294967295 states with `TooManyStates`, then one with a group of a number above 2147483647
 /// with `TooManySlots`. Any other refusal is `Memory`.
-pub fn compile(alloc: Global, tree: &Tree, pattern: &str, size_limit: usize) -> Result<Program, Error>
+pub fn compile(
+    alloc: Global,
+    tree: &Tree,
+    pattern: &str,
+    size_limit: usize,
+) -> Result<Program, Error>
     requires { IsCompilable tree.now }
     ensures made { IfOk result (λ p. p ≡ contents tree.now pattern.now) }
     ensures built { IfOk result (λ p. Built tree.now p.program) }
@@ -41,7 +46,15 @@ pub fn compile(alloc: Global, tree: &Tree, pattern: &str, size_limit: usize) -> 
     let (states, start) = whole_states(alloc, tree)?;
     let names = names_of_groups(alloc, tree, captures)?;
     let pattern = String::from_str(alloc, pattern)?;
-    Program::new(states, start, 2 * captures, pattern, names, static_captures_len(tree)).ok_or(Error::Memory)
+    Program::new(
+        states,
+        start,
+        2 * captures,
+        pattern,
+        names,
+        static_captures_len(tree),
+    )
+    .ok_or(Error::Memory)
 }
 
 /// Asks the limits, the weight first, and answers the number of groups with group 0.
@@ -97,7 +110,11 @@ fn whole_states(alloc: Global, tree: &Tree) -> Result<(Vec<State>, u32), AllocEr
 }
 
 /// The name of each group, from group 0 on.
-fn names_of_groups(alloc: Global, tree: &Tree, captures: usize) -> Result<Vec<Option<String>>, AllocError>
+fn names_of_groups(
+    alloc: Global,
+    tree: &Tree,
+    captures: usize,
+) -> Result<Vec<Option<String>>, AllocError>
     requires tree { IsCompilable tree.now }
     requires captures { captures ≡ captures_len tree.now }
     ensures { IfOk result (λ names. bytes_of names.items ≡ names_of tree.now) }

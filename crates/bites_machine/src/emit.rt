@@ -174,7 +174,14 @@ impl States {
 
     /// Writes at least and at most so many turns.
     #[cycle(emit)]
-    fn counted(&mut self, min: u32, max: u32, greedy: bool, sub: &Tree, to: u32) -> Result<u32, AllocError>
+    fn counted(
+        &mut self,
+        min: u32,
+        max: u32,
+        greedy: bool,
+        sub: &Tree,
+        to: u32,
+    ) -> Result<u32, AllocError>
         requires reduced { IsReduced sub.now }
         requires order { min ≤ max }
         requires some { 1 ≤ max }

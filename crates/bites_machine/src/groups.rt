@@ -56,7 +56,11 @@ pub fn static_captures_len(tree: &Tree) -> Option<usize>
 
 /// Writes the name of each group of the tree to its place.
 #[cycle(write_names)]
-pub fn write_names(alloc: Global, tree: &Tree, names: &mut Vec<Option<String>>) -> Result<(), AllocError>
+pub fn write_names(
+    alloc: Global,
+    tree: &Tree,
+    names: &mut Vec<Option<String>>,
+) -> Result<(), AllocError>
     requires { greatest (groups_in tree.now) < length names.old.items }
     ensures { OnOk result (bytes_of names.new.items ≡ filled (groups_of tree.now) (bytes_of names.old.items)) }
 {
@@ -72,7 +76,11 @@ pub fn write_names(alloc: Global, tree: &Tree, names: &mut Vec<Option<String>>) 
 }
 
 #[cycle(write_names)]
-fn write_names_of_all(alloc: Global, parts: &[Tree], names: &mut Vec<Option<String>>) -> Result<(), AllocError>
+fn write_names_of_all(
+    alloc: Global,
+    parts: &[Tree],
+    names: &mut Vec<Option<String>>,
+) -> Result<(), AllocError>
     requires { greatest (groups_in_all (trees_of parts.now)) < length names.old.items }
     ensures { OnOk result (bytes_of names.new.items ≡ filled (groups_of (sequence (trees_of parts.now))) (bytes_of names.old.items)) }
 {

@@ -44,7 +44,12 @@ impl Program {
     /// It answers the first fault of the number of states, of the number of slots, of the start, and then
     /// of each state in order. `Memory` comes last, only where a `usize` cannot hold the number of edges:
     /// the call takes no memory.
-    pub fn from_states(alloc: Global, states: Vec<State>, start: u32, slots: u32) -> Result<Program, BadProgram>
+    pub fn from_states(
+        alloc: Global,
+        states: Vec<State>,
+        start: u32,
+        slots: u32,
+    ) -> Result<Program, BadProgram>
         ensures made { IfOk result (λ p. p ≡ contents_of_states (program_of states.items start slots)) }
         ensures no_fault { OnOk result (first_fault (program_of states.items start slots) ≡ None) }
         ensures refused { IfErr result (IsBad (program_of states.items start slots)) }

@@ -45,7 +45,10 @@ impl State {
         ensures { result ≡ length (targets_of (state_of self.now)) }
     {
         match self {
-            State::Char { .. } | State::Ranges { .. } | State::Goto { .. } | State::Capture { .. } => 1,
+            State::Char { .. }
+            | State::Ranges { .. }
+            | State::Goto { .. }
+            | State::Capture { .. } => 1,
             State::Splits { targets, .. } => targets.len(),
             State::Fail | State::Match => 0,
         }

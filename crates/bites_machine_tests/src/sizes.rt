@@ -60,7 +60,13 @@ fn repetitions(rt: HostRuntime) -> Result<(), Fail> {
     assert!(rt; is_least(alloc, &repeated(alloc, 2, Some(3), Tree::char('a'))?, 280));
     assert!(rt; is_least(alloc, &repeated(alloc, 0, Some(2), Tree::char('a'))?, 320));
     assert!(rt; is_least(alloc, &repeated(alloc, 2, None, Tree::char('a'))?, 216));
-    assert!(rt; is_least(alloc, &repeated(alloc, 1000, Some(1000), Tree::char('a'))?, 32112));
+    assert!(rt;
+        is_least(
+            alloc,
+            &repeated(alloc, 1000, Some(1000), Tree::char('a'))?,
+            32112
+        )
+    );
     let maybe = repeated(alloc, 0, Some(1), Tree::char('a'))?;
     assert!(rt; is_least(alloc, &repeated(alloc, 0, None, maybe)?, 328));
     Ok(())
@@ -111,9 +117,18 @@ fn a_named_group(rt: HostRuntime) -> Result<(), Fail> {
         }
     };
     assert_eq!(rt; program.pattern(), "(?P<y>a)");
-    assert_eq!(rt; (program.len(), program.slots(), program.targets()), (6, 4, 5));
-    assert_eq!(rt; (program.name(0), program.name(1), program.name(2)), (None, Some("y"), None));
-    assert_eq!(rt; (program.index_of("y"), program.index_of("")), (Some(1), None));
+    assert_eq!(rt;
+        (program.len(), program.slots(), program.targets()),
+        (6, 4, 5)
+    );
+    assert_eq!(rt;
+        (program.name(0), program.name(1), program.name(2)),
+        (None, Some("y"), None)
+    );
+    assert_eq!(rt;
+        (program.index_of("y"), program.index_of("")),
+        (Some(1), None)
+    );
     assert_eq!(rt; program.static_captures_len(), Some(2));
     let first = program.state(program.start());
     assert!(rt; matches!(first, State::Capture { slot: 0, .. }));

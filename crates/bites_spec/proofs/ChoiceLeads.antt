@@ -252,20 +252,24 @@ module _ (list_of : Set → List Range) (lists : (set : Set) → Lists (list_of 
         (at_item list_of nest_limit (inner list_of nest_limit k) k depth behind branches all rest)
     sequence_leads (grammar.ends front behind t rest nodes all at ends same is) zero depth branches fits = absurd (omega arith)
     sequence_leads (grammar.goes_on front middle behind t next rest nodes more all i s) zero depth branches fits = absurd (omega arith)
-    sequence_leads (grammar.ends front behind t rest nodes all at ends same is) (suc n) depth branches fits =
-        (n, omega (arith, ap length at, skip_shorter front.flags t),
-        inl (inner_step list_of nest_limit n depth front branches nodes t
-        ∙ ap (λ x. at_item list_of nest_limit (inner list_of nest_limit n) n depth front branches nodes x) (sym at)
-        ∙ ap (λ x. at_item list_of nest_limit (inner list_of nest_limit n) n depth front branches x rest) (sym same)
-        ∙ ap (λ x. at_item list_of nest_limit (inner list_of nest_limit n) n depth x branches all rest) (sym is)))
+    sequence_leads (grammar.ends front behind t rest nodes all at ends same is) (suc n) depth branches fits = (
+      n,
+      omega (arith, ap length at, skip_shorter front.flags t),
+      inl (inner_step list_of nest_limit n depth front branches nodes t
+          ∙ ap (λ x. at_item list_of nest_limit (inner list_of nest_limit n) n depth front branches nodes x) (sym at)
+          ∙ ap (λ x. at_item list_of nest_limit (inner list_of nest_limit n) n depth front branches x rest) (sym same)
+          ∙ ap (λ x. at_item list_of nest_limit (inner list_of nest_limit n) n depth x branches all rest) (sym is)),
+    )
     sequence_leads (grammar.goes_on front middle behind t next rest nodes more all i s) (suc n) depth branches fits =
         let led = item_leads i n depth branches (omega (arith, skip_shorter front.flags t)) in
-        let later = sequence_leads s n depth branches (omega (arith, item_shorter i, skip_shorter front.flags t)) in
-        (later.0, later.1,
-        goes_then _ (inner list_of nest_limit n depth middle branches more next) _
-        (goes_along (inner list_of nest_limit (suc n) depth front branches nodes t) (at_item list_of nest_limit (inner list_of nest_limit n) n depth front branches nodes (skip front.flags t)) _
-        (inner_step list_of nest_limit n depth front branches nodes t) led)
-        later.2 (sequence_groups s) (sequence_shorter s))
+        let later = sequence_leads s n depth branches (omega (arith, item_shorter i, skip_shorter front.flags t)) in (
+          later.0,
+          later.1,
+          goes_then _ (inner list_of nest_limit n depth middle branches more next) _
+              (goes_along (inner list_of nest_limit (suc n) depth front branches nodes t) (at_item list_of nest_limit (inner list_of nest_limit n) n depth front branches nodes (skip front.flags t)) _
+              (inner_step list_of nest_limit n depth front branches nodes t) led)
+              later.2 (sequence_groups s) (sequence_shorter s),
+        )
 
     -- an item leads the reader behind it
     pub item_leads : {front behind : Front} {t rest : Text} {nodes all : List Tree} (i : ReadsItem front t nodes all behind rest) (n depth : ℕ) (branches : List Tree) →

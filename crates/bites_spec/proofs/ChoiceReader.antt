@@ -179,9 +179,11 @@ module _ (list_of : Set → List Range) (lists : (set : Set) → Lists (list_of 
     bounded : (u : Text) (a : Answer Bounds) → length u ≤ n → counted n front.flags (skip front.flags u) ≡ a →
         Means (λ b rest. ReadsOperator front.flags (left_brace ∷ u) b.0 b.1 b.2 rest) (StuckCount front.flags (left_brace ∷ u)) a →
         CountSays front.flags (left_brace ∷ u) a
-    bounded u (Ok x) here is r =
-        (r, ⊎_elim (λ led. led.1) (λ over. absurd (let e : reading.stop message.invalid_decimal over.0 ≡ Ok x = sym over.1 ∙ is in cc))
-        (count_leads r n u refl here))
+    bounded u (Ok x) here is r = (
+      r,
+      ⊎_elim (λ led. led.1) (λ over. absurd (let e : reading.stop message.invalid_decimal over.0 ≡ Ok x = sym over.1 ∙ is in cc))
+          (count_leads r n u refl here),
+    )
     bounded u (Err e) here is stuck = stuck
 
     brace_says : (nodes : List Tree) (u : Text) → left_brace ∷ u ≡ skip front.flags t →

@@ -41,11 +41,15 @@ first_of e = cc
 solid : (t : Text) (c : ℕ) (next : Text) → skip_white t ≡ c ∷ next → is_ascii_digit c ≡ true → (d : ℕ) × (u : Text) × (t ≡ d ∷ u) × ((d == right_brace) ≡ false)
 unfolding skip_white
 solid [] c next is digit = absurd (omega (arith, ap length is))
-solid (d ∷ u) c next is digit =
-    (d, u, refl, ⊎_elim (λ (b : (d == right_brace) ≡ true).
-    let brace : d ≡ right_brace = eqb-true d right_brace b in
-    let stands : skip_white (right_brace ∷ u) ≡ c ∷ next = ap (λ x. skip_white (x ∷ u)) (sym brace) ∙ is in
-    absurd (true≢false (sym digit ∙ ap is_ascii_digit (sym (first_of stands))))) (λ b. b) (bool_cases (d == right_brace)))
+solid (d ∷ u) c next is digit = (
+  d,
+  u,
+  refl,
+  ⊎_elim (λ (b : (d == right_brace) ≡ true).
+      let brace : d ≡ right_brace = eqb-true d right_brace b in
+      let stands : skip_white (right_brace ∷ u) ≡ c ∷ next = ap (λ x. skip_white (x ∷ u)) (sym brace) ∙ is in
+      absurd (true≢false (sym digit ∙ ap is_ascii_digit (sym (first_of stands))))) (λ b. b) (bool_cases (d == right_brace)),
+)
 
 pub decimal_some : {flags : Flags} {t rest : Text} {v : ℕ} → ReadsDecimal flags t v rest → (d : ℕ) × (u : Text) × (t ≡ d ∷ u) × ((d == right_brace) ≡ false)
 decimal_some (pattern.decimal v t behind digits white rest r some w value) = let first = each_some r some in solid t first.0 first.1 first.2 first.3
@@ -56,8 +60,8 @@ after_leads : {flags : Flags} {t mid rest : Text} {v min : ℕ} {most : Option �
     LeadsToCount min most greedy rest (and_then (decimal n flags t) next)
 after_leads {t = t} {mid = mid} {rest = rest} {v = v} {min = min} {most = most} {greedy = greedy} next r n room below shorter goes =
     elim (answered r n room) [
-      small is few ↦ subst (λ a. LeadsToCount min most greedy rest (and_then a next)) (sym is) (goes few)
-    | large is many ↦ inr (mid, ap (λ a. and_then a next) is, shorter, omega arith)
+      | small is few ↦ subst (λ a. LeadsToCount min most greedy rest (and_then a next)) (sym is) (goes few)
+      | large is many ↦ inr (mid, ap (λ a. and_then a next) is, shorter, omega arith)
     ]
 
 counted_step : {flags : Flags} {t mid : Text} {v : ℕ} (n : ℕ) → ReadsDecimal flags t v mid → counted n flags t ≡ and_then (decimal n flags t) (after_min n flags)
@@ -127,8 +131,8 @@ after_first : {flags : Flags} {t mid : Text} {v : ℕ} (m : Message) (place : Te
     ComesFirst message.invalid_decimal mid m place → StopsBy m place (next v mid) → StopsBy m place (and_then (decimal n flags t) next)
 after_first m place next r n room first goes =
     elim (answered r n room) [
-      small is few ↦ subst (λ a. StopsBy m place (and_then a next)) (sym is) goes
-    | large is many ↦ subst (λ a. StopsBy m place (and_then a next)) (sym is) first
+      | small is few ↦ subst (λ a. StopsBy m place (and_then a next)) (sym is) goes
+      | large is many ↦ subst (λ a. StopsBy m place (and_then a next)) (sym is) first
     ]
 
 -- a stop that comes no earlier than this one

@@ -214,11 +214,12 @@ pub opening_once : {front inner other : Front} {t u inside end : Text} {opening 
     ReadsOpening front u closing other end → t ≡ u → (opening ≡ closing) × (inner ≡ other) × (inside ≡ end)
 opening_once {front} {inner} {other} r s same =
     let b = opening_begins r in
-    let one = sym (opening_answer r b.0 b.1) ∙ opening_answer s b.0 (sym same ∙ b.1) in
-    (ap opening_in one,
-    sym (inner_back front.groups inner (opening_groups r)) ∙ ap (λ a. record (front_in front a) { groups = (front_in front a).groups + front.groups }) one
-    ∙ inner_back front.groups other (opening_groups s),
-    ap behind_in one)
+    let one = sym (opening_answer r b.0 b.1) ∙ opening_answer s b.0 (sym same ∙ b.1) in (
+      ap opening_in one,
+      sym (inner_back front.groups inner (opening_groups r)) ∙ ap (λ a. record (front_in front a) { groups = (front_in front a).groups + front.groups }) one
+          ∙ inner_back front.groups other (opening_groups s),
+      ap behind_in one,
+    )
 
 directive_answer : {front : Front} {t rest : Text} {flags : Flags} → ReadsDirective front t flags rest → (next : Text) → t ≡ left_parenthesis ∷ next →
     opened (bare front) (skip front.flags next) ≡ answer (reading.directive flags) rest

@@ -23,9 +23,10 @@ among_append (y ∷ xs) ys x h = ⊎_elim (λ (e : y ≡ x). inl (inl e)) (λ la
 -- two lists without a common element, each without one twice
 apart_append : (xs ys : List ℕ) → AllApart xs → AllApart ys → ((x : ℕ) → Among xs x → Among ys x → ⊥) → AllApart (xs ++ ys)
 apart_append [] ys first second none = second
-apart_append (x ∷ xs) ys first second none =
-    (λ h. ⊎_elim (λ a. first.0 a) (λ b. none x (inl refl) b) (among_append xs ys x h),
-    apart_append xs ys first.1 second (λ y a b. none y (inr a) b))
+apart_append (x ∷ xs) ys first second none = (
+  λ h. ⊎_elim (λ a. first.0 a) (λ b. none x (inl refl) b) (among_append xs ys x h),
+  apart_append xs ys first.1 second (λ y a b. none y (inr a) b),
+)
 
 first_apart : (xs ys : List ℕ) → AllApart (xs ++ ys) → AllApart xs
 first_apart [] ys h = tt
@@ -130,7 +131,6 @@ of_repeated min (Some m) n e = by_test (min == 0) refl (m == 0) refl
     by_test true is_a true is_b = let same = chosen true true is_a is_b in (same, inl (sym (some_is m n same) ∙ eqb-true m 0 is_b))
     by_test true is_a false is_b = none_is n (chosen true false is_a is_b)
     by_test false is_a b is_b = (chosen false b is_a is_b, inr (above_zero min (eqb-false min 0 is_a)))
-
 of_repeated min None n e = none_is n e
 
 no_groups : (n : ℕ) → Some 0 ≡ Some n → (ms : List Mark) → Witness [] n ms

@@ -96,8 +96,8 @@ module _ (list_of : Set → List Range) (lists : (set : Set) → Lists (list_of 
   refused_has_no_tree pattern flags m t (inr f) l =
       let is : read list_of nest_limit pattern flags ≡ Ok t = limits_lead l in
       elim (read_leads f.reads) [
-        answers same ↦ (let one : f.t ≡ t = cc in too_tall_or_low f.t t one f.too_tall l.low l.counted_height)
-      | stops e stopped passes ↦ cc
+        | answers same ↦ (let one : f.t ≡ t = cc in too_tall_or_low f.t t one f.too_tall l.low l.counted_height)
+        | stops e stopped passes ↦ cc
       ]
 
   by_answer : (pattern : Text) (flags : Flags) (a : Result Tree Stop) → read list_of nest_limit pattern flags ≡ a →
@@ -127,17 +127,18 @@ faults_once pattern flags nest_limit m k (inr f) (inr g) = f.nesting ∙ sym g.n
 
 -- the function answers the trees within the limits
 pub reader_reads : ReaderReads
-reader_reads pattern flags nest_limit t =
-    (λ l. (limits_lead ranges_of ranges_of_list nest_limit l, λ tall. too_tall_or_low t t refl tall l.low l.counted_height),
-    λ answered. low_is_within ranges_of ranges_of_list nest_limit t answered.0 answered.1)
+reader_reads pattern flags nest_limit t = (
+  λ l. (limits_lead ranges_of ranges_of_list nest_limit l, λ tall. too_tall_or_low t t refl tall l.low l.counted_height),
+  λ answered. low_is_within ranges_of ranges_of_list nest_limit t answered.0 answered.1,
+)
 
 refuses : (pattern : Text) (flags : Flags) (nest_limit : ℕ) (m : Message) (a : Result Tree Stop) → read ranges_of nest_limit pattern flags ≡ a →
     Fault pattern flags nest_limit m → Refuses nest_limit m a
 refuses pattern flags nest_limit m (Ok t) is (inl f) = absurd (let s = stuck_leads ranges_of ranges_of_list nest_limit f.stuck in cc)
 refuses pattern flags nest_limit m (Ok t) is (inr f) =
     elim (read_leads ranges_of ranges_of_list nest_limit f.reads) [
-      answers same ↦ (let one : f.t ≡ t = cc in (subst (IsTooTall nest_limit) one f.too_tall, f.nesting))
-    | stops e stopped passes ↦ absurd (cc)
+      | answers same ↦ (let one : f.t ≡ t = cc in (subst (IsTooTall nest_limit) one f.too_tall, f.nesting))
+      | stops e stopped passes ↦ absurd (cc)
     ]
 refuses pattern flags nest_limit m (Err e) is f = faults_once pattern flags nest_limit m e.message f (stop_is_fault ranges_of ranges_of_list nest_limit e is)
 

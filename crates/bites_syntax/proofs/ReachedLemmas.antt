@@ -128,7 +128,7 @@ module _ (limit depth n : ℕ) (start : pattern.Front) (text : pattern.Text) (p 
         is_at = record { front = front_is; branches_are = branches_are; nodes_are = nodes_are here.found.branches here.node_is };
         room = omega (arith, r.room, is);
         same = r.same ∙ enters.same ∙ goes
-        ∙ ap (λ k. inner ranges_of limit k depth (record (here.found.behind) { flags = r.g.flags }) r.branches (r.nodes ++ group_of enters.opening r.g.groups here.found.branches ∷ []) behind.cursor) is;
+            ∙ ap (λ k. inner ranges_of limit k depth (record (here.found.behind) { flags = r.g.flags }) r.branches (r.nodes ++ group_of enters.opening r.g.groups here.found.branches ∷ []) behind.cursor) is;
       }
 
 -- the whole pattern

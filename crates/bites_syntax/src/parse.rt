@@ -23,9 +23,9 @@ ghost use Rattle.bites_spec.specs.Fault.{Fault};
 ghost use Rattle.bites_spec.specs.Measure.{height, IsTooTall, Limits};
 ghost use Rattle.bites_text.specs.Messages.{error_of};
 
-pub use crate::flags::Flags;
 use crate::atom::atom;
 use crate::cursor::Cursor;
+pub use crate::flags::Flags;
 use crate::group::{Front, Opened, open_group};
 use crate::names::Names;
 use crate::node::{Node, Numbered, choice_of, group_of, repetition_of, sequence_of};
@@ -119,7 +119,6 @@ fn close_group(
     rows.nodes.push(node)?;
     Ok(group.flags)
 }
-
 
 /// Opens a group, unless too many are open.
 fn enter(depth: u32, limit: u32, group: OpenGroup) -> Result<Step, Error>
@@ -305,12 +304,7 @@ impl Parser<'_> {
 /// once, a tree no taller than `nest_limit`, and counts and group numbers of at most 4294967295. Else the error is the
 /// message of the pattern's first fault, or want of memory. It takes time linear in the pattern, but for the sorting of
 /// classes, and its recursion goes only into groups, so as deep as `nest_limit`; no taller tree is held meanwhile.
-pub fn parse(
-    alloc: Global,
-    pattern: &str,
-    flags: Flags,
-    nest_limit: u32,
-) -> Result<Tree, Error>
+pub fn parse(alloc: Global, pattern: &str, flags: Flags, nest_limit: u32) -> Result<Tree, Error>
     ensures read { IfOk result (λ t. Limits (chars pattern.now) (flags_of flags) nest_limit t) }
     ensures compilable { IfOk result (λ t. IsCompilable t) }
     ensures refused { IfErr result (λ e. e ≢ Error.Memory → (t : spec.Tree) → Limits (chars pattern.now) (flags_of flags) nest_limit t → ⊥) }
@@ -320,12 +314,7 @@ pub fn parse(
 }
 
 // The tree that the grammar's function on lists answers, or the error of its stop or of a tree that is too tall.
-fn read_pattern(
-    alloc: Global,
-    pattern: &str,
-    flags: Flags,
-    nest_limit: u32,
-) -> Result<Tree, Error>
+fn read_pattern(alloc: Global, pattern: &str, flags: Flags, nest_limit: u32) -> Result<Tree, Error>
     ensures reads { IfOk result (λ t. (read ranges_of nest_limit (chars pattern.now) (flags_of flags) ≡ Ok t) × (height t ≤ nest_limit) × (height t < 4294967295)) }
     ensures refuses { IfErr result (λ e. Refuses e (read ranges_of nest_limit (chars pattern.now) (flags_of flags)) ⊎ ((e ≡ Error.TooMuchNesting) × ((t : spec.Tree) × (read ranges_of nest_limit (chars pattern.now) (flags_of flags) ≡ Ok t) × IsTooTall nest_limit t))) }
 {

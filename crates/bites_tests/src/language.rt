@@ -16,9 +16,15 @@ fn repeated(alloc: Global, part: &str, count: usize) -> Result<String, AllocErro
 #[test]
 fn nesting_is_limited(rt: HostRuntime) -> Result<(), Refused> {
     let fifty = repeated(rt.alloc(), "(", 50)?;
-    assert_eq!(rt; Regex::new(rt.alloc(), fifty.as_str()).err(), Some(Error::UnclosedGroup));
+    assert_eq!(rt;
+        Regex::new(rt.alloc(), fifty.as_str()).err(),
+        Some(Error::UnclosedGroup)
+    );
     let more = repeated(rt.alloc(), "(", 51)?;
-    assert_eq!(rt; Regex::new(rt.alloc(), more.as_str()).err(), Some(Error::TooMuchNesting));
+    assert_eq!(rt;
+        Regex::new(rt.alloc(), more.as_str()).err(),
+        Some(Error::TooMuchNesting)
+    );
     for (pattern, accepted) in [
         ("a", true),
         ("a{1}", true),
@@ -29,7 +35,11 @@ fn nesting_is_limited(rt: HostRuntime) -> Result<(), Refused> {
     ] {
         let mut builder = RegexBuilder::new(rt.alloc(), pattern)?;
         let error = builder.nest_limit(0).build().err();
-        let wanted = if accepted { None } else { Some(Error::TooMuchNesting) };
+        let wanted = if accepted {
+            None
+        } else {
+            Some(Error::TooMuchNesting)
+        };
         assert_eq!(rt; error, wanted, "{pattern}");
     }
     Ok(())

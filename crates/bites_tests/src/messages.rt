@@ -18,7 +18,10 @@ fn of_groups_and_flags(rt: HostRuntime) -> Result<(), AllocError> {
             ("(?<¾>z)", "invalid group name"),
             ("(?<a¾>z)", "accepted"),
             ("(?<名字>z)", "accepted"),
-            ("(?<a", "expected end of capture group name, but got end of pattern"),
+            (
+                "(?<a",
+                "expected end of capture group name, but got end of pattern",
+            ),
             ("(?<>a)", "empty capture group names are not allowed"),
             ("(?P<a>y)(?P<a>z)", "duplicate capture group name"),
             ("(?<a>x){0}(?<a>y)", "duplicate capture group name"),
@@ -29,7 +32,10 @@ fn of_groups_and_flags(rt: HostRuntime) -> Result<(), AllocError> {
                 "(?is",
                 "expected ':' or ')' to end inline flags, but got end of pattern",
             ),
-            ("(?is-:foo)", "inline flags cannot end with negation directive"),
+            (
+                "(?is-:foo)",
+                "inline flags cannot end with negation directive",
+            ),
         ],
     )
 }
@@ -70,7 +76,10 @@ fn of_operators(rt: HostRuntime) -> Result<(), AllocError> {
                 "a{5;",
                 "expected closing brace for counted repetition, but got something else",
             ),
-            ("a{6,5}", "found counted repetition with a min bigger than its max"),
+            (
+                "a{6,5}",
+                "found counted repetition with a min bigger than its max",
+            ),
         ],
     )
 }
@@ -80,7 +89,10 @@ fn of_escapes(rt: HostRuntime) -> Result<(), AllocError> {
     expect_messages(
         &rt,
         &[
-            ("\\x{}", "expected hexadecimal number in braces, but got no digits"),
+            (
+                "\\x{}",
+                "expected hexadecimal number in braces, but got no digits",
+            ),
             (
                 "\\x{g}",
                 "expected hexadecimal number in braces, but got non-hex digit",

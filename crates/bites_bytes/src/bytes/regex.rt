@@ -73,12 +73,7 @@ impl Compiled {
         CaptureNames::new(&self.program)
     }
 
-    fn is_match_at(
-        &self,
-        alloc: Global,
-        haystack: &[u8],
-        start: usize,
-    ) -> Result<bool, AllocError>
+    fn is_match_at(&self, alloc: Global, haystack: &[u8], start: usize) -> Result<bool, AllocError>
         ensures { IfOk result (λ found. IsTrue found ↔ HasMatch self.now.tree haystack.now start) }
     {
         vm::is_match_at(alloc, self.program(), haystack, start)

@@ -15,8 +15,8 @@ write_names-returns-in_ok-names-in-Capture t c =
     let copied = map-set (option_map string_bytes) old c.in-Capture.index c.in_ok-names-in-Capture.field-0
     ∙ ap (λ name. slice_set (bytes_of old) c.in-Capture.index name) c.in_ok-names-in-Capture.ensures in
     subst (λ x. OnOk c.write_names-in-Capture.result (bytes_of c.write_names-in-Capture.new.names.items ≡ x))
-        (ap (λ names. filled (groups_of c.deref-in-Capture.result.now) names) copied ∙ ap (λ (x : Tree). filled (groups_of x) (bytes_of old)) same)
-        c.write_names-in-Capture.ensures
+    (ap (λ names. filled (groups_of c.deref-in-Capture.result.now) names) copied ∙ ap (λ (x : Tree). filled (groups_of x) (bytes_of old)) same)
+    c.write_names-in-Capture.ensures
 
 pub write_names_of_all-write_names-requires : goal.write_names_of_all-write_names-requires
 write_names_of_all-write_names-requires t c =

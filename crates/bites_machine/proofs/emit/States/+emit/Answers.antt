@@ -75,8 +75,8 @@ counted-copies-requires-else-min-eq0 t c =
     let few : c.args.min ≡ 0 → c.args.max ≤ 1 =
     λ (e : c.args.min ≡ 0).
     elim c.else-min-eq0.branch [
-    | counted-else-min-eq0-via-then-min-eq0+else-max-gt1 w ↦ omega (arith, w.if-max-gt1.false)
-    | counted-else-min-eq0-via-else-min-eq0 w ↦ absurd (w.if-min-eq0.false e)
+      | counted-else-min-eq0-via-then-min-eq0+else-max-gt1 w ↦ omega (arith, w.if-max-gt1.false)
+      | counted-else-min-eq0-via-else-min-eq0 w ↦ absurd (w.if-min-eq0.false e)
     ] in
     let room = ranged_or_once-room (is_empty_by_form c.args.sub.now) (size_of c.args.sub.now) c.args.min c.args.max (omega arith) few in
     (omega (arith, c.decreases), (c.requires.reduced, (omega (arith, body, room, c.requires.room), c.requires.slots)))

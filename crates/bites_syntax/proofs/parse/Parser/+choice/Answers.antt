@@ -26,15 +26,16 @@ returns-in_err-step-clause-forward t c = omega (arith, c.in_err-step.ensures.for
 pub loop-rows-preserved-in-Item : goal.loop-rows-preserved-in-Item
 loop-rows-preserved-in-Item t c =
     let less : length c.step.new.self.cursor < length c.loop-rows.self.cursor =
-    subst (λ s. IsForward c.args.limit c.args.depth (Ok s) c.loop-rows.self.cursor c.step.new.self.cursor) c.in-Item.is c.in_ok-step.ensures.forward in
-    (λ start is n room.
-    let r = c.loop-rows.invariant.0 start is n room in
-    let on : GoesOn c.args.limit c.args.depth r.steps c.step.new.self c.step.new.rows (inner ranges_of c.args.limit (suc r.steps) c.args.depth r.g r.branches r.nodes c.loop-rows.self.cursor) =
-    subst (λ s. Steps c.args.limit c.args.depth r.steps r.g r.branches r.nodes (Ok s) c.step.new.self c.step.new.rows
-    (inner ranges_of c.args.limit (suc r.steps) c.args.depth r.g r.branches r.nodes c.loop-rows.self.cursor))
-    c.in-Item.is (c.in_ok-step.ensures.steps r.g r.branches r.nodes r.is_at r.steps r.room) in
-    reached_item c.args.limit c.args.depth n start c.args.self.now.cursor c.loop-rows.self c.loop-rows.rows c.step.new.self c.step.new.rows r on less,
-    omega (arith, less, c.loop-rows.invariant.1))
+    subst (λ s. IsForward c.args.limit c.args.depth (Ok s) c.loop-rows.self.cursor c.step.new.self.cursor) c.in-Item.is c.in_ok-step.ensures.forward in (
+      λ start is n room.
+          let r = c.loop-rows.invariant.0 start is n room in
+          let on : GoesOn c.args.limit c.args.depth r.steps c.step.new.self c.step.new.rows (inner ranges_of c.args.limit (suc r.steps) c.args.depth r.g r.branches r.nodes c.loop-rows.self.cursor) =
+          subst (λ s. Steps c.args.limit c.args.depth r.steps r.g r.branches r.nodes (Ok s) c.step.new.self c.step.new.rows
+          (inner ranges_of c.args.limit (suc r.steps) c.args.depth r.g r.branches r.nodes c.loop-rows.self.cursor))
+          c.in-Item.is (c.in_ok-step.ensures.steps r.g r.branches r.nodes r.is_at r.steps r.room) in
+          reached_item c.args.limit c.args.depth n start c.args.self.now.cursor c.loop-rows.self c.loop-rows.rows c.step.new.self c.step.new.rows r on less,
+      omega (arith, less, c.loop-rows.invariant.1),
+    )
 
 pub returns-in_err-choice-in-Group-clause-reads : goal.returns-in_err-choice-in-Group-clause-reads
 returns-in_err-choice-in-Group-clause-reads t c = λ g is n room.
@@ -55,23 +56,24 @@ returns-in_err-choice-in-Group-clause-reads t c = λ g is n room.
 pub loop-rows-preserved : goal.loop-rows-preserved
 loop-rows-preserved t c =
     let forward : (length c.step.new.self.cursor < length c.loop-rows.self.cursor) × (c.args.depth < c.args.limit) =
-    subst (λ s. IsForward c.args.limit c.args.depth (Ok s) c.loop-rows.self.cursor c.step.new.self.cursor) c.in-Group.is c.in_ok-step.ensures.forward in
-    (λ start is n room.
-    let r = c.loop-rows.invariant.0 start is n room in
-    let on : Steps c.args.limit c.args.depth r.steps r.g r.branches r.nodes (Ok (Group c.in-Group.group)) c.step.new.self c.step.new.rows
-    (inner ranges_of c.args.limit (suc r.steps) c.args.depth r.g r.branches r.nodes c.loop-rows.self.cursor) =
-    subst (λ s. Steps c.args.limit c.args.depth r.steps r.g r.branches r.nodes (Ok s) c.step.new.self c.step.new.rows
-    (inner ranges_of c.args.limit (suc r.steps) c.args.depth r.g r.branches r.nodes c.loop-rows.self.cursor))
-    c.in-Group.is (c.in_ok-step.ensures.steps r.g r.branches r.nodes r.is_at r.steps r.room) in
-    reached_group c.args.limit c.args.depth n start c.args.self.now.cursor c.loop-rows.self c.loop-rows.rows c.step.new.self c.in-Group.group r on.0 forward.0
-    c.choice.new.self _ c.close_group.new.rows c.in_ok-choice-in-Group.choice
-    (λ k fits. subst (λ d. ReadsAs c.args.limit c.choice.new.self c.in_ok-choice-in-Group.choice (inner ranges_of c.args.limit (suc k) d on.0.inside [] [] c.step.new.self.cursor)) (add-one c.args.depth)
-    (c.in_ok-choice-in-Group.ensures.reads on.0.inside on.0.front k fits))
-    c.in_ok-choice-in-Group.ensures.forward c.bump.ensures.rest c.bump.ensures.forward
-    (ap (λ f. record (c.choice.new.self.front) { flags = f }) c.in_ok-self-in-Group.ensures.flags)
-    (rw c.in_ok-self-in-Group.ensures.branches on.1)
-    (λ branches stands. c.in_ok-self-in-Group.ensures.nodes on.0.opening r.g.groups branches r.nodes on.0.numbered stands on.2),
-    omega (arith, forward.0, c.loop-rows.invariant.1, c.in_ok-choice-in-Group.ensures.forward, c.bump.ensures.forward))
+    subst (λ s. IsForward c.args.limit c.args.depth (Ok s) c.loop-rows.self.cursor c.step.new.self.cursor) c.in-Group.is c.in_ok-step.ensures.forward in (
+      λ start is n room.
+          let r = c.loop-rows.invariant.0 start is n room in
+          let on : Steps c.args.limit c.args.depth r.steps r.g r.branches r.nodes (Ok (Group c.in-Group.group)) c.step.new.self c.step.new.rows
+          (inner ranges_of c.args.limit (suc r.steps) c.args.depth r.g r.branches r.nodes c.loop-rows.self.cursor) =
+          subst (λ s. Steps c.args.limit c.args.depth r.steps r.g r.branches r.nodes (Ok s) c.step.new.self c.step.new.rows
+          (inner ranges_of c.args.limit (suc r.steps) c.args.depth r.g r.branches r.nodes c.loop-rows.self.cursor))
+          c.in-Group.is (c.in_ok-step.ensures.steps r.g r.branches r.nodes r.is_at r.steps r.room) in
+          reached_group c.args.limit c.args.depth n start c.args.self.now.cursor c.loop-rows.self c.loop-rows.rows c.step.new.self c.in-Group.group r on.0 forward.0
+          c.choice.new.self _ c.close_group.new.rows c.in_ok-choice-in-Group.choice
+          (λ k fits. subst (λ d. ReadsAs c.args.limit c.choice.new.self c.in_ok-choice-in-Group.choice (inner ranges_of c.args.limit (suc k) d on.0.inside [] [] c.step.new.self.cursor)) (add-one c.args.depth)
+          (c.in_ok-choice-in-Group.ensures.reads on.0.inside on.0.front k fits))
+          c.in_ok-choice-in-Group.ensures.forward c.bump.ensures.rest c.bump.ensures.forward
+          (ap (λ f. record (c.choice.new.self.front) { flags = f }) c.in_ok-self-in-Group.ensures.flags)
+          (rw c.in_ok-self-in-Group.ensures.branches on.1)
+          (λ branches stands. c.in_ok-self-in-Group.ensures.nodes on.0.opening r.g.groups branches r.nodes on.0.numbered stands on.2),
+      omega (arith, forward.0, c.loop-rows.invariant.1, c.in_ok-choice-in-Group.ensures.forward, c.bump.ensures.forward),
+    )
 
 pub returns-in-End-clause-reads : goal.returns-in-End-clause-reads
 returns-in-End-clause-reads t c = λ g is n room.

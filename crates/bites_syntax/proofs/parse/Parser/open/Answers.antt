@@ -20,7 +20,7 @@ returns-in-Directive-clause-steps c = λ rows g bs ts is n.
       nodes = ts;
       is_at = record { front = read_as.2; branches_are = is.branches_are; nodes_are = is.nodes_are };
       same = ap (λ a. and_then a (at_opened ranges_of c.args.limit (inner ranges_of c.args.limit n) c.args.depth g bs ts)) same
-      ∙ directive_goes c.args.limit (inner ranges_of c.args.limit n) c.args.depth g bs ts c.skip.new.self c.open_group.new.cursor read.0 read_as.0 read.1 read_as.1;
+          ∙ directive_goes c.args.limit (inner ranges_of c.args.limit n) c.args.depth g bs ts c.skip.new.self c.open_group.new.cursor read.0 read_as.0 read.1 read_as.1;
     }
 
 pub returns-in-Unnumbered-clause-steps : goal.returns-in-Unnumbered-clause-steps

@@ -30,5 +30,5 @@ returns-clause-steps c = λ limit g bs ts is depth n room.
         nodes_are = rw c.in_ok-push.ensures.items (nodes_push limit c.args.rows.now.nodes.items c.leaf.result ts c.in_ok-tree.tree is.nodes_are (c.leaf.ensures limit));
       };
       same = ap (λ a. and_then a (λ node rest. inner ranges_of limit n depth g bs (ts ++ node ∷ []) rest)) reads
-      ∙ ap (λ t. inner ranges_of limit n depth g bs (ts ++ t ∷ []) c.atom.new.cursor) (sym read.2);
+          ∙ ap (λ t. inner ranges_of limit n depth g bs (ts ++ t ∷ []) c.atom.new.cursor) (sym read.2);
     }

@@ -41,5 +41,5 @@ returns-clause-steps c = λ g bs ts is depth at n room.
         nodes_are = c.in_ok-repeat.ensures.nodes one.first one.more are;
       };
       same = operator_goes c.args.limit (inner ranges_of c.args.limit n) depth g bs ts one.more one.first message.nothing_to_count at c.counted.new.cursor _ _ one.are
-      (same ∙ c.in_ok-bounds.ensures.reads n (omega arith));
+          (same ∙ c.in_ok-bounds.ensures.reads n (omega arith));
     }
