@@ -38,11 +38,11 @@ pub(crate) fn plain_operator(
     ensures reads { plain_operator (flags_of flags) min max (lazy cursor.old) ≡ Ok (bounds_of result, cursor.new) }
     ensures forward { length cursor.new ≤ length cursor.old }
 {
-    let lazy = cursor.bump_if('?');
+    let is_lazy = cursor.bump_if('?');
     Bounds {
         min,
         max,
-        greedy: is_greedy(flags, lazy),
+        greedy: is_greedy(flags, is_lazy),
     }
 }
 
