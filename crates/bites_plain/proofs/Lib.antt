@@ -1,3 +1,5 @@
+pub mod CuttingLemmas
+pub mod DigitLemmas
 pub mod PlaceLemmas
 pub mod ReplacedLemmas
 pub mod RowLemmas

@@ -1,2 +1,5 @@
+pub mod Cutting
+pub mod Group
+pub mod Groups
 pub mod Successive
 pub mod Walk

@@ -7,8 +7,9 @@
 pub mod parses;
 pub mod piece;
 pub mod pieces;
+pub mod plain;
 pub mod run;
 pub mod span;
 pub mod spans;
 pub mod spot;
-pub mod way;
+pub mod template;pub mod way;

@@ -1,0 +1,31 @@
+-- Templates that are cut part by part.
+use Rattle.std.specs.Prelude.{◌≡◌, ℕ, ◌+◌, Bool, true, List, ◌∷◌, ◌++◌, length, take, drop}
+use Rattle.std.specs.List.{list_all}
+use Rattle.bites_spec.specs.Look.{is_word_byte}
+use Rattle.bites_spec.specs.Walks.{IsNew}
+use Rattle.bites_spec.specs.Template.{Part, Cuts, IsName, EndsWord}
+
+-- the template is this part, and what it is cut into behind so many bytes
+abbrev pub CutsFirst : Bool → List ℕ → Part → List ℕ → Type 0
+CutsFirst any template part rest = (parts : List Part) → Cuts any rest parts → Cuts any template (part ∷ parts)
+
+-- no name in braces stands here, behind its opening one
+abbrev pub NoName : Bool → List ℕ → Type 0
+NoName any inside = (word tail : List ℕ) → inside ≡ word ++ 125 ∷ tail → IsNew 125 word → IsName any word → ⊥
+
+-- this name stands here, up to the first closing brace
+pub record StandsInBraces (any : Bool) (inside word : List ℕ) : Type 0 where
+  pub whole : inside ≡ word ++ 125 ∷ drop (length word + 1) inside
+  pub first : IsNew 125 word
+  pub named : IsName any word
+
+-- the longest run of bytes of a word at the front
+pub record IsWordAt (bytes word : List ℕ) : Type 0 where
+  pub whole : bytes ≡ word ++ drop (length word) bytes
+  pub word_bytes : list_all is_word_byte word ≡ true
+  pub ends : EndsWord (drop (length word) bytes)
+
+-- at i stands the first closing brace
+pub record IsFirstBrace (bytes : List ℕ) (i : ℕ) : Type 0 where
+  pub whole : bytes ≡ take i bytes ++ 125 ∷ drop (i + 1) bytes
+  pub first : IsNew 125 (take i bytes)
