@@ -12,4 +12,5 @@ pub mod run;
 pub mod span;
 pub mod spans;
 pub mod spot;
-pub mod template;pub mod way;
+pub mod template;
+pub mod way;
