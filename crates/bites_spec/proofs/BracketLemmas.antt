@@ -1,6 +1,9 @@
 -- The laws of classes in brackets: what the function answers is a reading or a place where reading stops, what the relation reads the function answers,
 -- and where the relation stops the function stops, no later.
-use Rattle.std.proofs.Common.{◌≡◌, ◌<◌, ◌≤◌, ◌∷◌, length, arith, ap}
+use Rattle.std.proofs.Common.{◌≡◌, ◌<◌, ◌≤◌, List, ◌∷◌, length, arith, ap, subst}
+use Rattle.bites_spec.specs.Range.{Range}
+use Rattle.bites_spec.specs.Bracket.{ReadsBracket}
+use Rattle.bites_spec.proofs.ChoiceParts.{StopsBy}
 use Rattle.bites_spec.specs.Message.{Message}
 use Rattle.bites_spec.specs.Pattern.{Text, Flags, left_bracket}
 use Rattle.bites_spec.specs.BracketFault.{StuckMembers, StuckBracket}
@@ -51,3 +54,11 @@ stuck_bracket_shorter (StuckBracket.ends_after_bracket t next behind_caret more 
     omega (arith, ap length from, ap length is)
 stuck_bracket_shorter (StuckBracket.in_members t items place negated leading m before r) =
     omega (arith, front_shorter before, stuck_members_shorter r)
+
+-- a class in brackets whose reading stops is not read as well
+pub bracket_not_both : {flags : Flags} {t rest place : Text} {m : Message} {ranges : List Range} →
+    StuckBracket flags t m place → ReadsBracket flags t ranges rest → ⊥
+bracket_not_both {flags} {t} {rest} {place} {m} stuck reads =
+    let begins = bracket_begins reads in
+    let led = bracket_leads reads (length begins.0) begins.0 begins.1 (omega arith) in
+    subst (StopsBy m place) led.1 (bracket_first stuck (length begins.0) begins.0 begins.1 (omega arith))

@@ -54,3 +54,5 @@ pub mod WholeSound
 mod WholeRanks
 pub mod WholeLaws
 pub mod WholeOnce
+pub mod FoundSomeLemmas
+pub mod ReplaceLemmas

@@ -6,6 +6,8 @@ use Rattle.bites_spec.specs.Tree.{Tree}
 use Rattle.bites_spec.specs.Built.{IsCompilable}
 use Rattle.bites_spec.specs.Message.{Message, too_much_nesting}
 use Rattle.bites_spec.specs.Pattern.{Text, Flags}
+use Rattle.bites_spec.specs.Bracket.{ReadsBracket}
+use Rattle.bites_spec.specs.BracketFault.{StuckBracket}
 use Rattle.bites_spec.specs.Grammar.{Reads}
 use Rattle.bites_spec.specs.Measure.{Limits, IsTooTall}
 use Rattle.bites_spec.specs.RangesOf.{ranges_of}
@@ -54,3 +56,9 @@ ReaderRefuses =
 -- a program can hold the tree of a pattern
 abbrev pub ReadIsCompilable : Type 0
 ReadIsCompilable = (pattern : Text) (flags : Flags) (t : Tree) → Reads pattern flags t → IsCompilable t
+
+-- a class in brackets whose reading stops is not read as well
+abbrev pub StuckBracketIsNotRead : Type 0
+StuckBracketIsNotRead =
+    (flags : Flags) (t rest place : Text) (ranges : List Range) (m : Message) →
+    StuckBracket flags t m place → ReadsBracket flags t ranges rest → ⊥

@@ -4,8 +4,8 @@
 #![tactic(auto)]
 
 ghost use Rattle.bites_spec.specs.Class.{ListsOnce};
-ghost use Rattle.bites_spec.specs.Laws.{MatchIsParse, FirstRunIsFirst, FirstRunIsOne, RunsAreParses, PlainRunsAreSimple, FirstRunIsFound, LeastEndIsLeast, ParsesAreListed, LongestIsFound, ParsesEndAtMatches, StaticCountIsLeast, SpansGrow, PiecesAndMatches, ReplacedIsJoined};
-ghost use Rattle.bites_spec.specs.GrammarLaws.{ListsAll, ReadIsCompilable, ReadsOnce, FaultsOnce, RefusedHasNoTree, ReadOrRefused, ReaderReads, ReaderRefuses};
+ghost use Rattle.bites_spec.specs.Laws.{MatchIsParse, FirstRunIsFirst, FirstRunIsOne, RunsAreParses, PlainRunsAreSimple, FirstRunIsFound, LeastEndIsLeast, ParsesAreListed, LongestIsFound, ParsesEndAtMatches, StaticCountIsLeast, SpansGrow, PiecesAndMatches, ReplacedIsJoined, FoundIsSome, AnsweredKeepsLength, ReplacesOnce};
+ghost use Rattle.bites_spec.specs.GrammarLaws.{ListsAll, ReadIsCompilable, ReadsOnce, FaultsOnce, RefusedHasNoTree, ReadOrRefused, ReaderReads, ReaderRefuses, StuckBracketIsNotRead};
 ghost use Rattle.bites_spec.specs.RangesOf.{RangesOfList};
 
 pub fn match_is_parse()
@@ -102,4 +102,20 @@ pub fn reader_reads()
 
 pub fn reader_refuses()
     ensures { ReaderRefuses }
+{}
+
+pub fn stuck_brackets_are_not_read()
+    ensures { StuckBracketIsNotRead }
+{}
+
+pub fn found_is_some()
+    ensures { FoundIsSome }
+{}
+
+pub fn answers_keep_their_length()
+    ensures { AnsweredKeepsLength }
+{}
+
+pub fn replacers_replace_once<S, C>()
+    ensures { ReplacesOnce S C }
 {}

@@ -1,0 +1,38 @@
+-- What a replacer gives is decided by what it is.
+use Rattle.std.proofs.Common.{◌≡◌, ℕ, List, [], ◌∷◌, map, Option, Some, None, refl, sym, ap, ap₂, ◌∙◌, subst}
+use Rattle.bites_spec.specs.Match.{Span}
+use Rattle.bites_spec.specs.Pieces.{limited, replaced}
+use Rattle.bites_spec.specs.Replace.{Gave, Served, Texts, Replaces}
+
+module _ {S C : Type 0} (Gives : S → C → List ℕ → S → Type 0) (Answers : S → Option (List ℕ) → S → Type 0)
+    (given : (s : S) (c : C) (t u : List ℕ) (m k : S) → Gives s c t m → Gives s c u k → (t ≡ u) × (m ≡ k))
+    (answered : (s : S) (o r : Option (List ℕ)) (m k : S) → Answers s o m → Answers s r k → (o ≡ r) × (m ≡ k)) where
+  gave_once : (s : S) (cs : List C) (ts us : List (List ℕ)) (m k : S) →
+      Gave Gives Answers s cs ts m → Gave Gives Answers s cs us k → (ts ≡ us) × (m ≡ k)
+  gave_once s [] [] [] m k x y = (refl, x ∙ sym y)
+  gave_once s [] [] (u ∷ us) m k x y = elim y [ ]
+  gave_once s [] (t ∷ ts) us m k x y = elim x [ ]
+  gave_once s (c ∷ cs) [] us m k x y = elim x [ ]
+  gave_once s (c ∷ cs) (t ∷ ts) [] m k x y = elim y [ ]
+  gave_once s (c ∷ cs) (t ∷ ts) (u ∷ us) m k x y =
+      let one = given s c t u x.0 y.0 x.1 y.1 in
+      let others = gave_once x.0 cs ts us m k x.2 (subst (λ z. Gave Gives Answers z cs us k) (sym one.1) y.2) in
+      (ap₂ (λ a b. a ∷ b) one.0 others.0, others.1)
+
+  served_once : (o : Option (List ℕ)) (s : S) (cs : List C) (ts us : List (List ℕ)) (m k : S) →
+      Served Gives Answers o s cs ts m → Served Gives Answers o s cs us k → (ts ≡ us) × (m ≡ k)
+  served_once None s cs ts us m k x y = gave_once s cs ts us m k x y
+  served_once (Some text) s cs ts us m k x y = (x.0 ∙ sym y.0, x.1 ∙ sym y.1)
+
+  texts_once : (s : S) (cs : List C) (ts us : List (List ℕ)) (m k : S) →
+      Texts Gives Answers s cs ts m → Texts Gives Answers s cs us k → (ts ≡ us) × (m ≡ k)
+  texts_once s cs ts us m k x y =
+      let asked = answered s x.0 y.0 x.1 y.1 x.2 y.2 in
+      served_once x.0 x.1 cs ts us m k x.3
+      (subst (λ o. Served Gives Answers o x.1 cs us k) (sym asked.0) (subst (λ z. Served Gives Answers y.0 z cs us k) (sym asked.1) y.3))
+
+  pub replaces_once : (span_of : C → Span) (hay : List ℕ) (n : ℕ) (cs : List C) (s : S) (x y : List ℕ) (m k : S) →
+      Replaces Gives Answers span_of hay n cs s x m → Replaces Gives Answers span_of hay n cs s y k → (x ≡ y) × (m ≡ k)
+  replaces_once span_of hay n cs s x y m k r q =
+      let texts = texts_once s (limited n cs) r.0 q.0 m k r.1 q.1 in
+      (r.2 ∙ ap (replaced hay n (map span_of cs)) texts.0 ∙ sym q.2, texts.1)
