@@ -20,6 +20,8 @@ mod run;
 mod searches;
 mod sweep;
 mod tally;
+#[cfg(test)]
+mod tests;
 
 use run::run;
 use std::process::ExitCode;
