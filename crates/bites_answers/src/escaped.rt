@@ -1,5 +1,7 @@
 //! Texts as the file writes them: a byte of printable ASCII is itself, `\\` is a backslash, and `\xHH` any other byte.
 
+ghost use Rattle.std.specs.Prelude.{◌≤◌, length, IfSome};
+
 use std::alloc::{AllocError, Global};
 use std::fmt::Write;
 use std::str;
@@ -19,7 +21,9 @@ pub fn unescaped(alloc: Global, text: &[u8]) -> Result<Option<Vec<u8>>, AllocErr
 }
 
 // The byte at the front of an escaped text, and what is left behind it.
-fn unescaped_byte(first: u8, behind: &[u8]) -> Option<(u8, &[u8])> {
+fn unescaped_byte(first: u8, behind: &[u8]) -> Option<(u8, &[u8])>
+    ensures { IfSome result (λ read. length read.1.now ≤ length behind.now) }
+{
     if first != b'\\' {
         return Some((first, behind));
     }

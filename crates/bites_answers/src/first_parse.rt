@@ -96,7 +96,8 @@ fn first_parses(
 ) -> Result<Vec<Groups>, AllocError> {
     let mut found = Vec::new(alloc);
     for place in &places(alloc, haystack, start)? {
-        if let Some(way) = parses(alloc, &compiled.tree, haystack, *place)?.first() {
+        let ways = parses(alloc, &compiled.tree, haystack, *place)?;
+        if let Some(way) = ways.first() {
             found.push(groups_of_way(alloc, compiled.program.groups(), *place, way)?)?;
             return Ok(found);
         }

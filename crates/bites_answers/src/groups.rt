@@ -11,8 +11,9 @@ pub type Groups = Vec<Option<Span>>;
 
 /// The groups of a run.
 pub fn groups_of(alloc: Global, program: &Program, run: &Run) -> Result<Groups, AllocError> {
+    let filled = slots(alloc, program, run)?;
     let mut groups = Vec::new(alloc);
-    for pair in slots(alloc, program, run)?.chunks_exact(2) {
+    for pair in filled.chunks_exact(2) {
         groups.push(span_of(pair))?;
     }
     Ok(groups)

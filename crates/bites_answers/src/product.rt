@@ -6,14 +6,11 @@ use bites_bytes::bytes::{Error, Regex, RegexBuilder};
 use std::alloc::{AllocError, Global};
 use std::fmt::Write;
 
-/// The steps, from the greatest on, by which the least size limit is sought.
-const STEPS: [usize; 26] = [
-    33554432, 16777216, 8388608, 4194304, 2097152, 1048576, 524288, 262144, 131072, 65536, 32768,
-    16384, 8192, 4096, 2048, 1024, 512, 256, 128, 64, 32, 16, 8, 4, 2, 1,
-];
+/// How many times the greatest size limit can be halved.
+const HALVES: u32 = 26;
 
-/// The greatest size limit at which a size is sought: one more than all steps.
-const GREATEST: usize = 67108864;
+/// The greatest size limit at which a size is sought.
+const GREATEST: usize = 1 << HALVES;
 
 // A builder of the case's pattern, flags and limits.
 fn builder(alloc: Global, case: &Case) -> Result<RegexBuilder, Error> {
@@ -63,10 +60,12 @@ pub fn weight(alloc: Global, case: &Case) -> Result<String, Error> {
     if is_too_big(&mut builder, GREATEST)? {
         return Ok(String::from_str(alloc, "above")?);
     }
-    // The greatest limit that is known to be refused.
+    // The greatest limit that is known to be refused, and how far the least accepted one is above it at most.
     let mut refused = 0usize;
-    for step in &STEPS {
-        let limit = refused.saturating_add(*step);
+    let mut above = GREATEST;
+    for _ in 0..HALVES {
+        above /= 2;
+        let limit = refused.saturating_add(above);
         if is_too_big(&mut builder, limit)? {
             refused = limit;
         }
@@ -87,11 +86,8 @@ fn is_too_big(builder: &mut RegexBuilder, limit: usize) -> Result<bool, Error> {
 /// Whether something matches from the start on.
 pub fn is_match(alloc: Global, case: &Case) -> Result<String, Error> {
     let regex = builder(alloc, case)?.build()?;
-    Ok(
-        regex
-            .is_match_at(&case.haystack, case.arg)?
-            .to_string(alloc)?,
-    )
+    let found = regex.is_match_at(&case.haystack, case.arg)?;
+    Ok(found.to_string(alloc)?)
 }
 
 /// The least end of a match that begins from the start on, or `none`.
