@@ -1,5 +1,6 @@
 pub mod CuttingLemmas
 pub mod DigitLemmas
+pub mod LongestLemmas
 pub mod PlaceLemmas
 pub mod ReplacedLemmas
 pub mod RowLemmas

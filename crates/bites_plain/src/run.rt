@@ -4,8 +4,9 @@ ghost use Rattle.std.specs.Prelude.{◌≡◌, ◌≤◌, [], ◌∷◌, None, I
 ghost use Rattle.bites_spec.specs.Utf8 as spec;
 ghost use Rattle.bites_spec.specs.Walks.{last_of};
 ghost use Rattle.bites_spec.specs.Program.{IsWellFormed};
-ghost use Rattle.bites_spec.specs.Run.{first_run, first_run_from, slots, writes, last_write};
-ghost use Rattle.bites_plain.specs.Walk.{first_walk, is_seen, LeadsNowhere};
+ghost use Rattle.bites_spec.specs.Run.{first_run, first_run_from, slots, writes, last_write, LongestRun};
+ghost use Rattle.bites_plain.specs.Longest.{LongestFrom};
+ghost use Rattle.bites_plain.specs.Walk.{first_walk, is_end, is_seen, LeadsNowhere};
 ghost use Rattle.bites_spec.proofs.RunLemmas.{Inside, unseen};
 
 use crate::piece::piece_at;
@@ -91,7 +92,7 @@ pub fn first_run_from(
 {
     let mut seen = Vec::new(alloc);
     let first = Spot::new(program.start(), place);
-    let Some(spots) = walk(alloc, program, haystack, &mut seen, first)? else {
+    let Some(spots) = walk(alloc, program, haystack, None, &mut seen, first)? else {
         return Ok(None);
     };
     let end = last_of(first, &spots).place();
@@ -100,6 +101,45 @@ pub fn first_run_from(
         spots,
         end,
     }))
+}
+
+/// The longest run from the first place, from `start` on, at which a run begins: the first simple one among those
+/// with the greatest end.
+pub fn longest_run(
+    alloc: Global,
+    program: &Program,
+    haystack: &[u8],
+    start: usize,
+) -> Result<Option<Run>, AllocError>
+    ensures { IfOk result (λ run. LongestRun program.now.program haystack.now start run) }
+{
+    let state = program.start();
+    match first_run(alloc, program, haystack, start)? {
+        Some(first) => longest_from(alloc, program, haystack, Spot::new(state, first.start)),
+        None => Ok(None),
+    }
+}
+
+/// The first simple run among those from the program's start, read at a place, with the greatest end.
+fn longest_from(
+    alloc: Global,
+    program: &Program,
+    haystack: &[u8],
+    first: Spot,
+) -> Result<Option<Run>, AllocError>
+    requires well_formed { IsWellFormed program.now.program }
+    requires start { first.state ≡ program.now.program.start }
+    requires place { first.place ≤ length haystack.now }
+    ensures { IfOk result (λ run. LongestFrom program.now.program haystack.now first.place run) }
+{
+    let start = first.place();
+    for end in (start..haystack.len() + 1).rev() {
+        let mut seen = Vec::new(alloc);
+        if let Some(spots) = walk(alloc, program, haystack, Some(end), &mut seen, first)? {
+            return Ok(Some(Run { start, spots, end }));
+        }
+    }
+    Ok(None)
 }
 
 /// The slots that the run leaves: in each the last place that it writes there.
@@ -162,35 +202,47 @@ pub fn places(alloc: Global, haystack: &[u8], start: usize) -> Result<Vec<usize>
     Ok(found)
 }
 
-/// Behind a spot, the spots of the first walk to a match that comes to no spot that was seen.
+/// Behind a spot, the spots of the first walk to a match, at the wanted end if one is wanted, that comes to no spot
+/// that was seen.
 fn walk(
     alloc: Global,
     program: &Program,
     haystack: &[u8],
+    end: Option<usize>,
     seen: &mut Vec<Spot>,
     spot: Spot,
 ) -> Result<Option<Vec<Spot>>, AllocError>
     requires well_formed { IsWellFormed program.now.program }
     requires inside { Inside program.now.program haystack.now spot }
-    ensures first { IfOk result (λ run. option_map (λ spots. spot ∷ spots.items) run ≡ first_walk program.now.program haystack.now (is_seen seen.old.items) spot) }
-    ensures nowhere { IfOk result (λ run. run ≡ None → LeadsNowhere program.now.program haystack.now seen.old.items seen.new.items) }
+    ensures first { IfOk result (λ run. option_map (λ spots. spot ∷ spots.items) run ≡ first_walk program.now.program haystack.now end (is_seen seen.old.items) spot) }
+    ensures nowhere { IfOk result (λ run. run ≡ None → LeadsNowhere program.now.program haystack.now end seen.old.items seen.new.items) }
     ensures fewer { IfOk result (λ run. unseen program.now.program haystack.now (is_seen seen.new.items) ≤ unseen program.now.program haystack.now (is_seen seen.old.items)) }
 {
     if is_seen(seen, spot) {
         return Ok(None);
     }
-    if spot.is_match(program) {
+    if is_end(program, end, spot) {
         return Ok(Some(Vec::new(alloc)));
     }
     seen.push(spot)?;
     let nexts = spot.leads(alloc, program, haystack)?;
     for next in &nexts {
-        if let Some(mut spots) = walk(alloc, program, haystack, seen, *next)? {
+        if let Some(mut spots) = walk(alloc, program, haystack, end, seen, *next)? {
             spots.insert(0, *next)?;
             return Ok(Some(spots));
         }
     }
     Ok(None)
+}
+
+/// Whether a run ends at the spot, and at the wanted end if one is wanted.
+fn is_end(program: &Program, end: Option<usize>, spot: Spot) -> bool
+    ensures { result ≡ is_end program.now.program end spot }
+{
+    match end {
+        Some(end) => spot.is_match(program) && spot.place() == end,
+        None => spot.is_match(program),
+    }
 }
 
 fn is_seen(seen: &[Spot], spot: Spot) -> bool

@@ -8,25 +8,25 @@ use Rattle.bites_plain.proofs.run.+walk.Goals as goal
 
 pub returns-then-is_seen-clause-first : goal.returns-then-is_seen-clause-first
 returns-then-is_seen-clause-first t c =
-    walk_seen c.args.program.now.program c.args.haystack.now c.args.seen.now.items c.args.spot
+    walk_seen c.args.program.now.program c.args.haystack.now c.args.end c.args.seen.now.items c.args.spot
     (ap (λ l. is_seen l c.args.spot) (sym c.deref.ensures.value) ∙ sym c.is_seen.ensures ∙ c.if-is_seen.true)
 
-pub returns-then-is_match-clause-first : goal.returns-then-is_match-clause-first
-returns-then-is_match-clause-first t c =
+pub returns-then-is_end-clause-first : goal.returns-then-is_end-clause-first
+returns-then-is_end-clause-first t c =
     ap (λ l. Some (c.args.spot ∷ l)) c.new.ensures.items
-    ∙ walk_match c.args.program.now.program c.args.haystack.now c.args.seen.now.items c.args.spot
+    ∙ walk_match c.args.program.now.program c.args.haystack.now c.args.end c.args.seen.now.items c.args.spot
     (ap (λ l. is_seen l c.args.spot) (sym c.deref.ensures.value) ∙ sym c.is_seen.ensures ∙ c.if-is_seen.false)
-    (sym c.is_match.ensures ∙ c.if-is_match.true)
+    (sym c.is_end.ensures ∙ c.if-is_end.true)
 
 pub loop-next-init : goal.loop-next-init
 loop-next-init t c =
     let p = c.args.program.now.program in
     let hay = c.args.haystack.now in
     record {
-      nowhere = λ s. ap (λ l. first_walk p hay (is_seen l) s) c.in_ok-push.ensures.items;
+      nowhere = λ s. ap (λ l. first_walk p hay c.args.end (is_seen l) s) c.in_ok-push.ensures.items;
       none = refl;
       fewer = subst (λ l. unseen p hay (is_seen l) < unseen p hay (is_seen c.args.seen.now.items)) (sym c.in_ok-push.ensures.items)
-          (fewer_unseen p hay c.args.seen.now.items c.args.spot c.requires.inside
+          (fewer_unseen p hay c.args.end c.args.seen.now.items c.args.spot c.requires.inside
           (ap (λ l. is_seen l c.args.spot) (sym c.deref.ensures.value) ∙ sym c.is_seen.ensures ∙ c.if-is_seen.false));
     }
 
@@ -44,27 +44,27 @@ walk-requires t c =
 
 pub returns-in-Some-clause-first : goal.returns-in-Some-clause-first
 returns-in-Some-clause-first t c =
-    walk_some c.args.program.now.program c.args.haystack.now c.requires.well_formed c.args.seen.now.items c.loop-next.seen.items
+    walk_some c.args.program.now.program c.args.haystack.now c.args.end c.requires.well_formed c.args.seen.now.items c.loop-next.seen.items
     c.deref-next-items.result.now c.in-Some.spots.items c.insert.new.self.items c.args.spot c.next-item.result c.loop-next.next-index
     c.requires.inside (ap (λ l. is_seen l c.args.spot) (sym c.deref.ensures.value) ∙ sym c.is_seen.ensures ∙ c.if-is_seen.false)
-    (sym c.is_match.ensures ∙ c.if-is_match.false) (c.deref-next-items.ensures.value ∙ c.in_ok-nexts.ensures)
+    (sym c.is_end.ensures ∙ c.if-is_end.false) (c.deref-next-items.ensures.value ∙ c.in_ok-nexts.ensures)
     c.next-item.is (omega arith) c.loop-next.invariant.none c.loop-next.invariant.nowhere
     (rw c.in-Some.is at c.in_ok-spots.ensures.first) c.in_ok-insert.ensures.items
 
 pub returns-clause-first : goal.returns-clause-first
 returns-clause-first t c =
-    walk_none c.args.program.now.program c.args.haystack.now c.requires.well_formed c.args.seen.now.items c.deref-next-items.result.now
+    walk_none c.args.program.now.program c.args.haystack.now c.args.end c.requires.well_formed c.args.seen.now.items c.deref-next-items.result.now
     c.args.spot c.loop-next.next-index
     c.requires.inside (ap (λ l. is_seen l c.args.spot) (sym c.deref.ensures.value) ∙ sym c.is_seen.ensures ∙ c.if-is_seen.false)
-    (sym c.is_match.ensures ∙ c.if-is_match.false) (c.deref-next-items.ensures.value ∙ c.in_ok-nexts.ensures)
+    (sym c.is_end.ensures ∙ c.if-is_end.false) (c.deref-next-items.ensures.value ∙ c.in_ok-nexts.ensures)
     (omega arith) c.loop-next.invariant.none
 
 pub returns-clause-nowhere : goal.returns-clause-nowhere
 returns-clause-nowhere t c = λ _.
-    walk_dead c.args.program.now.program c.args.haystack.now c.requires.well_formed c.args.seen.now.items c.loop-next.seen.items c.args.spot
-    (sym (walk_none c.args.program.now.program c.args.haystack.now c.requires.well_formed c.args.seen.now.items c.deref-next-items.result.now
+    walk_dead c.args.program.now.program c.args.haystack.now c.args.end c.requires.well_formed c.args.seen.now.items c.loop-next.seen.items c.args.spot
+    (sym (walk_none c.args.program.now.program c.args.haystack.now c.args.end c.requires.well_formed c.args.seen.now.items c.deref-next-items.result.now
     c.args.spot c.loop-next.next-index
     c.requires.inside (ap (λ l. is_seen l c.args.spot) (sym c.deref.ensures.value) ∙ sym c.is_seen.ensures ∙ c.if-is_seen.false)
-    (sym c.is_match.ensures ∙ c.if-is_match.false) (c.deref-next-items.ensures.value ∙ c.in_ok-nexts.ensures)
+    (sym c.is_end.ensures ∙ c.if-is_end.false) (c.deref-next-items.ensures.value ∙ c.in_ok-nexts.ensures)
     (omega arith) c.loop-next.invariant.none))
     c.loop-next.invariant.nowhere

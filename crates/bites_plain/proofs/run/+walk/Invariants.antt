@@ -10,8 +10,8 @@ decreases-walk l = unseen l.program.now.program l.haystack.now (is_seen l.seen.n
 
 abbrev pub invariant-loop-next : goal.invariant-loop-next
 invariant-loop-next l = record {
-  nowhere : LeadsNowhere l.program.program l.haystack (l.fn.seen.items ++ l.fn.spot ∷ []) l.seen.items;
-  none : first_among (first_walk l.program.program l.haystack (is_seen (l.fn.seen.items ++ l.fn.spot ∷ []))) (drop l.next-index l.next-items)
-      ≡ first_among (first_walk l.program.program l.haystack (is_seen (l.fn.seen.items ++ l.fn.spot ∷ []))) l.next-items;
+  nowhere : LeadsNowhere l.program.program l.haystack l.end (l.fn.seen.items ++ l.fn.spot ∷ []) l.seen.items;
+  none : first_among (first_walk l.program.program l.haystack l.end (is_seen (l.fn.seen.items ++ l.fn.spot ∷ []))) (drop l.next-index l.next-items)
+      ≡ first_among (first_walk l.program.program l.haystack l.end (is_seen (l.fn.seen.items ++ l.fn.spot ∷ []))) l.next-items;
   fewer : unseen l.program.program l.haystack (is_seen l.seen.items) < unseen l.program.program l.haystack (is_seen l.fn.seen.items);
 }
