@@ -2,4 +2,5 @@ pub mod Cutting
 pub mod Group
 pub mod Groups
 pub mod Successive
+pub mod Visits
 pub mod Walk
