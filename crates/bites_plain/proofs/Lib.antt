@@ -2,8 +2,11 @@ pub mod CuttingLemmas
 pub mod DigitLemmas
 pub mod LongestLemmas
 pub mod PlaceLemmas
+pub mod ReachLemmas
 pub mod ReplacedLemmas
 pub mod RowLemmas
 pub mod SeenLemmas
 pub mod SuccessiveLemmas
+pub mod SumLemmas
+pub mod VisitLemmas
 pub mod WayLemmas

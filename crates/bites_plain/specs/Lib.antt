@@ -3,4 +3,5 @@ pub mod Group
 pub mod Groups
 pub mod Longest
 pub mod Successive
+pub mod Visits
 pub mod Walk

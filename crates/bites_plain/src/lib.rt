@@ -13,4 +13,5 @@ pub mod span;
 pub mod spans;
 pub mod spot;
 pub mod template;
+pub mod visits;
 pub mod way;
