@@ -74,8 +74,8 @@ pub fn visits(
         tried += 1;
     }
     Ok(Record {
-        spots,
         looks: tries.len(),
+        spots,
     })
 }
 
