@@ -14,18 +14,14 @@ use bites_plain::way::Way;
 use bites_text::error::Error;
 use std::alloc::{AllocError, Global};
 
-/// The length of the longest haystack in which all parses are listed.
+/// The length of the longest haystack in which all parses are listed: their number may double with each byte.
 const LONGEST: usize = 8;
 
-/// How many states the program of a pattern has at most whose parses are listed: their number may double with each few.
-const MOST_STATES: usize = 48;
-
-/// Compares the first parse with the first run in the haystacks of the case, where the tree is plain and both the
-/// program and the haystack are short.
+/// Compares the first parse with the first run in the short haystacks of the case, where the tree is plain.
 pub fn compare_parses(alloc: Global, tally: &mut Tally, case: &Case) -> Result<(), AllocError> {
     match compile_case(alloc, case) {
         Ok(compiled) => {
-            if is_plain(&compiled.tree) && compiled.program.len() <= MOST_STATES {
+            if is_plain(&compiled.tree) {
                 compare_all(alloc, tally, case, &compiled)?;
             }
             Ok(())

@@ -2,6 +2,7 @@
 
 use crate::case::Case;
 use crate::escaped::push_escaped;
+use crate::groups::push_parting;
 use bites_bytes::bytes::{Error, Regex, RegexBuilder};
 use std::alloc::{AllocError, Global};
 use std::fmt::Write;
@@ -39,19 +40,18 @@ fn description(alloc: Global, regex: &Regex) -> Result<String, AllocError> {
         Some(len) => write!(&mut text, "{len} ")?,
         None => text.push_str("- ")?,
     }
-    push_names(&mut text, regex)?;
+    text.push_str(&names_text(alloc, regex)?)?;
     Ok(text)
 }
 
-// Adds the names of the groups, parted by commas, with a dash for a group that has none.
-fn push_names(text: &mut String, regex: &Regex) -> Result<(), AllocError> {
-    for (number, name) in regex.capture_names().enumerate() {
-        if number > 0 {
-            text.push(',')?;
-        }
-        push_escaped(text, name.unwrap_or("-").as_bytes())?;
+// The names of the groups, parted by commas, with a dash for a group that has none.
+fn names_text(alloc: Global, regex: &Regex) -> Result<String, AllocError> {
+    let mut text = String::new(alloc);
+    for name in regex.capture_names() {
+        push_parting(&mut text, ",")?;
+        push_escaped(&mut text, name.unwrap_or("-").as_bytes())?;
     }
-    Ok(())
+    Ok(text)
 }
 
 /// The least size limit at which the pattern is accepted; `above` if it is refused at 67108864.
