@@ -100,6 +100,3 @@ fn is_among(spots: &[Spot], spot: Spot) -> bool
 {
     spots.iter().any(|other| spot.is(*other))
 }
-
-#[cfg(test)]
-mod tests;

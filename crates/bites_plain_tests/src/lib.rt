@@ -19,3 +19,5 @@ mod searches;
 mod sizes;
 #[cfg(test)]
 mod templates;
+#[cfg(test)]
+mod visits;

@@ -1,12 +1,8 @@
-use super::*;
-use bites_machine::program::compile;
-use bites_syntax::parse::{Flags, parse};
-use std::test::Fail;
+//! What a search visits, and how often it looks.
 
-fn program(alloc: Global, pattern: &str) -> Result<Program, Fail> {
-    let tree = parse(alloc, pattern, Flags::default(), 100)?;
-    Ok(compile(alloc, &tree, pattern, 100_000)?)
-}
+use crate::answers::program_of;
+use bites_plain::visits::visits;
+use std::test::Fail;
 
 // The spots and looks were counted by hand along the edges of each program: at each place the start state is tried, and
 // then each target of each state that was visited there.
@@ -23,7 +19,8 @@ fn spots_and_looks_are_counted(rt: HostRuntime) -> Result<(), Fail> {
         (r"\b", "", 0, 2, 2),
         ("[^a]", "\u{E9}", 0, 6, 6),
     ] {
-        let record = visits(alloc, &program(alloc, pattern)?, haystack.as_bytes(), start)?;
+        let program = program_of(alloc, pattern)?;
+        let record = visits(alloc, &program, haystack.as_bytes(), start)?;
         assert_eq!(rt;
             record.spots().len(),
             spots,
