@@ -2,8 +2,8 @@
 
 use crate::case::Case;
 use crate::escaped::new_text;
-use crate::op::Op;
 use crate::product::{build, is_match, shortest_match, weight};
+use crate::question::Question;
 use crate::searches::searched;
 use bites_syntax::tree::escape;
 use bites_text::error::Error;
@@ -19,12 +19,12 @@ pub fn answer(alloc: Global, case: &Case) -> Result<String, AllocError> {
 }
 
 fn answer_or_error(alloc: Global, case: &Case) -> Result<String, Error> {
-    match case.op {
-        Op::Build => build(alloc, case),
-        Op::Weight => weight(alloc, case),
-        Op::Is => is_match(alloc, case),
-        Op::Shortest => shortest_match(alloc, case),
-        Op::Escape => Ok(escaped_pattern(alloc, &case.pattern)?),
+    match case.question {
+        Question::Build => build(alloc, case),
+        Question::Weight => weight(alloc, case),
+        Question::Is => is_match(alloc, case),
+        Question::Shortest => shortest_match(alloc, case),
+        Question::Escape => Ok(escaped_pattern(alloc, &case.pattern)?),
         _ => searched(alloc, case),
     }
 }

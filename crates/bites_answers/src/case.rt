@@ -2,7 +2,7 @@
 
 use crate::escaped::unescaped;
 use crate::fault::Fault;
-use crate::op::Op;
+use crate::question::Question;
 use bites_syntax::parse::Flags;
 use std::alloc::{AllocError, Global};
 use std::str;
@@ -18,7 +18,7 @@ const NEST_LIMIT: usize = 50;
 pub struct Case {
     /// The number of its line in the file, from 1 on.
     pub line: usize,
-    pub op: Op,
+    pub question: Question,
     /// Whether the question is of the searches of texts: names in the braces of a template are then of any bytes.
     pub is_text: bool,
     pub flags: Flags,
@@ -28,7 +28,7 @@ pub struct Case {
     /// For sweeps the alphabet.
     pub haystack: Vec<u8>,
     /// Where a search starts, or a limit, or the length of the longest haystack of a sweep; 0 where there is none.
-    pub arg: usize,
+    pub parameter: usize,
     pub template: Vec<u8>,
     /// The answer that is wanted, or `err: ` and the message of the refusal.
     pub wanted: String,
@@ -54,14 +54,14 @@ fn read_case(alloc: Global, line: usize, text: &[u8]) -> Result<Case, Fault> {
     let columns: Vec<&[u8]> = text.split(|byte| *byte == b'\t').collect(alloc)?;
     let [
         mark,
-        op,
+        question,
         kind,
         flags,
         size,
         nest,
         pattern,
         haystack,
-        arg,
+        parameter,
         template,
         answer,
         message,
@@ -72,14 +72,14 @@ fn read_case(alloc: Global, line: usize, text: &[u8]) -> Result<Case, Fault> {
     };
     Ok(Case {
         line,
-        op: Op::named(op).ok_or(Fault::Line(line))?,
+        question: Question::named(question).ok_or(Fault::Line(line))?,
         is_text: is_text(kind).ok_or(Fault::Line(line))?,
         flags: flags_of(flags).ok_or(Fault::Line(line))?,
         size_limit: number_or(SIZE_LIMIT, size).ok_or(Fault::Line(line))?,
         nest_limit: nest_limit(nest).ok_or(Fault::Line(line))?,
         pattern: unescaped_text(alloc, pattern)?.ok_or(Fault::Line(line))?,
         haystack: unescaped(alloc, haystack)?.ok_or(Fault::Line(line))?,
-        arg: number_or(0, arg).ok_or(Fault::Line(line))?,
+        parameter: number_or(0, parameter).ok_or(Fault::Line(line))?,
         template: unescaped(alloc, template)?.ok_or(Fault::Line(line))?,
         wanted: wanted(alloc, mark, answer, message, note)?.ok_or(Fault::Line(line))?,
     })

@@ -3,7 +3,7 @@
 use crate::answer::answer;
 use crate::case::Case;
 use crate::first_parse::compare_parses;
-use crate::op::Op;
+use crate::question::Question;
 use crate::tally::Tally;
 use std::alloc::{AllocError, Global};
 
@@ -18,9 +18,9 @@ pub struct Summary {
 pub fn summarize(alloc: Global, cases: &[Case]) -> Result<Summary, AllocError> {
     let mut text = String::new(alloc);
     let mut all = Tally::new(alloc);
-    for op in &Op::ALL {
-        let tally = compare_answers(alloc, cases, *op)?;
-        tally.push_counts(&mut text, op.name())?;
+    for question in &Question::ALL {
+        let tally = compare_answers(alloc, cases, *question)?;
+        tally.push_counts(&mut text, question.name())?;
         all.add(&tally)?;
     }
     all.push_counts(&mut text, "all cases")?;
@@ -33,10 +33,10 @@ pub fn summarize(alloc: Global, cases: &[Case]) -> Result<Summary, AllocError> {
 }
 
 // Compares the answers to the cases that ask this.
-fn compare_answers(alloc: Global, cases: &[Case], op: Op) -> Result<Tally, AllocError> {
+fn compare_answers(alloc: Global, cases: &[Case], question: Question) -> Result<Tally, AllocError> {
     let mut tally = Tally::new(alloc);
     for case in cases {
-        if case.op == op {
+        if case.question == question {
             tally.count(case, &case.wanted, &answer(alloc, case)?)?;
         }
     }

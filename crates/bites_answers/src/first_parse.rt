@@ -2,7 +2,7 @@
 
 use crate::case::Case;
 use crate::groups::{Groups, matches_text};
-use crate::op::Op;
+use crate::question::Question;
 use crate::searches::{Compiled, compile_case, first_runs, groups_of_all};
 use crate::sweep::haystacks;
 use crate::tally::Tally;
@@ -64,9 +64,9 @@ fn compare_in(
 
 // The haystacks in which the case searches.
 fn haystacks_of(alloc: Global, case: &Case) -> Result<Vec<Vec<u8>>, AllocError> {
-    match case.op {
-        Op::Build | Op::Weight | Op::Escape => Ok(Vec::new(alloc)),
-        Op::Sweep | Op::SweepIter => haystacks(alloc, &case.haystack, case.arg),
+    match case.question {
+        Question::Build | Question::Weight | Question::Escape => Ok(Vec::new(alloc)),
+        Question::Sweep | Question::SweepIter => haystacks(alloc, &case.haystack, case.parameter),
         _ => {
             let mut all = Vec::new(alloc);
             all.push(Vec::from_slice(alloc, &case.haystack)?)?;
@@ -77,8 +77,9 @@ fn haystacks_of(alloc: Global, case: &Case) -> Result<Vec<Vec<u8>>, AllocError> 
 
 // Where the first search of the case starts.
 fn start_of(case: &Case) -> usize {
-    match case.op {
-        Op::Is | Op::Shortest | Op::FindAt | Op::CapturesAt => case.arg,
+    match case.question {
+        Question::Is | Question::Shortest | Question::FindAt | Question::CapturesAt =>
+            case.parameter,
         _ => 0,
     }
 }

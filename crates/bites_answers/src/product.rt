@@ -86,14 +86,14 @@ fn is_too_big(builder: &mut RegexBuilder, limit: usize) -> Result<bool, Error> {
 /// Whether something matches from the start on.
 pub fn is_match(alloc: Global, case: &Case) -> Result<String, Error> {
     let regex = builder(alloc, case)?.build()?;
-    let found = regex.is_match_at(&case.haystack, case.arg)?;
+    let found = regex.is_match_at(&case.haystack, case.parameter)?;
     Ok(found.to_string(alloc)?)
 }
 
 /// The least end of a match that begins from the start on, or `none`.
 pub fn shortest_match(alloc: Global, case: &Case) -> Result<String, Error> {
     let regex = builder(alloc, case)?.build()?;
-    match regex.shortest_match_at(&case.haystack, case.arg)? {
+    match regex.shortest_match_at(&case.haystack, case.parameter)? {
         Some(end) => Ok(end.to_string(alloc)?),
         None => Ok(String::from_str(alloc, "none")?),
     }

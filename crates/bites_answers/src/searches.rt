@@ -3,7 +3,7 @@
 use crate::case::Case;
 use crate::escaped::new_text;
 use crate::groups::{Groups, groups_of, matches_text, spans_text};
-use crate::op::Op;
+use crate::question::Question;
 use crate::sweep::sweep;
 use bites_machine::program::{Program, compile};
 use bites_plain::pieces::{part, pieces, pieces_up_to, replaced};
@@ -37,10 +37,10 @@ pub fn searched(alloc: Global, case: &Case) -> Result<String, Error> {
 }
 
 fn searched_by(alloc: Global, program: &Program, case: &Case) -> Result<String, AllocError> {
-    match case.op {
-        Op::Sweep | Op::SweepIter => sweep(alloc, program, case),
-        Op::FindAt | Op::CapturesAt => {
-            let runs = first_runs(alloc, program, &case.haystack, case.arg)?;
+    match case.question {
+        Question::Sweep | Question::SweepIter => sweep(alloc, program, case),
+        Question::FindAt | Question::CapturesAt => {
+            let runs = first_runs(alloc, program, &case.haystack, case.parameter)?;
             runs_text(alloc, program, case, &runs)
         }
         _ => {
@@ -73,13 +73,15 @@ fn runs_text(
 ) -> Result<String, AllocError> {
     let spans = spans_of(alloc, runs)?;
     let len = case.haystack.len();
-    match case.op {
-        Op::CapturesAt | Op::CapturesIter => {
+    match case.question {
+        Question::CapturesAt | Question::CapturesIter => {
             matches_text(alloc, &groups_of_all(alloc, program, runs)?)
         }
-        Op::Split => spans_text(alloc, &pieces(alloc, len, &spans)?),
-        Op::SplitN => spans_text(alloc, &pieces_up_to(alloc, case.arg, len, &spans)?),
-        Op::Replace | Op::ReplaceLit => replaced_text(alloc, program, case, runs, &spans),
+        Question::Split => spans_text(alloc, &pieces(alloc, len, &spans)?),
+        Question::SplitN => spans_text(alloc, &pieces_up_to(alloc, case.parameter, len, &spans)?),
+        Question::Replace | Question::ReplaceLiterally => replaced_text(
+            alloc, program, case, runs, &spans,
+        ),
         _ => spans_text(alloc, &spans),
     }
 }
@@ -112,7 +114,7 @@ fn replaced_text(
     for groups in &groups_of_all(alloc, program, runs)? {
         texts.push(text_for(alloc, program, case, groups)?)?;
     }
-    let new = replaced(alloc, &case.haystack, case.arg, spans, &texts)?;
+    let new = replaced(alloc, &case.haystack, case.parameter, spans, &texts)?;
     new_text(alloc, &new)
 }
 
@@ -123,7 +125,7 @@ fn text_for(
     case: &Case,
     groups: &[Option<Span>],
 ) -> Result<Vec<u8>, AllocError> {
-    if case.op == Op::ReplaceLit {
+    if case.question == Question::ReplaceLiterally {
         return Vec::from_slice(alloc, &case.template);
     }
     let mut named = Vec::new(alloc);

@@ -2,7 +2,7 @@
 
 use crate::case::Case;
 use crate::groups::{matches_digits, push_parting};
-use crate::op::Op;
+use crate::question::Question;
 use crate::searches::{first_runs, groups_of_all};
 use bites_machine::program::Program;
 use bites_plain::spans::successive_runs;
@@ -11,8 +11,8 @@ use std::alloc::{AllocError, Global};
 /// The matches in each haystack of the sweep, parted by commas.
 pub fn sweep(alloc: Global, program: &Program, case: &Case) -> Result<String, AllocError> {
     let mut text = String::new(alloc);
-    for haystack in &haystacks(alloc, &case.haystack, case.arg)? {
-        let runs = if case.op == Op::Sweep {
+    for haystack in &haystacks(alloc, &case.haystack, case.parameter)? {
+        let runs = if case.question == Question::Sweep {
             first_runs(alloc, program, haystack, 0)?
         } else {
             successive_runs(alloc, program, haystack)?

@@ -31,7 +31,7 @@ impl Tally {
         }
         self.different = self.different.saturating_add(1);
         let text = &mut self.lines;
-        write!(text, "line {}: {} of ", case.line, case.op.name())?;
+        write!(text, "line {}: {} of ", case.line, case.question.name())?;
         push_escaped(text, case.pattern.as_bytes())?;
         writeln!(text, ": expected {wanted}, got {answer}")
     }
