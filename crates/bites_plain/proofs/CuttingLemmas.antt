@@ -1,10 +1,9 @@
 -- Templates that are cut part by part.
-use Rattle.std.proofs.Common.{◌≡◌, ◌≢◌, ℕ, zero, suc, ◌+◌, ◌<◌, ◌≤◌, Bool, true, false, List, [], ◌∷◌, ◌++◌, length, get_or, take, drop, flat_map, refl, sym, ap, ap₂, ◌∙◌, subst, inl, inr, ⊎_elim, ◌⊎◌, true≢false, arith, append_assoc, ◌-◌, length-drop, take_all}
+use Rattle.std.proofs.Common.{◌≡◌, ◌≢◌, ℕ, zero, suc, ◌+◌, ◌<◌, Bool, true, false, List, [], ◌∷◌, ◌++◌, length, get_or, take, drop, flat_map, refl, sym, ap, ap₂, ◌∙◌, subst, inl, inr, ⊎_elim, true≢false, arith, append_assoc, ◌-◌, length-drop, take_all}
 use Rattle.std.specs.Prelude.{IsUtf8}
-use Rattle.std.proofs.lemmas.List.{append-nil, take_more, flat_map_more, take-append-drop}
-use Rattle.bites_spec.specs.Look.{is_word_byte}
+use Rattle.std.proofs.lemmas.List.{append-nil, take_more, flat_map_more}
 use Rattle.bites_spec.specs.Walks.{Among, IsNew}
-use Rattle.bites_spec.specs.Template.{Part, byte, name, Cuts, ends, plain, doubled, named, braced, alone, IsName, EndsWord, StandsAlone}
+use Rattle.bites_spec.specs.Template.{Part, byte, name, Cuts, ends, plain, doubled, named, braced, alone, IsName}
 use Rattle.bites_plain.specs.Cutting.{CutsFirst, NoName, StandsInBraces, IsWordAt, IsFirstBrace}
 
 Among-behind : (xs ys : List ℕ) (x : ℕ) → Among ys x → Among (xs ++ ys) x

@@ -1,15 +1,15 @@
 -- Runs from one place that end as late as any.
-use Rattle.std.proofs.Common.{◌≡◌, ℕ, suc, ◌+◌, ◌<◌, ◌≤◌, Bool, true, false, ◌&&◌, List, [], ◌∷◌, length, Option, Some, None, option_map, refl, sym, ap, ap₂, ◌∙◌, subst, inl, inr, ⊎_elim, true≢false, arith, ◌⊎◌, eqb-true, eq-eqb}
+use Rattle.std.proofs.Common.{◌≡◌, ℕ, suc, ◌<◌, ◌≤◌, Bool, true, false, ◌&&◌, List, [], ◌∷◌, length, Option, Some, None, option_map, refl, sym, ap₂, ◌∙◌, subst, inl, inr, ⊎_elim, true≢false, arith, ◌⊎◌, eqb-true, eq-eqb}
 use Rattle.std.specs.Prelude.{◌==◌, IsTrue, Result, Ok, Err, IfOk}
 use Rattle.bites_spec.specs.Walks.{Among, AllApart, Walk}
 use Rattle.bites_spec.specs.Utf8.{places}
 use Rattle.bites_spec.specs.Program.{Program, Spot, at, IsWellFormed}
-use Rattle.bites_spec.specs.Run.{Run, Runs, IsRun, IsFirstOf, StartsFirst, FirstRun, LongestRun, is_same_spot, leads, matches, enough, first_run}
+use Rattle.bites_spec.specs.Run.{Run, Runs, IsRun, FirstRun, LongestRun, is_same_spot, leads, matches, enough, first_run}
 use Rattle.bites_spec.proofs.RunLemmas.{Inside, unseen, fewer, enough_for_all, inside_on, same_is, same_refl, match_ends, first_run-FirstRun}
 use Rattle.bites_spec.proofs.FirstLemmas.{sound, first, none_at_all, Apart-simple, Apart-of}
 use Rattle.bites_machine.proofs.SweepLemmas.{Runs-forward}
 use Rattle.bites_plain.specs.Walk.{first_walk, is_end, is_seen}
-use Rattle.bites_plain.specs.Longest.{NoRunTo, IsLongestFrom, LongestFrom}
+use Rattle.bites_plain.specs.Longest.{NoRunTo, LongestFrom}
 use Rattle.bites_plain.proofs.SeenLemmas.{run_within}
 
 bool_cases : (b : Bool) → (b ≡ true) ⊎ (b ≡ false)

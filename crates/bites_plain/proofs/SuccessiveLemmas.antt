@@ -1,11 +1,10 @@
 -- Successive runs, gathered one by one.
-use Rattle.std.proofs.Common.{◌≡◌, ℕ, suc, ◌+◌, ◌<◌, ◌≤◌, ◌⊎◌, Bool, true, false, ◌&&◌, List, [], ◌∷◌, ◌++◌, length, Option, Some, None, refl, sym, ap, ◌∙◌, subst, arith, inl, inr, ⊎_elim, true≢false, append_assoc}
-use Rattle.std.specs.Prelude.{IfSome, ◌==◌}
+use Rattle.std.proofs.Common.{◌≡◌, ℕ, List, [], ◌∷◌, ◌++◌, Option, Some, None, refl, sym, ap, ◌∙◌, subst, append_assoc}
 use Rattle.std.proofs.lemmas.List.{append-nil}
 use Rattle.bites_spec.specs.Program.{Program}
 use Rattle.bites_spec.specs.Run.{Run, first_run}
-use Rattle.bites_spec.specs.Spans.{Due, Follow, Successive}
-use Rattle.bites_plain.specs.Successive.{span_of_run, is_empty_at, Answers, IsDue, AreSuccessive}
+use Rattle.bites_spec.specs.Spans.{Follow}
+use Rattle.bites_plain.specs.Successive.{span_of_run, Answers, IsDue, AreSuccessive}
 
 module _ (p : Program) (hay : List ℕ) where
   -- the runs go on with the one that is due, if there is one, and then with what is due behind it

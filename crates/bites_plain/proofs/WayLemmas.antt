@@ -1,7 +1,7 @@
 -- Ways that are gathered one by one.
-use Rattle.std.proofs.Common.{◌≡◌, ℕ, zero, suc, ◌+◌, ◌-◌, ◌<◌, ◌≤◌, List, [], ◌∷◌, ◌++◌, length, get_or, drop, map, flat_map, refl, ap, sym, ◌∙◌, subst, arith, append_assoc}
+use Rattle.std.proofs.Common.{◌≡◌, ℕ, zero, suc, ◌+◌, ◌-◌, ◌<◌, ◌≤◌, List, [], ◌∷◌, ◌++◌, length, get_or, drop, map, refl, ap, sym, ◌∙◌, arith, append_assoc}
 use Rattle.std.proofs.lemmas.List.{append-nil}
-use Rattle.bites_spec.specs.Preference.{Way, joined, then_each, after_turns, up_to}
+use Rattle.bites_spec.specs.Preference.{Way, joined, then_each, after_turns}
 
 next : (i : ℕ) → suc (i + 1) ≡ suc i + 1
 next i = omega arith

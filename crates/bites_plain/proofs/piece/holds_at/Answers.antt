@@ -1,5 +1,4 @@
-use Rattle.std.proofs.Common.{◌∙◌, ap, sym, false}
-use Rattle.std.specs.Prelude.{None}
+use Rattle.std.proofs.Common.{◌∙◌, ap, sym}
 use Rattle.bites_spec.specs.Look.{word_negate, word_start_half, word_end_half, holds}
 use Rattle.bites_syntax.specs.View.{look_of}
 use Rattle.bites_syntax.specs.declared.look.Look.{Look}

@@ -1,6 +1,5 @@
-use Rattle.std.proofs.Common.{◌++◌, ◌∙◌, ◌-◌, map, ap, ap₂, sym, subst, arith, drop, length}
-use Rattle.std.specs.Prelude.{List, ℕ, slice_range, Vec}
-use Rattle.bites_spec.specs.Match.{Span}
+use Rattle.std.proofs.Common.{◌++◌, ◌∙◌, map, ap, arith}
+use Rattle.std.specs.Prelude.{slice_range}
 use Rattle.bites_spec.specs.Pieces.{replaced_from}
 use Rattle.bites_plain.proofs.ReplacedLemmas.{replaced_more, replaced_rest}
 use Rattle.bites_plain.proofs.pieces.replaced.Goals as goal

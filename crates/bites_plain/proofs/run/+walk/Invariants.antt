@@ -1,6 +1,5 @@
 use Rattle.std.proofs.Common.{◌≡◌, ◌++◌, ◌∷◌, [], ◌<◌, drop}
 use Rattle.bites_spec.specs.Walks.{first_among}
-use Rattle.bites_spec.specs.Run.{leads}
 use Rattle.bites_spec.proofs.RunLemmas.{unseen}
 use Rattle.bites_plain.specs.Walk.{first_walk, is_seen, LeadsNowhere}
 use Rattle.bites_plain.proofs.run.+walk.Given as goal

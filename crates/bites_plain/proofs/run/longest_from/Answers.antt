@@ -1,6 +1,6 @@
-use Rattle.std.proofs.Common.{◌≡◌, ◌∙◌, ◌+◌, ◌-◌, [], ◌∷◌, suc, refl, sym, ap, subst, arith, length}
-use Rattle.std.specs.Prelude.{Some, None, List}
-use Rattle.bites_spec.specs.Program.{Spot, at}
+use Rattle.std.proofs.Common.{◌+◌, ◌-◌, ◌∷◌, sym, ap, subst, arith, length}
+use Rattle.std.specs.Prelude.{Some}
+use Rattle.bites_spec.specs.Program.{at}
 use Rattle.bites_plain.specs.Longest.{IsLongestFrom}
 use Rattle.bites_plain.proofs.SeenLemmas.{walk_found}
 use Rattle.bites_plain.proofs.LongestLemmas.{NoneBehind, none_past, none_found, none_at, none_walked, longest_here}

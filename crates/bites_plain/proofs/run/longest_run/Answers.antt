@@ -1,7 +1,6 @@
-use Rattle.std.proofs.Common.{◌≡◌, ◌∙◌, sym, ap, subst}
+use Rattle.std.proofs.Common.{◌∙◌, ap}
 use Rattle.bites_spec.specs.Program.{Spot}
 use Rattle.bites_spec.specs.Run.{Run}
-use Rattle.bites_plain.specs.Longest.{LongestFrom}
 use Rattle.bites_plain.proofs.LongestLemmas.{longest_of_first, none_of_first}
 use Rattle.bites_plain.proofs.run.longest_run.Goals as goal
 

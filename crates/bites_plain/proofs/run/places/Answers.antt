@@ -1,7 +1,6 @@
-use Rattle.std.proofs.Common.{◌++◌, ◌∷◌, ◌+◌, [], ◌∙◌, sym, ap, arith, append_assoc}
+use Rattle.std.proofs.Common.{◌++◌, ◌∙◌, sym, ap, arith}
 use Rattle.std.proofs.lemmas.List.{append-nil}
-use Rattle.bites_spec.specs.Utf8.{places, step_len}
-use Rattle.bites_machine.proofs.SweepLemmas.{places-here, places-past}
+use Rattle.bites_machine.proofs.SweepLemmas.{places-past}
 use Rattle.bites_plain.proofs.PlaceLemmas.{place_added}
 use Rattle.bites_plain.proofs.run.places.Goals as goal
 

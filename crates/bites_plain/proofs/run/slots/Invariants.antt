@@ -1,7 +1,6 @@
-use Rattle.std.proofs.Common.{◌≡◌, [], map}
+use Rattle.std.proofs.Common.{◌≡◌, map}
 use Rattle.std.specs.List.{range_with_len}
-use Rattle.bites_spec.specs.Program.{at}
-use Rattle.bites_spec.specs.Run.{last_write, writes}
+use Rattle.bites_spec.specs.Run.{last_write}
 use Rattle.bites_plain.proofs.run.slots.Given as goal
 
 abbrev pub invariant-loop-slot : goal.invariant-loop-slot

@@ -1,4 +1,4 @@
-use Rattle.std.proofs.Common.{ℕ, ◌++◌, ◌-◌, ◌≤◌, List, length, suc}
+use Rattle.std.proofs.Common.{◌++◌, ◌-◌, ◌≤◌, List, length, suc}
 use Rattle.std.specs.Prelude.{IfSome}
 use Rattle.std.specs.Option.{option_map_or}
 use Rattle.bites_spec.specs.Run.{Run}

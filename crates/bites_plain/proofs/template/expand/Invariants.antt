@@ -1,4 +1,4 @@
-use Rattle.std.proofs.Common.{◌≡◌, ℕ, List, ◌++◌, flat_map, length}
+use Rattle.std.proofs.Common.{◌≡◌, List, ◌++◌, flat_map, length}
 use Rattle.bites_spec.specs.Template.{Part, Cuts, stands_for}
 use Rattle.bites_plain.specs.Groups.{text_in, index_in}
 use Rattle.bites_plain.proofs.template.expand.Given as goal
