@@ -5,6 +5,8 @@
 #[cfg(test)]
 mod expect;
 #[cfg(test)]
+mod hostile;
+#[cfg(test)]
 mod language;
 #[cfg(test)]
 mod messages;
