@@ -173,3 +173,21 @@ fn counts_of_counts_are_refused_at_once(rt: HostRuntime) -> Result<(), Refused> 
     }
     Ok(())
 }
+
+#[test]
+fn searches_never_turn_back(rt: HostRuntime) -> Result<(), Refused> {
+    let haystack = repeated(rt.alloc(), "", "a", 10000, "")?;
+    for (pattern, end) in [
+        ("(?:a*)*b", None),
+        ("(?:a|a)*b", None),
+        ("(?:a*)*(?:a*)*$", Some(10000)),
+        ("(?:a?){30}a{30}", Some(30)),
+        ("(?:a*?){30}b", None),
+        ("(?:(?:a{1,9}){1,9}){1,9}b", None),
+    ] {
+        let regex = Regex::new(rt.alloc(), pattern)?;
+        let shortest = regex.shortest_match(haystack.as_bytes())?;
+        assert_eq!(rt; shortest, end, "{pattern}");
+    }
+    Ok(())
+}

@@ -1,4 +1,4 @@
-//! Limits, flags of the builder, groups and names.
+//! The limit on nesting.
 
 use crate::expect::{Refused, repeated};
 use bites_bytes::bytes::{Error, Regex, RegexBuilder};
@@ -32,17 +32,5 @@ fn nesting_is_limited(rt: HostRuntime) -> Result<(), Refused> {
         };
         assert_eq!(rt; error, wanted, "{pattern}");
     }
-    Ok(())
-}
-
-#[test]
-fn a_refused_build_leaves_the_builder(rt: HostRuntime) -> Result<(), Refused> {
-    let mut builder = RegexBuilder::new(rt.alloc(), "a|b")?;
-    builder.size_limit(247);
-    assert_eq!(rt; builder.build().err(), Some(Error::TooBig));
-    builder.size_limit(248);
-    let regex = builder.build()?;
-    assert_eq!(rt; regex.as_str(), "a|b");
-    assert!(rt; regex.is_match(b"xb")?);
     Ok(())
 }
