@@ -2,6 +2,7 @@
 
 use crate::words::in_words;
 use bites_syntax::parse::{Flags, parse};
+use bites_syntax::tree::escape;
 use std::alloc::AllocError;
 use std::process::Abort;
 use std::test::Fail;
@@ -297,5 +298,26 @@ fn of_named_classes(rt: HostRuntime) -> Result<(), Fail> {
             ("[[:digit:][:punct:]]", "[!-@ [-` {-~]"),
         ],
     )?;
+    Ok(())
+}
+
+#[test]
+fn an_escaped_text_is_read_as_itself(rt: HostRuntime) -> Result<(), Fail> {
+    let mut free = Flags::default();
+    free.ignore_whitespace = true;
+    for (text, wanted) in [
+        ("", "empty"),
+        ("☃", "☃"),
+        ("a.b-c", "row(a, ., b, -, c)"),
+        ("(?x)#", "row((, ?, x, ), #)"),
+        (
+            "\\.+*?()|[]{}^$#&-~",
+            "row(\\, ., +, *, ?, (, ), |, [, ], {, }, ^, $, #, &, -, ~)",
+        ),
+    ] {
+        let pattern = escape(rt.alloc(), text)?;
+        expect_tree(&rt, pattern.as_str(), Flags::default(), wanted)?;
+        expect_tree(&rt, pattern.as_str(), free, wanted)?;
+    }
     Ok(())
 }
