@@ -1,5 +1,7 @@
 //! Tests of `run`: what it prints, its status, and its faults, over readers and writers in memory and failing ones.
 
+mod messages;
+
 use crate::run::run;
 use std::alloc::{AllocError, Global};
 use std::io::{self, Read, Write};
@@ -95,7 +97,13 @@ fn tells_faults_on_one_line(rt: HostRuntime) -> Result<(), Fail> {
     expect(&rt, &[], b"", 2, "", USAGE)?;
     expect(&rt, &["is"], b"", 2, "", USAGE)?;
     expect(&rt, &["is", "a", "b"], b"", 2, "", USAGE)?;
+    expect(&rt, &["is", "a", "b", "c"], b"", 2, "", USAGE)?;
     expect(&rt, &["are", "a"], b"", 2, "", USAGE)?;
+    expect(&rt, &["IS", "a"], b"", 2, "", USAGE)?;
+    expect(&rt, &["", "a"], b"", 2, "", USAGE)?;
+    expect(&rt, &["a", "is"], b"", 2, "", USAGE)?;
+    // The words come before the pattern.
+    expect(&rt, &["is", "(", "b"], b"", 2, "", USAGE)?;
     expect(
         &rt,
         &["is", "("],

@@ -1,4 +1,4 @@
-//! Trees, classes and assertions against values from outside.
+//! The parser, trees, classes and assertions against values from outside.
 #![tactic(auto)]
 
 #[cfg(test)]
@@ -6,4 +6,10 @@ mod classes;
 #[cfg(test)]
 mod looks;
 #[cfg(test)]
+mod messages;
+#[cfg(test)]
+mod parsed;
+#[cfg(test)]
 mod trees;
+#[cfg(test)]
+mod words;

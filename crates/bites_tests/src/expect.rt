@@ -23,6 +23,22 @@ impl From<AllocError> for Refused {
     }
 }
 
+/// A text in which a part stands so many times between two others.
+pub fn repeated(
+    alloc: Global,
+    front: &str,
+    part: &str,
+    count: usize,
+    back: &str,
+) -> Result<String, AllocError> {
+    let mut text = String::from_str(alloc, front)?;
+    for _ in 0..count {
+        text.push_str(part)?;
+    }
+    text.push_str(back)?;
+    Ok(text)
+}
+
 /// A pattern, a haystack, where the search starts, and the least end of a match, if there is one.
 pub type Row<'a> = (&'a str, &'a [u8], usize, Option<usize>);
 

@@ -1,26 +1,16 @@
-//! Limits, flags of the builder, groups and names.
+//! The limit on nesting.
 
-use crate::expect::Refused;
+use crate::expect::{Refused, repeated};
 use bites_bytes::bytes::{Error, Regex, RegexBuilder};
-use std::alloc::{AllocError, Global};
-
-// A text that repeats a part.
-fn repeated(alloc: Global, part: &str, count: usize) -> Result<String, AllocError> {
-    let mut text = String::new(alloc);
-    for _ in 0..count {
-        text.push_str(part)?;
-    }
-    Ok(text)
-}
 
 #[test]
 fn nesting_is_limited(rt: HostRuntime) -> Result<(), Refused> {
-    let fifty = repeated(rt.alloc(), "(", 50)?;
+    let fifty = repeated(rt.alloc(), "", "(", 50, "")?;
     assert_eq!(rt;
         Regex::new(rt.alloc(), fifty.as_str()).err(),
         Some(Error::UnclosedGroup)
     );
-    let more = repeated(rt.alloc(), "(", 51)?;
+    let more = repeated(rt.alloc(), "", "(", 51, "")?;
     assert_eq!(rt;
         Regex::new(rt.alloc(), more.as_str()).err(),
         Some(Error::TooMuchNesting)
@@ -42,17 +32,5 @@ fn nesting_is_limited(rt: HostRuntime) -> Result<(), Refused> {
         };
         assert_eq!(rt; error, wanted, "{pattern}");
     }
-    Ok(())
-}
-
-#[test]
-fn a_refused_build_leaves_the_builder(rt: HostRuntime) -> Result<(), Refused> {
-    let mut builder = RegexBuilder::new(rt.alloc(), "a|b")?;
-    builder.size_limit(247);
-    assert_eq!(rt; builder.build().err(), Some(Error::TooBig));
-    builder.size_limit(248);
-    let regex = builder.build()?;
-    assert_eq!(rt; regex.as_str(), "a|b");
-    assert!(rt; regex.is_match(b"xb")?);
     Ok(())
 }

@@ -3,7 +3,13 @@
 #![tactic(auto)]
 
 #[cfg(test)]
+mod builder;
+#[cfg(test)]
 mod expect;
+#[cfg(test)]
+mod groups;
+#[cfg(test)]
+mod hostile;
 #[cfg(test)]
 mod language;
 #[cfg(test)]

@@ -112,3 +112,79 @@ fn of_faults_that_are_mended(rt: HostRuntime) -> Result<(), Refused> {
         ],
     )
 }
+
+#[test]
+fn past_the_end_nothing_matches(rt: HostRuntime) -> Result<(), Refused> {
+    expect_ends(
+        &rt,
+        &[
+            ("a*", b"ab", 3, None),
+            ("$", b"ab", 2, Some(2)),
+            ("$", b"ab", 3, None),
+            ("\\B", b"a-", 3, None),
+            ("(?m)^", b"a\n", 2, Some(2)),
+            ("(?m)^", b"a\n", 3, None),
+            ("[^a]*", b"", 1, None),
+            (".|", b"ab", 18446744073709551615, None),
+        ],
+    )
+}
+
+#[test]
+fn of_bytes_that_are_no_text(rt: HostRuntime) -> Result<(), Refused> {
+    expect_ends(
+        &rt,
+        &[
+            ("a.b", b"a\xFFb", 0, Some(3)),
+            ("a.b", b"a\xE2\x98b", 0, Some(4)),
+            ("a.b", b"a\xFF\xFFb", 0, None),
+            ("a[^b]", b"a\xF0\x9F\x92\x96", 0, Some(5)),
+            ("\\W", b"\xC3\xA9", 0, Some(2)),
+            ("é", b"\xC3", 0, None),
+            ("é", b"\xFF\xC3\xA9", 0, Some(3)),
+            ("é", b"\xC3\xA9", 1, None),
+            ("\\ba\\b", b"\xFFa\xFF", 0, Some(2)),
+            ("\\B", b"\xE2\x98\x83", 1, Some(1)),
+            ("^a", b"\xFFa", 1, None),
+        ],
+    )
+}
+
+#[test]
+fn of_bodies_that_may_be_empty(rt: HostRuntime) -> Result<(), Refused> {
+    expect_ends(
+        &rt,
+        &[
+            ("(?:a||b)+", b"ab", 0, Some(0)),
+            ("(?:a*(?:|b))+", b"ab", 0, Some(0)),
+            ("(a*)*", b"b", 0, Some(0)),
+            ("(a*)*b", b"aab", 0, Some(3)),
+            ("(?:(a)|(b))+", b"ab", 0, Some(1)),
+            ("(?:(a)|(b))+$", b"ab", 0, Some(2)),
+            ("|a", b"a", 0, Some(0)),
+            ("(?:|a)+$", b"aa", 0, Some(2)),
+            ("(?x)a* ?", b"aa", 0, Some(0)),
+            ("(?x)a{5,9} ?", b"aaaaaaaaa", 0, Some(5)),
+            ("(?x)a{5,9} ?$", b"aaaaaaaaa", 0, Some(9)),
+        ],
+    )
+}
+
+#[test]
+fn of_a_pattern_with_comments(rt: HostRuntime) -> Result<(), Refused> {
+    let pattern = "(?x)
+(?P<year>\\d{4})  # the year
+-
+(?P<month>\\d{2}) # the month
+-
+(?P<day>\\d{2})   # the day
+";
+    expect_ends(
+        &rt,
+        &[
+            (pattern, b"2010-03-14", 0, Some(10)),
+            (pattern, b"2010-03-14", 1, None),
+            (pattern, b"2010-03-1", 0, None),
+        ],
+    )
+}
