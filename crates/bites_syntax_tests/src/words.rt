@@ -48,21 +48,17 @@ fn write_tree(
             write_tree(alloc, sub, levels - 1, text)?;
             text.push(')')?;
         }
-        Kind::Concat(parts) => {
-            text.push_str("row(")?;
-            write_parts(alloc, parts, levels - 1, text)?;
-        }
-        Kind::Alternation(parts) => {
-            text.push_str("choice(")?;
-            write_parts(alloc, parts, levels - 1, text)?;
-        }
+        Kind::Concat(parts) => write_parts(alloc, "row(", parts, levels - 1, text)?,
+        Kind::Alternation(parts) => write_parts(alloc, "choice(", parts, levels - 1, text)?,
     }
     Ok(())
 }
 
+/// Writes what opens the form, and its parts.
 #[cycle(words)]
 fn write_parts(
     alloc: Global,
+    opening: &str,
     parts: &[Tree],
     levels: u32,
     text: &mut String,
@@ -70,6 +66,7 @@ fn write_parts(
     if levels == 0 {
         return Ok(());
     }
+    text.push_str(opening)?;
     let mut is_first = true;
     for part in parts {
         if !is_first {
