@@ -81,6 +81,24 @@ pub fn preferred_parse(
     Ok(None)
 }
 
+/// The first parse with the greatest end, from the first place, from `start` on, at which the tree matches, and that
+/// place.
+pub fn longest_parse(
+    alloc: Global,
+    tree: &Tree,
+    haystack: &[u8],
+    start: usize,
+) -> Result<Option<(usize, Way)>, AllocError> {
+    for place in &places(alloc, haystack, start)? {
+        let ways = parses(alloc, tree, haystack, *place)?;
+        let greatest = ways.iter().map(|way| way.end()).max();
+        if let Some(way) = ways.into_iter().find(|way| Some(way.end()) == greatest) {
+            return Ok(Some((*place, way)));
+        }
+    }
+    Ok(None)
+}
+
 /// The least end of all parses from the places from `start` on.
 pub fn least_end(
     alloc: Global,

@@ -1,12 +1,14 @@
 //! What the tables share: an answer is computed and compared.
 
 use crate::answers::{
-    groups_of_parse, groups_of_run, preferred_parse, program_of, text_of_groups, tree_of,
+    groups_of_parse, groups_of_run, longest_parse, preferred_parse, program_of, text_of_groups,
+    tree_of,
 };
 use bites_machine::program::Program;
 use bites_plain::plain::is_plain;
-use bites_plain::run::{Run, first_run};
+use bites_plain::run::{Run, first_run, longest_run};
 use bites_plain::spans::successive_runs;
+use bites_plain::way::Way;
 use bites_text::error::Error;
 use std::alloc::{AllocError, Global};
 use std::process::Abort;
@@ -21,8 +23,27 @@ pub fn expect_groups(rt: &(impl Abort + AllocGlobal), rows: &[Row<'_>]) -> Resul
         let run = first_run(rt.alloc(), &program, haystack, *start)?;
         let text = text_of_run(rt.alloc(), &program, &run)?;
         assert_eq!(rt; text.as_str(), *wanted, "{pattern}");
-        let parsed = text_of_parse(rt.alloc(), pattern, haystack, *start)?;
-        if let Some(text) = parsed {
+        let tree = tree_of(rt.alloc(), pattern)?;
+        if is_plain(&tree) {
+            let parse = preferred_parse(rt.alloc(), &tree, haystack, *start)?;
+            let text = text_of_parse(rt.alloc(), program.groups(), &parse)?;
+            assert_eq!(rt; text.as_str(), *wanted, "{pattern}");
+        }
+    }
+    Ok(())
+}
+
+/// Compares the groups of the longest run with each row, and for a plain tree those of the longest parse.
+pub fn expect_longest(rt: &(impl Abort + AllocGlobal), rows: &[Row<'_>]) -> Result<(), Error> {
+    for (pattern, haystack, start, wanted) in rows {
+        let program = program_of(rt.alloc(), pattern)?;
+        let run = longest_run(rt.alloc(), &program, haystack, *start)?;
+        let text = text_of_run(rt.alloc(), &program, &run)?;
+        assert_eq!(rt; text.as_str(), *wanted, "{pattern}");
+        let tree = tree_of(rt.alloc(), pattern)?;
+        if is_plain(&tree) {
+            let parse = longest_parse(rt.alloc(), &tree, haystack, *start)?;
+            let text = text_of_parse(rt.alloc(), program.groups(), &parse)?;
             assert_eq!(rt; text.as_str(), *wanted, "{pattern}");
         }
     }
@@ -64,23 +85,16 @@ fn text_of_runs(alloc: Global, program: &Program, runs: &[Run]) -> Result<String
     texts.join(alloc, "; ")
 }
 
-// The groups of the preferred parse, or `none`; nothing for a tree that is not plain.
+// Where each of so many groups took part in a parse from a place, or `none`.
 fn text_of_parse(
     alloc: Global,
-    pattern: &str,
-    haystack: &[u8],
-    start: usize,
-) -> Result<Option<String>, Error> {
-    let tree = tree_of(alloc, pattern)?;
-    if !is_plain(&tree) {
-        return Ok(None);
-    }
-    let count = program_of(alloc, pattern)?.groups();
-    let text = match preferred_parse(alloc, &tree, haystack, start)? {
+    groups: usize,
+    parse: &Option<(usize, Way)>,
+) -> Result<String, AllocError> {
+    match parse {
         Some((place, way)) => {
-            text_of_groups(alloc, &groups_of_parse(alloc, count, place, &way)?)?
+            text_of_groups(alloc, &groups_of_parse(alloc, groups, *place, way)?)
         }
-        None => String::from_str(alloc, "none")?,
-    };
-    Ok(Some(text))
+        None => String::from_str(alloc, "none"),
+    }
 }

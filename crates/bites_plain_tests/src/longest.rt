@@ -1,42 +1,26 @@
 //! The longest match at the first place that has one.
 
-use crate::answers::program_of;
-use crate::expect::text_of_run;
+use crate::expect::{expect_longest, text_of_run};
 use bites_machine::program::Program;
 use bites_machine::state::State;
 use bites_plain::run::longest_run;
 use bites_text::error::Error;
-use std::process::Abort;
 use std::test::Fail;
-
-/// Compares the groups of the longest run from a start with each row.
-fn expect_longest(
-    rt: &(impl Abort + AllocGlobal),
-    rows: &[(&str, &str, usize, &str)],
-) -> Result<(), Error> {
-    for (pattern, haystack, start, wanted) in rows {
-        let program = program_of(rt.alloc(), pattern)?;
-        let run = longest_run(rt.alloc(), &program, haystack.as_bytes(), *start)?;
-        let text = text_of_run(rt.alloc(), &program, &run)?;
-        assert_eq!(rt; text.as_str(), *wanted, "{pattern} on {haystack}");
-    }
-    Ok(())
-}
 
 #[test]
 fn of_branches(rt: HostRuntime) -> Result<(), Error> {
     expect_longest(
         &rt,
         &[
-            ("a|ab", "ab", 0, "0..2"),
-            ("a|ab|abc", "abcab", 0, "0..3"),
-            ("a|ab|abc", "abcab", 3, "3..5"),
-            ("a|ab|abc", "abcab", 5, "none"),
-            ("abcd|b|bc", "abce", 0, "1..3"),
-            ("b|abc|bcdef", "abcdef", 0, "0..3"),
-            ("(?:a|ab)(?:c|bcd)?", "abcd", 0, "0..4"),
-            ("b", "a", 0, "none"),
-            ("", "a", 2, "none"),
+            ("a|ab", b"ab", 0, "0..2"),
+            ("a|ab|abc", b"abcab", 0, "0..3"),
+            ("a|ab|abc", b"abcab", 3, "3..5"),
+            ("a|ab|abc", b"abcab", 5, "none"),
+            ("abcd|b|bc", b"abce", 0, "1..3"),
+            ("b|abc|bcdef", b"abcdef", 0, "0..3"),
+            ("(?:a|ab)(?:c|bcd)?", b"abcd", 0, "0..4"),
+            ("b", b"a", 0, "none"),
+            ("", b"a", 2, "none"),
         ],
     )
 }
@@ -46,13 +30,13 @@ fn of_lazy_repetitions(rt: HostRuntime) -> Result<(), Error> {
     expect_longest(
         &rt,
         &[
-            ("a+?", "aaa", 0, "0..3"),
-            ("a*?", "aa", 0, "0..2"),
-            ("a*?", "baac", 0, "0..0"),
-            ("a*?", "baac", 1, "1..3"),
-            ("a*?", "baac", 4, "4..4"),
-            ("(a*?)(a*)", "aaa", 0, "0..3 0..0 0..3"),
-            ("(a??)(a??)(a)", "aa", 0, "0..2 0..0 0..1 1..2"),
+            ("a+?", b"aaa", 0, "0..3"),
+            ("a*?", b"aa", 0, "0..2"),
+            ("a*?", b"baac", 0, "0..0"),
+            ("a*?", b"baac", 1, "1..3"),
+            ("a*?", b"baac", 4, "4..4"),
+            ("(a*?)(a*)", b"aaa", 0, "0..3 0..0 0..3"),
+            ("(a??)(a??)(a)", b"aa", 0, "0..2 0..0 0..1 1..2"),
         ],
     )
 }
@@ -62,11 +46,11 @@ fn of_groups(rt: HostRuntime) -> Result<(), Error> {
     expect_longest(
         &rt,
         &[
-            ("(a|ab)(c)?", "abc", 0, "0..3 0..2 2..3"),
-            ("(a|ab)(c|bcd)(d*)", "abcd", 0, "0..4 0..1 1..4 4..4"),
-            ("(a)|ab", "ab", 0, "0..2 -"),
-            ("(?:(a)|ab)(b?)", "ab", 0, "0..2 0..1 1..2"),
-            ("(a|b)*?", "ab", 0, "0..2 1..2"),
+            ("(a|ab)(c)?", b"abc", 0, "0..3 0..2 2..3"),
+            ("(a|ab)(c|bcd)(d*)", b"abcd", 0, "0..4 0..1 1..4 4..4"),
+            ("(a)|ab", b"ab", 0, "0..2 -"),
+            ("(?:(a)|ab)(b?)", b"ab", 0, "0..2 0..1 1..2"),
+            ("(a|b)*?", b"ab", 0, "0..2 1..2"),
         ],
     )
 }
@@ -76,8 +60,8 @@ fn of_bodies_that_may_be_empty(rt: HostRuntime) -> Result<(), Error> {
     expect_longest(
         &rt,
         &[
-            ("(?:|a)*", "aa", 0, "0..2"),
-            ("(?:a*(?:|b))+", "ab", 0, "0..2"),
+            ("(?:|a)*", b"aa", 0, "0..2"),
+            ("(?:a*(?:|b))+", b"ab", 0, "0..2"),
         ],
     )
 }

@@ -1,8 +1,11 @@
 //! The match of a search, with its groups.
 
 use crate::answers::{least_end, tree_of};
-use crate::expect::expect_groups;
+use crate::expect::{expect_groups, text_of_run};
+use bites_machine::program::compile;
 use bites_plain::plain::is_plain;
+use bites_plain::run::first_run;
+use bites_syntax::parse::{Flags, parse};
 use bites_text::error::Error;
 
 #[test]
@@ -29,6 +32,17 @@ fn of_branches_and_greed(rt: HostRuntime) -> Result<(), Error> {
             ("a\\.b", b"aab a.b", 0, "4..7"),
         ],
     )
+}
+
+/// A body that is dropped may be taller than any limit.
+#[test]
+fn of_a_tree_without_height(rt: HostRuntime) -> Result<(), Error> {
+    let tree = parse(rt.alloc(), "a**{0}", Flags::default(), 0)?;
+    let program = compile(rt.alloc(), &tree, "a**{0}", 144)?;
+    let run = first_run(rt.alloc(), &program, b"a", 0)?;
+    let text = text_of_run(rt.alloc(), &program, &run)?;
+    assert_eq!(rt; text.as_str(), "0..0");
+    Ok(())
 }
 
 #[test]
