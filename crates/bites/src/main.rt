@@ -8,21 +8,23 @@ mod run;
 #[cfg(test)]
 mod tests;
 
-use run::run;
+use run::{refuse_words, run};
 use std::process::ExitCode;
 use std::rt::Env;
 use std::{env, io};
 
 fn main(rt: HostRuntime) -> ExitCode {
-    // A word that is no UTF-8 can't be a pattern here: then there are no words, which answers the usage line.
-    let words = words(&rt).unwrap_or(Vec::new(rt.alloc()));
-    ExitCode::from(run(
-        rt.alloc(),
-        words.as_slice(),
-        &mut rt.stdin(),
-        &mut rt.stdout(),
-        &mut rt.stderr(),
-    ))
+    let status = match words(&rt) {
+        Ok(words) => run(
+            rt.alloc(),
+            words.as_slice(),
+            &mut rt.stdin(),
+            &mut rt.stdout(),
+            &mut rt.stderr(),
+        ),
+        Err(error) => refuse_words(&error, &mut rt.stderr()),
+    };
+    ExitCode::from(status)
 }
 
 // The words behind the program's name.

@@ -62,11 +62,25 @@ pub fn run<R: Read, W: Write, E: Write>(
     match command(alloc, words, input, out) {
         Ok(Outcome::Found) => 0,
         Ok(Outcome::Nothing) => 1,
-        Err(fault) => {
-            let _written = writeln!(err, "bites: {fault}");
-            2
-        }
+        Err(fault) => tell(&fault, err),
     }
+}
+
+/// Tells on one line of `err` why the program has no words: want of memory, or else a word that is no UTF-8, which can't
+/// be a pattern here and answers the usage line. The status is 2.
+pub fn refuse_words<E: Write>(error: &io::Error, err: &mut E) -> u8 {
+    let fault = if error.kind() == io::ErrorKind::OutOfMemory {
+        Fault::Pattern(Error::Memory)
+    } else {
+        Fault::Usage
+    };
+    tell(&fault, err)
+}
+
+// Writes the line of a fault; the status is the same where that can't be written.
+fn tell<E: Write>(fault: &Fault, err: &mut E) -> u8 {
+    let _written = writeln!(err, "bites: {fault}");
+    2
 }
 
 // Does what the first word names.

@@ -2,7 +2,7 @@
 
 mod messages;
 
-use crate::run::run;
+use crate::run::{refuse_words, run};
 use std::alloc::{AllocError, Global};
 use std::io::{self, Read, Write};
 use std::process::Abort;
@@ -194,5 +194,18 @@ fn tells_that_writing_failed(rt: HostRuntime) -> Result<(), Fail> {
         &mut Full { room: 0 },
     );
     assert_eq!(rt; again, 2);
+    Ok(())
+}
+
+#[test]
+fn tells_why_there_are_no_words(rt: HostRuntime) -> Result<(), Fail> {
+    for (kind, line) in [
+        (io::ErrorKind::OutOfMemory, "bites: out of memory\n"),
+        (io::ErrorKind::InvalidData, USAGE),
+    ] {
+        let mut err = Vec::new(rt.alloc());
+        assert_eq!(rt; refuse_words(&io::Error::from(kind), &mut err), 2);
+        assert_eq!(rt; err.as_slice(), line.as_bytes());
+    }
     Ok(())
 }
