@@ -14,6 +14,7 @@ fn expect_counts(rt: &(impl Abort + AllocGlobal), rows: &[Counts<'_>]) -> Result
         assert_eq!(rt; regex.captures_len(), *groups, "{pattern}");
         assert_eq!(rt; regex.static_captures_len(), *always, "{pattern}");
         assert_eq!(rt; regex.capture_names().len(), *groups, "{pattern}");
+        assert_eq!(rt; regex.capture_names().count(), *groups, "{pattern}");
     }
     Ok(())
 }

@@ -1,6 +1,6 @@
 //! The names of a regex's groups.
 
-ghost use Rattle.std.specs.Prelude.{◌≡◌, IfSome, length, Some};
+ghost use Rattle.std.specs.Prelude.{◌≡◌, ◌<◌, ◌^◌, IfSome, length, Some};
 
 use bites_machine::program::Program;
 use std::iter::FusedIterator;
@@ -9,16 +9,27 @@ use std::iter::FusedIterator;
 #[derive(Clone, Copy)]
 pub struct CaptureNames<'r> {
     program: &'r Program,
-    next: usize,
+    left: usize,
 }
 
 impl<'r> CaptureNames<'r> {
     ghost use Rattle.bites_bytes.specs.Names.{names_left};
 
     pub(crate) fn new(program: &'r Program) -> CaptureNames<'r>
-        ensures { names_left result ≡ program.now.names }
+        ensures left { names_left result ≡ program.now.names }
+        ensures fits { length (names_left result) < 2 ^ 64 }
     {
-        CaptureNames { program, next: 0 }
+        CaptureNames {
+            program,
+            left: program.groups(),
+        }
+    }
+
+    // How many names are still to come.
+    fn names_left(&self) -> usize
+        ensures { result ≡ length (names_left self.now) }
+    {
+        self.program.groups().min(self.left)
     }
 }
 
@@ -34,11 +45,12 @@ impl<'r> Iterator for CaptureNames<'r> {
     ghost remaining = { item_count names_left };
 
     fn next(&mut self) -> Option<Option<&'r str>> {
-        if self.next >= self.program.groups() {
+        let left = self.names_left();
+        if left == 0 {
             return None;
         }
-        let name = self.program.name(self.next);
-        self.next += 1;
+        let name = self.program.name(self.program.groups() - left);
+        self.left = left - 1;
         Some(name)
     }
 
@@ -47,14 +59,14 @@ impl<'r> Iterator for CaptureNames<'r> {
         ensures upper { IfSome result.1 (UpTo (item_count names_left self.now)) }
         ensures value { result ≡ (length (names_left self.now), Some (length (names_left self.now))) }
     {
-        let left = self.len();
+        let left = self.names_left();
         (left, Some(left))
     }
 }
 
 impl<'r> ExactSizeIterator for CaptureNames<'r> {
     fn len(&self) -> usize {
-        self.program.groups().saturating_sub(self.next)
+        self.names_left()
     }
 }
 

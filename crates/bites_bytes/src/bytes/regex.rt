@@ -1,6 +1,6 @@
 //! A compiled regular expression and its searches.
 
-ghost use Rattle.std.specs.Prelude.{◌≡◌, ◌≢◌, ◌↔◌, IsTrue, IfOk, IfErr};
+ghost use Rattle.std.specs.Prelude.{◌≡◌, ◌≢◌, ◌<◌, ◌^◌, ◌↔◌, IsTrue, IfOk, IfErr, length};
 ghost use Rattle.bites_spec.specs.Tree.{Tree, captures_len};
 ghost use Rattle.bites_machine.specs.Names.{names_of, static_captures_len};
 ghost use Rattle.bites_spec.specs.Found.{HasMatch, IsLeastEnd};
@@ -68,7 +68,8 @@ impl Compiled {
     }
 
     fn capture_names(&self) -> CaptureNames<'_>
-        ensures { names_left result ≡ names_of self.now.tree }
+        ensures names { names_left result ≡ names_of self.now.tree }
+        ensures fits { length (names_left result) < 2 ^ 64 }
     {
         CaptureNames::new(&self.program)
     }
@@ -213,7 +214,8 @@ impl Regex {
 
     /// The name of each group, if it has one, from group 0 on, which has none.
     pub fn capture_names(&self) -> CaptureNames<'_>
-        ensures { names_left result ≡ names_of self.now.tree }
+        ensures names { names_left result ≡ names_of self.now.tree }
+        ensures fits { length (names_left result) < 2 ^ 64 }
     {
         self.compiled.capture_names()
     }
