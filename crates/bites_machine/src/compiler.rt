@@ -101,7 +101,8 @@ fn whole_states(alloc: Global, tree: &Tree) -> Result<(Vec<State>, u32), AllocEr
     requires reduced { IsReduced tree.now }
     requires few_states { states tree.now ≤ 4294967295 }
     requires few_groups { greatest (groups_in tree.now) < 2147483648 }
-    ensures { IfOk result (λ made. program_of made.0.items made.1 (2 * captures_len tree.now) ≡ compiled tree.now) }
+    ensures { IfOk result (λ made. program_of made.0.items made.1 (2 * captures_len tree.now)
+        ≡ compiled tree.now) }
 {
     let mut states = States::new(alloc);
     let last = states.push(State::Match)?;

@@ -55,7 +55,8 @@ impl States {
     /// Writes one more state, and answers its number.
     pub fn push(&mut self, state: State) -> Result<u32, AllocError>
         requires { length self.old < 4294967295 }
-        ensures { IfOk result (λ number. emitted self.new number ≡ pushed self.old (state_of state)) }
+        ensures { IfOk result (λ number. emitted self.new number
+            ≡ pushed self.old (state_of state)) }
     {
         let number = self.list.len() as u32;
         self.list.push(state)?;
@@ -73,7 +74,8 @@ impl States {
     /// Writes the state of a class.
     fn class(&mut self, class: &Class, to: u32) -> Result<u32, AllocError>
         requires { length self.old < 4294967295 }
-        ensures { IfOk result (λ from. emitted self.new from ≡ pushed self.old (class_state class.now to)) }
+        ensures { IfOk result (λ from. emitted self.new from
+            ≡ pushed self.old (class_state class.now to)) }
     {
         if class.ranges().is_empty() {
             return self.push(State::Fail);
@@ -85,7 +87,8 @@ impl States {
     /// Writes a choice between two states, the first preferred if it is greedy, else the second.
     fn choose(&mut self, greedy: bool, round: u32, leave: u32) -> Result<u32, AllocError>
         requires { length self.old < 4294967295 }
-        ensures { IfOk result (λ from. emitted self.new from ≡ pushed self.old (choice greedy round leave)) }
+        ensures { IfOk result (λ from. emitted self.new from
+            ≡ pushed self.old (choice greedy round leave)) }
     {
         let state = self.choice(greedy, round, leave)?;
         self.push(state)
@@ -141,7 +144,8 @@ impl States {
         requires room { length self.old + (size_of sub.now).states + 2 ≤ 4294967295 }
         requires slots { 2 * greatest (groups_in sub.now) + 1 < 4294967296 }
         requires slot { 2 * index + 1 < 4294967296 }
-        ensures { IfOk result (λ from. emitted self.new from ≡ grouped index (emit sub.now) to self.old) }
+        ensures { IfOk result (λ from. emitted self.new from
+            ≡ grouped index (emit sub.now) to self.old) }
     {
         let closing = self.push(State::Capture {
             target: to,
@@ -158,9 +162,12 @@ impl States {
     #[cycle(emit)]
     fn unbounded(&mut self, min: u32, greedy: bool, sub: &Tree, to: u32) -> Result<u32, AllocError>
         requires reduced { IsReduced sub.now }
-        requires room { length self.old + (repeated_size min None (is_empty_by_form sub.now) (size_of sub.now)).states ≤ 4294967295 }
+        requires room { length self.old +
+            (repeated_size min None (is_empty_by_form sub.now) (size_of sub.now)).states
+            ≤ 4294967295 }
         requires slots { 2 * greatest (groups_in sub.now) + 1 < 4294967296 }
-        ensures { IfOk result (λ from. emitted self.new from ≡ repeated min None greedy (is_empty_by_form sub.now) (emit sub.now) to self.old) }
+        ensures { IfOk result (λ from. emitted self.new from
+            ≡ repeated min None greedy (is_empty_by_form sub.now) (emit sub.now) to self.old) }
     {
         if min > 0 {
             let from = self.looped(greedy, sub, to)?;
@@ -185,9 +192,13 @@ impl States {
         requires reduced { IsReduced sub.now }
         requires order { min ≤ max }
         requires some { 1 ≤ max }
-        requires room { length self.old + (repeated_size min (Some max) (is_empty_by_form sub.now) (size_of sub.now)).states ≤ 4294967295 }
+        requires room { length self.old +
+            (repeated_size min (Some max) (is_empty_by_form sub.now) (size_of sub.now)).states
+            ≤ 4294967295 }
         requires slots { 2 * greatest (groups_in sub.now) + 1 < 4294967296 }
-        ensures { IfOk result (λ from. emitted self.new from ≡ repeated min (Some max) greedy (is_empty_by_form sub.now) (emit sub.now) to self.old) }
+        ensures { IfOk result (λ from. emitted self.new from
+            ≡ repeated min (Some max) greedy (is_empty_by_form sub.now) (emit sub.now) to
+            self.old) }
     {
         if min == max {
             let from = self.emit(sub, to)?;
@@ -210,7 +221,8 @@ impl States {
         requires reduced { IsReduced sub.now }
         requires room { length self.old + count * (size_of sub.now).states ≤ 4294967295 }
         requires slots { 2 * greatest (groups_in sub.now) + 1 < 4294967296 }
-        ensures { IfOk result (λ from. emitted self.new from ≡ again count (emit sub.now) to self.old) }
+        ensures { IfOk result (λ from. emitted self.new from
+            ≡ again count (emit sub.now) to self.old) }
     {
         let mut from = to;
         for _ in 0..count {
@@ -223,9 +235,11 @@ impl States {
     #[cycle(emit)]
     fn bounded(&mut self, count: u32, greedy: bool, sub: &Tree, to: u32) -> Result<u32, AllocError>
         requires reduced { IsReduced sub.now }
-        requires room { length self.old + count * (size_of sub.now).states + count + 1 ≤ 4294967295 }
+        requires room { length self.old + count * (size_of sub.now).states + count + 1
+            ≤ 4294967295 }
         requires slots { 2 * greatest (groups_in sub.now) + 1 < 4294967296 }
-        ensures { IfOk result (λ from. emitted self.new from ≡ bounded count greedy (emit sub.now) to self.old) }
+        ensures { IfOk result (λ from. emitted self.new from
+            ≡ bounded count greedy (emit sub.now) to self.old) }
     {
         let out = self.push(State::Goto {
             target: to,
@@ -245,7 +259,8 @@ impl States {
         requires reduced { IsReduced sub.now }
         requires room { length self.old + (size_of sub.now).states + 1 ≤ 4294967295 }
         requires slots { 2 * greatest (groups_in sub.now) + 1 < 4294967296 }
-        ensures { IfOk result (λ from. emitted self.new from ≡ loop greedy (emit sub.now) to self.old) }
+        ensures { IfOk result (λ from. emitted self.new from
+            ≡ loop greedy (emit sub.now) to self.old) }
     {
         let again = self.push(State::Fail)?;
         let from = self.emit(sub, again)?;
@@ -260,7 +275,8 @@ impl States {
         requires reduced { IsReduced sub.now }
         requires room { length self.old + (size_of sub.now).states + 1 ≤ 4294967295 }
         requires slots { 2 * greatest (groups_in sub.now) + 1 < 4294967296 }
-        ensures { IfOk result (λ from. emitted self.new from ≡ star greedy (emit sub.now) to self.old) }
+        ensures { IfOk result (λ from. emitted self.new from
+            ≡ star greedy (emit sub.now) to self.old) }
     {
         let from = self.push(State::Fail)?;
         let round = self.emit(sub, from)?;
@@ -275,7 +291,8 @@ impl States {
         requires reduced { IsReduced sub.now }
         requires room { length self.old + (size_of sub.now).states + 3 ≤ 4294967295 }
         requires slots { 2 * greatest (groups_in sub.now) + 1 < 4294967296 }
-        ensures { IfOk result (λ from. emitted self.new from ≡ optional_loop greedy (emit sub.now) to self.old) }
+        ensures { IfOk result (λ from. emitted self.new from
+            ≡ optional_loop greedy (emit sub.now) to self.old) }
     {
         let out = self.push(State::Goto {
             target: to,
@@ -288,9 +305,11 @@ impl States {
     #[cycle(emit)]
     fn sequence(&mut self, parts: &[Tree], to: u32) -> Result<u32, AllocError>
         requires reduced { AllAreReduced (trees_of parts.now) }
-        requires room { length self.old + (size_of (sequence (trees_of parts.now))).states ≤ 4294967295 }
+        requires room { length self.old + (size_of (sequence (trees_of parts.now))).states
+            ≤ 4294967295 }
         requires slots { 2 * greatest (groups_in_all (trees_of parts.now)) + 1 < 4294967296 }
-        ensures { IfOk result (λ from. emitted self.new from ≡ emit_all (trees_of parts.now) to self.old) }
+        ensures { IfOk result (λ from. emitted self.new from
+            ≡ emit_all (trees_of parts.now) to self.old) }
     {
         let mut from = to;
         for i in (0..parts.len()).rev() {
@@ -302,9 +321,11 @@ impl States {
     #[cycle(emit)]
     fn alternation(&mut self, parts: &[Tree], to: u32) -> Result<u32, AllocError>
         requires reduced { AllAreReduced (trees_of parts.now) }
-        requires room { length self.old + (size_of (sequence (trees_of parts.now))).states + 2 ≤ 4294967295 }
+        requires room { length self.old + (size_of (sequence (trees_of parts.now))).states + 2
+            ≤ 4294967295 }
         requires slots { 2 * greatest (groups_in_all (trees_of parts.now)) + 1 < 4294967296 }
-        ensures { IfOk result (λ from. emitted self.new from ≡ emit (spec.alternation (trees_of parts.now)) to self.old) }
+        ensures { IfOk result (λ from. emitted self.new from
+            ≡ emit (spec.alternation (trees_of parts.now)) to self.old) }
     {
         let out = self.push(State::Goto {
             target: to,

@@ -56,7 +56,8 @@ impl std::error::Error for BadProgram {}
 
 /// The first fault of a state among so many states, in a program of so many slots.
 pub fn fault_of(state: &State, len: usize, slots: u32) -> Option<BadProgram>
-    ensures { MatchOption result (faults.fault_of len slots (state_of state.now) ≡ None) (Finds (faults.fault_of len slots (state_of state.now))) }
+    ensures { MatchOption result (faults.fault_of len slots (state_of state.now)
+        ≡ None) (Finds (faults.fault_of len slots (state_of state.now))) }
 {
     if !leads_below(state, len) {
         Some(BadProgram::BadTarget)
@@ -71,8 +72,11 @@ pub fn fault_of(state: &State, len: usize, slots: u32) -> Option<BadProgram>
 
 /// The first fault of the states, each asked in order.
 pub fn first_fault_of(states: &[State], slots: u32) -> Option<BadProgram>
-    ensures none { IfNone result (first_among (faults.fault_of (length states.now) slots) (states_of states.now) ≡ None) }
-    ensures some { IfSome result (Finds (first_among (faults.fault_of (length states.now) slots) (states_of states.now))) }
+    ensures none { IfNone result
+        (first_among (faults.fault_of (length states.now) slots) (states_of states.now)
+        ≡ None) }
+    ensures some { IfSome result
+        (Finds (first_among (faults.fault_of (length states.now) slots) (states_of states.now))) }
 {
     for state in states {
         if let Some(fault) = fault_of(state, states.len(), slots) {

@@ -62,7 +62,8 @@ pub fn write_names(
     names: &mut Vec<Option<String>>,
 ) -> Result<(), AllocError>
     requires { greatest (groups_in tree.now) < length names.old.items }
-    ensures { OnOk result (bytes_of names.new.items ≡ filled (groups_of tree.now) (bytes_of names.old.items)) }
+    ensures { OnOk result (bytes_of names.new.items
+        ≡ filled (groups_of tree.now) (bytes_of names.old.items)) }
 {
     match tree.kind() {
         Kind::Empty | Kind::Char(_) | Kind::Class(_) | Kind::Look(_) => Ok(()),
@@ -82,7 +83,8 @@ fn write_names_of_all(
     names: &mut Vec<Option<String>>,
 ) -> Result<(), AllocError>
     requires { greatest (groups_in_all (trees_of parts.now)) < length names.old.items }
-    ensures { OnOk result (bytes_of names.new.items ≡ filled (groups_of (sequence (trees_of parts.now))) (bytes_of names.old.items)) }
+    ensures { OnOk result (bytes_of names.new.items
+        ≡ filled (groups_of (sequence (trees_of parts.now))) (bytes_of names.old.items)) }
 {
     for part in parts {
         write_names(alloc, part, names)?;

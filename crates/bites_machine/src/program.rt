@@ -50,7 +50,8 @@ impl Program {
         start: u32,
         slots: u32,
     ) -> Result<Program, BadProgram>
-        ensures made { IfOk result (λ p. p ≡ contents_of_states (program_of states.items start slots)) }
+        ensures made { IfOk result (λ p. p ≡ contents_of_states
+            (program_of states.items start slots)) }
         ensures no_fault { OnOk result (first_fault (program_of states.items start slots) ≡ None) }
         ensures refused { IfErr result (IsBad (program_of states.items start slots)) }
     {
@@ -81,7 +82,8 @@ impl Program {
         static_captures_len: Option<usize>,
     ) -> Option<Program>
         requires { first_fault (program_of states.items start slots) ≡ None }
-        ensures made { IfSome result (λ p. p ≡ contents_by states.items start slots pattern names.items static_captures_len) }
+        ensures made { IfSome result (λ p. p
+            ≡ contents_by states.items start slots pattern names.items static_captures_len) }
         ensures none { IfNone result (2 ^ 64 ≤ targets (program_of states.items start slots)) }
     {
         let targets = edges(&states)?;
@@ -162,8 +164,10 @@ impl Program {
     /// The number of the first group with this name.
     pub fn index_of(&self, name: &str) -> Option<usize>
         ensures found { IfSome result (λ i. slice_index_or self.now.names i None ≡ Some name.now) }
-        ensures first { IfSome result (λ i. (j : ℕ) → j < i → slice_index_or self.now.names j None ≢ Some name.now) }
-        ensures absent { IfNone result ((j : ℕ) → slice_index_or self.now.names j None ≢ Some name.now) }
+        ensures first { IfSome result (λ i. (j : ℕ) → j < i →
+            slice_index_or self.now.names j None ≢ Some name.now) }
+        ensures absent { IfNone result ((j : ℕ) →
+            slice_index_or self.now.names j None ≢ Some name.now) }
     {
         for i in 0..self.names.len() {
             if let Some(own) = self.name(i)
@@ -185,7 +189,8 @@ impl Program {
 
 /// The number of edges of the states, if a `usize` can hold it.
 fn edges(states: &[State]) -> Option<usize>
-    ensures { SomeIff result (sum_by (λ s. length (targets_of s)) (states_of states.now) < 2 ^ 64) (sum_by (λ s. length (targets_of s)) (states_of states.now)) }
+    ensures { SomeIff result (sum_by (λ s. length (targets_of s)) (states_of states.now) < 2 ^ 64)
+        (sum_by (λ s. length (targets_of s)) (states_of states.now)) }
 {
     let mut count = 0usize;
     for state in states {

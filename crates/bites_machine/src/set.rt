@@ -21,7 +21,9 @@ impl Model for StateSet {
 
     ghost view = { λ a. record { members = a.members.items; bound = length a.index.items } };
 
-    ghost invariant = { λ a. IsIndexed a.members.items a.index.items × (length a.index.items < 2 ^ 32) × (length a.index.items ≤ vec_capacity a.members) };
+    ghost invariant = { λ a. IsIndexed a.members.items a.index.items
+        × (length a.index.items < 2 ^ 32)
+        × (length a.index.items ≤ vec_capacity a.members) };
 }
 
 impl StateSet {

@@ -104,7 +104,9 @@ pub fn size_of(tree: &Tree) -> Size
 fn size_of_repetition(min: u32, max: Option<u32>, sub: &Tree) -> Size
     requires reduced { IsReduced sub.now }
     requires order { IfSome max (λ most. min ≤ most) }
-    ensures size { result ≡ held_size (measure.repeated_size min max (is_empty_by_form sub.now) (measure.size_of sub.now)) }
+    ensures size { result
+        ≡ held_size
+        (measure.repeated_size min max (is_empty_by_form sub.now) (measure.size_of sub.now)) }
     ensures classes { HasClasses sub.now }
 {
     let body = size_of(sub);

@@ -90,8 +90,10 @@ fn close(
     requires current { current.old.bound ≡ length program.now.program.states }
     requires next { next.old.bound ≡ length program.now.program.states }
     requires empty { next.old.members ≡ [] }
-    ensures found { IsTrue result → EndsIn program.now.program haystack.now current.old.members place place }
-    ensures on { IsFalse result → GoesOn program.now.program haystack.now place current.old.members next.new.members }
+    ensures found { IsTrue result → EndsIn program.now.program haystack.now current.old.members
+        place place }
+    ensures on { IsFalse result →
+        GoesOn program.now.program haystack.now place current.old.members next.new.members }
     ensures current { current.new.bound ≡ current.old.bound }
     ensures next { next.new.bound ≡ next.old.bound }
 {
@@ -121,8 +123,10 @@ fn follow(
     requires targets { (q : ℕ) → Among (targets_of (state_of state.now)) q → q < current.old.bound }
     requires ranges { HasRanges (state_of state.now) }
     requires bounds { next.old.bound ≡ current.old.bound }
-    ensures current { current.new.members ≡ with_states current.old.members (targets_at haystack.now place (state_of state.now)) }
-    ensures next { next.new.members ≡ with_states next.old.members (targets_over taken (state_of state.now)) }
+    ensures current { current.new.members
+        ≡ with_states current.old.members (targets_at haystack.now place (state_of state.now)) }
+    ensures next { next.new.members ≡ with_states next.old.members
+        (targets_over taken (state_of state.now)) }
     ensures current_bound { current.new.bound ≡ current.old.bound }
     ensures next_bound { next.new.bound ≡ next.old.bound }
 {

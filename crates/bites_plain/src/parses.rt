@@ -78,7 +78,9 @@ fn after_turns(
     haystack: &[u8],
     start: usize,
 ) -> Result<Vec<Way>, AllocError>
-    ensures { IfOk result (λ ways. ways.items ≡ after_turns min (parses haystack.now body.now) (up_to more greedy (parses haystack.now body.now)) start) }
+    ensures { IfOk result (λ ways. ways.items
+        ≡ after_turns min (parses haystack.now body.now)
+        (up_to more greedy (parses haystack.now body.now)) start) }
 {
     if min == 0 {
         return up_to(alloc, more, greedy, body, haystack, start);
@@ -102,7 +104,8 @@ fn up_to(
     haystack: &[u8],
     start: usize,
 ) -> Result<Vec<Way>, AllocError>
-    ensures { IfOk result (λ ways. ways.items ≡ up_to more greedy (parses haystack.now body.now) start) }
+    ensures { IfOk result (λ ways. ways.items ≡ up_to more greedy (parses haystack.now body.now)
+        start) }
 {
     if more == 0 {
         return only_here(alloc, start);
@@ -127,7 +130,9 @@ fn turned(
     haystack: &[u8],
     start: usize,
 ) -> Result<Vec<Way>, AllocError>
-    ensures { IfOk result (λ ways. ways.items ≡ then_each (parses haystack.now body.now start) (up_to more greedy (parses haystack.now body.now))) }
+    ensures { IfOk result (λ ways. ways.items
+        ≡ then_each (parses haystack.now body.now start)
+        (up_to more greedy (parses haystack.now body.now))) }
 {
     let firsts = parses(alloc, body, haystack, start)?;
     let mut all = Vec::new(alloc);
@@ -147,7 +152,8 @@ fn parses_of_all(
     haystack: &[u8],
     start: usize,
 ) -> Result<Vec<Way>, AllocError>
-    ensures { IfOk result (λ ways. ways.items ≡ parses_of_all haystack.now (trees_of parts.now) start) }
+    ensures { IfOk result (λ ways. ways.items ≡ parses_of_all haystack.now (trees_of parts.now)
+        start) }
 {
     let Some((part, rest)) = parts.split_first() else {
         return only_here(alloc, start);
@@ -170,7 +176,8 @@ fn parses_of_one(
     haystack: &[u8],
     start: usize,
 ) -> Result<Vec<Way>, AllocError>
-    ensures { IfOk result (λ ways. ways.items ≡ parses_of_one haystack.now (trees_of parts.now) start) }
+    ensures { IfOk result (λ ways. ways.items ≡ parses_of_one haystack.now (trees_of parts.now)
+        start) }
 {
     let mut all = Vec::new(alloc);
     for part in parts {

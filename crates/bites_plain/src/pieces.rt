@@ -44,7 +44,8 @@ pub fn replaced(
     spans: &[Span],
     texts: &[Vec<u8>],
 ) -> Result<Vec<u8>, AllocError>
-    ensures { IfOk result (λ new. new.items ≡ spec.replaced haystack.now limit spans.now (map (λ t. t.items) texts.now)) }
+    ensures { IfOk result (λ new. new.items
+        ≡ spec.replaced haystack.now limit spans.now (map (λ t. t.items) texts.now)) }
 {
     let chosen = limited(limit, spans);
     let mut new = Vec::new(alloc);

@@ -162,7 +162,8 @@ fn writes(
     first: Spot,
     behind: &[Spot],
 ) -> Result<Vec<(usize, usize)>, AllocError>
-    ensures { IfOk result (λ written. written.items ≡ writes program.now.program [] first behind.now) }
+    ensures { IfOk result (λ written. written.items
+        ≡ writes program.now.program [] first behind.now) }
 {
     let mut written = Vec::new(alloc);
     let mut last = first;
@@ -214,9 +215,13 @@ fn walk(
 ) -> Result<Option<Vec<Spot>>, AllocError>
     requires well_formed { IsWellFormed program.now.program }
     requires inside { Inside program.now.program haystack.now spot }
-    ensures first { IfOk result (λ run. option_map (λ spots. spot ∷ spots.items) run ≡ first_walk program.now.program haystack.now end (is_seen seen.old.items) spot) }
-    ensures nowhere { IfOk result (λ run. run ≡ None → LeadsNowhere program.now.program haystack.now end seen.old.items seen.new.items) }
-    ensures fewer { IfOk result (λ run. unseen program.now.program haystack.now (is_seen seen.new.items) ≤ unseen program.now.program haystack.now (is_seen seen.old.items)) }
+    ensures first { IfOk result (λ run. option_map (λ spots. spot ∷ spots.items) run
+        ≡ first_walk program.now.program haystack.now end (is_seen seen.old.items) spot) }
+    ensures nowhere { IfOk result (λ run. run ≡ None →
+        LeadsNowhere program.now.program haystack.now end seen.old.items seen.new.items) }
+    ensures fewer { IfOk result (λ run. unseen program.now.program haystack.now
+        (is_seen seen.new.items)
+        ≤ unseen program.now.program haystack.now (is_seen seen.old.items)) }
 {
     if is_seen(seen, spot) {
         return Ok(None);

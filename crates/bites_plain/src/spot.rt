@@ -76,7 +76,8 @@ impl Spot {
 
     /// The slot that the state writes, if it writes one, and the place.
     pub fn write(self, program: &Program) -> Option<(usize, usize)>
-        ensures { option_to_list result ≡ write_of (state_at program.now.program.states self.state) self.place }
+        ensures { option_to_list result
+            ≡ write_of (state_at program.now.program.states self.state) self.place }
     {
         if self.state as usize >= program.len() {
             return None;

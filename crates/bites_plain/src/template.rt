@@ -25,7 +25,10 @@ impl Model for Group {
 
     ghost Value = { spec.Group };
 
-    ghost view = { λ a. record { name = option_map (λ v. v.items) a.name; text = option_map (λ v. v.items) a.text } };
+    ghost view = { λ a. record {
+      name = option_map (λ v. v.items) a.name;
+      text = option_map (λ v. v.items) a.text;
+    } };
 }
 
 impl Group {
@@ -70,7 +73,10 @@ pub fn expand(
     template: &[u8],
     groups: &[Group],
 ) -> Result<Vec<u8>, AllocError>
-    ensures { IfOk result (λ text. Expands usize.MAX (text_in groups.now) (index_in groups.now) any template.now text.items) }
+    ensures { IfOk result
+        (λ text.
+        Expands usize.MAX (text_in groups.now) (index_in groups.now) any template.now
+        text.items) }
 {
     let mut text = Vec::new(alloc);
     let mut rest = template;
@@ -120,7 +126,8 @@ fn after_dollar(any: bool, rest: &[u8]) -> (Part<'_>, usize)
 
 /// The bytes up to the first closing brace, if there is one, and the bytes may be a name.
 fn name_in_braces(any: bool, inside: &[u8]) -> Option<&[u8]>
-    ensures { MatchOption result (NoName any inside.now) (λ name. StandsInBraces any inside.now name.now) }
+    ensures { MatchOption result (NoName any inside.now)
+        (λ name. StandsInBraces any inside.now name.now) }
 {
     let Some(end) = first_brace(inside) else {
         return None;
@@ -168,7 +175,9 @@ fn word_at(bytes: &[u8]) -> &[u8]
 
 /// Adds what the part stands for.
 fn push_part(text: &mut Vec<u8>, part: &Part<'_>, groups: &[Group]) -> Result<(), AllocError>
-    ensures { OnOk result (text.new.items ≡ text.old.items ++ stands_for usize.MAX (text_in groups.now) (index_in groups.now) (part_of part.now)) }
+    ensures { OnOk result (text.new.items
+        ≡ text.old.items ++ stands_for usize.MAX (text_in groups.now) (index_in groups.now)
+        (part_of part.now)) }
 {
     match part {
         Part::Byte(b) => text.push(*b)?,
@@ -183,7 +192,9 @@ fn push_part(text: &mut Vec<u8>, part: &Part<'_>, groups: &[Group]) -> Result<()
 
 /// The text of the group that a name means.
 fn named_text<'g>(groups: &'g [Group], word: &[u8]) -> Option<&'g [u8]>
-    ensures { option_copied result ≡ option_and_then (text_in groups.now) (group_named usize.MAX (text_in groups.now) (index_in groups.now) word.now) }
+    ensures { option_copied result
+        ≡ option_and_then (text_in groups.now)
+        (group_named usize.MAX (text_in groups.now) (index_in groups.now) word.now) }
 {
     match group_named(groups, word) {
         Some(number) => text_in(groups, number),
@@ -251,7 +262,8 @@ fn number_of_digits(digits: &[u8]) -> Option<usize>
 
 /// The number with one more digit behind it, if a `usize` holds it.
 fn with_digit(number: usize, digit: u8) -> Option<usize>
-    ensures digits { MatchOption result (usize.MAX < number * 10 + digit) (λ longer. longer ≡ number * 10 + digit) }
+    ensures digits { MatchOption result (usize.MAX < number * 10 + digit) (λ longer. longer
+        ≡ number * 10 + digit) }
     ensures fits { IfSome result (λ longer. longer ≤ usize.MAX) }
 {
     number.checked_mul(10)?.checked_add(digit as usize)

@@ -60,7 +60,9 @@ pub fn visits(
     ensures all { IfOk result (λ r. VisitedAll program.now.program haystack.now start r) }
     ensures only { IfOk result (λ r. VisitedOnly program.now.program haystack.now start r) }
     ensures looks { IfOk result (λ r. LooksAtEach program.now.program haystack.now start r) }
-    ensures visited { IfOk result (λ r. (o : Option Run) → FirstRun program.now.program haystack.now start o → Visited program.now.program haystack.now start r o) }
+    ensures visited { IfOk result (λ r. (o : Option Run) →
+        FirstRun program.now.program haystack.now start o →
+        Visited program.now.program haystack.now start r o) }
 {
     let mut tries = at_each_place(alloc, program.start(), haystack, start)?;
     let mut spots = Vec::new(alloc);

@@ -64,7 +64,8 @@ fn line_end(flags: Flags) -> Look
 
 /// The tree of an escape. It refuses only for memory.
 fn escaped(alloc: Global, flags: Flags, meaning: Meaning) -> Result<Tree, AllocError>
-    ensures { (m : escape.Meaning) → IsMeaning meaning m → IfOk result (λ tree. tree ≡ node_of ranges_of 0 (flags_of flags) m) }
+    ensures { (m : escape.Meaning) → IsMeaning meaning m →
+        IfOk result (λ tree. tree ≡ node_of ranges_of 0 (flags_of flags) m) }
 {
     match meaning {
         Meaning::Character(c) => literal(alloc, flags, c),
@@ -80,7 +81,8 @@ pub(crate) fn atom(
     flags: Flags,
     c: char,
 ) -> Result<Tree, Error>
-    ensures reads { WithSteps cursor.old (λ n. Agrees (λ tree t. tree ≡ t) result cursor.new (atom n (flags_of flags) c cursor.old)) }
+    ensures reads { WithSteps cursor.old (λ n. Agrees (λ tree t. tree
+        ≡ t) result cursor.new (atom n (flags_of flags) c cursor.old)) }
     ensures forward { length cursor.new ≤ length cursor.old }
 {
     match c {

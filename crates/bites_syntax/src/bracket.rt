@@ -24,7 +24,8 @@ use std::alloc::{AllocError, Global};
 /// The place behind this opening, a name and `:]`, if they stand here.
 fn behind_name<'a>(cursor: &Cursor<'a>, opening: &str, name: NamedClass) -> Option<Cursor<'a>>
     ensures { let text = opening.now ++ name_of (named_of name) ++ codes ":]" in
-        MatchOption result (begins text cursor.now ≡ false) (λ rest. (begins text cursor.now ≡ true) × (rest ≡ drop (length text) cursor.now)) }
+        MatchOption result (begins text cursor.now ≡ false)
+        (λ rest. (begins text cursor.now ≡ true) × (rest ≡ drop (length text) cursor.now)) }
 {
     let mut ahead = cursor.ahead();
     if !ahead.bump_over(opening) {
@@ -69,7 +70,8 @@ fn class_named(alloc: Global, name: NamedClass, negated: bool) -> Result<Class, 
 
 /// Reads a named class, and adds its characters.
 fn named(alloc: Global, cursor: &mut Cursor<'_>, builder: &mut ClassBuilder) -> Result<(), Error>
-    ensures reads { Adds builder.old builder.new result cursor.new (λ go set. named go set cursor.old named_classes) }
+    ensures reads { Adds builder.old builder.new result cursor.new
+        (λ go set. named go set cursor.old named_classes) }
     ensures forward { length cursor.new ≤ length cursor.old }
     ensures progress { OnOk result (length cursor.new < length cursor.old) }
 {
@@ -84,7 +86,8 @@ fn named(alloc: Global, cursor: &mut Cursor<'_>, builder: &mut ClassBuilder) -> 
 
 /// Reads what may be an end of a range: a character or an escape.
 fn class_end(alloc: Global, cursor: &mut Cursor<'_>, flags: Flags) -> Result<Meaning, Error>
-    ensures reads { (n : ℕ) → length cursor.old ≤ suc n → Agrees IsMeaning result cursor.new (class_end n (flags_of flags) cursor.old) }
+    ensures reads { (n : ℕ) → length cursor.old ≤ suc n →
+        Agrees IsMeaning result cursor.new (class_end n (flags_of flags) cursor.old) }
     ensures forward { length cursor.new ≤ length cursor.old }
     ensures progress { OnOk result (length cursor.new < length cursor.old) }
 {
@@ -97,7 +100,8 @@ fn class_end(alloc: Global, cursor: &mut Cursor<'_>, flags: Flags) -> Result<Mea
 
 /// Adds the characters of a member that is no range.
 fn add_alone(builder: &mut ClassBuilder, member: Meaning) -> Result<(), Error>
-    ensures { (m : spec.Meaning) → IsMeaning member m → (rest : Text) → Adds builder.old builder.new result rest (λ go set. alone go set m rest) }
+    ensures { (m : spec.Meaning) → IsMeaning member m → (rest : Text) →
+        Adds builder.old builder.new result rest (λ go set. alone go set m rest) }
 {
     match member {
         Meaning::Character(c) => builder.push(c, c)?,
@@ -130,8 +134,11 @@ fn after_dash(
     builder: &mut ClassBuilder,
     first: Meaning,
 ) -> Result<(), Error>
-    ensures reads { (t : Text) → cursor.old ≡ 45 ∷ t → (n : ℕ) → length t ≤ n → (m : spec.Meaning) → IsMeaning first m →
-        Adds builder.old builder.new result cursor.new (λ go set. after_dash go n (flags_of flags) set m cursor.old (skip (flags_of flags) t)) }
+    ensures reads { (t : Text) → cursor.old ≡ 45 ∷ t → (n : ℕ) → length t ≤ n →
+        (m : spec.Meaning) → IsMeaning first m →
+        Adds builder.old builder.new result cursor.new
+        (λ go set.
+        after_dash go n (flags_of flags) set m cursor.old (skip (flags_of flags) t)) }
     ensures forward { length cursor.new ≤ length cursor.old }
 {
     let mut ahead = cursor.ahead();
@@ -157,7 +164,8 @@ fn after_first(
     first: Meaning,
 ) -> Result<(), Error>
     ensures reads { WithSteps cursor.old (λ n. (m : spec.Meaning) → IsMeaning first m →
-        Adds builder.old builder.new result cursor.new (λ go set. after_first go n (flags_of flags) set m cursor.old)) }
+        Adds builder.old builder.new result cursor.new
+        (λ go set. after_first go n (flags_of flags) set m cursor.old)) }
     ensures forward { length cursor.new ≤ length cursor.old }
 {
     match cursor.peek() {
@@ -191,7 +199,8 @@ fn unnamed(
 ) -> Result<(), Error>
     requires { next_is (one_of (codes "[]")) cursor.old ≡ false }
     ensures reads { (n : ℕ) → length cursor.old ≤ suc n →
-        Adds builder.old builder.new result cursor.new (λ go set. member go n (flags_of flags) set cursor.old) }
+        Adds builder.old builder.new result cursor.new
+        (λ go set. member go n (flags_of flags) set cursor.old) }
     ensures forward { length cursor.new ≤ length cursor.old }
     ensures progress { OnOk result (length cursor.new < length cursor.old) }
 {
@@ -212,7 +221,8 @@ fn member(
 ) -> Result<(), Error>
     requires { next_is (single 93) cursor.old ≡ false }
     ensures reads { (n : ℕ) → length cursor.old ≤ suc n →
-        Adds builder.old builder.new result cursor.new (λ go set. member go n (flags_of flags) set cursor.old) }
+        Adds builder.old builder.new result cursor.new
+        (λ go set. member go n (flags_of flags) set cursor.old) }
     ensures forward { length cursor.new ≤ length cursor.old }
     ensures progress { OnOk result (length cursor.new < length cursor.old) }
 {
@@ -229,7 +239,10 @@ fn members(
     flags: Flags,
     builder: &mut ClassBuilder,
 ) -> Result<(), Error>
-    ensures reads { WithSteps cursor.old (λ n. Completes builder.old builder.new result cursor.new (λ set. class_members n (flags_of flags) set cursor.old)) }
+    ensures reads { WithSteps cursor.old
+        (λ n.
+        Completes builder.old builder.new result cursor.new
+        (λ set. class_members n (flags_of flags) set cursor.old)) }
     ensures forward { length cursor.new ≤ length cursor.old }
 {
     cursor.skip(flags);
@@ -260,7 +273,8 @@ fn caret(cursor: &mut Cursor<'_>, flags: Flags) -> Result<bool, Error>
 
 /// Reads the dashes or the closing bracket that stand for themselves before the members.
 fn leading(cursor: &mut Cursor<'_>, flags: Flags) -> Result<Option<char>, Error>
-    ensures reads { WithSteps cursor.old (λ n. (negated : Bool) → AnswersLeading result cursor.new n (flags_of flags) negated cursor.old) }
+    ensures reads { WithSteps cursor.old (λ n. (negated : Bool) →
+        AnswersLeading result cursor.new n (flags_of flags) negated cursor.old) }
     ensures forward { length cursor.new ≤ length cursor.old }
 {
     match cursor.peek() {
@@ -308,7 +322,8 @@ fn finished(
     flags: Flags,
     negated: bool,
 ) -> Result<Class, AllocError>
-    ensures { (set : Set) → Has builder set → IfOk result (λ class. Lists class (with_negation negated (with_cases (flags_of flags) set))) }
+    ensures { (set : Set) → Has builder set →
+        IfOk result (λ class. Lists class (with_negation negated (with_cases (flags_of flags) set))) }
 {
     if flags.case_insensitive {
         builder.add_cases(alloc)?;
@@ -323,7 +338,8 @@ fn finished(
 
 /// Reads a class, from behind its opening bracket and the gap there.
 pub(crate) fn bracket(alloc: Global, cursor: &mut Cursor<'_>, flags: Flags) -> Result<Class, Error>
-    ensures reads { WithSteps cursor.old (λ n. Agrees Lists result cursor.new (bracket n (flags_of flags) cursor.old)) }
+    ensures reads { WithSteps cursor.old
+        (λ n. Agrees Lists result cursor.new (bracket n (flags_of flags) cursor.old)) }
     ensures forward { length cursor.new ≤ length cursor.old }
 {
     let negated = caret(cursor, flags)?;

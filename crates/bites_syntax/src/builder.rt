@@ -63,7 +63,8 @@ impl ClassBuilder {
     /// Adds the other case of each ASCII letter. A refusal for memory leaves the builder as it
     /// was.
     pub fn add_cases(&mut self, alloc: Global) -> Result<(), AllocError>
-        ensures folded { OnOk result ((c : ℕ) → in_ranges self.new c ≡ folded (in_ranges self.old) c) }
+        ensures folded { OnOk result ((c : ℕ) →
+            in_ranges self.new c ≡ folded (in_ranges self.old) c) }
         ensures kept { OnErr result (self.new ≡ self.old) }
     {
         let others = other_cases(alloc, &self.ranges)?;

@@ -60,7 +60,9 @@ impl Class {
     /// line feed and a carriage return. It refuses only for memory.
     pub fn dot(alloc: Global, matches_new_line: bool, crlf: bool) -> Result<Class, AllocError>
         ensures { IfOk result (λ class. Lists class (complement
-            (if matches_new_line then none else if crlf then one_of (codes "\n\r") else single 10))) }
+            (if matches_new_line then none
+            else if crlf then one_of (codes "\n\r")
+            else single 10))) }
     {
         if matches_new_line {
             Class::all_but(alloc, &[])

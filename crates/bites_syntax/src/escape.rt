@@ -148,8 +148,10 @@ fn boundary_name(alloc: Global, cursor: &mut Cursor<'_>, flags: Flags) -> Result
 
 /// Reads all letters and dashes that stand here, and the gap behind each.
 fn letters(alloc: Global, cursor: &mut Cursor<'_>, flags: Flags) -> Result<String, AllocError>
-    ensures letters { IfOk result (λ name. string_bytes name ≡ (each_of (flags_of flags) is_boundary_letter cursor.old).0) }
-    ensures rest { OnOk result (cursor.new ≡ (each_of (flags_of flags) is_boundary_letter cursor.old).1) }
+    ensures letters { IfOk result (λ name. string_bytes name
+        ≡ (each_of (flags_of flags) is_boundary_letter cursor.old).0) }
+    ensures rest { OnOk result (cursor.new ≡ (each_of (flags_of flags) is_boundary_letter
+        cursor.old).1) }
     ensures forward { length cursor.new ≤ length cursor.old }
 {
     let mut letters = String::new(alloc);
@@ -161,7 +163,8 @@ fn letters(alloc: Global, cursor: &mut Cursor<'_>, flags: Flags) -> Result<Strin
 
 /// Reads a word boundary from behind its `b`.
 fn boundary(alloc: Global, cursor: &mut Cursor<'_>, flags: Flags) -> Result<Look, Error>
-    ensures reads { WithSteps cursor.old (λ n. Agrees IsLook result cursor.new (boundary n (flags_of flags) cursor.old)) }
+    ensures reads { WithSteps cursor.old
+        (λ n. Agrees IsLook result cursor.new (boundary n (flags_of flags) cursor.old)) }
     ensures forward { length cursor.new ≤ length cursor.old }
 {
     let mut ahead = cursor.ahead();
@@ -181,7 +184,8 @@ fn boundary(alloc: Global, cursor: &mut Cursor<'_>, flags: Flags) -> Result<Look
 
 /// Reads an escape other than of a word boundary, from behind this character.
 fn simple(alloc: Global, cursor: &mut Cursor<'_>, flags: Flags, c: char) -> Result<Meaning, Error>
-    ensures reads { WithSteps cursor.old (λ n. Agrees IsMeaning result cursor.new (simple n (flags_of flags) c cursor.old)) }
+    ensures reads { WithSteps cursor.old
+        (λ n. Agrees IsMeaning result cursor.new (simple n (flags_of flags) c cursor.old)) }
     ensures forward { length cursor.new ≤ length cursor.old }
 {
     if let Some(meaning) = meaning_alone(alloc, c)? {
@@ -196,7 +200,8 @@ fn simple(alloc: Global, cursor: &mut Cursor<'_>, flags: Flags, c: char) -> Resu
 
 /// Reads what stands behind a backslash.
 pub(crate) fn escape(alloc: Global, cursor: &mut Cursor<'_>, flags: Flags) -> Result<Meaning, Error>
-    ensures reads { WithSteps cursor.old (λ n. Agrees IsMeaning result cursor.new (escape n (flags_of flags) cursor.old)) }
+    ensures reads { WithSteps cursor.old
+        (λ n. Agrees IsMeaning result cursor.new (escape n (flags_of flags) cursor.old)) }
     ensures forward { length cursor.new ≤ length cursor.old }
 {
     match cursor.bump() {

@@ -58,7 +58,8 @@ fn ends_with_dash(run: &[char]) -> bool
 
 /// What flags and the character behind them open.
 fn flags_end(run: &[char], end: char, front: &mut Front) -> Result<Opened, Error>
-    ensures { (g : pattern.Front) → (rest : Text) → IsFront front.old g → Agrees (λ o x. IsOpened o front.new g x) result rest (flags_end g run.now end rest) }
+    ensures { (g : pattern.Front) → (rest : Text) → IsFront front.old g →
+        Agrees (λ o x. IsOpened o front.new g x) result rest (flags_end g run.now end rest) }
 {
     if run.is_empty() {
         return if end == ':' {
@@ -80,7 +81,8 @@ fn flags_end(run: &[char], end: char, front: &mut Front) -> Result<Opened, Error
 
 /// Reads flags and what ends them, from behind the question mark.
 fn open_by_flags(alloc: Global, cursor: &mut Cursor<'_>, front: &mut Front) -> Result<Opened, Error>
-    ensures reads { (g : pattern.Front) → IsFront front.old g → Agrees (λ o x. IsOpened o front.new g x) result cursor.new (flags_from g [] cursor.old) }
+    ensures reads { (g : pattern.Front) → IsFront front.old g →
+        Agrees (λ o x. IsOpened o front.new g x) result cursor.new (flags_from g [] cursor.old) }
     ensures forward { length cursor.new ≤ length cursor.old }
 {
     let run = flag_run(alloc, cursor)?;
@@ -92,7 +94,8 @@ fn open_by_flags(alloc: Global, cursor: &mut Cursor<'_>, front: &mut Front) -> R
 
 /// Reads a name and its closing bracket, and opens the group of that name.
 fn named_group(alloc: Global, cursor: &mut Cursor<'_>, front: &mut Front) -> Result<Opened, Error>
-    ensures reads { (g : pattern.Front) → IsFront front.old g → Agrees (λ o x. IsOpened o front.new g x) result cursor.new (named_group g cursor.old) }
+    ensures reads { (g : pattern.Front) → IsFront front.old g →
+        Agrees (λ o x. IsOpened o front.new g x) result cursor.new (named_group g cursor.old) }
     ensures forward { length cursor.new ≤ length cursor.old }
 {
     let Some(groups) = front.groups.checked_add(1) else {
@@ -106,7 +109,8 @@ fn named_group(alloc: Global, cursor: &mut Cursor<'_>, front: &mut Front) -> Res
 
 /// Reads what opens a group that has no name.
 fn no_name(alloc: Global, cursor: &mut Cursor<'_>, front: &mut Front) -> Result<Opened, Error>
-    ensures reads { (g : pattern.Front) → IsFront front.old g → Agrees (λ o x. IsOpened o front.new g x) result cursor.new (no_name g cursor.old) }
+    ensures reads { (g : pattern.Front) → IsFront front.old g →
+        Agrees (λ o x. IsOpened o front.new g x) result cursor.new (no_name g cursor.old) }
     ensures forward { length cursor.new ≤ length cursor.old }
 {
     if cursor.bump_if('?') {
@@ -133,7 +137,8 @@ pub(crate) fn open_group(
     cursor: &mut Cursor<'_>,
     front: &mut Front,
 ) -> Result<Opened, Error>
-    ensures reads { (g : pattern.Front) → IsFront front.old g → Agrees (λ o x. IsOpened o front.new g x) result cursor.new (opened g cursor.old) }
+    ensures reads { (g : pattern.Front) → IsFront front.old g →
+        Agrees (λ o x. IsOpened o front.new g x) result cursor.new (opened g cursor.old) }
     ensures forward { length cursor.new ≤ length cursor.old }
 {
     if begins_look_around(cursor) {

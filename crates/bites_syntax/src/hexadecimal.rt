@@ -19,7 +19,8 @@ use bites_text::error::Error;
 
 /// The character with this number, if there is one.
 fn character(value: u64) -> Option<char>
-    ensures { MatchOption result (is_scalar value ≡ false) (λ c. (is_scalar value ≡ true) × (c ≡ value)) }
+    ensures { MatchOption result (is_scalar value ≡ false)
+        (λ c. (is_scalar value ≡ true) × (c ≡ value)) }
 {
     match u32::try_from(value) {
         Ok(code) => char::from_u32(code),
@@ -41,7 +42,8 @@ fn hex_digit(cursor: &mut Cursor<'_>) -> Result<u32, Error>
 /// Reads so many digits, with gaps between them, and gives their number; one that is too large
 /// becomes `TOO_LARGE`.
 fn exactly(cursor: &mut Cursor<'_>, flags: Flags, count: u32) -> Result<u64, Error>
-    ensures reads { AnswersNumber TOO_LARGE result cursor.new (fixed_number 0 count (flags_of flags) cursor.old) }
+    ensures reads { AnswersNumber TOO_LARGE result cursor.new
+        (fixed_number 0 count (flags_of flags) cursor.old) }
     ensures forward { length cursor.new ≤ length cursor.old }
 {
     let mut value = 0;
@@ -58,7 +60,8 @@ fn exactly(cursor: &mut Cursor<'_>, flags: Flags, count: u32) -> Result<u64, Err
 
 /// Reads a number of so many digits.
 fn fixed(cursor: &mut Cursor<'_>, flags: Flags, count: u32) -> Result<char, Error>
-    ensures reads { Answers (λ c. c) result cursor.new (and_then (exactly count (flags_of flags) cursor.old) (scalar fixed_hex_invalid)) }
+    ensures reads { Answers (λ c. c) result cursor.new
+        (and_then (exactly count (flags_of flags) cursor.old) (scalar fixed_hex_invalid)) }
     ensures forward { length cursor.new ≤ length cursor.old }
 {
     let value = exactly(cursor, flags, count)?;
@@ -83,7 +86,10 @@ fn in_braces(cursor: &mut Cursor<'_>, flags: Flags) -> Result<char, Error>
 
 /// Reads the number behind `x`, `u` or `U` and the gap there: in braces, or of so many digits.
 pub(crate) fn hexadecimal(cursor: &mut Cursor<'_>, flags: Flags, count: u32) -> Result<char, Error>
-    ensures reads { WithSteps cursor.old (λ n. Answers (λ c. c) result cursor.new (hexadecimal n (flags_of flags) count cursor.old)) }
+    ensures reads { WithSteps cursor.old
+        (λ n.
+        Answers (λ c. c) result cursor.new
+        (hexadecimal n (flags_of flags) count cursor.old)) }
     ensures forward { length cursor.new ≤ length cursor.old }
 {
     match cursor.peek() {

@@ -40,7 +40,9 @@ impl Names {
 
     /// Puts a name in. It refuses only for memory.
     pub(crate) fn insert(&mut self, name: String) -> Result<(), AllocError>
-        ensures { OnOk result ((q : List ℕ) → contains_text self.new.texts q ≡ (bytes_eq (string_bytes name) q || contains_text self.old.texts q)) }
+        ensures { OnOk result ((q : List ℕ) →
+            contains_text self.new.texts q
+            ≡ (bytes_eq (string_bytes name) q || contains_text self.old.texts q)) }
     {
         self.texts.insert(name)?;
         Ok(())
@@ -74,7 +76,8 @@ fn is_name_part(c: char) -> bool
 
 /// Whether the character may stand behind the front of a name.
 fn may_follow(text: &str, c: char) -> bool
-    ensures { is_name_front (chars text.now) ≡ true → result ≡ is_name_front (chars text.now ++ c ∷ []) }
+    ensures { is_name_front (chars text.now) ≡ true →
+        result ≡ is_name_front (chars text.now ++ c ∷ []) }
 {
     if text.is_empty() {
         is_name_start(c)
@@ -85,7 +88,10 @@ fn may_follow(text: &str, c: char) -> bool
 
 /// Reads the characters of a name, up to its closing bracket or to the end of the pattern.
 fn name_text(alloc: Global, cursor: &mut Cursor<'_>) -> Result<String, Error>
-    ensures reads { MatchResult result (λ text. (names : List Text) → name_from names [] cursor.old ≡ name_from names (chars (string_bytes text)) cursor.new) (λ e. (names : List Text) → Refuses e (name_from names [] cursor.old)) }
+    ensures reads { MatchResult result (λ text. (names : List Text) →
+        name_from names [] cursor.old
+        ≡ name_from names (chars (string_bytes text)) cursor.new) (λ e. (names : List Text) →
+        Refuses e (name_from names [] cursor.old)) }
     ensures ends { OnOk result (ends_name cursor.new ≡ true) }
     ensures forward { length cursor.new ≤ length cursor.old }
 {
@@ -105,7 +111,9 @@ fn name_text(alloc: Global, cursor: &mut Cursor<'_>) -> Result<String, Error>
 
 /// Reads a new name and its closing bracket.
 pub(crate) fn name(alloc: Global, cursor: &mut Cursor<'_>, names: &Names) -> Result<String, Error>
-    ensures reads { (all : List Text) → AreNames names.now all → Agrees (λ text name. name ≡ chars (string_bytes text)) result cursor.new (name_from all [] cursor.old) }
+    ensures reads { (all : List Text) → AreNames names.now all →
+        Agrees (λ text name. name
+        ≡ chars (string_bytes text)) result cursor.new (name_from all [] cursor.old) }
     ensures forward { length cursor.new ≤ length cursor.old }
 {
     let text = name_text(alloc, cursor)?;

@@ -40,7 +40,9 @@ enum Parts {
 
 /// The height above parts of this height, unless it is too great.
 fn height_above(height: u32, limit: u32) -> Option<u32>
-    ensures { MatchOption result ((limit < suc height) ⊎ (4294967295 ≤ suc height)) (λ h. (h ≡ suc height) × (h ≤ limit) × (h < 4294967295)) }
+    ensures { MatchOption result ((limit < suc height) ⊎ (4294967295 ≤ suc height))
+        (λ h. (h ≡ suc height)
+        × (h ≤ limit) × (h < 4294967295)) }
 {
     if height < limit && height < u32::MAX - 1 {
         Some(height + 1)
@@ -66,7 +68,9 @@ pub(crate) fn repetition_of(
     body: Node,
     limit: u32,
 ) -> Result<Node, AllocError>
-    ensures { (t : spec.Tree) → StandsFor limit body t → IfOk result (λ node. StandsFor limit node (repetition_of bounds.min bounds.max bounds.greedy t)) }
+    ensures { (t : spec.Tree) → StandsFor limit body t →
+        IfOk result
+        (λ node. StandsFor limit node (repetition_of bounds.min bounds.max bounds.greedy t)) }
 {
     if bounds.max == Some(0) {
         return Ok(Node::leaf(Tree::empty()));
@@ -78,7 +82,9 @@ pub(crate) fn repetition_of(
 }
 
 fn repeated(alloc: Global, bounds: Bounds, body: Node, limit: u32) -> Result<Node, AllocError>
-    ensures { (t : spec.Tree) → StandsFor limit body t → IfOk result (λ node. StandsFor limit node (spec.repetition bounds.min bounds.max bounds.greedy t)) }
+    ensures { (t : spec.Tree) → StandsFor limit body t →
+        IfOk result
+        (λ node. StandsFor limit node (spec.repetition bounds.min bounds.max bounds.greedy t)) }
 {
     let Node::Kept { tree, height } = body else {
         return Ok(Node::TooTall);
@@ -92,7 +98,8 @@ fn repeated(alloc: Global, bounds: Bounds, body: Node, limit: u32) -> Result<Nod
 }
 
 fn captured(alloc: Global, numbered: Numbered, body: Node, limit: u32) -> Result<Node, AllocError>
-    ensures { (t : spec.Tree) → StandsFor limit body t → IfOk result (λ node. StandsFor limit node (spec.group numbered.index numbered.name t)) }
+    ensures { (t : spec.Tree) → StandsFor limit body t →
+        IfOk result (λ node. StandsFor limit node (spec.group numbered.index numbered.name t)) }
 {
     let Node::Kept { tree, height } = body else {
         return Ok(Node::TooTall);
@@ -112,7 +119,9 @@ pub(crate) fn group_of(
     choice: Node,
     limit: u32,
 ) -> Result<Node, AllocError>
-    ensures { (opening : Opening) → (before : ℕ) → (branches : List spec.Tree) → IsNumbered numbered opening before → StandsFor limit choice (choice_of branches) → IfOk result (λ node. StandsFor limit node (group_of opening before branches)) }
+    ensures { (opening : Opening) → (before : ℕ) → (branches : List spec.Tree) →
+        IsNumbered numbered opening before → StandsFor limit choice (choice_of branches) →
+        IfOk result (λ node. StandsFor limit node (group_of opening before branches)) }
 {
     match numbered {
         Some(numbered) => captured(alloc, numbered, choice, limit),
@@ -122,7 +131,11 @@ pub(crate) fn group_of(
 
 /// The trees of the nodes and the height above them, or None where one is too tall.
 fn kept(alloc: Global, nodes: Vec<Node>, limit: u32) -> Result<Option<(Vec<Tree>, u32)>, AllocError>
-    ensures { (ts : List spec.Tree) → AreNodes limit nodes.items ts → IfOk result (λ o. MatchOption o (IsTooTall limit (spec.sequence (trees_of ts))) (λ p. (p.0.items ≡ ts) × (suc p.1 ≡ height (spec.sequence (trees_of ts))))) }
+    ensures { (ts : List spec.Tree) → AreNodes limit nodes.items ts →
+        IfOk result
+        (λ o. MatchOption o (IsTooTall limit (spec.sequence (trees_of ts))) (λ p. (p.0.items
+        ≡ ts)
+        × (suc p.1 ≡ height (spec.sequence (trees_of ts))))) }
 {
     let mut trees = Vec::with_capacity(alloc, nodes.len())?;
     let mut tallest = 0;
@@ -138,7 +151,8 @@ fn kept(alloc: Global, nodes: Vec<Node>, limit: u32) -> Result<Option<(Vec<Tree>
 
 /// What the nodes are as parts of a tree.
 fn parts_of(alloc: Global, mut nodes: Vec<Node>, limit: u32) -> Result<Parts, AllocError>
-    ensures { (ts : List spec.Tree) → AreNodes limit nodes.items ts → IfOk result (λ parts. ArePartsOf limit parts ts) }
+    ensures { (ts : List spec.Tree) → AreNodes limit nodes.items ts →
+        IfOk result (λ parts. ArePartsOf limit parts ts) }
 {
     if nodes.len() < 2 {
         return Ok(match nodes.pop() {
@@ -157,7 +171,8 @@ fn parts_of(alloc: Global, mut nodes: Vec<Node>, limit: u32) -> Result<Parts, Al
 
 /// The nodes one behind another. It refuses only for memory.
 pub(crate) fn sequence_of(alloc: Global, nodes: Vec<Node>, limit: u32) -> Result<Node, AllocError>
-    ensures { (ts : List spec.Tree) → AreNodes limit nodes.items ts → IfOk result (λ node. StandsFor limit node (sequence_of ts)) }
+    ensures { (ts : List spec.Tree) → AreNodes limit nodes.items ts →
+        IfOk result (λ node. StandsFor limit node (sequence_of ts)) }
 {
     Ok(match parts_of(alloc, nodes, limit)? {
         Parts::None => Node::leaf(Tree::empty()),
@@ -172,7 +187,8 @@ pub(crate) fn sequence_of(alloc: Global, nodes: Vec<Node>, limit: u32) -> Result
 
 /// A choice between the nodes. It refuses only for memory.
 pub(crate) fn choice_of(alloc: Global, nodes: Vec<Node>, limit: u32) -> Result<Node, AllocError>
-    ensures { (ts : List spec.Tree) → AreNodes limit nodes.items ts → IfOk result (λ node. StandsFor limit node (choice_of ts)) }
+    ensures { (ts : List spec.Tree) → AreNodes limit nodes.items ts →
+        IfOk result (λ node. StandsFor limit node (choice_of ts)) }
 {
     Ok(match parts_of(alloc, nodes, limit)? {
         Parts::None => Node::leaf(Tree::empty()),

@@ -26,7 +26,8 @@ fn digit_value(c: char) -> u32
 pub(crate) fn number(cursor: &mut Cursor<'_>, flags: Flags, set: Characters, base: u32) -> u64
     requires some { 0 < base }
     requires few { base ≤ 36 }
-    ensures value { AgreeBelow TOO_LARGE result (number base (each_of (flags_of flags) (members_of set) cursor.old).0) }
+    ensures value { AgreeBelow TOO_LARGE result
+        (number base (each_of (flags_of flags) (members_of set) cursor.old).0) }
     ensures bound { result ≤ TOO_LARGE }
     ensures rest { cursor.new ≡ (each_of (flags_of flags) (members_of set) cursor.old).1 }
     ensures forward { length cursor.new ≤ length cursor.old }

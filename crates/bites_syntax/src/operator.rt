@@ -35,7 +35,8 @@ pub(crate) fn plain_operator(
     min: u32,
     max: Option<u32>,
 ) -> Bounds
-    ensures reads { plain_operator (flags_of flags) min max (lazy cursor.old) ≡ Ok (bounds_of result, cursor.new) }
+    ensures reads { plain_operator (flags_of flags) min max (lazy cursor.old)
+        ≡ Ok (bounds_of result, cursor.new) }
     ensures forward { length cursor.new ≤ length cursor.old }
 {
     let is_lazy = cursor.bump_if('?');
@@ -47,7 +48,8 @@ pub(crate) fn plain_operator(
 }
 
 fn decimal(cursor: &mut Cursor<'_>, flags: Flags) -> Result<u32, Error>
-    ensures reads { WithSteps cursor.old (λ n. Answers (λ x. x) result cursor.new (decimal n (flags_of flags) cursor.old)) }
+    ensures reads { WithSteps cursor.old
+        (λ n. Answers (λ x. x) result cursor.new (decimal n (flags_of flags) cursor.old)) }
     ensures forward { length cursor.new ≤ length cursor.old }
 {
     cursor.skip_white();
@@ -70,7 +72,8 @@ fn whole_count(
     min: u32,
     max: Option<u32>,
 ) -> Result<Bounds, Error>
-    ensures reads { Answers bounds_of result cursor.new (whole_count (flags_of flags) min max (lazy (skip (flags_of flags) cursor.old))) }
+    ensures reads { Answers bounds_of result cursor.new
+        (whole_count (flags_of flags) min max (lazy (skip (flags_of flags) cursor.old))) }
     ensures forward { length cursor.new ≤ length cursor.old }
 {
     cursor.skip(flags);
@@ -88,7 +91,8 @@ fn whole_count(
 }
 
 fn after_max(cursor: &mut Cursor<'_>, flags: Flags, min: u32, max: u32) -> Result<Bounds, Error>
-    ensures reads { Answers bounds_of result cursor.new (after_max (flags_of flags) min max cursor.old) }
+    ensures reads { Answers bounds_of result cursor.new
+        (after_max (flags_of flags) min max cursor.old) }
     ensures forward { length cursor.new ≤ length cursor.old }
 {
     match cursor.bump() {
@@ -99,7 +103,9 @@ fn after_max(cursor: &mut Cursor<'_>, flags: Flags, min: u32, max: u32) -> Resul
 }
 
 fn after_comma(cursor: &mut Cursor<'_>, flags: Flags, min: u32) -> Result<Bounds, Error>
-    ensures reads { WithSteps cursor.old (λ n. Answers bounds_of result cursor.new (after_comma n (flags_of flags) min cursor.old)) }
+    ensures reads { WithSteps cursor.old
+        (λ n.
+        Answers bounds_of result cursor.new (after_comma n (flags_of flags) min cursor.old)) }
     ensures forward { length cursor.new ≤ length cursor.old }
 {
     match cursor.peek() {
@@ -116,7 +122,8 @@ fn after_comma(cursor: &mut Cursor<'_>, flags: Flags, min: u32) -> Result<Bounds
 }
 
 fn after_min(cursor: &mut Cursor<'_>, flags: Flags, min: u32) -> Result<Bounds, Error>
-    ensures reads { WithSteps cursor.old (λ n. Answers bounds_of result cursor.new (after_min n (flags_of flags) min cursor.old)) }
+    ensures reads { WithSteps cursor.old
+        (λ n. Answers bounds_of result cursor.new (after_min n (flags_of flags) min cursor.old)) }
     ensures forward { length cursor.new ≤ length cursor.old }
 {
     match cursor.bump() {
@@ -132,7 +139,8 @@ fn after_min(cursor: &mut Cursor<'_>, flags: Flags, min: u32) -> Result<Bounds, 
 
 /// Reads an operator in braces, from behind its opening brace and the gap there.
 pub(crate) fn counted(cursor: &mut Cursor<'_>, flags: Flags) -> Result<Bounds, Error>
-    ensures reads { WithSteps cursor.old (λ n. Answers bounds_of result cursor.new (counted n (flags_of flags) cursor.old)) }
+    ensures reads { WithSteps cursor.old
+        (λ n. Answers bounds_of result cursor.new (counted n (flags_of flags) cursor.old)) }
     ensures forward { length cursor.new ≤ length cursor.old }
 {
     let Some(_) = cursor.peek() else {

@@ -82,7 +82,10 @@ impl Rows {
 
     /// Makes the nodes a branch.
     fn end_branch(&mut self, alloc: Global, limit: u32) -> Result<(), AllocError>
-        ensures { (bs ts : List spec.Tree) → AreNodes limit self.old.branches.items bs → AreNodes limit self.old.nodes.items ts → IfOk result (λ _. AreNodes limit self.new.branches.items (bs ++ sequence_of ts ∷ []) × (self.new.nodes.items ≡ [])) }
+        ensures { (bs ts : List spec.Tree) → AreNodes limit self.old.branches.items bs →
+            AreNodes limit self.old.nodes.items ts →
+            IfOk result (λ _. AreNodes limit self.new.branches.items (bs ++ sequence_of ts ∷ [])
+            × (self.new.nodes.items ≡ [])) }
     {
         let nodes = mem::replace(&mut self.nodes, Vec::new(alloc));
         let branch = sequence_of(alloc, nodes, limit)?;
@@ -93,7 +96,10 @@ impl Rows {
     /// Repeats the last node.
     fn repeat(&mut self, alloc: Global, limit: u32, bounds: Bounds) -> Result<(), AllocError>
         ensures branches { self.new.branches.items ≡ self.old.branches.items }
-        ensures nodes { (t : spec.Tree) → (ts : List spec.Tree) → AreNodes limit self.old.nodes.items (t ∷ ts) → IfOk result (λ _. AreNodes limit self.new.nodes.items (repeat_last (bounds_of bounds) t ts)) }
+        ensures nodes { (t : spec.Tree) → (ts : List spec.Tree) →
+            AreNodes limit self.old.nodes.items (t ∷ ts) →
+            IfOk result
+            (λ _. AreNodes limit self.new.nodes.items (repeat_last (bounds_of bounds) t ts)) }
     {
         if let Some(node) = self.nodes.pop() {
             let node = repetition_of(alloc, bounds, node, limit)?;
@@ -113,7 +119,13 @@ fn close_group(
 ) -> Result<Flags, AllocError>
     ensures branches { rows.new.branches.items ≡ rows.old.branches.items }
     ensures flags { IfOk result (λ flags. flags ≡ group.flags) }
-    ensures nodes { (opening : Opening) → (before : ℕ) → (branches nodes : List spec.Tree) → IsNumbered group.numbered opening before → StandsFor limit choice (choice_of branches) → AreNodes limit rows.old.nodes.items nodes → IfOk result (λ _. AreNodes limit rows.new.nodes.items (nodes ++ group_of opening before branches ∷ [])) }
+    ensures nodes { (opening : Opening) → (before : ℕ) → (branches nodes : List spec.Tree) →
+        IsNumbered group.numbered opening before → StandsFor limit choice (choice_of branches) →
+        AreNodes limit rows.old.nodes.items nodes →
+        IfOk result
+        (λ _.
+        AreNodes limit rows.new.nodes.items
+        (nodes ++ group_of opening before branches ∷ [])) }
 {
     let node = group_of(alloc, group.numbered, choice, limit)?;
     rows.nodes.push(node)?;
@@ -122,7 +134,8 @@ fn close_group(
 
 /// Opens a group, unless too many are open.
 fn enter(depth: u32, limit: u32, group: OpenGroup) -> Result<Step, Error>
-    ensures { MatchResult result (λ step. (step ≡ Step.Group group) × (depth < limit)) (λ e. (e ≡ Error.TooMuchNesting) × (limit ≤ depth)) }
+    ensures { MatchResult result (λ step. (step ≡ Step.Group group)
+        × (depth < limit)) (λ e. (e ≡ Error.TooMuchNesting) × (limit ≤ depth)) }
 {
     if depth < limit {
         Ok(Step::Group(group))
@@ -141,7 +154,13 @@ impl Parser<'_> {
         min: u32,
         max: Option<u32>,
     ) -> Result<Step, Error>
-        ensures steps { (g : pattern.Front) → (bs ts : List spec.Tree) → IsAt limit self.old rows.old g bs ts → (depth n : ℕ) → (at : Text) → Steps limit depth n g bs ts result self.new rows.new (at_operator ranges_of limit (inner ranges_of limit n) depth g bs ts message.nothing_to_repeat at (plain_operator g.flags min max (lazy self.old.cursor))) }
+        ensures steps { (g : pattern.Front) → (bs ts : List spec.Tree) →
+            IsAt limit self.old rows.old g bs ts →
+            (depth n : ℕ) → (at : Text) →
+            Steps limit depth n g bs ts result self.new rows.new
+            (at_operator ranges_of limit (inner ranges_of limit n) depth g bs ts
+            message.nothing_to_repeat at
+            (plain_operator g.flags min max (lazy self.old.cursor))) }
         ensures room { (depth : ℕ) → HasRoom limit depth result }
         ensures forward { length self.new.cursor ≤ length self.old.cursor }
     {
@@ -155,7 +174,15 @@ impl Parser<'_> {
 
     /// Reads an operator in braces from behind its brace, and repeats the last node.
     fn repeat_counted(&mut self, alloc: Global, limit: u32, rows: &mut Rows) -> Result<Step, Error>
-        ensures steps { (g : pattern.Front) → (bs ts : List spec.Tree) → IsAt limit self.old rows.old g bs ts → (depth : ℕ) → (at : Text) → WithSteps self.old.cursor (λ n. Steps limit depth n g bs ts result self.new rows.new (at_operator ranges_of limit (inner ranges_of limit n) depth g bs ts message.nothing_to_count at (counted n g.flags (skip g.flags self.old.cursor)))) }
+        ensures steps { (g : pattern.Front) → (bs ts : List spec.Tree) →
+            IsAt limit self.old rows.old g bs ts →
+            (depth : ℕ) → (at : Text) →
+            WithSteps self.old.cursor
+            (λ n.
+            Steps limit depth n g bs ts result self.new rows.new
+            (at_operator ranges_of limit (inner ranges_of limit n) depth g bs ts
+            message.nothing_to_count at
+            (counted n g.flags (skip g.flags self.old.cursor)))) }
         ensures room { (depth : ℕ) → HasRoom limit depth result }
         ensures forward { length self.new.cursor ≤ length self.old.cursor }
     {
@@ -170,7 +197,11 @@ impl Parser<'_> {
 
     /// Reads what opens a group or is a directive, from behind its parenthesis.
     fn open(&mut self, alloc: Global, limit: u32, depth: u32) -> Result<Step, Error>
-        ensures steps { (rows : Rows) → (g : pattern.Front) → (bs ts : List spec.Tree) → IsAt limit self.old rows g bs ts → (n : ℕ) → Steps limit depth n g bs ts result self.new rows (and_then (opened g (skip g.flags self.old.cursor)) (at_opened ranges_of limit (inner ranges_of limit n) depth g bs ts)) }
+        ensures steps { (rows : Rows) → (g : pattern.Front) → (bs ts : List spec.Tree) →
+            IsAt limit self.old rows g bs ts → (n : ℕ) →
+            Steps limit depth n g bs ts result self.new rows
+            (and_then (opened g (skip g.flags self.old.cursor))
+            (at_opened ranges_of limit (inner ranges_of limit n) depth g bs ts)) }
         ensures room { HasRoom limit depth result }
         ensures forward { length self.new.cursor ≤ length self.old.cursor }
     {
@@ -213,7 +244,13 @@ impl Parser<'_> {
         c: char,
     ) -> Result<Step, Error>
         requires { c ≢ right_parenthesis }
-        ensures steps { (g : pattern.Front) → (bs ts : List spec.Tree) → IsAt limit self.old rows.old g bs ts → WithSteps self.old.cursor (λ n. Steps limit depth n g bs ts result self.new rows.new (at_item ranges_of limit (inner ranges_of limit n) n depth g bs ts (c ∷ self.old.cursor))) }
+        ensures steps { (g : pattern.Front) → (bs ts : List spec.Tree) →
+            IsAt limit self.old rows.old g bs ts →
+            WithSteps self.old.cursor
+            (λ n.
+            Steps limit depth n g bs ts result self.new rows.new
+            (at_item ranges_of limit (inner ranges_of limit n) n depth g bs ts
+            (c ∷ self.old.cursor))) }
         ensures room { HasRoom limit depth result }
         ensures forward { length self.new.cursor ≤ length self.old.cursor }
     {
@@ -233,7 +270,12 @@ impl Parser<'_> {
 
     /// Reads an item that is a node, from behind its first character.
     fn push_atom(&mut self, alloc: Global, rows: &mut Rows, c: char) -> Result<Step, Error>
-        ensures steps { (limit : ℕ) → (g : pattern.Front) → (bs ts : List spec.Tree) → IsAt limit self.old rows.old g bs ts → (depth : ℕ) → WithSteps self.old.cursor (λ n. Steps limit depth n g bs ts result self.new rows.new (and_then (atom n g.flags c self.old.cursor) (λ node rest. inner ranges_of limit n depth g bs (ts ++ node ∷ []) rest))) }
+        ensures steps { (limit : ℕ) → (g : pattern.Front) → (bs ts : List spec.Tree) →
+            IsAt limit self.old rows.old g bs ts → (depth : ℕ) →
+            WithSteps self.old.cursor
+            (λ n. Steps limit depth n g bs ts result self.new rows.new
+            (and_then (atom n g.flags c self.old.cursor)
+            (λ node rest. inner ranges_of limit n depth g bs (ts ++ node ∷ []) rest))) }
         ensures room { (limit depth : ℕ) → HasRoom limit depth result }
         ensures forward { length self.new.cursor ≤ length self.old.cursor }
     {
@@ -253,7 +295,12 @@ impl Parser<'_> {
         depth: u32,
         rows: &mut Rows,
     ) -> Result<Step, Error>
-        ensures steps { (g : pattern.Front) → (bs ts : List spec.Tree) → IsAt limit self.old rows.old g bs ts → WithSteps self.old.cursor (λ n. Steps limit depth n g bs ts result self.new rows.new (inner ranges_of limit (suc n) depth g bs ts self.old.cursor)) }
+        ensures steps { (g : pattern.Front) → (bs ts : List spec.Tree) →
+            IsAt limit self.old rows.old g bs ts →
+            WithSteps self.old.cursor
+            (λ n.
+            Steps limit depth n g bs ts result self.new rows.new
+            (inner ranges_of limit (suc n) depth g bs ts self.old.cursor)) }
         ensures forward { IsForward limit depth result self.old.cursor self.new.cursor }
     {
         self.cursor.skip(self.front.flags);
@@ -280,7 +327,11 @@ impl Parser<'_> {
     /// Reads a choice, up to what closes the group that it stands in, or to the end. It calls
     /// itself once for each open group, at most `limit` deep.
     fn choice(&mut self, alloc: Global, limit: u32, depth: u32) -> Result<Node, Error>
-        ensures reads { (g : pattern.Front) → IsFront self.old.front g → WithSteps self.old.cursor (λ n. IsChoice limit result self.new (inner ranges_of limit (suc n) depth g [] [] self.old.cursor)) }
+        ensures reads { (g : pattern.Front) → IsFront self.old.front g →
+            WithSteps self.old.cursor
+            (λ n.
+            IsChoice limit result self.new
+            (inner ranges_of limit (suc n) depth g [] [] self.old.cursor)) }
         ensures forward { length self.new.cursor ≤ length self.old.cursor }
     {
         let mut rows = Rows::new(alloc);
@@ -307,16 +358,26 @@ impl Parser<'_> {
 pub fn parse(alloc: Global, pattern: &str, flags: Flags, nest_limit: u32) -> Result<Tree, Error>
     ensures read { IfOk result (λ t. Limits (chars pattern.now) (flags_of flags) nest_limit t) }
     ensures compilable { IfOk result (λ t. IsCompilable t) }
-    ensures refused { IfErr result (λ e. e ≢ Error.Memory → (t : spec.Tree) → Limits (chars pattern.now) (flags_of flags) nest_limit t → ⊥) }
-    ensures message { IfErr result (λ e. e ≢ Error.Memory → (m : Message) × (e ≡ error_of m) × Fault (chars pattern.now) (flags_of flags) nest_limit m) }
+    ensures refused { IfErr result (λ e. e ≢ Error.Memory → (t : spec.Tree) →
+        Limits (chars pattern.now) (flags_of flags) nest_limit t → ⊥) }
+    ensures message { IfErr result (λ e. e ≢ Error.Memory →
+        (m : Message) × (e ≡ error_of m)
+        × Fault (chars pattern.now) (flags_of flags) nest_limit m) }
 {
     read_pattern(alloc, pattern, flags, nest_limit)
 }
 
 // The tree that the grammar's function on lists answers, or the error of its stop or of a tree that is too tall.
 fn read_pattern(alloc: Global, pattern: &str, flags: Flags, nest_limit: u32) -> Result<Tree, Error>
-    ensures reads { IfOk result (λ t. (read ranges_of nest_limit (chars pattern.now) (flags_of flags) ≡ Ok t) × (height t ≤ nest_limit) × (height t < 4294967295)) }
-    ensures refuses { IfErr result (λ e. Refuses e (read ranges_of nest_limit (chars pattern.now) (flags_of flags)) ⊎ ((e ≡ Error.TooMuchNesting) × ((t : spec.Tree) × (read ranges_of nest_limit (chars pattern.now) (flags_of flags) ≡ Ok t) × IsTooTall nest_limit t))) }
+    ensures reads { IfOk result (λ t. (read ranges_of nest_limit (chars pattern.now)
+        (flags_of flags) ≡ Ok t)
+        × (height t ≤ nest_limit) × (height t < 4294967295)) }
+    ensures refuses { IfErr result
+        (λ e. Refuses e (read ranges_of nest_limit (chars pattern.now) (flags_of flags))
+        ⊎ ((e ≡ Error.TooMuchNesting)
+        × ((t : spec.Tree)
+        × (read ranges_of nest_limit (chars pattern.now) (flags_of flags) ≡ Ok t)
+        × IsTooTall nest_limit t))) }
 {
     let front = Front {
         flags,

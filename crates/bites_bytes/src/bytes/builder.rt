@@ -40,7 +40,8 @@ impl Model for RegexBuilder {
 
     ghost Value = { Settings };
 
-    ghost view = { λ a. settings (string_bytes a.pattern) (flags_of a.flags) a.size_limit a.nest_limit };
+    ghost view = { λ a. settings (string_bytes a.pattern) (flags_of a.flags)
+        a.size_limit a.nest_limit };
 }
 
 impl RegexBuilder {
@@ -63,7 +64,8 @@ impl RegexBuilder {
     /// Whether a letter of ASCII stands for both of its cases: the flag `i`.
     pub fn case_insensitive(&mut self, yes: bool) -> &mut RegexBuilder
         ensures same { result.ghost_name ≡ self.entry.ghost_name }
-        ensures set { result.now ≡ record self.old { flags = record self.old.flags { case_insensitive = yes } } }
+        ensures set { result.now
+            ≡ record self.old { flags = record self.old.flags { case_insensitive = yes } } }
     {
         self.flags.case_insensitive = yes;
         self
@@ -72,7 +74,8 @@ impl RegexBuilder {
     /// Whether `^` and `$` stand at the ends of lines too: the flag `m`.
     pub fn multi_line(&mut self, yes: bool) -> &mut RegexBuilder
         ensures same { result.ghost_name ≡ self.entry.ghost_name }
-        ensures set { result.now ≡ record self.old { flags = record self.old.flags { multi_line = yes } } }
+        ensures set { result.now
+            ≡ record self.old { flags = record self.old.flags { multi_line = yes } } }
     {
         self.flags.multi_line = yes;
         self
@@ -81,7 +84,8 @@ impl RegexBuilder {
     /// Whether `.` stands for the characters that end a line too: the flag `s`.
     pub fn dot_matches_new_line(&mut self, yes: bool) -> &mut RegexBuilder
         ensures same { result.ghost_name ≡ self.entry.ghost_name }
-        ensures set { result.now ≡ record self.old { flags = record self.old.flags { dot_matches_new_line = yes } } }
+        ensures set { result.now
+            ≡ record self.old { flags = record self.old.flags { dot_matches_new_line = yes } } }
     {
         self.flags.dot_matches_new_line = yes;
         self
@@ -90,7 +94,8 @@ impl RegexBuilder {
     /// Whether CR and CR LF end lines as LF does: the flag `R`.
     pub fn crlf(&mut self, yes: bool) -> &mut RegexBuilder
         ensures same { result.ghost_name ≡ self.entry.ghost_name }
-        ensures set { result.now ≡ record self.old { flags = record self.old.flags { crlf = yes } } }
+        ensures set { result.now
+            ≡ record self.old { flags = record self.old.flags { crlf = yes } } }
     {
         self.flags.crlf = yes;
         self
@@ -99,7 +104,8 @@ impl RegexBuilder {
     /// Whether an operator is lazy, and greedy with a `?` behind it: the flag `U`.
     pub fn swap_greed(&mut self, yes: bool) -> &mut RegexBuilder
         ensures same { result.ghost_name ≡ self.entry.ghost_name }
-        ensures set { result.now ≡ record self.old { flags = record self.old.flags { swap_greed = yes } } }
+        ensures set { result.now
+            ≡ record self.old { flags = record self.old.flags { swap_greed = yes } } }
     {
         self.flags.swap_greed = yes;
         self
@@ -108,7 +114,8 @@ impl RegexBuilder {
     /// Whether white space and comments between the parts of the pattern mean nothing: the flag `x`.
     pub fn ignore_whitespace(&mut self, yes: bool) -> &mut RegexBuilder
         ensures same { result.ghost_name ≡ self.entry.ghost_name }
-        ensures set { result.now ≡ record self.old { flags = record self.old.flags { ignore_whitespace = yes } } }
+        ensures set { result.now
+            ≡ record self.old { flags = record self.old.flags { ignore_whitespace = yes } } }
     {
         self.flags.ignore_whitespace = yes;
         self
@@ -141,9 +148,11 @@ impl RegexBuilder {
     /// of the first fault of the pattern, or of the first limit that the tree passes, or want of memory. A refused build
     /// makes nothing, and the builder may be used again.
     pub fn build(&self) -> Result<Regex, Error>
-        ensures kept { IfOk result (λ r. (r.pattern ≡ self.now.pattern) × (r.flags ≡ self.now.flags)) }
+        ensures kept { IfOk result (λ r. (r.pattern ≡ self.now.pattern)
+            × (r.flags ≡ self.now.flags)) }
         ensures accepted { IfOk result (λ r. Accepts self.now r.tree) }
-        ensures refused { IfErr result (λ e. e ≢ Error.Memory → (t : Tree) → Accepts self.now t → ⊥) }
+        ensures refused { IfErr result (λ e. e ≢ Error.Memory → (t : Tree) →
+            Accepts self.now t → ⊥) }
         ensures message { IfErr result (λ e. e ≢ Error.Memory → Refuses self.now e) }
     {
         build(
@@ -165,9 +174,12 @@ fn build(
     nest_limit: u32,
 ) -> Result<Regex, Error>
     ensures kept { IfOk result (λ r. (r.pattern ≡ pattern.now) × (r.flags ≡ flags_of flags)) }
-    ensures accepted { IfOk result (λ r. Accepts (settings pattern.now (flags_of flags) size_limit nest_limit) r.tree) }
-    ensures refused { IfErr result (λ e. e ≢ Error.Memory → (t : Tree) → Accepts (settings pattern.now (flags_of flags) size_limit nest_limit) t → ⊥) }
-    ensures message { IfErr result (λ e. e ≢ Error.Memory → Refuses (settings pattern.now (flags_of flags) size_limit nest_limit) e) }
+    ensures accepted { IfOk result
+        (λ r. Accepts (settings pattern.now (flags_of flags) size_limit nest_limit) r.tree) }
+    ensures refused { IfErr result (λ e. e ≢ Error.Memory → (t : Tree) →
+        Accepts (settings pattern.now (flags_of flags) size_limit nest_limit) t → ⊥) }
+    ensures message { IfErr result (λ e. e ≢ Error.Memory →
+        Refuses (settings pattern.now (flags_of flags) size_limit nest_limit) e) }
 {
     match parse(alloc, pattern, flags, nest_limit) {
         Ok(tree) => compile_tree(alloc, &tree, pattern, flags, size_limit, nest_limit),
@@ -187,9 +199,12 @@ fn compile_tree(
     requires read { Limits (chars pattern.now) (flags_of flags) nest_limit tree.now }
     requires compilable { IsCompilable tree.now }
     ensures kept { IfOk result (λ r. (r.pattern ≡ pattern.now) × (r.flags ≡ flags_of flags)) }
-    ensures accepted { IfOk result (λ r. Accepts (settings pattern.now (flags_of flags) size_limit nest_limit) r.tree) }
-    ensures refused { IfErr result (λ e. e ≢ Error.Memory → (t : Tree) → Accepts (settings pattern.now (flags_of flags) size_limit nest_limit) t → ⊥) }
-    ensures message { IfErr result (λ e. e ≢ Error.Memory → Refuses (settings pattern.now (flags_of flags) size_limit nest_limit) e) }
+    ensures accepted { IfOk result
+        (λ r. Accepts (settings pattern.now (flags_of flags) size_limit nest_limit) r.tree) }
+    ensures refused { IfErr result (λ e. e ≢ Error.Memory → (t : Tree) →
+        Accepts (settings pattern.now (flags_of flags) size_limit nest_limit) t → ⊥) }
+    ensures message { IfErr result (λ e. e ≢ Error.Memory →
+        Refuses (settings pattern.now (flags_of flags) size_limit nest_limit) e) }
 {
     match compile(alloc, tree, pattern, size_limit) {
         Ok(program) => Regex::from_parts(alloc, tree, flags, program),

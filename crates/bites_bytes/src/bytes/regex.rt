@@ -122,8 +122,10 @@ impl Regex {
     pub fn new(alloc: Global, pattern: &str) -> Result<Regex, Error>
         ensures kept { IfOk result (λ r. (r.pattern ≡ pattern.now) × (r.flags ≡ no_flags)) }
         ensures accepted { IfOk result (λ r. Accepts (by_default pattern.now) r.tree) }
-        ensures refused { IfErr result (λ e. e ≢ Error.Memory → (t : Tree) → Accepts (by_default pattern.now) t → ⊥) }
-        ensures message { IfErr result (λ e. e ≢ Error.Memory → Refuses (by_default pattern.now) e) }
+        ensures refused { IfErr result (λ e. e ≢ Error.Memory → (t : Tree) →
+            Accepts (by_default pattern.now) t → ⊥) }
+        ensures message { IfErr result (λ e. e ≢ Error.Memory →
+            Refuses (by_default pattern.now) e) }
     {
         RegexBuilder::new(alloc, pattern)?.build()
     }
