@@ -56,8 +56,8 @@ impl std::error::Error for BadProgram {}
 
 /// The first fault of a state among so many states, in a program of so many slots.
 pub fn fault_of(state: &State, len: usize, slots: u32) -> Option<BadProgram>
-    ensures { MatchOption result (faults.fault_of len slots (state_of state.now)
-        ≡ None) (Finds (faults.fault_of len slots (state_of state.now))) }
+    ensures { MatchOption result (faults.fault_of len slots (state_of state.now) ≡ None)
+        (Finds (faults.fault_of len slots (state_of state.now))) }
 {
     if !leads_below(state, len) {
         Some(BadProgram::BadTarget)

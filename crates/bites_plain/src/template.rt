@@ -262,8 +262,8 @@ fn number_of_digits(digits: &[u8]) -> Option<usize>
 
 /// The number with one more digit behind it, if a `usize` holds it.
 fn with_digit(number: usize, digit: u8) -> Option<usize>
-    ensures digits { MatchOption result (usize.MAX < number * 10 + digit) (λ longer. longer
-        ≡ number * 10 + digit) }
+    ensures digits { MatchOption result (usize.MAX < number * 10 + digit)
+        (λ longer. longer ≡ number * 10 + digit) }
     ensures fits { IfSome result (λ longer. longer ≤ usize.MAX) }
 {
     number.checked_mul(10)?.checked_add(digit as usize)

@@ -129,9 +129,8 @@ impl<'a> Cursor<'a> {
 
     /// The place behind this text of ASCII, if it comes next.
     fn behind(&self, text: &str) -> Option<Cursor<'a>>
-        ensures { MatchOption result (begins text.now self.now
-            ≡ false) (λ rest. (begins text.now self.now ≡ true)
-            × (rest ≡ drop (length text.now) self.now)) }
+        ensures { MatchOption result (begins text.now self.now ≡ false)
+            (λ rest. (begins text.now self.now ≡ true) × (rest ≡ drop (length text.now) self.now)) }
     {
         let mut ahead = self.ahead();
         for b in text.as_bytes() {
@@ -204,9 +203,9 @@ impl<'a> Cursor<'a> {
 
     /// Moves past the next character and the gap behind it, if the set has it.
     pub(crate) fn take(&mut self, flags: Flags, set: Characters) -> Option<char>
-        ensures value { MatchOption result ((next_is (members_of set) self.old ≡ false)
-            × (self.new ≡ self.old)) (λ c. (members_of set c ≡ true)
-            × (self.old ≡ c ∷ drop 1 self.old)
+        ensures value { MatchOption result
+            ((next_is (members_of set) self.old ≡ false) × (self.new ≡ self.old))
+            (λ c. (members_of set c ≡ true) × (self.old ≡ c ∷ drop 1 self.old)
             × (self.new ≡ skip (flags_of flags) (drop 1 self.old))) }
         ensures forward { length self.new ≤ length self.old }
         ensures progress { OnSome result (length self.new < length self.old) }

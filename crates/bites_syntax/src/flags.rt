@@ -74,10 +74,10 @@ fn ends_run(c: char) -> bool
 
 /// Reads letters of flags and a dash, up to what ends them or to the end of the pattern.
 pub(crate) fn flag_run(alloc: Global, cursor: &mut Cursor<'_>) -> Result<Vec<char>, Error>
-    ensures reads { MatchResult result (λ run. (front : Front) →
-        flags_from front [] cursor.old
-        ≡ flags_from front run.items cursor.new) (λ e. (front : Front) →
-        Refuses e (flags_from front [] cursor.old)) }
+    ensures reads { MatchResult result
+        (λ run. (front : Front) →
+        flags_from front [] cursor.old ≡ flags_from front run.items cursor.new)
+        (λ e. (front : Front) → Refuses e (flags_from front [] cursor.old)) }
     ensures ends { OnOk result (ends_flags cursor.new ≡ true) }
     ensures forward { length cursor.new ≤ length cursor.old }
 {

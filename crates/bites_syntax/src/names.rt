@@ -88,10 +88,10 @@ fn may_follow(text: &str, c: char) -> bool
 
 /// Reads the characters of a name, up to its closing bracket or to the end of the pattern.
 fn name_text(alloc: Global, cursor: &mut Cursor<'_>) -> Result<String, Error>
-    ensures reads { MatchResult result (λ text. (names : List Text) →
-        name_from names [] cursor.old
-        ≡ name_from names (chars (string_bytes text)) cursor.new) (λ e. (names : List Text) →
-        Refuses e (name_from names [] cursor.old)) }
+    ensures reads { MatchResult result
+        (λ text. (names : List Text) →
+        name_from names [] cursor.old ≡ name_from names (chars (string_bytes text)) cursor.new)
+        (λ e. (names : List Text) → Refuses e (name_from names [] cursor.old)) }
     ensures ends { OnOk result (ends_name cursor.new ≡ true) }
     ensures forward { length cursor.new ≤ length cursor.old }
 {
@@ -112,8 +112,8 @@ fn name_text(alloc: Global, cursor: &mut Cursor<'_>) -> Result<String, Error>
 /// Reads a new name and its closing bracket.
 pub(crate) fn name(alloc: Global, cursor: &mut Cursor<'_>, names: &Names) -> Result<String, Error>
     ensures reads { (all : List Text) → AreNames names.now all →
-        Agrees (λ text name. name
-        ≡ chars (string_bytes text)) result cursor.new (name_from all [] cursor.old) }
+        Agrees (λ text name. name ≡ chars (string_bytes text)) result cursor.new
+        (name_from all [] cursor.old) }
     ensures forward { length cursor.new ≤ length cursor.old }
 {
     let text = name_text(alloc, cursor)?;

@@ -41,8 +41,7 @@ enum Parts {
 /// The height above parts of this height, unless it is too great.
 fn height_above(height: u32, limit: u32) -> Option<u32>
     ensures { MatchOption result ((limit < suc height) ⊎ (4294967295 ≤ suc height))
-        (λ h. (h ≡ suc height)
-        × (h ≤ limit) × (h < 4294967295)) }
+        (λ h. (h ≡ suc height) × (h ≤ limit) × (h < 4294967295)) }
 {
     if height < limit && height < u32::MAX - 1 {
         Some(height + 1)

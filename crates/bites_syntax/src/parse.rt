@@ -134,8 +134,9 @@ fn close_group(
 
 /// Opens a group, unless too many are open.
 fn enter(depth: u32, limit: u32, group: OpenGroup) -> Result<Step, Error>
-    ensures { MatchResult result (λ step. (step ≡ Step.Group group)
-        × (depth < limit)) (λ e. (e ≡ Error.TooMuchNesting) × (limit ≤ depth)) }
+    ensures { MatchResult result
+        (λ step. (step ≡ Step.Group group) × (depth < limit))
+        (λ e. (e ≡ Error.TooMuchNesting) × (limit ≤ depth)) }
 {
     if depth < limit {
         Ok(Step::Group(group))
