@@ -1,20 +1,10 @@
 -- The first characters of items, and the numbers of groups, which grow.
-use Rattle.std.proofs.Common.{◌≡◌, ℕ, ◌+◌, ◌<◌, ◌≤◌, Bool, List, [], ◌∷◌, length, refl, sym, ap, ◌∙◌, subst, arith, Option}
+use Rattle.std.proofs.Common.{◌≡◌, ℕ, ◌≤◌, List, ◌∷◌, ap, arith}
 use Rattle.bites_spec.specs.Message.{Message}
-use Rattle.bites_spec.specs.Range.{Range}
-use Rattle.bites_spec.specs.Class.{Set}
 use Rattle.bites_spec.specs.Tree.{Tree}
-use Rattle.bites_spec.specs.Pattern.{Text, Flags, Front, backslash, left_parenthesis, left_bracket, left_brace}
+use Rattle.bites_spec.specs.Pattern.{Text, Flags, Front, left_parenthesis, left_brace}
 use Rattle.bites_spec.specs.OperatorFault as count_fault
 use Rattle.bites_spec.specs.OperatorFault.{StuckCount}
-use Rattle.bites_spec.specs.Escape as escape
-use Rattle.bites_spec.specs.Escape.{Meaning, ReadsEscape}
-use Rattle.bites_spec.specs.EscapeFault as escape_fault
-use Rattle.bites_spec.specs.EscapeFault.{StuckEscape}
-use Rattle.bites_spec.specs.Bracket as bracket
-use Rattle.bites_spec.specs.Bracket.{ReadsBracketFront, ReadsBracket}
-use Rattle.bites_spec.specs.BracketFault as bracket_fault
-use Rattle.bites_spec.specs.BracketFault.{StuckBracket}
 use Rattle.bites_spec.specs.Group as group
 use Rattle.bites_spec.specs.Group.{Opening, ReadsOpening}
 use Rattle.bites_spec.specs.GroupFault as group_fault

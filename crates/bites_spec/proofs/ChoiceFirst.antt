@@ -1,20 +1,18 @@
 -- Where the relations stop, the reader stops, no later.
-use Rattle.std.proofs.Common.{◌≡◌, ℕ, zero, suc, ◌+◌, ◌<◌, ◌≤◌, ◌⊎◌, Bool, true, false, List, [], ◌∷◌, ◌++◌, length, refl, sym, ap, ◌∙◌, subst, inl, inr, ⊎_elim, arith, Ok, Err, Result, add-one, ltb-true, ltb-false, ◌==◌, eqb-true, true≢false}
+use Rattle.std.proofs.Common.{◌≡◌, ℕ, zero, suc, ◌+◌, ◌<◌, ◌≤◌, ◌⊎◌, true, false, List, [], ◌∷◌, ◌++◌, length, refl, sym, ap, ◌∙◌, subst, inl, inr, ⊎_elim, arith, Ok, Err, Result, add-one, ltb-false, ◌==◌, eqb-true, true≢false}
 use Rattle.std.specs.Prelude.{codes, nat_lt}
 use Rattle.std.proofs.lemmas.Bool.{cases_lt}
 use Rattle.bites_spec.specs.Message as message
 use Rattle.bites_spec.specs.Message.{Message, rank}
 use Rattle.bites_spec.specs.Range.{Range}
 use Rattle.bites_spec.specs.Class.{Set, Lists, single}
-use Rattle.bites_spec.specs.Tree as tree
 use Rattle.bites_spec.specs.Tree.{Tree, sequence_of}
-use Rattle.bites_spec.specs.Pattern.{Text, Flags, Front, skip, next_is, one_of, bar, question, star, plus, backslash, left_parenthesis, right_parenthesis, left_bracket, left_brace}
+use Rattle.bites_spec.specs.Pattern.{Text, Front, skip, next_is, one_of, question, star, plus, right_parenthesis, left_brace}
 use Rattle.bites_spec.specs.OperatorFault.{StuckCount, greatest_number}
 use Rattle.bites_spec.specs.EscapeFault.{StuckEscape}
 use Rattle.bites_spec.specs.BracketFault.{StuckBracket}
 use Rattle.bites_spec.specs.Group.{Opening, ReadsOpening}
 use Rattle.bites_spec.specs.GroupFault.{StuckOpening}
-use Rattle.bites_spec.specs.Grammar.{ReadsItem, ReadsSequence, ReadsChoice}
 use Rattle.bites_spec.specs.Fault as fault
 use Rattle.bites_spec.specs.Fault.{StuckItem, StuckSequence, StuckChoice, ComesFirst}
 use Rattle.bites_spec.specs.Reading as reading
@@ -27,11 +25,11 @@ use Rattle.bites_spec.proofs.BracketLemmas as brackets
 use Rattle.bites_spec.proofs.BracketLemmas.{stuck_escape_begins, stuck_bracket_begins, stuck_escape_shorter, stuck_bracket_shorter}
 use Rattle.bites_spec.proofs.GroupLemmas as groups
 use Rattle.bites_spec.proofs.GroupLemmas.{least_rank, opening_shorter, stuck_opening_shorter}
-use Rattle.bites_spec.proofs.ChoiceParts.{StopsBy, LeadsToGroup}
+use Rattle.bites_spec.proofs.ChoiceParts.{StopsBy}
 use Rattle.bites_spec.proofs.ChoiceShorter.{item_shorter, sequence_shorter}
 use Rattle.bites_spec.proofs.ChoiceBegins.{stuck_count_begins, stuck_opening_begins, opening_begins}
 use Rattle.bites_spec.proofs.ChoiceSteps.{operator_stop, inner_step}
-use Rattle.bites_spec.proofs.ChoiceLeads.{StopsAtLimit, GoesOn, sequence_leads, item_leads}
+use Rattle.bites_spec.proofs.ChoiceLeads.{GoesOn, sequence_leads, item_leads}
 
 -- the answer is a stop, no later than at this place by this message
 pub record StopsFirst {A : Type 0} (m : Message) (place : Text) (a : Result A Stop) : Type 0 where

@@ -1,19 +1,19 @@
 -- What the relations read, the reader answers, or it stops at a limit.
-use Rattle.std.proofs.Common.{◌≡◌, ℕ, zero, suc, ◌+◌, ◌<◌, ◌≤◌, ◌⊎◌, Bool, true, false, List, [], ◌∷◌, ◌++◌, length, drop, max, refl, sym, ap, ap₂, ◌∙◌, subst, inl, inr, ⊎_elim, arith, Option, Some, None, Ok, Err, Result, append_assoc, add-one, lt-ltb, ltb-true, length-append}
-use Rattle.std.specs.Prelude.{codes, nat_lt}
+use Rattle.std.proofs.Common.{◌≡◌, ℕ, zero, suc, ◌+◌, ◌<◌, ◌≤◌, ◌⊎◌, Bool, List, [], ◌∷◌, ◌++◌, length, max, refl, sym, ap, ap₂, ◌∙◌, inl, inr, ⊎_elim, arith, Option, Some, None, Err, Result, append_assoc, ltb-true, length-append}
+use Rattle.std.specs.Prelude.{nat_lt}
 use Rattle.bites_spec.specs.Message as message
 use Rattle.bites_spec.specs.Message.{Message}
 use Rattle.bites_spec.specs.Range.{Range}
 use Rattle.bites_spec.specs.Class.{Set, Lists}
 use Rattle.bites_spec.specs.Tree as tree
 use Rattle.bites_spec.specs.Tree.{Tree, sequence_of, repetition_of}
-use Rattle.bites_spec.specs.Pattern.{Text, Flags, Front, skip, bar, ReadsLazy, question, star, plus, dot, caret, dollar, backslash, left_parenthesis, right_parenthesis, left_bracket, left_brace}
+use Rattle.bites_spec.specs.Pattern.{Text, Flags, Front, skip, ReadsLazy, question, star, plus, backslash, right_parenthesis, left_bracket, left_brace}
 use Rattle.bites_spec.specs.Operator as operator
 use Rattle.bites_spec.specs.Operator.{ReadsOperator, is_greedy}
 use Rattle.bites_spec.specs.OperatorFault.{greatest_number}
-use Rattle.bites_spec.specs.Escape.{Meaning, character, characters, assertion, ReadsEscape}
+use Rattle.bites_spec.specs.Escape.{Meaning, ReadsEscape}
 use Rattle.bites_spec.specs.Bracket.{ReadsBracket}
-use Rattle.bites_spec.specs.Group.{Opening, ReadsOpening, changed}
+use Rattle.bites_spec.specs.Group.{Opening, ReadsOpening}
 use Rattle.bites_spec.specs.Grammar as grammar
 use Rattle.bites_spec.specs.Grammar.{ReadsAtom, ReadsItem, ReadsSequence, ReadsChoice, group_of, literal_of, dot_set}
 use Rattle.bites_spec.specs.Measure.{open_in_choice, open_in_sequence, open_in_item, count_in_choice, count_in_sequence, count_in_item}
@@ -22,14 +22,14 @@ use Rattle.bites_spec.specs.Reading.{Stop, Found, Answer, Bounds, Opened, Reader
 use Rattle.bites_spec.proofs.EachLemmas.{skip_shorter}
 use Rattle.bites_spec.proofs.EscapeLemmas.{either_side}
 use Rattle.bites_spec.proofs.RangeLemmas.{lists_once}
-use Rattle.bites_spec.proofs.ChoiceParts.{ReadsDirective, most_of, LeadsToCount, LeadsToGroup}
+use Rattle.bites_spec.proofs.ChoiceParts.{ReadsDirective, most_of}
 use Rattle.bites_spec.proofs.ItemCounts as counts
 use Rattle.bites_spec.proofs.BracketLemmas as brackets
 use Rattle.bites_spec.proofs.BracketLemmas.{escape_begins, bracket_begins}
 use Rattle.bites_spec.proofs.GroupLemmas as groups
 use Rattle.bites_spec.proofs.GroupLemmas.{opening_shorter}
-use Rattle.bites_spec.proofs.ChoiceShorter.{atom_shorter, item_shorter, sequence_shorter, choice_shorter}
-use Rattle.bites_spec.proofs.ChoiceBegins.{opening_begins, opening_groups, choice_groups, sequence_groups, item_groups}
+use Rattle.bites_spec.proofs.ChoiceShorter.{item_shorter, sequence_shorter, choice_shorter}
+use Rattle.bites_spec.proofs.ChoiceBegins.{opening_begins, choice_groups, sequence_groups}
 use Rattle.bites_spec.proofs.ChoiceSound.{EndsChoice}
 use Rattle.bites_spec.proofs.ChoiceSteps.{lazy_complete, operator_step, operator_stop, literal_step, inner_step}
 

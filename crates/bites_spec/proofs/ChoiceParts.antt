@@ -1,22 +1,13 @@
 -- What the reading of a whole pattern takes from the readings of its parts.
-use Rattle.std.proofs.Common.{◌≡◌, ℕ, ◌+◌, ◌<◌, ◌≤◌, ◌⊎◌, Bool, true, List, [], ◌∷◌, length, max, Option, Ok, Err}
+use Rattle.std.proofs.Common.{◌≡◌, ℕ, ◌<◌, ◌≤◌, ◌⊎◌, Bool, true, ◌∷◌, length, max, Option, Ok, Err}
 use Rattle.std.specs.Prelude.{unwrap_or}
 use Rattle.bites_spec.specs.Message as message
 use Rattle.bites_spec.specs.Message.{Message}
-use Rattle.bites_spec.specs.Range.{Range}
-use Rattle.bites_spec.specs.Class.{Set, Lists}
-use Rattle.bites_spec.specs.Pattern.{Text, Flags, Front, skip, question, backslash, left_parenthesis, right_parenthesis, left_bracket, left_brace}
-use Rattle.bites_spec.specs.Operator.{ReadsOperator}
-use Rattle.bites_spec.specs.OperatorFault.{StuckCount, greatest_number}
-use Rattle.bites_spec.specs.Escape.{Meaning, ReadsEscape}
-use Rattle.bites_spec.specs.EscapeFault.{StuckEscape}
-use Rattle.bites_spec.specs.Bracket.{ReadsBracket}
-use Rattle.bites_spec.specs.BracketFault.{StuckBracket}
+use Rattle.bites_spec.specs.Pattern.{Text, Flags, Front, skip, question, left_parenthesis, right_parenthesis}
+use Rattle.bites_spec.specs.OperatorFault.{greatest_number}
 use Rattle.bites_spec.specs.Group.{Opening, ReadsOpening, ReadsFlags, changed}
-use Rattle.bites_spec.specs.GroupFault.{StuckOpening}
 use Rattle.bites_spec.specs.Fault.{ComesFirst}
-use Rattle.bites_spec.specs.Reading.{Answer, Opened, directive, group, answer, stop, counted, escape, bracket, opened}
-use Rattle.bites_spec.proofs.EscapeLemmas.{Means}
+use Rattle.bites_spec.specs.Reading.{Answer, Opened, directive, group, answer, stop}
 
 -- from t up to rest stands a directive that makes these the flags
 pub record ReadsDirective (front : Front) (t : Text) (flags : Flags) (rest : Text) : Type 0 where

@@ -1,6 +1,6 @@
 -- What the reader answers, the relations say.
-use Rattle.std.proofs.Common.{◌≡◌, ℕ, zero, suc, ◌+◌, ◌<◌, ◌≤◌, ◌⊎◌, Bool, true, false, ◌==◌, List, [], ◌∷◌, ◌++◌, length, drop, max, refl, sym, ap, ◌∙◌, subst, inl, inr, ⊎_elim, arith, Option, Some, None, Ok, Err, Result, append_assoc, eqb-true, ltb-true, ltb-false, add-one}
-use Rattle.std.specs.Prelude.{codes, unwrap_or, nat_lt}
+use Rattle.std.proofs.Common.{◌≡◌, ℕ, zero, suc, ◌+◌, ◌<◌, ◌≤◌, Bool, true, ◌==◌, List, [], ◌∷◌, ◌++◌, length, drop, refl, sym, ap, ◌∙◌, subst, ⊎_elim, arith, Option, Some, None, Ok, Err, Result, eqb-true, ltb-true, ltb-false, add-one}
+use Rattle.std.specs.Prelude.{codes, nat_lt}
 use Rattle.bites_spec.specs.Message as message
 use Rattle.bites_spec.specs.Message.{Message}
 use Rattle.bites_spec.specs.Range.{Range}
@@ -28,12 +28,12 @@ use Rattle.bites_spec.specs.Reading.{Stop, Found, Answer, Bounds, Opened, Reader
 use Rattle.bites_spec.proofs.EachLemmas.{skip_shorter}
 use Rattle.bites_spec.proofs.EscapeLemmas.{Means, either_side, escape_means}
 use Rattle.bites_spec.proofs.CountLemmas.{lazy_reads, count_means}
-use Rattle.bites_spec.proofs.ChoiceParts.{Opens, most_of, LeadsToCount}
+use Rattle.bites_spec.proofs.ChoiceParts.{Opens, most_of}
 use Rattle.bites_spec.proofs.ItemCounts.{operator_shorter, count_leads}
 use Rattle.bites_spec.proofs.BracketLemmas.{bracket_means}
 use Rattle.bites_spec.proofs.GroupLemmas.{opened_sound, opening_shorter}
 use Rattle.bites_spec.proofs.ChoiceShorter.{atom_shorter, item_shorter}
-use Rattle.bites_spec.proofs.ChoiceSound.{Adds, Stops, in_branch, in_later_branch, Finds, Says, EndsChoice, Choice, adds_choice, says_item, says_bar, says_end, says_atom, says_operator}
+use Rattle.bites_spec.proofs.ChoiceSound.{Stops, in_branch, in_later_branch, Says, Choice, adds_choice, says_item, says_bar, says_end, says_atom, says_operator}
 
 -- the faults of a choice, from those of its first branch
 pub stops_choice : {nest_limit depth : ℕ} {front : Front} {t place : Text} {m : Message} → Stops nest_limit depth front t [] m place →

@@ -1,20 +1,10 @@
 -- Reading goes forward.
-use Rattle.std.proofs.Common.{◌≡◌, ℕ, ◌+◌, ◌<◌, ◌≤◌, ◌⊎◌, true, List, [], ◌∷◌, ◌++◌, length, refl, sym, ap, ◌∙◌, subst, inl, inr, arith, Option}
-use Rattle.std.specs.Prelude.{codes}
-use Rattle.bites_spec.specs.Message as message
-use Rattle.bites_spec.specs.Message.{Message, rank}
+use Rattle.std.proofs.Common.{◌<◌, ◌≤◌, List, length, refl, ap, arith}
 use Rattle.bites_spec.specs.Tree.{Tree}
-use Rattle.bites_spec.specs.Pattern.{Text, Flags, Front, skip, bar, right_parenthesis, left_parenthesis, question, backslash, left_bracket}
+use Rattle.bites_spec.specs.Pattern.{Text, Flags, Front}
 use Rattle.bites_spec.specs.Grammar as grammar
 use Rattle.bites_spec.specs.Grammar.{ReadsAtom, ReadsItem, ReadsSequence, ReadsChoice}
-use Rattle.bites_spec.specs.Group.{Opening, ReadsOpening}
-use Rattle.bites_spec.specs.Escape as escape
-use Rattle.bites_spec.specs.Escape.{Meaning, ReadsEscape}
-use Rattle.bites_spec.specs.Bracket as bracket
-use Rattle.bites_spec.specs.Fault as fault
-use Rattle.bites_spec.specs.Fault.{StuckItem, StuckSequence, StuckChoice}
 use Rattle.bites_spec.proofs.EachLemmas.{skip_shorter}
-use Rattle.bites_spec.proofs.ChoiceParts.{ReadsDirective}
 use Rattle.bites_spec.proofs.ItemCounts.{operator_shorter}
 use Rattle.bites_spec.proofs.BracketLemmas.{escape_shorter, bracket_shorter}
 use Rattle.bites_spec.proofs.GroupLemmas.{opening_shorter, directive_shorter}

@@ -1,13 +1,8 @@
 -- What the reader answers, the relations say: steps of the reader.
-use Rattle.std.proofs.Common.{◌≡◌, ℕ, zero, suc, ◌+◌, ◌<◌, ◌≤◌, ◌⊎◌, Bool, true, false, ◌==◌, List, [], ◌∷◌, ◌++◌, length, drop, max, refl, sym, ap, ◌∙◌, subst, inl, inr, ⊎_elim, arith, Option, Some, None, Ok, Err, Result, append_assoc, eqb-true, ltb-true, ltb-false}
-use Rattle.std.specs.Prelude.{codes, unwrap_or, nat_lt}
-use Rattle.bites_spec.specs.Message as message
+use Rattle.std.proofs.Common.{◌≡◌, ℕ, zero, suc, ◌+◌, ◌≤◌, true, List, [], ◌∷◌, ◌++◌, refl, ap, ◌∙◌, arith, Ok, Err, Result, append_assoc}
 use Rattle.bites_spec.specs.Message.{Message}
-use Rattle.bites_spec.specs.Range.{Range}
-use Rattle.bites_spec.specs.Class.{Set, Lists}
-use Rattle.bites_spec.specs.Tree as tree
-use Rattle.bites_spec.specs.Tree.{Tree, sequence_of, choice_of, repetition_of}
-use Rattle.bites_spec.specs.Pattern.{Text, Flags, Front, skip, bar, right_parenthesis}
+use Rattle.bites_spec.specs.Tree.{Tree, sequence_of, repetition_of}
+use Rattle.bites_spec.specs.Pattern.{Text, Front, skip, bar, right_parenthesis}
 use Rattle.bites_spec.specs.Operator.{ReadsOperator}
 use Rattle.bites_spec.specs.OperatorFault.{greatest_number}
 use Rattle.bites_spec.specs.Grammar as grammar
@@ -15,7 +10,7 @@ use Rattle.bites_spec.specs.Grammar.{ReadsAtom, ReadsItem, ReadsSequence, ReadsC
 use Rattle.bites_spec.specs.Measure.{open_in_choice, open_in_sequence, open_in_item, count_in_choice, count_in_sequence, count_in_item}
 use Rattle.bites_spec.specs.Fault as fault
 use Rattle.bites_spec.specs.Fault.{StuckItem, StuckSequence, StuckChoice}
-use Rattle.bites_spec.specs.Reading.{Stop, Found, Bounds, Reader, repeat_last}
+use Rattle.bites_spec.specs.Reading.{Stop, Found, Bounds, repeat_last}
 use Rattle.bites_spec.proofs.ChoiceParts.{most_of}
 
 -- from t up to rest the branch goes on behind these nodes, and branches may follow: with what they add, within the limits

@@ -1,15 +1,15 @@
 -- What the reader does at an item, by the item's first character.
-use Rattle.std.proofs.Common.{◌≡◌, ℕ, zero, suc, ◌+◌, ◌<◌, ◌≤◌, ◌⊎◌, Bool, true, false, ◌==◌, ◌||◌, List, [], ◌∷◌, ◌++◌, length, refl, sym, ap, ◌∙◌, subst, inl, inr, ⊎_elim, arith, Option, Some, None, Ok, Err, Result, true≢false}
+use Rattle.std.proofs.Common.{◌≡◌, ℕ, suc, ◌<◌, Bool, false, ◌==◌, List, [], ◌∷◌, ◌++◌, length, refl, sym, ap, ◌∙◌, arith, Err}
 use Rattle.std.specs.Prelude.{codes}
 use Rattle.bites_spec.specs.Message.{Message}
 use Rattle.bites_spec.specs.Range.{Range}
-use Rattle.bites_spec.specs.Class.{Set, Lists}
-use Rattle.bites_spec.specs.Tree.{Tree, sequence_of, repetition_of}
+use Rattle.bites_spec.specs.Class.{Set}
+use Rattle.bites_spec.specs.Tree.{Tree, repetition_of}
 use Rattle.bites_spec.specs.Pattern.{Text, Flags, Front, skip, question, ReadsLazy, bar, right_parenthesis}
 use Rattle.bites_spec.specs.Pattern as pattern
 use Rattle.bites_spec.proofs.GroupFlags.{neither}
 use Rattle.bites_spec.specs.Grammar.{is_special, literal_of}
-use Rattle.bites_spec.specs.Reading.{Stop, Found, Answer, Bounds, Reader, answer, stop, lazy, repeat_last, at_operator, at_item, inner}
+use Rattle.bites_spec.specs.Reading.{Stop, Bounds, Reader, answer, lazy, repeat_last, at_operator, at_item, inner}
 
 -- a lazy mark that the relation reads, the function reads
 pub lazy_complete : {t rest : Text} {mark : Bool} → ReadsLazy t mark rest → lazy t ≡ (mark, rest)

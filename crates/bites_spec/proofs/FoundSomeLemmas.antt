@@ -1,12 +1,12 @@
 -- What is found is some parse, and the slots of an answer.
-use Rattle.std.proofs.Common.{◌≡◌, ℕ, ◌≤◌, Bool, List, length, take, Option, Some, None, arith, ap, ◌∙◌, refl}
+use Rattle.std.proofs.Common.{◌≡◌, ℕ, List, length, Option, Some, None, arith, ap, ◌∙◌}
 use Rattle.std.proofs.lemmas.List.{length-take-le}
 use Rattle.std.proofs.lemmas.List.FromFn.{length-map-range_with_len}
-use Rattle.bites_spec.specs.Program.{Program, at}
-use Rattle.bites_spec.specs.Run.{Run, Answered, slots, writes, last_write}
+use Rattle.bites_spec.specs.Program.{at}
+use Rattle.bites_spec.specs.Run.{slots, writes, last_write}
 use Rattle.bites_spec.specs.Tree.{Tree}
 use Rattle.bites_spec.specs.Match.{Mark}
-use Rattle.bites_spec.specs.Found.{Answer, IsFoundBy, FoundBy, Found, FoundSome, FoundLongest, HasMatch}
+use Rattle.bites_spec.specs.Found.{Answer, FoundBy, FoundSome, HasMatch}
 use Rattle.bites_spec.specs.Laws.{FoundIsSome, AnsweredKeepsLength}
 use Rattle.bites_spec.proofs.EventLemmas.{Parse-Matches}
 

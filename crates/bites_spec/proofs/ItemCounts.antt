@@ -1,5 +1,5 @@
 -- Operators in braces: what the relations read, the function answers, or it stops at a number that is too large; where they stop, it stops, no later.
-use Rattle.std.proofs.Common.{◌≡◌, ℕ, zero, suc, ◌+◌, ◌<◌, ◌≤◌, ◌⊎◌, Bool, true, false, ◌==◌, ◌||◌, [], ◌∷◌, ◌++◌, length, max, refl, sym, ap, ◌∙◌, subst, inl, inr, ⊎_elim, arith, Option, Some, None, Ok, Err, eqb-true, true≢false, ltb-true, ltb-false, lt-ltb}
+use Rattle.std.proofs.Common.{◌≡◌, ℕ, ◌<◌, ◌≤◌, Bool, true, false, ◌==◌, [], ◌∷◌, length, refl, sym, ap, ◌∙◌, subst, inl, inr, ⊎_elim, arith, Option, Some, None, Ok, Err, eqb-true, true≢false, ltb-true, ltb-false, lt-ltb}
 use Rattle.std.specs.Prelude.{codes, nat_lt, unwrap_or}
 use Rattle.std.specs.Char.{is_whitespace, is_ascii_digit}
 use Rattle.bites_spec.specs.Message as message
@@ -12,8 +12,8 @@ use Rattle.bites_spec.specs.Operator.{ReadsOperator, is_greedy}
 use Rattle.bites_spec.specs.OperatorFault as stuck
 use Rattle.bites_spec.specs.OperatorFault.{StuckDecimal, StuckCount, greatest_number}
 use Rattle.bites_spec.specs.Fault.{ComesFirst}
-use Rattle.bites_spec.specs.Reading.{Answer, Bounds, answer, stop, and_then, decimal, lazy, counted, after_min, after_comma, after_max, whole_count}
-use Rattle.bites_spec.proofs.EachLemmas.{skip_shorter, each_complete, each_shorter, decimal_complete, decimal_shorter, stuck_decimal}
+use Rattle.bites_spec.specs.Reading.{Answer, Bounds, answer, stop, and_then, decimal, counted, after_min, after_comma, after_max, whole_count}
+use Rattle.bites_spec.proofs.EachLemmas.{skip_shorter, decimal_complete, decimal_shorter, stuck_decimal}
 use Rattle.bites_spec.proofs.EscapeLemmas.{bool_cases}
 use Rattle.bites_spec.proofs.ChoiceParts.{StopsBy, most_of, LeadsToCount}
 use Rattle.bites_spec.proofs.ChoiceSteps.{lazy_complete}

@@ -1,21 +1,21 @@
 -- Whole patterns: what is read, the reader answers, and the first fault is the reader's.
-use Rattle.std.proofs.Common.{◌≡◌, ℕ, zero, suc, ◌+◌, ◌<◌, ◌≤◌, ◌⊎◌, List, [], ◌∷◌, length, refl, sym, ap, ◌∙◌, subst, inl, inr, ⊎_elim, arith, Ok, Err, Result}
+use Rattle.std.proofs.Common.{◌≡◌, ℕ, suc, ◌<◌, ◌≤◌, ◌⊎◌, List, [], length, refl, sym, ap, ◌∙◌, subst, inl, inr, ⊎_elim, arith, Ok, Err, Result}
 use Rattle.bites_spec.specs.Message as message
 use Rattle.bites_spec.specs.Message.{Message, rank}
 use Rattle.bites_spec.specs.Range.{Range}
 use Rattle.bites_spec.specs.Class.{Set, Lists}
 use Rattle.bites_spec.specs.Tree.{Tree, choice_of}
 use Rattle.bites_spec.specs.Pattern.{Text, Flags}
-use Rattle.bites_spec.specs.Grammar.{Reading, Reads, at_front}
+use Rattle.bites_spec.specs.Grammar.{Reading, at_front}
 use Rattle.bites_spec.specs.Measure.{Limits, IsTooTall, height, open_in_choice, count_in_choice}
-use Rattle.bites_spec.specs.Fault.{IsStuck, Fault, IsFirstStuck, IsReadTooTall, ComesFirst}
+use Rattle.bites_spec.specs.Fault.{IsStuck, Fault, ComesFirst}
 use Rattle.bites_spec.specs.GrammarLaws.{FaultsOnce, ReaderReads, Refuses, ReaderRefuses}
 use Rattle.bites_spec.specs.RangesOf.{ranges_of}
 use Rattle.bites_spec.proofs.ClassLemmas.{ranges_of_list}
 use Rattle.bites_spec.specs.Reading.{Stop, Found, inner, read}
 use Rattle.bites_spec.proofs.ChoiceLeads.{Passes, by_nesting, by_count, by_number, StopsAtLimit, choice_leads}
 use Rattle.bites_spec.proofs.ChoiceFirst.{StopsFirst, choice_first}
-use Rattle.bites_spec.proofs.WholeSound.{Within, read_within, read_stuck, within_limits, tall_or_low}
+use Rattle.bites_spec.proofs.WholeSound.{read_within, read_stuck, within_limits, tall_or_low}
 use Rattle.bites_spec.proofs.WholeRanks.{rank_once}
 
 -- the end of the reader

@@ -1,12 +1,12 @@
 -- A pattern is read in one way.
-use Rattle.std.proofs.Common.{◌≡◌, ℕ, zero, suc, ◌<◌, ◌≤◌, Bool, true, false, ◌==◌, ◌||◌, List, [], ◌∷◌, ◌++◌, length, refl, sym, ap, ap₂, ◌∙◌, subst, inl, inr, ⊎_elim, arith, Option, ◌⊎◌, true≢false}
+use Rattle.std.proofs.Common.{◌≡◌, ℕ, ◌<◌, Bool, true, false, ◌==◌, List, [], ◌∷◌, ◌++◌, refl, sym, ap, ap₂, ◌∙◌, subst, ⊎_elim, arith, Option, true≢false}
 use Rattle.std.specs.Prelude.{codes, if◌then◌else◌}
 use Rattle.bites_spec.specs.Class.{single}
 use Rattle.bites_spec.specs.Tree.{Tree, sequence_of, choice_of, repetition_of}
 use Rattle.bites_spec.specs.Pattern.{Text, Flags, Front, skip, next_is, one_of, bar, left_parenthesis, right_parenthesis}
 use Rattle.bites_spec.specs.Operator as operator
 use Rattle.bites_spec.specs.Operator.{ReadsOperator}
-use Rattle.bites_spec.specs.Group.{Opening, ReadsOpening, changed}
+use Rattle.bites_spec.specs.Group.{ReadsOpening, changed}
 use Rattle.bites_spec.specs.Grammar as grammar
 use Rattle.bites_spec.specs.Grammar.{ReadsAtom, ReadsItem, ReadsSequence, ReadsChoice, is_special, ends_sequence, group_of}
 use Rattle.bites_spec.specs.GrammarLaws.{ReadsOnce}
@@ -16,7 +16,7 @@ use Rattle.bites_spec.proofs.GroupFlags.{neither}
 use Rattle.bites_spec.proofs.ChoiceParts.{ReadsDirective}
 use Rattle.bites_spec.proofs.ChoiceBegins.{opening_begins}
 use Rattle.bites_spec.proofs.ItemCounts.{tail_of}
-use Rattle.bites_spec.proofs.ItemOnce.{SameOperator, atom_once, operator_once, opening_once, directive_once, directive_or_opening}
+use Rattle.bites_spec.proofs.ItemOnce.{atom_once, operator_once, opening_once, directive_once, directive_or_opening}
 
 -- the end of a sequence, what opens with a parenthesis, an operator, or an atom
 abbrev kind_of : Text → ℕ

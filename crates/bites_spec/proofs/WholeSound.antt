@@ -1,5 +1,5 @@
 -- What the reader answers to a whole pattern, the relations say.
-use Rattle.std.proofs.Common.{◌≡◌, ℕ, zero, suc, ◌+◌, ◌<◌, ◌≤◌, ◌⊎◌, List, [], ◌∷◌, length, refl, sym, ap, ◌∙◌, subst, inl, inr, ⊎_elim, arith, Ok, Err, Result}
+use Rattle.std.proofs.Common.{◌≡◌, ℕ, suc, ◌<◌, ◌≤◌, ◌⊎◌, List, [], length, refl, sym, subst, inl, inr, ⊎_elim, arith, Ok, Err, Result}
 use Rattle.std.proofs.lemmas.Bool.{cases_lt}
 use Rattle.bites_spec.specs.Range.{Range}
 use Rattle.bites_spec.specs.Class.{Set, Lists}
@@ -9,7 +9,7 @@ use Rattle.bites_spec.specs.OperatorFault.{greatest_number}
 use Rattle.bites_spec.specs.Grammar.{Reading, at_front}
 use Rattle.bites_spec.specs.Measure.{Limits, IsTooTall, height, open_in_choice, count_in_choice}
 use Rattle.bites_spec.specs.Fault.{IsStuck}
-use Rattle.bites_spec.specs.Reading.{Stop, Found, inner, read}
+use Rattle.bites_spec.specs.Reading.{Stop, Found, read}
 use Rattle.bites_spec.proofs.ChoiceSound.{Says, Choice, adds_choice}
 use Rattle.bites_spec.proofs.ChoiceReader.{inner_says, stops_choice}
 

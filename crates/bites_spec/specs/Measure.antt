@@ -1,5 +1,5 @@
 -- Measures of trees and of readings, and the limits on them.
-use Rattle.std.specs.Prelude.{◌≡◌, ℕ, suc, ◌+◌, ◌-◌, ◌*◌, ◌<◌, ◌≤◌, ◌⊎◌, max, Bool, true, false, not, ◌&&◌, ◌||◌, ◌==◌, List, [], ◌∷◌, ◌++◌, length, sum_by, Option, Some, None, unwrap_or, if◌then◌else◌}
+use Rattle.std.specs.Prelude.{ℕ, suc, ◌+◌, ◌-◌, ◌*◌, ◌<◌, ◌≤◌, ◌⊎◌, max, Bool, not, ◌&&◌, ◌==◌, List, [], ◌∷◌, ◌++◌, length, sum_by, Option, Some, None, unwrap_or, if◌then◌else◌}
 use Rattle.bites_spec.specs.Tree.{Tree, Trees, empty, char, class, look, repetition, group, sequence, alternation, no_tree, tree_and, count, greatest, groups_in, names_in, captures_len, is_empty_by_form}
 use Rattle.bites_spec.specs.Pattern.{Text, Flags, Front}
 use Rattle.bites_spec.specs.Grammar as grammar

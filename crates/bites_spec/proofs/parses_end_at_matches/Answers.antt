@@ -1,5 +1,5 @@
 use Rattle.std.proofs.Common.{◌≡◌, ℕ, List, refl, subst}
-use Rattle.bites_spec.specs.Match.{Matches, Parse}
+use Rattle.bites_spec.specs.Match.{Matches}
 use Rattle.bites_spec.specs.Tree.{Tree, IsPlain, IsReduced}
 use Rattle.bites_spec.specs.Preference.{Way, parses}
 use Rattle.bites_spec.specs.Walks.{Among}

@@ -1,4 +1,4 @@
-use Rattle.std.proofs.Common.{refl, ◌∙◌, arith}
+use Rattle.std.proofs.Common.{◌∙◌, arith}
 use Rattle.bites_spec.proofs.pieces_and_matches.Goals as goal
 use Rattle.bites_spec.proofs.PieceTextLemmas.{length-gaps_from, replaced_from-same}
 

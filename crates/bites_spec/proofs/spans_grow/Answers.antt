@@ -1,4 +1,4 @@
-use Rattle.std.proofs.Common.{◌≡◌, ℕ, List, [], ◌∷◌, length, map, refl, ap, subst}
+use Rattle.std.proofs.Common.{◌≡◌, List, [], ◌∷◌, length, map, refl, ap, subst}
 use Rattle.bites_spec.specs.Match.{Span}
 use Rattle.bites_spec.specs.Spans.{EndsGrow}
 use Rattle.bites_spec.specs.Pieces.{AreInOrder}
