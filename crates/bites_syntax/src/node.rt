@@ -131,10 +131,8 @@ pub(crate) fn group_of(
 /// The trees of the nodes and the height above them, or None where one is too tall.
 fn kept(alloc: Global, nodes: Vec<Node>, limit: u32) -> Result<Option<(Vec<Tree>, u32)>, AllocError>
     ensures { (ts : List spec.Tree) → AreNodes limit nodes.items ts →
-        IfOk result
-        (λ o. MatchOption o (IsTooTall limit (spec.sequence (trees_of ts))) (λ p. (p.0.items
-        ≡ ts)
-        × (suc p.1 ≡ height (spec.sequence (trees_of ts))))) }
+        IfOk result (λ o. MatchOption o (IsTooTall limit (spec.sequence (trees_of ts)))
+        (λ p. (p.0.items ≡ ts) × (suc p.1 ≡ height (spec.sequence (trees_of ts))))) }
 {
     let mut trees = Vec::with_capacity(alloc, nodes.len())?;
     let mut tallest = 0;

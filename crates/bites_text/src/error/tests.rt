@@ -61,6 +61,19 @@ fn texts(rt: HostRuntime) -> Result<(), Fail> {
 }
 
 #[test]
+fn debug_texts(rt: HostRuntime) -> Result<(), AllocError> {
+    for (error, text) in [
+        (Error::TooBig, "TooBig"),
+        (Error::UnclosedGroup, "UnclosedGroup"),
+        (Error::Memory, "Memory"),
+    ] {
+        let shown = format!(in rt.alloc(); "{error:?}")?;
+        assert_eq!(rt; shown.as_str(), text);
+    }
+    Ok(())
+}
+
+#[test]
 fn comparisons(rt: HostRuntime) {
     assert!(rt; same(&Error::DuplicateName, &Error::DuplicateName));
     assert!(rt; !same(&Error::DuplicateName, &Error::DuplicateFlag));
