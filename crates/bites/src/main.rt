@@ -4,11 +4,7 @@
 //! fault, which is one line on standard error.
 #![tactic(auto)]
 
-mod run;
-#[cfg(test)]
-mod tests;
-
-use run::{refuse_words, run};
+use bites_run::{refuse_words, run};
 use std::process::ExitCode;
 use std::rt::Env;
 use std::{env, io};

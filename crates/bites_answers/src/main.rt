@@ -1,39 +1,29 @@
-//! Compares the engine with a file of answered cases, which stands on standard input.
+//! Compares the engine with tables of rows, which are the files that the words name.
 //!
-//! Each line is a case: a question and the answer that is wanted. Questions of builds and sizes, and whether and how soon
-//! something matches, are put to the engine; those of matches, pieces and replacements to the plain programs of
-//! `bites_plain`, over the tree and the program that the engine makes of the pattern. Besides, in short haystacks the
-//! first parse of a plain tree is compared with the first run.
-//!
-//! For each kind of question the program prints how many answers were compared and how many differ, and then a line for
-//! each of these. No case is left out: a line that is no case is a fault. The status is 0 if no answer differs, 1 if some
-//! do, and 2 for a fault, which is one line on standard error.
+//! A row is a question and the answer that is wanted. For each kind of question the program prints how many answers were
+//! compared and how many differ, and then a line for each of these. The status is 0 if no answer differs, 1 if some do,
+//! and 2 for a fault, which is one line on standard error: no row is left out, and a line that is no row is a fault.
 #![tactic(auto)]
 
-mod answer;
-mod case;
-mod compare;
-mod escaped;
-mod fault;
-mod first_parse;
-mod groups;
-mod product;
-mod question;
-mod run;
-mod searches;
-mod sweep;
-mod tally;
-#[cfg(test)]
-mod tests;
-
-use run::run;
+use bites_rows::compare::compare_line;
+use bites_rows::report::Report;
 use std::process::ExitCode;
+use std::{env, fs, io};
 
-fn main(rt: HostRuntime) -> ExitCode {
-    ExitCode::from(run(
-        rt.alloc(),
-        &mut rt.stdin(),
-        &mut rt.stdout(),
-        &mut rt.stderr(),
-    ))
+fn main(rt: HostRuntime) -> io::Result<ExitCode> {
+    let mut report = Report::new(rt.alloc());
+    for name in env::args(&rt)?.skip(1) {
+        let table = fs::read_to_string(&rt, &name)?;
+        for (index, line) in table.lines().enumerate() {
+            let place = format!(in rt.alloc(); "{name} line {}", index.saturating_add(1))?;
+            if let Err(fault) = compare_line(rt.alloc(), &mut report, &place, line) {
+                eprintln!(rt; "bites_answers: {place}: {fault}")?;
+                return Ok(ExitCode::from(2));
+            }
+        }
+    }
+    let mut text = String::new(rt.alloc());
+    report.write(&mut text)?;
+    print!(rt; "{text}")?;
+    Ok(ExitCode::from(u8::from(!report.agrees())))
 }

@@ -1,2 +1,10 @@
 pub mod SearchLemmas
 pub mod SettingsLemmas
+pub mod SlotLemmas
+pub mod NamedLemmas
+pub mod DueLemmas
+pub mod MatchLemmas
+pub mod SplitLemmas
+pub mod ReplacingLemmas
+pub mod ReplacingSteps
+pub mod ReplacedLemmas

@@ -1,25 +1,49 @@
--- What a search of a regex's program says of its tree.
-use Rattle.std.proofs.Common.{◌≡◌, ℕ, Bool, List, Option, Result, Ok, Err, IfOk, sym, subst}
-use Rattle.std.specs.Prelude.{IsTrue, ◌↔◌}
+-- What a search for the least end says of a regex's tree.
+use Rattle.std.proofs.Common.{◌≡◌, ℕ, ◌≤◌, ◌+◌, Bool, true, false, List, [], ◌∷◌, length, take, Option, Some, None, option_map, refl, sym, ap, ◌∙◌, subst, true≢false}
+use Rattle.std.specs.Prelude.{IsTrue, ◌↔◌, is_some}
+use Rattle.bites_spec.specs.Match.{Span}
+use Rattle.bites_spec.specs.Tree.{Tree}
 use Rattle.bites_spec.specs.Program.{Program}
-use Rattle.bites_spec.specs.Built.{Built}
+use Rattle.bites_spec.specs.Run.{Run, Answered, LeastEnd, slots}
+use Rattle.bites_spec.specs.Slots.{slot_in, group_in, span_of_run, span_between}
 use Rattle.bites_spec.specs.Found.{HasMatch, IsLeastEnd}
-use Rattle.bites_machine.specs.Ends.{HasRun, IsLeastRunEnd}
-use Rattle.bites_machine.proofs.SearchLemmas.{IsLeastRunEnd-IsLeastEnd, found-HasMatch}
-use Rattle.bites_bytes.specs.Meaning.{Meaning, IsCompiled}
+use Rattle.bites_spec.specs.Regex.{Regex, IsCompiled}
+use Rattle.bites_spec.proofs.FoundLemmas.{LeastEnd-IsLeastEnd, group_0_is_span}
+use Rattle.bites_bytes.proofs.DueLemmas.{front_group}
 
--- whether the regex matches is whether its program runs
-pub found_match : {E : Type 0} (regex : Meaning) (p : Program) → p ≡ regex.program → IsCompiled regex → (hay : List ℕ) (s : ℕ) (o : Result Bool E) →
-    IfOk o (λ found. IsTrue found ↔ HasRun p hay s) → IfOk o (λ found. IsTrue found ↔ HasMatch regex.tree hay s)
-found_match regex p same is hay s (Ok found) h =
-    let built : Built regex.tree p = let P : Program → Type 0 = λ q. Built regex.tree q in subst P (sym same) is.built in
-    found-HasMatch regex.tree p hay is.compilable built s found h
-found_match regex p same is hay s (Err e) h = h
+-- there is a match where there is a least end
+pub least_has : (t : Tree) (hay : List ℕ) (s : ℕ) (o : Option ℕ) (b : Bool) → IsLeastEnd t hay s o → b ≡ is_some o → IsTrue b ↔ HasMatch t hay s
+least_has t hay s None b least is = (λ holds. absurd (true≢false (sym (is_true b holds) ∙ is)), λ m. absurd (least m.0 m.2 m.1 m.3))
+  where
+    is_true : (b : Bool) → IsTrue b → b ≡ true
+    is_true b holds = holds
+least_has t hay s (Some j) b least is = (λ holds. (least.0.0, j, least.0.1, least.0.2), λ m. is)
 
--- where the regex's matches end first is where its program's runs do
-pub least_match : {E : Type 0} (regex : Meaning) (p : Program) → p ≡ regex.program → IsCompiled regex → (hay : List ℕ) (s : ℕ) (o : Result (Option ℕ) E) →
-    IfOk o (λ end. IsLeastRunEnd p hay s end) → IfOk o (λ end. IsLeastEnd regex.tree hay s end)
-least_match regex p same is hay s (Ok end) h =
-    let built : Built regex.tree p = let P : Program → Type 0 = λ q. Built regex.tree q in subst P (sym same) is.built in
-    IsLeastRunEnd-IsLeastEnd regex.tree p hay is.compilable built s end h
-least_match regex p same is hay s (Err e) h = h
+known_end : (a b : Option ℕ) (g : Span) → span_between a b ≡ Some g → b ≡ Some g.end
+known_end None b g e = let never : None ≡ Some g = e in cc
+known_end (Some i) None g e = let never : None ≡ Some g = e in cc
+known_end (Some i) (Some j) g e = ap (option_map (λ (x : Span). x.end)) e
+
+module _ (r : Regex) (is : IsCompiled r) (hay : List ℕ) (s : ℕ) where
+  -- nothing is found
+  pub least_none : (o : Option Run) (found : Bool) (old new : List (Option ℕ)) → LeastEnd r.program hay s o → Answered r.program o found old new →
+      found ≡ false → IsLeastEnd r.tree hay s None
+  least_none None found old new least h missing = LeastEnd-IsLeastEnd r.tree r.program hay is.compilable is.built s None least
+  least_none (Some x) found old new least h missing = absurd (true≢false (sym h.0 ∙ missing))
+
+  end_of : (x : Run) (old new : List (Option ℕ)) → LeastEnd r.program hay s (Some x) → new ≡ take (length old) (slots r.program x) → 2 ≤ length old →
+      slot_in new 1 ≡ Some x.end
+  end_of x old new least h le =
+      known_end (slot_in new 0) (slot_in new 1) (span_of_run x)
+      (ap (λ l. group_in l 0) h ∙ front_group (length old) (slots r.program x) le
+      ∙ group_0_is_span r.tree r.program hay is.compilable is.built x least.0)
+
+  -- the second slot has the least end
+  pub least_some : (o : Option Run) (found : Bool) (old new : List (Option ℕ)) → LeastEnd r.program hay s o → Answered r.program o found old new →
+      found ≡ true → 2 ≤ length old → IsLeastEnd r.tree hay s (slot_in new 1) × (is_some (slot_in new 1) ≡ true)
+  least_some None found old new least h holds le = absurd (true≢false (sym holds ∙ h.0))
+  least_some (Some x) found old new least h holds le =
+      let e = end_of x old new least h.1 le in (
+        subst (IsLeastEnd r.tree hay s) (sym e) (LeastEnd-IsLeastEnd r.tree r.program hay is.compilable is.built s (Some x) least),
+        ap is_some e,
+      )

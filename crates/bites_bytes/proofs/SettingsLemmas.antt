@@ -1,26 +1,100 @@
--- A tree that passes a limit is the pattern's only one.
-use Rattle.std.proofs.Common.{◌≡◌, ◌≢◌, ◌<◌, ◌≤◌, ℕ, arith, refl, subst}
+-- A tree that passes a limit is the pattern's only one, and its groups are those that are kept.
+use Rattle.std.proofs.Common.{◌≡◌, ◌≢◌, ◌<◌, ◌≤◌, ℕ, Bool, true, false, List, Option, arith, refl, ap, sym, subst, ◌∙◌, ◌*◌, length, Result, Ok, Err, IfOk}
 use Rattle.std.specs.Prelude.{chars}
-use Rattle.bites_spec.specs.Tree.{Tree}
-use Rattle.bites_spec.specs.Measure.{Limits, TreeLimits}
-use Rattle.bites_spec.proofs.WholeOnce.{reads_once}
+use Rattle.bites_spec.specs.Tree.{Tree, captures_len}
+use Rattle.bites_spec.specs.Program.{IsWellFormed}
+use Rattle.bites_spec.specs.Built.{Built, IsCompilable}
+use Rattle.bites_spec.specs.Contents.{Contents}
+use Rattle.bites_spec.specs.Regex.{Regex, IsCompiled, NamesAreKept}
+use Rattle.bites_spec.proofs.LeftLemmas.{length-left}
+use Rattle.bites_spec.specs.Pattern.{Text, Flags}
+use Rattle.bites_spec.specs.Grammar.{Reading}
+use Rattle.bites_spec.specs.Measure.{Limits, TreeLimitsWith, groups_kept, groups_opened, groups_left, static_captures_len}
+use Rattle.bites_spec.proofs.WholeOnce.{reads_once, opened_once}
 use Rattle.bites_text.specs.declared.error.Error.{Error}
 use Rattle.bites_text.specs.declared.error.Error.TheVariants.{TooBig, TooManyStates, TooManySlots, Memory}
 use Rattle.bites_machine.specs.Compiled as compiled
-use Rattle.bites_bytes.specs.Settings.{Settings, Accepts}
+use Rattle.bites_spec.specs.Settings.{Settings, Accepts}
+use Rattle.bites_bytes.specs.Parts.{chosen, regex_of}
 
 -- what passes a limit is not within the limits
-not_within : (size_limit : ℕ) (t : Tree) (e : Error) → compiled.Refuses size_limit t e → e ≢ Memory → TreeLimits size_limit t → ⊥
-not_within size_limit t TooBig h ne within = let light = within.light in omega (arith, light, h)
-not_within size_limit t TooManyStates h ne within = let few = within.few_states in let many = h.1 in omega (arith, few, many)
-not_within size_limit t TooManySlots h ne within = let few = within.few_groups in let many = h.2 in omega (arith, few, many)
-not_within size_limit t Memory h ne within = ne refl
-not_within size_limit t _ h ne within = absurd h
+not_within : (size_limit : ℕ) (groups : List (Option (List ℕ))) (t : Tree) (e : Error) → compiled.RefusesTree size_limit groups t e → e ≢ Memory →
+    TreeLimitsWith size_limit groups t → ⊥
+not_within size_limit groups t TooBig h ne within = let light = within.light in omega (arith, light, h)
+not_within size_limit groups t TooManyStates h ne within = let few = within.few_states in let many = h.1 in omega (arith, few, many)
+not_within size_limit groups t TooManySlots h ne within = let few = within.few_groups in let many = h.2 in omega (arith, few, many)
+not_within size_limit groups t Memory h ne within = ne refl
+not_within size_limit groups t _ h ne within = absurd h
+
+-- the same groups are kept, however the pattern is read
+kept_once : (keep : Bool) {pattern : Text} {flags : Flags} {t u : Tree} (r : Reading pattern flags t) (s : Reading pattern flags u) →
+    groups_kept keep r ≡ groups_kept keep s
+kept_once true {pattern} {flags} {t} {u} r s = opened_once pattern flags t u r s
+kept_once false {pattern} {flags} {t} {u} r s = ap groups_left (reads_once pattern flags t u r s)
 
 -- where the pattern's tree passes a limit, no tree is accepted
-pub no_other_tree : (s : Settings) (t : Tree) (e : Error) → Limits (chars s.pattern) s.flags s.nest_limit t →
-    compiled.Refuses s.size_limit t e → e ≢ Memory → (u : Tree) → Accepts s u → ⊥
+pub no_other_tree : (s : Settings) (t : Tree) (e : Error) (read : Limits (chars s.pattern) s.flags s.nest_limit t) →
+    compiled.RefusesTree s.size_limit (groups_kept s.keep_dropped_groups read.reading) t e → e ≢ Memory → (u : Tree) → Accepts s u → ⊥
 no_other_tree s t e read refused ne u accepts =
+    let groups = groups_kept s.keep_dropped_groups read.reading in
+    let kept : groups_kept s.keep_dropped_groups accepts.read.reading ≡ groups = kept_once s.keep_dropped_groups accepts.read.reading read.reading in
     let same : u ≡ t = reads_once (chars s.pattern) s.flags u t accepts.read.reading read.reading in
-    let Within : Tree → Type 0 = λ x. TreeLimits s.size_limit x in
-    not_within s.size_limit t e refused ne (subst Within same accepts.small)
+    let Within : Tree → Type 0 = λ x. TreeLimitsWith s.size_limit groups x in
+    let small : TreeLimitsWith s.size_limit groups u = subst (λ gs. TreeLimitsWith s.size_limit gs u) kept accepts.small in
+    not_within s.size_limit groups t e refused ne (subst Within same small)
+
+-- groups that are those of each reading, and kept or not, are those that are kept
+pub chosen_kept : (keep : Bool) (groups : List (Option (List ℕ))) {pattern : Text} {flags : Flags} {t : Tree} (r : Reading pattern flags t) →
+    groups ≡ groups_opened r → chosen keep groups t ≡ groups_kept keep r
+chosen_kept true groups r same = same
+chosen_kept false groups r same = refl
+
+-- what a builder answers, from what the parser and the compiler answered
+accepted_of : (s : Settings) (t : Tree) (groups : List (Option (List ℕ))) (read : Limits (chars s.pattern) s.flags s.nest_limit t) →
+    groups ≡ groups_opened read.reading → TreeLimitsWith s.size_limit (chosen s.keep_dropped_groups groups t) t → Accepts s t
+accepted_of s t groups read same small = record {
+  read = read;
+  small = subst (λ gs. TreeLimitsWith s.size_limit gs t) (chosen_kept s.keep_dropped_groups groups read.reading same) small;
+}
+
+-- the same of an answer that is this regex
+pub accepted_clause : (s : Settings) (t : Tree) (groups : List (Option (List ℕ))) (read : Limits (chars s.pattern) s.flags s.nest_limit t) →
+    groups ≡ groups_opened read.reading → TreeLimitsWith s.size_limit (chosen s.keep_dropped_groups groups t) t →
+    (o : Result Regex Error) (x : Regex) → x.tree ≡ t → IfOk o (λ r. r ≡ x) → IfOk o (λ r. Accepts s r.tree)
+accepted_clause s t groups read same small (Ok r) x is made =
+    let P : Tree → Type 0 = λ u. Accepts s u in
+    subst P (sym is ∙ ap (λ (y : Regex). y.tree) (sym made)) (accepted_of s t groups read same small)
+accepted_clause s t groups read same small (Err e) x is made = made
+
+-- the groups of a limit that is passed are those that are kept
+pub refused_kept : (s : Settings) (t : Tree) (groups : List (Option (List ℕ))) (read : Limits (chars s.pattern) s.flags s.nest_limit t) →
+    groups ≡ groups_opened read.reading → (e : Error) → compiled.RefusesTree s.size_limit (chosen s.keep_dropped_groups groups t) t e →
+    compiled.RefusesTree s.size_limit (groups_kept s.keep_dropped_groups read.reading) t e
+refused_kept s t groups read same e refused =
+    subst (λ gs. compiled.RefusesTree s.size_limit gs t e) (chosen_kept s.keep_dropped_groups groups read.reading same) refused
+
+-- a regex of a program that was made with these groups
+pub compiled_of : (flags : Flags) (t : Tree) (keep : Bool) (p : Contents) (pattern : List ℕ) (groups : List (Option (List ℕ)))
+    (r : Reading (chars pattern) flags t) → groups ≡ groups_opened r → IsCompilable t → p.pattern ≡ pattern → p.names ≡ chosen keep groups t →
+    p.program.slots ≡ 2 * length (chosen keep groups t) → p.static_captures_len ≡ static_captures_len t → Built t p.program → IsWellFormed p.program →
+    IsCompiled (regex_of flags t keep p)
+compiled_of flags t keep p pattern groups r same compilable text names slots static built well_formed =
+    let P : List ℕ → Type 0 = λ x. (s : Reading (chars x) flags t) × (p.names ≡ groups_kept keep s) in
+    let x : P p.pattern = subst P (sym text) (r, names ∙ chosen_kept keep groups r same) in
+    record {
+      reads = x.0;
+      compilable = compilable;
+      built = built;
+      well_formed = well_formed;
+      names = x.1;
+      slots = slots ∙ ap (λ gs. 2 * length gs) (sym names);
+      static = static;
+    }
+
+-- the names of a regex are those of the groups that are kept
+pub names_are_kept : (r : Regex) → IsCompiled r → NamesAreKept r
+names_are_kept r is = record { kept = λ reading. is.names ∙ kept_once r.keep_dropped_groups is.reads reading }
+
+-- and as many as the tree has groups, where dropped ones are not kept
+pub left_captures : (r : Regex) → IsCompiled r → r.keep_dropped_groups ≡ false → length r.names ≡ captures_len r.tree
+left_captures r is off = ap length (is.names ∙ ap (λ keep. groups_kept keep is.reads) off) ∙ length-left r.tree

@@ -1,3 +1,14 @@
-pub mod Meaning
+pub mod Parts
 pub mod Settings
 pub mod Names
+pub mod Room
+pub mod Matched
+pub mod Groups
+pub mod Due
+pub mod Matches
+pub mod CapturesLeft
+pub mod Split
+pub mod Replacer
+pub mod Replaced
+pub mod Limit
+pub mod Replacing

@@ -3,10 +3,31 @@
 //! A haystack is any bytes: where it is no UTF-8, each longest beginning of a character counts as one U+FFFD.
 
 mod builder;
+mod cache;
+mod capture_matches;
+mod captures;
+mod groups;
+mod locations;
+mod matched;
+mod matches;
 mod names;
 mod regex;
+mod replace;
+mod replacer;
+mod search;
+mod shortest;
+mod split;
 
 pub use bites_text::error::Error;
 pub use builder::RegexBuilder;
+pub use cache::Cache;
+pub use capture_matches::CaptureMatches;
+pub use captures::Captures;
+pub use groups::SubCaptureMatches;
+pub use locations::CaptureLocations;
+pub use matched::Match;
+pub use matches::Matches;
 pub use names::CaptureNames;
 pub use regex::Regex;
+pub use replacer::{NoExpand, Replacer, ReplacerRef, With};
+pub use split::{Split, SplitN};

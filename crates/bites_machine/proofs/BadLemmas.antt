@@ -6,7 +6,7 @@ use Rattle.std.proofs.lemmas.List.{reverse-append}
 use Rattle.std.proofs.lemmas.List.Folds.{list_all-append}
 use Rattle.bites_spec.specs.Program as program
 use Rattle.bites_spec.specs.Program.{targets_of}
-use Rattle.bites_spec.specs.Faults.{are_ranges}
+use Rattle.bites_spec.specs.ProgramFaults.{are_ranges}
 
 -- the ranges behind one that ends there
 abbrev pub ranges_after : Option ℕ → List (ℕ × ℕ) → Bool

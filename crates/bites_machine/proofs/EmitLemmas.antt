@@ -8,8 +8,8 @@ use Rattle.std.proofs.Math.Seq.{get_or-append_seam}
 use Rattle.bites_spec.specs.Tree.{Tree, Trees, empty, char, class, look, repetition, group, sequence, alternation, no_tree, tree_and, is_empty_by_form}
 use Rattle.bites_spec.specs.Program as program
 use Rattle.bites_spec.specs.Program.{State, state_at}
-use Rattle.bites_spec.specs.Built.{Part, One, Behind, Copies, Options, Loop, Star, OptionalLoop, Bounded, Counted, Repeated, HasForm, HasFormAll, HasFormEach}
-use Rattle.bites_machine.specs.Emitted.{Emitted, emitted, Emitter, pushed, in_front, again, choice, chosen, options, bounded, around, looped, loop, starred, star, optional_loop, counted, repeated, class_state, writing, grouped, Branches, branches, with_branch, split, emit, emit_all, emit_each}
+use Rattle.bites_spec.specs.Built.{Fragment, One, Behind, Copies, Options, Loop, Star, OptionalLoop, Bounded, CopiesUpTo, Repeated, HasForm, HasFormAll, HasFormEach}
+use Rattle.bites_machine.specs.Emitted.{Emitted, emitted, Emitter, pushed, in_front, again, choice, chosen, options, bounded, around, looped, loop, starred, star, optional_loop, copies_up_to, repeated, class_state, writing, grouped, Branches, branches, with_branch, split, emit, emit_all, emit_each}
 
 -- the states that were there stay
 pub record Extends (old new : List State) : Type 0 where
@@ -92,7 +92,7 @@ Counts-append_up a b m k n lower upper = record {
 }
 
 -- what is written is the part, and uses all of its states
-pub record Forms (part : List State → Part) (to : ℕ) (old : List State) (e : Emitted) : Type 1 where
+pub record Forms (part : List State → Fragment) (to : ℕ) (old : List State) (e : Emitted) : Type 1 where
   pub extends : Extends old e.states
   pub form : (last : List State) → Agrees last (length old) e.states →
       (used : List ℕ) × part last e.from to used × Counts used (length old) (length e.states)
@@ -104,7 +104,7 @@ Forms-one make to ss = record {
       (length ss ∷ [], (last_pushed last (length ss) ss (make to) (omega arith) a, refl), Counts-one (length ss) _ (length_pushed ss (make to)));
 }
 
-pub Forms-behind : (first rest : List State → Part) (to : ℕ) (ss : List State) (e f : Emitted) →
+pub Forms-behind : (first rest : List State → Fragment) (to : ℕ) (ss : List State) (e f : Emitted) →
     Forms rest to ss e → Forms first e.from e.states f → Forms (λ l. Behind l (first l) (rest l)) to ss f
 Forms-behind first rest to ss e f r s = record {
   extends = Extends-trans ss e.states f.states r.extends s.extends;
@@ -115,12 +115,12 @@ Forms-behind first rest to ss e f r s = record {
 }
 
 -- a body in front of any state, behind any states
-abbrev pub FormsBody : (List State → Part) → Emitter → Type 1
+abbrev pub FormsBody : (List State → Fragment) → Emitter → Type 1
 FormsBody part body = (to : ℕ) (ss : List State) → Forms part to ss (body to ss)
 
-module _ (part : List State → Part) (body : Emitter) (inside : FormsBody part body) where
+module _ (part : List State → Fragment) (body : Emitter) (inside : FormsBody part body) where
   -- n copies in front of the rest
-  pub Forms-again : (rest : List State → Part) (to : ℕ) (ss : List State) (e : Emitted) → Forms rest to ss e →
+  pub Forms-again : (rest : List State → Fragment) (to : ℕ) (ss : List State) (e : Emitted) → Forms rest to ss e →
       (n : ℕ) → Forms (λ l. Copies l n (part l) (rest l)) to ss (in_front (again n body) e)
   Forms-again rest to ss e r zero = r
   Forms-again rest to ss e r (suc n) =
@@ -244,9 +244,9 @@ module _ (part : List State → Part) (body : Emitter) (inside : FormsBody part 
             );
       }
 
-  Forms-counted : (n more : ℕ) (greedy : Bool) → FormsBody (λ l. Counted l n more greedy (part l)) (counted n more greedy body)
-  Forms-counted n zero greedy to ss = Forms-again part to ss (body to ss) (inside to ss) n
-  Forms-counted n (suc more) greedy to ss =
+  Forms-copies_up_to : (n more : ℕ) (greedy : Bool) → FormsBody (λ l. CopiesUpTo l n more greedy (part l)) (copies_up_to n more greedy body)
+  Forms-copies_up_to n zero greedy to ss = Forms-again part to ss (body to ss) (inside to ss) n
+  Forms-copies_up_to n (suc more) greedy to ss =
       Forms-again (λ l. Bounded l (suc more) greedy (part l)) to ss (bounded (suc more) greedy body to ss) (Forms-bounded (suc more) greedy to ss) (suc n)
 
   pub Forms-repeated : (min : ℕ) (most : Option ℕ) (greedy is_empty : Bool) →
@@ -261,7 +261,7 @@ module _ (part : List State → Part) (body : Emitter) (inside : FormsBody part 
       let e = bounded (suc (suc m)) greedy body to ss in
       Forms-behind (λ l. One l (λ next. program.goto next None)) (λ l. Bounded l (suc (suc m)) greedy (part l)) to ss e _
       (Forms-bounded (suc (suc m)) greedy to ss) (Forms-one (λ next. program.goto next None) e.from e.states)
-  Forms-repeated (suc n) (Some most) greedy is_empty to ss = Forms-counted n (most - suc n) greedy to ss
+  Forms-repeated (suc n) (Some most) greedy is_empty to ss = Forms-copies_up_to n (most - suc n) greedy to ss
 
   pub Forms-grouped : (k : ℕ) → FormsBody
       (λ l. Behind l (One l (λ to. program.capture to (2 * k))) (Behind l (part l) (One l (λ to. program.capture to (2 * k + 1)))))

@@ -8,7 +8,7 @@ use Rattle.bites_spec.specs.Program as program
 use Rattle.bites_spec.specs.Program.{State}
 use Rattle.bites_syntax.specs.View.{tree_of}
 use Rattle.bites_syntax.specs.declared.tree.Kind.{Kind}
-use Rattle.bites_machine.specs.Emitted.{Emitted, emitted, Emitter, pushed, in_front, again, choice, options, bounded, around, loop, star, optional_loop, counted, repeated, grouped, writing, Branches, branches, with_branch, split, emit, emit_all, emit_each}
+use Rattle.bites_machine.specs.Emitted.{Emitted, emitted, Emitter, pushed, in_front, again, choice, options, bounded, around, loop, star, optional_loop, copies_up_to, repeated, grouped, writing, Branches, branches, with_branch, split, emit, emit_all, emit_each}
 use Rattle.bites_machine.proofs.EmitLemmas.{length_pushed}
 use Rattle.bites_machine.proofs.LengthLemmas.{Grows-emit, Grows-again, Grows-options, Grows-bounded, Grows-loop, Grows-emit_all, Grows-emit_each, sum_times, unbounded_size, exact_size, ranged_size, optional_size}
 use Rattle.bites_syntax.proofs.TreeParts.{parts_from, parts_end}
@@ -99,14 +99,14 @@ module _ (greedy is_empty : Bool) (body : Emitter) (to : ℕ) (ss : List State) 
   repeated-exact (suc n) most h is =
       let none : most - suc n ≡ 0 = omega arith in
       let e : n ≡ suc n - 1 = omega arith in
-      ap (λ k. counted n k greedy body to ss) none ∙ ap (λ k. in_front (again k body) (body to ss)) e
+      ap (λ k. copies_up_to n k greedy body to ss) none ∙ ap (λ k. in_front (again k body) (body to ss)) e
 
   pub repeated-ranged : (n most : ℕ) → 0 < n → n < most →
       repeated n (Some most) greedy is_empty body to ss ≡ in_front (again n body) (bounded (most - n) greedy body to ss)
   repeated-ranged zero most h below = absurd (omega arith)
   repeated-ranged (suc n) most h below =
       let more : most - suc n ≡ suc (most - suc n - 1) = omega arith in
-      ap (λ k. counted n k greedy body to ss) more ∙ ap (λ k. in_front (again (suc n) body) (bounded k greedy body to ss)) (sym more)
+      ap (λ k. copies_up_to n k greedy body to ss) more ∙ ap (λ k. in_front (again (suc n) body) (bounded k greedy body to ss)) (sym more)
 
   pub repeated-several : (most : ℕ) → 1 < most →
       repeated 0 (Some most) greedy is_empty body to ss

@@ -10,10 +10,10 @@ use Rattle.bites_spec.specs.Class.{AreGreatest, IsRange, following}
 use Rattle.bites_spec.specs.Tree.{Tree, Trees, empty, char, class, look, repetition, group, sequence, alternation, no_tree, tree_and, is_empty_by_form, groups_in, groups_in_all, greatest}
 use Rattle.bites_spec.specs.Program as program
 use Rattle.bites_spec.specs.Program.{State, targets_of}
-use Rattle.bites_spec.specs.Built.{Part, HasForm}
-use Rattle.bites_spec.specs.Faults.{Fault, bad_target, bad_ranges, bad_slot, are_ranges, has_ranges, has_slot, fault_of}
+use Rattle.bites_spec.specs.Built.{Fragment, HasForm}
+use Rattle.bites_spec.specs.ProgramFaults.{ProgramFault, bad_target, bad_ranges, bad_slot, are_ranges, has_ranges, has_slot, fault_of}
 use Rattle.bites_spec.proofs.FirstLemmas.{or_none}
-use Rattle.bites_machine.specs.Emitted.{Emitted, Emitter, pushed, in_front, again, choice, chosen, options, bounded, around, loop, star, optional_loop, counted, repeated, class_state, grouped, writing, Branches, branches, split, emit, emit_all, emit_each}
+use Rattle.bites_machine.specs.Emitted.{Emitted, Emitter, pushed, in_front, again, choice, chosen, options, bounded, around, loop, star, optional_loop, copies_up_to, repeated, class_state, grouped, writing, Branches, branches, split, emit, emit_all, emit_each}
 use Rattle.bites_machine.specs.Classes.{HasClasses, AllHaveClasses}
 use Rattle.bites_machine.proofs.EmitLemmas.{length_pushed, Extends, Forms, FormsBody, Forms-emit, Forms-emit_all, Forms-again, Forms-options, Forms-loop, FormsBranches, Forms-emit_each}
 
@@ -21,16 +21,16 @@ pub both_true : (a b : Bool) → a ≡ true → b ≡ true → (a && b) ≡ true
 both_true true b e f = f
 both_true false b e f = e
 
-none_none : (o p : Option Fault) → o ≡ None → p ≡ None → option_or o p ≡ None
+none_none : (o p : Option ProgramFault) → o ≡ None → p ≡ None → option_or o p ≡ None
 none_none None p e f = f
 none_none (Some x) p e f = e
 
-first_among-append : (f : State → Option Fault) (xs ys : List State) → first_among f xs ≡ None → first_among f ys ≡ None → first_among f (xs ++ ys) ≡ None
+first_among-append : (f : State → Option ProgramFault) (xs ys : List State) → first_among f xs ≡ None → first_among f ys ≡ None → first_among f (xs ++ ys) ≡ None
 first_among-append f [] ys e h = h
 first_among-append f (x ∷ xs) ys e h =
     let both = or_none (f x) (first_among f xs) e in none_none (f x) _ both.0 (first_among-append f xs ys both.1 h)
 
-first_among-set : (f : State → Option Fault) (xs : List State) (i : ℕ) (s : State) → first_among f xs ≡ None → f s ≡ None → first_among f (slice_set xs i s) ≡ None
+first_among-set : (f : State → Option ProgramFault) (xs : List State) (i : ℕ) (s : State) → first_among f xs ≡ None → f s ≡ None → first_among f (slice_set xs i s) ≡ None
 first_among-set f [] i s e h = e
 first_among-set f (x ∷ xs) zero s e h = none_none (f s) _ h (or_none (f x) (first_among f xs) e).1
 first_among-set f (x ∷ xs) (suc i) s e h =
@@ -96,7 +96,7 @@ module _ (n slots : ℕ) where
     fine = first_among-append (fault_of n slots) ss (s ∷ []) all (none_none (fault_of n slots s) None one refl);
   }
 
-  module _ (part : List State → Part) (body : Emitter) (inside : FormsBody part body) (sound : SoundBody body) where
+  module _ (part : List State → Fragment) (body : Emitter) (inside : FormsBody part body) (sound : SoundBody body) where
     again_longer : (e : Emitted) (m : ℕ) → length e.states ≤ length (in_front (again m body) e).states
     again_longer e zero = omega arith
     again_longer e (suc m) =
@@ -162,11 +162,11 @@ module _ (n slots : ℕ) where
         let s = Sound-loop greedy (length ss) more r.fine r.entered short in
         Sound-push e.states state s.fine (fine_choice greedy e.from (length ss) s.entered r.entered) le
 
-    Sound-counted : (m more : ℕ) (greedy : Bool) → SoundBody (counted m more greedy body)
-    Sound-counted m zero greedy to ss all h le =
+    Sound-copies_up_to : (m more : ℕ) (greedy : Bool) → SoundBody (copies_up_to m more greedy body)
+    Sound-copies_up_to m zero greedy to ss all h le =
         let e = body to ss in
         Sound-again m e (sound to ss all h (omega (arith, (again_longer e m)))) le
-    Sound-counted m (suc more) greedy to ss all h le =
+    Sound-copies_up_to m (suc more) greedy to ss all h le =
         let e = bounded (suc more) greedy body to ss in
         Sound-again (suc m) e (Sound-bounded (suc more) greedy to ss all h (omega (arith, again_longer e (suc m)))) le
 
@@ -182,7 +182,7 @@ module _ (n slots : ℕ) where
         let e = bounded (suc (suc m)) greedy body to ss in
         let r = Sound-bounded (suc (suc m)) greedy to ss all h (omega (arith, length_pushed e.states (program.goto e.from None))) in
         Sound-push e.states (program.goto e.from None) r.fine (fine_goto e.from r.entered) le
-    Sound-repeated (suc m) (Some most) greedy is_empty to ss all h le = Sound-counted m (most - suc m) greedy to ss all h le
+    Sound-repeated (suc m) (Some most) greedy is_empty to ss all h le = Sound-copies_up_to m (most - suc m) greedy to ss all h le
 
     pub Sound-grouped : (k : ℕ) → 2 * k + 1 < slots → SoundBody (grouped k body)
     Sound-grouped k few to ss all h le =

@@ -1,18 +1,17 @@
 -- What is known of the groups of a tree.
-use Rattle.std.proofs.Common.{◌≡◌, ◌≢◌, ℕ, zero, suc, ◌+◌, ◌*◌, ◌<◌, ◌≤◌, max, Bool, true, false, cond, List, [], ◌∷◌, ◌++◌, length, map, drop, get_or, Option, Some, None, IfSome, refl, sym, ap, ap₂, ◌∙◌, subst, arith, length-append, ◌⊎◌, inl, inr, ⊎_elim, slice_set, eq-eqb, ne_eqb}
-use Rattle.std.specs.Prelude.{◌==◌, not, ◌&&◌, sum_by, replicate}
-use Rattle.std.specs.List.{range_with_len}
-use Rattle.std.proofs.lemmas.List.{length-set, get_or-set_same, get_or-set_other, get_or-replicate, length-replicate, ext_get_or, map-append}
+use Rattle.std.proofs.Common.{◌≡◌, ◌≢◌, ℕ, zero, suc, ◌+◌, ◌*◌, ◌<◌, ◌≤◌, Bool, true, false, cond, List, [], ◌∷◌, ◌++◌, length, map, drop, get_or, Option, Some, None, refl, sym, ap, ◌∙◌, subst, arith, length-append, ◌⊎◌, inl, inr, ⊎_elim, slice_set, eq-eqb, ne_eqb}
+use Rattle.std.specs.Prelude.{replicate}
+use Rattle.std.proofs.lemmas.List.{length-set, get_or-set_same, get_or-set_other, get_or-replicate, length-replicate, ext_get_or}
 use Rattle.std.proofs.lemmas.List.FromFn.{length-map-range_with_len, get_or-map-range_with_len}
 use Rattle.std.proofs.lemmas.Bool.{cases_lt}
-use Rattle.std.proofs.lemmas.Bool.Decides.{nat_tests}
-use Rattle.bites_spec.specs.Walks.{Among, IsNew, AllApart}
-use Rattle.bites_spec.specs.Tree.{Tree, Trees, empty, char, class, look, repetition, group, sequence, alternation, no_tree, tree_and, trees_of, groups_in, groups_in_all, greatest, names_in, captures_len, is_empty_by_form, IsCount, IsReduced, AllAreReduced}
-use Rattle.bites_spec.specs.Measure.{Size, height, both, agreed, repeated_count, static_count, groups_of, name_in, name_of, size_of, repeated_size}
-use Rattle.bites_machine.specs.Names.{filled, names_of}
+use Rattle.bites_spec.specs.Walks.{IsNew, AllApart}
+use Rattle.bites_spec.specs.Tree.{Tree, Trees, empty, char, class, look, repetition, group, sequence, alternation, no_tree, tree_and, trees_of, groups_in, groups_in_all, greatest, captures_len, is_empty_by_form, IsCount, IsReduced, AllAreReduced}
+use Rattle.bites_spec.specs.Measure.{Size, groups_of, name_in, group_name, groups_left, size_of, repeated_size}
+use Rattle.bites_machine.specs.Names.{filled}
+use Rattle.bites_spec.proofs.LeftLemmas.{number, groups_in-map}
 use Rattle.bites_machine.proofs.FaultLemmas.{greatest-append}
 use Rattle.bites_machine.proofs.LengthLemmas.{product}
-use Rattle.bites_machine.proofs.EmittedLemmas.{all_from, loop-room, exact-room, several-room, ranged_or_once-room}
+use Rattle.bites_machine.proofs.EmittedLemmas.{loop-room, exact-room, several-room, ranged_or_once-room}
 
 -- a copy at least
 positive_times : (n s : ℕ) → 0 < n → s ≤ n * s
@@ -74,25 +73,6 @@ filled-more ts i t old new all e f g =
     ap (λ ns. filled rest ns) g ∙ sym (filled-append (groups_of t) rest old)
     ∙ ap (λ (xs : Trees). filled (groups_of (sequence xs)) old) (sym e) ∙ f
 
-abbrev number : (ℕ × Option (List ℕ)) → ℕ
-number g = g.0
-
-mutual
-  groups_in-map : (t : Tree) → groups_in t ≡ map number (groups_of t)
-  groups_in-map empty = refl
-  groups_in-map (char c) = refl
-  groups_in-map (class rs) = refl
-  groups_in-map (look l) = refl
-  groups_in-map (repetition min most greedy t) = groups_in-map t
-  groups_in-map (group k name t) = ap (λ ks. k ∷ ks) (groups_in-map t)
-  groups_in-map (sequence ts) = groups_in_all-map ts
-  groups_in-map (alternation ts) = groups_in_all-map ts
-
-  groups_in_all-map : (ts : Trees) → groups_in_all ts ≡ map number (groups_of (sequence ts))
-  groups_in_all-map no_tree = refl
-  groups_in_all-map (tree_and t ts) =
-      ap₂ (λ xs ys. xs ++ ys) (groups_in-map t) (groups_in_all-map ts) ∙ sym (map-append number (groups_of t) (groups_of (sequence ts)))
-
 -- where no group has the number, its place stays as it is
 filled_past : (gs : List (ℕ × Option (List ℕ))) (ns : List (Option (List ℕ))) (i : ℕ) → IsNew i (map number gs) → get_or (filled gs ns) i None ≡ get_or ns i None
 filled_past [] ns i h = refl
@@ -119,14 +99,14 @@ filled_at (g ∷ gs) ns i h apart e =
     (eq_cases g.0 i)
 
 -- The names that are written are those of the tree.
-pub filled-names_of : (t : Tree) → AllApart (groups_in t) → filled (groups_of t) (replicate (captures_len t) None) ≡ names_of t
-filled-names_of t apart =
+pub filled-groups_left : (t : Tree) → AllApart (groups_in t) → filled (groups_of t) (replicate (captures_len t) None) ≡ groups_left t
+filled-groups_left t apart =
     let n = captures_len t in
     let none = replicate {A = Option (List ℕ)} n None in
     let len = length-filled (groups_of t) none ∙ length-replicate n None in
-    let len' = length-map-range_with_len (name_of t) 0 n in
-    ext_get_or None (filled (groups_of t) none) (names_of t) (len ∙ sym len')
+    let len' = length-map-range_with_len (group_name t) 0 n in
+    ext_get_or None (filled (groups_of t) none) (groups_left t) (len ∙ sym len')
     (λ i below.
     filled_at (groups_of t) none i (omega (arith, len, length-filled (groups_of t) none)) (subst (λ ks. AllApart ks) (groups_in-map t) apart)
     (get_or-replicate n i None None (omega (arith, len)))
-    ∙ sym (get_or-map-range_with_len (name_of t) 0 n i i None (omega (arith, len)) (omega arith)))
+    ∙ sym (get_or-map-range_with_len (group_name t) 0 n i i None (omega (arith, len)) (omega arith)))

@@ -7,7 +7,7 @@ use Rattle.bites_spec.specs.Tree.{Tree, Trees, empty, char, class, look, repetit
 use Rattle.bites_spec.specs.Measure.{Size, repeated_size, size_of, copies}
 use Rattle.bites_spec.specs.Program as program
 use Rattle.bites_spec.specs.Program.{State}
-use Rattle.bites_machine.specs.Emitted.{Emitted, Emitter, pushed, in_front, again, choice, options, bounded, around, loop, star, optional_loop, counted, repeated, class_state, grouped, writing, Branches, emit, emit_all, emit_each}
+use Rattle.bites_machine.specs.Emitted.{Emitted, Emitter, pushed, in_front, again, choice, options, bounded, around, loop, star, optional_loop, copies_up_to, repeated, class_state, grouped, writing, Branches, emit, emit_all, emit_each}
 use Rattle.bites_machine.proofs.EmitLemmas.{length_pushed}
 
 -- so many more states
@@ -117,7 +117,7 @@ module _ (body : Emitter) (s : ℕ) (adds : (to : ℕ) (ss : List State) → Gro
       }
 
   Grows-ranged : (n more most : ℕ) (greedy is_empty : Bool) (to : ℕ) (ss : List State) (b : Size) → b.states ≡ s → most ≡ suc n + more →
-      Grows ss (counted n more greedy body to ss).states (repeated_size (suc n) (Some most) is_empty b).states
+      Grows ss (copies_up_to n more greedy body to ss).states (repeated_size (suc n) (Some most) is_empty b).states
   Grows-ranged n zero most greedy is_empty to ss b is e =
       let f = body to ss in
       record {

@@ -2,12 +2,12 @@
 use Rattle.std.proofs.Common.{◌≡◌, Option, Some, None, IsTrue, is_none, refl, sym, subst, Result, Ok, Err, IfOk, IfSome}
 use Rattle.std.specs.Option.{ok_or}
 use Rattle.bites_text.specs.declared.error.Error.{Error}
-use Rattle.bites_machine.specs.Contents.{Contents}
+use Rattle.bites_spec.specs.Contents.{Contents}
 use Rattle.bites_spec.specs.Program.{Program, IsWellFormed}
-use Rattle.bites_spec.specs.Faults.{Fault, first_fault}
+use Rattle.bites_spec.specs.ProgramFaults.{ProgramFault, first_fault}
 use Rattle.bites_spec.proofs.FaultLemmas.{first_fault-IsWellFormed}
 
-none_is : (o : Option Fault) → IsTrue (is_none o) → o ≡ None
+none_is : (o : Option ProgramFault) → IsTrue (is_none o) → o ≡ None
 none_is None h = refl
 none_is (Some f) h = cc
 

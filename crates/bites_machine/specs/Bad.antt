@@ -1,19 +1,19 @@
 -- The faults of states that are to be a program.
 use Rattle.std.specs.Prelude.{◌≡◌, ◌≤◌, ◌^◌, ℕ, List, Option, Some, None, codes}
 use Rattle.bites_spec.specs.Program.{Program, targets}
-use Rattle.bites_spec.specs.Faults as faults
-use Rattle.bites_spec.specs.Faults.{Fault, first_fault}
+use Rattle.bites_spec.specs.ProgramFaults as faults
+use Rattle.bites_spec.specs.ProgramFaults.{ProgramFault, first_fault}
 use Rattle.bites_machine.specs.declared.fault.BadProgram.{BadProgram}
 use Rattle.bites_machine.specs.declared.fault.BadProgram.TheVariants.{TooMany, BadSlot, BadStart, BadTarget, BadRanges, Memory}
 
 -- this is the fault that was found
-abbrev pub Finds : Option Fault → BadProgram → Type 0
-Finds fault TooMany = fault ≡ Some faults.too_many
-Finds fault BadSlot = fault ≡ Some faults.bad_slot
-Finds fault BadStart = fault ≡ Some faults.bad_start
-Finds fault BadTarget = fault ≡ Some faults.bad_target
-Finds fault BadRanges = fault ≡ Some faults.bad_ranges
-Finds fault Memory = ⊥
+abbrev pub IsFault : Option ProgramFault → BadProgram → Type 0
+IsFault fault TooMany = fault ≡ Some faults.too_many
+IsFault fault BadSlot = fault ≡ Some faults.bad_slot
+IsFault fault BadStart = fault ≡ Some faults.bad_start
+IsFault fault BadTarget = fault ≡ Some faults.bad_target
+IsFault fault BadRanges = fault ≡ Some faults.bad_ranges
+IsFault fault Memory = ⊥
 
 -- when an error is answered: the first fault, or Memory where there is none and the edges are too many for a usize
 abbrev pub IsBad : Program → BadProgram → Type 0
@@ -25,10 +25,10 @@ IsBad p BadRanges = first_fault p ≡ Some faults.bad_ranges
 IsBad p Memory = (first_fault p ≡ None) × (2 ^ 64 ≤ targets p)
 
 -- the text of a fault
-abbrev pub text_of : BadProgram → List ℕ
-text_of TooMany = codes "too many states"
-text_of BadSlot = codes "a slot is out of range"
-text_of BadStart = codes "the start is no state"
-text_of BadTarget = codes "a target is no state"
-text_of BadRanges = codes "ranges are out of order"
-text_of Memory = codes "out of memory"
+abbrev pub fault_text : BadProgram → List ℕ
+fault_text TooMany = codes "too many states"
+fault_text BadSlot = codes "a slot is out of range"
+fault_text BadStart = codes "the start is no state"
+fault_text BadTarget = codes "a target is no state"
+fault_text BadRanges = codes "ranges are out of order"
+fault_text Memory = codes "out of memory"

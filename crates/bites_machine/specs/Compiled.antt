@@ -1,31 +1,41 @@
 -- The program of a tree, and when there is none.
-use Rattle.std.specs.Prelude.{ℕ, ◌*◌, ◌<◌, ◌≤◌, List, [], ◌∷◌}
-use Rattle.bites_spec.specs.Tree.{Tree, captures_len, groups_in, greatest}
-use Rattle.bites_spec.specs.Measure.{weight, states, TreeLimits}
+use Rattle.std.specs.Prelude.{ℕ, ◌*◌, ◌<◌, ◌≤◌, List, [], ◌∷◌, length, Option}
+use Rattle.bites_spec.specs.Tree.{Tree}
+use Rattle.bites_spec.specs.Measure.{weight_with, states, TreeLimitsWith}
 use Rattle.bites_spec.specs.Program as program
 use Rattle.bites_spec.specs.Program.{Program}
 use Rattle.bites_text.specs.declared.error.Error.{Error}
 use Rattle.bites_text.specs.declared.error.Error.TheVariants.{TooBig, TooManyStates, TooManySlots, Memory}
-use Rattle.bites_machine.specs.Contents.{Contents}
 use Rattle.bites_machine.specs.Emitted.{Emitted, emit, grouped}
-use Rattle.bites_machine.specs.Names.{names_of, static_captures_len}
+use Rattle.bites_machine.specs.Sizes.{weight_by}
 
 -- the match, and group 0 around the tree in front of it
 abbrev pub whole : Tree → Emitted
 whole t = grouped 0 (emit t) 0 (program.match ∷ [])
 
--- the program of a tree
-abbrev pub compiled : Tree → Program
-compiled t = record { states = (whole t).states; start = (whole t).from; slots = 2 * captures_len t }
-
--- what is in the program of a tree, which was read from this pattern
-abbrev pub contents : Tree → List ℕ → Contents
-contents t pattern = record { program = compiled t; pattern = pattern; names = names_of t; static_captures_len = static_captures_len t }
+-- the program of a tree with so many groups
+abbrev pub program_of_tree : ℕ → Tree → Program
+program_of_tree n t = record { states = (whole t).states; start = (whole t).from; slots = 2 * n }
 
 -- when an error is answered: the first limit that is exceeded, or want of memory where none is
-abbrev pub Refuses : ℕ → Tree → Error → Type 0
-Refuses size_limit t TooBig = size_limit < weight t
-Refuses size_limit t TooManyStates = (weight t ≤ size_limit) × (4294967295 < states t)
-Refuses size_limit t TooManySlots = (weight t ≤ size_limit) × (states t ≤ 4294967295) × (2147483648 ≤ greatest (groups_in t))
-Refuses size_limit t Memory = TreeLimits size_limit t
-Refuses size_limit t _ = ⊥
+abbrev pub RefusesTree : ℕ → List (Option (List ℕ)) → Tree → Error → Type 0
+RefusesTree size_limit groups t TooBig = size_limit < weight_with groups t
+RefusesTree size_limit groups t TooManyStates = (weight_with groups t ≤ size_limit) × (4294967295 < states t)
+RefusesTree size_limit groups t TooManySlots =
+    (weight_with groups t ≤ size_limit) × (states t ≤ 4294967295) × (2147483648 < length groups)
+RefusesTree size_limit groups t Memory = TreeLimitsWith size_limit groups t
+RefusesTree size_limit groups t _ = ⊥
+
+-- the limits with so many groups that weigh so much
+pub record LimitsBy (size_limit captures weight : ℕ) (t : Tree) : Type 0 where
+  pub light : weight_by weight t ≤ size_limit
+  pub few_states : states t ≤ 4294967295
+  pub few_groups : captures ≤ 2147483648
+
+-- when one of them is exceeded
+abbrev pub RefusesBy : ℕ → ℕ → ℕ → Tree → Error → Type 0
+RefusesBy size_limit captures weight t TooBig = size_limit < weight_by weight t
+RefusesBy size_limit captures weight t TooManyStates = (weight_by weight t ≤ size_limit) × (4294967295 < states t)
+RefusesBy size_limit captures weight t TooManySlots =
+    (weight_by weight t ≤ size_limit) × (states t ≤ 4294967295) × (2147483648 < captures)
+RefusesBy size_limit captures weight t _ = ⊥

@@ -71,9 +71,9 @@ optional_loop greedy body to states =
     chosen greedy (length states) (in_front (loop greedy body) (pushed states (program.goto to None)))
 
 -- n copies, one more, and up to so many more
-abbrev pub counted : ℕ → ℕ → Bool → Emitter → Emitter
-counted n zero greedy body to states = in_front (again n body) (body to states)
-counted n (suc more) greedy body to states = in_front (again (suc n) body) (bounded (suc more) greedy body to states)
+abbrev pub copies_up_to : ℕ → ℕ → Bool → Emitter → Emitter
+copies_up_to n zero greedy body to states = in_front (again n body) (body to states)
+copies_up_to n (suc more) greedy body to states = in_front (again (suc n) body) (bounded (suc more) greedy body to states)
 
 -- min, most, whether more is preferred, and whether the body is empty by its form
 abbrev pub repeated : ℕ → Option ℕ → Bool → Bool → Emitter → Emitter
@@ -84,7 +84,7 @@ repeated zero (Some zero) greedy is_empty body to states = pushed states (progra
 repeated zero (Some (suc zero)) greedy is_empty body to states = bounded 1 greedy body to states
 repeated zero (Some (suc (suc m))) greedy is_empty body to states =
     in_front (λ next more. pushed more (program.goto next None)) (bounded (suc (suc m)) greedy body to states)
-repeated (suc n) (Some most) greedy is_empty body to states = counted n (most - suc n) greedy body to states
+repeated (suc n) (Some most) greedy is_empty body to states = copies_up_to n (most - suc n) greedy body to states
 
 abbrev pub class_state : List (ℕ × ℕ) → ℕ → State
 class_state [] to = program.fail

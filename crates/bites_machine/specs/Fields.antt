@@ -1,9 +1,10 @@
 -- The contents of a program by its fields.
 use Rattle.std.specs.Prelude.{◌≡◌, IsTrue, is_none}
 use Rattle.bites_spec.specs.Program.{targets}
-use Rattle.bites_spec.specs.Faults.{first_fault}
+use Rattle.bites_spec.specs.ProgramFaults.{first_fault}
 use Rattle.bites_machine.specs.States.{program_of}
-use Rattle.bites_machine.specs.Contents.{Contents, contents_by}
+use Rattle.bites_spec.specs.Contents.{Contents}
+use Rattle.bites_machine.specs.Contents.{contents_by}
 use Rattle.bites_machine.specs.declared.program.Program.TheInside.{Inside}
 
 abbrev pub contents_of : Inside → Contents

@@ -1,3 +1,4 @@
+pub mod Bits
 pub mod States
 pub mod Contents
 pub mod Fields
@@ -9,3 +10,19 @@ pub mod Sizes
 pub mod Names
 pub mod Compiled
 pub mod Bad
+pub mod Walked
+pub mod Lending
+pub mod Rows
+pub mod Marks
+pub mod Stack
+pub mod Threads
+pub mod Interpolate
+pub mod Machine
+pub mod Used
+pub mod Desk
+pub mod Framed
+pub mod Visits
+pub mod Looks
+pub mod Sweep
+pub mod Room
+pub mod Cuts

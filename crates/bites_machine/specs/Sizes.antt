@@ -1,6 +1,7 @@
 -- Sizes in numbers of 64 bits.
-use Rattle.std.specs.Prelude.{ℕ, ◌+◌, min}
-use Rattle.bites_spec.specs.Measure.{Size, size}
+use Rattle.std.specs.Prelude.{ℕ, ◌+◌, ◌*◌, min}
+use Rattle.bites_spec.specs.Tree.{Tree}
+use Rattle.bites_spec.specs.Measure.{Size, size, size_of, states}
 
 -- the number, or the greatest of 64 bits where it is above that
 abbrev pub held : ℕ → ℕ
@@ -13,3 +14,7 @@ held_size s = size (held s.states) (held s.targets) (held s.ranges)
 -- two sizes together
 abbrev pub both_sizes : Size → Size → Size
 both_sizes s t = size (s.states + t.states) (s.targets + t.targets) (s.ranges + t.ranges)
+
+-- the weight of a tree with groups that weigh so much
+abbrev pub weight_by : ℕ → Tree → ℕ
+weight_by groups t = 32 * states t + 4 * (size_of t).targets + 8 * (size_of t).ranges + groups

@@ -8,8 +8,8 @@ use Rattle.bites_machine.specs.declared.state.State.TheVariants.{Char, Ranges, S
 -- what a state stands for
 abbrev pub state_of : State → program.State
 state_of (Char target ch) = program.char target ch
-state_of (Ranges target ranges) = program.ranges target ranges.items
-state_of (Splits targets reverse) = program.splits targets.items reverse
+state_of (Ranges target ranges) = program.ranges target ranges
+state_of (Splits targets reverse) = program.splits targets reverse
 state_of (Goto target look) = program.goto target (option_map look_of look)
 state_of (Capture target slot) = program.capture target slot
 state_of Fail = program.fail

@@ -1,34 +1,35 @@
 //! From the tree of a pattern to its program.
 
-ghost use Rattle.std.specs.Prelude.{◌≡◌, ◌+◌, ◌*◌, ◌<◌, ◌≤◌, ◌^◌, IfOk, IfErr, OnOk, replicate, map, None};
+ghost use Rattle.std.specs.Prelude.{◌≡◌, ◌+◌, ◌*◌, ◌<◌, ◌≤◌, ◌^◌, ℕ, IfOk, IfErr, OnOk, length, sum_by};
 ghost use Rattle.std.specs.Option.{SomeIff};
 ghost use Rattle.bites_spec.specs.Tree.{groups_in, greatest, captures_len, IsReduced};
-ghost use Rattle.bites_spec.specs.Measure.{weight, states, size_of, TreeLimits};
+ghost use Rattle.bites_spec.specs.Measure.{states, size_of, group_weight, groups_left, static_captures_len, HasItsGroups, TreeLimits, TreeLimitsWith};
 ghost use Rattle.bites_spec.specs.Program.{IsWellFormed};
 ghost use Rattle.bites_spec.specs.Built.{Built, IsCompilable};
 ghost use Rattle.bites_machine.specs.Classes.{HasClasses};
-ghost use Rattle.bites_machine.specs.Sizes.{held_size};
-ghost use Rattle.bites_machine.specs.Names.{bytes_of, names_of};
+ghost use Rattle.bites_machine.specs.Sizes.{held, held_size, weight_by};
+ghost use Rattle.bites_machine.specs.Names.{bytes_of};
 ghost use Rattle.bites_machine.specs.States.{states_of, program_of};
-ghost use Rattle.bites_machine.specs.Compiled.{compiled, contents, Refuses};
+ghost use Rattle.bites_machine.specs.Compiled.{program_of_tree, LimitsBy, RefusesTree, RefusesBy};
 
 use crate::emit::States;
-use crate::groups::{names_weight, no_names, static_captures_len, write_names};
+use crate::groups::{names_left, names_of, static_captures_len, weight_left, weight_of_groups};
 use crate::program::Program;
 use crate::size::{Size, size_of};
 use crate::state::State;
+use bites_syntax::groups::Groups;
 use bites_syntax::measure::captures_len;
 use bites_syntax::tree::Tree;
 use bites_text::error::Error;
 use std::alloc::{AllocError, Global};
 
-/// The program of a tree that was read from this pattern.
+/// The program of a tree that was read from this pattern, with the groups that are left in the tree.
 ///
 /// `size_limit` bounds the weight of the program: 32 for each state, 4 for each target of a split,
-/// 8 for each range, 16 for each group with group 0, and for each name its bytes and 4.
-/// A tree that is too heavy is refused with `TooBig` before any state is made, then one with more
-/// than 4294967295 states with `TooManyStates`, then one with a group of a number above 2147483647
-/// with `TooManySlots`. Any other refusal is `Memory`.
+/// 8 for each range, 16 for each number from 0 to the greatest of a group, and for each name its bytes
+/// and 4. A tree that is too heavy is refused with `TooBig` before any state is made, then one with
+/// more than 4294967295 states with `TooManyStates`, then one with a group of a number above
+/// 2147483647 with `TooManySlots`. Any other refusal is `Memory`.
 pub fn compile(
     alloc: Global,
     tree: &Tree,
@@ -36,38 +37,85 @@ pub fn compile(
     size_limit: usize,
 ) -> Result<Program, Error>
     requires { IsCompilable tree.now }
-    ensures made { IfOk result (λ p. p ≡ contents tree.now pattern.now) }
+    ensures pattern { IfOk result (λ p. p.pattern ≡ pattern.now) }
+    ensures names { IfOk result (λ p. p.names ≡ groups_left tree.now) }
+    ensures slots { IfOk result (λ p. p.program.slots ≡ 2 * captures_len tree.now) }
+    ensures static_len { IfOk result
+        (λ p. p.static_captures_len ≡ static_captures_len tree.now) }
     ensures built { IfOk result (λ p. Built tree.now p.program) }
     ensures well_formed { IfOk result (λ p. IsWellFormed p.program) }
     ensures limits { OnOk result (TreeLimits size_limit tree.now) }
-    ensures refused { IfErr result (Refuses size_limit tree.now) }
+    ensures refused { IfErr result (RefusesTree size_limit (groups_left tree.now) tree.now) }
 {
-    let captures = within_limits(tree, size_limit)?;
-    let (states, start) = whole_states(alloc, tree)?;
-    let names = names_of_groups(alloc, tree, captures)?;
-    let pattern = String::from_str(alloc, pattern)?;
-    Program::new(
-        states,
-        start,
-        2 * captures,
-        pattern,
-        names,
-        static_captures_len(tree),
-    )
-    .ok_or(Error::Memory)
+    let captures = captures_len(tree);
+    left_within_limits(tree, captures, size_limit)?;
+    let names = names_left(alloc, tree, captures)?;
+    with_names(alloc, tree, names, pattern)
 }
 
-/// Asks the limits, the weight first, and answers the number of groups with group 0.
-fn within_limits(tree: &Tree, size_limit: usize) -> Result<usize, Error>
-    requires { IsReduced tree.now }
-    ensures captures { IfOk result (λ captures. captures ≡ captures_len tree.now) }
+/// The program of a tree that was read from this pattern, with all of these groups, which may be more than
+/// those that are left in the tree. They are weighed in the place of those; all else is as with [`compile`].
+pub fn compile_with_groups(
+    alloc: Global,
+    tree: &Tree,
+    groups: &Groups,
+    pattern: &str,
+    size_limit: usize,
+) -> Result<Program, Error>
+    requires compilable { IsCompilable tree.now }
+    requires groups { HasItsGroups groups.now tree.now }
+    ensures pattern { IfOk result (λ p. p.pattern ≡ pattern.now) }
+    ensures names { IfOk result (λ p. p.names ≡ groups.now) }
+    ensures slots { IfOk result (λ p. p.program.slots ≡ 2 * length groups.now) }
+    ensures static_len { IfOk result
+        (λ p. p.static_captures_len ≡ static_captures_len tree.now) }
+    ensures built { IfOk result (λ p. Built tree.now p.program) }
+    ensures well_formed { IfOk result (λ p. IsWellFormed p.program) }
+    ensures limits { OnOk result (TreeLimitsWith size_limit groups.now tree.now) }
+    ensures refused { IfErr result (RefusesTree size_limit groups.now tree.now) }
+{
+    groups_within_limits(tree, groups, size_limit)?;
+    let names = names_of(alloc, groups)?;
+    with_names(alloc, tree, names, pattern)
+}
+
+/// Asks the limits with the groups that are left in the tree.
+fn left_within_limits(tree: &Tree, captures: usize, size_limit: usize) -> Result<(), Error>
+    requires compilable { IsCompilable tree.now }
+    requires captures { captures ≡ captures_len tree.now }
     ensures limits { OnOk result (TreeLimits size_limit tree.now) }
+    ensures classes { OnOk result (HasClasses tree.now) }
+    ensures refused { IfErr result (RefusesTree size_limit (groups_left tree.now) tree.now) }
+{
+    within_limits(tree, captures, weight_left(tree, captures), size_limit)
+}
+
+/// Asks the limits with these groups.
+fn groups_within_limits(tree: &Tree, groups: &Groups, size_limit: usize) -> Result<(), Error>
+    requires compilable { IsCompilable tree.now }
+    requires groups { HasItsGroups groups.now tree.now }
+    ensures room { captures_len tree.now ≤ length groups.now }
+    ensures limits { OnOk result (TreeLimitsWith size_limit groups.now tree.now) }
+    ensures classes { OnOk result (HasClasses tree.now) }
+    ensures refused { IfErr result (RefusesTree size_limit groups.now tree.now) }
+{
+    within_limits(tree, groups.len(), weight_of_groups(groups), size_limit)
+}
+
+/// Asks the limits, the weight first, with so many groups that weigh so much.
+fn within_limits(
+    tree: &Tree,
+    captures: usize,
+    weight_of_groups: usize,
+    size_limit: usize,
+) -> Result<(), Error>
+    requires { IsReduced tree.now }
+    ensures limits { OnOk result (LimitsBy size_limit captures weight_of_groups tree.now) }
     ensures classes { HasClasses tree.now }
-    ensures refused { IfErr result (Refuses size_limit tree.now) }
+    ensures refused { IfErr result (RefusesBy size_limit captures weight_of_groups tree.now) }
 {
     let size = size_of(tree);
-    let captures = captures_len(tree);
-    match weight_of(tree, size, captures) {
+    match weight_of(tree, size, weight_of_groups) {
         Some(weight) if weight <= size_limit => {}
         _ => return Err(Error::TooBig),
     }
@@ -77,14 +125,14 @@ fn within_limits(tree: &Tree, size_limit: usize) -> Result<usize, Error>
     if captures > 2147483648 {
         return Err(Error::TooManySlots);
     }
-    Ok(captures)
+    Ok(())
 }
 
-/// The weight of the tree's program, if a `usize` can hold it.
-fn weight_of(tree: &Tree, size: Size, captures: usize) -> Option<usize>
-    requires size { size ≡ held_size (size_of tree.now) }
-    requires captures { captures ≡ captures_len tree.now }
-    ensures { SomeIff result (weight tree.now < 2 ^ 64) (weight tree.now) }
+/// The weight of the tree's program with groups that weigh so much, if a `usize` can hold it.
+fn weight_of(tree: &Tree, size: Size, weight_of_groups: usize) -> Option<usize>
+    requires { size ≡ held_size (size_of tree.now) }
+    ensures { SomeIff result (weight_by weight_of_groups tree.now < 2 ^ 64)
+        (weight_by weight_of_groups tree.now) }
 {
     let states = size.states().saturating_add(3).checked_mul(32)?;
     let targets = size.targets().checked_mul(4)?;
@@ -92,8 +140,35 @@ fn weight_of(tree: &Tree, size: Size, captures: usize) -> Option<usize>
     states
         .checked_add(targets)?
         .checked_add(ranges)?
-        .checked_add(captures.checked_mul(16)?)?
-        .checked_add(names_weight(tree))
+        .checked_add(weight_of_groups)
+}
+
+/// The program of a tree that is within the limits, with two slots for each group of these names.
+fn with_names(
+    alloc: Global,
+    tree: &Tree,
+    names: Vec<Option<String>>,
+    pattern: &str,
+) -> Result<Program, Error>
+    requires compilable { IsCompilable tree.now }
+    requires classes { HasClasses tree.now }
+    requires few_states { states tree.now ≤ 4294967295 }
+    requires few_groups { length names.items ≤ 2147483648 }
+    requires room { captures_len tree.now ≤ length names.items }
+    ensures pattern { IfOk result (λ p. p.pattern ≡ pattern.now) }
+    ensures names { IfOk result (λ p. p.names ≡ bytes_of names.items) }
+    ensures slots { IfOk result (λ p. p.program.slots ≡ 2 * length names.items) }
+    ensures static_len { IfOk result
+        (λ p. p.static_captures_len ≡ static_captures_len tree.now) }
+    ensures built { IfOk result (λ p. Built tree.now p.program) }
+    ensures well_formed { IfOk result (λ p. IsWellFormed p.program) }
+    ensures refused { IfErr result (λ e. e ≡ Error.Memory) }
+{
+    let (states, start) = whole_states(alloc, tree)?;
+    let slots = 2 * names.len();
+    let pattern = String::from_str(alloc, pattern)?;
+    let at_least = static_captures_len(tree);
+    Program::new(alloc, states, start, slots, pattern, names, at_least).ok_or(Error::Memory)
 }
 
 /// The states of group 0 around the tree and of the match, and the number of the first.
@@ -101,26 +176,11 @@ fn whole_states(alloc: Global, tree: &Tree) -> Result<(Vec<State>, u32), AllocEr
     requires reduced { IsReduced tree.now }
     requires few_states { states tree.now ≤ 4294967295 }
     requires few_groups { greatest (groups_in tree.now) < 2147483648 }
-    ensures { IfOk result (λ made. program_of made.0.items made.1 (2 * captures_len tree.now)
-        ≡ compiled tree.now) }
+    ensures { IfOk result (λ made. (n : ℕ) → program_of made.0.items made.1 (2 * n)
+        ≡ program_of_tree n tree.now) }
 {
     let mut states = States::new(alloc);
     let last = states.push(State::Match)?;
     let start = states.group(0, tree, last)?;
     Ok((states.into_vec(), start))
-}
-
-/// The name of each group, from group 0 on.
-fn names_of_groups(
-    alloc: Global,
-    tree: &Tree,
-    captures: usize,
-) -> Result<Vec<Option<String>>, AllocError>
-    requires tree { IsCompilable tree.now }
-    requires captures { captures ≡ captures_len tree.now }
-    ensures { IfOk result (λ names. bytes_of names.items ≡ names_of tree.now) }
-{
-    let mut names = no_names(alloc, captures)?;
-    write_names(alloc, tree, &mut names)?;
-    Ok(names)
 }

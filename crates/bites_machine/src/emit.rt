@@ -81,7 +81,10 @@ impl States {
             return self.push(State::Fail);
         }
         let ranges = Vec::from_slice(self.alloc, class.ranges())?;
-        self.push(State::Ranges { target: to, ranges })
+        self.push(State::Ranges {
+            target: to,
+            ranges: ranges.into(),
+        })
     }
 
     /// Writes a choice between two states, the first preferred if it is greedy, else the second.
@@ -99,7 +102,7 @@ impl States {
         ensures { IfOk result (λ state. state_of state ≡ choice greedy round leave) }
     {
         Ok(State::Splits {
-            targets: vec![in self.alloc; round, leave]?,
+            targets: vec![in self.alloc; round, leave]?.into(),
             reverse: !greedy,
         })
     }
@@ -336,7 +339,7 @@ impl States {
             rounds.push(self.emit(part, out)?)?;
         }
         self.push(State::Splits {
-            targets: rounds,
+            targets: rounds.into(),
             reverse: false,
         })
     }

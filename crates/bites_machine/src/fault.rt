@@ -4,9 +4,9 @@ ghost use Rattle.std.specs.Prelude.{◌≡◌, MatchOption, IfSome, IfNone, nat_
 ghost use Rattle.std.specs.List.{list_all};
 ghost use Rattle.bites_spec.specs.Walks.{first_among};
 ghost use Rattle.bites_spec.specs.Program.{targets_of};
-ghost use Rattle.bites_spec.specs.Faults as faults;
+ghost use Rattle.bites_spec.specs.ProgramFaults as faults;
 ghost use Rattle.bites_machine.specs.States.{state_of, states_of};
-ghost use Rattle.bites_machine.specs.Bad.{Finds, text_of};
+ghost use Rattle.bites_machine.specs.Bad.{IsFault, fault_text};
 
 use crate::state::State;
 use std::fmt;
@@ -31,7 +31,7 @@ pub enum BadProgram {
 impl BadProgram {
     /// The message: one line of ASCII with no line end.
     pub const fn text(&self) -> &'static str
-        ensures { result.now ≡ text_of self.now }
+        ensures { result.now ≡ fault_text self.now }
     {
         match self {
             BadProgram::TooMany => "too many states",
@@ -45,7 +45,7 @@ impl BadProgram {
 }
 
 impl fmt::Display for BadProgram {
-    ghost output = { λ fault. Some (text_of fault) };
+    ghost output = { λ fault. Some (fault_text fault) };
 
     fn fmt<W: fmt::Write>(&self, f: &mut fmt::Formatter<W>) -> fmt::Result {
         f.write_str(self.text())
@@ -57,7 +57,7 @@ impl std::error::Error for BadProgram {}
 /// The first fault of a state among so many states, in a program of so many slots.
 pub fn fault_of(state: &State, len: usize, slots: u32) -> Option<BadProgram>
     ensures { MatchOption result (faults.fault_of len slots (state_of state.now) ≡ None)
-        (Finds (faults.fault_of len slots (state_of state.now))) }
+        (IsFault (faults.fault_of len slots (state_of state.now))) }
 {
     if !leads_below(state, len) {
         Some(BadProgram::BadTarget)
@@ -76,7 +76,7 @@ pub fn first_fault_of(states: &[State], slots: u32) -> Option<BadProgram>
         (first_among (faults.fault_of (length states.now) slots) (states_of states.now)
         ≡ None) }
     ensures some { IfSome result
-        (Finds (first_among (faults.fault_of (length states.now) slots) (states_of states.now))) }
+        (IsFault (first_among (faults.fault_of (length states.now) slots) (states_of states.now))) }
 {
     for state in states {
         if let Some(fault) = fault_of(state, states.len(), slots) {
@@ -94,7 +94,7 @@ fn leads_below(state: &State, len: usize) -> bool
         | State::Ranges { target, .. }
         | State::Goto { target, .. }
         | State::Capture { target, .. } => (*target as usize) < len,
-        State::Splits { targets, .. } => are_below(targets, len),
+        State::Splits { targets, .. } => are_below(targets.as_slice(), len),
         State::Fail | State::Match => true,
     }
 }
@@ -109,7 +109,7 @@ fn has_ranges(state: &State) -> bool
     ensures { result ≡ faults.has_ranges (state_of state.now) }
 {
     match state {
-        State::Ranges { ranges, .. } => are_ranges(ranges),
+        State::Ranges { ranges, .. } => are_ranges(ranges.as_slice()),
         _ => true,
     }
 }

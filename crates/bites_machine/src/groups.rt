@@ -1,18 +1,21 @@
 //! What a program knows of the groups of its tree.
 
 ghost use Rattle.std.specs.Prelude.{◌≡◌, ◌+◌, ◌<◌, ◌≤◌, ◌==◌, length, replicate, None, IfOk, OnOk, sum_by, option_map, string_bytes};
-ghost use Rattle.bites_spec.specs.Tree.{trees_of, sequence, groups_in, groups_in_all, greatest, names_in, names_in_all, IsReduced};
-ghost use Rattle.bites_spec.specs.Measure.{name_weight, groups_of, size_of};
+ghost use Rattle.bites_spec.specs.Tree.{trees_of, sequence, groups_in, groups_in_all, greatest, captures_len, names_in, names_in_all, IsReduced};
+ghost use Rattle.bites_spec.specs.Measure.{name_weight, group_weight, groups_of, groups_left, size_of, static_captures_len};
+ghost use Rattle.bites_spec.specs.Walks.{AllApart};
+ghost use Rattle.std.specs.Option.{option_copied};
 ghost use Rattle.bites_machine.specs.Sizes.{held};
-ghost use Rattle.bites_machine.specs.Names.{bytes_of, filled, static_captures_len};
+ghost use Rattle.bites_machine.specs.Names.{bytes_of, filled};
 
+use bites_syntax::groups::Groups;
 use bites_syntax::measure::static_count;
 use bites_syntax::tree::{Kind, Name, Tree};
 use std::alloc::{AllocError, Global};
 
 /// What the names of the groups weigh. A weight that is too large for a `usize` is held as the greatest.
 #[cycle(names_weight)]
-pub fn names_weight(tree: &Tree) -> usize
+fn names_weight(tree: &Tree) -> usize
     ensures { result ≡ held (sum_by name_weight (names_in tree.now)) }
 {
     match tree.kind() {
@@ -42,7 +45,13 @@ fn names_weight_of_all(parts: &[Tree]) -> usize
 fn weight_of_name(name: &Name) -> usize
     ensures { result ≡ held (name_weight name.now) }
 {
-    name.as_str().len().saturating_add(4)
+    weight_of_text(name.as_str())
+}
+
+fn weight_of_text(text: &str) -> usize
+    ensures { result ≡ held (name_weight text.now) }
+{
+    text.len().saturating_add(4)
 }
 
 /// How many groups take part in every match, with group 0, if the form of the tree says so.
@@ -56,7 +65,7 @@ pub fn static_captures_len(tree: &Tree) -> Option<usize>
 
 /// Writes the name of each group of the tree to its place.
 #[cycle(write_names)]
-pub fn write_names(
+fn write_names(
     alloc: Global,
     tree: &Tree,
     names: &mut Vec<Option<String>>,
@@ -102,7 +111,7 @@ fn copy_of_name(alloc: Global, name: &Option<Name>) -> Result<Option<String>, Al
 }
 
 /// So many groups without a name.
-pub fn no_names(alloc: Global, count: usize) -> Result<Vec<Option<String>>, AllocError>
+fn no_names(alloc: Global, count: usize) -> Result<Vec<Option<String>>, AllocError>
     ensures { IfOk result (λ names. bytes_of names.items ≡ replicate count None) }
 {
     let mut names = Vec::new(alloc);
@@ -110,4 +119,70 @@ pub fn no_names(alloc: Global, count: usize) -> Result<Vec<Option<String>>, Allo
         names.push(None)?;
     }
     Ok(names)
+}
+
+/// The name of each group that is left in the tree, from group 0 on.
+pub fn names_left(
+    alloc: Global,
+    tree: &Tree,
+    captures: usize,
+) -> Result<Vec<Option<String>>, AllocError>
+    requires apart { AllApart (groups_in tree.now) }
+    requires captures { captures ≡ captures_len tree.now }
+    ensures { IfOk result (λ names. bytes_of names.items ≡ groups_left tree.now) }
+{
+    let mut names = no_names(alloc, captures)?;
+    write_names(alloc, tree, &mut names)?;
+    Ok(names)
+}
+
+/// What the groups that are left in the tree weigh. A weight that is too large for a `usize` is held as the greatest.
+pub fn weight_left(tree: &Tree, captures: usize) -> usize
+    requires apart { AllApart (groups_in tree.now) }
+    requires captures { captures ≡ captures_len tree.now }
+    ensures { result ≡ held (sum_by group_weight (groups_left tree.now)) }
+{
+    captures
+        .saturating_mul(16)
+        .saturating_add(names_weight(tree))
+}
+
+fn weight_of_group(name: Option<&str>) -> usize
+    ensures { result ≡ held (group_weight (option_copied name.entry)) }
+{
+    match name {
+        Some(name) => weight_of_text(name).saturating_add(16),
+        None => 16,
+    }
+}
+
+/// What these groups weigh. A weight that is too large for a `usize` is held as the greatest.
+pub fn weight_of_groups(groups: &Groups) -> usize
+    ensures { result ≡ held (sum_by group_weight groups.now) }
+{
+    let mut all = 0usize;
+    for i in 0..groups.len() {
+        all = all.saturating_add(weight_of_group(groups.name(i)));
+    }
+    all
+}
+
+/// The name of each of these groups.
+pub fn names_of(alloc: Global, groups: &Groups) -> Result<Vec<Option<String>>, AllocError>
+    ensures { IfOk result (λ names. bytes_of names.items ≡ groups.now) }
+{
+    let mut names = Vec::new(alloc);
+    for i in 0..groups.len() {
+        names.push(copy_of_text(alloc, groups.name(i))?)?;
+    }
+    Ok(names)
+}
+
+fn copy_of_text(alloc: Global, name: Option<&str>) -> Result<Option<String>, AllocError>
+    ensures { IfOk result (λ copy. option_map string_bytes copy ≡ option_copied name.entry) }
+{
+    match name {
+        Some(name) => Ok(Some(String::from_str(alloc, name)?)),
+        None => Ok(None),
+    }
 }

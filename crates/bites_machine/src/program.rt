@@ -2,21 +2,25 @@ ghost use Rattle.std.specs.Prelude.{◌≡◌, ◌≢◌, ◌<◌, ◌≤◌, �
 ghost use Rattle.std.specs.Option.{option_copied, SomeIff};
 ghost use Rattle.bites_spec.specs.Program.{state_at, targets, IsWellFormed};
 ghost use Rattle.bites_spec.specs.Program.{targets_of};
-ghost use Rattle.bites_spec.specs.Faults.{first_fault};
+ghost use Rattle.bites_spec.specs.ProgramFaults.{first_fault};
 ghost use Rattle.bites_machine.specs.States.{state_of, states_of, program_of};
-ghost use Rattle.bites_machine.specs.Contents.{contents_by, contents_of_states};
+ghost use Rattle.bites_spec.specs.Contents.{contents_of_states};
+ghost use Rattle.bites_machine.specs.Contents.{contents_by};
 ghost use Rattle.bites_machine.specs.Bad.{IsBad};
 
-pub use crate::compiler::compile;
+pub use crate::compiler::{compile, compile_with_groups};
 pub use crate::fault::BadProgram;
 use crate::fault::first_fault_of;
-use crate::state::State;
+pub use crate::ranges::Ranges;
+pub use crate::state::State;
+pub use crate::targets::Targets;
 use std::alloc::Global;
 use std::marker::Model;
 
 /// A well-formed program, with the pattern that it was compiled from and the names of its groups.
 #[derive(Drop)]
 pub struct Program {
+    alloc: Global,
     states: Vec<State>,
     start: u32,
     slots: usize,
@@ -27,7 +31,7 @@ pub struct Program {
 }
 
 impl Model for Program {
-    ghost use Rattle.bites_machine.specs.Contents.{Contents};
+    ghost use Rattle.bites_spec.specs.Contents.{Contents};
 
     ghost Value = { Contents };
 
@@ -69,11 +73,14 @@ impl Program {
         }
         let pattern = String::new(alloc);
         let names = Vec::new(alloc);
-        Program::new(states, start, slots as usize, pattern, names, None).ok_or(BadProgram::Memory)
+        Program::new(alloc, states, start, slots as usize, pattern, names, None).ok_or(
+            BadProgram::Memory,
+        )
     }
 
     /// A program of states that have no fault. None if a `usize` cannot hold the number of edges.
     pub(crate) fn new(
+        alloc: Global,
         states: Vec<State>,
         start: u32,
         slots: usize,
@@ -88,6 +95,7 @@ impl Program {
     {
         let targets = edges(&states)?;
         Some(Program {
+            alloc,
             states,
             start,
             slots,
@@ -98,12 +106,24 @@ impl Program {
         })
     }
 
+    /// The allocator that the program was made with.
+    pub fn alloc(&self) -> Global {
+        self.alloc
+    }
+
     /// The state with this number.
     pub fn state(&self, number: u32) -> &State
         requires { number < length self.now.program.states }
         ensures { state_of result.now ≡ state_at self.now.program.states number }
     {
         &self.states[number as usize]
+    }
+
+    /// All states, in order of their numbers.
+    pub(crate) fn states(&self) -> &[State]
+        ensures { states_of result.now ≡ self.now.program.states }
+    {
+        &self.states
     }
 
     /// The number of the state where a run starts.

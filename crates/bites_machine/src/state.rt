@@ -1,36 +1,23 @@
-ghost use Rattle.std.specs.Prelude.{◌≡◌, length};
-ghost use Rattle.bites_spec.specs.Program.{targets_of};
+ghost use Rattle.std.specs.Prelude.{◌≡◌, ◌<◌, length, slice_index};
+ghost use Rattle.bites_spec.specs.Program.{targets_of, takes, HasRanges};
 
+use crate::ranges::Ranges;
+use crate::targets::Targets;
 use bites_syntax::look::Look;
 
 /// A state of a program: what it asks of the haystack, and the numbers of the states that it leads to.
 #[derive(Drop)]
 pub enum State {
     /// Takes this character.
-    Char {
-        target: u32,
-        ch: char,
-    },
+    Char { target: u32, ch: char },
     /// Takes a character of one of the ranges, whose ends belong to them.
-    Ranges {
-        target: u32,
-        ranges: Vec<(char, char)>,
-    },
+    Ranges { target: u32, ranges: Ranges },
     /// Leads to each target; the first is preferred, or the last if `reverse` is set.
-    Splits {
-        targets: Vec<u32>,
-        reverse: bool,
-    },
+    Splits { targets: Targets, reverse: bool },
     /// Leads on where the assertion holds, or always if there is none.
-    Goto {
-        target: u32,
-        look: Option<Look>,
-    },
+    Goto { target: u32, look: Option<Look> },
     /// Writes the place to a slot, and leads on.
-    Capture {
-        target: u32,
-        slot: u32,
-    },
+    Capture { target: u32, slot: u32 },
     /// Leads nowhere.
     Fail,
     /// The match is found.
@@ -51,6 +38,34 @@ impl State {
             | State::Capture { .. } => 1,
             State::Splits { targets, .. } => targets.len(),
             State::Fail | State::Match => 0,
+        }
+    }
+
+    /// The target with this number in order of preference, where 0 is the preferred one.
+    pub fn target(&self, number: usize) -> u32
+        requires { number < length (targets_of (state_of self.now)) }
+        ensures { result ≡ slice_index (targets_of (state_of self.now)) number }
+    {
+        match self {
+            State::Char { target, .. }
+            | State::Ranges { target, .. }
+            | State::Goto { target, .. }
+            | State::Capture { target, .. } => *target,
+            State::Splits { targets, reverse } => targets.in_order(*reverse, number),
+            State::Fail | State::Match => 0,
+        }
+    }
+
+    /// Whether the state takes the character.
+    #[inline]
+    pub fn takes(&self, ch: char) -> bool
+        requires { HasRanges (state_of self.now) }
+        ensures { result ≡ takes (state_of self.now) ch }
+    {
+        match self {
+            State::Char { ch: own, .. } => ch == *own,
+            State::Ranges { ranges, .. } => ranges.takes(ch),
+            _ => false,
         }
     }
 }

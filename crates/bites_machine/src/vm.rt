@@ -1,6 +1,8 @@
 //! The machine: it walks a haystack from place to place with the set of all states that a run may be in.
 
-ghost use Rattle.std.specs.Prelude.{◌≡◌, ℕ, ◌<◌, ◌≤◌, ◌↔◌, [], length, IsTrue, IsFalse, IfOk};
+ghost use Rattle.bites_spec.specs.Counts.{fit_of, IsBounded, VisitedBy};
+ghost use Rattle.bites_spec.specs.Run.{Run, Answered, LeastEnd, first_run, longest_run};
+ghost use Rattle.std.specs.Prelude.{◌⊎◌, Option, true, false, ◌≡◌, ℕ, ◌<◌, ◌≤◌, ◌↔◌, [], length, IsTrue, IsFalse, IfOk};
 ghost use Rattle.bites_spec.specs.Utf8.{piece, character};
 ghost use Rattle.bites_spec.specs.Range.{in_ranges};
 ghost use Rattle.bites_spec.specs.Walks.{Among};
@@ -9,12 +11,81 @@ ghost use Rattle.bites_machine.specs.States.{state_of};
 ghost use Rattle.bites_machine.specs.Members.{with_states};
 ghost use Rattle.bites_machine.specs.Ends.{next_character, targets_over, targets_at, EndsIn, GoesOn, HasRun, IsLeastRunEnd};
 
+mod cache;
+mod counted;
+mod marks;
+mod places;
+mod rows;
+mod stack;
+mod threads;
+mod walk;
+
 use crate::program::Program;
 use crate::set::StateSet;
 use crate::state::State;
 use bites_text::utf8::decode_lossy;
+pub use cache::Cache;
 use std::alloc::{AllocError, Global};
 use std::mem;
+
+/// Searches from `start` on: whether some run of the program begins there or behind. If so the slice has the
+/// front of the slots of the first run from the first such place, or with `earliest` of a run that ends where
+/// the first ends of all; else it is as it was. A start past the end of the haystack answers false.
+///
+/// It visits each state once at most at each place, and takes no memory.
+pub fn search(
+    program: &Program,
+    cache: &mut Cache,
+    haystack: &[u8],
+    start: usize,
+    earliest: bool,
+    slots: &mut [Option<usize>],
+) -> bool
+    requires fits { cache.old.fits ≡ fit_of program.now.program }
+    requires slots { (length slots.old ≡ 0) ⊎ (length slots.old ≡ 2)
+        ⊎ (length slots.old ≡ program.now.program.slots) }
+    ensures first { earliest ≡ false → Answered program.now.program
+        (first_run program.now.program haystack.now start) result slots.old slots.new }
+    ensures least { earliest ≡ true → (o : Option Run)
+        × LeastEnd program.now.program haystack.now start o
+        × Answered program.now.program o result slots.old slots.new }
+    ensures fits { cache.new.fits ≡ cache.old.fits }
+    ensures bounded { IsBounded program.now.program haystack.now start cache.new.walked }
+    ensures visited { VisitedBy program.now.program haystack.now start result cache.new.walked }
+{
+    let counted = counted::Counted::new(program.states());
+    let asked = places::Asked {
+        earliest,
+        longest: false,
+    };
+    cache.search(counted, program.start(), haystack, start, asked, slots)
+}
+
+/// The same for the run that ends last of all those from the first place where one begins, and of these the
+/// first.
+pub fn search_longest(
+    program: &Program,
+    cache: &mut Cache,
+    haystack: &[u8],
+    start: usize,
+    slots: &mut [Option<usize>],
+) -> bool
+    requires fits { cache.old.fits ≡ fit_of program.now.program }
+    requires slots { (length slots.old ≡ 0) ⊎ (length slots.old ≡ 2)
+        ⊎ (length slots.old ≡ program.now.program.slots) }
+    ensures longest { Answered program.now.program
+        (longest_run program.now.program haystack.now start) result slots.old slots.new }
+    ensures fits { cache.new.fits ≡ cache.old.fits }
+    ensures bounded { IsBounded program.now.program haystack.now start cache.new.walked }
+    ensures visited { VisitedBy program.now.program haystack.now start result cache.new.walked }
+{
+    let counted = counted::Counted::new(program.states());
+    let asked = places::Asked {
+        earliest: false,
+        longest: true,
+    };
+    cache.search(counted, program.start(), haystack, start, asked, slots)
+}
 
 /// The least place at which any run ends that begins at `start` or at a place behind it; `None` where
 /// no run does, or where `start` lies past the end of the haystack.
@@ -137,11 +208,11 @@ fn follow(
             }
         }
         State::Ranges { target, ranges } => {
-            if taken.is_some_and(|c| is_in_ranges(ranges, c)) {
+            if taken.is_some_and(|c| ranges.takes(c)) {
                 next.insert(*target);
             }
         }
-        State::Splits { targets, .. } => current.insert_all(targets),
+        State::Splits { targets, .. } => current.insert_all(targets.as_slice()),
         State::Goto { target, look: None } => current.insert(*target),
         State::Goto {
             target,
@@ -156,26 +227,7 @@ fn follow(
     }
 }
 
-// Whether the character lies in one of the ranges, each of which begins above the one before.
-fn is_in_ranges(ranges: &[(char, char)], c: char) -> bool
-    requires { AreRanges ranges.now }
-    ensures { result ≡ in_ranges ranges.now c }
-{
-    let mut low = 0;
-    let mut high = ranges.len();
-    while low < high {
-        let middle = low + (high - low) / 2;
-        let (first, last) = ranges[middle];
-        if last < c {
-            low = middle + 1;
-        } else if c < first {
-            high = middle;
-        } else {
-            return true;
-        }
-    }
-    false
-}
-
+#[cfg(test)]
+mod search_tests;
 #[cfg(test)]
 mod tests;

@@ -1,5 +1,3 @@
-pub mod CuttingLemmas
-pub mod DigitLemmas
 pub mod LongestLemmas
 pub mod PlaceLemmas
 pub mod ReachLemmas
@@ -7,6 +5,6 @@ pub mod ReplacedLemmas
 pub mod RowLemmas
 pub mod SeenLemmas
 pub mod SuccessiveLemmas
-pub mod SumLemmas
 pub mod VisitLemmas
 pub mod WayLemmas
+pub mod TakenLemmas

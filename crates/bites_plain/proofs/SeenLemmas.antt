@@ -53,7 +53,7 @@ starts_from (Some r) place start at_place le = omega arith
 
 module _ (p : Program) (hay : List ℕ) (end : Option ℕ) where
   abbrev plus : (Spot → Bool) → Spot → Spot → Bool
-  plus = with_spot is_same_spot (leads p hay) (matches p hay)
+  plus = with_spot is_same_spot (leads p hay) (matches p)
 
   -- one spot more was seen
   seen_push : (xs : List Spot) (s : Spot) → is_seen (xs ++ s ∷ []) ≡ plus (is_seen xs) s
@@ -143,7 +143,7 @@ module _ (p : Program) (hay : List ℕ) where
   no_run_found place none = ap (option_and_then (run_of p hay place)) none
 
   module _ (well : IsWellFormed p) where
-    on_to_match : (s : Spot) (r : List Spot) → Walk (leads p hay) (λ q. matches p hay q ≡ true) s r → Runs p hay s r (last_of s r).place
+    on_to_match : (s : Spot) (r : List Spot) → Walk (leads p hay) (λ q. matches p q ≡ true) s r → Runs p hay s r (last_of s r).place
     on_to_match s [] walk = (walk, refl)
     on_to_match s (t ∷ r) walk = (walk.0, on_to_match t r walk.1)
 
@@ -155,7 +155,7 @@ module _ (p : Program) (hay : List ℕ) where
     pub found_lies : (place : ℕ) (spots : List Spot) → place ≤ length hay → Some (at p.start place ∷ spots) ≡ first_walk p hay None (is_seen []) (at p.start place) →
         (place ≤ (last_of (at p.start place) spots).place) × ((last_of (at p.start place) spots).place ≤ length hay)
     found_lies place spots le found =
-        let h = sound is_same_spot (leads p hay) (matches p hay) same_is same_refl (match_ends p hay) (enough p hay) (is_seen []) (at p.start place) (at p.start place ∷ spots) (sym found) in
+        let h = sound is_same_spot (leads p hay) (matches p) same_is same_refl (match_ends p hay) (enough p hay) (is_seen []) (at p.start place) (at p.start place ∷ spots) (sym found) in
         let same : h.0 ≡ spots = behind (at p.start place) h.0 spots (sym h.1) in
         let runs = subst (λ (r : List Spot). Runs p hay (at p.start place) r (last_of (at p.start place) r).place) same (on_to_match (at p.start place) h.0 h.2) in (
           Runs-forward p hay (at p.start place) spots (last_of (at p.start place) spots).place runs,

@@ -1,41 +1,30 @@
--- Successive runs, gathered one by one.
-use Rattle.std.proofs.Common.{◌≡◌, ℕ, List, [], ◌∷◌, ◌++◌, Option, Some, None, refl, sym, ap, ◌∙◌, subst, append_assoc}
+-- Successive items, gathered one by one.
+use Rattle.std.proofs.Common.{◌≡◌, ℕ, List, [], ◌∷◌, ◌++◌, Option, Some, None, refl, sym, ap, ◌∙◌, append_assoc}
 use Rattle.std.proofs.lemmas.List.{append-nil}
-use Rattle.bites_spec.specs.Program.{Program}
-use Rattle.bites_spec.specs.Run.{Run, first_run}
-use Rattle.bites_spec.specs.Spans.{Follow}
-use Rattle.bites_plain.specs.Successive.{span_of_run, Answers, IsDue, AreSuccessive}
+use Rattle.bites_spec.specs.Match.{Span}
+use Rattle.bites_spec.specs.Spans.{followed, due_after, successive_after, successive, AnswersLie}
+use Rattle.bites_spec.proofs.SuccessiveLemmas.{goes_on}
 
-module _ (p : Program) (hay : List ℕ) where
-  -- the runs go on with the one that is due, if there is one, and then with what is due behind it
-  abbrev pub Continues : Option Run → List Run → Type 0
-  Continues None [] = Unit {0}
-  Continues None (r ∷ rs) = ⊥
-  Continues (Some x) [] = ⊥
-  Continues (Some x) (r ∷ rs) = (x ≡ r) × Follow span_of_run hay (Answers p hay) (IsDue p hay r.end) rs
+module _ {B : Type 0} (span_of : B → Span) (hay : List ℕ) (A : ℕ → Option B) where
+  -- the item that is due, if there is one, and all that come behind it
+  abbrev pub due_on : Option B → List B
+  due_on o = followed span_of (successive_after span_of hay A) o
 
-  pub continues_follow : (First : Option Run → Type 0) (o : Option Run) (rs : List Run) → First o → Continues o rs →
-      Follow span_of_run hay (Answers p hay) First rs
-  continues_follow First None [] due c = due
-  continues_follow First None (r ∷ rs) due c = absurd c
-  continues_follow First (Some x) [] due c = absurd c
-  continues_follow First (Some x) (r ∷ rs) due c = (subst (λ y. First (Some y)) c.0 due, c.1)
+  -- the first of all is due
+  pub starts : (o : Option B) (xs : List B) → xs ≡ [] → o ≡ A 0 → xs ++ due_on o ≡ successive span_of hay A
+  unfolding successive
+  starts o xs none is = ap (λ ys. ys ++ due_on o) none ∙ ap due_on is
 
-  -- the first of all runs is due
-  pub starts : (o : Option Run) (more : List Run) → o ≡ first_run p hay 0 → Continues o more → AreSuccessive p hay ([] ++ more)
-  starts o more is c = continues_follow (Answers p hay 0) o more is c
+  -- one item more
+  pub goes_further : AnswersLie span_of hay A → (xs new all : List B) (x : B) (due : Option B) → new ≡ xs ++ x ∷ [] →
+      due ≡ due_after span_of hay A (span_of x).end → xs ++ due_on (Some x) ≡ all → new ++ due_on due ≡ all
+  goes_further lies xs new all x due is next so_far =
+      ap (λ l. l ++ due_on due) is
+      ∙ append_assoc xs (x ∷ []) (due_on due)
+      ∙ ap (λ l. xs ++ x ∷ l) (ap due_on next ∙ sym (goes_on span_of hay A lies (span_of x).end))
+      ∙ so_far
 
-  -- one run more
-  pub goes_on : (runs new : List Run) (r : Run) (due : Option Run) →
-      ((more : List Run) → Continues (Some r) more → AreSuccessive p hay (runs ++ more)) →
-      new ≡ runs ++ r ∷ [] → IsDue p hay r.end due →
-      (more : List Run) → Continues due more → AreSuccessive p hay (new ++ more)
-  goes_on runs new r due so_far is next more c =
-      subst (AreSuccessive p hay) (sym (ap (λ l. l ++ more) is ∙ append_assoc runs (r ∷ []) more))
-      (so_far (r ∷ more) (refl, continues_follow (IsDue p hay r.end) due more next c))
-
-  -- no run is due
-  pub ends : (runs : List Run) (due : Option Run) → ((r : Run) → due ≡ Some r → ⊥) →
-      ((more : List Run) → Continues due more → AreSuccessive p hay (runs ++ more)) → AreSuccessive p hay runs
-  ends runs None none so_far = subst (AreSuccessive p hay) (append-nil runs) (so_far [] tt)
-  ends runs (Some r) none so_far = absurd (none r refl)
+  -- nothing is due
+  pub ends : (xs all : List B) (due : Option B) → ((x : B) → due ≡ Some x → ⊥) → xs ++ due_on due ≡ all → xs ≡ all
+  ends xs all None none so_far = sym (append-nil xs) ∙ so_far
+  ends xs all (Some x) none so_far = absurd (none x refl)

@@ -1,22 +1,23 @@
 -- A walk that tries each spot that is reached, one after another: what it keeps, and what it has at the end.
-use Rattle.std.proofs.Common.{◌≡◌, ℕ, ◌+◌, ◌*◌, ◌<◌, ◌≤◌, Bool, true, false, ◌||◌, List, [], ◌∷◌, ◌++◌, length, map, get_or, take, take_all, refl, sym, ap, ◌∙◌, subst, arith, inl, inr, ⊎_elim, ◌⊎◌, Option, true≢false, length-append}
-use Rattle.std.specs.Prelude.{reverse, sum_by, flat_map}
+use Rattle.std.proofs.Common.{◌≡◌, ℕ, ◌+◌, ◌*◌, ◌<◌, ◌≤◌, Bool, true, false, ◌||◌, List, [], ◌∷◌, ◌++◌, length, map, get_or, take, take_all, refl, sym, ap, ◌∙◌, subst, arith, inl, inr, ⊎_elim, ◌⊎◌, true≢false, length-append}
+use Rattle.std.specs.Prelude.{reverse, sum_by, flat_map, is_some}
 use Rattle.std.proofs.lemmas.List.{append-nil, length-map, length-reverse, take_more, take-append-le, flat_map_more}
 use Rattle.std.proofs.lemmas.List.Concat.{length-flat_map}
 use Rattle.bites_spec.specs.Utf8.{places}
 use Rattle.bites_spec.specs.Walks.{Among, IsNew, AllApart}
 use Rattle.bites_spec.specs.Program.{Program, State, Spot, at, state_at, targets, targets_of, IsWellFormed}
-use Rattle.bites_spec.specs.Run.{Run, FirstRun, is_same_spot, leads}
-use Rattle.bites_spec.specs.Counts.{Record, IsBounded, VisitedAll, Visited}
-use Rattle.bites_spec.proofs.RunLemmas.{same_is, same_refl}
+use Rattle.bites_spec.specs.Run.{first_run, is_same_spot, leads}
+use Rattle.bites_spec.specs.Counts.{Record, IsBounded, VisitedAll, VisitedBy}
+use Rattle.bites_spec.proofs.RunLemmas.{same_is, same_refl, first_run-FirstRun}
 use Rattle.bites_spec.proofs.SlotLemmas.{Among-left, Among-right}
 use Rattle.bites_spec.proofs.ListedLemmas.{Among-under}
 use Rattle.bites_machine.proofs.EdgeLemmas.{Among-apart}
 use Rattle.bites_plain.specs.Walk.{is_seen}
 use Rattle.bites_plain.specs.Visits.{IsReached, VisitedOnly, LooksAtEach}
 use Rattle.bites_plain.proofs.SeenLemmas.{Among-get_or}
-use Rattle.bites_plain.proofs.SumLemmas.{Among-reverse, Among-reversed, AllApart_push, AllApart-reverse, sum_by-reverse, sum_of_ones, sum_of_spots}
-use Rattle.bites_plain.proofs.ReachLemmas.{edges_within, closed_walk, reached_start, reached_on, reached_within, visited_answer}
+use Rattle.bites_machine.proofs.SumLemmas.{Among-reverse, Among-reversed, AllApart_push, AllApart-reverse, sum_by-reverse, sum_of_ones, sum_of_spots}
+use Rattle.bites_machine.proofs.PathLemmas.{edges_within, closed_walk}
+use Rattle.bites_plain.proofs.ReachLemmas.{reached_start, reached_on, reached_within, visited_answer}
 
 or_right : (a b : Bool) → b ≡ true → (a || b) ≡ true
 or_right true b e = refl
@@ -196,5 +197,5 @@ module _ (p : Program) (hay : List ℕ) (start : ℕ) where
           tried : (v : Spot) → Among (starts ++ led spots) v → Among spots v
           tried v h = now.visited v (subst (λ (l : List Spot). Among l v) (sym (take_all k tries done)) (subst (λ (l : List Spot). Among l v) (sym now.whole) h))
 
-      pub visits_answer : (o : Option Run) → FirstRun p hay start o → Visited p hay start record_made o
-      visits_answer = visited_answer p hay start record_made visits_all
+      pub visits_answer : IsWellFormed p → VisitedBy p hay start (is_some (first_run p hay start)) record_made
+      visits_answer well = visited_answer p hay start record_made visits_all (first_run p hay start) (first_run-FirstRun p hay well start)

@@ -1,5 +1,5 @@
 -- Depth-first walks that keep a list of the spots that were seen.
-use Rattle.std.specs.Prelude.{◌≡◌, ◌==◌, ◌&&◌, ℕ, Bool, List, [], Option, Some, None}
+use Rattle.std.specs.Prelude.{◌≡◌, ◌==◌, ◌&&◌, ℕ, Bool, List, Option, Some, None}
 use Rattle.std.specs.List.{list_any}
 use Rattle.bites_spec.specs.Walks as walks
 use Rattle.bites_spec.specs.Program.{Program, Spot}
@@ -11,8 +11,8 @@ is_seen seen s = list_any (is_same_spot s) seen
 
 -- a run ends at the spot, and at the place that is wanted, if one is
 abbrev pub is_end : Program → Option ℕ → Spot → Bool
-is_end p None = matches p []
-is_end p (Some j) = λ s. matches p [] s && (s.place == j)
+is_end p None = matches p
+is_end p (Some j) = λ s. matches p s && (s.place == j)
 
 module _ (p : Program) (hay : List ℕ) (end : Option ℕ) where
   -- the first walk from a spot to a wanted end, through no spot that was seen and none twice

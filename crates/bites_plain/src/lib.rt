@@ -9,6 +9,7 @@ pub mod piece;
 pub mod pieces;
 pub mod plain;
 pub mod run;
+pub mod slots;
 pub mod span;
 pub mod spans;
 pub mod spot;

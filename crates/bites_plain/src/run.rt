@@ -1,11 +1,10 @@
 //! Runs of a program, found by walks that keep a list of the spots that were seen.
 
-ghost use Rattle.std.specs.Prelude.{◌≡◌, ◌≤◌, [], ◌∷◌, None, IfOk, IfSome, option_map, length};
+ghost use Rattle.std.specs.Prelude.{◌≡◌, ◌≤◌, suc, [], ◌∷◌, None, IfOk, IfSome, option_map, length};
 ghost use Rattle.bites_spec.specs.Utf8 as spec;
 ghost use Rattle.bites_spec.specs.Walks.{last_of};
 ghost use Rattle.bites_spec.specs.Program.{IsWellFormed};
-ghost use Rattle.bites_spec.specs.Run.{first_run, first_run_from, slots, writes, last_write, LongestRun};
-ghost use Rattle.bites_plain.specs.Longest.{LongestFrom};
+ghost use Rattle.bites_spec.specs.Run.{first_run, first_run_from, longest_run, longest_run_below, chosen_run, slots, writes, last_write};
 ghost use Rattle.bites_plain.specs.Walk.{first_walk, is_end, is_seen, LeadsNowhere};
 ghost use Rattle.bites_spec.proofs.RunLemmas.{Inside, unseen};
 
@@ -111,12 +110,30 @@ pub fn longest_run(
     haystack: &[u8],
     start: usize,
 ) -> Result<Option<Run>, AllocError>
-    ensures { IfOk result (λ run. LongestRun program.now.program haystack.now start run) }
+    ensures { IfOk result (λ run. run ≡ longest_run program.now.program haystack.now start) }
 {
     let state = program.start();
     match first_run(alloc, program, haystack, start)? {
         Some(first) => longest_from(alloc, program, haystack, Spot::new(state, first.start)),
         None => Ok(None),
+    }
+}
+
+/// The run that a search answers: the longest, or the first.
+pub fn chosen_run(
+    alloc: Global,
+    longest: bool,
+    program: &Program,
+    haystack: &[u8],
+    start: usize,
+) -> Result<Option<Run>, AllocError>
+    ensures { IfOk result (λ run. run
+        ≡ chosen_run longest program.now.program haystack.now start) }
+{
+    if longest {
+        longest_run(alloc, program, haystack, start)
+    } else {
+        first_run(alloc, program, haystack, start)
     }
 }
 
@@ -130,7 +147,8 @@ fn longest_from(
     requires well_formed { IsWellFormed program.now.program }
     requires start { first.state ≡ program.now.program.start }
     requires place { first.place ≤ length haystack.now }
-    ensures { IfOk result (λ run. LongestFrom program.now.program haystack.now first.place run) }
+    ensures { IfOk result (λ run. run
+        ≡ longest_run_below program.now.program haystack.now (suc (length haystack.now)) first.place) }
 {
     let start = first.place();
     for end in (start..haystack.len() + 1).rev() {
@@ -144,7 +162,7 @@ fn longest_from(
 
 /// The slots that the run leaves: in each the last place that it writes there.
 pub fn slots(alloc: Global, program: &Program, run: &Run) -> Result<Vec<Option<usize>>, AllocError>
-    ensures { IfOk result (λ filled. filled.items ≡ slots program.now.program [] run.now) }
+    ensures { IfOk result (λ filled. filled.items ≡ slots program.now.program run.now) }
 {
     let first = Spot::new(program.start(), run.start);
     let written = writes(alloc, program, first, &run.spots)?;
@@ -163,7 +181,7 @@ fn writes(
     behind: &[Spot],
 ) -> Result<Vec<(usize, usize)>, AllocError>
     ensures { IfOk result (λ written. written.items
-        ≡ writes program.now.program [] first behind.now) }
+        ≡ writes program.now.program first behind.now) }
 {
     let mut written = Vec::new(alloc);
     let mut last = first;

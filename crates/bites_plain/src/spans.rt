@@ -1,7 +1,9 @@
 //! The successive runs of a program in a haystack.
 
 ghost use Rattle.std.specs.Prelude.{◌≡◌, ◌<◌, ◌≤◌, map, length, IfOk, IfSome};
-ghost use Rattle.bites_plain.specs.Successive.{IsDue, AreSuccessive, is_empty_at, span_of_run};
+ghost use Rattle.bites_spec.specs.Run as spec;
+ghost use Rattle.bites_spec.specs.Spans.{is_empty_at, due_after, successive};
+ghost use Rattle.bites_spec.specs.Slots.{span_of_run};
 
 use crate::piece::piece_at;
 use crate::run::{Run, first_run};
@@ -16,7 +18,8 @@ pub fn successive_runs(
     program: &Program,
     haystack: &[u8],
 ) -> Result<Vec<Run>, AllocError>
-    ensures { IfOk result (λ runs. AreSuccessive program.now.program haystack.now runs.items) }
+    ensures { IfOk result (λ runs. runs.items
+        ≡ successive span_of_run haystack.now (spec.first_run program.now.program haystack.now)) }
 {
     let mut runs = Vec::new(alloc);
     let mut due = first_run(alloc, program, haystack, 0)?;
@@ -29,6 +32,7 @@ pub fn successive_runs(
 
 /// The first run from the end of the one before; where that is empty and ends there, the first run from one
 /// piece later.
+#[tactic(auto, unfolding(bites_spec::specs::Spans::due_after))]
 fn due_behind(
     alloc: Global,
     program: &Program,
@@ -36,7 +40,8 @@ fn due_behind(
     end: usize,
 ) -> Result<Option<Run>, AllocError>
     requires { end ≤ length haystack.now }
-    ensures due { IfOk result (λ due. IsDue program.now.program haystack.now end due) }
+    ensures due { IfOk result (λ due. due
+        ≡ due_after span_of_run haystack.now (spec.first_run program.now.program haystack.now) end) }
     ensures grows { IfOk result (λ due. IfSome due (λ run. end < run.end)) }
     ensures within { IfOk result (λ due. IfSome due (λ run. run.end ≤ length haystack.now)) }
 {
@@ -50,7 +55,7 @@ fn due_behind(
 
 /// Whether there is a run, and it begins and ends at the place.
 fn is_empty_at(run: &Option<Run>, place: usize) -> bool
-    ensures { result ≡ is_empty_at place run.now }
+    ensures { result ≡ is_empty_at span_of_run place run.now }
 {
     match run {
         Some(run) => run.start() == place && run.end() == place,

@@ -69,7 +69,7 @@ impl Spot {
 
     /// Whether a run ends here.
     pub fn is_match(self, program: &Program) -> bool
-        ensures { result ≡ matches program.now.program [] self }
+        ensures { result ≡ matches program.now.program self }
     {
         (self.state as usize) < program.len() && matches!(program.state(self.state), State::Match)
     }
@@ -109,7 +109,7 @@ fn edges(
         }
         State::Ranges { target, ranges } => {
             let (found, len) = piece_at(haystack, place);
-            if len > 0 && is_in(ranges, found) {
+            if len > 0 && is_in(ranges.as_slice(), found) {
                 only(alloc, *target, place + len)
             } else {
                 Ok(Vec::new(alloc))
@@ -117,10 +117,10 @@ fn edges(
         }
         State::Splits { targets, reverse } => {
             if *reverse {
-                let turned = reversed(alloc, targets)?;
+                let turned = reversed(alloc, targets.as_slice())?;
                 return all_at(alloc, &turned, place);
             }
-            all_at(alloc, targets, place)
+            all_at(alloc, targets.as_slice(), place)
         }
         State::Goto { target, look: None } => only(alloc, *target, place),
         State::Goto {

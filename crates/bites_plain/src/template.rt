@@ -5,7 +5,7 @@ ghost use Rattle.std.specs.Option.{option_copied};
 ghost use Rattle.bites_spec.specs.Walks.{IsNew};
 ghost use Rattle.bites_spec.specs.Template.{Expands, stands_for, group_named, number_of, number_of_digits};
 ghost use Rattle.bites_plain.specs.Groups.{text_in, index_in, is_named, part_of};
-ghost use Rattle.bites_plain.specs.Cutting.{CutsFirst, IsFirstBrace, NoName, StandsInBraces, IsWordAt};
+ghost use Rattle.bites_spec.specs.Cutting.{CutsFirst, IsFirstBrace, NoName, StandsInBraces, IsWordAt};
 
 use bites_text::utf8::is_word_byte;
 use std::alloc::{AllocError, Global};

@@ -1,10 +1,10 @@
 //! What a search visits, and how often it looks: found by trying each spot that is reached.
 
-ghost use Rattle.std.specs.Prelude.{◌≡◌, Option, IfOk, map, reverse};
+ghost use Rattle.std.specs.Prelude.{◌≡◌, IfOk, is_some, map, reverse};
 ghost use Rattle.bites_spec.specs.Utf8 as spec;
 ghost use Rattle.bites_spec.specs.Program.{at};
-ghost use Rattle.bites_spec.specs.Run.{Run, FirstRun};
-ghost use Rattle.bites_spec.specs.Counts.{IsBounded, VisitedAll, Visited};
+ghost use Rattle.bites_spec.specs.Run.{first_run};
+ghost use Rattle.bites_spec.specs.Counts.{IsBounded, VisitedAll, VisitedBy};
 ghost use Rattle.bites_plain.specs.Walk.{is_seen};
 ghost use Rattle.bites_plain.specs.Visits.{VisitedOnly, LooksAtEach};
 
@@ -60,9 +60,8 @@ pub fn visits(
     ensures all { IfOk result (λ r. VisitedAll program.now.program haystack.now start r) }
     ensures only { IfOk result (λ r. VisitedOnly program.now.program haystack.now start r) }
     ensures looks { IfOk result (λ r. LooksAtEach program.now.program haystack.now start r) }
-    ensures visited { IfOk result (λ r. (o : Option Run) →
-        FirstRun program.now.program haystack.now start o →
-        Visited program.now.program haystack.now start r o) }
+    ensures visited { IfOk result (λ r. VisitedBy program.now.program haystack.now start
+        (is_some (first_run program.now.program haystack.now start)) r) }
 {
     let mut tries = at_each_place(alloc, program.start(), haystack, start)?;
     let mut spots = Vec::new(alloc);

@@ -10,8 +10,8 @@ use Rattle.bites_spec.specs.Class.{Set, single, is_scalar}
 use Rattle.bites_spec.specs.Pattern.{Text, Flags, skip, next_is, one_of, number, backslash, left_brace, right_brace, ReadsEach, ReadsExactly}
 use Rattle.bites_spec.specs.Escape.{Meaning, character, characters, assertion, is_hex_digit, is_boundary_letter, boundary_of, begins_boundary, may_name_boundary, digits_of, control_of, assertion_of, class_of, escapes_itself, ReadsHexadecimal, ReadsEscape}
 use Rattle.bites_spec.specs.EscapeFault.{begins_escape, StuckExactly, StuckHexadecimal, StuckEscape}
-use Rattle.bites_spec.specs.Reading as reading
-use Rattle.bites_spec.specs.Reading.{Answer, answer, stop, and_then, exactly, scalar, hexadecimal, boundary, escape}
+use Rattle.bites_spec.specs.Reader as reading
+use Rattle.bites_spec.specs.Reader.{ReadResult, answer, stop, and_then, exactly, scalar, hexadecimal, boundary, escape}
 use Rattle.bites_spec.proofs.EachLemmas.{skip_shorter, each_complete}
 use Rattle.bites_spec.proofs.EscapeLemmas.{bool_cases}
 

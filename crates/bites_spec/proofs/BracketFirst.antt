@@ -12,8 +12,8 @@ use Rattle.bites_spec.specs.Escape.{Meaning, character, characters, assertion}
 use Rattle.bites_spec.specs.EscapeFault.{StuckEscape}
 use Rattle.bites_spec.specs.Bracket.{ReadsCaret, ReadsLeading, ReadsBracketFront, ReadsEnd, may_be_first, may_be_second, leads_to_second, is_twice, is_set_operator}
 use Rattle.bites_spec.specs.BracketFault.{begins_named_class, is_single, StuckMembers, StuckBracket}
-use Rattle.bites_spec.specs.Reading as reading
-use Rattle.bites_spec.specs.Reading.{Answer, Members, answer, stop, and_then, class_members, class_end, after_first, after_dash}
+use Rattle.bites_spec.specs.Reader as reading
+use Rattle.bites_spec.specs.Reader.{ReadResult, Members, answer, stop, and_then, class_members, class_end, after_first, after_dash}
 use Rattle.bites_spec.proofs.EachLemmas.{skip_shorter}
 use Rattle.bites_spec.proofs.EscapeLemmas.{bool_cases}
 use Rattle.bites_spec.proofs.ChoiceParts.{StopsBy}
@@ -23,16 +23,16 @@ use Rattle.bites_spec.proofs.BracketMeans.{name_front, not_name_front, members_g
 use Rattle.bites_spec.proofs.BracketLeads.{end_leads, member_shorter, member_leads, at_first, at_second, at_alone, caret_shorter, caret_leads, dashes_lead, front_leads, front_shorter}
 
 -- a stop there, with a message of no greater rank
-stops_there : {A : Type 0} (k m : Message) (at place : Text) (a : Answer A) → a ≡ stop k at → at ≡ place → rank k ≤ rank m → StopsBy m place a
+stops_there : {A : Type 0} (k m : Message) (at place : Text) (a : ReadResult A) → a ≡ stop k at → at ≡ place → rank k ≤ rank m → StopsBy m place a
 stops_there k m at place a is same order = subst (StopsBy m place) (sym is) (inr (sym (ap length same), order))
 
-stops_so : {A : Type 0} (k m : Message) (at place : Text) (a : Answer A) → a ≡ stop k at → at ≡ place → k ≡ m → StopsBy m place a
+stops_so : {A : Type 0} (k m : Message) (at place : Text) (a : ReadResult A) → a ≡ stop k at → at ≡ place → k ≡ m → StopsBy m place a
 stops_so k m at place a is same names = stops_there k m at place a is same (omega (arith, ap rank names))
 
-stops_before : {A : Type 0} (k m : Message) (at place : Text) (a : Answer A) → a ≡ stop k at → length place < length at → StopsBy m place a
+stops_before : {A : Type 0} (k m : Message) (at place : Text) (a : ReadResult A) → a ≡ stop k at → length place < length at → StopsBy m place a
 stops_before k m at place a is before = subst (StopsBy m place) (sym is) (inl before)
 
-and_stops : {A B : Type 0} (m : Message) (place : Text) (a : Answer A) (f : A → Text → Answer B) → StopsBy m place a → StopsBy m place (and_then a f)
+and_stops : {A B : Type 0} (m : Message) (place : Text) (a : ReadResult A) (f : A → Text → ReadResult B) → StopsBy m place a → StopsBy m place (and_then a f)
 and_stops m place (Ok x) f first = absurd first
 and_stops m place (Err e) f first = first
 
@@ -323,7 +323,7 @@ front_ends {flags} (ReadsBracketFront.front t other behind_caret behind_dashes d
     by_length (c ∷ u) short marked dashed =
         subst (StopsBy message.unclosed_class []) (sym (caret_leads marked (omega arith) n ∙ dashes_lead dashed n negated short)) (leading_ends leads ends n negated)
 
-finished_first : (m : Message) (place : Text) (flags : Flags) (negated : Bool) (a : Answer Set) → StopsBy m place a → StopsBy m place (reading.finished flags negated a)
+finished_first : (m : Message) (place : Text) (flags : Flags) (negated : Bool) (a : ReadResult Set) → StopsBy m place a → StopsBy m place (reading.finished flags negated a)
 finished_first m place flags negated a first = and_stops m place a _ first
 
 -- where a class in brackets stops the relation, it stops the function

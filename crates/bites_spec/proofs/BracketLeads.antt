@@ -7,12 +7,12 @@ use Rattle.bites_spec.specs.Message as message
 use Rattle.bites_spec.specs.Message.{Message}
 use Rattle.bites_spec.specs.Range.{Range}
 use Rattle.bites_spec.specs.Class as class
-use Rattle.bites_spec.specs.Class.{Set, NamedClass, alnum, alpha, ascii, blank, cntrl, digit, graph, lower, print, punct, space, upper, word, xdigit, named_classes, name_of, members, single, union, complement, Lists}
+use Rattle.bites_spec.specs.Class.{Set, NamedClass, alnum, alpha, ascii, blank, cntrl, digit, graph, lower, print, punct, space, upper, word, xdigit, named_classes, class_name, members, single, union, complement, Lists}
 use Rattle.bites_spec.specs.Pattern.{Text, Flags, skip, next_is, one_of, caret, dash, left_bracket, right_bracket, ReadsEach}
 use Rattle.bites_spec.specs.Escape.{Meaning, character, characters, assertion}
 use Rattle.bites_spec.specs.Bracket.{ReadsCaret, ReadsLeading, ReadsBracketFront, ReadsEnd, ReadsMember, ReadsMembers, ReadsBracket, may_be_first, may_be_second, leads_to_second, set_of, is_set_operator, with_cases, with_negation}
-use Rattle.bites_spec.specs.Reading as reading
-use Rattle.bites_spec.specs.Reading.{Answer, Members, answer, stop, choose, and_then, class_members, class_end, after_first, after_dash, alone}
+use Rattle.bites_spec.specs.Reader as reading
+use Rattle.bites_spec.specs.Reader.{ReadResult, Members, answer, stop, choose, and_then, class_members, class_end, after_first, after_dash, alone}
 use Rattle.bites_spec.proofs.EachLemmas.{skip_shorter, each_complete, each_shorter}
 use Rattle.bites_spec.proofs.EscapeLemmas.{bool_cases}
 use Rattle.bites_spec.proofs.BracketText.{union_assoc, end_shorter, escape_begins}
@@ -30,9 +30,9 @@ end_leads {flags} (ReadsEnd.escape t rest meaning r) n room =
 
 -- an item goes forward
 pub member_shorter : {flags : Flags} {t rest : Text} {set : Set} → ReadsMember flags t set rest → length rest < length t
-member_shorter (ReadsMember.named k t rest set is same) = omega (arith, ap length is, length-append (name_front k) rest, length-append (codes "[:" ++ name_of k) (codes ":]"))
+member_shorter (ReadsMember.named k t rest set is same) = omega (arith, ap length is, length-append (name_front k) rest, length-append (codes "[:" ++ class_name k) (codes ":]"))
 member_shorter (ReadsMember.not_named k t rest set is same) =
-    omega (arith, ap length is, length-append (not_name_front k) rest, length-append (codes "[:^" ++ name_of k) (codes ":]"))
+    omega (arith, ap length is, length-append (not_name_front k) rest, length-append (codes "[:^" ++ class_name k) (codes ":]"))
 member_shorter {flags} (ReadsMember.range low high t behind next rest set may first dashed second last order same) =
     omega (arith, end_shorter first, end_shorter last, ap length dashed, skip_shorter flags behind, skip_shorter flags next)
 member_shorter (ReadsMember.alone meaning t rest set may first leads same) = end_shorter first
@@ -141,7 +141,7 @@ alone_goes go sofar one (characters more) v is = ap (λ set. go (union sofar set
 alone_goes go sofar one (assertion l) v is = absurd (none-some one is)
 
 -- the function goes on behind an item, or the pattern ends there
-abbrev pub Passes : Flags → Members → Set → Text → Answer Set → Type 0
+abbrev pub Passes : Flags → Members → Set → Text → ReadResult Set → Type 0
 Passes flags go sofar next a = (a ≡ go sofar next) ⊎ ((skip flags next ≡ []) × (a ≡ stop message.unclosed_after_member []))
 
 -- a function does not mind a gap

@@ -7,20 +7,20 @@ use Rattle.bites_spec.specs.Message as message
 use Rattle.bites_spec.specs.Message.{Message}
 use Rattle.bites_spec.specs.Range.{Range}
 use Rattle.bites_spec.specs.Class as class
-use Rattle.bites_spec.specs.Class.{Set, NamedClass, named_classes, name_of, members, single, between, union, complement, Lists}
+use Rattle.bites_spec.specs.Class.{Set, NamedClass, named_classes, class_name, members, single, between, union, complement, Lists}
 use Rattle.bites_spec.specs.Pattern.{Text, Flags, skip, next_is, one_of, begins, caret, dash, left_bracket, right_bracket, ReadsEach}
 use Rattle.bites_spec.specs.Escape.{Meaning, character, characters, assertion}
 use Rattle.bites_spec.specs.EscapeFault.{StuckEscape}
 use Rattle.bites_spec.specs.Bracket.{ReadsCaret, ReadsLeading, ReadsBracketFront, ReadsEnd, ReadsMember, ReadsMembers, ReadsBracket, may_be_first, may_be_second, leads_to_second, is_twice, is_set_operator, with_cases, with_negation}
 use Rattle.bites_spec.specs.BracketFault.{begins_named_class, is_single, StuckMembers, StuckBracket}
-use Rattle.bites_spec.specs.Reading as reading
-use Rattle.bites_spec.specs.Reading.{Answer, Members, answer, stop, choose, and_then, class_members}
+use Rattle.bites_spec.specs.Reader as reading
+use Rattle.bites_spec.specs.Reader.{ReadResult, Members, answer, stop, choose, and_then, class_members}
 use Rattle.bites_spec.proofs.EachLemmas.{skip_shorter, each_sound, each_shorter}
 use Rattle.bites_spec.proofs.EscapeLemmas.{Means, bool_cases, either_side}
 use Rattle.bites_spec.proofs.BracketText.{skip_again, skip_nil, and_both, union_assoc, begins_append, end_shorter, end_means}
 
 -- what the function answers to the members of a class: from the set so far
-abbrev pub MembersMean : Flags → Set → Text → Answer Set → Type 0
+abbrev pub MembersMean : Flags → Set → Text → ReadResult Set → Type 0
 MembersMean flags sofar t =
     Means (λ all rest. (others : Set) × ReadsMembers flags t others rest × (all ≡ union sofar others)) (StuckMembers flags t)
 
@@ -28,7 +28,7 @@ MembersMean flags sofar t =
 abbrev pub GoesOn : Flags → ℕ → Members → Type 0
 GoesOn flags n go = (sofar : Set) (t : Text) → length t ≤ n → MembersMean flags sofar t (go sofar t) × (go sofar (skip flags t) ≡ go sofar t)
 
-one_more : (flags : Flags) (sofar one : Set) (t u next : Text) (a : Answer Set) → u ≡ skip flags t → is_set_operator u ≡ false → ReadsMember flags u one next →
+one_more : (flags : Flags) (sofar one : Set) (t u next : Text) (a : ReadResult Set) → u ≡ skip flags t → is_set_operator u ≡ false → ReadsMember flags u one next →
     MembersMean flags (union sofar one) next a → MembersMean flags sofar t a
 one_more flags sofar one t u next (Ok x) at plain member means = (
   union one means.0,
@@ -40,21 +40,21 @@ one_more flags sofar one t u next (Err e) at plain member means =
 
 -- how a named class is written, and how with a caret
 abbrev pub name_front : NamedClass → Text
-name_front k = codes "[:" ++ name_of k ++ codes ":]"
+name_front k = codes "[:" ++ class_name k ++ codes ":]"
 
 abbrev pub not_name_front : NamedClass → Text
-not_name_front k = codes "[:^" ++ name_of k ++ codes ":]"
+not_name_front k = codes "[:^" ++ class_name k ++ codes ":]"
 
-pub name_front-length : (k : NamedClass) → length (name_front k) ≡ 4 + length (name_of k)
-name_front-length k = omega (arith, length-append (name_of k) (codes ":]"))
+pub name_front-length : (k : NamedClass) → length (name_front k) ≡ 4 + length (class_name k)
+name_front-length k = omega (arith, length-append (class_name k) (codes ":]"))
 
-pub not_name_front-length : (k : NamedClass) → length (not_name_front k) ≡ 5 + length (name_of k)
-not_name_front-length k = omega (arith, length-append (name_of k) (codes ":]"))
+pub not_name_front-length : (k : NamedClass) → length (not_name_front k) ≡ 5 + length (class_name k)
+not_name_front-length k = omega (arith, length-append (class_name k) (codes ":]"))
 
-front_of : (k : NamedClass) (u : Text) → begins (name_front k) u ≡ true → u ≡ name_front k ++ drop (4 + length (name_of k)) u
+front_of : (k : NamedClass) (u : Text) → begins (name_front k) u ≡ true → u ≡ name_front k ++ drop (4 + length (class_name k)) u
 front_of k u b = begins_append (name_front k) u b ∙ ap (λ l. name_front k ++ drop l u) (name_front-length k)
 
-not_front_of : (k : NamedClass) (u : Text) → begins (not_name_front k) u ≡ true → u ≡ not_name_front k ++ drop (5 + length (name_of k)) u
+not_front_of : (k : NamedClass) (u : Text) → begins (not_name_front k) u ≡ true → u ≡ not_name_front k ++ drop (5 + length (class_name k)) u
 not_front_of k u b = begins_append (not_name_front k) u b ∙ ap (λ l. not_name_front k ++ drop l u) (not_name_front-length k)
 
 -- an item that begins with a bracket
@@ -67,12 +67,12 @@ named_means flags n go sofar t u rest room on at is (k ∷ classes) others =
     let plain : is_set_operator u ≡ false = ap is_set_operator is in
     either_side (MembersMean flags sofar t) (begins (name_front k) u) _ _
     (λ b.
-    one_more flags sofar (members k) t u (drop (4 + length (name_of k)) u) _ at plain (ReadsMember.named k u _ _ (front_of k u b) refl)
-    (on (union sofar (members k)) (drop (4 + length (name_of k)) u) (omega (arith, length-drop (4 + length (name_of k)) u))).0)
+    one_more flags sofar (members k) t u (drop (4 + length (class_name k)) u) _ at plain (ReadsMember.named k u _ _ (front_of k u b) refl)
+    (on (union sofar (members k)) (drop (4 + length (class_name k)) u) (omega (arith, length-drop (4 + length (class_name k)) u))).0)
     (λ b. either_side (MembersMean flags sofar t) (begins (not_name_front k) u) _ _
     (λ d.
-    one_more flags sofar (complement (members k)) t u (drop (5 + length (name_of k)) u) _ at plain (ReadsMember.not_named k u _ _ (not_front_of k u d) refl)
-    (on (union sofar (complement (members k))) (drop (5 + length (name_of k)) u) (omega (arith, length-drop (5 + length (name_of k)) u))).0)
+    one_more flags sofar (complement (members k)) t u (drop (5 + length (class_name k)) u) _ at plain (ReadsMember.not_named k u _ _ (not_front_of k u d) refl)
+    (on (union sofar (complement (members k))) (drop (5 + length (class_name k)) u) (omega (arith, length-drop (5 + length (class_name k)) u))).0)
     (λ d. named_means flags n go sofar t u rest room on at is classes (rw (b, d) at others)))
 
 -- an item of one end
@@ -124,7 +124,7 @@ range_means flags n go sofar t u behind next rest (characters more) second room 
 range_means flags n go sofar t u behind next rest (assertion l) second room on at between reads =
     no_character flags u t behind next rest _ _ at between reads refl
 
-second_means : (flags : Flags) (n : ℕ) (go : Members) (sofar : Set) (t u behind next : Text) (first : Meaning) (a : Answer Meaning) →
+second_means : (flags : Flags) (n : ℕ) (go : Members) (sofar : Set) (t u behind next : Text) (first : Meaning) (a : ReadResult Meaning) →
     length next ≤ n → GoesOn flags n go → u ≡ skip flags t → Between flags u first behind next →
     Means (ReadsEnd flags (skip flags next)) (StuckEscape flags (skip flags next)) a →
     MembersMean flags sofar t (and_then a (reading.range go sofar first))
@@ -169,7 +169,7 @@ first_means flags n go sofar t u behind (c ∷ v) first room on at plain may rea
     subst (λ y. MembersMean flags sofar t (reading.alone go sofar first y)) (sym gap)
     (alone_means flags n go sofar t u behind first room on at plain may reads (ap (leads_to_second flags) (sym gap) ∙ rw b refl)))
 
-end_then : (flags : Flags) (n : ℕ) (go : Members) (sofar : Set) (t u : Text) (a : Answer Meaning) →
+end_then : (flags : Flags) (n : ℕ) (go : Members) (sofar : Set) (t u : Text) (a : ReadResult Meaning) →
     length u ≤ suc n → GoesOn flags n go → u ≡ skip flags t → is_set_operator u ≡ false → may_be_first u ≡ true →
     Means (ReadsEnd flags u) (StuckEscape flags u) a →
     MembersMean flags sofar t (and_then a (λ first rest. reading.after_first go n flags sofar first (skip flags rest)))
@@ -227,12 +227,12 @@ members_means (suc n) flags sofar t room =
     (λ more u within. (members_means n flags more u within, members_gap n flags more u)) refl
 
 -- what the function answers to a class in brackets: behind its bracket
-abbrev pub BracketMeans : Flags → Text → Answer Set → Type 0
+abbrev pub BracketMeans : Flags → Text → ReadResult Set → Type 0
 BracketMeans flags next =
     Means (λ set rest. (ranges : List Range) → Lists ranges set → ReadsBracket flags (left_bracket ∷ next) ranges rest)
     (StuckBracket flags (left_bracket ∷ next))
 
-finished_means : (flags : Flags) (next items : Text) (negated : Bool) (leading : Set) (a : Answer Set) →
+finished_means : (flags : Flags) (next items : Text) (negated : Bool) (leading : Set) (a : ReadResult Set) →
     ReadsBracketFront flags (left_bracket ∷ next) negated leading items → MembersMean flags leading items a →
     BracketMeans flags next (reading.finished flags negated a)
 finished_means flags next items negated leading (Ok x) before means = λ ranges lists.

@@ -9,8 +9,8 @@ use Rattle.bites_spec.specs.Pattern.{Text, Flags, skip, skip_blank, hash, line_f
 use Rattle.bites_spec.specs.Escape.{Meaning, character, ReadsHexadecimal, ReadsEscape}
 use Rattle.bites_spec.specs.EscapeFault.{StuckExactly, StuckHexadecimal, StuckEscape}
 use Rattle.bites_spec.specs.Bracket.{ReadsEnd}
-use Rattle.bites_spec.specs.Reading as reading
-use Rattle.bites_spec.specs.Reading.{Answer}
+use Rattle.bites_spec.specs.Reader as reading
+use Rattle.bites_spec.specs.Reader.{ReadResult}
 use Rattle.bites_spec.proofs.EachLemmas.{skip_shorter, each_shorter}
 use Rattle.bites_spec.proofs.EscapeLemmas.{Means, bool_cases, either_side, escape_means}
 
@@ -131,7 +131,7 @@ stuck_escape_begins (StuckEscape.boundary_begins t next place m from gap is name
 stuck_escape_begins (StuckEscape.boundary_ends t next name place m from r some without names) = (_, from)
 stuck_escape_begins (StuckEscape.boundary_unknown t next name rest place m from r some is without names) = (_, from)
 
-as_end : (flags : Flags) (t u : Text) (a : Answer Meaning) → t ≡ u → Means (ReadsEscape flags t) (StuckEscape flags t) a → Means (ReadsEnd flags u) (StuckEscape flags u) a
+as_end : (flags : Flags) (t u : Text) (a : ReadResult Meaning) → t ≡ u → Means (ReadsEscape flags t) (StuckEscape flags t) a → Means (ReadsEnd flags u) (StuckEscape flags u) a
 as_end flags t u (Ok x) is means = ReadsEnd.escape u x.1 x.0 (subst (λ y. ReadsEscape flags y x.0 x.1) is means)
 as_end flags t u (Err e) is means = subst (λ y. StuckEscape flags y e.message e.place) is means
 

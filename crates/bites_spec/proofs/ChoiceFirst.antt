@@ -15,8 +15,8 @@ use Rattle.bites_spec.specs.Group.{Opening, ReadsOpening}
 use Rattle.bites_spec.specs.GroupFault.{StuckOpening}
 use Rattle.bites_spec.specs.Fault as fault
 use Rattle.bites_spec.specs.Fault.{StuckItem, StuckSequence, StuckChoice, ComesFirst}
-use Rattle.bites_spec.specs.Reading as reading
-use Rattle.bites_spec.specs.Reading.{Stop, Found, Answer, Reader, answer, stop, and_then, and_found, counted, at_operator, at_opened, behind_group, at_item, inner}
+use Rattle.bites_spec.specs.Reader as reading
+use Rattle.bites_spec.specs.Reader.{Stop, Found, ReadResult, Reader, answer, stop, and_then, and_found, counted, at_operator, at_opened, behind_group, at_item, inner}
 use Rattle.bites_spec.proofs.EachLemmas.{skip_shorter}
 use Rattle.bites_spec.proofs.EscapeLemmas.{bool_cases, either_side}
 use Rattle.bites_spec.proofs.ItemCounts as counts
@@ -37,7 +37,7 @@ pub record StopsFirst {A : Type 0} (m : Message) (place : Text) (a : Result A St
   pub is : a ≡ Err at
   pub first : ComesFirst at.message at.place m place
 
-stops_first : {A : Type 0} (m : Message) (place : Text) (a : Answer A) → StopsBy m place a → StopsFirst m place a
+stops_first : {A : Type 0} (m : Message) (place : Text) (a : ReadResult A) → StopsBy m place a → StopsFirst m place a
 stops_first m place (Ok x) never = absurd never
 stops_first m place (Err e) first = record { at = e; is = refl; first = first }
 
@@ -95,7 +95,7 @@ mutual
       behind (omega (arith, opening_shorter r, reaches_within (choice_reaches c)))
 
 -- a stop goes on through what comes behind
-through : {A B : Type 0} {m : Message} {place : Text} (a : Answer A) (next : A → Text → Result B Stop) → StopsFirst m place a → StopsFirst m place (and_then a next)
+through : {A B : Type 0} {m : Message} {place : Text} (a : ReadResult A) (next : A → Text → Result B Stop) → StopsFirst m place a → StopsFirst m place (and_then a next)
 through a next s = record { at = s.at; is = ap (λ x. and_then x next) s.is; first = s.first }
 
 -- behind what leads there, or stops at a limit before
@@ -138,7 +138,7 @@ module _ (list_of : Set → List Range) (lists : (set : Set) → Lists (list_of 
         which)
         (sym names) at
       where
-        empty : (x : ℕ) (a : Answer reading.Bounds) →
+        empty : (x : ℕ) (a : ReadResult reading.Bounds) →
             at_operator list_of nest_limit go depth front branches nodes message.nothing_to_repeat (x ∷ u) a ≡ stop message.nothing_to_repeat (x ∷ u)
         empty x a = ap (λ l. at_operator list_of nest_limit go depth front branches l message.nothing_to_repeat (x ∷ u) a) none
 

@@ -7,7 +7,7 @@ use Rattle.bites_spec.specs.Pattern.{Text, Flags, Front, skip, question, left_pa
 use Rattle.bites_spec.specs.OperatorFault.{greatest_number}
 use Rattle.bites_spec.specs.Group.{Opening, ReadsOpening, ReadsFlags, changed}
 use Rattle.bites_spec.specs.Fault.{ComesFirst}
-use Rattle.bites_spec.specs.Reading.{Answer, Opened, directive, group, answer, stop}
+use Rattle.bites_spec.specs.Reader.{ReadResult, Opened, directive, group, answer, stop}
 
 -- from t up to rest stands a directive that makes these the flags
 pub record ReadsDirective (front : Front) (t : Text) (flags : Flags) (rest : Text) : Type 0 where
@@ -28,7 +28,7 @@ Opens front t (directive flags) rest = ReadsDirective front t flags rest
 Opens front t (group opening inner) rest = ReadsOpening front t opening inner rest × (front.groups ≤ greatest_number → inner.groups ≤ greatest_number)
 
 -- the function stops, no later than at this place by this message
-abbrev pub StopsBy : {A : Type 0} → Message → Text → Answer A → Type 0
+abbrev pub StopsBy : {A : Type 0} → Message → Text → ReadResult A → Type 0
 StopsBy m place (Ok x) = ⊥
 StopsBy m place (Err e) = ComesFirst e.message e.place m place
 
@@ -37,13 +37,13 @@ abbrev pub most_of : ℕ → Option ℕ → ℕ
 most_of min most = max min (unwrap_or most 0)
 
 -- what the function answers where an operator in braces is read: it, or the stop at a number that is too large
-abbrev pub LeadsToCount : ℕ → Option ℕ → Bool → Text → Answer (ℕ × Option ℕ × Bool) → Type 0
+abbrev pub LeadsToCount : ℕ → Option ℕ → Bool → Text → ReadResult (ℕ × Option ℕ × Bool) → Type 0
 LeadsToCount min most greedy rest a =
     ((a ≡ answer (min, most, greedy) rest) × (most_of min most ≤ greatest_number))
     ⊎ ((place : Text) × (a ≡ stop message.invalid_decimal place) × (length rest < length place) × (greatest_number < most_of min most))
 
 -- what the function answers where a group's opening is read: it, or the stop at a number that is too large
-abbrev pub LeadsToGroup : Front → Opening → Text → Answer Opened → Type 0
+abbrev pub LeadsToGroup : Front → Opening → Text → ReadResult Opened → Type 0
 LeadsToGroup inner opening inside a =
     (a ≡ answer (group opening inner) inside)
     ⊎ ((place : Text) × (a ≡ stop message.too_many_groups place) × (length inside ≤ length place) × (greatest_number < inner.groups))

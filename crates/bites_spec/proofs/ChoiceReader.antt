@@ -23,8 +23,8 @@ use Rattle.bites_spec.specs.Grammar as grammar
 use Rattle.bites_spec.specs.Grammar.{ReadsAtom, ReadsItem, ReadsSequence, ReadsChoice, group_of, literal_of, dot_set, caret_look, dollar_look}
 use Rattle.bites_spec.specs.Fault as fault
 use Rattle.bites_spec.specs.Fault.{StuckItem, StuckSequence, StuckChoice}
-use Rattle.bites_spec.specs.Reading as reading
-use Rattle.bites_spec.specs.Reading.{Stop, Found, Answer, Bounds, Opened, Reader, choose, and_then, and_found, lazy, counted, plain_operator, repeat_last, at_end, at_closing, at_operator, at_opened, behind_group, at_item, inner}
+use Rattle.bites_spec.specs.Reader as reading
+use Rattle.bites_spec.specs.Reader.{Stop, Found, ReadResult, Bounds, Opened, Reader, choose, and_then, and_found, lazy, counted, plain_operator, repeat_last, at_end, at_closing, at_operator, at_opened, behind_group, at_item, inner}
 use Rattle.bites_spec.proofs.EachLemmas.{skip_shorter}
 use Rattle.bites_spec.proofs.EscapeLemmas.{Means, either_side, escape_means}
 use Rattle.bites_spec.proofs.CountLemmas.{lazy_reads, count_means}
@@ -47,7 +47,7 @@ stops_here : {nest_limit depth : ℕ} {front : Front} {t place : Text} {nodes : 
     StuckItem nest_limit depth front (skip front.flags t) nodes m place → Stops nest_limit depth front t nodes m place
 stops_here {depth = depth} {front = front} {t = t} {place = place} {nodes = nodes} {m = m} s = in_branch (fault.here depth front t place nodes m s)
 
-abbrev CountSays : Flags → Text → Answer Bounds → Type 0
+abbrev CountSays : Flags → Text → ReadResult Bounds → Type 0
 CountSays flags t = Means (λ b rest. ReadsOperator flags t b.0 b.1 b.2 rest × (most_of b.0 b.1 ≤ greatest_number)) (StuckCount flags t)
 
 -- what is left open by the bar, the end and a closing parenthesis
@@ -74,7 +74,7 @@ GoSays nest_limit n go =
 drop_one : (t more : Text) (c : ℕ) → t ≡ c ∷ more → t ≡ c ∷ drop 1 t
 drop_one t more c is = is ∙ ap (λ u. c ∷ drop 1 u) (sym is)
 
-abbrev BracketSays : Flags → Text → Answer Set → Type 0
+abbrev BracketSays : Flags → Text → ReadResult Set → Type 0
 BracketSays flags t = Means (λ set rest. ((ranges : List Range) → Lists ranges set → ReadsBracket flags t ranges rest)) (StuckBracket flags t)
 
 is_plain : {c d : ℕ} → c ≡ d → pattern.one_of (codes "?*+") d ≡ true → pattern.one_of (codes "?*+") c ≡ true
@@ -95,7 +95,7 @@ module _ (list_of : Set → List Range) (lists : (set : Set) → Lists (list_of 
         says_bar nest_limit depth front t more branches nodes _ at room
         (goes depth front (branches ++ sequence_of nodes ∷ []) [] more (omega (arith, ap length at)) room groups)
 
-    operator_says : (nodes : List Tree) (m : Message) (u : Text) (a : Answer Bounds) →
+    operator_says : (nodes : List Tree) (m : Message) (u : Text) (a : ReadResult Bounds) →
         (nodes ≡ [] → StuckItem nest_limit depth front (skip front.flags t) nodes m u) → CountSays front.flags (skip front.flags t) a →
         Says nest_limit depth front branches nodes t (at_operator list_of nest_limit go depth front branches nodes m u a)
     operator_says [] m u a nothing says = stops_here (nothing refl)
@@ -105,7 +105,7 @@ module _ (list_of : Set → List Range) (lists : (set : Set) → Lists (list_of 
     operator_says (node ∷ nodes) m u (Err e) nothing says =
         stops_here (fault.in_count depth front (skip front.flags t) e.place (node ∷ nodes) e.message (omega arith) says)
 
-    bracket_says : (nodes : List Tree) (a : Answer Set) → BracketSays front.flags (skip front.flags t) a →
+    bracket_says : (nodes : List Tree) (a : ReadResult Set) → BracketSays front.flags (skip front.flags t) a →
         Says nest_limit depth front branches nodes t (and_then a (λ set rest. go depth front branches (nodes ++ tree.class (list_of set) ∷ []) rest))
     bracket_says nodes (Ok x) says = atom_says nodes _ x.1 (grammar.bracket _ x.1 _ (list_of x.0) (says (list_of x.0) (lists x.0)) refl)
     bracket_says nodes (Err e) says = stops_here (fault.in_bracket depth front (skip front.flags t) e.place nodes e.message says)
@@ -116,7 +116,7 @@ module _ (list_of : Set → List Range) (lists : (set : Set) → Lists (list_of 
     meaning_says nodes (characters set) rest r = atom_says nodes _ rest (grammar.escaped_class set _ rest _ (list_of set) r (lists set) refl)
     meaning_says nodes (assertion l) rest r = atom_says nodes _ rest (grammar.escaped_assertion l _ rest _ r refl)
 
-    escape_says : (nodes : List Tree) (a : Answer Meaning) → Means (ReadsEscape front.flags (skip front.flags t)) (StuckEscape front.flags (skip front.flags t)) a →
+    escape_says : (nodes : List Tree) (a : ReadResult Meaning) → Means (ReadsEscape front.flags (skip front.flags t)) (StuckEscape front.flags (skip front.flags t)) a →
         Says nest_limit depth front branches nodes t
         (and_then a (λ meaning rest. go depth front branches (nodes ++ reading.node_of list_of nest_limit front.flags meaning ∷ []) rest))
     escape_says nodes (Ok x) says = meaning_says nodes x.0 x.1 says
@@ -161,7 +161,7 @@ module _ (list_of : Set → List Range) (lists : (set : Set) → Lists (list_of 
         group_says nodes opening inner_front rest (go (suc depth) inner_front [] [] rest) r deep
         (goes (suc depth) inner_front [] [] rest (omega (arith, opening_shorter r)) deep (small groups)))
 
-    parenthesis_says : (nodes : List Tree) (a : Answer Opened) → Means (Opens front (skip front.flags t)) (StuckOpening front (skip front.flags t)) a →
+    parenthesis_says : (nodes : List Tree) (a : ReadResult Opened) → Means (Opens front (skip front.flags t)) (StuckOpening front (skip front.flags t)) a →
         Says nest_limit depth front branches nodes t (and_then a (at_opened list_of nest_limit go depth front branches nodes))
     parenthesis_says nodes (Ok x) says = opened_says nodes x.0 x.1 says
     parenthesis_says nodes (Err e) says = stops_here (fault.in_opening depth front (skip front.flags t) e.place nodes e.message says)
@@ -176,7 +176,7 @@ module _ (list_of : Set → List Range) (lists : (set : Set) → Lists (list_of 
         (λ none. fault.no_node depth front (skip front.flags t) (c ∷ u) nodes _ (subst (λ x. pattern.next_is (pattern.one_of (codes "?*+")) x ≡ true) at plain) none at refl)
         (subst (λ x. ReadsOperator front.flags x min most (is_greedy front.flags (lazy u).0) (lazy u).1) at (reads (lazy u) (lazy_reads u)), small)
 
-    bounded : (u : Text) (a : Answer Bounds) → length u ≤ n → counted n front.flags (skip front.flags u) ≡ a →
+    bounded : (u : Text) (a : ReadResult Bounds) → length u ≤ n → counted n front.flags (skip front.flags u) ≡ a →
         Means (λ b rest. ReadsOperator front.flags (left_brace ∷ u) b.0 b.1 b.2 rest) (StuckCount front.flags (left_brace ∷ u)) a →
         CountSays front.flags (left_brace ∷ u) a
     bounded u (Ok x) here is r = (

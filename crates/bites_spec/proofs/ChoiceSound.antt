@@ -10,7 +10,7 @@ use Rattle.bites_spec.specs.Grammar.{ReadsAtom, ReadsItem, ReadsSequence, ReadsC
 use Rattle.bites_spec.specs.Measure.{open_in_choice, open_in_sequence, open_in_item, count_in_choice, count_in_sequence, count_in_item}
 use Rattle.bites_spec.specs.Fault as fault
 use Rattle.bites_spec.specs.Fault.{StuckItem, StuckSequence, StuckChoice}
-use Rattle.bites_spec.specs.Reading.{Stop, Found, Bounds, repeat_last}
+use Rattle.bites_spec.specs.Reader.{Stop, Found, Bounds, repeat_last}
 use Rattle.bites_spec.proofs.ChoiceParts.{most_of}
 
 -- from t up to rest the branch goes on behind these nodes, and branches may follow: with what they add, within the limits

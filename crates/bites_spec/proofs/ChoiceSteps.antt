@@ -9,7 +9,7 @@ use Rattle.bites_spec.specs.Pattern.{Text, Flags, Front, skip, question, ReadsLa
 use Rattle.bites_spec.specs.Pattern as pattern
 use Rattle.bites_spec.proofs.GroupFlags.{neither}
 use Rattle.bites_spec.specs.Grammar.{is_special, literal_of}
-use Rattle.bites_spec.specs.Reading.{Stop, Bounds, Reader, answer, lazy, repeat_last, at_operator, at_item, inner}
+use Rattle.bites_spec.specs.Reader.{Stop, Bounds, Reader, answer, lazy, repeat_last, at_operator, at_item, inner}
 
 -- a lazy mark that the relation reads, the function reads
 pub lazy_complete : {t rest : Text} {mark : Bool} → ReadsLazy t mark rest → lazy t ≡ (mark, rest)

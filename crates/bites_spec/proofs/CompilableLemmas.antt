@@ -6,7 +6,7 @@ use Rattle.bites_spec.specs.Walks.{Among, AllApart}
 use Rattle.bites_spec.specs.Tree as tree
 use Rattle.bites_spec.specs.Tree.{Tree, trees_of, sequence_of, choice_of, repetition_of, repetition, groups_in, groups_in_all, names_in, names_in_all, IsReduced, AllAreReduced, IsCount}
 use Rattle.bites_spec.specs.Built.{IsCompilable}
-use Rattle.bites_spec.specs.Pattern.{Text, Flags, Front}
+use Rattle.bites_spec.specs.Pattern.{Text, Flags, Front, given}
 use Rattle.bites_spec.specs.Operator as operator
 use Rattle.bites_spec.specs.Operator.{ReadsOperator}
 use Rattle.bites_spec.specs.Class.{is_letter}
@@ -19,7 +19,7 @@ use Rattle.bites_spec.proofs.SlotLemmas.{Among-left}
 use Rattle.bites_spec.proofs.GroupFlags.{neither}
 use Rattle.bites_spec.proofs.CompilableNames.{same_text}
 
-Among-append : {A : Type 0} (xs ys : List A) (x : A) → Among (xs ++ ys) x → Among xs x ⊎ Among ys x
+pub Among-append : {A : Type 0} (xs ys : List A) (x : A) → Among (xs ++ ys) x → Among xs x ⊎ Among ys x
 Among-append [] ys x h = inr h
 Among-append (y ∷ xs) ys x h = ⊎_elim (λ (e : y ≡ x). inl (inl e)) (λ later. ⊎_elim (λ a. inl (inr a)) inr (Among-append xs ys x later)) h
 
@@ -73,7 +73,7 @@ IsOpened front n = n ≤ front.groups
 
 -- a group has this name
 abbrev IsNamed : Front → List ℕ → Type 0
-IsNamed front name = Among (map encode_utf8_all front.names) name
+IsNamed front name = Among (map encode_utf8_all (given front.names)) name
 
 abbrev numbers_of : List Tree → List ℕ
 numbers_of nodes = groups_in_all (trees_of nodes)
@@ -249,7 +249,7 @@ name_is_new names t name rest (relation.name c _ others _ _ is begins fits free)
 
 -- a group with the next number
 Fits-numbered : {front inner middle : Front} (name : Option Text) (branches : List Tree) → inner.groups ≡ front.groups + 1 →
-    AreNew (IsNamed front) (IsNamed inner) (tree.name_of (option_map encode_utf8_all name)) → Fits inner middle branches →
+    AreNew (IsNamed front) (IsNamed inner) (tree.name_if_any (option_map encode_utf8_all name)) → Fits inner middle branches →
     Fits front middle (group_of (numbered name) front.groups branches ∷ [])
 Fits-numbered {front} {inner} {middle} name branches one_more own h = record {
   reduced = ((omega arith, choice_reduced branches h.reduced), tt);
@@ -261,8 +261,8 @@ Fits-numbered {front} {inner} {middle} name branches one_more own h = record {
       h.numbers);
   names =
       subst (λ x. AreNew (IsNamed front) (IsNamed middle) x)
-      (ap (λ x. tree.name_of (option_map encode_utf8_all name) ++ x) (sym (choice_names branches)) ∙ sym (append-nil _))
-      (AreNew-append (IsNamed front) (IsNamed inner) (IsNamed middle) (tree.name_of (option_map encode_utf8_all name)) (names_of branches) own h.names);
+      (ap (λ x. tree.name_if_any (option_map encode_utf8_all name) ++ x) (sym (choice_names branches)) ∙ sym (append-nil _))
+      (AreNew-append (IsNamed front) (IsNamed inner) (IsNamed middle) (tree.name_if_any (option_map encode_utf8_all name)) (names_of branches) own h.names);
 }
 
 Fits-group : {front inner middle : Front} {t inside : Text} {opening : Opening} (branches : List Tree) → ReadsOpening front t opening inner inside →
@@ -273,7 +273,7 @@ Fits-group {front} {middle = middle} branches (relation.number_only t next insid
 Fits-group {front} {middle = middle} branches (relation.named t next begun name inside opening inner is plain begin reads opens fronts) h =
     subst (λ x. Fits front middle (group_of x front.groups branches ∷ [])) (sym opens)
     (Fits-numbered (Some name) branches refl
-    (one_new (IsNamed front) _ (encode_utf8_all name) (λ y k. inr k) (unused front.names name (name_is_new front.names begun name inside reads)) (inl refl))
+    (one_new (IsNamed front) _ (encode_utf8_all name) (λ y k. inr k) (unused (given front.names) name (name_is_new (given front.names) begun name inside reads)) (inl refl))
     (subst (λ x. Fits x middle branches) fronts h))
 Fits-group {front} {middle = middle} branches (relation.with_flags t next marks run inside opening inner is asks reads opens fronts) h =
     subst (λ x. Fits front middle (group_of x front.groups branches ∷ [])) (sym opens)

@@ -10,7 +10,7 @@ use Rattle.bites_spec.specs.Match.{IsWithin, Turns, Takes}
 use Rattle.bites_spec.specs.Program.{State, Program, Spot, at, state_at, edges, is_match, taking, looking, targets_of}
 use Rattle.bites_spec.specs.Program as program
 use Rattle.bites_spec.specs.Run.{Runs, writes, write_of}
-use Rattle.bites_spec.specs.Built.{Part, One, Behind, Copies, Options, Loop, Star, OptionalLoop, Bounded, Counted, Repeated, choice, class_state, HasForm, HasFormAll, HasFormEach}
+use Rattle.bites_spec.specs.Built.{Fragment, One, Behind, Copies, Options, Loop, Star, OptionalLoop, Bounded, CopiesUpTo, Repeated, choice, class_state, HasForm, HasFormAll, HasFormEach}
 use Rattle.bites_spec.proofs.EventLemmas.{Event, opened, closed, writes_of, writes_of-append, Steps, StepsAll, StepsOne}
 use Rattle.bites_spec.proofs.PartLemmas.{Ways, Nothing, Both, Several, Any}
 
@@ -23,7 +23,7 @@ module _ (p : Program) (hay : List ℕ) where
   RunsTo = Runs p hay
 
   abbrev written : Spot → List Spot → List (ℕ × ℕ)
-  written = writes p hay
+  written = writes p
 
   -- a run from s to j with these writes
   pub record Entered (s : Spot) (j : ℕ) (ws : List (ℕ × ℕ)) : Type 0 where
@@ -31,14 +31,14 @@ module _ (p : Program) (hay : List ℕ) where
     pub runs : RunsTo s spots j
     pub same : written s spots ≡ ws
 
-  abbrev pub Enters : Part → Ways → Type 0
+  abbrev pub Enters : Fragment → Ways → Type 0
   Enters part R = (from to : ℕ) (used : List ℕ) → part from to used → (i l : ℕ) (es : List Event) → R i l es →
       (j : ℕ) (rest : List Spot) → RunsTo (at to l) rest j → Entered (at from i) j (writes_of es ++ written (at to l) rest)
 
   renamed : (s : Spot) (j : ℕ) (ws vs : List (ℕ × ℕ)) → ws ≡ vs → Entered s j ws → Entered s j vs
   renamed s j ws vs e x = record { spots = x.spots; runs = x.runs; same = x.same ∙ e }
 
-  Enters-also : (part : Part) (R T : Ways) → ((i l : ℕ) (es : List Event) → T i l es → R i l es) → Enters part R → Enters part T
+  Enters-also : (part : Fragment) (R T : Ways) → ((i l : ℕ) (es : List Event) → T i l es → R i l es) → Enters part R → Enters part T
   Enters-also part R T f enters from to used h i l es way j rest runs = enters from to used h i l es (f i l es way) j rest runs
 
   -- an edge, and a run from where it leads
@@ -103,7 +103,7 @@ module _ (p : Program) (hay : List ℕ) where
       renamed s j _ _ (ap (λ ws. writes_of a ++ ws) x.same ∙ sym (append_assoc (writes_of a) (writes_of b) vs)
       ∙ ap (λ ws. ws ++ vs) (sym (writes_of-append a b))) y
 
-  Behind-enters : (first second : Part) (R T : Ways) → Enters first R → Enters second T → Enters (Behind p.states first second) (Both R T)
+  Behind-enters : (first second : Fragment) (R T : Ways) → Enters first R → Enters second T → Enters (Behind p.states first second) (Both R T)
   Behind-enters first second R T one two from to used (mid, c, d, h, k, e) i l es (m, a, b, way, more, es_is) j rest runs =
       let x = two mid to d k m l b more j rest runs in
       let y = one from mid c h i m a way j x.spots x.runs in
@@ -147,7 +147,7 @@ module _ (p : Program) (hay : List ℕ) where
   back : (to i l j : ℕ) (rest : List Spot) → l ≡ i → RunsTo (at to l) rest j → RunsTo (at to i) rest j
   back to i l j rest l_is runs = subst (λ x. RunsTo (at to x) rest j) l_is runs
 
-  module _ (greedy : Bool) (body : Part) (R : Ways) (inside : Enters body R) where
+  module _ (greedy : Bool) (body : Fragment) (R : Ways) (inside : Enters body R) where
     -- one turn, and behind it what is entered where the turn leads
     turn : (from mid : ℕ) (a : List ℕ) → body from mid a → (i m j : ℕ) (first more es : List Event) (vs : List (ℕ × ℕ)) →
         R i m first → es ≡ first ++ more → Entered (at mid m) j (writes_of more ++ vs) → Entered (at from i) j (writes_of es ++ vs)
@@ -228,7 +228,7 @@ module _ (p : Program) (hay : List ℕ) where
         (subst (λ x. R i x es) (sym l_is) (subst (λ x. R i m x) (sym (es_is ∙ ap (λ x. first ++ x) more_is ∙ append-nil first)) way)) j rest runs
     once from to used h i l es (suc (suc n), one, turns) j rest runs = absurd (omega arith)
 
-    Copies-enters : (n : ℕ) (rest : Part) (P : ℕ → Type 0) → Enters rest (Several P R) →
+    Copies-enters : (n : ℕ) (rest : Fragment) (P : ℕ → Type 0) → Enters rest (Several P R) →
         Enters (Copies p.states n body rest) (Several (λ m. (k : ℕ) × P k × (m ≡ n + k)) R)
     Copies-enters zero rest P enters =
         Enters-also rest (Several P R) _
@@ -247,12 +247,12 @@ module _ (p : Program) (hay : List ℕ) where
         split (suc m) c i l es (x, first, more, way, turns, es_is) =
             (x, first, more, way, (m, (c.0, c.1, omega (arith, c.2)), turns), es_is)
 
-    Counted-enters : (n more : ℕ) → Enters (Counted p.states n more greedy body) (Several (λ m. (suc n ≤ m) × (m ≤ suc n + more)) R)
-    Counted-enters n zero =
+    CopiesUpTo-enters : (n more : ℕ) → Enters (CopiesUpTo p.states n more greedy body) (Several (λ m. (suc n ≤ m) × (m ≤ suc n + more)) R)
+    CopiesUpTo-enters n zero =
         Enters-also (Copies p.states n body body) (Several (λ m. (k : ℕ) × (k ≡ 1) × (m ≡ n + k)) R) _
         (λ i l es h. let c = h.1 in (h.0, (1, refl, omega (arith, c.0, c.1)), h.2))
         (Copies-enters n body (λ m. m ≡ 1) once)
-    Counted-enters n (suc more) =
+    CopiesUpTo-enters n (suc more) =
         Enters-also (Copies p.states (suc n) body (Bounded p.states (suc more) greedy body))
         (Several (λ m. (k : ℕ) × (k ≤ suc more) × (m ≡ suc n + k)) R) _
         (λ i l es h. let c = h.1 in (h.0, (h.0 - suc n, omega (arith, c.0, c.1), omega (arith, c.0, c.1)), h.2))
@@ -285,7 +285,7 @@ module _ (p : Program) (hay : List ℕ) where
     Repeated-enters (suc n) (Some most) is_empty is_count =
         Enters-also _ (Several (λ m. (suc n ≤ m) × (m ≤ suc n + (most - suc n))) R) _
         (λ i l es h. let least = h.1 in let within = h.2 in (h.0, (least, omega (arith, least, within)), h.3))
-        (Counted-enters n (most - suc n))
+        (CopiesUpTo-enters n (most - suc n))
 
   group_way : (k : ℕ) (name : Option (List ℕ)) (t : Tree) (i l : ℕ) (es : List Event) → Steps hay (group k name t) i l es →
       Both (Opens k) (Both (Steps hay t) (Closes k i)) i l es

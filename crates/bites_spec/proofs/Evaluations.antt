@@ -9,7 +9,7 @@ use Rattle.bites_spec.specs.Class.{Set}
 use Rattle.bites_spec.specs.Tree as tree
 use Rattle.bites_spec.specs.Tree.{Tree}
 use Rattle.bites_spec.specs.Pattern.{skip_blank, skip_white}
-use Rattle.bites_spec.specs.Reading.{read, inner}
+use Rattle.bites_spec.specs.Reader.{read, inner}
 
 -- the greatest ranges of a set that has all characters past ASCII or none of them
 abbrev from : ℕ → ℕ → Option ℕ → Set → List Range

@@ -9,7 +9,7 @@ use Rattle.bites_spec.specs.Tree.{Tree, Trees, empty, char, class, look, repetit
 use Rattle.bites_spec.specs.Program.{State, Program, Spot, at, state_at, edges, is_match, taking, looking}
 use Rattle.bites_spec.specs.Program as program
 use Rattle.bites_spec.specs.Run.{Runs, write_of}
-use Rattle.bites_spec.specs.Built.{Part, One, Behind, Copies, Loop, Star, Bounded, Counted, Repeated, class_state, HasForm, HasFormAll, HasFormEach, Built}
+use Rattle.bites_spec.specs.Built.{Fragment, One, Behind, Copies, Loop, Star, Bounded, CopiesUpTo, Repeated, class_state, HasForm, HasFormAll, HasFormEach, Built}
 use Rattle.bites_spec.proofs.EventLemmas.{Event, opened, closed, writes_of}
 use Rattle.bites_spec.proofs.OrderLemmas.{Trip, trip, stay, Tour, tour_of, prefix, behind, onward, Every, up_to, after_turns, wrap, turns, ways, ways_of_all, ways_of_one, nothing_before, onward-append, runs_within, AreRuns, EachAre, all_before, AreRuns-step, same_runs, Does, One-does, Behind-does, over, Advances, Star-does, Loop-does, Bounded-does, Copies-does, Every-append, Every-also}
 use Rattle.bites_spec.proofs.WayLemmas.{ways_advance}
@@ -58,7 +58,7 @@ wrapped k i [] = refl
 wrapped k i (t ∷ ts) = ap (λ us. wrap k i t ∷ us) (wrapped k i ts)
 
 module _ (p : Program) (hay : List ℕ) where
-  Does-same : (part : Part) (v w : ℕ → List Trip) → ((i : ℕ) → v i ≡ w i) → Does p hay part v → Does p hay part w
+  Does-same : (part : Fragment) (v w : ℕ → List Trip) → ((i : ℕ) → v i ≡ w i) → Does p hay part v → Does p hay part w
   Does-same part v w h does = subst (λ u. Does p hay part u) (same_lists v w h) does
 
   goto_does : Does p hay (One p.states (λ to. program.goto to None)) (λ i. stay i ∷ [])
@@ -75,14 +75,14 @@ module _ (p : Program) (hay : List ℕ) where
   minus_zero : (n : ℕ) → n ≡ n - 0
   minus_zero n = omega arith
 
-  module _ (greedy : Bool) (body : Part) (w : ℕ → List Trip) (does : Does p hay body w) where
-    Counted-does : (n more : ℕ) → Does p hay (Counted p.states n more greedy body) (after_turns (suc n) w (up_to more greedy w))
-    Counted-does n zero =
+  module _ (greedy : Bool) (body : Fragment) (w : ℕ → List Trip) (does : Does p hay body w) where
+    CopiesUpTo-does : (n more : ℕ) → Does p hay (CopiesUpTo p.states n more greedy body) (after_turns (suc n) w (up_to more greedy w))
+    CopiesUpTo-does n zero =
         Does-same (Copies p.states n body body) _ (after_turns (suc n) w (up_to 0 greedy w)) (after_turns-suc w (up_to 0 greedy w) n)
         (Copies-does p hay greedy body w does n body (λ i. behind (w i) (up_to 0 greedy w))
         (Does-same body w (λ i. behind (w i) (up_to 0 greedy w))
         (λ i. sym (ap (behind (w i)) (same_lists (up_to 0 greedy w) (λ l. stay l ∷ []) (λ l. sym (up_to-zero greedy w l))) ∙ behind_stays (w i))) does))
-    Counted-does n (suc more) =
+    CopiesUpTo-does n (suc more) =
         Copies-does p hay greedy body w does (suc n) (Bounded p.states (suc more) greedy body) (up_to (suc more) greedy w) (Bounded-does p hay greedy body w does (suc more))
 
     to_bound : (n : ℕ) (i : ℕ) → up_to n greedy w i ≡ turns hay 0 (Some n) greedy w i
@@ -107,7 +107,7 @@ module _ (p : Program) (hay : List ℕ) where
         (λ i. behind-stay i (up_to (suc (suc m)) greedy w) ∙ to_bound (suc (suc m)) i)
         (Behind-does p hay (One p.states (λ to. program.goto to None)) (Bounded p.states (suc (suc m)) greedy body) (λ i. stay i ∷ []) (up_to (suc (suc m)) greedy w)
         goto_does (Bounded-does p hay greedy body w does (suc (suc m))))
-    Repeated-does (suc n) (Some most) is_empty is_count plain adv = Counted-does n (most - suc n)
+    Repeated-does (suc n) (Some most) is_empty is_count plain adv = CopiesUpTo-does n (most - suc n)
 
   looks : (l : Look) (to i : ℕ) → edges hay (program.goto to (Some l)) i ≡ cond (holds l hay i) (at to i ∷ []) []
   looks l to i = refl

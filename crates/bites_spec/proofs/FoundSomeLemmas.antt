@@ -1,13 +1,13 @@
 -- What is found is some parse, and the slots of an answer.
-use Rattle.std.proofs.Common.{◌≡◌, ℕ, List, length, Option, Some, None, arith, ap, ◌∙◌}
+use Rattle.std.proofs.Common.{◌≡◌, ℕ, List, length, Option, Some, None, true, false, arith, ap, ◌∙◌}
 use Rattle.std.proofs.lemmas.List.{length-take-le}
 use Rattle.std.proofs.lemmas.List.FromFn.{length-map-range_with_len}
-use Rattle.bites_spec.specs.Program.{at}
-use Rattle.bites_spec.specs.Run.{slots, writes, last_write}
+use Rattle.bites_spec.specs.Run.{slots, written}
 use Rattle.bites_spec.specs.Tree.{Tree}
 use Rattle.bites_spec.specs.Match.{Mark}
 use Rattle.bites_spec.specs.Found.{Answer, FoundBy, FoundSome, HasMatch}
 use Rattle.bites_spec.specs.Laws.{FoundIsSome, AnsweredKeepsLength}
+use Rattle.bites_spec.specs.RegexLaws.{FindsSome}
 use Rattle.bites_spec.proofs.EventLemmas.{Parse-Matches}
 
 -- a finding is one whatever is asked of the choice of its parse
@@ -26,10 +26,14 @@ found_is_some t hay s = (
   found_matches t hay s,
 )
 
+pub finds_some : FindsSome
+finds_some true t hay s o f = found_by_some t hay _ s o f
+finds_some false t hay s o f = found_by_some t hay _ s o f
+
 pub answered_keeps_length : AnsweredKeepsLength
-answered_keeps_length p hay None found old new room is = ap length is.1
-answered_keeps_length p hay (Some r) found old new room is =
-    ap length is.1 ∙ length-take-le (length old) (slots p hay r) (omega (arith, length_of_slots))
+answered_keeps_length p None found old new room is = ap length is.1
+answered_keeps_length p (Some r) found old new room is =
+    ap length is.1 ∙ length-take-le (length old) (slots p r) (omega (arith, length_of_slots))
   where
-    length_of_slots : length (slots p hay r) ≡ p.slots
-    length_of_slots = length-map-range_with_len (last_write (writes p hay (at p.start r.start) r.spots)) 0 p.slots
+    length_of_slots : length (slots p r) ≡ p.slots
+    length_of_slots = length-map-range_with_len (written p r) 0 p.slots

@@ -11,8 +11,8 @@ use Rattle.bites_spec.specs.Group as group
 use Rattle.bites_spec.specs.Group.{ReadsFlags, unnumbered, changed, is_flag_letter, is_flag_mark, is_flag_run, are_distinct, ends_with_dash}
 use Rattle.bites_spec.specs.GroupFault as stuck
 use Rattle.bites_spec.specs.GroupFault.{StuckFlags}
-use Rattle.bites_spec.specs.Reading as reading
-use Rattle.bites_spec.specs.Reading.{Answer, Opened, answer, stop, flags_from, flags_end, flags_unclosed}
+use Rattle.bites_spec.specs.Reader as reading
+use Rattle.bites_spec.specs.Reader.{ReadResult, Opened, answer, stop, flags_from, flags_end, flags_unclosed}
 use Rattle.bites_spec.proofs.EscapeLemmas.{Means, either_side, bool_cases}
 use Rattle.bites_spec.proofs.GroupNames.{both_hold, one_behind}
 
@@ -28,7 +28,7 @@ FlagsOpen front marks (reading.group opening inner) rest =
     (run : Text) × ReadsFlags marks run (colon ∷ rest) × (opening ≡ unnumbered) × (inner ≡ behind_run front run)
 
 -- what the function answers behind the question mark
-abbrev pub FlagsMean : Front → Text → Answer Opened → Type 0
+abbrev pub FlagsMean : Front → Text → ReadResult Opened → Type 0
 FlagsMean front marks = Means (FlagsOpen front marks) (StuckFlags marks)
 
 -- one of the two characters that end flags

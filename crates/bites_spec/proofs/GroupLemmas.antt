@@ -5,14 +5,14 @@ use Rattle.std.specs.List.{list_all}
 use Rattle.bites_spec.specs.Message as message
 use Rattle.bites_spec.specs.Message.{Message, rank, too_many_groups}
 use Rattle.bites_spec.specs.Class.{single}
-use Rattle.bites_spec.specs.Pattern.{Text, Flags, Front, skip, next_is, one_of, begins, question, colon, left_parenthesis, right_parenthesis}
+use Rattle.bites_spec.specs.Pattern.{Text, Flags, Front, given, skip, next_is, one_of, begins, question, colon, left_parenthesis, right_parenthesis}
 use Rattle.bites_spec.specs.Group as relation
 use Rattle.bites_spec.specs.Group.{Opening, numbered, unnumbered, ReadsOpening, ReadsFlags, ReadsName, BeginsName, begins_name, begins_look_around, changed, with_group, is_flag_mark, is_flag_run, are_distinct}
 use Rattle.bites_spec.specs.OperatorFault.{greatest_number}
 use Rattle.bites_spec.specs.GroupFault as stuck
 use Rattle.bites_spec.specs.GroupFault.{StuckOpening}
 use Rattle.bites_spec.specs.Fault.{ComesFirst}
-use Rattle.bites_spec.specs.Reading.{Answer, Opened, directive, group, answer, stop, choose, and_then, opened, no_name, named_group, with_number, name_from, flags_from}
+use Rattle.bites_spec.specs.Reader.{ReadResult, Opened, directive, group, answer, stop, choose, and_then, opened, no_name, named_group, with_number, name_from, flags_from}
 use Rattle.bites_spec.proofs.EscapeLemmas.{Means, either_side, bool_cases}
 use Rattle.bites_spec.proofs.EachLemmas.{skip_shorter}
 use Rattle.bites_spec.proofs.ChoiceParts.{ReadsDirective, Opens, LeadsToGroup, StopsBy}
@@ -20,7 +20,7 @@ use Rattle.bites_spec.proofs.GroupNames.{both_hold, NameMeans, name_means, name_
 use Rattle.bites_spec.proofs.GroupFlags.{neither, eqb_turned, FlagsMean, flags_mean, flags_lead, closing_flags_lead, flags_stop, flags_shorter, stuck_flags_shorter}
 
 -- what the function answers behind the parenthesis and its gap
-abbrev pub OpenedMeans : Front → Text → Answer Opened → Type 0
+abbrev pub OpenedMeans : Front → Text → ReadResult Opened → Type 0
 OpenedMeans front next = Means (Opens front (left_parenthesis ∷ next)) (StuckOpening front (left_parenthesis ∷ next))
 
 -- a text that begins with these characters
@@ -32,15 +32,15 @@ begins_is (c ∷ chars) (d ∷ t) e =
     ap (λ x. x ∷ t) (sym (eqb-true c d both.0)) ∙ ap (λ x. c ∷ x) (begins_is chars t both.1)
 
 number_means : (front : Front) (next t : Text) → t ≡ skip front.flags next → next_is (single question) t ≡ false →
-    OpenedMeans front next (with_number front t (answer (group (numbered None) (with_group front)) t))
+    OpenedMeans front next (with_number front t (answer (group (numbered None) (with_group None front)) t))
 number_means front next t is plain =
     either_side (OpenedMeans front next) (nat_lt greatest_number (front.groups + 1)) _ _
     (λ b. stuck.too_many _ next t _ refl is plain (ltb-true greatest_number (front.groups + 1) b) refl)
     (λ b. (relation.number_only _ next t _ _ refl is plain refl refl, λ few. ltb-false greatest_number (front.groups + 1) b))
 
-name_answer : (front : Front) (next begun : Text) (a : Answer Text) → begins_look_around (skip front.flags next) ≡ false → BeginsName (skip front.flags next) begun →
-    nat_lt greatest_number (front.groups + 1) ≡ false → NameMeans front.names begun a →
-    OpenedMeans front next (and_then a (λ name rest. answer (group (numbered (Some name)) (record (with_group front) { names = name ∷ front.names })) rest))
+name_answer : (front : Front) (next begun : Text) (a : ReadResult Text) → begins_look_around (skip front.flags next) ≡ false → BeginsName (skip front.flags next) begun →
+    nat_lt greatest_number (front.groups + 1) ≡ false → NameMeans (given front.names) begun a →
+    OpenedMeans front next (and_then a (λ name rest. answer (group (numbered (Some name)) (with_group (Some name) front)) rest))
 name_answer front next begun (Ok x) plain begin few means =
     (relation.named _ next begun x.0 x.1 _ _ refl plain begin means refl refl, λ before. ltb-false greatest_number (front.groups + 1) few)
 name_answer front next begun (Err e) plain begin few means = stuck.in_name _ next begun _ _ refl begin means
@@ -50,7 +50,7 @@ named_means : (front : Front) (next begun : Text) → begins_look_around (skip f
 named_means front next begun plain begin =
     either_side (OpenedMeans front next) (nat_lt greatest_number (front.groups + 1)) _ _
     (λ b. stuck.too_many_named _ next begun _ refl begin (ltb-true greatest_number (front.groups + 1) b) refl)
-    (λ b. name_answer front next begun (name_from front.names [] begun) plain begin b (name_means front.names begun))
+    (λ b. name_answer front next begun (name_from (given front.names) [] begun) plain begin b (name_means (given front.names) begun))
 
 directive_means : (front : Front) (next marks run rest : Text) (flags : Flags) → skip front.flags next ≡ question ∷ marks → 0 < length run →
     ReadsFlags marks run (right_parenthesis ∷ rest) → flags ≡ changed true run front.flags → ReadsDirective front (left_parenthesis ∷ next) flags rest
@@ -58,7 +58,7 @@ directive_means front next marks [] rest flags asks some reads are = absurd (ome
 directive_means front next marks (c ∷ letters) rest flags asks some reads are =
     record { next = next; marks = marks; run = c ∷ letters; c = c; letters = letters; opens = refl; asks = asks; reads = reads; some = refl; are = are }
 
-flags_answer : (front : Front) (next marks : Text) (a : Answer Opened) → skip front.flags next ≡ question ∷ marks → begins_name (question ∷ marks) ≡ false →
+flags_answer : (front : Front) (next marks : Text) (a : ReadResult Opened) → skip front.flags next ≡ question ∷ marks → begins_name (question ∷ marks) ≡ false →
     FlagsMean front marks a → OpenedMeans front next a
 flags_answer front next marks (Ok (directive flags, rest)) asks plain means = directive_means front next marks means.0 rest flags asks means.1 means.2 means.3
 flags_answer front next marks (Ok (group opening inner, rest)) asks plain means =
@@ -111,7 +111,7 @@ asked front t plain no_one =
 
 -- without a question mark
 unasked : (front : Front) (t : Text) → next_is (single question) t ≡ false →
-    opened front t ≡ with_number front t (answer (group (numbered None) (with_group front)) t)
+    opened front t ≡ with_number front t (answer (group (numbered None) (with_group None front)) t)
 unasked front [] plain = refl
 unasked front (c ∷ t) plain =
     let other : (question == c) ≡ false = eqb_turned question c ∙ plain in
@@ -125,10 +125,10 @@ named front t begun plain begin =
     begin
 
 -- there is a number more, or the function stops
-above : (front : Front) (t : Text) (a : Answer Opened) → greatest_number < front.groups + 1 → with_number front t a ≡ stop too_many_groups t
+above : (front : Front) (t : Text) (a : ReadResult Opened) → greatest_number < front.groups + 1 → with_number front t a ≡ stop too_many_groups t
 above front t a more = first_taken (nat_lt greatest_number (front.groups + 1)) _ _ (lt-ltb greatest_number (front.groups + 1) more)
 
-number_leads : (front inner : Front) (opening : Opening) (t inside : Text) (a : Answer Opened) → length inside ≤ length t → inner.groups ≡ front.groups + 1 →
+number_leads : (front inner : Front) (opening : Opening) (t inside : Text) (a : ReadResult Opened) → length inside ≤ length t → inner.groups ≡ front.groups + 1 →
     a ≡ answer (group opening inner) inside → LeadsToGroup inner opening inside (with_number front t a)
 number_leads front inner opening t inside a within one_more leads =
     ⊎_elim
@@ -201,11 +201,11 @@ least_rank message.duplicate_name = omega arith
 least_rank m = omega arith
 
 -- the answer is this very stop
-stops_here : {a : Answer Opened} (m : Message) (place : Text) → a ≡ stop m place → StopsBy m place a
+stops_here : {a : ReadResult Opened} (m : Message) (place : Text) → a ≡ stop m place → StopsBy m place a
 stops_here m place e = subst (λ x. StopsBy m place x) (sym e) (inr (refl, omega arith))
 
 -- the answer is a stop further on the left
-stops_before : {a : Answer Opened} (m k : Message) (place at : Text) → a ≡ stop k at → length place < length at → StopsBy m place a
+stops_before : {a : ReadResult Opened} (m k : Message) (place at : Text) → a ≡ stop k at → length place < length at → StopsBy m place a
 stops_before m k place at e before = subst (λ x. StopsBy m place x) (sym e) (inl before)
 
 limit_first : (m : Message) (place at : Text) → length place ≤ length at → ComesFirst too_many_groups at m place
@@ -224,7 +224,7 @@ begun_shorter t begun begin =
     ⊎_elim (λ (e : t ≡ codes "?P<" ++ begun). omega (arith, ap length e)) (λ (e : t ≡ codes "?<" ++ begun). omega (arith, ap length e)) begin
 
 in_name_first : (front : Front) (t begun place : Text) (m : Message) → begins_look_around t ≡ false → BeginsName t begun → length place ≤ length begun →
-    name_from front.names [] begun ≡ stop m place → StopsBy m place (opened front t)
+    name_from (given front.names) [] begun ≡ stop m place → StopsBy m place (opened front t)
 in_name_first front t begun place m plain begin within stops =
     subst (λ x. StopsBy m place x) (sym (named front t begun plain begin))
     (⊎_elim

@@ -10,7 +10,7 @@ use Rattle.bites_spec.specs.Group as group
 use Rattle.bites_spec.specs.Group.{ReadsName, is_name_start, is_name_part, is_name_front, is_used}
 use Rattle.bites_spec.specs.GroupFault as stuck
 use Rattle.bites_spec.specs.GroupFault.{StuckName}
-use Rattle.bites_spec.specs.Reading.{Answer, answer, stop, name_from, name_end, name_unclosed}
+use Rattle.bites_spec.specs.Reader.{ReadResult, answer, stop, name_from, name_end, name_unclosed}
 use Rattle.bites_spec.proofs.EscapeLemmas.{Means, either_side}
 
 -- two tests that both hold
@@ -23,7 +23,7 @@ pub one_behind : (front rest : Text) (c : ℕ) → (front ++ c ∷ []) ++ rest �
 one_behind front rest c = append_assoc front (c ∷ []) rest
 
 -- what the function answers to a name: from the character behind the angle bracket on
-abbrev pub NameMeans : List Text → Text → Answer Text → Type 0
+abbrev pub NameMeans : List Text → Text → ReadResult Text → Type 0
 NameMeans names t = Means (ReadsName names t) (StuckName names t)
 
 end_means : (names : List Text) (t name rest : Text) → t ≡ name ++ right_angle ∷ rest → is_name_front name ≡ true →

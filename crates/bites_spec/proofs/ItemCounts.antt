@@ -12,7 +12,7 @@ use Rattle.bites_spec.specs.Operator.{ReadsOperator, is_greedy}
 use Rattle.bites_spec.specs.OperatorFault as stuck
 use Rattle.bites_spec.specs.OperatorFault.{StuckDecimal, StuckCount, greatest_number}
 use Rattle.bites_spec.specs.Fault.{ComesFirst}
-use Rattle.bites_spec.specs.Reading.{Answer, Bounds, answer, stop, and_then, decimal, counted, after_min, after_comma, after_max, whole_count}
+use Rattle.bites_spec.specs.Reader.{ReadResult, Bounds, answer, stop, and_then, decimal, counted, after_min, after_comma, after_max, whole_count}
 use Rattle.bites_spec.proofs.EachLemmas.{skip_shorter, decimal_complete, decimal_shorter, stuck_decimal}
 use Rattle.bites_spec.proofs.EscapeLemmas.{bool_cases}
 use Rattle.bites_spec.proofs.ChoiceParts.{StopsBy, most_of, LeadsToCount}
@@ -55,7 +55,7 @@ pub decimal_some : {flags : Flags} {t rest : Text} {v : ℕ} → ReadsDecimal fl
 decimal_some (pattern.decimal v t behind digits white rest r some w value) = let first = each_some r some in solid t first.0 first.1 first.2 first.3
 
 -- behind a decimal: what comes behind it, or the stop at its number
-after_leads : {flags : Flags} {t mid rest : Text} {v min : ℕ} {most : Option ℕ} {greedy : Bool} (next : ℕ → Text → Answer Bounds) → ReadsDecimal flags t v mid → (n : ℕ) → length t ≤ n →
+after_leads : {flags : Flags} {t mid rest : Text} {v min : ℕ} {most : Option ℕ} {greedy : Bool} (next : ℕ → Text → ReadResult Bounds) → ReadsDecimal flags t v mid → (n : ℕ) → length t ≤ n →
     v ≤ most_of min most → length rest < length mid → (v ≤ greatest_number → LeadsToCount min most greedy rest (next v mid)) →
     LeadsToCount min most greedy rest (and_then (decimal n flags t) next)
 after_leads {t = t} {mid = mid} {rest = rest} {v = v} {min = min} {most = most} {greedy = greedy} next r n room below shorter goes =
@@ -123,11 +123,11 @@ count_leads {flags} (operator.between t inside more behind rest min top most mar
     inl (ap (whole_count flags min (Some top)) (lazy_complete l) ∙ uncrossed flags min top (mark, rest) le ∙ rw (a, g) refl, omega arith))))
 
 -- this very stop
-this_stop : {a : Answer Bounds} (m : Message) (place : Text) → a ≡ stop m place → StopsBy m place a
+this_stop : {a : ReadResult Bounds} (m : Message) (place : Text) → a ≡ stop m place → StopsBy m place a
 this_stop m place e = subst (λ x. StopsBy m place x) (sym e) (inr (refl, omega arith))
 
 -- behind a decimal: what comes behind it, or the stop at its number, no later
-after_first : {flags : Flags} {t mid : Text} {v : ℕ} (m : Message) (place : Text) (next : ℕ → Text → Answer Bounds) → ReadsDecimal flags t v mid → (n : ℕ) → length t ≤ n →
+after_first : {flags : Flags} {t mid : Text} {v : ℕ} (m : Message) (place : Text) (next : ℕ → Text → ReadResult Bounds) → ReadsDecimal flags t v mid → (n : ℕ) → length t ≤ n →
     ComesFirst message.invalid_decimal mid m place → StopsBy m place (next v mid) → StopsBy m place (and_then (decimal n flags t) next)
 after_first m place next r n room first goes =
     elim (answered r n room) [
@@ -136,7 +136,7 @@ after_first m place next r n room first goes =
     ]
 
 -- a stop that comes no earlier than this one
-abbrev StopsAfter : Message → Text → Answer ℕ → Type 0
+abbrev StopsAfter : Message → Text → ReadResult ℕ → Type 0
 StopsAfter k at (Ok x) = Unit {0}
 StopsAfter k at (Err e) = ComesFirst k at e.message e.place
 

@@ -14,8 +14,8 @@ use Rattle.bites_spec.specs.Group as group
 use Rattle.bites_spec.specs.Group.{Opening, unnumbered, ReadsOpening, with_group, changed}
 use Rattle.bites_spec.specs.Grammar.{ReadsAtom, at_front}
 use Rattle.bites_spec.specs.RangesOf.{ranges_of}
-use Rattle.bites_spec.specs.Reading as reading
-use Rattle.bites_spec.specs.Reading.{Answer, Found, Stop, Reader, Opened, answer, stop, each, lazy, found, opened, at_item}
+use Rattle.bites_spec.specs.Reader as reading
+use Rattle.bites_spec.specs.Reader.{ReadResult, Found, Stop, Reader, Opened, answer, stop, each, lazy, found, opened, at_item}
 use Rattle.bites_spec.proofs.EachLemmas.{each_complete}
 use Rattle.bites_spec.proofs.GroupLemmas.{opened_leads, directive_leads}
 use Rattle.bites_spec.proofs.ClassLemmas.{ranges_of_list}
@@ -171,11 +171,11 @@ from_bare : {front inner : Front} {t inside : Text} {opening : Opening} → Read
     ReadsOpening (bare front) t opening (beyond front.groups inner) inside
 from_bare {front} (group.number_only t next inside opening inner is at e o i) =
     let one : (front.groups + 1) - front.groups ≡ 0 + 1 = omega arith in
-    group.number_only t next inside opening (beyond front.groups inner) is at e o (ap (beyond front.groups) i ∙ ap (λ g. record front { groups = g }) one)
+    group.number_only t next inside opening (beyond front.groups inner) is at e o (ap (beyond front.groups) i ∙ ap (λ g. record front { groups = g; names = None ∷ front.names }) one)
 from_bare {front} (group.named t next begun name inside opening inner is l b r o i) =
     let one : (front.groups + 1) - front.groups ≡ 0 + 1 = omega arith in
     group.named t next begun name inside opening (beyond front.groups inner) is l b r o
-    (ap (beyond front.groups) i ∙ ap (λ g. record front { groups = g; names = name ∷ front.names }) one)
+    (ap (beyond front.groups) i ∙ ap (λ g. record front { groups = g; names = Some name ∷ front.names }) one)
 from_bare {front} (group.with_flags t next marks run inside opening inner is e r o i) =
     let none : front.groups - front.groups ≡ 0 = omega arith in
     group.with_flags t next marks run inside opening (beyond front.groups inner) is e r o
@@ -189,19 +189,19 @@ opening_answer {front} {inner} {t} {inside} {opening} r next is =
     absurd (omega (arith, over.3, opening_few r)))
     (opened_leads (from_bare r) next is)
 
-abbrev opening_in : Answer Opened → Opening
+abbrev opening_in : ReadResult Opened → Opening
 opening_in (Ok (reading.group opening inner, rest)) = opening
 opening_in a = unnumbered
 
-abbrev front_in : Front → Answer Opened → Front
+abbrev front_in : Front → ReadResult Opened → Front
 front_in front (Ok (reading.group opening inner, rest)) = inner
 front_in front a = front
 
-abbrev flags_in : Flags → Answer Opened → Flags
+abbrev flags_in : Flags → ReadResult Opened → Flags
 flags_in flags (Ok (reading.directive changes, rest)) = changes
 flags_in flags a = flags
 
-abbrev behind_in : Answer Opened → Text
+abbrev behind_in : ReadResult Opened → Text
 behind_in (Ok x) = x.1
 behind_in (Err e) = []
 
@@ -233,7 +233,7 @@ directive_once {flags = flags} d e same =
     let one = sym (directive_answer d d.next d.opens) ∙ directive_answer e d.next (sym same ∙ d.opens) in
     (ap (flags_in flags) one, ap behind_in one)
 
-abbrev is_directive : Answer Opened → Bool
+abbrev is_directive : ReadResult Opened → Bool
 is_directive (Ok (reading.directive changes, rest)) = true
 is_directive a = false
 

@@ -1,6 +1,7 @@
 mod Rows
 mod TemplateRows
 pub mod PieceLemmas
+pub mod ValueLemmas
 pub mod WalkLemmas
 pub mod FirstLemmas
 pub mod RunLemmas
@@ -12,13 +13,26 @@ pub mod BuiltLemmas
 pub mod OrderLemmas
 pub mod WayLemmas
 pub mod FormOrderLemmas
+pub mod LongestLemmas
+pub mod PlaceLemmas
 pub mod PlainLemmas
 pub mod FoundLemmas
 pub mod OneLemmas
+pub mod ApartLemmas
+pub mod ListedRunLemmas
+pub mod RegexLemmas
+pub mod BoundLemmas
+pub mod RunBoundLemmas
+pub mod AlikeLemmas
+pub mod PartCountLemmas
 pub mod ListedLemmas
 pub mod FaultLemmas
 pub mod PieceTextLemmas
 pub mod SpanLemmas
+pub mod SuccessiveLemmas
+pub mod RunPlaces
+pub mod MarkPlaces
+pub mod RegexRuns
 pub mod Weights
 pub mod Readings
 pub mod Stops
@@ -56,3 +70,16 @@ pub mod WholeLaws
 pub mod WholeOnce
 pub mod FoundSomeLemmas
 pub mod ReplaceLemmas
+pub mod LeftLemmas
+pub mod KeptLemmas
+pub mod RefusedLemmas
+pub mod CuttingLemmas
+pub mod DigitLemmas
+pub mod TemplateLemmas
+pub mod TemplateTexts
+pub mod ScalarPieces
+pub mod TextPlaces
+pub mod TextMatches
+pub mod EscapedReading
+pub mod EscapedMatches
+pub mod ExpansionLemmas

@@ -9,7 +9,7 @@ use Rattle.bites_spec.specs.Tree.{Tree, Trees, empty, char, class, look, repetit
 use Rattle.bites_spec.specs.Program.{State, Program, Spot, at, state_at, edges, is_match, taking, looking}
 use Rattle.bites_spec.specs.Program as program
 use Rattle.bites_spec.specs.Run.{leads, matches, Runs, write_of}
-use Rattle.bites_spec.specs.Built.{Part, One, Behind, Copies, Options, Loop, Star, Bounded, choice}
+use Rattle.bites_spec.specs.Built.{Fragment, One, Behind, Copies, Options, Loop, Star, Bounded, choice}
 use Rattle.bites_spec.proofs.EventLemmas.{Event, opened, closed, writes_of, writes_of-append}
 
 -- where a way ends, and its events
@@ -159,7 +159,7 @@ module _ (p : Program) (hay : List ℕ) where
   unfoldable pub runs_within : ℕ → Spot → List Tour
   runs_within zero s = []
   runs_within (suc n) s =
-      if matches p hay s then record { end = s.place; writes = [] } ∷ []
+      if matches p s then record { end = s.place; writes = [] } ∷ []
       else flat_map (λ t. map (before (writes_at s)) (runs_within n t)) (leads p hay s)
 
   -- from some length on there are no more runs than these
@@ -220,7 +220,7 @@ module _ (p : Program) (hay : List ℕ) where
   same_runs s a b e h = subst (AreRuns s) e h
 
   -- The runs from where the part is entered are the ways of the part, each with the runs from where the part leads.
-  abbrev pub Does : Part → (ℕ → List Trip) → Type 0
+  abbrev pub Does : Fragment → (ℕ → List Trip) → Type 0
   Does part ways = (from to : ℕ) (used : List ℕ) → part from to used → (i : ℕ) (k : ℕ → List Tour) →
       Every (λ t. AreRuns (at to t.end) (k t.end)) (ways i) → AreRuns (at from i) (onward (ways i) k)
 
@@ -244,7 +244,7 @@ module _ (p : Program) (hay : List ℕ) where
       ready true each = each
       ready false each = tt
 
-  pub Behind-does : (first second : Part) (v w : ℕ → List Trip) → Does first v → Does second w →
+  pub Behind-does : (first second : Fragment) (v w : ℕ → List Trip) → Does first v → Does second w →
       Does (Behind p.states first second) (λ i. behind (v i) w)
   Behind-does first second v w one two from to used (mid, a, b, h, g, e) i k each =
       same_runs (at from i) _ _ (sym (onward_twice (v i) w k))
@@ -301,7 +301,7 @@ module _ (p : Program) (hay : List ℕ) where
   no_ways i [] past all = refl
   no_ways i (t ∷ ts) past all = absurd (omega (arith, all.0.0, all.0.1))
 
-  module _ (greedy : Bool) (body : Part) (ways : ℕ → List Trip) (does : Does body ways) where
+  module _ (greedy : Bool) (body : Fragment) (ways : ℕ → List Trip) (does : Does body ways) where
     module _ (advances : Advances ways) where
       -- at the choice of a loop
       star_turns : (from to round : ℕ) (a : List ℕ) → body round from a → state_at p.states from ≡ choice p.states greedy round to →
@@ -351,7 +351,7 @@ module _ (p : Program) (hay : List ℕ) where
     Bounded-does n from to used (out, a, h, goes, e) i k each =
         Options-does n out from out a h i k (Every-also _ _ (up_to n greedy ways i) (λ t ready. over out to t.end (k t.end) goes ready) each)
 
-    pub Copies-does : (n : ℕ) (rest : Part) (w : ℕ → List Trip) → Does rest w → Does (Copies p.states n body rest) (after_turns n ways w)
+    pub Copies-does : (n : ℕ) (rest : Fragment) (w : ℕ → List Trip) → Does rest w → Does (Copies p.states n body rest) (after_turns n ways w)
     unfolding after_turns
     Copies-does zero rest w more = more
     Copies-does (suc n) rest w more = Behind-does body (Copies p.states n body rest) ways (after_turns n ways w) does (Copies-does n rest w more)

@@ -10,7 +10,7 @@ use Rattle.bites_spec.specs.Match.{IsWithin, Turns, Takes}
 use Rattle.bites_spec.specs.Program.{State, Program, Spot, at, state_at, edges, is_match, taking, looking, targets_of}
 use Rattle.bites_spec.specs.Program as program
 use Rattle.bites_spec.specs.Run.{Runs, writes, write_of}
-use Rattle.bites_spec.specs.Built.{Part, One, Behind, Copies, Options, Loop, Star, OptionalLoop, Bounded, Counted, Repeated, choice, class_state, HasForm, HasFormAll, HasFormEach}
+use Rattle.bites_spec.specs.Built.{Fragment, One, Behind, Copies, Options, Loop, Star, OptionalLoop, Bounded, CopiesUpTo, Repeated, choice, class_state, HasForm, HasFormAll, HasFormEach}
 use Rattle.bites_spec.proofs.EventLemmas.{Event, opened, closed, writes_of, writes_of-append, Steps, StepsAll, StepsOne}
 
 -- what a part may do: from i to l, with these events
@@ -55,7 +55,7 @@ module _ (p : Program) (hay : List ℕ) where
   RunsTo = Runs p hay
 
   abbrev written : Spot → List Spot → List (ℕ × ℕ)
-  written = writes p hay
+  written = writes p
 
   -- a way to l, and a run from there that is no longer
   pub record Onward (R : Ways) (to i j n : ℕ) (ws : List (ℕ × ℕ)) : Type 0 where
@@ -68,14 +68,14 @@ module _ (p : Program) (hay : List ℕ) where
     pub shorter : length rest ≤ n
 
   -- a run from where the part is entered is a way through it, and a run from where it leads
-  abbrev pub Leaves : Part → Ways → Type 0
+  abbrev pub Leaves : Fragment → Ways → Type 0
   Leaves part R = (from to : ℕ) (used : List ℕ) → part from to used → (i j : ℕ) (r : List Spot) →
       RunsTo (at from i) r j → Onward R to i j (length r) (written (at from i) r)
 
   also : (R T : Ways) (to i j n : ℕ) (ws : List (ℕ × ℕ)) → ((l : ℕ) (es : List Event) → R i l es → T i l es) → Onward R to i j n ws → Onward T to i j n ws
   also R T to i j n ws f x = record { l = x.l; events = x.events; way = f x.l x.events x.way; rest = x.rest; runs = x.runs; same = x.same; shorter = x.shorter }
 
-  Leaves-also : (part : Part) (R T : Ways) → ((i l : ℕ) (es : List Event) → R i l es → T i l es) → Leaves part R → Leaves part T
+  Leaves-also : (part : Fragment) (R T : Ways) → ((i l : ℕ) (es : List Event) → R i l es → T i l es) → Leaves part R → Leaves part T
   Leaves-also part R T f leaves from to used h i j r runs = also R T to i j (length r) _ (f i) (leaves from to used h i j r runs)
 
   -- a run goes on from a state that is no match
@@ -154,7 +154,7 @@ module _ (p : Program) (hay : List ℕ) where
   close_does : (k b : ℕ) → Does (λ to. program.capture to (2 * k + 1)) (Closes k b)
   close_does k b to i t h = (i, Among-only (at to i) t h, (closed k b i ∷ [], (refl, refl), refl))
 
-  Behind-leaves : (first second : Part) (R T : Ways) → Leaves first R → Leaves second T → Leaves (Behind p.states first second) (Both R T)
+  Behind-leaves : (first second : Fragment) (R T : Ways) → Leaves first R → Leaves second T → Leaves (Behind p.states first second) (Both R T)
   Behind-leaves first second R T one two from to used (mid, a, b, h, k, e) i j r runs =
       let x = one from mid a h i j r runs in
       let y = two mid to b k x.l j x.rest x.runs in
@@ -228,7 +228,7 @@ module _ (p : Program) (hay : List ℕ) where
   longer R to i j n m ws vs le e x =
       record { l = x.l; events = x.events; way = x.way; rest = x.rest; runs = x.runs; same = e ∙ x.same; shorter = omega (arith, x.shorter) }
 
-  module _ (greedy : Bool) (body : Part) (R : Ways) (inside : Leaves body R) where
+  module _ (greedy : Bool) (body : Fragment) (R : Ways) (inside : Leaves body R) where
     star_rounds : (from to round : ℕ) (a : List ℕ) → body round from a → state_at p.states from ≡ choice p.states greedy round to →
         (n i j : ℕ) (r : List Spot) → length r < n → RunsTo (at from i) r j → Onward (Several Any R) to i j (length r) (written (at from i) r)
     star_rounds from to round a h is zero i j r le runs = absurd (omega arith)
@@ -328,7 +328,7 @@ module _ (p : Program) (hay : List ℕ) where
     once : Leaves body (Several (λ m. m ≡ 1) R)
     once = Leaves-also body R (Several (λ m. m ≡ 1) R) (λ i l es h. (1, refl, (l, es, [], h, (refl, refl), sym (append-nil es)))) inside
 
-    Copies-leaves : (n : ℕ) (rest : Part) (P : ℕ → Type 0) → Leaves rest (Several P R) →
+    Copies-leaves : (n : ℕ) (rest : Fragment) (P : ℕ → Type 0) → Leaves rest (Several P R) →
         Leaves (Copies p.states n body rest) (Several (λ m. (k : ℕ) × P k × (m ≡ n + k)) R)
     Copies-leaves zero rest P leaves =
         Leaves-also rest (Several P R) (Several (λ m. (k : ℕ) × P k × (m ≡ 0 + k)) R)
@@ -340,12 +340,12 @@ module _ (p : Program) (hay : List ℕ) where
         (suc m, (c.0, c.1, omega (arith, c.2)), (h.0, h.1, h.2, h.3, h.4.2, h.5)))
         (Behind-leaves body (Copies p.states n body rest) R (Several (λ m. (k : ℕ) × P k × (m ≡ n + k)) R) inside (Copies-leaves n rest P leaves))
 
-    Counted-leaves : (n more : ℕ) → Leaves (Counted p.states n more greedy body) (Several (λ m. (suc n ≤ m) × (m ≤ suc n + more)) R)
-    Counted-leaves n zero =
+    CopiesUpTo-leaves : (n more : ℕ) → Leaves (CopiesUpTo p.states n more greedy body) (Several (λ m. (suc n ≤ m) × (m ≤ suc n + more)) R)
+    CopiesUpTo-leaves n zero =
         Leaves-also (Copies p.states n body body) (Several (λ m. (k : ℕ) × (k ≡ 1) × (m ≡ n + k)) R) (Several (λ m. (suc n ≤ m) × (m ≤ suc n + 0)) R)
         (λ i l es h. let c = h.1 in (h.0, (omega (arith, c.1, c.2), omega (arith, c.1, c.2)), h.2))
         (Copies-leaves n body (λ m. m ≡ 1) once)
-    Counted-leaves n (suc more) =
+    CopiesUpTo-leaves n (suc more) =
         Leaves-also (Copies p.states (suc n) body (Bounded p.states (suc more) greedy body))
         (Several (λ m. (k : ℕ) × (k ≤ suc more) × (m ≡ suc n + k)) R) (Several (λ m. (suc n ≤ m) × (m ≤ suc n + suc more)) R)
         (λ i l es h. let c = h.1 in (h.0, (omega (arith, c.2), omega (arith, c.1, c.2)), h.2))
@@ -380,7 +380,7 @@ module _ (p : Program) (hay : List ℕ) where
     Repeated-leaves (suc n) (Some most) is_empty is_count =
         Leaves-also _ (Several (λ m. (suc n ≤ m) × (m ≤ suc n + (most - suc n))) R) _
         (λ i l es h. let c = h.1 in (h.0, c.0, omega (arith, c.1, is_count.0), h.2))
-        (Counted-leaves n (most - suc n))
+        (CopiesUpTo-leaves n (most - suc n))
 
   group_way : (k : ℕ) (name : Option (List ℕ)) (t : Tree) (i l : ℕ) (es : List Event) → Both (Opens k) (Both (Steps hay t) (Closes k i)) i l es →
       Steps hay (group k name t) i l es

@@ -58,7 +58,7 @@ pub piece_none : (hay : List ℕ) (i : ℕ) → length hay ≤ i → (piece hay 
 unfolding piece
 piece_none hay i le = omega (arith, (piece_of_len (drop i hay)).0, length-drop i hay)
 
-Among-places_within : (n : ℕ) (hay : List ℕ) (s i : ℕ) → Among (places_within n hay s) i → (s ≤ i) × (i ≤ length hay)
+pub Among-places_within : (n : ℕ) (hay : List ℕ) (s i : ℕ) → Among (places_within n hay s) i → (s ≤ i) × (i ≤ length hay)
 Among-places_within zero hay s i h = absurd h
 Among-places_within (suc n) hay s i h =
     ⊎_elim
@@ -75,9 +75,10 @@ pub Among-places : (hay : List ℕ) (s i : ℕ) → Among (places hay s) i → (
 unfolding places
 Among-places hay s i h = Among-places_within (suc (length hay)) hay s i h
 
+-- a scan always goes on
+pub step_some : (hay : List ℕ) (s : ℕ) → 0 < step_len hay s
+step_some hay s = omega arith
+
 -- the places stand in order: those behind the first are above it
 pub places_within_above : (n : ℕ) (hay : List ℕ) (s i : ℕ) → Among (places_within n hay (s + step_len hay s)) i → s < i
 places_within_above n hay s i h = omega (arith, (Among-places_within n hay (s + step_len hay s) i h).0, step_some hay s)
-  where
-    step_some : (hay : List ℕ) (s : ℕ) → 0 < step_len hay s
-    step_some hay s = omega arith

@@ -50,7 +50,7 @@ named_group : is_alphabetic 120 ≡ true → Reads (codes "(?<x>a)") no_flags (t
 unfolding encode_utf8
 named_group alphabetic = record {
   branches = tree.group 1 (Some (codes "x")) (char 97) ∷ [];
-  behind = record { flags = no_flags; groups = 1; names = codes "x" ∷ [] };
+  behind = record { flags = no_flags; groups = 1; names = Some (codes "x") ∷ [] };
   reads =
       one _ _ _ _ _ _
       (goes_on _ _ _ _ _ _ _ _ _

@@ -170,7 +170,7 @@ self_loop = record {
   slots = 2;
 }
 
-self_loop_slots : option_map (slots self_loop (codes "aab")) (first_run self_loop (codes "aab") 0) ≡ Some (Some 0 ∷ Some 2 ∷ [])
+self_loop_slots : option_map (slots self_loop) (first_run self_loop (codes "aab") 0) ≡ Some (Some 0 ∷ Some 2 ∷ [])
 unfolding self_loop first_run first_run_from walks.first_run piece front_piece places
 self_loop_slots = refl
 
@@ -185,7 +185,7 @@ empty_first = record {
   slots = 2;
 }
 
-empty_first_run : option_map (slots empty_first (codes "a")) (first_run empty_first (codes "a") 0) ≡ Some (Some 0 ∷ Some 0 ∷ [])
+empty_first_run : option_map (slots empty_first) (first_run empty_first (codes "a") 0) ≡ Some (Some 0 ∷ Some 0 ∷ [])
 unfolding empty_first first_run first_run_from walks.first_run piece front_piece places
 empty_first_run = refl
 
@@ -200,7 +200,7 @@ star_of_star = record {
   slots = 4;
 }
 
-star_of_star_run : option_map (slots star_of_star (codes "b")) (first_run star_of_star (codes "b") 0)
+star_of_star_run : option_map (slots star_of_star) (first_run star_of_star (codes "b") 0)
     ≡ Some (Some 0 ∷ Some 0 ∷ Some 0 ∷ Some 0 ∷ [])
 unfolding star_of_star first_run first_run_from walks.first_run piece front_piece places
 star_of_star_run = refl
@@ -264,7 +264,9 @@ star_of_star_built = record {
   );
   ends = refl;
   each_once = once;
+  groups = 2;
   slots = refl;
+  room = omega arith;
 }
   where
     once : (q : ℕ) → count_by (λ u. u == q) (9 ∷ 0 ∷ 1 ∷ 7 ∷ 6 ∷ 2 ∷ 3 ∷ 4 ∷ 5 ∷ 8 ∷ []) ≡ (if nat_lt q 10 then 1 else 0)

@@ -70,7 +70,7 @@ states_at len slots (s ∷ ss) zero are t h = are.0 t h
 states_at len slots (s ∷ ss) (suc q) are t h = states_at len slots ss q are.3 t h
 
 module _ (p : Program) (hay : List ℕ) where
-  pub match_ends : (s : Spot) → matches p hay s ≡ true → leads p hay s ≡ []
+  pub match_ends : (s : Spot) → matches p s ≡ true → leads p hay s ≡ []
   match_ends s = at_state (state_at p.states s.state)
     where
       at_state : (st : State) → is_match st ≡ true → edges hay st s.place ≡ []
@@ -130,7 +130,7 @@ module _ (p : Program) (hay : List ℕ) where
   less_seen true false = omega arith
   less_seen false b = omega arith
 
-  pub fewer : (s : Spot → Bool) (t : Spot) → Inside t → s t ≡ false → unseen (with_spot is_same_spot (leads p hay) (matches p hay) s t) < unseen s
+  pub fewer : (s : Spot → Bool) (t : Spot) → Inside t → s t ≡ false → unseen (with_spot is_same_spot (leads p hay) (matches p) s t) < unseen s
   unfolding unseen
   fewer s t inside new =
       total_less (length p.states) _ _
@@ -163,13 +163,13 @@ module _ (p : Program) (hay : List ℕ) where
         let r = edge_to (state_at p.states s.state) s.place t inside.1 h in
         (states_at (length p.states) p.slots p.states s.state well.states t.state r.0, r.1)
 
-Walk-ends : (p : Program) (hay : List ℕ) (s : Spot) (r : List Spot) → Walk (leads p hay) (λ q. matches p hay q ≡ true) s r →
+Walk-ends : (p : Program) (hay : List ℕ) (s : Spot) (r : List Spot) → Walk (leads p hay) (λ q. matches p q ≡ true) s r →
     Runs p hay s r (last_of s r).place
 Walk-ends p hay s [] walk = (walk, refl)
 Walk-ends p hay s (t ∷ r) walk = (walk.0, Walk-ends p hay t r walk.1)
 
 Runs-walk : (p : Program) (hay : List ℕ) (s : Spot) (r : List Spot) (j : ℕ) → Runs p hay s r j →
-    Walk (leads p hay) (λ q. matches p hay q ≡ true) s r
+    Walk (leads p hay) (λ q. matches p q ≡ true) s r
 Runs-walk p hay s [] j runs = runs.0
 Runs-walk p hay s (t ∷ r) j runs = (runs.0, Runs-walk p hay t r j runs.1)
 
@@ -180,7 +180,7 @@ pub record FirstPlace {B : Type 0} (f : ℕ → Option B) (ps : List ℕ) (r : B
   pub is : f place ≡ Some r
   pub none_before : (k : ℕ) → Among ps k → k < place → f k ≡ None
 
-first_place : {B : Type 0} (f : ℕ → Option B) (n : ℕ) (hay : List ℕ) (s : ℕ) (r : B) → first_among f (places_within n hay s) ≡ Some r →
+pub first_place : {B : Type 0} (f : ℕ → Option B) (n : ℕ) (hay : List ℕ) (s : ℕ) (r : B) → first_among f (places_within n hay s) ≡ Some r →
     FirstPlace f (places_within n hay s) r
 first_place f zero hay s r e = absurd (none-some r e)
 first_place {B} f (suc n) hay s r e =
@@ -210,7 +210,7 @@ first_place {B} f (suc n) hay s r e =
     rest : List ℕ
     rest = places_within n hay (s + step_len hay s)
 
-no_place : {B : Type 0} (f : ℕ → Option B) (ps : List ℕ) → first_among f ps ≡ None → (k : ℕ) → Among ps k → f k ≡ None
+pub no_place : {B : Type 0} (f : ℕ → Option B) (ps : List ℕ) → first_among f ps ≡ None → (k : ℕ) → Among ps k → f k ≡ None
 no_place f [] e k h = absurd h
 no_place f (q ∷ ps) e k h =
     let both = or_none (f q) (first_among f ps) e in
@@ -218,7 +218,7 @@ no_place f (q ∷ ps) e k h =
 
 module _ (p : Program) (hay : List ℕ) (well : IsWellFormed p) where
   abbrev found_from : ℕ → Option (List Spot)
-  found_from i = walks.first_run is_same_spot (leads p hay) (matches p hay) (enough p hay) (λ s. false) (at p.start i)
+  found_from i = walks.first_run is_same_spot (leads p hay) (matches p) (enough p hay) (λ s. false) (at p.start i)
 
   -- the run that is answered is a simple run, and the first one
   pub record FoundFrom (i : ℕ) (r : Run) : Type 0 where
@@ -232,30 +232,30 @@ module _ (p : Program) (hay : List ℕ) (well : IsWellFormed p) where
   found_is : (i : ℕ) (r : Run) (o : Option (List Spot)) → found_from i ≡ o → option_and_then (run_of p hay i) o ≡ Some r → i ≤ length hay → FoundFrom i r
   found_is i r None is e le = absurd (none-some r e)
   found_is i r (Some l) is e le =
-      let h = sound is_same_spot (leads p hay) (matches p hay) same_is same_refl (match_ends p hay) (enough p hay) (λ s. false) (at p.start i) l is in
+      let h = sound is_same_spot (leads p hay) (matches p) same_is same_refl (match_ends p hay) (enough p hay) (λ s. false) (at p.start i) l is in
       let same : record { start = i; spots = h.0; end = (last_of (at p.start i) h.0).place } ≡ r =
       same_Some _ _ (sym (ap (run_of p hay i) h.1) ∙ e) in
       subst (λ r. FoundFrom i r) same record {
         start = refl;
         runs = Walk-ends p hay (at p.start i) h.0 h.2;
         first_of = record {
-          simple = Apart-simple is_same_spot (leads p hay) (matches p hay) same_is same_refl (match_ends p hay) (λ s. false) (at p.start i) h.0 h.3;
+          simple = Apart-simple is_same_spot (leads p hay) (matches p) same_is same_refl (match_ends p hay) (λ s. false) (at p.start i) h.0 h.3;
           first = λ o j runs simple wanted.
-              first is_same_spot (leads p hay) (matches p hay) same_is same_refl (match_ends p hay)
+              first is_same_spot (leads p hay) (matches p) same_is same_refl (match_ends p hay)
               (Inside p hay) (inside_on p hay well) (unseen p hay) (fewer p hay) (enough p hay) (λ s. false) (at p.start i) h.0
               (starts i le) (enough_for_all p hay (λ s. false)) (is ∙ ap Some h.1) o (Runs-walk p hay (at p.start i) o j runs)
-              (Apart-of is_same_spot (leads p hay) (matches p hay) same_is same_refl (match_ends p hay) (λ s. false) (at p.start i) o simple (λ q h. refl));
+              (Apart-of is_same_spot (leads p hay) (matches p) same_is same_refl (match_ends p hay) (λ s. false) (at p.start i) o simple (λ q h. refl));
         };
       }
 
   none_is : (i : ℕ) (o : Option (List Spot)) → found_from i ≡ o → option_and_then (run_of p hay i) o ≡ None → i ≤ length hay →
       (r : List Spot) (j : ℕ) → IsRun p hay i r j → ⊥
   none_is i None is e le r j runs =
-      none_at_all is_same_spot (leads p hay) (matches p hay) same_is same_refl (match_ends p hay)
+      none_at_all is_same_spot (leads p hay) (matches p) same_is same_refl (match_ends p hay)
       (Inside p hay) (inside_on p hay well) (unseen p hay) (fewer p hay) (enough p hay) (λ s. false) (at p.start i)
       (starts i le) (enough_for_all p hay (λ s. false)) is (λ q. refl) r (Runs-walk p hay (at p.start i) r j runs)
   none_is i (Some l) is e le r j runs =
-      let h = sound is_same_spot (leads p hay) (matches p hay) same_is same_refl (match_ends p hay) (enough p hay) (λ s. false) (at p.start i) l is in
+      let h = sound is_same_spot (leads p hay) (matches p) same_is same_refl (match_ends p hay) (enough p hay) (λ s. false) (at p.start i) l is in
       absurd (none-some _ (sym e ∙ ap (run_of p hay i) h.1))
 
   -- from each place: a first simple run, or none at all

@@ -3,23 +3,19 @@ use Rattle.std.proofs.Common.{◌≡◌, ℕ, ◌+◌, ◌<◌, ◌≤◌, Bool,
 use Rattle.std.specs.Prelude.{nat_lt}
 use Rattle.bites_spec.specs.Utf8.{step_len}
 use Rattle.bites_spec.specs.Match.{Span}
-use Rattle.bites_spec.specs.Spans.{Due, Follow, Successive, EndsGrow}
+use Rattle.bites_spec.specs.Spans.{Due, Follow, Successive, LiesFrom, EndsGrow}
 use Rattle.bites_spec.specs.Pieces.{AreInOrder}
 
-bool_cases : (b : Bool) → (b ≡ true) ⊎ (b ≡ false)
+pub bool_cases : (b : Bool) → (b ≡ true) ⊎ (b ≡ false)
 bool_cases true = inl refl
 bool_cases false = inr refl
 
 step_some : (hay : List ℕ) (e : ℕ) → 0 < step_len hay e
 step_some hay e = omega arith
 
--- A search from s answers what begins there or later, within the haystack.
-abbrev pub Lies : ℕ → ℕ → Span → Type 0
-Lies len s x = (s ≤ x.start) × (x.start ≤ x.end) × (x.end ≤ len)
-
 module _ {B : Type 0} (span_of : B → Span) (hay : List ℕ) (A : ℕ → Option B → Type 0)
-    (lies : (s : ℕ) (x : B) → A s (Some x) → Lies (length hay) s (span_of x)) where
-  due_next : (e : ℕ) (x : B) → Due span_of hay A e (Some x) → Lies (length hay) e (span_of x) × (e < (span_of x).end)
+    (lies : (s : ℕ) (x : B) → A s (Some x) → LiesFrom (length hay) s (span_of x)) where
+  pub due_next : (e : ℕ) (x : B) → Due span_of hay A e (Some x) → LiesFrom (length hay) e (span_of x) × (e < (span_of x).end)
   due_next e x due =
       ⊎_elim
       (λ now.

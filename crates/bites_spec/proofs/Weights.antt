@@ -2,7 +2,7 @@
 use Rattle.std.proofs.Common.{◌≡◌, true, [], ◌∷◌, Some, None, refl}
 use Rattle.std.specs.Prelude.{codes}
 use Rattle.bites_spec.specs.Tree.{empty, char, class, repetition, group, sequence, alternation, no_tree, tree_and, repetition_of, captures_len}
-use Rattle.bites_spec.specs.Measure.{weight, static_count}
+use Rattle.bites_spec.specs.Measure.{weight, weight_with, static_count}
 
 empty_pattern : weight empty ≡ 144
 empty_pattern = refl
@@ -33,6 +33,13 @@ surrogate_neighbours = refl
 
 named_group : weight (group 1 (Some (codes "y")) (char 97)) ≡ 229
 named_group = refl
+
+-- (?<x>a){0}(b), with the groups left in the tree and with those that the pattern opens
+dropped_by_left : weight (sequence (tree_and empty (tree_and (group 2 None (char 98)) no_tree))) ≡ 272
+dropped_by_left = refl
+
+dropped_by_opened : weight_with (None ∷ Some (codes "x") ∷ None ∷ []) (sequence (tree_and empty (tree_and (group 2 None (char 98)) no_tree))) ≡ 277
+dropped_by_opened = refl
 
 dropped_group : captures_len (sequence (tree_and (group 1 None (char 97)) (tree_and (repetition_of 0 (Some 0) true (group 2 None (char 97))) no_tree))) ≡ 2
 dropped_group = refl

@@ -9,10 +9,10 @@ use Rattle.bites_spec.specs.Pattern.{Text, Flags}
 use Rattle.bites_spec.specs.Grammar.{Reading, at_front}
 use Rattle.bites_spec.specs.Measure.{Limits, IsTooTall, height, open_in_choice, count_in_choice}
 use Rattle.bites_spec.specs.Fault.{IsStuck, Fault, ComesFirst}
-use Rattle.bites_spec.specs.GrammarLaws.{FaultsOnce, ReaderReads, Refuses, ReaderRefuses}
+use Rattle.bites_spec.specs.GrammarLaws.{FaultsOnce, ReaderReads, IsRefusedBy, ReaderRefuses}
 use Rattle.bites_spec.specs.RangesOf.{ranges_of}
 use Rattle.bites_spec.proofs.ClassLemmas.{ranges_of_list}
-use Rattle.bites_spec.specs.Reading.{Stop, Found, inner, read}
+use Rattle.bites_spec.specs.Reader.{Stop, Found, inner, read}
 use Rattle.bites_spec.proofs.ChoiceLeads.{Passes, by_nesting, by_count, by_number, StopsAtLimit, choice_leads}
 use Rattle.bites_spec.proofs.ChoiceFirst.{StopsFirst, choice_first}
 use Rattle.bites_spec.proofs.WholeSound.{read_within, read_stuck, within_limits, tall_or_low}
@@ -47,6 +47,18 @@ module _ (list_of : Set → List Range) (lists : (set : Set) → Lists (list_of 
       (λ (s : StopsAtLimit nest_limit 0 (open_in_choice r.reads) (count_in_choice r.reads) r.behind.groups []
       (inner list_of nest_limit (suc (length pattern)) 0 (at_front flags) [] [] pattern)).
       stops s.at (ap ended s.is) s.passes)
+      (choice_leads list_of lists nest_limit r.reads (suc (length pattern)) 0 [] (omega arith) refl)
+
+  -- where the reader finds branches, a reading of the pattern ends with the same front
+  pub behind_found : {pattern : Text} {flags : Flags} {t : Tree} (r : Reading pattern flags t) (f : Found) →
+      inner list_of nest_limit (suc (length pattern)) 0 (at_front flags) [] [] pattern ≡ Ok f → r.behind ≡ f.behind
+  behind_found {pattern} {flags} {t} r f is =
+      ⊎_elim
+      (λ (on : inner list_of nest_limit (suc (length pattern)) 0 (at_front flags) [] [] pattern ≡ Ok (record { branches = r.branches; behind = r.behind; rest = [] })).
+      let same : record { branches = r.branches; behind = r.behind; rest = [] } ≡ f = cc in ap (λ (x : Found). x.behind) same)
+      (λ (s : StopsAtLimit nest_limit 0 (open_in_choice r.reads) (count_in_choice r.reads) r.behind.groups []
+      (inner list_of nest_limit (suc (length pattern)) 0 (at_front flags) [] [] pattern)).
+      let stopped = s.is in cc)
       (choice_leads list_of lists nest_limit r.reads (suc (length pattern)) 0 [] (omega arith) refl)
 
   -- a tree within the limits is the reader's answer
@@ -133,7 +145,7 @@ reader_reads pattern flags nest_limit t = (
 )
 
 refuses : (pattern : Text) (flags : Flags) (nest_limit : ℕ) (m : Message) (a : Result Tree Stop) → read ranges_of nest_limit pattern flags ≡ a →
-    Fault pattern flags nest_limit m → Refuses nest_limit m a
+    Fault pattern flags nest_limit m → IsRefusedBy nest_limit m a
 refuses pattern flags nest_limit m (Ok t) is (inl f) = absurd (let s = stuck_leads ranges_of ranges_of_list nest_limit f.stuck in cc)
 refuses pattern flags nest_limit m (Ok t) is (inr f) =
     elim (read_leads ranges_of ranges_of_list nest_limit f.reads) [
@@ -143,7 +155,7 @@ refuses pattern flags nest_limit m (Ok t) is (inr f) =
 refuses pattern flags nest_limit m (Err e) is f = faults_once pattern flags nest_limit m e.message f (stop_is_fault ranges_of ranges_of_list nest_limit e is)
 
 refused : (pattern : Text) (flags : Flags) (nest_limit : ℕ) (m : Message) (a : Result Tree Stop) → read ranges_of nest_limit pattern flags ≡ a →
-    Refuses nest_limit m a → Fault pattern flags nest_limit m
+    IsRefusedBy nest_limit m a → Fault pattern flags nest_limit m
 refused pattern flags nest_limit m (Ok t) is r = subst (Fault pattern flags nest_limit) (sym r.1) (tall_is_fault ranges_of ranges_of_list nest_limit t is r.0)
 refused pattern flags nest_limit m (Err e) is r = subst (Fault pattern flags nest_limit) (sym r) (stop_is_fault ranges_of ranges_of_list nest_limit e is)
 

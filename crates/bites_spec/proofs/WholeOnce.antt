@@ -10,6 +10,8 @@ use Rattle.bites_spec.specs.Group.{ReadsOpening, changed}
 use Rattle.bites_spec.specs.Grammar as grammar
 use Rattle.bites_spec.specs.Grammar.{ReadsAtom, ReadsItem, ReadsSequence, ReadsChoice, is_special, ends_sequence, group_of}
 use Rattle.bites_spec.specs.GrammarLaws.{ReadsOnce}
+use Rattle.bites_spec.specs.GroupLaws.{OpenedOnce}
+use Rattle.bites_spec.specs.Measure.{opened_by}
 use Rattle.bites_spec.proofs.EscapeLemmas.{bool_cases}
 use Rattle.bites_spec.proofs.BracketLemmas.{escape_begins, bracket_begins}
 use Rattle.bites_spec.proofs.GroupFlags.{neither}
@@ -168,3 +170,8 @@ mutual
 -- a pattern has at most one tree
 pub reads_once : ReadsOnce
 reads_once pattern flags t u r s = r.is_choice ∙ ap choice_of (choice_once r.reads s.reads refl refl refl refl).0 ∙ sym s.is_choice
+
+-- a pattern opens its groups in one way
+pub opened_once : OpenedOnce
+opened_once pattern flags t u r s =
+    ap opened_by (choice_once r.reads s.reads refl refl refl refl).1

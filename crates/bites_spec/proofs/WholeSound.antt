@@ -9,7 +9,7 @@ use Rattle.bites_spec.specs.OperatorFault.{greatest_number}
 use Rattle.bites_spec.specs.Grammar.{Reading, at_front}
 use Rattle.bites_spec.specs.Measure.{Limits, IsTooTall, height, open_in_choice, count_in_choice}
 use Rattle.bites_spec.specs.Fault.{IsStuck}
-use Rattle.bites_spec.specs.Reading.{Stop, Found, read}
+use Rattle.bites_spec.specs.Reader.{Stop, Found, read}
 use Rattle.bites_spec.proofs.ChoiceSound.{Says, Choice, adds_choice}
 use Rattle.bites_spec.proofs.ChoiceReader.{inner_says, stops_choice}
 

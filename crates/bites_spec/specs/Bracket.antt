@@ -1,9 +1,10 @@
 -- Classes in brackets.
 use Rattle.std.specs.Prelude.{◌≡◌, ℕ, ◌<◌, ◌≤◌, Bool, true, false, not, ◌&&◌, ◌||◌, ◌==◌, List, [], ◌∷◌, ◌++◌, length, codes, Option, Some, None, if◌then◌else◌}
+use Rattle.bites_spec.specs.Code.{code}
 use Rattle.bites_spec.specs.Class
 use Rattle.bites_spec.specs.Pattern
 use Rattle.bites_spec.specs.Range.{Range}
-use Rattle.bites_spec.specs.Class.{Set, NamedClass, name_of, members, single, between, union, complement, folded, Lists}
+use Rattle.bites_spec.specs.Class.{Set, NamedClass, class_name, members, single, between, union, complement, folded, Lists}
 use Rattle.bites_spec.specs.Pattern.{Text, Flags, skip, next_is, one_of, backslash, dash, left_bracket, right_bracket, ReadsEach}
 use Rattle.bites_spec.specs.Escape.{Meaning, character, characters, assertion, ReadsEscape}
 
@@ -58,14 +59,14 @@ is_twice c (d ∷ t) = (d == c) && next_is (single c) t
 
 -- an operator on sets stands here: && or -- or ~~
 abbrev pub is_set_operator : Text → Bool
-is_set_operator t = is_twice 38 t || is_twice dash t || is_twice 126 t
+is_set_operator t = is_twice (code "&") t || is_twice dash t || is_twice (code "~") t
 
 -- `ReadsMember flags t set rest`: from t up to rest stands an item of a class
 pub data ReadsMember (flags : Flags) : Text → Set → Text → Type 0 where
   named : (name : NamedClass) (t rest : Text) (set : Set) →
-      t ≡ codes "[:" ++ name_of name ++ codes ":]" ++ rest → set ≡ members name → ReadsMember flags t set rest
+      t ≡ codes "[:" ++ class_name name ++ codes ":]" ++ rest → set ≡ members name → ReadsMember flags t set rest
   not_named : (name : NamedClass) (t rest : Text) (set : Set) →
-      t ≡ codes "[:^" ++ name_of name ++ codes ":]" ++ rest → set ≡ complement (members name) → ReadsMember flags t set rest
+      t ≡ codes "[:^" ++ class_name name ++ codes ":]" ++ rest → set ≡ complement (members name) → ReadsMember flags t set rest
   range : (low high : ℕ) (t behind next rest : Text) (set : Set) →
       may_be_first t ≡ true → ReadsEnd flags t (character low) behind → skip flags behind ≡ dash ∷ next →
       may_be_second (skip flags next) ≡ true → ReadsEnd flags (skip flags next) (character high) rest → low ≤ high →

@@ -1,5 +1,6 @@
 -- Classes of characters as sets, and the ranges that list a set.
 use Rattle.std.specs.Prelude.{◌≡◌, ℕ, ◌+◌, ◌-◌, ◌<◌, ◌≤◌, Bool, true, false, not, ◌&&◌, ◌||◌, ◌==◌, nat_le, nat_lt, List, [], ◌∷◌, codes, if◌then◌else◌}
+use Rattle.bites_spec.specs.Code.{code}
 use Rattle.bites_spec.specs.Range.{Range, in_ranges}
 
 -- a set of characters: a test on code points, of which only scalar values count
@@ -32,11 +33,11 @@ complement a c = is_scalar c && not (a c)
 
 -- a to z
 abbrev pub is_lower : Set
-is_lower = between 97 122
+is_lower = between (code "a") (code "z")
 
 -- A to Z
 abbrev pub is_upper : Set
-is_upper = between 65 90
+is_upper = between (code "A") (code "Z")
 
 -- the ASCII letters
 abbrev pub is_letter : Set
@@ -51,21 +52,21 @@ pub data NamedClass : Type 0 where
   alnum alpha ascii blank cntrl digit graph lower print punct space upper word xdigit : NamedClass
 
 -- how a named class is written
-abbrev pub name_of : NamedClass → List ℕ
-name_of alnum = codes "alnum"
-name_of alpha = codes "alpha"
-name_of ascii = codes "ascii"
-name_of blank = codes "blank"
-name_of cntrl = codes "cntrl"
-name_of digit = codes "digit"
-name_of graph = codes "graph"
-name_of lower = codes "lower"
-name_of print = codes "print"
-name_of punct = codes "punct"
-name_of space = codes "space"
-name_of upper = codes "upper"
-name_of word = codes "word"
-name_of xdigit = codes "xdigit"
+abbrev pub class_name : NamedClass → List ℕ
+class_name alnum = codes "alnum"
+class_name alpha = codes "alpha"
+class_name ascii = codes "ascii"
+class_name blank = codes "blank"
+class_name cntrl = codes "cntrl"
+class_name digit = codes "digit"
+class_name graph = codes "graph"
+class_name lower = codes "lower"
+class_name print = codes "print"
+class_name punct = codes "punct"
+class_name space = codes "space"
+class_name upper = codes "upper"
+class_name word = codes "word"
+class_name xdigit = codes "xdigit"
 
 -- all named classes
 abbrev pub named_classes : List NamedClass
@@ -73,20 +74,20 @@ named_classes = alnum ∷ alpha ∷ ascii ∷ blank ∷ cntrl ∷ digit ∷ grap
 
 -- the characters of a named class, all of them ASCII
 abbrev pub members : NamedClass → Set
-members alnum = in_ranges ((48, 57) ∷ (65, 90) ∷ (97, 122) ∷ [])
-members alpha = in_ranges ((65, 90) ∷ (97, 122) ∷ [])
+members alnum = in_ranges ((code "0", code "9") ∷ (code "A", code "Z") ∷ (code "a", code "z") ∷ [])
+members alpha = in_ranges ((code "A", code "Z") ∷ (code "a", code "z") ∷ [])
 members ascii = between 0x00 0x7F
-members blank = in_ranges ((9, 9) ∷ (32, 32) ∷ [])
+members blank = in_ranges ((9, 9) ∷ (code " ", code " ") ∷ [])
 members cntrl = in_ranges ((0x00, 0x1F) ∷ (0x7F, 0x7F) ∷ [])
-members digit = between 48 57
+members digit = between (code "0") (code "9")
 members graph = between 0x21 0x7E
-members lower = between 97 122
+members lower = between (code "a") (code "z")
 members print = between 0x20 0x7E
 members punct = in_ranges ((0x21, 0x2F) ∷ (0x3A, 0x40) ∷ (0x5B, 0x60) ∷ (0x7B, 0x7E) ∷ [])
 members space = in_ranges ((0x09, 0x0D) ∷ (0x20, 0x20) ∷ [])
-members upper = between 65 90
-members word = in_ranges ((48, 57) ∷ (65, 90) ∷ (95, 95) ∷ (97, 122) ∷ [])
-members xdigit = in_ranges ((48, 57) ∷ (65, 70) ∷ (97, 102) ∷ [])
+members upper = between (code "A") (code "Z")
+members word = in_ranges ((code "0", code "9") ∷ (code "A", code "Z") ∷ (code "_", code "_") ∷ (code "a", code "z") ∷ [])
+members xdigit = in_ranges ((code "0", code "9") ∷ (code "A", code "F") ∷ (code "a", code "f") ∷ [])
 
 -- the scalar value behind one, over the surrogates
 abbrev pub following : ℕ → ℕ

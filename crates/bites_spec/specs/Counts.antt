@@ -1,5 +1,5 @@
 -- What a search has visited, and how often it looked.
-use Rattle.std.specs.Prelude.{ℕ, ◌+◌, ◌*◌, ◌≤◌, List, ◌∷◌, length, Option, Some, None}
+use Rattle.std.specs.Prelude.{ℕ, ◌+◌, ◌*◌, ◌≤◌, Bool, true, false, List, ◌∷◌, length}
 use Rattle.bites_spec.specs.Utf8.{places}
 use Rattle.bites_spec.specs.Walks.{Among, AllApart}
 use Rattle.bites_spec.specs.Program.{Program, Spot, at, targets}
@@ -9,6 +9,16 @@ use Rattle.bites_spec.specs.Run.{Run, IsRun, Reaches}
 pub record Record : Type 0 where
   pub visits : List Spot
   pub looks : ℕ
+
+-- how much room a search of a program takes: for its states, its slots, and the targets of its states
+pub record Fit : Type 0 where
+  pub states : ℕ
+  pub slots : ℕ
+  pub targets : ℕ
+
+-- the room that a program takes
+abbrev pub fit_of : Program → Fit
+fit_of p = record { states = length p.states; slots = p.slots; targets = targets p }
 
 module _ (p : Program) (hay : List ℕ) (s : ℕ) where
   -- no spot twice, at most one visit for each state and place, and at most as many looks as edges, and one, at each place
@@ -30,7 +40,7 @@ module _ (p : Program) (hay : List ℕ) (s : ℕ) where
   abbrev pub VisitedSome : Record → Type 0
   VisitedSome c = (r : Run) × IsRun p hay r.start r.spots r.end × Among (places hay s) r.start × VisitedRun c r
 
-  -- what a search that answers so has visited
-  abbrev pub Visited : Record → Option Run → Type 0
-  Visited c None = VisitedAll c
-  Visited c (Some r) = VisitedSome c
+  -- what a search that finds something, or finds nothing, has visited
+  abbrev pub VisitedBy : Bool → Record → Type 0
+  VisitedBy true = VisitedSome
+  VisitedBy false = VisitedAll

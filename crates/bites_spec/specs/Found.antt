@@ -1,12 +1,9 @@
 -- What a search of a tree finds.
-use Rattle.std.specs.Prelude.{◌≡◌, ℕ, ◌<◌, ◌≤◌, List, [], ◌∷◌, Option, Some, None, if◌then◌else◌, ◌==◌}
-use Rattle.std.specs.Prelude.{◌*◌, ◌+◌}
+use Rattle.std.specs.Prelude.{◌≡◌, ℕ, ◌<◌, ◌≤◌, Bool, true, false, List, [], ◌∷◌, Option, Some, None, if◌then◌else◌, ◌==◌}
 use Rattle.bites_spec.specs.Utf8.{places}
-use Rattle.bites_spec.specs.Program.{Program, at}
-use Rattle.bites_spec.specs.Run.{Run, last_write, writes}
 use Rattle.bites_spec.specs.Walks.{Among}
 use Rattle.bites_spec.specs.Tree.{Tree, IsPlain}
-use Rattle.bites_spec.specs.Match.{Span, span, Mark, Matches, Parse, groups}
+use Rattle.bites_spec.specs.Match.{Span, Mark, Matches, Parse, groups}
 use Rattle.bites_spec.specs.Preference.{Way, parses}
 
 -- where a match begins and ends, and where each group last took part
@@ -41,6 +38,7 @@ module _ (t : Tree) (hay : List ℕ) where
   -- i is the first place from s on at which the tree matches
   pub record IsFirstPlace (s i : ℕ) : Type 0 where
     pub place : Among (places hay s) i
+    pub matches : (j : ℕ) × Matches hay t i j
     pub none_before : (k : ℕ) → Among (places hay s) k → k < i → (j : ℕ) → Matches hay t k j → ⊥
 
   -- the answer begins at the first place that has a match, and its end and groups are those of one parse there, of which Q holds
@@ -76,16 +74,7 @@ module _ (t : Tree) (hay : List ℕ) where
       ((i : ℕ) × Among (places hay s) i × Matches hay t i j)
       × ((i : ℕ) → Among (places hay s) i → (l : ℕ) → Matches hay t i l → j ≤ l)
 
--- a span whose both ends are known
-abbrev pub span_of : Option ℕ → Option ℕ → Option Span
-span_of None o = None
-span_of (Some i) None = None
-span_of (Some i) (Some j) = Some (span i j)
-
--- the answer that a run stands for: group k is in the slots 2 * k and 2 * k + 1
-abbrev pub answer_of : Program → List ℕ → Run → Answer
-answer_of p hay r = record {
-  start = r.start;
-  end = r.end;
-  group = λ k. span_of (last_write (writes p hay (at p.start r.start) r.spots) (2 * k)) (last_write (writes p hay (at p.start r.start) r.spots) (2 * k + 1));
-}
+-- a search of the tree from s answers so: by the greatest end, or by the preferred parse
+abbrev pub Finds : Bool → Tree → List ℕ → ℕ → Option Answer → Type 0
+Finds true = FoundLongest
+Finds false = Found

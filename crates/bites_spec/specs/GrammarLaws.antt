@@ -11,7 +11,7 @@ use Rattle.bites_spec.specs.BracketFault.{StuckBracket}
 use Rattle.bites_spec.specs.Grammar.{Reads}
 use Rattle.bites_spec.specs.Measure.{Limits, IsTooTall}
 use Rattle.bites_spec.specs.RangesOf.{ranges_of}
-use Rattle.bites_spec.specs.Reading.{Stop, read}
+use Rattle.bites_spec.specs.Reader.{Stop, read}
 use Rattle.bites_spec.specs.Fault.{Fault}
 
 -- each set of characters has a list of ranges
@@ -43,15 +43,15 @@ ReaderReads =
     Limits pattern flags nest_limit t ↔ ((read ranges_of nest_limit pattern flags ≡ Ok t) × (IsTooTall nest_limit t → ⊥))
 
 -- an answer of the function refuses the pattern by this message: it stops there, or the tree is too tall
-abbrev pub Refuses : ℕ → Message → Result Tree Stop → Type 0
-Refuses nest_limit m (Ok t) = IsTooTall nest_limit t × (m ≡ too_much_nesting)
-Refuses nest_limit m (Err e) = m ≡ e.message
+abbrev pub IsRefusedBy : ℕ → Message → Result Tree Stop → Type 0
+IsRefusedBy nest_limit m (Ok t) = IsTooTall nest_limit t × (m ≡ too_much_nesting)
+IsRefusedBy nest_limit m (Err e) = m ≡ e.message
 
 -- the grammar's function refuses a pattern just by the pattern's message
 abbrev pub ReaderRefuses : Type 0
 ReaderRefuses =
     (pattern : Text) (flags : Flags) (nest_limit : ℕ) (m : Message) →
-    Fault pattern flags nest_limit m ↔ Refuses nest_limit m (read ranges_of nest_limit pattern flags)
+    Fault pattern flags nest_limit m ↔ IsRefusedBy nest_limit m (read ranges_of nest_limit pattern flags)
 
 -- a program can hold the tree of a pattern
 abbrev pub ReadIsCompilable : Type 0

@@ -3,6 +3,7 @@ use Rattle.std.specs.Prelude.{ℕ, zero, suc, Bool, ◌&&◌, ◌||◌, not, Lis
 use Rattle.std.specs.Option.{option_map_or}
 use Rattle.bites_spec.specs.Range.{in_range}
 use Rattle.std.specs.Prelude.{false}
+use Rattle.bites_spec.specs.Code.{code}
 
 -- the twelve assertions
 pub data Look : Type 0 where
@@ -11,7 +12,7 @@ pub data Look : Type 0 where
 
 -- 0 to 9, A to Z, a to z and the underscore
 abbrev pub is_word_byte : ℕ → Bool
-is_word_byte b = in_range (48, 57) b || in_range (65, 90) b || in_range (97, 122) b || (b == 95)
+is_word_byte b = in_range (code "0", code "9") b || in_range (code "A", code "Z") b || in_range (code "a", code "z") b || (b == code "_")
 
 -- the byte before a place
 abbrev pub before : List ℕ → ℕ → Option ℕ

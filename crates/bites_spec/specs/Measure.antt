@@ -1,6 +1,8 @@
 -- Measures of trees and of readings, and the limits on them.
-use Rattle.std.specs.Prelude.{ℕ, suc, ◌+◌, ◌-◌, ◌*◌, ◌<◌, ◌≤◌, ◌⊎◌, max, Bool, not, ◌&&◌, ◌==◌, List, [], ◌∷◌, ◌++◌, length, sum_by, Option, Some, None, unwrap_or, if◌then◌else◌}
-use Rattle.bites_spec.specs.Tree.{Tree, Trees, empty, char, class, look, repetition, group, sequence, alternation, no_tree, tree_and, count, greatest, groups_in, names_in, captures_len, is_empty_by_form}
+use Rattle.std.specs.Prelude.{◌≡◌, ℕ, suc, ◌+◌, ◌-◌, ◌*◌, ◌<◌, ◌≤◌, ◌⊎◌, max, Bool, true, false, not, ◌&&◌, ◌==◌, List, [], ◌∷◌, ◌++◌, length, map, reverse, slice_index_or, sum_by, encode_utf8_all, Option, Some, None, option_map, unwrap_or, if◌then◌else◌}
+use Rattle.std.specs.List.{range_with_len}
+use Rattle.bites_spec.specs.Walks.{Among}
+use Rattle.bites_spec.specs.Tree.{Tree, Trees, empty, char, class, look, repetition, group, sequence, alternation, no_tree, tree_and, count, captures_len, is_empty_by_form}
 use Rattle.bites_spec.specs.Pattern.{Text, Flags, Front}
 use Rattle.bites_spec.specs.Grammar as grammar
 use Rattle.bites_spec.specs.Grammar.{Reading, Reads, ReadsChoice, ReadsSequence, ReadsItem, one, several, ends, goes_on, atom, operator, directive}
@@ -45,8 +47,30 @@ name_in [] n = None
 name_in (g ∷ groups) n = if g.0 == n then g.1 else name_in groups n
 
 -- the name of a group that is left in the tree
-abbrev pub name_of : Tree → ℕ → Option (List ℕ)
-name_of t n = name_in (groups_of t) n
+abbrev pub group_name : Tree → ℕ → Option (List ℕ)
+group_name t n = name_in (groups_of t) n
+
+-- each group from group 0 up to the greatest that is left in the tree, as the bytes of its name if it is left and has one
+abbrev pub groups_left : Tree → List (Option (List ℕ))
+groups_left t = map (group_name t) (range_with_len 0 (captures_len t))
+
+-- group 0 and each group that the front of a pattern opens, in order of number, as the bytes of its name if it has one
+abbrev pub opened_by : Front → List (Option (List ℕ))
+opened_by front = None ∷ reverse (map (option_map encode_utf8_all) front.names)
+
+-- the same of a whole pattern
+abbrev pub groups_opened : {pattern : Text} {flags : Flags} {t : Tree} → Reading pattern flags t → List (Option (List ℕ))
+groups_opened reading = opened_by reading.behind
+
+-- the groups that a program is to have: where dropped ones are kept all that the reading opens, else those left in the tree
+abbrev pub groups_kept : {pattern : Text} {flags : Flags} {t : Tree} → Bool → Reading pattern flags t → List (Option (List ℕ))
+groups_kept true reading = groups_opened reading
+groups_kept {t = t} false reading = groups_left t
+
+-- each group that is left in the tree stands among the groups, by its number and with its name
+abbrev pub HasItsGroups : List (Option (List ℕ)) → Tree → Type 0
+HasItsGroups groups t =
+    (g : ℕ × Option (List ℕ)) → Among (groups_of t) g → (g.0 < length groups) × (slice_index_or groups g.0 None ≡ g.1)
 
 -- the sum of two numbers, where there are both
 abbrev pub both : Option ℕ → Option ℕ → Option ℕ
@@ -87,6 +111,10 @@ abbrev mutual
   static_agreed no_tree = None
   static_agreed (tree_and t no_tree) = static_count t
   static_agreed (tree_and t (tree_and u ts)) = agreed (static_count t) (static_agreed (tree_and u ts))
+
+-- how many groups take part at least, where the form says so, with group 0
+abbrev pub static_captures_len : Tree → Option ℕ
+static_captures_len t = option_map suc (static_count t)
 
 -- the size of compiled states: states, targets of splits, and ranges
 pub record Size : Type 0 where
@@ -138,10 +166,18 @@ states t = (size_of t).states + 3
 abbrev pub name_weight : List ℕ → ℕ
 name_weight name = length name + 4
 
--- the weight of a tree
+-- what a group weighs: 16, and where it has a name what that weighs
+abbrev pub group_weight : Option (List ℕ) → ℕ
+group_weight None = 16
+group_weight (Some name) = 16 + name_weight name
+
+-- the weight of a tree, and of groups that its program is to have
+abbrev pub weight_with : List (Option (List ℕ)) → Tree → ℕ
+weight_with groups t = 32 * states t + 4 * (size_of t).targets + 8 * (size_of t).ranges + sum_by group_weight groups
+
+-- the weight of a tree with the groups that are left in it
 abbrev pub weight : Tree → ℕ
-weight t =
-    32 * states t + 4 * (size_of t).targets + 8 * (size_of t).ranges + 16 * captures_len t + sum_by name_weight (names_in t)
+weight t = weight_with (groups_left t) t
 
 abbrev mutual
   -- how many groups are open at most
@@ -179,7 +215,7 @@ abbrev mutual
   count_in_item (directive front behind t next marks run rest c letters nodes all _ _ _ _ _ _) = 0
   count_in_item (grammar.group front inner middle behind t inside rest nodes all branches opening _ c _ _) = count_in_choice c
 
--- the tree's height is above the limit, or above what 32 bits count
+-- the tree's height is above the limit, or 4294967295 at least
 abbrev pub IsTooTall : ℕ → Tree → Type 0
 IsTooTall nest_limit t = (nest_limit < height t) ⊎ (4294967295 ≤ height t)
 
@@ -192,8 +228,13 @@ pub record Limits (pattern : Text) (flags : Flags) (nest_limit : ℕ) (t : Tree)
   pub group_number : reading.behind.groups ≤ 4294967295
   pub counts : count_in_choice reading.reads ≤ 4294967295
 
--- the limits on the tree, in the order in which they are asked
-pub record TreeLimits (size_limit : ℕ) (t : Tree) : Type 0 where
-  pub light : weight t ≤ size_limit
+-- the limits on the tree and the groups that its program is to have, in the order in which they are asked; groups are numbered
+-- from 0 on, below 2147483648
+pub record TreeLimitsWith (size_limit : ℕ) (groups : List (Option (List ℕ))) (t : Tree) : Type 0 where
+  pub light : weight_with groups t ≤ size_limit
   pub few_states : states t ≤ 4294967295
-  pub few_groups : greatest (groups_in t) < 2147483648
+  pub few_groups : length groups ≤ 2147483648
+
+-- the limits on the tree with the groups that are left in it
+abbrev pub TreeLimits : ℕ → Tree → Type 0
+TreeLimits size_limit t = TreeLimitsWith size_limit (groups_left t) t

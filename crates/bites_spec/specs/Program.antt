@@ -48,6 +48,12 @@ targets_of (capture q slot) = q ∷ []
 targets_of fail = []
 targets_of match = []
 
+-- the state takes the character
+abbrev pub takes : State → ℕ → Bool
+takes (char q c) d = d == c
+takes (ranges q rs) d = in_ranges rs d
+takes _ d = false
+
 -- the number of edges
 abbrev pub targets : Program → ℕ
 targets p = sum_by (λ s. length (targets_of s)) p.states
@@ -100,7 +106,7 @@ AreStates len slots [] = Unit {0}
 AreStates len slots (s ∷ ss) =
     ((q : ℕ) → Among (targets_of s) q → q < len) × HasRanges s × HasSlot slots s × AreStates len slots ss
 
--- no fault: 32 bits count the states, slots come in pairs, and what states name is there
+-- no fault: there are at most 4294967295 states, slots come in pairs, and what states name is there
 pub record IsWellFormed (p : Program) : Type 0 where
   pub len : length p.states ≤ 4294967295
   pub slots : 2 ≤ p.slots

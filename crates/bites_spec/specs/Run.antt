@@ -1,9 +1,9 @@
 -- Runs of a program, their order, and the run that a search answers.
-use Rattle.std.specs.Prelude.{◌≡◌, ℕ, suc, ◌*◌, ◌<◌, ◌≤◌, ◌⊎◌, Bool, true, false, ◌&&◌, List, [], ◌∷◌, ◌++◌, length, map, take, Option, Some, None, option_and_then, if◌then◌else◌, ◌==◌, IsTrue}
+use Rattle.std.specs.Prelude.{◌≡◌, ℕ, zero, suc, ◌*◌, ◌<◌, ◌≤◌, ◌⊎◌, Bool, true, false, ◌&&◌, List, [], ◌∷◌, ◌++◌, length, map, take, Option, Some, None, option_and_then, if◌then◌else◌, ◌==◌, IsTrue}
 use Rattle.std.specs.Option.{option_or}
 use Rattle.std.specs.List.{range_with_len}
 use Rattle.bites_spec.specs.Utf8.{places}
-use Rattle.bites_spec.specs.Walks.{Among, AllApart, Walk, Before, first_among, last_of}
+use Rattle.bites_spec.specs.Walks.{Among, AllApart, AreOrdered, Walk, Before, first_among, last_of}
 use Rattle.bites_spec.specs.Walks as walks
 use Rattle.bites_spec.specs.Program.{State, Program, Spot, at, state_at, edges, is_match, capture}
 
@@ -27,18 +27,45 @@ pub record Run : Type 0 where
   pub spots : List Spot
   pub end : ℕ
 
+-- a run by its parts
+abbrev pub run : ℕ → List Spot → ℕ → Run
+run i r j = record { start = i; spots = r; end = j }
+
+module _ (p : Program) where
+  -- the spot is at the state that ends a run
+  abbrev pub matches : Spot → Bool
+  matches s = is_match (state_at p.states s.state)
+
+  -- the spot ends a run at place j
+  abbrev pub is_end_at : ℕ → Spot → Bool
+  is_end_at j s = matches s && (s.place == j)
+
+  -- what the run writes, in order: slots and places
+  abbrev pub writes : Spot → List Spot → List (ℕ × ℕ)
+  writes s [] = []
+  writes s (t ∷ r) = write_of (state_at p.states s.state) s.place ++ writes t r
+
+  -- the last place that the run writes to the slot
+  abbrev pub written : Run → ℕ → Option ℕ
+  written r slot = last_write (writes (at p.start r.start) r.spots) slot
+
+  -- each slot has the last place that the run writes to it
+  abbrev pub slots : Run → List (Option ℕ)
+  slots r = map (written r) (range_with_len 0 p.slots)
+
+  -- What a search says, and leaves in a slice: the front of the run's slots, or where there is no run the slice as it was.
+  abbrev pub Answered : Option Run → Bool → List (Option ℕ) → List (Option ℕ) → Type 0
+  Answered None found old new = (found ≡ false) × (new ≡ old)
+  Answered (Some r) found old new = (found ≡ true) × (new ≡ take (length old) (slots r))
+
 module _ (p : Program) (hay : List ℕ) where
   -- where a spot leads, the preferred edge first
   abbrev pub leads : Spot → List Spot
   leads s = edges hay (state_at p.states s.state) s.place
 
-  -- the spot is at the state that ends a run
-  abbrev pub matches : Spot → Bool
-  matches s = is_match (state_at p.states s.state)
-
   -- a run may end at the spot, at place j
   abbrev pub Ends : ℕ → Spot → Type 0
-  Ends j s = IsTrue (matches s) × (s.place ≡ j)
+  Ends j s = IsTrue (matches p s) × (s.place ≡ j)
 
   -- from s the spots lead to a match at place j
   abbrev pub Runs : Spot → List Spot → ℕ → Type 0
@@ -56,14 +83,11 @@ module _ (p : Program) (hay : List ℕ) where
   abbrev pub Reaches : Spot → Spot → Type 0
   Reaches s t = (r : List Spot) × Walk leads (λ u. u ≡ t) s r
 
-  -- what the run writes, in order: slots and places
-  abbrev pub writes : Spot → List Spot → List (ℕ × ℕ)
-  writes s [] = []
-  writes s (t ∷ r) = write_of (state_at p.states s.state) s.place ++ writes t r
-
-  -- each slot has the last place that the run writes to it
-  abbrev pub slots : Run → List (Option ℕ)
-  slots r = map (last_write (writes (at p.start r.start) r.spots)) (range_with_len 0 p.slots)
+  -- the list has all runs from i, each before those that it is preferred to
+  pub record AreAllRuns (i : ℕ) (rs : List Run) : Type 0 where
+    pub runs : (r : Run) → Among rs r → (r.start ≡ i) × IsRun i r.spots r.end
+    pub all : (r : List Spot) (j : ℕ) → IsRun i r j → Among rs (run i r j)
+    pub in_order : AreOrdered (λ r o. Before leads (at p.start i) r.spots o.spots) rs
 
   -- no run begins at a place from s on
   abbrev pub NoRun : ℕ → Type 0
@@ -99,11 +123,6 @@ module _ (p : Program) (hay : List ℕ) where
   LongestRun s (Some r) =
       StartsFirst s r × ((o : List Spot) (j : ℕ) → IsRun r.start o j → j ≤ r.end) × IsFirstOf (λ j. j ≡ r.end) r
 
-  -- What a search says, and leaves in a slice: the front of the run's slots, or where there is no run the slice as it was.
-  abbrev pub Answered : Option Run → Bool → List (Option ℕ) → List (Option ℕ) → Type 0
-  Answered None found old new = (found ≡ false) × (new ≡ old)
-  Answered (Some r) found old new = (found ≡ true) × (new ≡ take (length old) (slots r))
-
   -- as many steps as there are spots, and one
   abbrev pub enough : ℕ
   enough = suc (length p.states * suc (length hay))
@@ -111,13 +130,31 @@ module _ (p : Program) (hay : List ℕ) where
   -- a run from i by its spots, the first of them with the start
   abbrev pub run_of : ℕ → List Spot → Option Run
   run_of i [] = None
-  run_of i (s ∷ r) = Some (record { start = i; spots = r; end = (last_of s r).place })
+  run_of i (s ∷ r) = Some (run i r (last_of s r).place)
 
   -- the first simple run from i
   unfoldable pub first_run_from : ℕ → Option Run
   first_run_from i =
-      option_and_then (run_of i) (walks.first_run is_same_spot leads matches enough (λ s. false) (at p.start i))
+      option_and_then (run_of i) (walks.first_run is_same_spot leads (matches p) enough (λ s. false) (at p.start i))
 
   -- what `FirstRun` says, as a function
   unfoldable pub first_run : ℕ → Option Run
   first_run s = first_among first_run_from (places hay s)
+
+  -- the first simple run from i to j
+  unfoldable pub first_run_to : ℕ → ℕ → Option Run
+  first_run_to i j =
+      option_and_then (run_of i) (walks.first_run is_same_spot leads (is_end_at p j) enough (λ s. false) (at p.start i))
+
+  -- the first simple run from i to the greatest place below n to which one goes
+  unfoldable pub longest_run_below : ℕ → ℕ → Option Run
+  longest_run_below zero i = None
+  longest_run_below (suc j) i = option_or (first_run_to i j) (longest_run_below j i)
+
+  -- what `LongestRun` says, as a function
+  unfoldable pub longest_run : ℕ → Option Run
+  longest_run s = first_among (longest_run_below (suc (length hay))) (places hay s)
+
+-- the run that a search answers: the longest, or the first
+abbrev pub chosen_run : Bool → Program → List ℕ → ℕ → Option Run
+chosen_run longest p hay s = if longest then longest_run p hay s else first_run p hay s

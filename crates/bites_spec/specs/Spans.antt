@@ -1,5 +1,5 @@
 -- The successive matches in a haystack.
-use Rattle.std.specs.Prelude.{◌≡◌, ℕ, ◌+◌, ◌<◌, List, [], ◌∷◌, Option, Some, None, ◌⊎◌}
+use Rattle.std.specs.Prelude.{◌≡◌, ℕ, zero, suc, ◌+◌, ◌<◌, ◌≤◌, ◌==◌, ◌&&◌, Bool, false, cond, List, [], ◌∷◌, length, Option, Some, None, ◌⊎◌}
 use Rattle.bites_spec.specs.Utf8.{step_len}
 use Rattle.bites_spec.specs.Match.{Span}
 
@@ -24,6 +24,44 @@ module _ {B : Type 0} (span_of : B → Span) (hay : List ℕ) (A : ℕ → Optio
   -- these are the successive answers
   abbrev pub Successive : List B → Type 0
   Successive xs = Follow (A 0) xs
+
+-- The same as functions: A is the answer of a search from each place.
+module _ {B : Type 0} (span_of : B → Span) where
+  -- the answer is an item that is empty at e
+  abbrev pub is_empty_at : ℕ → Option B → Bool
+  is_empty_at e None = false
+  is_empty_at e (Some x) = ((span_of x).start == e) && ((span_of x).end == e)
+
+  -- an item, if there is one, and then what comes behind its end
+  abbrev pub followed : (ℕ → List B) → Option B → List B
+  followed behind None = []
+  followed behind (Some x) = x ∷ behind (span_of x).end
+
+module _ {B : Type 0} (span_of : B → Span) (hay : List ℕ) (A : ℕ → Option B) where
+  -- the answer due behind an item that ends at e
+  unfoldable pub due_after : ℕ → Option B
+  due_after e = cond (is_empty_at span_of e (A e)) (A (e + step_len hay e)) (A e)
+
+  -- the items due behind one that ends at e, at most so many
+  unfoldable pub some_after : ℕ → ℕ → List B
+  some_after zero e = []
+  some_after (suc n) e = followed span_of (some_after n) (due_after e)
+
+  -- the items due behind one that ends at e; their ends grow, so there are no more of them than the haystack has bytes
+  unfoldable pub successive_after : ℕ → List B
+  successive_after e = some_after (length hay) e
+
+  -- the successive answers
+  unfoldable pub successive : List B
+  successive = followed span_of successive_after (A 0)
+
+-- an item lies within a haystack of so many bytes, from a place on
+abbrev pub LiesFrom : ℕ → ℕ → Span → Type 0
+LiesFrom len s x = (s ≤ x.start) × (x.start ≤ x.end) × (x.end ≤ len)
+
+-- a search from each place answers items that lie from there on within the haystack
+abbrev pub AnswersLie : {B : Type 0} → (B → Span) → List ℕ → (ℕ → Option B) → Type 0
+AnswersLie {B} span_of hay A = (s : ℕ) (x : B) → A s ≡ Some x → LiesFrom (length hay) s (span_of x)
 
 -- each end is above the one before, and the first is above e
 abbrev pub EndsGrow : ℕ → List Span → Type 0

@@ -1,7 +1,9 @@
 -- What a template stands for.
-use Rattle.std.specs.Prelude.{◌≡◌, ◌≢◌, ℕ, ◌+◌, ◌-◌, ◌*◌, ◌<◌, Bool, true, false, ◌&&◌, List, [], ◌∷◌, ◌++◌, length, Option, Some, None, option_and_then, unwrap_or, if◌then◌else◌, nat_le, ◌==◌, flat_map, ◌⊎◌, IsUtf8}
-use Rattle.std.specs.List.{list_all}
+use Rattle.std.specs.Prelude.{◌≡◌, ◌≢◌, ℕ, zero, suc, ◌+◌, ◌-◌, ◌*◌, ◌<◌, Bool, true, false, ◌&&◌, ◌||◌, List, [], ◌∷◌, ◌++◌, length, Option, Some, None, option_map, option_and_then, unwrap_or, if◌then◌else◌, nat_le, ◌==◌, flat_map, ◌⊎◌, IsUtf8}
+use Rattle.std.specs.List.{list_all, take_while}
+use Rattle.std.specs.Str.{is_utf8}
 use Rattle.std.specs.Option.{option_map_or}
+use Rattle.bites_spec.specs.Code.{code}
 use Rattle.bites_spec.specs.Range.{in_range}
 use Rattle.bites_spec.specs.Look.{is_word_byte}
 use Rattle.bites_spec.specs.Walks.{IsNew}
@@ -23,33 +25,33 @@ IsName any word = (any ≡ true) ⊎ IsUtf8 word
 -- The `$` in front of this stands for itself: no `$`, no byte of a word, and no name in braces is next.
 abbrev pub StandsAlone : Bool → List ℕ → Type 0
 StandsAlone any rest =
-    ((tail : List ℕ) → rest ≢ 36 ∷ tail)
+    ((tail : List ℕ) → rest ≢ code "$" ∷ tail)
     × EndsWord rest
-    × ((word tail : List ℕ) → rest ≡ 123 ∷ word ++ 125 ∷ tail → IsNew 125 word → IsName any word → ⊥)
+    × ((word tail : List ℕ) → rest ≡ code "{" ∷ word ++ code "}" ∷ tail → IsNew (code "}") word → IsName any word → ⊥)
 
 -- The template is cut into these parts: `$$` is a `$`, `$` and the longest run of bytes of a word names a group, and so do
 -- braces up to the first `}`; any other `$` and all else stand for themselves.
 pub data Cuts (any : Bool) : List ℕ → List Part → Type 0 where
   ends : Cuts any [] []
-  plain : (b : ℕ) (rest : List ℕ) (parts : List Part) → b ≢ 36 → Cuts any rest parts → Cuts any (b ∷ rest) (byte b ∷ parts)
-  doubled : (rest : List ℕ) (parts : List Part) → Cuts any rest parts → Cuts any (36 ∷ 36 ∷ rest) (byte 36 ∷ parts)
-  named : (template word rest : List ℕ) (parts : List Part) → template ≡ 36 ∷ word ++ rest →
+  plain : (b : ℕ) (rest : List ℕ) (parts : List Part) → b ≢ code "$" → Cuts any rest parts → Cuts any (b ∷ rest) (byte b ∷ parts)
+  doubled : (rest : List ℕ) (parts : List Part) → Cuts any rest parts → Cuts any (code "$" ∷ code "$" ∷ rest) (byte (code "$") ∷ parts)
+  named : (template word rest : List ℕ) (parts : List Part) → template ≡ code "$" ∷ word ++ rest →
       0 < length word → list_all is_word_byte word ≡ true → EndsWord rest →
       Cuts any rest parts → Cuts any template (name word ∷ parts)
-  braced : (template word rest : List ℕ) (parts : List Part) → template ≡ 36 ∷ 123 ∷ word ++ 125 ∷ rest →
-      IsNew 125 word → IsName any word →
+  braced : (template word rest : List ℕ) (parts : List Part) → template ≡ code "$" ∷ code "{" ∷ word ++ code "}" ∷ rest →
+      IsNew (code "}") word → IsName any word →
       Cuts any rest parts → Cuts any template (name word ∷ parts)
   alone : (rest : List ℕ) (parts : List Part) → StandsAlone any rest → Cuts any rest parts →
-      Cuts any (36 ∷ rest) (byte 36 ∷ parts)
+      Cuts any (code "$" ∷ rest) (byte (code "$") ∷ parts)
 
 -- 0 to 9
 abbrev pub is_digit : ℕ → Bool
-is_digit b = in_range (48, 57) b
+is_digit b = in_range (code "0", code "9") b
 
 -- the number that digits behind a number make
 abbrev pub value_from : ℕ → List ℕ → ℕ
 value_from n [] = n
-value_from n (d ∷ ds) = value_from (n * 10 + (d - 48)) ds
+value_from n (d ∷ ds) = value_from (n * 10 + (d - code "0")) ds
 
 -- the number that digits are, if there is a digit and the greatest number is not passed
 abbrev pub number_of_digits : ℕ → List ℕ → Option ℕ
@@ -76,3 +78,53 @@ module _ (largest : ℕ) (text_of : ℕ → Option (List ℕ)) (index_of : List 
   -- the text is what the parts of the template stand for, joined
   abbrev pub Expands : Bool → List ℕ → List ℕ → Type 0
   Expands any template text = (parts : List Part) × Cuts any template parts × (text ≡ flat_map stands_for parts)
+
+-- a part, and how many of the bytes behind its first one belong to it
+pub record Cut : Type 0 where
+  pub part : Part
+  pub len : ℕ
+
+-- a part of this length
+abbrev pub cut : Part → ℕ → Cut
+cut p n = record { part = p; len = n }
+
+-- what stands before the first `}`, if there is one
+unfoldable pub before_brace : List ℕ → Option (List ℕ)
+before_brace [] = None
+before_brace (b ∷ bytes) = if b == code "}" then Some [] else option_map (λ word. b ∷ word) (before_brace bytes)
+
+-- the part that `${` begins, with what stands before the first `}`
+abbrev pub braced_cut : Bool → Option (List ℕ) → Cut
+braced_cut any None = cut (byte (code "$")) 0
+braced_cut any (Some word) = if any || is_utf8 word then cut (name word) (length word + 2) else cut (byte (code "$")) 0
+
+-- the part that a `$` before these bytes of a word begins
+abbrev pub word_cut : List ℕ → Cut
+word_cut [] = cut (byte (code "$")) 0
+word_cut (b ∷ word) = cut (name (b ∷ word)) (length (b ∷ word))
+
+-- the part that a `$` in front of this begins
+unfoldable pub dollar_cut : Bool → List ℕ → Cut
+dollar_cut any [] = cut (byte (code "$")) 0
+dollar_cut any (b ∷ rest) =
+    if b == code "$" then cut (byte (code "$")) 1
+    else if b == code "{" then braced_cut any (before_brace rest)
+    else word_cut (take_while is_word_byte (b ∷ rest))
+
+-- the part that a byte in front of this begins
+abbrev pub first_cut : Bool → ℕ → List ℕ → Cut
+first_cut any b rest = if b == code "$" then dollar_cut any rest else cut (byte b) 0
+
+-- the parts of a template behind so many bytes of it
+unfoldable pub parts_behind : Bool → ℕ → List ℕ → List Part
+parts_behind any n [] = []
+parts_behind any zero (b ∷ rest) = (first_cut any b rest).part ∷ parts_behind any (first_cut any b rest).len rest
+parts_behind any (suc n) (b ∷ rest) = parts_behind any n rest
+
+-- the parts that a template is cut into
+abbrev pub parts_of : Bool → List ℕ → List Part
+parts_of any template = parts_behind any 0 template
+
+-- The text that a template stands for.
+unfoldable pub expansion : Bool → ℕ → (ℕ → Option (List ℕ)) → (List ℕ → Option ℕ) → List ℕ → List ℕ
+expansion any largest text_of index_of template = flat_map (stands_for largest text_of index_of) (parts_of any template)

@@ -109,9 +109,9 @@ abbrev mutual
   groups_in_all (tree_and t ts) = groups_in t ++ groups_in_all ts
 
 -- the name as a list of one, or none
-abbrev pub name_of : Option (List ℕ) → List (List ℕ)
-name_of None = []
-name_of (Some name) = name ∷ []
+abbrev pub name_if_any : Option (List ℕ) → List (List ℕ)
+name_if_any None = []
+name_if_any (Some name) = name ∷ []
 
 abbrev mutual
   -- the names of the groups that are left in the tree
@@ -121,7 +121,7 @@ abbrev mutual
   names_in (class rs) = []
   names_in (look l) = []
   names_in (repetition min most greedy t) = names_in t
-  names_in (group k name t) = name_of name ++ names_in t
+  names_in (group k name t) = name_if_any name ++ names_in t
   names_in (sequence ts) = names_in_all ts
   names_in (alternation ts) = names_in_all ts
 

@@ -4,9 +4,20 @@
 #![tactic(auto)]
 
 ghost use Rattle.bites_spec.specs.Class.{ListsOnce};
-ghost use Rattle.bites_spec.specs.Laws.{MatchIsParse, FirstRunIsFirst, FirstRunIsOne, RunsAreParses, PlainRunsAreSimple, FirstRunIsFound, LeastEndIsLeast, ParsesAreListed, LongestIsFound, ParsesEndAtMatches, StaticCountIsLeast, SpansGrow, PiecesAndMatches, ReplacedIsJoined, FoundIsSome, AnsweredKeepsLength, ReplacesOnce};
+ghost use Rattle.bites_spec.specs.Laws.{MatchIsParse, FirstRunIsFirst, FirstRunIsOne, RunsAreParses, PlainRunsAreSimple, FirstRunIsFound, LeastEndIsLeast, ParsesAreListed, LongestIsFound, ParsesEndAtMatches, StaticCountIsLeast, FoundIsSome, AnsweredKeepsLength, ReplacesOnce};
+ghost use Rattle.bites_spec.specs.RunLaws.{LongestRunIsLongest, LongestRunIsOne, SlotsAreWritten, Group0IsSpan, RunsAreParsesInOrder, NothingPastTheEnd, NoFaultIsWellFormed, RunLies, ChosenRunLies, RunsBeginAlike, LeastRunEndIsAtMost, StaticLenTakesPart};
+ghost use Rattle.bites_spec.specs.FoundLaws.{FoundLies, AnswersBeginAlike, LeastEndIsAtMost, StaticLenIsLeast};
+ghost use Rattle.bites_spec.specs.RegexLaws.{RunIsFound, FindsSome};
+ghost use Rattle.bites_spec.specs.SpanLaws.{SuccessiveIsOne, SuccessiveGoesOn, SuccessiveIsMapped, SpansGrow, PiecesAndMatches, ReplacedAlternates, ReplacedIsJoined};
+ghost use Rattle.bites_spec.specs.Captured.{SlotsAreGroups, SlotsAreFound};
+ghost use Rattle.bites_spec.specs.Iteration.{CapturesHaveSpans};
+ghost use Rattle.bites_spec.specs.Refused.{IterationsEnd};
 ghost use Rattle.bites_spec.specs.GrammarLaws.{ListsAll, ReadIsCompilable, ReadsOnce, FaultsOnce, RefusedHasNoTree, ReadOrRefused, ReaderReads, ReaderRefuses, StuckBracketIsNotRead};
+ghost use Rattle.bites_spec.specs.GroupLaws.{OpenedOnce, OpenedAreKept, LeftAreKept, DroppedHaveNoPlace};
 ghost use Rattle.bites_spec.specs.RangesOf.{RangesOfList};
+ghost use Rattle.bites_spec.specs.EscapedLaws.{EscapedIsRead, EscapedIsFlat, EscapedIsAccepted, EscapedMatchesText, EscapedFindsText};
+ghost use Rattle.bites_spec.specs.TextLaws.{PlacesAreBorders, PiecesEndAtBorders, MatchesEndAtBorders, GroupsHaveBorders, FoundHasBorders, LeastEndIsBorder};
+ghost use Rattle.bites_spec.specs.TemplateLaws.{CutsOnce, ExpandsOnce, TextsHaveNames, NumbersAreFirst};
 
 pub fn match_is_parse()
     ensures { MatchIsParse }
@@ -20,8 +31,52 @@ pub fn first_run_is_one()
     ensures { FirstRunIsOne }
 {}
 
+pub fn longest_run_is_longest()
+    ensures { LongestRunIsLongest }
+{}
+
+pub fn longest_run_is_one()
+    ensures { LongestRunIsOne }
+{}
+
+pub fn slots_are_written()
+    ensures { SlotsAreWritten }
+{}
+
+pub fn group_0_is_span()
+    ensures { Group0IsSpan }
+{}
+
+pub fn no_fault_is_well_formed()
+    ensures { NoFaultIsWellFormed }
+{}
+
+pub fn nothing_past_the_end()
+    ensures { NothingPastTheEnd }
+{}
+
+pub fn run_lies()
+    ensures { RunLies }
+{}
+
+pub fn chosen_run_lies()
+    ensures { ChosenRunLies }
+{}
+
+pub fn runs_begin_alike()
+    ensures { RunsBeginAlike }
+{}
+
+pub fn least_run_end_is_at_most()
+    ensures { LeastRunEndIsAtMost }
+{}
+
 pub fn runs_are_parses()
     ensures { RunsAreParses }
+{}
+
+pub fn runs_are_parses_in_order()
+    ensures { RunsAreParsesInOrder }
 {}
 
 pub fn plain_runs_are_simple()
@@ -56,12 +111,36 @@ pub fn static_count_is_least()
     ensures { StaticCountIsLeast }
 {}
 
-pub fn spans_grow()
-    ensures { SpansGrow }
+pub fn static_len_is_least()
+    ensures { StaticLenIsLeast }
+{}
+
+pub fn static_len_takes_part()
+    ensures { StaticLenTakesPart }
+{}
+
+pub fn successive_answers_are_one_list<B>()
+    ensures { SuccessiveIsOne B }
+{}
+
+pub fn successive_answers_go_on<B>()
+    ensures { SuccessiveGoesOn B }
+{}
+
+pub fn successive_answers_are_mapped<B, C>()
+    ensures { SuccessiveIsMapped B C }
+{}
+
+pub fn spans_grow<B>()
+    ensures { SpansGrow B }
 {}
 
 pub fn pieces_and_matches()
     ensures { PiecesAndMatches }
+{}
+
+pub fn replaced_alternates()
+    ensures { ReplacedAlternates }
 {}
 
 pub fn replaced_is_joined()
@@ -108,6 +187,26 @@ pub fn stuck_brackets_are_not_read()
     ensures { StuckBracketIsNotRead }
 {}
 
+pub fn run_is_found()
+    ensures { RunIsFound }
+{}
+
+pub fn finds_some()
+    ensures { FindsSome }
+{}
+
+pub fn found_lies()
+    ensures { FoundLies }
+{}
+
+pub fn answers_begin_alike()
+    ensures { AnswersBeginAlike }
+{}
+
+pub fn least_end_is_at_most()
+    ensures { LeastEndIsAtMost }
+{}
+
 pub fn found_is_some()
     ensures { FoundIsSome }
 {}
@@ -118,4 +217,96 @@ pub fn answers_keep_their_length()
 
 pub fn replacers_replace_once<S, C>()
     ensures { ReplacesOnce S C }
+{}
+
+pub fn groups_are_opened_once()
+    ensures { OpenedOnce }
+{}
+
+pub fn opened_groups_are_kept()
+    ensures { OpenedAreKept }
+{}
+
+pub fn left_groups_are_kept()
+    ensures { LeftAreKept }
+{}
+
+pub fn dropped_groups_have_no_place()
+    ensures { DroppedHaveNoPlace }
+{}
+
+pub fn iterations_end<S, B, C, E>()
+    ensures { IterationsEnd S B C E }
+{}
+
+pub fn templates_are_cut_in_one_way()
+    ensures { CutsOnce }
+{}
+
+pub fn templates_have_one_text()
+    ensures { ExpandsOnce }
+{}
+
+pub fn names_in_texts_are_texts()
+    ensures { TextsHaveNames }
+{}
+
+pub fn slots_are_groups()
+    ensures { SlotsAreGroups }
+{}
+
+pub fn slots_are_found()
+    ensures { SlotsAreFound }
+{}
+
+pub fn captures_have_spans()
+    ensures { CapturesHaveSpans }
+{}
+
+pub fn places_of_texts_are_borders()
+    ensures { PlacesAreBorders }
+{}
+
+pub fn pieces_of_texts_end_at_borders()
+    ensures { PiecesEndAtBorders }
+{}
+
+pub fn matches_in_texts_end_at_borders()
+    ensures { MatchesEndAtBorders }
+{}
+
+pub fn groups_in_texts_have_borders()
+    ensures { GroupsHaveBorders }
+{}
+
+pub fn what_is_found_in_texts_has_borders()
+    ensures { FoundHasBorders }
+{}
+
+pub fn least_ends_in_texts_are_borders()
+    ensures { LeastEndIsBorder }
+{}
+
+pub fn escaped_texts_are_read()
+    ensures { EscapedIsRead }
+{}
+
+pub fn escaped_texts_are_flat()
+    ensures { EscapedIsFlat }
+{}
+
+pub fn escaped_texts_are_accepted()
+    ensures { EscapedIsAccepted }
+{}
+
+pub fn escaped_texts_match_their_text()
+    ensures { EscapedMatchesText }
+{}
+
+pub fn escaped_texts_find_their_text()
+    ensures { EscapedFindsText }
+{}
+
+pub fn numbers_are_of_the_first_name()
+    ensures { NumbersAreFirst }
 {}

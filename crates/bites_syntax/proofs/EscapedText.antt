@@ -2,7 +2,7 @@
 use Rattle.std.proofs.Common.{◌≡◌, ℕ, true, false, List, [], ◌∷◌, ◌++◌, refl, sym, ap, ap₂, ◌∙◌, append_assoc, append-nil, map, inl, inr}
 use Rattle.std.specs.Prelude.{encode_utf8, encode_utf8_all}
 use Rattle.std.proofs.lemmas.Bool.{cases_Bool}
-use Rattle.bites_syntax.specs.Escaped.{is_marked, escaped}
+use Rattle.bites_spec.specs.Escaped.{is_marked, escaped}
 
 encode_utf8_all-append : (a b : List ℕ) → encode_utf8_all (a ++ b) ≡ encode_utf8_all a ++ encode_utf8_all b
 encode_utf8_all-append [] b = refl

@@ -7,7 +7,7 @@ use Rattle.std.proofs.lemmas.Bool.{false≢true}
 use Rattle.bites_spec.specs.Message as message
 use Rattle.bites_spec.specs.Pattern.{Text, Flags, Front, dash, one_of}
 use Rattle.bites_spec.specs.Group.{changed, put_flag, is_flag_mark}
-use Rattle.bites_spec.specs.Reading.{flags_from, stop}
+use Rattle.bites_spec.specs.Reader.{flags_from, stop}
 use Rattle.bites_text.specs.Messages.{error_of}
 use Rattle.bites_text.specs.declared.error.Error.{Error}
 use Rattle.bites_text.specs.declared.error.Error.TheVariants.{RepeatedNegation, DuplicateFlag}

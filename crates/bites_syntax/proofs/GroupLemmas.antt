@@ -1,6 +1,6 @@
 -- What opens a group.
 use Rattle.std.proofs.Common.{◌≡◌, ◌≤◌, ◌+◌, ◌-◌, ℕ, zero, suc, true, false, ◌||◌, ◌==◌, List, [], ◌∷◌, length, drop, refl, sym, ap, subst, ◌∙◌, Some, None, Result, Ok, arith, eqb-true}
-use Rattle.std.specs.Prelude.{codes, bytes_eq, encode_utf8_all, slice_get, nat_lt}
+use Rattle.std.specs.Prelude.{codes, bytes_eq, encode_utf8_all, slice_get, nat_lt, ◌++◌, Option, option_map}
 use Rattle.std.proofs.lemmas.Bool.{false≢true, le-ltb}
 use Rattle.std.specs.BTreeSet.{contains_text}
 use Rattle.std.specs.Str.{chars, IsUtf8}
@@ -9,17 +9,19 @@ use Rattle.std.proofs.lemmas.Slice.Eq.{bytes_eq-Decides}
 use Rattle.std.proofs.lemmas.Str.{encodes_same, encodes-chars}
 use Rattle.bites_spec.specs.Class.{single}
 use Rattle.bites_spec.specs.OperatorFault.{greatest_number}
-use Rattle.bites_spec.specs.Pattern.{Text, Front, begins, next_is, one_of, question}
+use Rattle.bites_spec.specs.Measure.{opened_by}
+use Rattle.bites_spec.proofs.KeptLemmas.{opened_more}
+use Rattle.bites_spec.specs.Pattern.{Text, Front, given, begins, next_is, one_of, question}
 use Rattle.bites_spec.specs.Group.{numbered, unnumbered, changed, ends_with_dash, with_group, begins_look_around}
-use Rattle.bites_spec.specs.Reading.{Answer, directive, group, flags_end, flags_from, named_group, name_from, no_name, opened}
+use Rattle.bites_spec.specs.Reader.{ReadResult, directive, group, flags_end, flags_from, named_group, name_from, no_name, opened}
 use Rattle.bites_text.specs.declared.error.Error.{Error}
 use Rattle.bites_text.specs.declared.error.Error.TheVariants.{DanglingNegation}
-use Rattle.bites_syntax.specs.declared.names.Names.{Names}
+use Rattle.bites_syntax.specs.declared.group_names.Names.{Names}
 use Rattle.bites_syntax.specs.Groups.{ends_flags, AreNames}
 use Rattle.bites_syntax.specs.Parts.{Agrees, error_in}
 
 -- an equal answer
-pub agrees_at : {A B : Type 0} (R : A → B → Type 0) (result : Result A Error) (rest : Text) (a b : Answer B) → a ≡ b → Agrees R result rest b → Agrees R result rest a
+pub agrees_at : {A B : Type 0} (R : A → B → Type 0) (result : Result A Error) (rest : Text) (a b : ReadResult B) → a ≡ b → Agrees R result rest b → Agrees R result rest a
 agrees_at R result rest a b e h = subst (λ x. Agrees R result rest x) (sym e) h
 
 dash_at : (run : Text) (n c : ℕ) → length run ≡ suc n → Some c ≡ slice_get run n → (c == 45) ≡ ends_with_dash run
@@ -61,14 +63,19 @@ few : (g : Front) → g.groups + 1 ≤ 4294967295 → nat_lt greatest_number (g.
 few g room = le-ltb greatest_number (g.groups + 1) room
 
 -- a group with a number alone
-pub no_name_plain : (g : Front) (t : Text) → next_is (single question) t ≡ false → g.groups + 1 ≤ 4294967295 → no_name g t ≡ Ok (group (numbered None) (with_group g), t)
+pub no_name_plain : (g : Front) (t : Text) → next_is (single question) t ≡ false → g.groups + 1 ≤ 4294967295 → no_name g t ≡ Ok (group (numbered None) (with_group None g), t)
 no_name_plain g [] other room = rw (few g room) refl
 no_name_plain g (c ∷ t) other room = rw other (rw (few g room) refl)
 
 -- a group with a name
-pub named_reads : (g : Front) (t rest name : Text) → g.groups + 1 ≤ 4294967295 → name_from g.names [] t ≡ Ok (name, rest) →
-    named_group g t ≡ Ok (group (numbered (Some name)) (record (with_group g) { names = name ∷ g.names }), rest)
+pub named_reads : (g : Front) (t rest name : Text) → g.groups + 1 ≤ 4294967295 → name_from (given g.names) [] t ≡ Ok (name, rest) →
+    named_group g t ≡ Ok (group (numbered (Some name)) (with_group (Some name) g), rest)
 named_reads g t rest name room reads = rw (few g room) (rw reads refl)
+
+-- one group more is opened
+pub opened_one_more : (old : List (Option (List ℕ))) (name : Option Text) (g : Front) → old ≡ opened_by g →
+    old ++ option_map encode_utf8_all name ∷ [] ≡ opened_by (with_group name g)
+opened_one_more old name g same = ap (λ xs. xs ++ option_map encode_utf8_all name ∷ []) same ∙ sym (opened_more name g)
 
 -- the three ways in which an opening goes on
 pub opened_long : (g : Front) (t : Text) → begins_look_around t ≡ false → begins (codes "?P<") t ≡ true → opened g t ≡ named_group g (drop 3 t)

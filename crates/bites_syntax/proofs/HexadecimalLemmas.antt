@@ -9,7 +9,7 @@ use Rattle.bites_spec.specs.Escape.{is_hex_digit}
 use Rattle.bites_spec.specs.Message as message
 use Rattle.bites_spec.specs.Message.{Message}
 use Rattle.bites_spec.specs.Pattern.{Text, Flags, next_is, number, left_brace, right_brace, skip}
-use Rattle.bites_spec.specs.Reading.{Answer, and_then, answer, stop, exactly, between_digits, hexadecimal, in_braces, scalar}
+use Rattle.bites_spec.specs.Reader.{ReadResult, and_then, answer, stop, exactly, between_digits, hexadecimal, in_braces, scalar}
 use Rattle.bites_spec.proofs.EachLemmas.{skip_shorter}
 use Rattle.bites_text.specs.Messages.{error_of}
 use Rattle.bites_text.specs.declared.error.Error.{Error}
@@ -23,7 +23,7 @@ use Rattle.bites_syntax.proofs.CursorLemmas.{each_by, each_more, each_ends}
 use Rattle.bites_syntax.proofs.NumberLemmas.{number_from, AgreeBelow_digits}
 
 -- the number behind a part of the digits
-by_digit : (v c : ℕ) (a : Answer Text) →
+by_digit : (v c : ℕ) (a : ReadResult Text) →
     and_then (and_then a (λ digits rest. answer (c ∷ digits) rest)) (λ digits rest. answer (number_from 16 v digits) rest)
     ≡ and_then a (λ digits rest. answer (number_from 16 (v * 16 + digit_value c) digits) rest)
 by_digit v c (Ok x) = refl
@@ -49,7 +49,7 @@ AgreeBelow_capped bound v m n is (inl e) =
 AgreeBelow_capped bound v m n is (inr h) = inr (omega (arith, h.0, is), h.1)
 
 -- a step of the loop that reads the digits
-pub fixed_step : (n left v new k d : ℕ) (flags : Flags) (t u w : Text) (c : ℕ) (whole : Answer ℕ) → left ≡ suc k → t ≡ c ∷ u → is_hex_digit c ≡ true →
+pub fixed_step : (n left v new k d : ℕ) (flags : Flags) (t u w : Text) (c : ℕ) (whole : ReadResult ℕ) → left ≡ suc k → t ≡ c ∷ u → is_hex_digit c ≡ true →
     d ≡ digit_value c → w ≡ between_digits k flags u → new ≡ min 4294967296 (v * 16 + d) → fixed_number n left flags t ≡ whole →
     AgreeBelow 4294967296 v n → (m : ℕ) × (fixed_number m k flags w ≡ whole) × AgreeBelow 4294967296 new m
 fixed_step n left v new k d flags t u w c whole more at is value behind capped so_far agree =
@@ -61,7 +61,7 @@ fixed_step n left v new k d flags t u w c whole more at is value behind capped s
     )
 
 -- another character, or the end, stops the digits
-pub fixed_fault : (n left k : ℕ) (flags : Flags) (t u : Text) (e : Error) (whole : Answer ℕ) → left ≡ suc k →
+pub fixed_fault : (n left k : ℕ) (flags : Flags) (t u : Text) (e : Error) (whole : ReadResult ℕ) → left ≡ suc k →
     ((t ≡ []) × (e ≡ FixedHexUnfinished)) ⊎ ((c : ℕ) × (t ≡ c ∷ u) × (is_hex_digit c ≡ false) × (e ≡ FixedHexDigit)) →
     fixed_number n left flags t ≡ whole → error_in whole ≡ Some e
 fixed_fault n left k flags t u e whole more (inl h) so_far = rw (← so_far) (rw (more, h.0, h.1) refl)

@@ -7,23 +7,23 @@ use Rattle.bites_spec.specs.Class.{Set, named_classes, single}
 use Rattle.bites_spec.specs.Escape.{Meaning}
 use Rattle.bites_spec.specs.Pattern.{Text, Flags, next_is, one_of, skip, dash, right_bracket}
 use Rattle.bites_spec.specs.Range.{Range}
-use Rattle.bites_spec.specs.Reading.{Answer, Members, Stop, after_dash, after_dashes, after_first, alone, and_then, bracket, class_end, class_members, dashes, finished, member, named, range}
+use Rattle.bites_spec.specs.Reader.{ReadResult, Members, Stop, after_dash, after_dashes, after_first, alone, and_then, bracket, class_end, class_members, dashes, finished, member, named, range}
 use Rattle.bites_spec.proofs.EachLemmas.{skip_shorter}
 use Rattle.bites_text.specs.declared.error.Error.{Error}
 use Rattle.bites_text.specs.declared.error.Error.TheVariants.{UnclosedAfterDash, UnclosedAfterBracket}
 use Rattle.bites_syntax.specs.Members.{Adds, AnswersLeading, Has, IsOperatorError, leading_set}
-use Rattle.bites_syntax.specs.Parts.{Refuses, error_in}
+use Rattle.bites_syntax.specs.Parts.{IsErrorOf, error_in}
 use Rattle.bites_syntax.specs.Steps.{each_of}
 use Rattle.bites_syntax.proofs.CursorLemmas.{each_by, each_more, each_ends}
 
 -- another way to write what the reader does
-pub Adds_by : (old new : List Range) (r : Result (Unit {0}) Error) (rest : Text) (f g : Members → Set → Answer Set) → ((go : Members) (set : Set) → g go set ≡ f go set) →
+pub Adds_by : (old new : List Range) (r : Result (Unit {0}) Error) (rest : Text) (f g : Members → Set → ReadResult Set) → ((go : Members) (set : Set) → g go set ≡ f go set) →
     Adds old new r rest f → Adds old new r rest g
 Adds_by old new (Ok u) rest f g same adds = λ go set has. (let a = adds go set has in (a.0, same go set ∙ a.1, a.2))
 Adds_by old new (Err e) rest f g same adds = λ go set has. rw (same go set) (adds go set has)
 
 -- a first part's refusal is that of the whole
-pub refuses_first : {A B : Type 0} (e : Error) (a : Answer A) (f : A → Text → Result B Stop) → Refuses e a → Refuses e (and_then a f)
+pub refuses_first : {A B : Type 0} (e : Error) (a : ReadResult A) (f : A → Text → Result B Stop) → IsErrorOf e a → IsErrorOf e (and_then a f)
 refuses_first e (Ok x) f (inl memory) = inl memory
 refuses_first e (Ok x) f (inr fault) = absurd (let wrong : None ≡ Some e = fault in cc)
 refuses_first e (Err s) f refuses = refuses
@@ -53,7 +53,7 @@ unnamed_leads go n flags set (c ∷ t) rest behind m none no_operator first gap 
 
 -- a refusal there is that of the member
 pub unnamed_fault : (go : Members) (n : ℕ) (flags : Flags) (set : Set) (t : Text) (e : Error) → next_is (one_of (codes "[]")) t ≡ false → IsOperatorError None t →
-    Refuses e (class_end n flags t) → Refuses e (member go n flags set t)
+    IsErrorOf e (class_end n flags t) → IsErrorOf e (member go n flags set t)
 unnamed_fault go n flags set [] e none no_operator refuses = refuses
 unnamed_fault go n flags set (c ∷ t) e none no_operator refuses =
     rw (unnamed_by go n flags set t c none no_operator) (refuses_first e (class_end n flags (c ∷ t)) _ refuses)
@@ -86,9 +86,9 @@ dash_range go n flags set m k at t u v rest c gap begins other second =
 
 -- a refusal there
 pub dash_fault : (go : Members) (n : ℕ) (flags : Flags) (set : Set) (m : Meaning) (at t u v : Text) (c : ℕ) (e : Error) → u ≡ skip flags t → u ≡ c ∷ v →
-    ((c ≡ 45) ⊎ (c ≡ 93) → ⊥) → Refuses e (class_end n flags u) → Refuses e (after_dash go n flags set m at (skip flags t))
+    ((c ≡ 45) ⊎ (c ≡ 93) → ⊥) → IsErrorOf e (class_end n flags u) → IsErrorOf e (after_dash go n flags set m at (skip flags t))
 dash_fault go n flags set m at t u v c e gap begins other refuses =
-    let read : Refuses e (class_end n flags (c ∷ v)) = subst (λ (x : Text). Refuses e (class_end n flags x)) begins refuses in
+    let read : IsErrorOf e (class_end n flags (c ∷ v)) = subst (λ (x : Text). IsErrorOf e (class_end n flags x)) begins refuses in
     rw (sym gap ∙ begins) (rw (no_second c other) (refuses_first e (class_end n flags (c ∷ v)) (range go set m) read))
 
 -- what stands at the end, or not
@@ -146,5 +146,5 @@ closes go n flags set [] rest is behind = absurd (false≢true is)
 closes go n flags set (c ∷ t) rest is behind = rw (is, behind) refl
 
 -- a refusal of what is the same
-pub refuses_by : {A : Type 0} (e : Error) (a b : Answer A) → a ≡ b → Refuses e b → Refuses e a
+pub refuses_by : {A : Type 0} (e : Error) (a b : ReadResult A) → a ≡ b → IsErrorOf e b → IsErrorOf e a
 refuses_by e a b same refuses = rw same refuses

@@ -11,10 +11,10 @@ use Rattle.bites_spec.specs.Class.{Set, single}
 use Rattle.bites_spec.specs.Group.{is_used, is_name_front, is_name_start, is_name_part}
 use Rattle.bites_spec.specs.Message as message
 use Rattle.bites_spec.specs.Pattern.{Text, next_is, right_angle}
-use Rattle.bites_spec.specs.Reading.{name_from, name_end, name_unclosed, stop}
+use Rattle.bites_spec.specs.Reader.{name_from, name_end, name_unclosed, stop}
 use Rattle.bites_text.specs.Messages.{error_of}
 use Rattle.bites_text.specs.declared.error.Error.TheVariants.{MissingName, UnclosedName, EmptyName, DuplicateName}
-use Rattle.bites_syntax.specs.declared.names.Names.{Names}
+use Rattle.bites_syntax.specs.declared.group_names.Names.{Names}
 use Rattle.bites_syntax.specs.Groups.{AreNames}
 use Rattle.bites_syntax.specs.Parts.{error_in}
 

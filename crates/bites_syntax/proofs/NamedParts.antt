@@ -3,10 +3,10 @@ use Rattle.std.proofs.Common.{◌≡◌, ◌≤◌, ◌<◌, ◌+◌, ◌⊎◌,
 use Rattle.std.specs.Prelude.{codes, if◌then◌else◌}
 use Rattle.std.proofs.lemmas.Bool.{false≢true}
 use Rattle.std.proofs.lemmas.List.{drop-drop}
-use Rattle.bites_spec.specs.Class.{Set, NamedClass, complement, members, name_of, union}
+use Rattle.bites_spec.specs.Class.{Set, NamedClass, complement, members, class_name, union}
 use Rattle.bites_spec.specs.Message as message
 use Rattle.bites_spec.specs.Pattern.{Text, begins}
-use Rattle.bites_spec.specs.Reading.{Answer, Members, named, stop}
+use Rattle.bites_spec.specs.Reader.{ReadResult, Members, named, stop}
 use Rattle.bites_syntax.specs.Members.{members_named, named_at}
 
 bool_cases : (b : Bool) → (b ≡ true) ⊎ (b ≡ false)
@@ -63,10 +63,10 @@ all_three a b c t u v w rest same first behind second next third last =
 
 -- how a named class is written
 abbrev written : Text → NamedClass → Text
-written opening k = opening ++ name_of k ++ codes ":]"
+written opening k = opening ++ class_name k ++ codes ":]"
 
-length_written : (opening : Text) (k : NamedClass) → length (written opening k) ≡ (length opening + 2) + length (name_of k)
-length_written opening k = omega (arith, length-append (opening ++ name_of k) (codes ":]"), length-append opening (name_of k))
+length_written : (opening : Text) (k : NamedClass) → length (written opening k) ≡ (length opening + 2) + length (class_name k)
+length_written opening k = omega (arith, length-append (opening ++ class_name k) (codes ":]"), length-append opening (class_name k))
 
 -- the class stands here
 pub named_here : (t rest : Text) (k : NamedClass) (classes : List NamedClass) → begins (written (codes "[:") k) t ≡ true → rest ≡ drop (length (written (codes "[:") k)) t →
@@ -100,9 +100,9 @@ pub named_none : (go : Members) (set : Set) (t : Text) (classes : List NamedClas
 unfolding named_at
 named_none go set t [] is = refl
 named_none go set t (k ∷ classes) is = elim (bool_cases (begins (written (codes "[:") k) t)) [
-  | inl here ↦ absurd (let e : Some (k, false, drop (4 + length (name_of k)) t) ≡ None = rw here at is in cc)
+  | inl here ↦ absurd (let e : Some (k, false, drop (4 + length (class_name k)) t) ≡ None = rw here at is in cc)
   | inr none ↦ elim (bool_cases (begins (written (codes "[:^") k) t)) [
-    | inl here ↦ absurd (let e : Some (k, true, drop (5 + length (name_of k)) t) ≡ None = rw (none, here) at is in cc)
+    | inl here ↦ absurd (let e : Some (k, true, drop (5 + length (class_name k)) t) ≡ None = rw (none, here) at is in cc)
     | inr no_other ↦ rw (none, no_other) (named_none go set t classes (rw (none, no_other) at is))
   ]
 ]
@@ -113,11 +113,11 @@ pub named_some : (go : Members) (set : Set) (t rest : Text) (classes : List Name
 unfolding named_at
 named_some go set t rest [] k negated is = absurd (let e : None ≡ Some (k, negated, rest) = is in cc)
 named_some go set t rest (j ∷ classes) k negated is =
-    let follows : NamedClass × Bool × Text → Answer Set = λ p. go (union set (members_named p.0 p.1)) p.2 in
+    let follows : NamedClass × Bool × Text → ReadResult Set = λ p. go (union set (members_named p.0 p.1)) p.2 in
     elim (bool_cases (begins (written (codes "[:") j) t)) [
-      | inl here ↦ (let e : Some (j, false, drop (4 + length (name_of j)) t) ≡ Some (k, negated, rest) = rw here at is in rw here (ap follows (some_same e)))
+      | inl here ↦ (let e : Some (j, false, drop (4 + length (class_name j)) t) ≡ Some (k, negated, rest) = rw here at is in rw here (ap follows (some_same e)))
       | inr none ↦ elim (bool_cases (begins (written (codes "[:^") j) t)) [
-        | inl here ↦ (let e : Some (j, true, drop (5 + length (name_of j)) t) ≡ Some (k, negated, rest) = rw (none, here) at is in rw (none, here) (ap follows (some_same e)))
+        | inl here ↦ (let e : Some (j, true, drop (5 + length (class_name j)) t) ≡ Some (k, negated, rest) = rw (none, here) at is in rw (none, here) (ap follows (some_same e)))
         | inr no_other ↦ rw (none, no_other) (named_some go set t rest classes k negated (rw (none, no_other) at is))
       ]
     ]
@@ -133,14 +133,14 @@ named_shorter t rest [] k negated is = absurd (let e : None ≡ Some (k, negated
 named_shorter t rest (j ∷ classes) k negated is =
     let at_end : NamedClass × Bool × Text → ℕ = λ p. length p.2 in
     elim (bool_cases (begins (written (codes "[:") j) t)) [
-      | inl here ↦ (let e : Some (j, false, drop (4 + length (name_of j)) t) ≡ Some (k, negated, rest) = rw here at is in
-          let shorter : length (drop (4 + length (name_of j)) t) ≡ length rest = ap at_end (some_same e) in
-          let less : length (drop (4 + length (name_of j)) t) < length t = behind_shorter (4 + length (name_of j)) (omega arith) (58 ∷ name_of j ++ codes ":]") t here in
+      | inl here ↦ (let e : Some (j, false, drop (4 + length (class_name j)) t) ≡ Some (k, negated, rest) = rw here at is in
+          let shorter : length (drop (4 + length (class_name j)) t) ≡ length rest = ap at_end (some_same e) in
+          let less : length (drop (4 + length (class_name j)) t) < length t = behind_shorter (4 + length (class_name j)) (omega arith) (58 ∷ class_name j ++ codes ":]") t here in
           omega (arith, shorter, less))
       | inr none ↦ elim (bool_cases (begins (written (codes "[:^") j) t)) [
-        | inl here ↦ (let e : Some (j, true, drop (5 + length (name_of j)) t) ≡ Some (k, negated, rest) = rw (none, here) at is in
-            let shorter : length (drop (5 + length (name_of j)) t) ≡ length rest = ap at_end (some_same e) in
-            let less : length (drop (5 + length (name_of j)) t) < length t = behind_shorter (5 + length (name_of j)) (omega arith) (58 ∷ 94 ∷ name_of j ++ codes ":]") t here in
+        | inl here ↦ (let e : Some (j, true, drop (5 + length (class_name j)) t) ≡ Some (k, negated, rest) = rw (none, here) at is in
+            let shorter : length (drop (5 + length (class_name j)) t) ≡ length rest = ap at_end (some_same e) in
+            let less : length (drop (5 + length (class_name j)) t) < length t = behind_shorter (5 + length (class_name j)) (omega arith) (58 ∷ 94 ∷ class_name j ++ codes ":]") t here in
             omega (arith, shorter, less))
         | inr no_other ↦ named_shorter t rest classes k negated (rw (none, no_other) at is)
       ]

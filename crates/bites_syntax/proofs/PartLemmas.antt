@@ -2,12 +2,12 @@
 use Rattle.std.proofs.Common.{◌≡◌, Ok, Err, Some, Result, ◌∷◌, ℕ}
 use Rattle.std.proofs.lemmas.Bool.{ne_eqb}
 use Rattle.bites_spec.specs.Pattern.{Text, Flags, right_brace}
-use Rattle.bites_spec.specs.Reading.{Stop, Answer, and_then, after_comma, after_max, after_min, counted, decimal}
+use Rattle.bites_spec.specs.Reader.{Stop, ReadResult, and_then, after_comma, after_max, after_min, counted, decimal}
 use Rattle.bites_text.specs.declared.error.Error.{Error}
 use Rattle.bites_syntax.specs.Parts.{error_in}
 
 -- a first part's fault is that of the whole
-pub error_in_first : {A B : Type 0} (a : Answer A) (f : A → Text → Result B Stop) (e : Error) → error_in a ≡ Some e → error_in (and_then a f) ≡ Some e
+pub error_in_first : {A B : Type 0} (a : ReadResult A) (f : A → Text → Result B Stop) (e : Error) → error_in a ≡ Some e → error_in (and_then a f) ≡ Some e
 error_in_first (Ok x) f e fault = let wrong : error_in (Ok x) ≡ Some e = fault in cc
 error_in_first (Err s) f e fault = fault
 

@@ -8,7 +8,7 @@ use Rattle.bites_spec.specs.Message.{Message}
 use Rattle.bites_spec.specs.Pattern as pattern
 use Rattle.bites_spec.specs.Pattern.{Text, Flags, skip}
 use Rattle.bites_spec.specs.RangesOf.{ranges_of}
-use Rattle.bites_spec.specs.Reading.{Answer, Bounds, Found, Opened, Reader, Stop, and_found, and_then, at_item, at_opened, inner, at_operator, behind_group, counted, directive, group, opened, repeat_last}
+use Rattle.bites_spec.specs.Reader.{ReadResult, Bounds, Found, Opened, Reader, Stop, and_found, and_then, at_item, at_opened, inner, at_operator, behind_group, counted, directive, group, opened, repeat_last}
 use Rattle.bites_spec.specs.Tree.{Tree, sequence_of}
 use Rattle.bites_text.specs.declared.error.Error.{Error}
 use Rattle.bites_text.specs.declared.error.Error.TheVariants.{TooMuchNesting, UnclosedGroup, UnopenedGroup}
@@ -19,7 +19,7 @@ use Rattle.bites_syntax.specs.declared.parse.Rows.{Rows}
 use Rattle.bites_syntax.specs.declared.parse.Step.{Step}
 use Rattle.bites_syntax.specs.declared.parse.Step.TheVariants.{Item, Group, End}
 use Rattle.bites_syntax.specs.Nodes.{AreNodes}
-use Rattle.bites_syntax.specs.Parts.{error_in, Refuses}
+use Rattle.bites_syntax.specs.Parts.{error_in, IsErrorOf}
 use Rattle.bites_syntax.specs.Progress.{Enters, HasRoom, IsForward, Steps}
 
 -- at least one node stands for at least one tree
@@ -35,12 +35,12 @@ some_of limit (n ∷ nodes) (t ∷ ts) some are = record { first = t; more = ts;
 
 module _ (limit : ℕ) (go : Reader) (depth : ℕ) (g : pattern.Front) (bs : List Tree) where
   -- an operator behind a node
-  pub operator_goes : (ts more : List Tree) (t : Tree) (m : Message) (at rest : Text) (a : Answer Bounds) (b : Bounds) → ts ≡ t ∷ more → a ≡ Ok (b, rest) →
+  pub operator_goes : (ts more : List Tree) (t : Tree) (m : Message) (at rest : Text) (a : ReadResult Bounds) (b : Bounds) → ts ≡ t ∷ more → a ≡ Ok (b, rest) →
       at_operator ranges_of limit go depth g bs ts m at a ≡ go depth g bs (repeat_last b t more) rest
   operator_goes ts more t m at rest a b are reads = rw (are, reads) refl
 
   -- a fault of an operator behind a node
-  pub operator_fault : (ts more : List Tree) (t : Tree) (m : Message) (at : Text) (a : Answer Bounds) (e : Error) → ts ≡ t ∷ more → error_in a ≡ Some e →
+  pub operator_fault : (ts more : List Tree) (t : Tree) (m : Message) (at : Text) (a : ReadResult Bounds) (e : Error) → ts ≡ t ∷ more → error_in a ≡ Some e →
       error_in (at_operator ranges_of limit go depth g bs ts m at a) ≡ Some e
   operator_fault ts more t m at (Ok x) e are fault = absurd (let wrong : error_in (Ok x) ≡ Some e = fault in cc)
   operator_fault ts more t m at (Err s) e are fault = rw are fault

@@ -4,7 +4,7 @@ use Rattle.bites_spec.specs.Grammar.{at_front, group_of}
 use Rattle.bites_spec.specs.Group.{Opening}
 use Rattle.bites_spec.specs.Pattern as pattern
 use Rattle.bites_spec.specs.RangesOf.{ranges_of}
-use Rattle.bites_spec.specs.Reading.{Found, Stop, and_found, behind_group, inner, read}
+use Rattle.bites_spec.specs.Reader.{Found, Stop, and_found, behind_group, inner, read}
 use Rattle.bites_spec.specs.Tree.{Tree, choice_of}
 use Rattle.bites_text.specs.declared.error.Error.{Error}
 use Rattle.bites_syntax.specs.declared.node.Node.{Node}
@@ -13,7 +13,7 @@ use Rattle.bites_syntax.specs.declared.parse.Parser.{Parser}
 use Rattle.bites_syntax.specs.declared.parse.Rows.{Rows}
 use Rattle.bites_syntax.specs.Nodes.{AreNodes, StandsFor}
 use Rattle.bites_syntax.specs.Openings.{IsFront}
-use Rattle.bites_syntax.specs.Parts.{error_in, Refuses}
+use Rattle.bites_syntax.specs.Parts.{error_in, IsErrorOf}
 use Rattle.bites_syntax.specs.Progress.{IsAt, GoesOn, Enters, Ends, ReadsAs}
 
 -- what the reader is asked at the start, it is asked where the parser is
@@ -68,8 +68,8 @@ module _ (limit depth n : ℕ) (start : pattern.Front) (text : pattern.Text) (p 
   }
 
   -- a fault
-  pub reached_fault : (e : Error) (r : Reached limit depth n start text p rows) → Refuses e (inner ranges_of limit (suc r.steps) depth r.g r.branches r.nodes p.cursor) →
-      Refuses e (inner ranges_of limit (suc n) depth start [] [] text)
+  pub reached_fault : (e : Error) (r : Reached limit depth n start text p rows) → IsErrorOf e (inner ranges_of limit (suc r.steps) depth r.g r.branches r.nodes p.cursor) →
+      IsErrorOf e (inner ranges_of limit (suc n) depth start [] [] text)
   reached_fault e r fault = ⊎_elim (λ m. inl m) (λ f. inr (ap error_in r.same ∙ f)) fault
 
 fault_inside : (a : Result Found Stop) (f : Found → Result Found Stop) (e : Error) → error_in a ≡ Some e → error_in (and_found a f) ≡ Some e
@@ -88,10 +88,10 @@ module _ (limit depth n : ℕ) (start : pattern.Front) (text : pattern.Text) (p 
     (enters : Enters limit depth r.steps q opens r.g r.branches r.nodes (inner ranges_of limit (suc r.steps) depth r.g r.branches r.nodes p.cursor))
     (less : length q.cursor < length p.cursor) where
   -- a fault in a group
-  pub fault_in_group : (e : Error) → ((k : ℕ) → length q.cursor ≤ k → Refuses e (inner ranges_of limit (suc k) (suc depth) enters.inside [] [] q.cursor)) →
-      Refuses e (inner ranges_of limit (suc n) depth start [] [] text)
+  pub fault_in_group : (e : Error) → ((k : ℕ) → length q.cursor ≤ k → IsErrorOf e (inner ranges_of limit (suc k) (suc depth) enters.inside [] [] q.cursor)) →
+      IsErrorOf e (inner ranges_of limit (suc n) depth start [] [] text)
   fault_in_group e reads =
-      let here = inside_by limit depth r.steps q opens r.g r.branches r.nodes _ enters (λ a. Refuses e a) (omega (arith, r.room)) reads in
+      let here = inside_by limit depth r.steps q opens r.g r.branches r.nodes _ enters (λ a. IsErrorOf e a) (omega (arith, r.room)) reads in
       ⊎_elim (λ m. inl m)
       (λ f. inr (ap error_in (r.same ∙ enters.same)
       ∙ fault_inside _ (behind_group ranges_of limit (inner ranges_of limit r.steps) depth r.g r.branches r.nodes enters.opening) e f)) here
@@ -110,7 +110,7 @@ module _ (limit depth n : ℕ) (start : pattern.Front) (text : pattern.Text) (p 
       here = inside_by limit depth r.steps q opens r.g r.branches r.nodes _ enters (λ a. ReadsAs limit inside node a) (omega (arith, r.room)) reads
 
       front_is : IsFront behind.front (record (here.found.behind) { flags = r.g.flags })
-      front_is = rw front (record { flags = enters.outer; groups = here.front.groups; names = here.front.names })
+      front_is = rw front (record { flags = enters.outer; groups = here.front.groups; names = here.front.names; opened = here.front.opened })
 
       goes : and_found (inner ranges_of limit r.steps (suc depth) enters.inside [] [] q.cursor) (behind_group ranges_of limit (inner ranges_of limit r.steps) depth r.g r.branches r.nodes enters.opening)
           ≡ inner ranges_of limit r.steps depth (record (here.found.behind) { flags = r.g.flags }) r.branches (r.nodes ++ group_of enters.opening r.g.groups here.found.branches ∷ []) behind.cursor

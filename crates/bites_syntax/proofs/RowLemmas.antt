@@ -1,6 +1,6 @@
 -- Branches and nodes that are read so far.
 use Rattle.std.proofs.Common.{◌≡◌, ℕ, List, [], ◌∷◌, ◌++◌, refl, sym, ap, subst, ◌∙◌}
-use Rattle.bites_spec.specs.Reading.{Bounds, repeat_last}
+use Rattle.bites_spec.specs.Reader.{Bounds, repeat_last}
 use Rattle.bites_spec.specs.Tree.{Tree, repetition_of}
 
 -- repeating the last of some nodes, given apart

@@ -3,12 +3,12 @@ use Rattle.std.specs.Prelude.{ℕ, ◌==◌, ◌∷◌, []}
 use Rattle.bites_spec.specs.Grammar.{literal_of, dot_set, caret_look, dollar_look}
 use Rattle.bites_spec.specs.Pattern.{Text, Flags, skip, dot, caret, dollar, backslash, left_bracket}
 use Rattle.bites_spec.specs.RangesOf.{ranges_of}
-use Rattle.bites_spec.specs.Reading.{Answer, answer, and_then, choose, bracket, escape, node_of}
+use Rattle.bites_spec.specs.Reader.{ReadResult, answer, and_then, choose, bracket, escape, node_of}
 use Rattle.bites_spec.specs.Tree as tree
 use Rattle.bites_spec.specs.Tree.{Tree}
 
 -- the node that begins with this character, which the text stands behind
-abbrev pub atom : ℕ → Flags → ℕ → Text → Answer Tree
+abbrev pub atom : ℕ → Flags → ℕ → Text → ReadResult Tree
 atom n flags c t =
     choose (c == left_bracket) (λ _. and_then (bracket n flags (skip flags t)) (λ set rest. answer (tree.class (ranges_of set)) rest))
     (λ _. choose (c == backslash) (λ _. and_then (escape n flags t) (λ meaning rest. answer (node_of ranges_of 0 flags meaning) rest))

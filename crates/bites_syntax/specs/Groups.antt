@@ -3,7 +3,7 @@ use Rattle.std.specs.Prelude.{◌≡◌, Bool, true, codes, List, [], ◌∷◌,
 use Rattle.std.specs.BTreeSet.{contains_text}
 use Rattle.bites_spec.specs.Group.{is_used}
 use Rattle.bites_spec.specs.Pattern.{Text, one_of, right_angle}
-use Rattle.bites_syntax.specs.declared.names.Names.{Names}
+use Rattle.bites_syntax.specs.declared.group_names.Names.{Names}
 
 -- a run of flags ends here
 abbrev pub ends_flags : Text → Bool

@@ -4,18 +4,18 @@ use Rattle.std.specs.Char.{digit_value}
 use Rattle.bites_spec.specs.Class.{is_scalar}
 use Rattle.bites_spec.specs.Escape.{is_hex_digit}
 use Rattle.bites_spec.specs.Pattern.{Text, Flags}
-use Rattle.bites_spec.specs.Reading.{Answer, and_then, answer, exactly}
+use Rattle.bites_spec.specs.Reader.{ReadResult, and_then, answer, exactly}
 use Rattle.bites_text.specs.declared.error.Error.{Error}
 use Rattle.bites_text.specs.declared.error.Error.TheVariants.{FixedHexUnfinished, FixedHexDigit}
 use Rattle.bites_syntax.specs.Numbers.{AgreeBelow}
 use Rattle.bites_syntax.specs.Parts.{error_in}
 
 -- the number of so many digits, behind those that wrote a number
-abbrev pub fixed_number : ℕ → ℕ → Flags → Text → Answer ℕ
+abbrev pub fixed_number : ℕ → ℕ → Flags → Text → ReadResult ℕ
 fixed_number v k flags t = and_then (exactly k flags t) (λ digits rest. answer (fold (λ n d. n * 16 + digit_value d) v digits) rest)
 
 -- a number that is the same up to the bound, or the error
-abbrev pub AnswersNumber : ℕ → Result ℕ Error → Text → Answer ℕ → Type 0
+abbrev pub AnswersNumber : ℕ → Result ℕ Error → Text → ReadResult ℕ → Type 0
 AnswersNumber bound result rest a = MatchResult result (λ m. (n : ℕ) × (a ≡ Ok (n, rest)) × AgreeBelow bound m n) (λ e. error_in a ≡ Some e)
 
 -- the value of the digit that comes next, or why there is none

@@ -16,4 +16,3 @@ pub mod TreeCode
 pub mod View
 pub mod TreeFalls
 pub mod Cases
-pub mod Escaped

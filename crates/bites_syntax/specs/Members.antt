@@ -1,36 +1,36 @@
 -- The members of a class in brackets.
 use Rattle.std.specs.Prelude.{◌≡◌, ℕ, ◌+◌, Bool, true, false, List, [], ◌∷◌, ◌++◌, length, drop, codes, Option, Some, None, Result, Ok, MatchOption, MatchResult, if◌then◌else◌}
 use Rattle.bites_spec.specs.Range.{Range, in_ranges}
-use Rattle.bites_spec.specs.Class.{Set, NamedClass, complement, members, name_of, none, single, is_scalar}
+use Rattle.bites_spec.specs.Class.{Set, NamedClass, complement, members, class_name, none, single, is_scalar}
 use Rattle.bites_spec.specs.Bracket.{is_set_operator}
 use Rattle.bites_spec.specs.Pattern.{Text, Flags, begins}
-use Rattle.bites_spec.specs.Reading.{Answer, Members, bracket, class_members, dashes, finished, set_operator_message}
+use Rattle.bites_spec.specs.Reader.{ReadResult, Members, bracket, class_members, dashes, finished, set_operator_message}
 use Rattle.bites_text.specs.Messages.{error_of}
 use Rattle.bites_text.specs.declared.error.Error.{Error}
-use Rattle.bites_syntax.specs.Parts.{Refuses, error_in}
+use Rattle.bites_syntax.specs.Parts.{IsErrorOf, error_in}
 
 -- the ranges have the scalar values of the set
 unfoldable pub Has : List Range → Set → Type 0
 Has ranges set = (c : ℕ) → is_scalar c ≡ true → in_ranges ranges c ≡ set c
 
 -- the reader adds a part of a class to any set that the ranges had, as the new ranges do, or stops with the error
-abbrev pub Adds : List Range → List Range → Result (Unit {0}) Error → Text → (Members → Set → Answer Set) → Type 0
+abbrev pub Adds : List Range → List Range → Result (Unit {0}) Error → Text → (Members → Set → ReadResult Set) → Type 0
 Adds old new result rest read =
     (go : Members) (set : Set) → Has old set →
-    MatchResult result (λ _. (more : Set) × (read go set ≡ go more rest) × Has new more) (λ e. Refuses e (read go set))
+    MatchResult result (λ _. (more : Set) × (read go set ≡ go more rest) × Has new more) (λ e. IsErrorOf e (read go set))
 
 -- from any set that the ranges had, the reader comes to the set that the new ranges have, or stops with the error
-abbrev pub Completes : List Range → List Range → Result (Unit {0}) Error → Text → (Set → Answer Set) → Type 0
+abbrev pub Completes : List Range → List Range → Result (Unit {0}) Error → Text → (Set → ReadResult Set) → Type 0
 Completes old new result rest read =
     (set : Set) → Has old set →
-    MatchResult result (λ _. (more : Set) × (read set ≡ Ok (more, rest)) × Has new more) (λ e. Refuses e (read set))
+    MatchResult result (λ _. (more : Set) × (read set ≡ Ok (more, rest)) × Has new more) (λ e. IsErrorOf e (read set))
 
 -- the first of these classes whose name stands here, whether a caret comes before it, and the text behind it
 unfoldable pub named_at : Text → List NamedClass → Option (NamedClass × Bool × Text)
 named_at t [] = None
 named_at t (k ∷ classes) =
-    if begins (codes "[:" ++ name_of k ++ codes ":]") t then Some (k, false, drop (4 + length (name_of k)) t)
-    else if begins (codes "[:^" ++ name_of k ++ codes ":]") t then Some (k, true, drop (5 + length (name_of k)) t)
+    if begins (codes "[:" ++ class_name k ++ codes ":]") t then Some (k, false, drop (4 + length (class_name k)) t)
+    else if begins (codes "[:^" ++ class_name k ++ codes ":]") t then Some (k, true, drop (5 + length (class_name k)) t)
     else named_at t classes
 
 -- the characters of a named class, or all others

@@ -1,9 +1,10 @@
 -- What stands behind an opening parenthesis, and what the front of the pattern decides.
 use Rattle.std.specs.Prelude.{◌≡◌, ◌+◌, Option, option_map, encode_utf8_all}
 use Rattle.bites_spec.specs.Pattern as pattern
-use Rattle.bites_spec.specs.Pattern.{Text}
+use Rattle.bites_spec.specs.Pattern.{Text, given}
+use Rattle.bites_spec.specs.Measure.{opened_by}
 use Rattle.bites_spec.specs.Group.{numbered, unnumbered}
-use Rattle.bites_spec.specs.Reading as reading
+use Rattle.bites_spec.specs.Reader as reading
 use Rattle.bites_syntax.specs.declared.group.Front.{Front}
 use Rattle.bites_syntax.specs.declared.group.Opened.{Opened}
 use Rattle.bites_syntax.specs.declared.group.Opened.TheVariants.{Directive, Unnumbered, Numbered}
@@ -14,7 +15,8 @@ use Rattle.bites_syntax.specs.Groups.{AreNames}
 pub record IsFront (f : Front) (g : pattern.Front) : Type 0 where
   pub flags : flags_of f.flags ≡ g.flags
   pub groups : f.groups ≡ g.groups
-  pub names : AreNames f.names g.names
+  pub names : AreNames f.names (given g.names)
+  pub opened : f.opened ≡ opened_by g
 
 -- what was opened, and the front f behind it, stand for what the reader answers from the front g on
 abbrev pub IsOpened : Opened → Front → pattern.Front → reading.Opened → Type 0

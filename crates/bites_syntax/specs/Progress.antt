@@ -4,7 +4,7 @@ use Rattle.bites_spec.specs.Group.{Opening}
 use Rattle.bites_spec.specs.Pattern as pattern
 use Rattle.bites_spec.specs.Pattern.{Text}
 use Rattle.bites_spec.specs.RangesOf.{ranges_of}
-use Rattle.bites_spec.specs.Reading.{Found, Stop, and_found, behind_group, inner}
+use Rattle.bites_spec.specs.Reader.{Found, Stop, and_found, behind_group, inner}
 use Rattle.bites_spec.specs.Tree.{Tree, choice_of}
 use Rattle.bites_text.specs.declared.error.Error.{Error}
 use Rattle.bites_syntax.specs.declared.node.Node.{Node}
@@ -16,7 +16,7 @@ use Rattle.bites_syntax.specs.declared.parse.Step.TheVariants.{Item, Group, End}
 use Rattle.bites_syntax.specs.FlagsView.{flags_of}
 use Rattle.bites_syntax.specs.Nodes.{AreNodes, IsNumbered, StandsFor}
 use Rattle.bites_syntax.specs.Openings.{IsFront}
-use Rattle.bites_syntax.specs.Parts.{Refuses}
+use Rattle.bites_syntax.specs.Parts.{IsErrorOf}
 
 -- the parser and its rows are at this front of the reader, with these branches and nodes
 pub record IsAt (limit : ℕ) (p : Parser) (rows : Rows) (g : pattern.Front) (branches nodes : List Tree) : Type 0 where
@@ -54,7 +54,7 @@ Steps limit depth n g branches nodes (Ok Item) p rows a = GoesOn limit depth n p
 Steps limit depth n g branches nodes (Ok (Group group)) p rows a =
     Enters limit depth n p group g branches nodes a × AreNodes limit rows.branches.items branches × AreNodes limit rows.nodes.items nodes
 Steps limit depth n g branches nodes (Ok End) p rows a = Ends limit p rows g a
-Steps limit depth n g branches nodes (Err e) p rows a = Refuses e a
+Steps limit depth n g branches nodes (Err e) p rows a = IsErrorOf e a
 
 -- a choice that the reader has read as well
 pub record ReadsAs (limit : ℕ) (p : Parser) (node : Node) (a : Result Found Stop) : Type 0 where
@@ -66,7 +66,7 @@ pub record ReadsAs (limit : ℕ) (p : Parser) (node : Node) (a : Result Found St
 
 -- the reader reads the choice too, or stops
 abbrev pub IsChoice : ℕ → Result Node Error → Parser → Result Found Stop → Type 0
-IsChoice limit result p a = MatchResult result (λ node. ReadsAs limit p node a) (λ e. Refuses e a)
+IsChoice limit result p a = MatchResult result (λ node. ReadsAs limit p node a) (λ e. IsErrorOf e a)
 
 -- a group is opened only below the limit
 abbrev pub HasRoom : ℕ → ℕ → Result Step Error → Type 0

@@ -2,7 +2,7 @@
 use Rattle.std.specs.Prelude.{length}
 use Rattle.bites_spec.specs.Class.{Set}
 use Rattle.bites_spec.specs.Pattern.{Text, Flags}
-use Rattle.bites_spec.specs.Reading.{each}
+use Rattle.bites_spec.specs.Reader.{each}
 
 -- all characters of the set that stand here, each followed by a gap, and the text behind them
 unfoldable pub each_of : Flags → Set → Text → Text × Text

@@ -4,8 +4,8 @@ use Rattle.bites_spec.specs.Look as assertion
 use Rattle.bites_spec.specs.Tree.{Tree, empty, char, class, look, repetition, group, sequence, alternation, trees_of}
 use Rattle.bites_syntax.specs.declared.look.Look as declared
 use Rattle.bites_syntax.specs.declared.look.Look.TheVariants.{Start, End, StartLf, EndLf, StartCrlf, EndCrlf, Word, WordNegate, WordStart, WordEnd, WordStartHalf, WordEndHalf}
-use Rattle.bites_syntax.specs.declared.named.NamedClass.{NamedClass}
-use Rattle.bites_syntax.specs.declared.named.NamedClass.TheVariants as named
+use Rattle.bites_syntax.specs.declared.named_class.NamedClass.{NamedClass}
+use Rattle.bites_syntax.specs.declared.named_class.NamedClass.TheVariants as named
 use Rattle.bites_syntax.specs.declared.tree.Kind.{Kind}
 use Rattle.bites_syntax.specs.declared.tree.Kind.TheVariants.{Empty, Char, Class, Look, Repetition, Capture, Concat, Alternation}
 

@@ -6,7 +6,7 @@ ghost use Rattle.bites_spec.specs.Class.{Lists};
 ghost use Rattle.bites_spec.specs.Escape as escape;
 ghost use Rattle.bites_spec.specs.Grammar.{caret_look, dollar_look, dot_set, literal_of};
 ghost use Rattle.bites_spec.specs.RangesOf.{ranges_of};
-ghost use Rattle.bites_spec.specs.Reading.{node_of};
+ghost use Rattle.bites_spec.specs.Reader.{node_of};
 ghost use Rattle.bites_spec.specs.Tree as spec;
 ghost use Rattle.bites_syntax.specs.Atoms.{atom};
 ghost use Rattle.bites_syntax.specs.FlagsView.{flags_of};

@@ -1,29 +1,29 @@
 //! Classes in brackets.
 
 ghost use Rattle.std.specs.Prelude.{◌≡◌, ℕ, suc, [], ◌≤◌, ◌<◌, Bool, true, false, length, codes, drop, ◌++◌, ◌∷◌, IfOk, OnOk, map, MatchOption, MatchResult, None, Some};
-ghost use Rattle.bites_spec.specs.Class.{Lists, Set, name_of, named_classes, single};
+ghost use Rattle.bites_spec.specs.Class.{Lists, Set, class_name, named_classes, single};
 ghost use Rattle.bites_spec.specs.Bracket.{is_set_operator, with_cases, with_negation};
 ghost use Rattle.bites_spec.specs.Escape as spec;
 ghost use Rattle.bites_spec.specs.Pattern.{Text, begins, next_is, one_of, skip};
-ghost use Rattle.bites_spec.specs.Reading.{after_dash, after_first, alone, bracket, class_end, class_members, member, named, range};
+ghost use Rattle.bites_spec.specs.Reader.{after_dash, after_first, alone, bracket, class_end, class_members, member, named, range};
 ghost use Rattle.bites_syntax.specs.FlagsView.{flags_of};
 ghost use Rattle.bites_syntax.specs.Meanings.{IsMeaning};
 ghost use Rattle.bites_syntax.specs.Members.{Adds, AnswersCaret, AnswersLeading, Completes, Has, IsOperatorError, leading_set, members_named, named_at};
 ghost use Rattle.bites_syntax.specs.Parts.{Agrees, WithSteps};
 ghost use Rattle.bites_syntax.specs.View.{named_of};
 
-use crate::builder::ClassBuilder;
 use crate::class::Class;
+use crate::class_builder::ClassBuilder;
 use crate::cursor::{Characters, Cursor};
 use crate::escape::{Meaning, escape, named_class, other_characters};
 use crate::flags::Flags;
-use crate::named::NamedClass;
+use crate::named_class::NamedClass;
 use bites_text::error::Error;
 use std::alloc::{AllocError, Global};
 
 /// The place behind this opening, a name and `:]`, if they stand here.
 fn behind_name<'a>(cursor: &Cursor<'a>, opening: &str, name: NamedClass) -> Option<Cursor<'a>>
-    ensures { let text = opening.now ++ name_of (named_of name) ++ codes ":]" in
+    ensures { let text = opening.now ++ class_name (named_of name) ++ codes ":]" in
         MatchOption result (begins text cursor.now ≡ false)
         (λ rest. (begins text cursor.now ≡ true) × (rest ≡ drop (length text) cursor.now)) }
 {

@@ -3,7 +3,7 @@
 ghost use Rattle.std.specs.Prelude.{◌≡◌, ◌≤◌, length, IfOk, OnOk, option_map, string_bytes};
 ghost use Rattle.bites_spec.specs.Class.{Lists, complement, members};
 ghost use Rattle.bites_spec.specs.Escape.{assertion_of, boundary_of, class_of, control_of, digits_of, escapes_itself, is_boundary_letter};
-ghost use Rattle.bites_spec.specs.Reading.{boundary, boundary_name, escape, meaning_of, simple};
+ghost use Rattle.bites_spec.specs.Reader.{boundary, boundary_name, escape, meaning_of, simple};
 ghost use Rattle.bites_syntax.specs.FlagsView.{flags_of};
 ghost use Rattle.bites_syntax.specs.Meanings.{IsClassOf, IsMeaning, IsMeaningOf, IsLook};
 ghost use Rattle.bites_syntax.specs.Parts.{Agrees, WithSteps};
@@ -15,7 +15,7 @@ use crate::cursor::{Characters, Cursor};
 use crate::flags::Flags;
 use crate::hexadecimal::hexadecimal;
 use crate::look::Look;
-use crate::named::NamedClass;
+use crate::named_class::NamedClass;
 use bites_text::error::Error;
 use std::alloc::{AllocError, Global};
 

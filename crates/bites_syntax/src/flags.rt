@@ -3,10 +3,10 @@
 ghost use Rattle.std.specs.Prelude.{◌≡◌, ◌≤◌, ◌==◌, [], length, codes, true, if◌then◌else◌, MatchResult, OnOk};
 ghost use Rattle.bites_spec.specs.Group.{changed, is_flag_mark, put_flag};
 ghost use Rattle.bites_spec.specs.Pattern.{Front, dash, one_of};
-ghost use Rattle.bites_spec.specs.Reading.{flags_from};
+ghost use Rattle.bites_spec.specs.Reader.{flags_from};
 ghost use Rattle.bites_syntax.specs.FlagsView.{flags_of};
 ghost use Rattle.bites_syntax.specs.Groups.{ends_flags};
-ghost use Rattle.bites_syntax.specs.Parts.{Refuses};
+ghost use Rattle.bites_syntax.specs.Parts.{IsErrorOf};
 
 use crate::cursor::Cursor;
 use bites_text::error::Error;
@@ -19,9 +19,9 @@ pub struct Flags {
     pub case_insensitive: bool,
     /// `^` and `$` stand at the ends of lines too.
     pub multi_line: bool,
-    /// `.` stands for a line feed too.
+    /// `.` stands for every character. Without this it leaves out LF, and where `crlf` is set CR too.
     pub dot_matches_new_line: bool,
-    /// A line ends at `\r\n` too.
+    /// A line ends at CR, at LF and at CR LF, for `^` and `$` where `multi_line` is set and for `.`.
     pub crlf: bool,
     /// `*` is lazy and `*?` is greedy.
     pub swap_greed: bool,
@@ -77,7 +77,7 @@ pub(crate) fn flag_run(alloc: Global, cursor: &mut Cursor<'_>) -> Result<Vec<cha
     ensures reads { MatchResult result
         (λ run. (front : Front) →
         flags_from front [] cursor.old ≡ flags_from front run.items cursor.new)
-        (λ e. (front : Front) → Refuses e (flags_from front [] cursor.old)) }
+        (λ e. (front : Front) → IsErrorOf e (flags_from front [] cursor.old)) }
     ensures ends { OnOk result (ends_flags cursor.new ≡ true) }
     ensures forward { length cursor.new ≤ length cursor.old }
 {

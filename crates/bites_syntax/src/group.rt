@@ -4,7 +4,7 @@ ghost use Rattle.std.specs.Prelude.{◌≡◌, ◌≤◌, ◌+◌, [], length, t
 ghost use Rattle.bites_spec.specs.Group.{begins_look_around, ends_with_dash};
 ghost use Rattle.bites_spec.specs.Pattern as pattern;
 ghost use Rattle.bites_spec.specs.Pattern.{Text};
-ghost use Rattle.bites_spec.specs.Reading.{flags_end, flags_from, flags_unclosed, named_group, no_name, opened};
+ghost use Rattle.bites_spec.specs.Reader.{flags_end, flags_from, flags_unclosed, named_group, no_name, opened};
 ghost use Rattle.bites_text.specs.Messages.{error_of};
 ghost use Rattle.bites_syntax.specs.Groups.{ends_flags};
 ghost use Rattle.bites_syntax.specs.Openings.{IsFront, IsOpened};
@@ -12,8 +12,9 @@ ghost use Rattle.bites_syntax.specs.Parts.{Agrees};
 
 use crate::cursor::Cursor;
 use crate::flags::{Flags, changed, flag_run};
+use crate::group_names::{Names, name};
+use crate::groups::Groups;
 use crate::name::Name;
-use crate::names::{Names, name};
 use bites_text::error::Error;
 use std::alloc::Global;
 
@@ -24,6 +25,8 @@ pub(crate) struct Front {
     /// How many groups with a number were opened.
     pub(crate) groups: u32,
     pub(crate) names: Names,
+    /// Group 0, and those that were opened.
+    pub(crate) opened: Groups,
 }
 
 /// What stands behind an opening parenthesis.
@@ -103,6 +106,7 @@ fn named_group(alloc: Global, cursor: &mut Cursor<'_>, front: &mut Front) -> Res
     };
     let text = name(alloc, cursor, &front.names)?;
     front.names.insert(text.clone()?)?;
+    front.opened.push(Some(Name::new(alloc, &text)?))?;
     front.groups = groups;
     Ok(Opened::Numbered(Some(Name::from(text))))
 }
@@ -119,6 +123,7 @@ fn no_name(alloc: Global, cursor: &mut Cursor<'_>, front: &mut Front) -> Result<
     let Some(groups) = front.groups.checked_add(1) else {
         return Err(Error::TooManyGroups);
     };
+    front.opened.push(None)?;
     front.groups = groups;
     Ok(Opened::Numbered(None))
 }

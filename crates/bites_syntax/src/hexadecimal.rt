@@ -5,7 +5,7 @@ ghost use Rattle.std.specs.Char.{digit_value};
 ghost use Rattle.bites_spec.specs.Class.{is_scalar};
 ghost use Rattle.bites_spec.specs.Escape.{is_hex_digit};
 ghost use Rattle.bites_spec.specs.Message.{fixed_hex_invalid};
-ghost use Rattle.bites_spec.specs.Reading.{and_then, exactly, hexadecimal, in_braces, scalar};
+ghost use Rattle.bites_spec.specs.Reader.{and_then, exactly, hexadecimal, in_braces, scalar};
 ghost use Rattle.bites_syntax.specs.FlagsView.{flags_of};
 ghost use Rattle.bites_syntax.specs.Hexadecimal.{AnswersDigit, AnswersNumber, fixed_number};
 ghost use Rattle.bites_syntax.specs.Operators.{Answers};

@@ -3,7 +3,7 @@
 ghost use Rattle.std.specs.Prelude.{◌≡◌, ◌≤◌, length, Ok, if◌then◌else◌, true, false};
 ghost use Rattle.bites_spec.specs.Operator.{is_greedy};
 ghost use Rattle.bites_spec.specs.Pattern.{skip};
-ghost use Rattle.bites_spec.specs.Reading.{after_comma, after_max, after_min, counted, decimal, lazy, plain_operator, whole_count};
+ghost use Rattle.bites_spec.specs.Reader.{after_comma, after_max, after_min, counted, decimal, lazy, plain_operator, whole_count};
 ghost use Rattle.bites_syntax.specs.FlagsView.{flags_of};
 ghost use Rattle.bites_syntax.specs.Operators.{Answers, bounds_of};
 ghost use Rattle.bites_syntax.specs.Parts.{WithSteps};

@@ -5,8 +5,8 @@ ghost use Rattle.bites_spec.specs.Message as message;
 ghost use Rattle.bites_spec.specs.Pattern as pattern;
 ghost use Rattle.bites_spec.specs.Pattern.{Text, right_parenthesis, skip};
 ghost use Rattle.bites_spec.specs.RangesOf.{ranges_of};
-ghost use Rattle.bites_spec.specs.Reading.{and_then, at_item, at_opened, at_operator, counted, inner, lazy, opened, plain_operator, read, repeat_last};
-ghost use Rattle.bites_spec.specs.Grammar.{group_of};
+ghost use Rattle.bites_spec.specs.Reader.{and_then, at_item, at_opened, at_operator, counted, inner, lazy, opened, plain_operator, read, repeat_last};
+ghost use Rattle.bites_spec.specs.Grammar.{Reading, group_of};
 ghost use Rattle.bites_spec.specs.Group.{Opening};
 ghost use Rattle.bites_spec.specs.Tree as spec;
 ghost use Rattle.bites_spec.specs.Tree.{choice_of, sequence_of};
@@ -14,20 +14,21 @@ ghost use Rattle.bites_syntax.specs.Atoms.{atom};
 ghost use Rattle.bites_syntax.specs.Nodes.{AreNodes, IsNumbered, StandsFor};
 ghost use Rattle.bites_syntax.specs.Progress.{HasRoom, IsAt, IsChoice, IsForward, Steps};
 ghost use Rattle.bites_syntax.specs.Operators.{bounds_of};
-ghost use Rattle.bites_syntax.specs.Parts.{Refuses, WithSteps};
+ghost use Rattle.bites_syntax.specs.Parts.{IsErrorOf, WithSteps};
 ghost use Rattle.bites_syntax.specs.Openings.{IsFront};
 ghost use Rattle.bites_syntax.specs.FlagsView.{flags_of};
 ghost use Rattle.bites_spec.specs.Message.{Message};
 ghost use Rattle.bites_spec.specs.Built.{IsCompilable};
 ghost use Rattle.bites_spec.specs.Fault.{Fault};
-ghost use Rattle.bites_spec.specs.Measure.{height, IsTooTall, Limits};
+ghost use Rattle.bites_spec.specs.Measure.{groups_opened, height, IsTooTall, Limits};
 ghost use Rattle.bites_text.specs.Messages.{error_of};
 
 use crate::atom::atom;
 use crate::cursor::Cursor;
 pub use crate::flags::Flags;
 use crate::group::{Front, Opened, open_group};
-use crate::names::Names;
+use crate::group_names::Names;
+use crate::groups::Groups;
 use crate::node::{Node, Numbered, choice_of, group_of, repetition_of, sequence_of};
 use crate::operator::{Bounds, counted, plain_operator};
 use crate::tree::Tree;
@@ -353,9 +354,10 @@ impl Parser<'_> {
 /// Reads a pattern as the tree that the grammar gives it under the flags.
 ///
 /// It answers a tree exactly if the grammar reads the pattern within the limits: at most `nest_limit` groups open at
-/// once, a tree no taller than `nest_limit`, and counts and group numbers of at most 4294967295. Else the error is the
-/// message of the pattern's first fault, or want of memory. It takes time linear in the pattern, but for the sorting of
-/// classes, and its recursion goes only into groups, so as deep as `nest_limit`; no taller tree is held meanwhile.
+/// once, a tree no taller than `nest_limit` and of a height below 4294967295, and counts and group numbers of at most
+/// 4294967295. Else the error is the message of the pattern's first fault, or want of memory. It takes time linear in
+/// the pattern, but for the sorting of classes, and its recursion goes only into groups, so as deep as `nest_limit`; no
+/// taller tree is held meanwhile.
 pub fn parse(alloc: Global, pattern: &str, flags: Flags, nest_limit: u32) -> Result<Tree, Error>
     ensures read { IfOk result (λ t. Limits (chars pattern.now) (flags_of flags) nest_limit t) }
     ensures compilable { IfOk result (λ t. IsCompilable t) }
@@ -365,16 +367,48 @@ pub fn parse(alloc: Global, pattern: &str, flags: Flags, nest_limit: u32) -> Res
         (m : Message) × (e ≡ error_of m)
         × Fault (chars pattern.now) (flags_of flags) nest_limit m) }
 {
+    Ok(parse_with_groups(alloc, pattern, flags, nest_limit)?.0)
+}
+
+/// Reads a pattern as [`parse`] does, and answers with its tree all groups that it opens, also those that the tree
+/// drops.
+pub fn parse_with_groups(
+    alloc: Global,
+    pattern: &str,
+    flags: Flags,
+    nest_limit: u32,
+) -> Result<(Tree, Groups), Error>
+    ensures read { IfOk result
+        (λ r. Limits (chars pattern.now) (flags_of flags) nest_limit r.0) }
+    ensures groups { IfOk result
+        (λ r. (reading : Reading (chars pattern.now) (flags_of flags) r.0) →
+        r.1 ≡ groups_opened reading) }
+    ensures compilable { IfOk result (λ r. IsCompilable r.0) }
+    ensures refused { IfErr result (λ e. e ≢ Error.Memory → (t : spec.Tree) →
+        Limits (chars pattern.now) (flags_of flags) nest_limit t → ⊥) }
+    ensures message { IfErr result (λ e. e ≢ Error.Memory →
+        (m : Message) × (e ≡ error_of m)
+        × Fault (chars pattern.now) (flags_of flags) nest_limit m) }
+{
     read_pattern(alloc, pattern, flags, nest_limit)
 }
 
-// The tree that the grammar's function on lists answers, or the error of its stop or of a tree that is too tall.
-fn read_pattern(alloc: Global, pattern: &str, flags: Flags, nest_limit: u32) -> Result<Tree, Error>
-    ensures reads { IfOk result (λ t. (read ranges_of nest_limit (chars pattern.now)
-        (flags_of flags) ≡ Ok t)
-        × (height t ≤ nest_limit) × (height t < 4294967295)) }
+// The tree that the grammar's function on lists answers, with the groups that were opened; or the error of its stop, or
+// of a tree that is too tall.
+fn read_pattern(
+    alloc: Global,
+    pattern: &str,
+    flags: Flags,
+    nest_limit: u32,
+) -> Result<(Tree, Groups), Error>
+    ensures reads { IfOk result (λ r. (read ranges_of nest_limit (chars pattern.now)
+        (flags_of flags) ≡ Ok r.0)
+        × (height r.0 ≤ nest_limit) × (height r.0 < 4294967295)) }
+    ensures groups { IfOk result
+        (λ r. (t : spec.Tree) → (reading : Reading (chars pattern.now) (flags_of flags) t) →
+        r.1 ≡ groups_opened reading) }
     ensures refuses { IfErr result
-        (λ e. Refuses e (read ranges_of nest_limit (chars pattern.now) (flags_of flags))
+        (λ e. IsErrorOf e (read ranges_of nest_limit (chars pattern.now) (flags_of flags))
         ⊎ ((e ≡ Error.TooMuchNesting)
         × ((t : spec.Tree)
         × (read ranges_of nest_limit (chars pattern.now) (flags_of flags) ≡ Ok t)
@@ -384,11 +418,12 @@ fn read_pattern(alloc: Global, pattern: &str, flags: Flags, nest_limit: u32) -> 
         flags,
         groups: 0,
         names: Names::new(alloc),
+        opened: Groups::new(alloc),
     };
     let cursor = Cursor::new(pattern);
     let mut parser = Parser { cursor, front };
     match parser.choice(alloc, nest_limit, 0)? {
-        Node::Kept { tree, .. } => Ok(tree),
+        Node::Kept { tree, .. } => Ok((tree, parser.front.opened)),
         Node::TooTall => Err(Error::TooMuchNesting),
     }
 }

@@ -3,7 +3,7 @@
 ghost use Rattle.std.specs.Prelude.{◌≡◌, IfOk, string_bytes, chars, encode_utf8_all};
 ghost use Rattle.bites_spec.specs.Tree as spec;
 ghost use Rattle.bites_spec.specs.Tree.{trees_of};
-ghost use Rattle.bites_syntax.specs.Escaped.{escaped, is_marked};
+ghost use Rattle.bites_spec.specs.Escaped.{escaped, is_marked};
 ghost use Rattle.bites_syntax.specs.View.{tree_of, look_of};
 
 pub use crate::class::Class;

@@ -1,20 +1,20 @@
-//! Tests that cross crates, as tables: what regexes answer on rows that were worked out by hand or that the Rust crate
-//! answered. No expected value comes from this engine.
+//! Tests of what no table of rows says: a builder and a regex that are used more than once, patterns of a million characters, programs
+//! made by hand, and the comparison of rows itself. No expected value comes from this engine.
 #![tactic(auto)]
 
 #[cfg(test)]
 mod builder;
 #[cfg(test)]
-mod expect;
-#[cfg(test)]
-mod groups;
-#[cfg(test)]
 mod hostile;
 #[cfg(test)]
-mod language;
+mod kept;
 #[cfg(test)]
-mod messages;
+mod refused;
 #[cfg(test)]
-mod searches;
+mod replaced;
 #[cfg(test)]
-mod sizes;
+mod rows;
+#[cfg(test)]
+mod states;
+#[cfg(test)]
+mod templates;

@@ -1,7 +1,7 @@
 //! Why a pattern is refused.
 
 ghost use Rattle.std.specs.Prelude.{◌≡◌, ◌↔◌, IsTrue, Some};
-ghost use Rattle.bites_text.specs.Texts.{TextsAgree, text_of};
+ghost use Rattle.bites_text.specs.Texts.{TextsAgree, error_text};
 ghost use Rattle.bites_text.specs.declared.error.Error.TheVariants.{Memory};
 
 use std::alloc::{AllocError, AllocFailed};
@@ -133,7 +133,7 @@ pub enum Error {
 impl Error {
     /// The message: one line of ASCII with no line end.
     pub const fn text(&self) -> &'static str
-        ensures { result.now ≡ text_of self.now }
+        ensures { result.now ≡ error_text self.now }
     {
         match self {
             Error::TooMuchNesting => "pattern has too much nesting",
@@ -221,7 +221,7 @@ impl Error {
 }
 
 impl fmt::Display for Error {
-    ghost output = { λ error. Some (text_of error) };
+    ghost output = { λ error. Some (error_text error) };
 
     fn fmt<W: fmt::Write>(&self, f: &mut fmt::Formatter<W>) -> fmt::Result {
         f.write_str(self.text())

@@ -1,15 +1,20 @@
 //! The builder of regexes.
 
-ghost use Rattle.std.specs.Prelude.{◌≡◌, ◌≢◌, IfOk, IfErr, chars};
-ghost use Rattle.bites_spec.specs.Measure.{Limits};
-ghost use Rattle.bites_spec.specs.Built.{IsCompilable};
+ghost use Rattle.std.specs.Prelude.{◌≡◌, ◌≢◌, ◌*◌, IfOk, IfErr, OnOk, chars, length};
+ghost use Rattle.bites_spec.specs.Measure.{HasItsGroups, TreeLimitsWith, static_captures_len};
+ghost use Rattle.bites_spec.specs.Built.{Built, IsCompilable};
+ghost use Rattle.bites_spec.specs.Program.{IsWellFormed};
+ghost use Rattle.bites_machine.specs.Compiled as compiled;
 ghost use Rattle.bites_spec.specs.Tree.{Tree};
 ghost use Rattle.bites_syntax.specs.FlagsView.{flags_of};
-ghost use Rattle.bites_bytes.specs.Settings.{Accepts, Refuses, by_default, settings};
+ghost use Rattle.bites_spec.specs.Settings.{Accepts, by_default, settings};
+ghost use Rattle.bites_bytes.specs.Settings.{Refuses};
+ghost use Rattle.bites_bytes.specs.Parts.{chosen};
 
 use crate::bytes::Regex;
-use bites_machine::program::compile;
-use bites_syntax::parse::{Flags, parse};
+use bites_machine::program::{Program, compile, compile_with_groups};
+use bites_syntax::groups::Groups;
+use bites_syntax::parse::{Flags, parse_with_groups};
 use bites_syntax::tree as syntax;
 use bites_text::error::Error;
 use std::alloc::Global;
@@ -31,21 +36,23 @@ pub struct RegexBuilder {
     flags: Flags,
     size_limit: usize,
     nest_limit: u32,
+    keep_dropped_groups: bool,
 }
 
 impl Model for RegexBuilder {
     ghost use Rattle.std.specs.Prelude.{string_bytes};
     ghost use Rattle.bites_syntax.specs.FlagsView.{flags_of};
-    ghost use Rattle.bites_bytes.specs.Settings.{Settings, settings};
+    ghost use Rattle.bites_spec.specs.Settings.{Settings, settings};
 
     ghost Value = { Settings };
 
     ghost view = { λ a. settings (string_bytes a.pattern) (flags_of a.flags)
-        a.size_limit a.nest_limit };
+        a.size_limit a.nest_limit a.keep_dropped_groups };
 }
 
 impl RegexBuilder {
-    /// A builder of this pattern, with no flag set, a size limit of 10485760 and a nesting limit of 50.
+    /// A builder of this pattern, with no flag set, a size limit of 10485760 and a nesting limit of 50, which drops groups
+    /// that the tree drops.
     ///
     /// The error is want of memory for a copy of the pattern.
     pub fn new(alloc: Global, pattern: &str) -> Result<RegexBuilder, Error>
@@ -58,6 +65,7 @@ impl RegexBuilder {
             flags: Flags::default(),
             size_limit: SIZE_LIMIT,
             nest_limit: NEST_LIMIT,
+            keep_dropped_groups: false,
         })
     }
 
@@ -81,7 +89,8 @@ impl RegexBuilder {
         self
     }
 
-    /// Whether `.` stands for the characters that end a line too: the flag `s`.
+    /// Whether `.` stands for every character: the flag `s`. Without it LF is left out, and under `R` CR too, a lone one
+    /// as well as one before LF.
     pub fn dot_matches_new_line(&mut self, yes: bool) -> &mut RegexBuilder
         ensures same { result.ghost_name ≡ self.entry.ghost_name }
         ensures set { result.now
@@ -91,7 +100,7 @@ impl RegexBuilder {
         self
     }
 
-    /// Whether CR and CR LF end lines as LF does: the flag `R`.
+    /// Whether CR and CR LF end lines as LF does, for `^` and `$` under `m` and for `.` without `s`: the flag `R`.
     pub fn crlf(&mut self, yes: bool) -> &mut RegexBuilder
         ensures same { result.ghost_name ≡ self.entry.ghost_name }
         ensures set { result.now
@@ -122,7 +131,7 @@ impl RegexBuilder {
     }
 
     /// How large a program may be: each state counts 32, each target of a choice 4, each range of characters 8, each
-    /// group 16, and the name of a group its bytes and 4.
+    /// number from 0 to the greatest of a group that is left 16, and the name of a group its bytes and 4.
     pub fn size_limit(&mut self, limit: usize) -> &mut RegexBuilder
         ensures same { result.ghost_name ≡ self.entry.ghost_name }
         ensures set { result.now ≡ record self.old { size_limit = limit } }
@@ -142,6 +151,16 @@ impl RegexBuilder {
         self
     }
 
+    /// Whether groups that the tree drops, as `(a){0}` does, are kept: such a group has its number and name, is weighed,
+    /// and never takes part in a match.
+    pub fn keep_dropped_groups(&mut self, yes: bool) -> &mut RegexBuilder
+        ensures same { result.ghost_name ≡ self.entry.ghost_name }
+        ensures set { result.now ≡ record self.old { keep_dropped_groups = yes } }
+    {
+        self.keep_dropped_groups = yes;
+        self
+    }
+
     /// A regex of this pattern under these flags and limits, in time linear in the pattern and the size limit.
     ///
     /// It is made exactly if the grammar reads the pattern as a tree and all limits hold; else the error is the message
@@ -149,7 +168,8 @@ impl RegexBuilder {
     /// makes nothing, and the builder may be used again.
     pub fn build(&self) -> Result<Regex, Error>
         ensures kept { IfOk result (λ r. (r.pattern ≡ self.now.pattern)
-            × (r.flags ≡ self.now.flags)) }
+            × (r.flags ≡ self.now.flags)
+            × (r.keep_dropped_groups ≡ self.now.keep_dropped_groups)) }
         ensures accepted { IfOk result (λ r. Accepts self.now r.tree) }
         ensures refused { IfErr result (λ e. e ≢ Error.Memory → (t : Tree) →
             Accepts self.now t → ⊥) }
@@ -161,6 +181,7 @@ impl RegexBuilder {
             self.flags,
             self.size_limit,
             self.nest_limit,
+            self.keep_dropped_groups,
         )
     }
 }
@@ -172,42 +193,54 @@ fn build(
     flags: Flags,
     size_limit: usize,
     nest_limit: u32,
+    keep: bool,
 ) -> Result<Regex, Error>
-    ensures kept { IfOk result (λ r. (r.pattern ≡ pattern.now) × (r.flags ≡ flags_of flags)) }
+    ensures kept { IfOk result (λ r. (r.pattern ≡ pattern.now) × (r.flags ≡ flags_of flags)
+        × (r.keep_dropped_groups ≡ keep)) }
     ensures accepted { IfOk result
-        (λ r. Accepts (settings pattern.now (flags_of flags) size_limit nest_limit) r.tree) }
+        (λ r. Accepts (settings pattern.now (flags_of flags) size_limit nest_limit keep) r.tree) }
     ensures refused { IfErr result (λ e. e ≢ Error.Memory → (t : Tree) →
-        Accepts (settings pattern.now (flags_of flags) size_limit nest_limit) t → ⊥) }
+        Accepts (settings pattern.now (flags_of flags) size_limit nest_limit keep) t → ⊥) }
     ensures message { IfErr result (λ e. e ≢ Error.Memory →
-        Refuses (settings pattern.now (flags_of flags) size_limit nest_limit) e) }
+        Refuses (settings pattern.now (flags_of flags) size_limit nest_limit keep) e) }
 {
-    match parse(alloc, pattern, flags, nest_limit) {
-        Ok(tree) => compile_tree(alloc, &tree, pattern, flags, size_limit, nest_limit),
+    let (tree, groups) = match parse_with_groups(alloc, pattern, flags, nest_limit) {
+        Ok(read) => read,
+        Err(error) => return Err(error),
+    };
+    match compile_kept(alloc, &tree, &groups, keep, pattern, size_limit) {
+        Ok(program) => Regex::from_parts(alloc, &tree, flags, keep, program),
         Err(error) => Err(error),
     }
 }
 
-// A regex of the tree that the pattern is read as.
-fn compile_tree(
+// The program of the tree, with all of the groups or with those that are left in the tree.
+fn compile_kept(
     alloc: Global,
     tree: &syntax::Tree,
+    groups: &Groups,
+    keep: bool,
     pattern: &str,
-    flags: Flags,
     size_limit: usize,
-    nest_limit: u32,
-) -> Result<Regex, Error>
-    requires read { Limits (chars pattern.now) (flags_of flags) nest_limit tree.now }
+) -> Result<Program, Error>
     requires compilable { IsCompilable tree.now }
-    ensures kept { IfOk result (λ r. (r.pattern ≡ pattern.now) × (r.flags ≡ flags_of flags)) }
-    ensures accepted { IfOk result
-        (λ r. Accepts (settings pattern.now (flags_of flags) size_limit nest_limit) r.tree) }
-    ensures refused { IfErr result (λ e. e ≢ Error.Memory → (t : Tree) →
-        Accepts (settings pattern.now (flags_of flags) size_limit nest_limit) t → ⊥) }
-    ensures message { IfErr result (λ e. e ≢ Error.Memory →
-        Refuses (settings pattern.now (flags_of flags) size_limit nest_limit) e) }
+    requires groups { HasItsGroups groups.now tree.now }
+    ensures pattern { IfOk result (λ p. p.pattern ≡ pattern.now) }
+    ensures names { IfOk result (λ p. p.names ≡ chosen keep groups.now tree.now) }
+    ensures slots { IfOk result
+        (λ p. p.program.slots ≡ 2 * length (chosen keep groups.now tree.now)) }
+    ensures static_len { IfOk result
+        (λ p. p.static_captures_len ≡ static_captures_len tree.now) }
+    ensures built { IfOk result (λ p. Built tree.now p.program) }
+    ensures well_formed { IfOk result (λ p. IsWellFormed p.program) }
+    ensures limits { OnOk result
+        (TreeLimitsWith size_limit (chosen keep groups.now tree.now) tree.now) }
+    ensures refused { IfErr result
+        (compiled.RefusesTree size_limit (chosen keep groups.now tree.now) tree.now) }
 {
-    match compile(alloc, tree, pattern, size_limit) {
-        Ok(program) => Regex::from_parts(alloc, tree, flags, program),
-        Err(error) => Err(error),
+    if keep {
+        compile_with_groups(alloc, tree, groups, pattern, size_limit)
+    } else {
+        compile(alloc, tree, pattern, size_limit)
     }
 }

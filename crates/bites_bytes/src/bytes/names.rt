@@ -3,70 +3,87 @@
 ghost use Rattle.std.specs.Prelude.{◌≡◌, ◌<◌, ◌^◌, IfSome, length, Some};
 
 use bites_machine::program::Program;
+use std::alloc::AllocError;
 use std::iter::FusedIterator;
+use std::marker::Model;
 
-/// The name of each group, if it has one, from group 0 on.
-#[derive(Clone, Copy)]
+/// The name of each group, if it has one, from group 0 on. A contract sees the names that are left.
+#[derive(Drop)]
 pub struct CaptureNames<'r> {
     program: &'r Program,
     left: usize,
 }
 
-impl<'r> CaptureNames<'r> {
-    ghost use Rattle.bites_bytes.specs.Names.{names_left};
+impl<'r> Model for CaptureNames<'r> {
+    ghost use Rattle.std.specs.Prelude.{◌-◌, ◌≤◌, ℕ, List, Option, drop, length};
 
+    ghost Value = { List (Option (List ℕ)) };
+
+    ghost view = { λ a. drop (length a.program.now.names - a.left) a.program.now.names };
+
+    ghost invariant = { λ a. a.left ≤ length a.program.now.names };
+}
+
+impl<'r> CaptureNames<'r> {
     pub(crate) fn new(program: &'r Program) -> CaptureNames<'r>
-        ensures left { names_left result ≡ program.now.names }
-        ensures fits { length (names_left result) < 2 ^ 64 }
+        ensures left { result ≡ program.now.names }
+        ensures fits { length result < 2 ^ 64 }
     {
         CaptureNames {
             program,
             left: program.groups(),
         }
     }
+}
 
-    // How many names are still to come.
-    fn names_left(&self) -> usize
-        ensures { result ≡ length (names_left self.now) }
-    {
-        self.program.groups().min(self.left)
+impl<'r> Clone for CaptureNames<'r> {
+    ghost use Rattle.std.specs.Prelude.{⊤};
+
+    ghost is_clone = { λ names copy. copy ≡ names };
+
+    ghost is_infallible = { λ _. ⊤ };
+
+    /// The same names left; it takes no memory.
+    fn clone(&self) -> Result<CaptureNames<'r>, AllocError> {
+        Ok(CaptureNames {
+            program: self.program,
+            left: self.left,
+        })
     }
 }
 
 impl<'r> Iterator for CaptureNames<'r> {
     ghost use Rattle.std.specs.Iterator.{at_most, Count, UpTo, YieldsFirstBy, item_count};
     ghost use Rattle.std.specs.Iterator.SizeHint.{IsWithinCount};
-    ghost use Rattle.bites_bytes.specs.Names.{names_left, bytes_of};
+    ghost use Rattle.bites_bytes.specs.Names.{every_name, bytes_of};
 
     type Item = Option<&'r str>;
 
-    ghost next_gives = { YieldsFirstBy bytes_of names_left };
+    ghost next_gives = { YieldsFirstBy bytes_of every_name };
 
-    ghost remaining = { item_count names_left };
+    ghost remaining = { item_count every_name };
 
     fn next(&mut self) -> Option<Option<&'r str>> {
-        let left = self.names_left();
-        if left == 0 {
+        if self.left == 0 {
             return None;
         }
-        let name = self.program.name(self.program.groups() - left);
-        self.left = left - 1;
+        let name = self.program.name(self.program.groups() - self.left);
+        self.left -= 1;
         Some(name)
     }
 
     fn size_hint(&self) -> (usize, Option<usize>)
-        ensures lower { IsWithinCount result.0 (item_count names_left self.now) }
-        ensures upper { IfSome result.1 (UpTo (item_count names_left self.now)) }
-        ensures value { result ≡ (length (names_left self.now), Some (length (names_left self.now))) }
+        ensures lower { IsWithinCount result.0 (item_count every_name self.now) }
+        ensures upper { IfSome result.1 (UpTo (item_count every_name self.now)) }
+        ensures value { result ≡ (length self.now, Some (length self.now)) }
     {
-        let left = self.names_left();
-        (left, Some(left))
+        (self.left, Some(self.left))
     }
 }
 
 impl<'r> ExactSizeIterator for CaptureNames<'r> {
     fn len(&self) -> usize {
-        self.names_left()
+        self.size_hint().0
     }
 }
 

@@ -1,17 +1,17 @@
 //! A compiled regular expression and its searches.
 
-ghost use Rattle.std.specs.Prelude.{◌≡◌, ◌≢◌, ◌<◌, ◌^◌, ◌↔◌, IsTrue, IfOk, IfErr, length};
+ghost use Rattle.std.specs.Prelude.{◌≡◌, ◌≢◌, ◌<◌, ◌^◌, false, IfOk, IfErr, length};
 ghost use Rattle.bites_spec.specs.Tree.{Tree, captures_len};
-ghost use Rattle.bites_machine.specs.Names.{names_of, static_captures_len};
-ghost use Rattle.bites_spec.specs.Found.{HasMatch, IsLeastEnd};
-ghost use Rattle.bites_bytes.specs.Meaning.{Meaning, IsCompiled, meaning};
-ghost use Rattle.bites_bytes.specs.Names.{names_left};
+ghost use Rattle.bites_spec.specs.Measure.{groups_left, static_captures_len};
+ghost use Rattle.bites_spec.specs.Regex.{IsCompiled, NamesAreKept};
+ghost use Rattle.bites_spec.specs.Captured.{number_named};
+ghost use Rattle.bites_spec.specs.Settings.{Accepts, by_default, no_flags};
+ghost use Rattle.bites_bytes.specs.Parts.{regex_of};
 ghost use Rattle.bites_syntax.specs.FlagsView.{flags_of};
-ghost use Rattle.bites_bytes.specs.Settings.{Accepts, Refuses, by_default, no_flags};
+ghost use Rattle.bites_bytes.specs.Settings.{Refuses};
 
 use crate::bytes::{CaptureNames, RegexBuilder};
 use bites_machine::program::Program;
-use bites_machine::vm;
 use bites_syntax::parse::Flags;
 use bites_syntax::tree::Tree;
 use bites_text::error::Error;
@@ -23,40 +23,62 @@ use std::snapshot::Snapshot;
 
 /// What a regex and its clones share.
 #[derive(Drop)]
-struct Compiled {
+pub(super) struct Compiled {
     flags: Flags,
     program: Program,
-    // Takes no bytes: only contracts speak of the tree.
+    // These take no bytes: only contracts speak of them.
     tree: Snapshot<Tree>,
+    keep_dropped_groups: Snapshot<bool>,
 }
 
 impl Model for Compiled {
     ghost use Rattle.std.specs.Coded.{codes};
     ghost use Rattle.bites_syntax.specs.FlagsView.{flags_of};
     ghost use Rattle.bites_syntax.specs.TreeCode.{tree_code};
-    ghost use Rattle.bites_bytes.specs.Meaning.{Meaning, IsCompiled, meaning};
+    ghost use Rattle.bites_spec.specs.Regex as spec;
+    ghost use Rattle.bites_bytes.specs.Parts.{regex_of};
 
-    ghost Value = { Meaning };
+    ghost Value = { spec.Regex };
 
     ghost coded = { Prim.hlevel (codes, tree_code) };
 
-    ghost view = { λ a. meaning (flags_of a.flags) a.tree.value a.program };
+    ghost view = { λ a. regex_of (flags_of a.flags) a.tree.value
+        a.keep_dropped_groups.value a.program };
 
-    ghost invariant = { λ a. IsCompiled (meaning (flags_of a.flags) a.tree.value a.program) };
+    ghost invariant = { λ a. spec.IsCompiled (regex_of (flags_of a.flags) a.tree.value
+        a.keep_dropped_groups.value a.program) };
 }
 
 impl Compiled {
     // The program, which is built from the tree.
-    fn program(&self) -> &Program
+    pub(super) fn program(&self) -> &Program
         ensures pattern { result.now.pattern ≡ self.now.pattern }
         ensures program { result.now.program ≡ self.now.program }
+        ensures names { result.now.names ≡ self.now.names }
         ensures compiled { IsCompiled self.now }
     {
         &self.program
     }
 
-    fn captures_len(&self) -> usize
-        ensures { result ≡ captures_len self.now.tree }
+    // Whether searches answer the longest match.
+    pub(super) fn leftmost_longest(&self) -> bool
+        ensures { result ≡ self.now.leftmost_longest }
+    {
+        let _ = &self.program;
+        false
+    }
+
+    // The number of the first group of this name.
+    pub(super) fn number_named(&self, name: &str) -> Option<usize>
+        ensures { result ≡ number_named self.now.names name.now }
+    {
+        self.program.index_of(name)
+    }
+
+    pub(super) fn captures_len(&self) -> usize
+        ensures groups { result ≡ length self.now.names }
+        ensures left { self.now.keep_dropped_groups ≡ false → result ≡ captures_len self.now.tree }
+        ensures kept { NamesAreKept self.now }
     {
         self.program.slots() / 2
     }
@@ -68,27 +90,13 @@ impl Compiled {
     }
 
     fn capture_names(&self) -> CaptureNames<'_>
-        ensures names { names_left result ≡ names_of self.now.tree }
-        ensures fits { length (names_left result) < 2 ^ 64 }
+        ensures names { result ≡ self.now.names }
+        ensures left { self.now.keep_dropped_groups ≡ false →
+            result ≡ groups_left self.now.tree }
+        ensures kept { NamesAreKept self.now }
+        ensures fits { length result < 2 ^ 64 }
     {
         CaptureNames::new(&self.program)
-    }
-
-    fn is_match_at(&self, alloc: Global, haystack: &[u8], start: usize) -> Result<bool, AllocError>
-        ensures { IfOk result (λ found. IsTrue found ↔ HasMatch self.now.tree haystack.now start) }
-    {
-        vm::is_match_at(alloc, self.program(), haystack, start)
-    }
-
-    fn shortest_match_at(
-        &self,
-        alloc: Global,
-        haystack: &[u8],
-        start: usize,
-    ) -> Result<Option<usize>, AllocError>
-        ensures { IfOk result (λ end. IsLeastEnd self.now.tree haystack.now start end) }
-    {
-        vm::shortest_match_at(alloc, self.program(), haystack, start)
     }
 }
 
@@ -105,9 +113,9 @@ pub struct Regex {
 impl Model for Regex {
     ghost use Rattle.std.specs.Coded.{codes};
     ghost use Rattle.bites_syntax.specs.TreeCode.{tree_code};
-    ghost use Rattle.bites_bytes.specs.Meaning.{Meaning};
+    ghost use Rattle.bites_spec.specs.Regex as spec;
 
-    ghost Value = { Meaning };
+    ghost Value = { spec.Regex };
 
     ghost coded = { Prim.hlevel (codes, tree_code) };
 
@@ -120,7 +128,8 @@ impl Regex {
     /// It is made exactly if the grammar reads the pattern as a tree and all limits hold; else the error is the message
     /// of the first fault, or of the first limit that the tree passes, or want of memory.
     pub fn new(alloc: Global, pattern: &str) -> Result<Regex, Error>
-        ensures kept { IfOk result (λ r. (r.pattern ≡ pattern.now) × (r.flags ≡ no_flags)) }
+        ensures kept { IfOk result (λ r. (r.pattern ≡ pattern.now) × (r.flags ≡ no_flags)
+            × (r.keep_dropped_groups ≡ false)) }
         ensures accepted { IfOk result (λ r. Accepts (by_default pattern.now) r.tree) }
         ensures refused { IfErr result (λ e. e ≢ Error.Memory → (t : Tree) →
             Accepts (by_default pattern.now) t → ⊥) }
@@ -135,21 +144,42 @@ impl Regex {
         alloc: Global,
         tree: &Tree,
         flags: Flags,
+        keep_dropped_groups: bool,
         program: Program,
     ) -> Result<Regex, Error>
-        requires { IsCompiled (meaning (flags_of flags) tree.now program) }
-        ensures made { IfOk result (λ r. r ≡ meaning (flags_of flags) tree.now program) }
+        requires { IsCompiled (regex_of (flags_of flags) tree.now keep_dropped_groups program) }
+        ensures made { IfOk result
+            (λ r. r ≡ regex_of (flags_of flags) tree.now keep_dropped_groups program) }
         ensures refused { IfErr result (λ e. e ≡ Error.Memory) }
     {
         let compiled = Compiled {
             flags,
             program,
             tree: Snapshot::of(tree),
+            keep_dropped_groups: Snapshot::of(&keep_dropped_groups),
         };
         Ok(Regex {
             alloc,
             compiled: Rc::new(alloc, compiled)?,
         })
+    }
+
+    // What the regex shares with its clones.
+    pub(super) fn compiled(&self) -> &Rc<Compiled>
+        ensures { result.now.value ≡ self.now }
+    {
+        &self.compiled
+    }
+
+    pub(super) fn program(&self) -> &Program
+        ensures program { result.now.program ≡ self.now.program }
+        ensures compiled { IsCompiled self.now }
+    {
+        self.compiled.program()
+    }
+
+    pub(super) fn alloc(&self) -> Global {
+        self.alloc
     }
 
     /// The text of the pattern.
@@ -158,49 +188,15 @@ impl Regex {
     {
         self.compiled.program().pattern()
     }
-
-    /// Whether the pattern matches somewhere in the haystack.
-    ///
-    /// A search looks at most once more than the program has edges at each place, and its memory is that of two sets of
-    /// states. The error is want of memory for these.
-    pub fn is_match(&self, haystack: &[u8]) -> Result<bool, AllocError>
-        ensures { IfOk result (λ found. IsTrue found ↔ HasMatch self.now.tree haystack.now 0) }
-    {
-        self.is_match_at(haystack, 0)
-    }
-
-    /// Whether the pattern matches at some place from `start` on, a number of bytes; past the end nothing matches.
-    ///
-    /// Assertions look at the bytes before `start` too.
-    pub fn is_match_at(&self, haystack: &[u8], start: usize) -> Result<bool, AllocError>
-        ensures { IfOk result (λ found. IsTrue found ↔ HasMatch self.now.tree haystack.now start) }
-    {
-        self.compiled.is_match_at(self.alloc, haystack, start)
-    }
-
-    /// The least end of any match in the haystack, a number of bytes from its start.
-    pub fn shortest_match(&self, haystack: &[u8]) -> Result<Option<usize>, AllocError>
-        ensures { IfOk result (λ end. IsLeastEnd self.now.tree haystack.now 0 end) }
-    {
-        self.shortest_match_at(haystack, 0)
-    }
-
-    /// The least end of any match that begins at a place from `start` on; past the end there is none.
-    pub fn shortest_match_at(
-        &self,
-        haystack: &[u8],
-        start: usize,
-    ) -> Result<Option<usize>, AllocError>
-        ensures { IfOk result (λ end. IsLeastEnd self.now.tree haystack.now start end) }
-    {
-        self.compiled.shortest_match_at(self.alloc, haystack, start)
-    }
 }
 
 impl Regex {
-    /// The number of groups, group 0 counted: one more than the greatest number of a group that is left in the tree.
+    /// The number of groups, group 0 counted: one more than the greatest number of a group that is left in the tree, or
+    /// where dropped groups are kept one more than the number of groups that the pattern opens.
     pub fn captures_len(&self) -> usize
-        ensures { result ≡ captures_len self.now.tree }
+        ensures groups { result ≡ length self.now.names }
+        ensures left { self.now.keep_dropped_groups ≡ false → result ≡ captures_len self.now.tree }
+        ensures kept { NamesAreKept self.now }
     {
         self.compiled.captures_len()
     }
@@ -214,10 +210,14 @@ impl Regex {
         self.compiled.static_captures_len()
     }
 
-    /// The name of each group, if it has one, from group 0 on, which has none.
+    /// The name of each group, if it has one, from group 0 on, which has none. A group that the tree drops has its name
+    /// only where dropped groups are kept.
     pub fn capture_names(&self) -> CaptureNames<'_>
-        ensures names { names_left result ≡ names_of self.now.tree }
-        ensures fits { length (names_left result) < 2 ^ 64 }
+        ensures names { result ≡ self.now.names }
+        ensures left { self.now.keep_dropped_groups ≡ false →
+            result ≡ groups_left self.now.tree }
+        ensures kept { NamesAreKept self.now }
+        ensures fits { length result < 2 ^ 64 }
     {
         self.compiled.capture_names()
     }

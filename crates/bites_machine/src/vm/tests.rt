@@ -10,7 +10,7 @@ fn program(alloc: Global, states: Vec<State>, start: u32) -> Result<Program, Bad
 
 fn splits(alloc: Global, targets: &[u32]) -> Result<State, AllocError> {
     Ok(State::Splits {
-        targets: targets.to_vec(alloc)?,
+        targets: targets.to_vec(alloc)?.into(),
         reverse: false,
     })
 }
@@ -116,7 +116,7 @@ fn assertions_and_broken_bytes(rt: HostRuntime) -> Result<(), Fail> {
     ]?;
     let last = program(alloc, states, 0)?;
     assert_eq!(rt; shortest_match_at(alloc, &last, b"x xx xx", 0)?, Some(4));
-    let ranges = vec![in alloc; ('b', 'd'), ('\u{FFFD}', '\u{FFFD}')]?;
+    let ranges = vec![in alloc; ('b', 'd'), ('\u{FFFD}', '\u{FFFD}')]?.into();
     let states = vec![in alloc; State::Ranges { target: 1, ranges }, State::Match]?;
     let broken = program(alloc, states, 0)?;
     assert_eq!(rt;

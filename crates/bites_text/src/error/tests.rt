@@ -80,11 +80,3 @@ fn comparisons(rt: HostRuntime) {
     assert!(rt; !same(&Error::UnclosedClass, &Error::UnclosedGroup));
     assert_eq!(rt; Error::from(AllocError), Error::Memory);
 }
-
-#[test]
-fn want_of_memory_is_passed_on(rt: HostRuntime) -> Result<(), Error> {
-    let mut list = Vec::new(rt.alloc());
-    list.push(1u8)?;
-    assert_eq!(rt; list.len(), 1);
-    Ok(())
-}

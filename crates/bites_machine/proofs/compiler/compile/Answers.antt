@@ -1,30 +1,16 @@
-use Rattle.std.proofs.Common.{◌≡◌, ℕ, ◌*◌, ◌∙◌, ap, sym, subst, arith}
-use Rattle.bites_spec.specs.Program.{Program, IsWellFormed}
-use Rattle.bites_spec.specs.Built.{Built}
-use Rattle.bites_spec.specs.Faults.{first_fault}
-use Rattle.bites_machine.specs.States.{program_of}
-use Rattle.bites_machine.specs.Compiled.{compiled}
-use Rattle.bites_machine.proofs.CompiledLemmas.{Built-compiled, length-compiled, first_fault-compiled, IsWellFormed-compiled}
-use Rattle.bites_machine.proofs.SoundLemmas.{ok_or_program}
+use Rattle.std.proofs.Common.{◌≡◌, ◌*◌, ap, subst, length, option_map, string_bytes, IfOk, arith}
+use Rattle.std.proofs.lemmas.List.{length-map}
+use Rattle.bites_spec.specs.Tree.{captures_len}
+use Rattle.bites_spec.proofs.LeftLemmas.{length-left}
 use Rattle.bites_machine.proofs.compiler.compile.Goals as goal
 
-pub new-requires : goal.new-requires
-new-requires c =
-    let limits = c.in_ok-captures.ensures.limits in
-    ap (λ (slots : ℕ). first_fault (program_of c.in_ok-states.states.items c.in_ok-states.start (2 * slots))) c.in_ok-captures.ensures.captures
-    ∙ ap first_fault c.in_ok-states.ensures
-    ∙ first_fault-compiled c.args.tree.now c.in_ok-captures.ensures.classes (omega (arith, length-compiled c.args.tree.now c.requires.reduced, limits.few_states))
+pub with_names-requires-clause-room : goal.with_names-requires-clause-room
+with_names-requires-clause-room c =
+    let names = c.in_ok-names.names.items in
+    omega (arith, length-map names (option_map string_bytes), ap length c.in_ok-names.ensures, length-left c.args.tree.now)
 
-pub returns-clause-built : goal.returns-clause-built
-returns-clause-built c =
-    let same = ap (λ (slots : ℕ). program_of c.in_ok-states.states.items c.in_ok-states.start (2 * slots)) c.in_ok-captures.ensures.captures ∙ c.in_ok-states.ensures in
-    ok_or_program c.new.result c.ok_or.result _ _ c.ok_or.ensures.value c.new.ensures.made (λ p. Built c.args.tree.now p.program)
-    (subst (λ (p : Program). Built c.args.tree.now p) (sym same) (Built-compiled c.args.tree.now))
-
-pub returns-clause-well_formed : goal.returns-clause-well_formed
-returns-clause-well_formed c =
-    let limits = c.in_ok-captures.ensures.limits in
-    let same = ap (λ (slots : ℕ). program_of c.in_ok-states.states.items c.in_ok-states.start (2 * slots)) c.in_ok-captures.ensures.captures ∙ c.in_ok-states.ensures in
-    ok_or_program c.new.result c.ok_or.result _ _ c.ok_or.ensures.value c.new.ensures.made (λ p. IsWellFormed p.program)
-    (subst IsWellFormed (sym same)
-    (IsWellFormed-compiled c.args.tree.now c.in_ok-captures.ensures.classes (omega (arith, length-compiled c.args.tree.now c.requires.reduced, limits.few_states))))
+pub returns-clause-slots : goal.returns-clause-slots
+returns-clause-slots c =
+    let names = c.in_ok-names.names.items in
+    let len : length names ≡ captures_len c.args.tree.now = omega (arith, length-map names (option_map string_bytes), ap length c.in_ok-names.ensures, length-left c.args.tree.now) in
+    subst (λ n. IfOk c.with_names.result (λ p. p.program.slots ≡ 2 * n)) len c.with_names.ensures.slots

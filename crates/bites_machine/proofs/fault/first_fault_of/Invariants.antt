@@ -1,6 +1,6 @@
 use Rattle.std.proofs.Common.{◌≡◌, length, drop}
 use Rattle.bites_spec.specs.Walks.{first_among}
-use Rattle.bites_spec.specs.Faults.{fault_of}
+use Rattle.bites_spec.specs.ProgramFaults.{fault_of}
 use Rattle.bites_machine.specs.States.{states_of}
 use Rattle.bites_machine.proofs.fault.first_fault_of.Given as goal
 

@@ -9,6 +9,6 @@ use Rattle.bites_machine.proofs.fault.leads_below.Goals as goal
 
 pub returns-in-Splits : goal.returns-in-Splits
 returns-in-Splits c =
-    c.are_below.ensures ∙ ap (list_all (λ q. nat_lt q c.args.len)) c.deref.ensures.value
-    ∙ sym (list_all-splits (λ q. nat_lt q c.args.len) c.in-Splits.targets.items c.in-Splits.reverse)
+    c.are_below.ensures ∙ ap (list_all (λ q. nat_lt q c.args.len)) c.as_slice.ensures
+    ∙ sym (list_all-splits (λ q. nat_lt q c.args.len) c.in-Splits.targets c.in-Splits.reverse)
     ∙ ap (λ (s : State). list_all (λ q. nat_lt q c.args.len) (targets_of (state_of s))) (sym c.in-Splits.is)

@@ -14,7 +14,7 @@ insert-requires-then-is_some_and c =
 
 pub insert_all-requires : goal.insert_all-requires
 insert_all-requires c = λ q h.
-    c.requires.targets q (rw c.in-Splits.is (splits_target c.in-Splits.reverse c.in-Splits.targets.items q (subst (λ l. Among l q) c.deref.ensures.value h)))
+    c.requires.targets q (rw c.in-Splits.is (splits_target c.in-Splits.reverse c.in-Splits.targets q (subst (λ l. Among l q) c.as_slice.ensures h)))
 
 pub insert-requires-in-Goto-default-None : goal.insert-requires-in-Goto-default-None
 insert-requires-in-Goto-default-None c =

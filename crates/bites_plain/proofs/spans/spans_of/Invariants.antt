@@ -1,5 +1,5 @@
 use Rattle.std.proofs.Common.{◌≡◌, map, take}
-use Rattle.bites_plain.specs.Successive.{span_of_run}
+use Rattle.bites_spec.specs.Slots.{span_of_run}
 use Rattle.bites_plain.proofs.spans.spans_of.Given as goal
 
 abbrev pub invariant-loop-run : goal.invariant-loop-run

@@ -1,9 +1,10 @@
-use Rattle.std.proofs.Common.{◌++◌, ◌-◌, ◌≤◌, List, length, suc}
+use Rattle.std.proofs.Common.{◌≡◌, ◌++◌, ◌-◌, ◌≤◌, length, suc}
 use Rattle.std.specs.Prelude.{IfSome}
 use Rattle.std.specs.Option.{option_map_or}
-use Rattle.bites_spec.specs.Run.{Run}
-use Rattle.bites_plain.specs.Successive.{AreSuccessive}
-use Rattle.bites_plain.proofs.SuccessiveLemmas.{Continues}
+use Rattle.bites_spec.specs.Run.{first_run}
+use Rattle.bites_spec.specs.Spans.{successive}
+use Rattle.bites_spec.specs.Slots.{span_of_run}
+use Rattle.bites_plain.proofs.SuccessiveLemmas.{due_on}
 use Rattle.bites_plain.proofs.spans.successive_runs.Given as goal
 
 abbrev pub decreases-loop-due : goal.decreases-loop-due
@@ -11,6 +12,7 @@ decreases-loop-due l = option_map_or (λ r. suc (length l.haystack - r.end)) l.d
 
 abbrev pub invariant-loop-due : goal.invariant-loop-due
 invariant-loop-due l = record {
-  goes_on : (more : List Run) → Continues l.program.program l.haystack l.due more → AreSuccessive l.program.program l.haystack (l.runs.items ++ more);
+  so_far : l.runs.items ++ due_on span_of_run l.haystack (first_run l.program.program l.haystack) l.due
+      ≡ successive span_of_run l.haystack (first_run l.program.program l.haystack);
   within : IfSome l.due (λ run. run.end ≤ length l.haystack);
 }

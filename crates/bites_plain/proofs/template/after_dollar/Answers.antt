@@ -1,6 +1,6 @@
 use Rattle.std.proofs.Common.{◌∙◌, sym, arith, length, eqb-true}
 use Rattle.std.proofs.lemmas.Bool.{eqb-false}
-use Rattle.bites_plain.proofs.CuttingLemmas.{cuts_last, cuts_doubled, cuts_braced, cuts_unnamed, cuts_alone, cuts_named}
+use Rattle.bites_spec.proofs.CuttingLemmas.{cuts_last, cuts_doubled, cuts_braced, cuts_unnamed, cuts_alone, cuts_named}
 use Rattle.bites_plain.proofs.template.after_dollar.Goals as goal
 
 pub returns-in_default-clause-cuts : goal.returns-in_default-clause-cuts

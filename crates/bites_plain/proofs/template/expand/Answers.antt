@@ -2,7 +2,7 @@ use Rattle.std.proofs.Common.{◌++◌, ◌∷◌, [], sym, subst, drop}
 use Rattle.std.specs.Prelude.{List, ℕ}
 use Rattle.bites_spec.specs.Template.{stands_for}
 use Rattle.bites_plain.specs.Groups.{text_in, index_in, part_of}
-use Rattle.bites_plain.proofs.CuttingLemmas.{Found, found_more, found_all, text_more, behind_is}
+use Rattle.bites_spec.proofs.CuttingLemmas.{Found, found_more, found_all, text_more, behind_is}
 use Rattle.bites_plain.proofs.template.expand.Goals as goal
 
 pub loop-first-preserved : goal.loop-first-preserved

@@ -1,4 +1,4 @@
-use Rattle.bites_plain.proofs.CuttingLemmas.{no_brace_more}
+use Rattle.bites_spec.proofs.CuttingLemmas.{no_brace_more}
 use Rattle.bites_plain.proofs.template.first_brace.Goals as goal
 
 pub loop-i-preserved : goal.loop-i-preserved

@@ -1,4 +1,4 @@
-use Rattle.bites_plain.proofs.CuttingLemmas.{no_brace, bad_name}
+use Rattle.bites_spec.proofs.CuttingLemmas.{no_brace, bad_name}
 use Rattle.bites_plain.proofs.template.name_in_braces.Goals as goal
 
 pub returns-in_default : goal.returns-in_default

@@ -1,4 +1,4 @@
-use Rattle.bites_plain.proofs.CuttingLemmas.{cuts_plain}
+use Rattle.bites_spec.proofs.CuttingLemmas.{cuts_plain}
 use Rattle.bites_plain.proofs.template.next_part.Goals as goal
 
 pub returns-else-first-eq36-clause-cuts : goal.returns-else-first-eq36-clause-cuts

@@ -49,4 +49,4 @@ returns-clause-looks c =
 pub returns-clause-visited : goal.returns-clause-visited
 returns-clause-visited c =
     visits_answer c.args.program.now.program c.args.haystack.now c.args.start c.loop-tried.tries.items c.loop-tried.spots.items c.loop-tried.tried c.loop-tried.invariant
-    c.len-2.result (omega arith) (omega arith)
+    c.len-2.result (omega arith) (omega arith) c.start.ensures.well_formed

@@ -1,13 +1,13 @@
 use Rattle.std.proofs.Common.{sym}
 use Rattle.std.specs.Prelude.{codes}
-use Rattle.bites_spec.specs.Class.{name_of}
+use Rattle.bites_spec.specs.Class.{class_name}
 use Rattle.bites_syntax.specs.View.{named_of}
 use Rattle.bites_syntax.proofs.NamedParts.{all_three, no_first, no_second, no_third}
 use Rattle.bites_syntax.proofs.bracket.behind_name.Goals as goal
 
 pub returns-then-not-bump_over : goal.returns-then-not-bump_over
 returns-then-not-bump_over c =
-    no_first c.args.opening.now (name_of (named_of c.args.name)) (codes ":]") c.args.cursor.now _ c.ahead-ahead.ensures (sym c.if-not-bump_over.ensures.value)
+    no_first c.args.opening.now (class_name (named_of c.args.name)) (codes ":]") c.args.cursor.now _ c.ahead-ahead.ensures (sym c.if-not-bump_over.ensures.value)
 
 pub returns-then-not-bump_over-2 : goal.returns-then-not-bump_over-2
 returns-then-not-bump_over-2 c =

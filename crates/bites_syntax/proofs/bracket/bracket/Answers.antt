@@ -1,7 +1,7 @@
 use Rattle.std.proofs.Common.{◌≤◌, length, arith, refl, ◌∙◌}
 use Rattle.std.proofs.lemmas.Result.{err_from_is_err_and}
 use Rattle.bites_spec.specs.Bracket.{with_cases, with_negation}
-use Rattle.bites_spec.specs.Reading.{class_members}
+use Rattle.bites_spec.specs.Reader.{class_members}
 use Rattle.bites_syntax.specs.FlagsView.{flags_of}
 use Rattle.bites_syntax.specs.Members.{leading_set}
 use Rattle.bites_syntax.proofs.MemberParts.{refuses_by, refuses_first}

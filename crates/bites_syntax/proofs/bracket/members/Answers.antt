@@ -1,6 +1,6 @@
 use Rattle.std.proofs.Common.{◌≡◌, ◌≤◌, suc, length, arith, ap, sym, ◌∙◌}
 use Rattle.std.proofs.lemmas.Result.{err_from_is_err_and}
-use Rattle.bites_spec.specs.Reading.{class_members, member}
+use Rattle.bites_spec.specs.Reader.{class_members, member}
 use Rattle.bites_syntax.specs.FlagsView.{flags_of}
 use Rattle.bites_syntax.proofs.MemberParts.{closes, enter, refuses_by}
 use Rattle.bites_syntax.proofs.bracket.members.Goals as goal

@@ -1,6 +1,6 @@
 use Rattle.std.proofs.Common.{◌≡◌, ◌≤◌, ℕ, suc, length}
 use Rattle.bites_spec.specs.Class.{Set}
-use Rattle.bites_spec.specs.Reading.{class_members, member}
+use Rattle.bites_spec.specs.Reader.{class_members, member}
 use Rattle.bites_syntax.specs.FlagsView.{flags_of}
 use Rattle.bites_syntax.specs.Members.{Has}
 use Rattle.bites_syntax.proofs.bracket.members.Given as goal

@@ -1,6 +1,6 @@
 use Rattle.std.proofs.Common.{◌≡◌, ◌≤◌, [], length}
 use Rattle.bites_spec.specs.Pattern.{Front}
-use Rattle.bites_spec.specs.Reading.{flags_from}
+use Rattle.bites_spec.specs.Reader.{flags_from}
 use Rattle.bites_syntax.proofs.flags.flag_run.Given as goal
 
 abbrev pub invariant-loop-c : goal.invariant-loop-c

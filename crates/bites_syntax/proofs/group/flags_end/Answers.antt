@@ -2,7 +2,7 @@ use Rattle.std.proofs.Common.{sym, refl, ap, ◌∙◌}
 use Rattle.std.specs.Prelude.{true}
 use Rattle.std.proofs.lemmas.Bool.{ne_eqb}
 use Rattle.bites_spec.specs.Group.{changed, unnumbered}
-use Rattle.bites_spec.specs.Reading.{directive, group}
+use Rattle.bites_spec.specs.Reader.{directive, group}
 use Rattle.bites_syntax.proofs.GroupLemmas.{flags_none, flags_colon, flags_directive}
 use Rattle.bites_syntax.proofs.group.flags_end.Goals as goal
 
@@ -17,7 +17,7 @@ returns-then-end-eq58-2 c = λ g rest is. (
   (
     record g { flags = changed true c.args.run.now g.flags },
     refl,
-    record { flags = c.changed-front.ensures ∙ ap (changed true c.args.run.now) is.flags; groups = is.groups; names = is.names },
+    record { flags = c.changed-front.ensures ∙ ap (changed true c.args.run.now) is.flags; groups = is.groups; names = is.names; opened = is.opened },
   ),
 )
 
@@ -28,6 +28,6 @@ returns-else-end-eq58-2 c = λ g rest is. (
   (
     changed true c.args.run.now g.flags,
     refl,
-    record { flags = c.changed-front.ensures ∙ ap (changed true c.args.run.now) is.flags; groups = is.groups; names = is.names },
+    record { flags = c.changed-front.ensures ∙ ap (changed true c.args.run.now) is.flags; groups = is.groups; names = is.names; opened = is.opened },
   ),
 )

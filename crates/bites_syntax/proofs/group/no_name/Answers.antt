@@ -1,13 +1,25 @@
 use Rattle.std.proofs.Common.{◌≤◌, ◌+◌, sym, refl, ap, ◌∙◌, arith, None}
 use Rattle.bites_spec.specs.Group.{numbered, with_group}
-use Rattle.bites_spec.specs.Reading.{group}
-use Rattle.bites_syntax.proofs.GroupLemmas.{no_name_plain}
+use Rattle.bites_spec.specs.Reader.{group}
+use Rattle.bites_syntax.proofs.GroupLemmas.{no_name_plain, opened_one_more}
 use Rattle.bites_syntax.proofs.group.no_name.Goals as goal
 
 pub returns-clause-reads : goal.returns-clause-reads
 returns-clause-reads c = λ g is.
     let room : g.groups + 1 ≤ 4294967295 = omega (arith, is.groups, c.in-Some.ensures.0) in (
-      group (numbered None) (with_group g),
+      group (numbered None) (with_group None g),
       rw c.if-bump_if.ensures.rest (no_name_plain g c.args.cursor.now (sym c.if-bump_if.ensures.value) room),
-      (None, with_group g, refl, refl, refl, record { flags = is.flags; groups = c.in-Some.ensures.1 ∙ ap (λ n. n + 1) is.groups; names = is.names }),
+      (
+        None,
+        with_group None g,
+        refl,
+        refl,
+        refl,
+        record {
+          flags = is.flags;
+          groups = c.in-Some.ensures.1 ∙ ap (λ n. n + 1) is.groups;
+          names = is.names;
+          opened = c.in_ok-push.ensures ∙ opened_one_more c.args.front.now.opened None g is.opened;
+        },
+      ),
     )

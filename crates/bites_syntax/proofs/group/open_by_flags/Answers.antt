@@ -1,5 +1,5 @@
 use Rattle.std.proofs.Common.{◌≡◌, ◌∙◌, []}
-use Rattle.bites_spec.specs.Reading.{flags_end, flags_from}
+use Rattle.bites_spec.specs.Reader.{flags_end, flags_from}
 use Rattle.bites_syntax.specs.Openings.{IsOpened}
 use Rattle.bites_syntax.proofs.GroupLemmas.{agrees_at, flags_close}
 use Rattle.bites_syntax.proofs.group.open_by_flags.Goals as goal

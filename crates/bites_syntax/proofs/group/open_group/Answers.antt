@@ -1,5 +1,5 @@
 use Rattle.std.proofs.Common.{◌≡◌, sym, ap, ◌∙◌, drop}
-use Rattle.bites_spec.specs.Reading.{named_group, no_name, opened}
+use Rattle.bites_spec.specs.Reader.{named_group, no_name, opened}
 use Rattle.bites_syntax.specs.Openings.{IsOpened}
 use Rattle.bites_syntax.proofs.GroupLemmas.{agrees_at, opened_long, opened_short, opened_plain}
 use Rattle.bites_syntax.proofs.group.open_group.Goals as goal

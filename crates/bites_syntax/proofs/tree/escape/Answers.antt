@@ -2,7 +2,7 @@ use Rattle.std.proofs.Common.{◌∙◌, sym, ap}
 use Rattle.std.specs.Prelude.{string_bytes, encode_utf8_all}
 use Rattle.std.proofs.lemmas.Iterator.{YieldsList-from_chars}
 use Rattle.std.proofs.lemmas.Iterator.Consumers.{YieldsList-end}
-use Rattle.bites_syntax.specs.Escaped.{escaped}
+use Rattle.bites_spec.specs.Escaped.{escaped}
 use Rattle.bites_syntax.proofs.EscapedText.{marked_more, plain_more, map_itself}
 use Rattle.bites_syntax.proofs.tree.escape.Goals.{then-is_marked+in_ok-push, else-is_marked}
 use Rattle.bites_syntax.proofs.tree.escape.Goals as goal

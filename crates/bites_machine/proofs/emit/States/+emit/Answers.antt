@@ -1,7 +1,6 @@
-use Rattle.std.proofs.Common.{◌≡◌, ◌≤◌, ◌-◌, ◌+◌, ◌∙◌, List, None, Some, length, IfOk, ap, sym, subst, arith}
-use Rattle.bites_spec.specs.Tree.{Tree, Trees, repetition, group, sequence, alternation, trees_of, is_empty_by_form, groups_in, greatest, IsReduced}
-use Rattle.bites_spec.specs.Measure.{height, size_of, repeated_size}
-use Rattle.bites_syntax.specs.View.{tree_of}
+use Rattle.std.proofs.Common.{◌≡◌, ◌≤◌, ◌-◌, ◌∙◌, List, None, Some, length, IfOk, ap, sym, subst, arith}
+use Rattle.bites_spec.specs.Tree.{Tree, Trees, repetition, group, sequence, trees_of, is_empty_by_form}
+use Rattle.bites_spec.specs.Measure.{size_of, repeated_size}
 use Rattle.bites_machine.specs.Emitted.{Emitted, emitted, emit, emit_all, emit_each}
 use Rattle.bites_syntax.proofs.TreeParts.{read_below, parts_from}
 use Rattle.bites_machine.proofs.EmittedLemmas.{pushed-length, pushed-from, emit-length, again-length, options-length, bounded-length, loop-length, emit_all-length, part_fits, part_before, one_more_fits, loop-room, exact-room, several-room, ranged_or_once-room, emit_all-more, emit_all-end, emit_each-more, emit_each-length, emit_each-end, tree_by_kind, emit_same}
@@ -128,7 +127,7 @@ alternation-push-requires-2 t c =
 pub alternation-returns : goal.alternation-returns
 alternation-returns t c =
     let all = emit_each-end c.args.parts.now c.loop-part.part-index c.args.to c.in_ok-out.out c.args.self.now c.push.new.self c.loop-part.self c.loop-part.rounds.items (omega arith) c.in_ok-out.ensures c.loop-part.invariant in
-    subst (λ (x : Emitted). IfOk c.push-2.result (λ from. emitted c.push-2.new.self from ≡ x)) all c.push-2.ensures
+    subst (λ (x : Emitted). IfOk c.push-2.result (λ from. emitted c.push-2.new.self from ≡ x)) all (rw c.into.ensures at c.push-2.ensures)
 
 pub emit-returns-in-Empty : goal.emit-returns-in-Empty
 unfolding emit emit_all emit_each

@@ -1,6 +1,6 @@
 use Rattle.std.proofs.Common.{subst}
 use Rattle.bites_spec.specs.Program.{IsWellFormed}
-use Rattle.bites_machine.specs.Contents.{Contents}
+use Rattle.bites_spec.specs.Contents.{Contents}
 use Rattle.bites_machine.proofs.SoundLemmas.{sound_program}
 use Rattle.bites_machine.proofs.program.Program.start.Goals as goal
 

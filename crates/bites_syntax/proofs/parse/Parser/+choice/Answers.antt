@@ -1,10 +1,10 @@
 use Rattle.std.proofs.Common.{◌<◌, [], arith, add-one, ap, subst, suc, length, Ok}
 use Rattle.std.proofs.lemmas.Result.{err_from_is_err_and}
 use Rattle.bites_spec.specs.RangesOf.{ranges_of}
-use Rattle.bites_spec.specs.Reading.{inner}
+use Rattle.bites_spec.specs.Reader.{inner}
 use Rattle.bites_syntax.specs.declared.parse.Step.TheVariants.{Item, Group, End}
 use Rattle.bites_syntax.specs.Nodes.{AreNodes}
-use Rattle.bites_syntax.specs.Parts.{Refuses}
+use Rattle.bites_syntax.specs.Parts.{IsErrorOf}
 use Rattle.bites_syntax.specs.Progress.{Ends, Enters, GoesOn, IsForward, ReadsAs, Steps}
 use Rattle.bites_syntax.proofs.ReachedLemmas.{reached_start, reached_item, reached_end, reached_fault, reached_group, fault_in_group}
 use Rattle.bites_syntax.proofs.parse.Parser.+choice.Goals as goal
@@ -50,7 +50,7 @@ returns-in_err-choice-in-Group-clause-reads t c = λ g is n room.
     c.in-Group.is (c.in_ok-step.ensures.steps r.g r.branches r.nodes r.is_at r.steps r.room) in
     rw (p.1, p.2)
     (fault_in_group c.args.limit c.args.depth n g c.args.self.now.cursor c.loop-rows.self c.loop-rows.rows c.step.new.self c.in-Group.group r on.0 forward.0 c.in_err-choice-in-Group.field-0.0
-    (λ k fits. subst (λ d. Refuses c.in_err-choice-in-Group.field-0.0 (inner ranges_of c.args.limit (suc k) d on.0.inside [] [] c.step.new.self.cursor)) (add-one c.args.depth)
+    (λ k fits. subst (λ d. IsErrorOf c.in_err-choice-in-Group.field-0.0 (inner ranges_of c.args.limit (suc k) d on.0.inside [] [] c.step.new.self.cursor)) (add-one c.args.depth)
     (c.in_err-choice-in-Group.ensures.reads on.0.inside on.0.front k fits)))
 
 pub loop-rows-preserved : goal.loop-rows-preserved

@@ -1,7 +1,7 @@
 use Rattle.std.proofs.Common.{◌≢◌, arith}
 use Rattle.std.proofs.lemmas.Bool.{ne_eqb}
 use Rattle.bites_spec.specs.RangesOf.{ranges_of}
-use Rattle.bites_spec.specs.Reading.{inner}
+use Rattle.bites_spec.specs.Reader.{inner}
 use Rattle.bites_syntax.proofs.AtomLemmas.{item_atom}
 use Rattle.bites_syntax.proofs.ProgressLemmas.{steps_at}
 use Rattle.bites_syntax.proofs.parse.Parser.item.Goals as goal

@@ -1,7 +1,7 @@
 use Rattle.std.proofs.Common.{◌≡◌, ◌∙◌, sym, ap, subst, refl}
 use Rattle.bites_spec.specs.Group.{numbered, unnumbered}
 use Rattle.bites_spec.specs.RangesOf.{ranges_of}
-use Rattle.bites_spec.specs.Reading.{inner, and_then, at_opened, opened}
+use Rattle.bites_spec.specs.Reader.{inner, and_then, at_opened, opened}
 use Rattle.bites_syntax.specs.declared.group.Opened.TheVariants.{Directive, Unnumbered, Numbered}
 use Rattle.bites_syntax.specs.FlagsView.{flags_of}
 use Rattle.bites_syntax.specs.Openings.{IsOpened}

@@ -1,7 +1,7 @@
 use Rattle.std.proofs.Common.{◌≡◌, ◌∷◌, ◌++◌, [], ◌∙◌, arith, ap, sym, subst, length, Ok}
 use Rattle.bites_spec.specs.Measure.{height}
 use Rattle.bites_spec.specs.RangesOf.{ranges_of}
-use Rattle.bites_spec.specs.Reading.{and_then, inner}
+use Rattle.bites_spec.specs.Reader.{and_then, inner}
 use Rattle.bites_syntax.specs.Atoms.{atom}
 use Rattle.bites_syntax.specs.FlagsView.{flags_of}
 use Rattle.bites_syntax.proofs.AtomLemmas.{IsLow, atom_low}

@@ -3,7 +3,7 @@ use Rattle.std.specs.Prelude.{vec_len}
 use Rattle.std.proofs.lemmas.Bool.{eqb-false}
 use Rattle.bites_spec.specs.Message as message
 use Rattle.bites_spec.specs.RangesOf.{ranges_of}
-use Rattle.bites_spec.specs.Reading.{inner, lazy, plain_operator, repeat_last}
+use Rattle.bites_spec.specs.Reader.{inner, lazy, plain_operator, repeat_last}
 use Rattle.bites_syntax.specs.Nodes.{AreNodes}
 use Rattle.bites_syntax.specs.Operators.{bounds_of}
 use Rattle.bites_syntax.proofs.ProgressLemmas.{some_of, operator_goes}

@@ -5,7 +5,7 @@ use Rattle.std.proofs.lemmas.Result.{err_from_is_err_and}
 use Rattle.bites_spec.specs.Message as message
 use Rattle.bites_spec.specs.Pattern.{skip}
 use Rattle.bites_spec.specs.RangesOf.{ranges_of}
-use Rattle.bites_spec.specs.Reading.{inner, counted, repeat_last}
+use Rattle.bites_spec.specs.Reader.{inner, counted, repeat_last}
 use Rattle.bites_syntax.specs.FlagsView.{flags_of}
 use Rattle.bites_syntax.specs.Nodes.{AreNodes}
 use Rattle.bites_syntax.specs.Operators.{bounds_of}

@@ -1,6 +1,6 @@
 use Rattle.std.proofs.Common.{◌∷◌, ◌++◌, [], ◌∙◌, arith, sym, ap, inr}
 use Rattle.bites_spec.specs.RangesOf.{ranges_of}
-use Rattle.bites_spec.specs.Reading.{at_item, inner}
+use Rattle.bites_spec.specs.Reader.{at_item, inner}
 use Rattle.bites_spec.specs.Tree.{sequence_of}
 use Rattle.bites_syntax.specs.FlagsView.{flags_of}
 use Rattle.bites_syntax.specs.Parts.{error_in}

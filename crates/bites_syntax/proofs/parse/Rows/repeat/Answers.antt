@@ -1,5 +1,5 @@
 use Rattle.std.proofs.Common.{◌≡◌, ◌∷◌, ◌++◌, [], subst}
-use Rattle.bites_spec.specs.Reading.{repeat_last}
+use Rattle.bites_spec.specs.Reader.{repeat_last}
 use Rattle.bites_spec.specs.Tree.{repetition_of}
 use Rattle.bites_syntax.specs.Nodes.{AreNodes}
 use Rattle.bites_syntax.specs.Operators.{bounds_of}

@@ -1,0 +1,154 @@
+-- Replacing matches, step by step.
+use Rattle.std.proofs.Common.{◌≡◌, ℕ, zero, suc, Bool, true, false, List, [], ◌∷◌, ◌++◌, map, take, drop, Option, Some, None, refl, sym, ap, ap₂, ◌∙◌, subst, true≢false, append_assoc, inl, inr}
+use Rattle.std.specs.Prelude.{unwrap_or, slice_range}
+use Rattle.bites_spec.specs.Match.{Span}
+use Rattle.bites_spec.specs.Pieces.{replaced_from, limited}
+use Rattle.bites_spec.specs.Captured.{Captured, Excerpt}
+use Rattle.bites_spec.specs.Replace.{Gave}
+use Rattle.bites_spec.specs.Refused.{GaveFront}
+use Rattle.bites_bytes.specs.Matched.{excerpt_of}
+use Rattle.bites_bytes.specs.Matches.{IsSameSearch, Moves, matches_left, spans_left}
+use Rattle.bites_bytes.specs.Replaced.{span_in}
+use Rattle.bites_bytes.specs.Limit.{taken, bound, Spends}
+use Rattle.bites_bytes.specs.Replacing.{spans_to_replace, captures_to_replace, is_nil, replaces_none, with_texts, with_text, Writes, Rests, StepsByText, OnByText, StepsBy, GoesOn, GoesOnRefused}
+use Rattle.bites_bytes.specs.declared.bytes.matched.Match.{Match}
+use Rattle.bites_bytes.specs.declared.bytes.matches.Matches.{Matches}
+use Rattle.bites_bytes.specs.declared.bytes.replace.Replacing.{Replacing}
+use Rattle.bites_bytes.proofs.SplitLemmas.{spans_of}
+
+pub taken_step : {B : Type 0} (s t : Option ℕ) (there : Bool) (x : B) (xs : List B) → Spends s there t → there ≡ true → taken s (x ∷ xs) ≡ x ∷ taken t xs
+taken_step None t there x xs h e = ap (λ o. x ∷ taken o xs) (sym h.1)
+taken_step (Some zero) t there x xs h e = absurd (true≢false (sym e ∙ h.0))
+taken_step (Some (suc n)) t there x xs h e = ap (λ o. x ∷ taken o xs) (sym h.1)
+
+pub taken_spent : {B : Type 0} (s t : Option ℕ) (there : Bool) (xs : List B) → Spends s there t → there ≡ false → taken s xs ≡ []
+taken_spent None t there xs h e = absurd (true≢false (sym h.0 ∙ e))
+taken_spent (Some zero) t there xs h e = refl
+taken_spent (Some (suc n)) t there xs h e = absurd (true≢false (sym h.0 ∙ e))
+
+pub taken_after : {B : Type 0} (s t : Option ℕ) (there : Bool) (xs : List B) → Spends s there t → there ≡ false → taken t xs ≡ []
+taken_after None t there xs h e = absurd (true≢false (sym h.0 ∙ e))
+taken_after (Some zero) t there xs h e = ap (λ o. taken o xs) h.1
+taken_after (Some (suc n)) t there xs h e = absurd (true≢false (sym h.0 ∙ e))
+
+pub taken_nil : {B : Type 0} (s : Option ℕ) (xs : List B) → xs ≡ [] → taken s xs ≡ []
+taken_nil None xs e = e
+taken_nil (Some zero) xs e = refl
+taken_nil (Some (suc n)) xs e = ap (take (suc n)) e
+
+pub taken_limited : {B : Type 0} (n : ℕ) (xs : List B) → taken (bound n) xs ≡ limited n xs
+taken_limited zero xs = refl
+taken_limited (suc n) xs = refl
+
+pub limited_map : {A B : Type 0} (f : A → B) (n : ℕ) (xs : List A) → limited n (map f xs) ≡ map f (limited n xs)
+limited_map f zero xs = refl
+limited_map f (suc n) xs = take_map (suc n) xs
+  where
+    take_map : (k : ℕ) (ys : List _) → take k (map f ys) ≡ map f (take k ys)
+    take_map zero ys = refl
+    take_map (suc k) [] = refl
+    take_map (suc k) (y ∷ ys) = ap (λ zs. f y ∷ zs) (take_map k ys)
+
+pub same_still : (s t u : Matches) → IsSameSearch s t → IsSameSearch t u → IsSameSearch s u
+same_still s t u f g = (g.0 ∙ f.0, g.1 ∙ f.1)
+
+-- the spans of the matches that are left
+pub spans_yield : (s t : Matches) (m : Match) → matches_left s ≡ excerpt_of m ∷ matches_left t → spans_left s ≡ (excerpt_of m).span ∷ spans_left t
+spans_yield s t m steps =
+    sym (spans_of s.haystack.now (spans_left s)) ∙ ap (map (λ (e : Excerpt). e.span)) steps
+    ∙ ap (λ ss. (excerpt_of m).span ∷ ss) (spans_of t.haystack.now (spans_left t))
+
+pub spans_end : (s : Matches) → matches_left s ≡ [] → spans_left s ≡ []
+spans_end s none = sym (spans_of s.haystack.now (spans_left s)) ∙ ap (map (λ (e : Excerpt). e.span)) none
+
+-- a text in the place of the next span
+pub writes_on : (s t : Replacing) (x : Span) (text : List ℕ) → Writes s x text t → (ss : List Span) (texts : List (List ℕ)) →
+    with_texts t ss texts ≡ with_texts s (x ∷ ss) (text ∷ texts)
+writes_on s t x text w ss texts =
+    let hay = s.matches.haystack.now in
+    let piece = slice_range hay (unwrap_or s.matches.last 0) x.start in
+    let out = (s.out.items ++ piece) ++ text in
+    let rest = replaced_from hay x.end ss texts in
+    ap (λ l. l ++ replaced_from t.matches.haystack.now (unwrap_or t.matches.last 0) ss texts) w.out
+    ∙ ap (λ h. out ++ replaced_from h (unwrap_or t.matches.last 0) ss texts) w.same.1
+    ∙ ap (λ (l : Option ℕ). out ++ replaced_from hay (unwrap_or l 0) ss texts) w.last
+    ∙ ap (λ l. l ++ rest) (append_assoc s.out.items piece text)
+    ∙ append_assoc s.out.items (piece ++ text) rest
+
+pub none_some : {B : Type 0} (l : Option ℕ) (x : B) (xs : List B) → replaces_none l (x ∷ xs) ≡ false
+none_some None x xs = refl
+none_some (Some e) x xs = refl
+
+-- nothing is written
+pub rests_on : {B : Type 0} (to_replace : Replacing → List B) (s t : Replacing) → Rests to_replace s t → (ss : List Span) (texts : List (List ℕ)) →
+    with_texts t ss texts ≡ with_texts s ss texts
+rests_on to_replace s t w ss texts =
+    ap (λ l. l ++ replaced_from t.matches.haystack.now (unwrap_or t.matches.last 0) ss texts) w.out
+    ∙ ap (λ h. s.out.items ++ replaced_from h (unwrap_or t.matches.last 0) ss texts) w.same.1
+    ∙ ap (λ (l : Option ℕ). s.out.items ++ replaced_from s.matches.haystack.now (unwrap_or l 0) ss texts) w.last
+
+-- one match replaced by the text
+pub step_on_text : (text : List ℕ) (s t : Replacing) → StepsByText text s true t → OnByText text s t
+step_on_text text s t h =
+    let x = h.0 in let ss = spans_to_replace t in record {
+      out = writes_on s t x text h.2 ss (map (λ y. text) ss) ∙ ap (λ l. with_texts s l (map (λ y. text) l)) (sym h.1);
+      nothing = ap (λ l. replaces_none l ss) h.2.last ∙ sym (ap (replaces_none s.matches.last) h.1 ∙ none_some s.matches.last x ss);
+      same = h.2.same;
+    }
+
+pub rest_on_text : (text : List ℕ) (s t : Replacing) → StepsByText text s false t → OnByText text s t
+rest_on_text text s t h =
+    let e = h.still ∙ sym h.none in record {
+      out = ap (λ l. with_texts t l (map (λ y. text) l)) e ∙ rests_on spans_to_replace s t h (spans_to_replace s) (map (λ y. text) (spans_to_replace s));
+      nothing = ap₂ replaces_none h.last e;
+      same = h.same;
+    }
+
+pub on_on_text : (text : List ℕ) (s t u : Replacing) → OnByText text s t → OnByText text t u → OnByText text s u
+on_on_text text s t u f g =
+    record { out = g.out ∙ f.out; nothing = g.nothing ∙ f.nothing; same = same_still s.matches t.matches u.matches f.same g.same }
+
+module _ {S : Type 0} (gives : S → Captured → List ℕ → S → Type 0) (answers : S → Option (List ℕ) → S → Type 0) where
+  -- one match replaced by what the replacer gave
+  pub step_on : (s : Replacing) (r : S) (t : Replacing) (q : S) → StepsBy gives answers s r true t q → GoesOn gives answers s r t q
+  step_on s r t q h =
+      let c = h.0 in let text = h.1 in let cs = captures_to_replace t in record {
+        out = λ texts end gave. (
+          text ∷ texts,
+          subst (λ l. Gave gives answers r l (text ∷ texts) end) (sym h.2) (q, h.3, gave),
+          writes_on s t (span_in c) text h.4 (map span_in cs) texts ∙ ap (λ l. with_texts s (map span_in l) (text ∷ texts)) (sym h.2),
+        );
+        nothing = ap (λ l. replaces_none l cs) h.4.last ∙ sym (ap (replaces_none s.matches.last) h.2 ∙ none_some s.matches.last c cs);
+        same = h.4.same;
+      }
+
+  pub rest_on : (s : Replacing) (r : S) (t : Replacing) (q : S) → StepsBy gives answers s r false t q → GoesOn gives answers s r t q
+  rest_on s r t q h =
+      let w = h.0 in let e = w.still ∙ sym w.none in record {
+        out = λ texts end gave. (
+          texts,
+          subst (λ l. Gave gives answers r l texts end) e (subst (λ z. Gave gives answers z (captures_to_replace t) texts end) h.1 gave),
+          ap (λ l. with_texts t (map span_in l) texts) e ∙ rests_on captures_to_replace s t w (map span_in (captures_to_replace s)) texts,
+        );
+        nothing = ap₂ replaces_none w.last e;
+        same = w.same;
+      }
+
+  pub on_on : (s : Replacing) (r : S) (t : Replacing) (q : S) (u : Replacing) (p : S) → GoesOn gives answers s r t q → GoesOn gives answers t q u p →
+      GoesOn gives answers s r u p
+  on_on s r t q u p f g = record {
+    out = λ texts end gave.
+        let inner = g.out texts end gave in let outer = f.out inner.0 end inner.1 in (outer.0, outer.1, inner.2 ∙ outer.2);
+    nothing = g.nothing ∙ f.nothing;
+    same = same_still s.matches t.matches u.matches f.same g.same;
+  }
+
+  module _ (refuses : S → Captured → S → Type 0) where
+    pub step_refused : (s : Replacing) (r : S) (t : Replacing) (q : S) → StepsBy gives answers s r true t q → GoesOnRefused gives answers refuses s r t q
+    step_refused s r t q h end front =
+        subst (λ l. GaveFront gives answers refuses r l end) (sym h.2) (inr (inr (h.1, q, h.3, front)))
+
+    pub rest_refused : (s : Replacing) (r : S) (t : Replacing) (q : S) → StepsBy gives answers s r false t q → GoesOnRefused gives answers refuses s r t q
+    rest_refused s r t q h end front =
+        let e = h.0.still ∙ sym h.0.none in
+        subst (λ l. GaveFront gives answers refuses r l end) e (subst (λ z. GaveFront gives answers refuses z (captures_to_replace t) end) h.1 front)

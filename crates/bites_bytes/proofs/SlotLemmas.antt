@@ -1,0 +1,145 @@
+-- What a search leaves in slots.
+use Rattle.std.proofs.Common.{◌≡◌, ℕ, zero, suc, ◌≤◌, Bool, true, false, List, [], ◌∷◌, ◌++◌, length, take, drop, Option, Some, None, option_map, refl, sym, ap, ap₂, ◌∙◌, subst, true≢false, arith}
+use Rattle.std.specs.Prelude.{unwrap_or, is_some, IfSome, Result, Ok, Err, IfOk}
+use Rattle.std.specs.List.{range_with_len}
+use Rattle.std.proofs.lemmas.List.{take_all, append-nil, length-map}
+use Rattle.std.proofs.lemmas.List.FromFn.{length-range_with_len}
+use Rattle.bites_spec.specs.Match.{Span, span}
+use Rattle.bites_spec.specs.Program.{Program}
+use Rattle.bites_spec.specs.Run.{Run, Answered, slots, written}
+use Rattle.bites_spec.specs.Slots.{group_in, span_of_run}
+use Rattle.bites_spec.specs.Regex.{Regex, IsCompiled, run_at, span_at, slots_at}
+use Rattle.bites_spec.specs.Captured.{Excerpt, excerpt, FindsSpan, FindsGroups, Captured, captured}
+use Rattle.bites_spec.proofs.RegexRuns.{run_at-whole, span_at-lies, found_span, found_groups}
+
+pub length-slots : (p : Program) (r : Run) → length (slots p r) ≡ p.slots
+length-slots p r = length-map (range_with_len 0 p.slots) (written p r) ∙ length-range_with_len 0 p.slots
+
+-- a slice of all slots has the slots of the run, or stays
+pub answered_slots : (p : Program) (o : Option Run) (found : Bool) (old new : List (Option ℕ)) → length old ≡ p.slots → Answered p o found old new →
+    (new ≡ unwrap_or (option_map (slots p) o) old) × (length new ≡ length old)
+answered_slots p None found old new fits h = (h.1, ap length h.1)
+answered_slots p (Some r) found old new fits h =
+    let all : new ≡ slots p r = h.1 ∙ take_all (length old) (slots p r) (let e = length-slots p r in omega arith) in
+    (all, ap length all ∙ length-slots p r ∙ sym fits)
+
+drop_past : (n : ℕ) (xs : List (Option ℕ)) → length xs ≤ n → drop n xs ≡ []
+drop_past zero [] h = refl
+drop_past (suc n) [] h = refl
+drop_past zero (x ∷ xs) h = absurd (omega arith)
+drop_past (suc n) (x ∷ xs) h = drop_past n xs (omega arith)
+
+-- a list that is written over its whole length
+pub written_over : (n : ℕ) (new old : List (Option ℕ)) → length new ≡ length old → n ≡ length old → take n (new ++ drop (length new) old) ≡ new
+written_over n new old same is =
+    ap (λ l. take n (new ++ l)) (drop_past (length new) old (omega arith))
+    ∙ ap (take n) (append-nil new)
+    ∙ take_all n new (omega arith)
+
+pub slots_written : (p : Program) (o : Option Run) (found : Bool) (old items now new : List (Option ℕ)) (n : ℕ) →
+    old ≡ items → now ≡ items → length old ≡ p.slots → n ≡ length now → Answered p o found now new →
+    take n (new ++ drop (length new) items) ≡ unwrap_or (option_map (slots p) o) old
+slots_written p o found old items now new n view is fits len h =
+    let g = answered_slots p o found items new (ap length (sym view) ∙ fits) (subst (λ l. Answered p o found l new) is h) in
+    written_over n new items g.1 (len ∙ ap length is) ∙ g.0 ∙ ap (unwrap_or (option_map (slots p) o)) (sym view)
+
+-- two places that are a span
+abbrev pub ends : ℕ × ℕ → Span
+ends e = span e.0 e.1
+
+module _ (r : Regex) (is : IsCompiled r) (hay : List ℕ) (s : ℕ) where
+  take_two : (xs ys : List (Option ℕ)) → ys ≡ take 2 xs → group_in ys 0 ≡ group_in xs 0
+  take_two xs ys e = ap (λ l. group_in l 0) e ∙ front xs
+    where
+      front : (xs : List (Option ℕ)) → group_in (take 2 xs) 0 ≡ group_in xs 0
+      front [] = refl
+      front (x ∷ []) = refl
+      front (x ∷ y ∷ xs) = refl
+
+  two_of : (o : Option Run) (found : Bool) (old new : List (Option ℕ)) → run_at r hay s ≡ o → length old ≡ 2 → found ≡ true →
+      Answered r.program o found old new → group_in new 0 ≡ option_map span_of_run o
+  two_of None found old new e two holds h = absurd (true≢false (sym holds ∙ h.0))
+  two_of (Some x) found old new e two holds h =
+      take_two (slots r.program x) new (h.1 ∙ ap (λ n. take n (slots r.program x)) two) ∙ run_at-whole r is hay s x e
+
+  -- two slots have the span of the run
+  pub two_slots : (found : Bool) (old new : List (Option ℕ)) → length old ≡ 2 → found ≡ true →
+      Answered r.program (run_at r hay s) found old new → group_in new 0 ≡ span_at r hay s
+  two_slots found old new two holds h = two_of (run_at r hay s) found old new refl two holds h
+
+  all_of : (o : Option Run) (found : Bool) (old new : List (Option ℕ)) → run_at r hay s ≡ o → found ≡ is_some o → found ≡ true →
+      new ≡ unwrap_or (option_map (slots r.program) o) old → group_in new 0 ≡ option_map span_of_run o
+  all_of None found old new e is_found holds h = absurd (true≢false (sym holds ∙ is_found))
+  all_of (Some x) found old new e is_found holds h = ap (λ l. group_in l 0) h ∙ run_at-whole r is hay s x e
+
+  -- and so have all
+  pub all_slots : (found : Bool) (old new : List (Option ℕ)) → found ≡ is_some (run_at r hay s) → found ≡ true →
+      new ≡ unwrap_or (slots_at r hay s) old → group_in new 0 ≡ span_at r hay s
+  all_slots found old new is_found holds h = all_of (run_at r hay s) found old new refl is_found holds h
+
+  none_of : (o : Option Run) (found : Bool) → found ≡ is_some o → found ≡ false → None ≡ option_map span_of_run o
+  none_of None found is_found missing = refl
+  none_of (Some x) found is_found missing = absurd (true≢false (sym is_found ∙ missing))
+
+  -- where nothing is found there is no span
+  pub none_there : (found : Bool) → found ≡ is_some (run_at r hay s) → found ≡ false → None ≡ span_at r hay s
+  none_there found is_found missing = none_of (run_at r hay s) found is_found missing
+
+  answered_some : (o : Option Run) (found : Bool) (old new : List (Option ℕ)) → Answered r.program o found old new → found ≡ is_some o
+  answered_some None found old new h = h.0
+  answered_some (Some x) found old new h = h.0
+
+  pub answered_found : (found : Bool) (old new : List (Option ℕ)) → Answered r.program (run_at r hay s) found old new → found ≡ is_some (run_at r hay s)
+  answered_found found old new h = answered_some (run_at r hay s) found old new h
+
+  -- known ends lie in the haystack
+  pub ends_lie : (o : Option (ℕ × ℕ)) → option_map ends o ≡ span_at r hay s → IfSome o (λ e. (e.0 ≤ e.1) × (e.1 ≤ length hay))
+  ends_lie None h = tt
+  ends_lie (Some e) h = let lies = span_at-lies r is hay s (ends e) (sym h) in (lies.1, lies.2)
+
+  some_span : (o : Option Run) → is_some (option_map span_of_run o) ≡ is_some o
+  some_span None = refl
+  some_span (Some x) = refl
+
+  some_ends : (o : Option (ℕ × ℕ)) → is_some (option_map ends o) ≡ is_some o
+  some_ends None = refl
+  some_ends (Some x) = refl
+
+  -- and they are known where something is found
+  pub ends_found : (o : Option (ℕ × ℕ)) (found : Bool) → option_map ends o ≡ span_at r hay s → found ≡ is_some (run_at r hay s) → found ≡ is_some o
+  ends_found o found h is_found = is_found ∙ sym (some_span (run_at r hay s)) ∙ ap is_some (sym h) ∙ some_ends o
+
+  -- what a search of the tree finds, for a match with its span
+  pub found_on_tree : {M : Type 0} (f : M → Excerpt) (o : Option M) → option_map f o ≡ option_map (excerpt hay) (span_at r hay s) →
+      FindsSpan r hay s (option_map (λ m. (f m).span) o)
+  found_on_tree f o h = subst (FindsSpan r hay s) (same f o (span_at r hay s) h) (found_span r is hay s)
+    where
+      some_same : {A : Type 0} (a b : A) → Some a ≡ Some b → a ≡ b
+      some_same a b e = cc
+
+      same : {M : Type 0} (f : M → Excerpt) (o : Option M) (q : Option Span) → option_map f o ≡ option_map (excerpt hay) q →
+          q ≡ option_map (λ m. (f m).span) o
+      same f None None h = refl
+      same f None (Some g) h = let never : None ≡ Some (excerpt hay g) = h in cc
+      same f (Some m) None h = let never : Some (f m) ≡ None = h in cc
+      same f (Some m) (Some g) h = ap Some (sym (ap (λ (x : Excerpt). x.span) (some_same (f m) (excerpt hay g) h)))
+
+  slots_of : (o : Option Run) (found : Bool) (old new : List (Option ℕ)) → found ≡ is_some o → found ≡ true →
+      new ≡ unwrap_or (option_map (slots r.program) o) old → option_map (slots r.program) o ≡ Some new
+  slots_of None found old new is_found holds h = absurd (true≢false (sym holds ∙ is_found))
+  slots_of (Some x) found old new is_found holds h = ap (λ l. Some l) (sym h)
+
+  -- the slots that a search has found
+  pub slots_there : (found : Bool) (old new : List (Option ℕ)) → found ≡ is_some (run_at r hay s) → found ≡ true →
+      new ≡ unwrap_or (slots_at r hay s) old → slots_at r hay s ≡ Some new
+  slots_there found old new is_found holds h = slots_of (run_at r hay s) found old new is_found holds h
+
+  -- what a search of the tree finds, for captures
+  pub groups_on_tree : {E : Type 0} (x : Result (Option Captured) E) → IfOk x (λ c. c ≡ option_map (captured r hay) (slots_at r hay s)) →
+      IfOk x (λ c. FindsGroups r hay s (option_map (λ y. y.slots) c))
+  groups_on_tree (Err e) h = tt
+  groups_on_tree (Ok c) h = subst (FindsGroups r hay s) (same (slots_at r hay s) ∙ ap (option_map (λ y. y.slots)) (sym h)) (found_groups r is hay s)
+    where
+      same : (o : Option (List (Option ℕ))) → o ≡ option_map (λ y. y.slots) (option_map (captured r hay) o)
+      same None = refl
+      same (Some l) = refl

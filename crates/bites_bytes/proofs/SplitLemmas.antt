@@ -1,0 +1,89 @@
+-- Iterators over pieces, step by step.
+use Rattle.std.proofs.Common.{◌≡◌, ℕ, zero, suc, ◌-◌, Bool, true, false, cond, List, [], ◌∷◌, map, length, take, drop, Option, Some, None, refl, sym, ap, ap₂, ◌∙◌, subst}
+use Rattle.std.specs.Prelude.{unwrap_or, MatchOption, slice_range}
+use Rattle.std.specs.Borrow.{Bor}
+use Rattle.std.specs.Iterator.{YieldsFirstBy}
+use Rattle.bites_spec.specs.Match.{Span, span}
+use Rattle.bites_spec.specs.Pieces.{gaps_from, text_at}
+use Rattle.bites_spec.specs.Regex.{Regex}
+use Rattle.bites_spec.specs.Captured.{Excerpt, excerpt}
+use Rattle.bites_spec.specs.Iteration.{spans_behind, pieces_up_to}
+use Rattle.bites_bytes.specs.Matched.{excerpt_of}
+use Rattle.bites_bytes.specs.Matches.{IsSameSearch, Moves, matches_left, spans_left}
+use Rattle.bites_bytes.specs.Split.{pieces_by, pieces_left, at_most_left, bytes_at, StepsOn}
+use Rattle.bites_bytes.specs.declared.bytes.matched.Match.{Match}
+use Rattle.bites_bytes.specs.declared.bytes.matches.Matches.{Matches}
+use Rattle.bites_bytes.specs.declared.bytes.split.Split.{Split}
+
+pub spans_of : (hay : List ℕ) (ss : List Span) → map (λ e. e.span) (map (excerpt hay) ss) ≡ ss
+spans_of hay [] = refl
+spans_of hay (s ∷ ss) = ap (λ xs. s ∷ xs) (spans_of hay ss)
+
+-- what stands between two places, by equal parts
+pub piece_is : (h k : List ℕ) (a b i j : ℕ) → h ≡ k → a ≡ b → i ≡ j → slice_range k b j ≡ take (i - a) (drop a h)
+piece_is h k a b i j e f g =
+    sym (ap (λ l. take (i - a) (drop a l)) e ∙ ap (λ n. take (i - n) (drop n k)) f ∙ ap (λ n. take (n - b) (drop b k)) g)
+
+-- the pieces where some are left
+abbrev body : List ℕ → ℕ → List Span → List (List ℕ)
+body hay e ss = map (text_at hay) (gaps_from (length hay) e ss)
+
+open_by : (s : Split) (ss : List Span) → s.done ≡ false → pieces_by s ss ≡ body s.matches.haystack.now (unwrap_or s.matches.last 0) ss
+open_by s ss more = ap (λ b. cond b [] (body s.matches.haystack.now (unwrap_or s.matches.last 0) ss)) more
+
+shut_by : (s : Split) (ss : List Span) → s.done ≡ true → pieces_by s ss ≡ []
+shut_by s ss done = ap (λ b. cond b [] (body s.matches.haystack.now (unwrap_or s.matches.last 0) ss)) done
+
+module _ (s t : Split) (m : Match) (more : s.done ≡ false) (still : t.done ≡ false)
+    (steps : matches_left s.matches ≡ excerpt_of m ∷ matches_left t.matches) (moves : Moves s.matches (Some m) t.matches)
+    (same : IsSameSearch s.matches t.matches) (piece : List ℕ)
+    (is : slice_range s.matches.haystack.now (unwrap_or s.matches.last 0) (excerpt_of m).span.start ≡ piece) where
+  spans_step : spans_left s.matches ≡ (excerpt_of m).span ∷ spans_left t.matches
+  spans_step =
+      sym (spans_of s.matches.haystack.now (spans_left s.matches)) ∙ ap (map (λ (e : Excerpt). e.span)) steps
+      ∙ ap (λ ss. (excerpt_of m).span ∷ ss) (spans_of t.matches.haystack.now (spans_left t.matches))
+
+  step_by : (ss rest : List Span) → ss ≡ (excerpt_of m).span ∷ rest → pieces_by s ss ≡ piece ∷ pieces_by t rest
+  step_by ss rest e =
+      open_by s ss more ∙ ap (body s.matches.haystack.now (unwrap_or s.matches.last 0)) e
+      ∙ ap₂ (λ a b. a ∷ b) is
+      (ap (λ (k : ℕ). body s.matches.haystack.now k rest) (sym (ap (λ o. unwrap_or o 0) moves.1))
+      ∙ ap (λ h. body h (unwrap_or t.matches.last 0) rest) (sym same.1)
+      ∙ sym (open_by t rest still))
+
+  pub split_some : (pieces_left s ≡ piece ∷ pieces_left t)
+      × ((n : ℕ) → at_most_left (suc (suc n)) s ≡ piece ∷ at_most_left (suc n) t)
+  split_some = (
+    step_by (spans_left s.matches) (spans_left t.matches) spans_step,
+    λ n. step_by (take (suc n) (spans_left s.matches)) (take n (spans_left t.matches)) (ap (take (suc n)) spans_step),
+  )
+
+-- where nothing matches any more the rest is a piece
+pub split_none : (s : Split) (piece : List ℕ) → s.done ≡ false → matches_left s.matches ≡ [] →
+    slice_range s.matches.haystack.now (unwrap_or s.matches.last 0) (length s.matches.haystack.now) ≡ piece →
+    (pieces_left s ≡ piece ∷ []) × ((n : ℕ) → at_most_left (suc (suc n)) s ≡ piece ∷ [])
+split_none s piece more none is =
+    let spans : spans_left s.matches ≡ [] = sym (spans_of s.matches.haystack.now (spans_left s.matches)) ∙ ap (map (λ (e : Excerpt). e.span)) none in (
+      last (spans_left s.matches) spans,
+      λ n. last (take (suc n) (spans_left s.matches)) (ap (take (suc n)) spans),
+    )
+  where
+    last : (ss : List Span) → ss ≡ [] → pieces_by s ss ≡ piece ∷ []
+    last ss e =
+        open_by s ss more ∙ ap (body s.matches.haystack.now (unwrap_or s.matches.last 0)) e ∙ ap (λ x. x ∷ []) is
+
+-- a step where more than one piece may come
+pub step_yields : (n m k : ℕ) (s t : Split) (r : Option (Bor (List ℕ))) → n ≡ suc (suc k) → m ≡ suc k → StepsOn s r t →
+    MatchOption r ((at_most_left n s ≡ []) × (at_most_left m t ≡ [])) (λ x. at_most_left n s ≡ bytes_at x ∷ at_most_left m t)
+step_yields n m k s t None e f h = ((h.2 n).0, (h.2 m).1)
+step_yields n m k s t (Some x) e f h =
+    ap (λ j. at_most_left j s) e ∙ h.1 k ∙ ap (λ xs. bytes_at x ∷ xs) (sym (ap (λ j. at_most_left j t) f))
+
+pub limited_start : (s : Split) (r : Regex) (hay : List ℕ) → s.done ≡ false → s.matches.regex.now ≡ r → s.matches.haystack.now ≡ hay →
+    s.matches.last ≡ None → (n : ℕ) → at_most_left n s ≡ pieces_up_to r hay n
+limited_start s r hay more is at none zero = refl
+limited_start s r hay more is at none (suc n) =
+    open_by s (take n (spans_left s.matches)) more
+    ∙ ap (λ h. body h (unwrap_or s.matches.last 0) (take n (spans_behind s.matches.regex.now h s.matches.last))) at
+    ∙ ap (λ q. body hay (unwrap_or s.matches.last 0) (take n (spans_behind q hay s.matches.last))) is
+    ∙ ap (λ (l : Option ℕ). body hay (unwrap_or l 0) (take n (spans_behind r hay l))) none

@@ -1,0 +1,9 @@
+use Rattle.std.proofs.Common.{length}
+use Rattle.bites_bytes.specs.Replacing.{OnByText, spans_to_replace}
+use Rattle.bites_bytes.proofs.bytes.replace.Replacing.by_text.Given as goal
+
+abbrev pub invariant-loop : goal.invariant-loop
+invariant-loop l = OnByText l.text l.fn.self l.self
+
+abbrev pub decreases-loop : goal.decreases-loop
+decreases-loop l = length (spans_to_replace l.self)

@@ -1,0 +1,15 @@
+use Rattle.std.proofs.Common.{refl, ap, length, ◌∙◌, sym}
+use Rattle.bites_bytes.proofs.SplitLemmas.{piece_is, split_some, split_none}
+use Rattle.bites_bytes.proofs.bytes.split.Split.step.Goals as goal
+
+pub returns-in-Some : goal.returns-in-Some
+returns-in-Some c =
+    let e = c.in-Some.ensures in
+    split_some c.args.self.now record { matches = c.step.new.self; done = c.args.self.now.done } c.in-Some.found c.if-self.false c.if-self.false
+    e.steps e.moves e.same _
+    (piece_is _ _ _ _ _ _ c.haystack-haystack.ensures c.end_of_last-begin.ensures.last c.start.ensures)
+
+pub returns-in-None : goal.returns-in-None
+returns-in-None c =
+    split_none c.args.self.now _ c.if-self.false c.in-None.ensures.steps.0
+    (piece_is _ _ _ _ _ _ c.haystack-haystack.ensures c.end_of_last-begin.ensures.last (ap length c.haystack-haystack.ensures))

@@ -1,0 +1,25 @@
+-- A regex by its parts.
+use Rattle.std.specs.Prelude.{ℕ, Bool, true, false, List, Option}
+use Rattle.bites_spec.specs.Pattern.{Flags}
+use Rattle.bites_spec.specs.Tree.{Tree}
+use Rattle.bites_spec.specs.Measure.{groups_left}
+use Rattle.bites_spec.specs.Regex.{Regex}
+use Rattle.bites_spec.specs.Contents.{Contents}
+
+-- the regex of these flags, this tree, whether dropped groups are kept, and what is in the tree's program; its searches prefer as the pattern does
+abbrev pub regex_of : Flags → Tree → Bool → Contents → Regex
+regex_of flags tree keep_dropped_groups contents = record {
+  pattern = contents.pattern;
+  flags = flags;
+  tree = tree;
+  program = contents.program;
+  names = contents.names;
+  static_captures_len = contents.static_captures_len;
+  keep_dropped_groups = keep_dropped_groups;
+  leftmost_longest = false;
+}
+
+-- all of these groups, or those that are left in the tree
+abbrev pub chosen : Bool → List (Option (List ℕ)) → Tree → List (Option (List ℕ))
+chosen true groups t = groups
+chosen false groups t = groups_left t

@@ -1,0 +1,35 @@
+-- What replacers give for the groups of a match.
+use Rattle.std.specs.Prelude.{◌≡◌, ℕ, ◌==◌, Bool, not, cond, List, Option, Some, None, option_map}
+use Rattle.std.specs.Borrow.{Bor}
+use Rattle.std.specs.List.{list_all}
+use Rattle.bites_spec.specs.Code.{code}
+use Rattle.bites_spec.specs.Expansion.{expansion_of}
+use Rattle.bites_spec.specs.Captured.{Captured}
+
+-- what a template stands for by the groups of a match
+abbrev pub expanded : Captured → List ℕ → List ℕ
+expanded c template = expansion_of c.regex.names c.slots c.haystack template
+
+-- whether a text holds no `$`, so that it is a template that stands for itself
+abbrev pub is_plain : List ℕ → Bool
+is_plain text = list_all (λ b. not (b == code "$")) text
+
+-- the text, if it is plain
+abbrev pub plain_text : List ℕ → Option (List ℕ)
+plain_text text = cond (is_plain text) (Some text) None
+
+-- the bytes that stand for each match, if they are always the same
+abbrev pub answer_text : Option (Bor (List ℕ)) → Option (List ℕ)
+answer_text = option_map (λ t. t.now)
+
+-- a template gives what it stands for, and stays as it is
+abbrev pub GivesExpansion : {S : Type 0} → (S → List ℕ) → S → Captured → List ℕ → S → Type 0
+GivesExpansion template s c text t = (text ≡ expanded c (template s)) × (t ≡ s)
+
+-- it answers its text, if that is plain, and stays as it is
+abbrev pub AnswersPlain : {S : Type 0} → (S → List ℕ) → S → Option (List ℕ) → S → Type 0
+AnswersPlain template s answer t = (answer ≡ plain_text (template s)) × (t ≡ s)
+
+-- it stays as it is
+abbrev pub Stays : {S C : Type 0} → S → C → S → Type 0
+Stays s c t = t ≡ s

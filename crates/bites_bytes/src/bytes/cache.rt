@@ -1,0 +1,192 @@
+//! The room that searches take.
+
+ghost use Rattle.std.specs.Prelude.{◌≡◌, ◌↔◌, ◌≤◌, ◌<◌, ◌+◌, ◌^◌, length, option_map, is_some, IsTrue, IfOk, IfSome};
+ghost use Rattle.std.specs.Option.{ForSome};
+ghost use Rattle.bites_spec.specs.Counts.{fit_of};
+ghost use Rattle.bites_spec.specs.Match.{span};
+ghost use Rattle.bites_spec.specs.Slots.{slot_in, group_in};
+ghost use Rattle.bites_spec.specs.Run.{Answered};
+ghost use Rattle.bites_spec.specs.Regex.{IsCompiled, run_at, span_at};
+ghost use Rattle.bites_spec.specs.Found.{IsLeastEnd};
+ghost use Rattle.bites_spec.specs.Utf8.{step_len};
+ghost use Rattle.bites_spec.specs.Spans.{is_empty_at};
+ghost use Rattle.bites_bytes.specs.Room.{IsSlotCount, IsWalked};
+ghost use Rattle.bites_bytes.specs.Due.{run_due, LeavesRun};
+
+use crate::bytes::Regex;
+use crate::bytes::regex::Compiled;
+use bites_machine::program::Program;
+use bites_machine::vm;
+use bites_text::utf8::decode_lossy;
+use std::alloc::AllocError;
+use std::marker::Model;
+
+/// The room for searches with a regex, made once by [`Regex::cache`]. No search makes it greater, and none changes what
+/// a later one answers.
+///
+/// A contract sees which regexes it fits, and what the last search did.
+#[derive(Drop)]
+pub struct Cache {
+    room: vm::Cache,
+}
+
+impl Model for Cache {
+    ghost use Rattle.bites_machine.specs.Room.{Room};
+
+    ghost Value = { Room };
+
+    ghost view = { λ a. a.room };
+}
+
+impl Cache {
+    pub(super) fn new(program: &Program) -> Result<Cache, AllocError>
+        ensures { IfOk result (λ c. c.fits ≡ fit_of program.now.program) }
+    {
+        Ok(Cache {
+            room: vm::Cache::new(program)?,
+        })
+    }
+
+    // The run that a search from `start` answers: it is put into the slots, as far as there are any. Where there is none
+    // they stay.
+    pub(super) fn search(
+        &mut self,
+        compiled: &Compiled,
+        haystack: &[u8],
+        start: usize,
+        slots: &mut [Option<usize>],
+    ) -> bool
+        requires fits { self.old.fits ≡ fit_of compiled.now.program }
+        requires slots { IsSlotCount compiled.now.program (length slots.old) }
+        ensures answered { Answered compiled.now.program (run_at compiled.now haystack.now start)
+            result slots.old slots.new }
+        ensures compiled { IsCompiled compiled.now }
+        ensures fits { self.new.fits ≡ self.old.fits }
+        ensures walked { IsWalked compiled.now.program haystack.now start result self.new.walked }
+    {
+        let program = compiled.program();
+        if compiled.leftmost_longest() {
+            vm::search_longest(program, &mut self.room, haystack, start, slots)
+        } else {
+            vm::search(program, &mut self.room, haystack, start, false, slots)
+        }
+    }
+
+    // Where the run begins and ends that a search from `start` answers.
+    pub(super) fn find(
+        &mut self,
+        compiled: &Compiled,
+        haystack: &[u8],
+        start: usize,
+    ) -> Option<(usize, usize)>
+        requires { self.old.fits ≡ fit_of compiled.now.program }
+        ensures found { option_map (λ s. span s.0 s.1) result ≡ span_at compiled.now haystack.now start }
+        ensures lies { IfSome result (λ s. (s.0 ≤ s.1) × (s.1 ≤ length haystack.now)) }
+        ensures compiled { IsCompiled compiled.now }
+        ensures fits { self.new.fits ≡ self.old.fits }
+        ensures walked { IsWalked compiled.now.program haystack.now start (is_some result) self.new.walked }
+    {
+        let mut slots = [None; 2];
+        if !self.search(compiled, haystack, start, &mut slots) {
+            return None;
+        }
+        ends_in(&slots)
+    }
+
+    // The least end of any match that begins at a place from `start` on.
+    pub(super) fn shortest(
+        &mut self,
+        compiled: &Compiled,
+        haystack: &[u8],
+        start: usize,
+    ) -> Option<usize>
+        requires { self.old.fits ≡ fit_of compiled.now.program }
+        ensures least { IsLeastEnd compiled.now.tree haystack.now start result }
+        ensures fits { self.new.fits ≡ self.old.fits }
+        ensures walked { IsWalked compiled.now.program haystack.now start (is_some result) self.new.walked }
+    {
+        let program = compiled.program();
+        let mut slots = [None; 2];
+        if !vm::search(program, &mut self.room, haystack, start, true, &mut slots) {
+            return None;
+        }
+        end_in(&slots)
+    }
+
+    // The run that is due behind a match that ends at `last`, or the first of all: it is put into the slots. Where none is
+    // due, the slots may be written too.
+    pub(super) fn due(
+        &mut self,
+        compiled: &Compiled,
+        haystack: &[u8],
+        last: Option<usize>,
+        slots: &mut [Option<usize>],
+    ) -> bool
+        requires fits { self.old.fits ≡ fit_of compiled.now.program }
+        requires slots { IsSlotCount compiled.now.program (length slots.old) }
+        requires whole { 2 ≤ length slots.old }
+        requires last { ForSome last (λ e. e ≤ length haystack.now) }
+        ensures due { LeavesRun compiled.now.program (run_due compiled.now haystack.now last)
+            result (length slots.old) slots.new }
+        ensures compiled { IsCompiled compiled.now }
+        ensures fits { self.new.fits ≡ self.old.fits }
+    {
+        let Some(last) = last else {
+            return self.search(compiled, haystack, 0, slots);
+        };
+        if !self.search(compiled, haystack, last, slots) {
+            return false;
+        }
+        if !is_empty_at(slots, last) {
+            return true;
+        }
+        let step = step_at(haystack, last);
+        self.search(compiled, haystack, last + step, slots)
+    }
+
+    /// Whether searches with the regex may use this cache: it was made for one whose program has as many states, slots
+    /// and targets.
+    pub fn fits(&self, regex: &Regex) -> bool
+        ensures { IsTrue result ↔ (self.now.fits ≡ fit_of regex.now.program) }
+    {
+        self.room.fits_program(regex.program())
+    }
+}
+
+// The two places, if both are known.
+pub(super) fn ends_in(slots: &[Option<usize>]) -> Option<(usize, usize)>
+    requires { 2 ≤ length slots.now }
+    ensures { option_map (λ s. span s.0 s.1) result ≡ group_in slots.now 0 }
+{
+    Some((slots[0]?, slots[1]?))
+}
+
+// The place in the second slot.
+fn end_in(slots: &[Option<usize>]) -> Option<usize>
+    requires { 2 ≤ length slots.now }
+    ensures { result ≡ slot_in slots.now 1 }
+{
+    slots[1]
+}
+
+// Whether the first two slots are known, and both hold the place.
+fn is_empty_at(slots: &[Option<usize>], place: usize) -> bool
+    requires { 2 ≤ length slots.now }
+    ensures { result ≡ is_empty_at (λ s. s) place (group_in slots.now 0) }
+{
+    match (slots[0], slots[1]) {
+        (Some(start), Some(end)) => start == place && end == place,
+        _ => false,
+    }
+}
+
+// How far it is to the next place: over the piece that stands here, or one byte at the end of the haystack.
+#[tactic(auto, unfolding(bites_spec::specs::Utf8::piece))]
+fn step_at(haystack: &[u8], place: usize) -> usize
+    requires { place ≤ length haystack.now }
+    ensures step { result ≡ step_len haystack.now place }
+    ensures fits { place + result < 2 ^ 64 }
+{
+    let (_, len) = decode_lossy(&haystack[place..]);
+    len.max(1)
+}

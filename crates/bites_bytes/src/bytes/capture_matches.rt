@@ -1,0 +1,102 @@
+//! The groups of the successive matches in a haystack.
+
+ghost use Rattle.std.specs.Prelude.{◌≡◌, ◌≤◌, IfOk, IfSome, length, None};
+ghost use Rattle.bites_spec.specs.Iteration.{captures_in};
+ghost use Rattle.bites_bytes.specs.Matches.{regex_of_matches};
+
+use crate::bytes::{CaptureLocations, Captures, Matches, Regex};
+use std::alloc::AllocError;
+use std::iter::FusedIterator;
+
+/// The groups of the successive matches of a regex in a haystack, from left to right.
+///
+/// Where memory is refused for the groups of a match, the error comes in their place, and nothing comes behind it.
+#[derive(Drop)]
+pub struct CaptureMatches<'r, 'h> {
+    matches: Matches<'r, 'h>,
+    locations: CaptureLocations,
+    // Whether memory was refused.
+    refused: bool,
+    pub ghost fits: { length locations ≡ (regex_of_matches matches).program.slots },
+    pub ghost whole: { 2 ≤ length locations },
+}
+
+impl<'r, 'h> CaptureMatches<'r, 'h> {
+    ghost use Rattle.bites_spec.specs.Refused.{YieldsUntilRefused};
+    ghost use Rattle.bites_bytes.specs.CapturesLeft.{NextCaptures, captures_left};
+
+    // Goes on to the next match, if there is one; the locations have its slots then.
+    fn advance(&mut self) -> bool
+        ensures steps { NextCaptures self.old result self.new }
+        ensures refused { self.new.refused ≡ self.old.refused }
+    {
+        let found = self.locations.advance(&mut self.matches);
+        found.is_some()
+    }
+
+    // The groups of the next match, or a refusal.
+    fn step(&mut self) -> Option<Result<Captures<'h>, AllocError>>
+        ensures { YieldsUntilRefused (λ c. c) captures_left self.old result self.new }
+    {
+        if self.refused || !self.advance() {
+            return None;
+        }
+        match Captures::of(
+            self.matches.regex(),
+            self.matches.haystack(),
+            &self.locations,
+        ) {
+            Ok(captures) => Some(Ok(captures)),
+            Err(refusal) => {
+                self.refused = true;
+                Some(Err(refusal))
+            }
+        }
+    }
+}
+
+impl<'r, 'h> Iterator for CaptureMatches<'r, 'h> {
+    ghost use Rattle.std.specs.Iterator.{at_most, Count, UpTo, item_count};
+    ghost use Rattle.std.specs.Iterator.SizeHint.{IsWithinCount};
+    ghost use Rattle.bites_spec.specs.Refused.{YieldsUntilRefused};
+    ghost use Rattle.bites_bytes.specs.CapturesLeft.{captures_left};
+
+    type Item = Result<Captures<'h>, AllocError>;
+
+    ghost next_gives = { YieldsUntilRefused (λ c. c) captures_left };
+
+    ghost remaining = { item_count captures_left };
+
+    fn next(&mut self) -> Option<Result<Captures<'h>, AllocError>> {
+        self.step()
+    }
+
+    fn size_hint(&self) -> (usize, Option<usize>)
+        ensures lower { IsWithinCount result.0 (item_count captures_left self.now) }
+        ensures upper { IfSome result.1 (UpTo (item_count captures_left self.now)) }
+        ensures value { result ≡ (0, None) }
+    {
+        (0, None)
+    }
+}
+
+impl<'r, 'h> FusedIterator for CaptureMatches<'r, 'h> {}
+
+impl Regex {
+    ghost use Rattle.bites_bytes.specs.CapturesLeft.{captures_left};
+
+    /// The groups of the successive matches in the haystack. The error is want of memory for the room that searches take.
+    pub fn captures_iter<'r, 'h>(
+        &'r self,
+        haystack: &'h [u8],
+    ) -> Result<CaptureMatches<'r, 'h>, AllocError>
+        ensures { IfOk result (λ m. captures_left m ≡ captures_in self.now haystack.now) }
+    {
+        let slots = self.program().slots();
+        Ok(CaptureMatches {
+            matches: Matches::new(self, haystack)?,
+            locations: CaptureLocations::new(self.alloc(), slots)?,
+            refused: false,
+        })
+    }
+}

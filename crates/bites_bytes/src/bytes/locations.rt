@@ -1,0 +1,138 @@
+//! Where the groups of a match begin and end.
+
+ghost use Rattle.std.specs.Prelude.{◌≡◌, ◌≤◌, ◌/◌, ◌↔◌, None, replicate, length, option_map, is_some, unwrap_or, IsTrue, IfOk, IfSome};
+ghost use Rattle.bites_spec.specs.Match.{span};
+ghost use Rattle.bites_spec.specs.Slots.{group_in};
+ghost use Rattle.bites_spec.specs.Counts.{fit_of};
+ghost use Rattle.bites_spec.specs.Regex.{IsCompiled, run_at, span_at, slots_at};
+ghost use Rattle.bites_bytes.specs.Room.{IsWalked};
+
+use crate::bytes::regex::Compiled;
+use crate::bytes::{Cache, Match, Matches, Regex};
+use std::alloc::{AllocError, Global};
+use std::marker::Model;
+
+/// Where each group of a match begins and ends, as [`Regex::captures_read`] writes it.
+///
+/// A contract sees the two slots of each group, which are known where the group took part.
+#[derive(Drop)]
+pub struct CaptureLocations {
+    alloc: Global,
+    slots: Vec<Option<usize>>,
+}
+
+impl Model for CaptureLocations {
+    ghost use Rattle.std.specs.Prelude.{ℕ, List, Option};
+
+    ghost Value = { List (Option ℕ) };
+
+    ghost view = { λ a. a.slots.items };
+}
+
+impl CaptureLocations {
+    // So many slots, none of them known.
+    pub(super) fn new(alloc: Global, count: usize) -> Result<CaptureLocations, AllocError>
+        ensures { IfOk result (λ l. l ≡ replicate count None) }
+    {
+        Ok(CaptureLocations {
+            alloc,
+            slots: vec![in alloc; None; count]?,
+        })
+    }
+
+    /// Where the group of this number begins and ends, in bytes from the start of the haystack; None if it took no part,
+    /// and from [`CaptureLocations::len`] on.
+    pub fn get(&self, group: usize) -> Option<(usize, usize)>
+        ensures { option_map (λ s. span s.0 s.1) result ≡ group_in self.now group }
+    {
+        if group >= self.len() {
+            return None;
+        }
+        Some((self.slots[2 * group]?, self.slots[2 * group + 1]?))
+    }
+
+    /// The number of groups, group 0 counted.
+    pub fn len(&self) -> usize
+        ensures { result ≡ length self.now / 2 }
+    {
+        self.slots.len() / 2
+    }
+
+    /// Whether the regex has as many groups.
+    pub fn fits(&self, regex: &Regex) -> bool
+        ensures { IsTrue result ↔ (length self.now ≡ regex.now.program.slots) }
+    {
+        self.slots.len() == regex.program().slots()
+    }
+
+    // The slots of the run that a search from `start` answers; where there is none they stay.
+    pub(super) fn search(
+        &mut self,
+        compiled: &Compiled,
+        cache: &mut Cache,
+        haystack: &[u8],
+        start: usize,
+    ) -> bool
+        requires cache { cache.old.fits ≡ fit_of compiled.now.program }
+        requires fits { length self.old ≡ compiled.now.program.slots }
+        ensures found { result ≡ is_some (run_at compiled.now haystack.now start) }
+        ensures slots { self.new ≡ unwrap_or (slots_at compiled.now haystack.now start) self.old }
+        ensures compiled { IsCompiled compiled.now }
+        ensures cache { cache.new.fits ≡ cache.old.fits }
+        ensures walked { IsWalked compiled.now.program haystack.now start result cache.new.walked }
+    {
+        cache.search(compiled, haystack, start, &mut self.slots)
+    }
+
+    // The same, with where the run begins and ends.
+    pub(super) fn read(
+        &mut self,
+        compiled: &Compiled,
+        cache: &mut Cache,
+        haystack: &[u8],
+        start: usize,
+    ) -> Option<(usize, usize)>
+        requires cache { cache.old.fits ≡ fit_of compiled.now.program }
+        requires fits { length self.old ≡ compiled.now.program.slots }
+        ensures found { option_map (λ s. span s.0 s.1) result ≡ span_at compiled.now haystack.now start }
+        ensures lies { IfSome result (λ s. (s.0 ≤ s.1) × (s.1 ≤ length haystack.now)) }
+        ensures slots { self.new ≡ unwrap_or (slots_at compiled.now haystack.now start) self.old }
+        ensures compiled { IsCompiled compiled.now }
+        ensures cache { cache.new.fits ≡ cache.old.fits }
+        ensures walked { IsWalked compiled.now.program haystack.now start (is_some result) cache.new.walked }
+    {
+        if !self.search(compiled, cache, haystack, start) {
+            return None;
+        }
+        self.get(0)
+    }
+}
+
+impl CaptureLocations {
+    ghost use Rattle.bites_bytes.specs.Matches.{Advances, IsSameSearch, Moves, regex_of_matches};
+
+    // The next match, with its slots.
+    pub(super) fn advance<'r, 'h>(&mut self, matches: &mut Matches<'r, 'h>) -> Option<Match<'h>>
+        requires fits { length self.old ≡ (regex_of_matches matches.old).program.slots }
+        requires whole { 2 ≤ length self.old }
+        ensures steps { Advances matches.old result matches.new (length self.old) self.new }
+        ensures moves { Moves matches.old result matches.new }
+        ensures same { IsSameSearch matches.old matches.new }
+        ensures compiled { IsCompiled (regex_of_matches matches.old) }
+        ensures len { length self.new ≡ length self.old }
+    {
+        matches.advance(&mut self.slots)
+    }
+}
+
+impl Clone for CaptureLocations {
+    ghost is_clone = { λ locations copy. copy ≡ locations };
+
+    /// Locations with the same places. The error is want of memory.
+    fn clone(&self) -> Result<CaptureLocations, AllocError> {
+        Ok(CaptureLocations {
+            alloc: self.alloc,
+            slots: self.slots.clone()?,
+        })
+    }
+}

@@ -1,0 +1,148 @@
+//! The successive matches in a haystack.
+
+ghost use Rattle.std.specs.Prelude.{◌≡◌, ◌≤◌, IfOk, IfSome, length, None, map, unwrap_or, is_some};
+ghost use Rattle.std.specs.Option.{ForSome};
+ghost use Rattle.bites_spec.specs.Counts.{fit_of};
+ghost use Rattle.bites_spec.specs.Regex.{IsCompiled};
+ghost use Rattle.bites_spec.specs.Captured.{excerpt};
+ghost use Rattle.bites_spec.specs.Iteration.{spans_in};
+ghost use Rattle.bites_bytes.specs.Room.{IsSlotCount};
+
+use crate::bytes::cache::ends_in;
+use crate::bytes::{Cache, Match, Regex};
+use std::alloc::AllocError;
+use std::iter::FusedIterator;
+
+/// The successive matches of a regex in a haystack, from left to right.
+///
+/// Each search goes on where the match before ended; an empty match there is dropped, and the search goes on one
+/// character later. No search takes memory.
+#[derive(Drop)]
+pub struct Matches<'r, 'h> {
+    regex: &'r Regex,
+    cache: Cache,
+    haystack: &'h [u8],
+    // Where the match before ended, if there was one.
+    last: Option<usize>,
+    pub ghost fits: { cache.fits ≡ fit_of regex.now.program },
+    pub ghost within: { ForSome last (λ e. e ≤ length haystack.now) },
+}
+
+impl<'r, 'h> Matches<'r, 'h> {
+    ghost use Rattle.std.specs.Iterator.{YieldsFirstBy};
+    ghost use Rattle.bites_bytes.specs.Matched.{excerpt_of};
+    ghost use Rattle.bites_bytes.specs.Matches.{Advances, Moves, IsSameSearch, matches_left, regex_of_matches, haystack_of_matches, last_of_matches};
+
+    pub(super) fn new(regex: &'r Regex, haystack: &'h [u8]) -> Result<Matches<'r, 'h>, AllocError>
+        ensures regex { IfOk result (λ m. regex_of_matches m ≡ regex.now) }
+        ensures haystack { IfOk result (λ m. haystack_of_matches m ≡ haystack.now) }
+        ensures last { IfOk result (λ m. last_of_matches m ≡ None) }
+    {
+        Ok(Matches {
+            regex,
+            cache: regex.cache()?,
+            haystack,
+            last: None,
+        })
+    }
+
+    pub(super) fn regex(&self) -> &'r Regex
+        ensures { result.now ≡ regex_of_matches self.now }
+    {
+        self.regex
+    }
+
+    pub(super) fn haystack(&self) -> &'h [u8]
+        ensures { result.now ≡ haystack_of_matches self.now }
+    {
+        self.haystack
+    }
+
+    // Whether there was a match.
+    pub(super) fn has_begun(&self) -> bool
+        ensures { result ≡ is_some (last_of_matches self.now) }
+    {
+        self.last.is_some()
+    }
+
+    // Where the match before ended, or where the haystack begins.
+    pub(super) fn end_of_last(&self) -> usize
+        ensures last { result ≡ unwrap_or (last_of_matches self.now) 0 }
+        ensures within { result ≤ length (haystack_of_matches self.now) }
+    {
+        self.last.unwrap_or(0)
+    }
+
+    // The next match; the slots that are given have the front of its slots then.
+    pub(super) fn advance(&mut self, slots: &mut [Option<usize>]) -> Option<Match<'h>>
+        requires slots { IsSlotCount (regex_of_matches self.old).program (length slots.old) }
+        requires whole { 2 ≤ length slots.old }
+        ensures steps { Advances self.old result self.new (length slots.old) slots.new }
+        ensures same { IsSameSearch self.old self.new }
+        ensures compiled { IsCompiled (regex_of_matches self.old) }
+    {
+        if !self
+            .cache
+            .due(self.regex.compiled(), self.haystack, self.last, slots)
+        {
+            return None;
+        }
+        match ends_in(slots) {
+            Some((start, end)) => {
+                self.last = Some(end);
+                Some(Match::new(self.haystack, start, end))
+            }
+            None => None,
+        }
+    }
+
+    // The next match.
+    pub(super) fn step(&mut self) -> Option<Match<'h>>
+        ensures steps { YieldsFirstBy excerpt_of matches_left self.old result self.new }
+        ensures moves { Moves self.old result self.new }
+        ensures same { IsSameSearch self.old self.new }
+    {
+        let mut slots = [None; 2];
+        self.advance(&mut slots)
+    }
+}
+
+impl<'r, 'h> Iterator for Matches<'r, 'h> {
+    ghost use Rattle.std.specs.Iterator.{at_most, Count, UpTo, YieldsFirstBy, item_count};
+    ghost use Rattle.std.specs.Iterator.SizeHint.{IsWithinCount};
+    ghost use Rattle.bites_bytes.specs.Matched.{excerpt_of};
+    ghost use Rattle.bites_bytes.specs.Matches.{matches_left};
+
+    type Item = Match<'h>;
+
+    ghost next_gives = { YieldsFirstBy excerpt_of matches_left };
+
+    ghost remaining = { item_count matches_left };
+
+    fn next(&mut self) -> Option<Match<'h>> {
+        self.step()
+    }
+
+    fn size_hint(&self) -> (usize, Option<usize>)
+        ensures lower { IsWithinCount result.0 (item_count matches_left self.now) }
+        ensures upper { IfSome result.1 (UpTo (item_count matches_left self.now)) }
+        ensures value { result ≡ (0, None) }
+    {
+        (0, None)
+    }
+}
+
+impl<'r, 'h> FusedIterator for Matches<'r, 'h> {}
+
+impl Regex {
+    ghost use Rattle.bites_bytes.specs.Matches.{matches_left};
+
+    /// The successive matches in the haystack. The error is want of memory for the room that searches take; the iterator
+    /// takes none.
+    pub fn find_iter<'r, 'h>(&'r self, haystack: &'h [u8]) -> Result<Matches<'r, 'h>, AllocError>
+        ensures { IfOk result (λ m. matches_left m
+            ≡ map (excerpt haystack.now) (spans_in self.now haystack.now)) }
+    {
+        Matches::new(self, haystack)
+    }
+}

@@ -1,0 +1,228 @@
+//! Haystacks with their matches replaced.
+
+ghost use Rattle.std.specs.Prelude.{◌≡◌, ◌↔◌, ◌++◌, [], List, ℕ, ◌≤◌, None, IfOk, OnOk, OnErr, drop, length};
+ghost use Rattle.std.specs.Cow.{cow_slice_items, IsBorrowedSlice};
+ghost use Rattle.bites_spec.specs.Iteration.{captures_in};
+ghost use Rattle.bites_bytes.specs.Matches.{regex_of_matches, last_of_matches};
+ghost use Rattle.bites_bytes.specs.Replaced.{ReplacesIn, GivesUpIn};
+ghost use Rattle.bites_bytes.specs.Limit.{Spends, bound};
+
+use crate::bytes::{CaptureLocations, Captures, Matches, Regex, Replacer};
+use std::alloc::AllocError;
+use std::borrow::CowSlice;
+
+// A haystack whose matches are being replaced, from left to right.
+#[derive(Drop)]
+struct Replacing<'r, 'h> {
+    matches: Matches<'r, 'h>,
+    // How many matches may still be replaced; None for all.
+    left: Option<usize>,
+    // The haystack up to the end of the last match that was replaced, with the new texts.
+    out: Vec<u8>,
+    ghost fresh: { last_of_matches matches ≡ None → out.items ≡ [] },
+}
+
+impl<'r, 'h> Replacing<'r, 'h> {
+    ghost use Rattle.bites_bytes.specs.Matches.{haystack_of_matches};
+    ghost use Rattle.bites_bytes.specs.Replacing.{hay_of, begin_of, StepsByText, EndsByText, StepsBy, EndsBy, GoesOnRefused, captures_to_replace};
+    ghost use Rattle.bites_spec.specs.Refused.{GaveFront};
+
+    // Nothing is replaced yet; at most so many matches may be, or all for 0.
+    fn new(
+        regex: &'r Regex,
+        haystack: &'h [u8],
+        limit: usize,
+    ) -> Result<Replacing<'r, 'h>, AllocError>
+        ensures regex { IfOk result (λ s. regex_of_matches s.matches ≡ regex.now) }
+        ensures haystack { IfOk result (λ s. haystack_of_matches s.matches ≡ haystack.now) }
+        ensures last { IfOk result (λ s. last_of_matches s.matches ≡ None) }
+        ensures left { IfOk result (λ s. s.left ≡ bound limit) }
+        ensures out { IfOk result (λ s. s.out.items ≡ []) }
+    {
+        let left = if limit == 0 { None } else { Some(limit) };
+        Ok(Replacing {
+            matches: Matches::new(regex, haystack)?,
+            left,
+            out: Vec::new(regex.alloc()),
+        })
+    }
+
+    // Replaces the next match by the text, if one more is to be replaced.
+    fn step_by_text(&mut self, text: &[u8]) -> Result<bool, AllocError>
+        ensures { IfOk result (λ there. StepsByText text.now self.old there self.new) }
+    {
+        if !spend(&mut self.left) {
+            return Ok(false);
+        }
+        let haystack = self.matches.haystack();
+        let begin = self.matches.end_of_last();
+        let Some(found) = self.matches.step() else {
+            return Ok(false);
+        };
+        self.out.extend_from_slice(&haystack[begin..found.start()])?;
+        self.out.extend_from_slice(text)?;
+        Ok(true)
+    }
+
+    // Replaces each match by the text.
+    fn by_text(&mut self, text: &[u8]) -> Result<(), AllocError>
+        ensures { OnOk result (EndsByText text.now self.old self.new) }
+    {
+        while self.step_by_text(text)? {}
+        Ok(())
+    }
+
+    // Replaces the next match by what the replacer gives, if one more is to be replaced.
+    fn step_by<R: Replacer>(
+        &mut self,
+        locations: &mut CaptureLocations,
+        replacer: &mut R,
+    ) -> Result<bool, AllocError>
+        requires callable { (state : R) → R.can_replace state }
+        requires fits { length locations.old ≡ (regex_of_matches self.old.matches).program.slots }
+        requires whole { 2 ≤ length locations.old }
+        ensures steps { IfOk result (λ there.
+            StepsBy R.replaces R.answers self.old replacer.old there self.new replacer.new) }
+        ensures refused { OnErr result (GaveFront R.replaces R.answers R.refuses replacer.old
+            (captures_to_replace self.old) replacer.new) }
+        ensures len { length locations.new ≡ length locations.old }
+    {
+        if !spend(&mut self.left) {
+            return Ok(false);
+        }
+        let haystack = self.matches.haystack();
+        let begin = self.matches.end_of_last();
+        let Some(found) = locations.advance(&mut self.matches) else {
+            return Ok(false);
+        };
+        self.out.extend_from_slice(&haystack[begin..found.start()])?;
+        let captures = Captures::of(self.matches.regex(), haystack, locations)?;
+        replacer.replace_append(&captures, &mut self.out)?;
+        Ok(true)
+    }
+
+    // Replaces each match by what the replacer gives.
+    fn by<R: Replacer>(
+        &mut self,
+        locations: &mut CaptureLocations,
+        replacer: &mut R,
+    ) -> Result<(), AllocError>
+        requires callable { (state : R) → R.can_replace state }
+        requires fits { length locations.old ≡ (regex_of_matches self.old.matches).program.slots }
+        requires whole { 2 ≤ length locations.old }
+        ensures ends { OnOk result (EndsBy R.replaces R.answers self.old replacer.old self.new replacer.new) }
+        ensures served { OnOk result (GaveFront R.replaces R.answers R.refuses replacer.old
+            (captures_to_replace self.old) replacer.new) }
+        ensures refused { OnErr result (GaveFront R.replaces R.answers R.refuses replacer.old
+            (captures_to_replace self.old) replacer.new) }
+    {
+        while self.step_by(locations, replacer)? {}
+        Ok(())
+    }
+
+    // What is written, with the rest of the haystack; where nothing was replaced, the haystack as it is.
+    fn finish(self) -> Result<CowSlice<'h, u8>, AllocError>
+        ensures bytes { IfOk result (λ r. cow_slice_items r
+            ≡ self.entry.out.items ++ drop (begin_of self.entry) (hay_of self.entry)) }
+        ensures borrowed { IfOk result (λ r. IsBorrowedSlice r ↔ last_of_matches self.entry.matches ≡ None) }
+    {
+        let haystack = self.matches.haystack();
+        if !self.matches.has_begun() {
+            return Ok(CowSlice::Borrowed(haystack));
+        }
+        let mut out = self.out;
+        out.extend_from_slice(&haystack[self.matches.end_of_last()..])?;
+        Ok(CowSlice::Owned(out))
+    }
+}
+
+impl Regex {
+    // The haystack with at most `limit` matches replaced, or all for 0.
+    fn replace_by<'h, R: Replacer>(
+        &self,
+        haystack: &'h [u8],
+        limit: usize,
+        replacer: &mut R,
+    ) -> Result<CowSlice<'h, u8>, AllocError>
+        requires { (state : R) → R.can_replace state }
+        ensures replaces { IfOk result (λ bytes. ReplacesIn R.replaces R.answers
+            self.now haystack.now limit replacer.old (cow_slice_items bytes) replacer.new) }
+        ensures refused { OnErr result (GivesUpIn R.replaces R.answers R.refuses
+            self.now haystack.now limit replacer.old replacer.new) }
+        ensures borrowed { IfOk result (λ bytes. IsBorrowedSlice bytes ↔ captures_in self.now haystack.now ≡ []) }
+    {
+        let slots = self.program().slots();
+        let mut replacing = Replacing::new(self, haystack, limit)?;
+        if let Some(text) = replacer.no_expansion() {
+            replacing.by_text(text)?;
+            return replacing.finish();
+        }
+        let mut locations = CaptureLocations::new(self.alloc(), slots)?;
+        replacing.by(&mut locations, replacer)?;
+        replacing.finish()
+    }
+
+    /// The haystack with its first match replaced. The error is want of memory.
+    ///
+    /// It is borrowed exactly if nothing matches.
+    pub fn replace<'h, R: Replacer + Drop>(
+        &self,
+        haystack: &'h [u8],
+        replacer: R,
+    ) -> Result<CowSlice<'h, u8>, AllocError>
+        requires { (state : R) → R.can_replace state }
+        ensures replaces { IfOk result (λ bytes. (end : R) × ReplacesIn R.replaces R.answers
+            self.now haystack.now 1 replacer (cow_slice_items bytes) end) }
+        ensures borrowed { IfOk result (λ bytes. IsBorrowedSlice bytes ↔ captures_in self.now haystack.now ≡ []) }
+    {
+        self.replacen(haystack, 1, replacer)
+    }
+
+    /// The haystack with all its matches replaced. The error is want of memory.
+    ///
+    /// It is borrowed exactly if nothing matches.
+    pub fn replace_all<'h, R: Replacer + Drop>(
+        &self,
+        haystack: &'h [u8],
+        replacer: R,
+    ) -> Result<CowSlice<'h, u8>, AllocError>
+        requires { (state : R) → R.can_replace state }
+        ensures replaces { IfOk result (λ bytes. (end : R) × ReplacesIn R.replaces R.answers
+            self.now haystack.now 0 replacer (cow_slice_items bytes) end) }
+        ensures borrowed { IfOk result (λ bytes. IsBorrowedSlice bytes ↔ captures_in self.now haystack.now ≡ []) }
+    {
+        self.replacen(haystack, 0, replacer)
+    }
+
+    /// The haystack with its first `limit` matches replaced, or all of them for 0. The error is want of memory.
+    ///
+    /// The replacer is asked once for the same bytes for each match; where it has none, it gives what stands for the
+    /// groups of each match in turn. The haystack is borrowed exactly if nothing matches.
+    pub fn replacen<'h, R: Replacer + Drop>(
+        &self,
+        haystack: &'h [u8],
+        limit: usize,
+        mut replacer: R,
+    ) -> Result<CowSlice<'h, u8>, AllocError>
+        requires { (state : R) → R.can_replace state }
+        ensures replaces { IfOk result (λ bytes. (end : R) × ReplacesIn R.replaces R.answers
+            self.now haystack.now limit replacer (cow_slice_items bytes) end) }
+        ensures borrowed { IfOk result (λ bytes. IsBorrowedSlice bytes ↔ captures_in self.now haystack.now ≡ []) }
+    {
+        self.replace_by(haystack, limit, &mut replacer)
+    }
+}
+
+// Takes one from what is left, if there is one.
+fn spend(left: &mut Option<usize>) -> bool
+    ensures { Spends left.old result left.new }
+{
+    match *left {
+        None => true,
+        Some(0) => false,
+        Some(number) => {
+            *left = Some(number - 1);
+            true
+        }
+    }
+}

@@ -1,0 +1,163 @@
+//! The pieces of a haystack between its matches.
+
+ghost use Rattle.std.specs.Prelude.{◌≡◌, true, IfOk, IfSome, None};
+ghost use Rattle.bites_spec.specs.Iteration.{pieces_in, pieces_up_to};
+
+use crate::bytes::{Matches, Regex};
+use std::alloc::AllocError;
+use std::iter::FusedIterator;
+
+/// The pieces of a haystack between the successive matches of a regex: one more than there are matches.
+#[derive(Drop)]
+pub struct Split<'r, 'h> {
+    matches: Matches<'r, 'h>,
+    // Whether the last piece was handed out.
+    done: bool,
+}
+
+impl<'r, 'h> Split<'r, 'h> {
+    ghost use Rattle.std.specs.Iterator.{YieldsFirstBy};
+    ghost use Rattle.bites_bytes.specs.Split.{StepsOn, pieces_by, bytes_at};
+    ghost use Rattle.std.specs.Prelude.{[]};
+
+    // The next piece.
+    fn step(&mut self) -> Option<&'h [u8]>
+        ensures { StepsOn self.old result self.new }
+    {
+        if self.done {
+            return None;
+        }
+        let haystack = self.matches.haystack();
+        let begin = self.matches.end_of_last();
+        match self.matches.step() {
+            Some(found) => Some(&haystack[begin..found.start()]),
+            None => {
+                self.done = true;
+                Some(&haystack[begin..haystack.len()])
+            }
+        }
+    }
+
+    // The rest of the haystack as the last piece.
+    fn rest(&mut self) -> Option<&'h [u8]>
+        ensures steps { YieldsFirstBy bytes_at (λ s. pieces_by s []) self.old result self.new }
+        ensures done { self.new.done ≡ true }
+    {
+        if self.done {
+            return None;
+        }
+        self.done = true;
+        let haystack = self.matches.haystack();
+        Some(&haystack[self.matches.end_of_last()..haystack.len()])
+    }
+}
+
+impl<'r, 'h> Iterator for Split<'r, 'h> {
+    ghost use Rattle.std.specs.Iterator.{at_most, Count, UpTo, YieldsFirstBy, item_count};
+    ghost use Rattle.std.specs.Iterator.SizeHint.{IsWithinCount};
+    ghost use Rattle.bites_bytes.specs.Split.{pieces_left, bytes_at};
+
+    type Item = &'h [u8];
+
+    ghost next_gives = { YieldsFirstBy bytes_at pieces_left };
+
+    ghost remaining = { item_count pieces_left };
+
+    fn next(&mut self) -> Option<&'h [u8]> {
+        self.step()
+    }
+
+    fn size_hint(&self) -> (usize, Option<usize>)
+        ensures lower { IsWithinCount result.0 (item_count pieces_left self.now) }
+        ensures upper { IfSome result.1 (UpTo (item_count pieces_left self.now)) }
+        ensures value { result ≡ (0, None) }
+    {
+        (0, None)
+    }
+}
+
+impl<'r, 'h> FusedIterator for Split<'r, 'h> {}
+
+/// At most so many pieces of a haystack: the last of them has the whole rest.
+#[derive(Drop)]
+pub struct SplitN<'r, 'h> {
+    split: Split<'r, 'h>,
+    // How many pieces may still come.
+    left: usize,
+}
+
+impl<'r, 'h> SplitN<'r, 'h> {
+    ghost use Rattle.std.specs.Iterator.{YieldsFirstBy};
+    ghost use Rattle.bites_bytes.specs.Split.{limited_left, bytes_at};
+
+    // The next piece: the rest, if no more may come behind it.
+    fn step(&mut self) -> Option<&'h [u8]>
+        ensures { YieldsFirstBy bytes_at limited_left self.old result self.new }
+    {
+        if self.left == 0 {
+            return None;
+        }
+        self.left -= 1;
+        if self.left == 0 {
+            self.split.rest()
+        } else {
+            self.split.step()
+        }
+    }
+}
+
+impl<'r, 'h> Iterator for SplitN<'r, 'h> {
+    ghost use Rattle.std.specs.Iterator.{at_most, Count, UpTo, YieldsFirstBy, item_count};
+    ghost use Rattle.std.specs.Iterator.SizeHint.{IsWithinCount};
+    ghost use Rattle.bites_bytes.specs.Split.{limited_left, bytes_at};
+
+    type Item = &'h [u8];
+
+    ghost next_gives = { YieldsFirstBy bytes_at limited_left };
+
+    ghost remaining = { item_count limited_left };
+
+    fn next(&mut self) -> Option<&'h [u8]> {
+        self.step()
+    }
+
+    fn size_hint(&self) -> (usize, Option<usize>)
+        ensures lower { IsWithinCount result.0 (item_count limited_left self.now) }
+        ensures upper { IfSome result.1 (UpTo (item_count limited_left self.now)) }
+        ensures value { result ≡ (0, None) }
+    {
+        (0, None)
+    }
+}
+
+impl<'r, 'h> FusedIterator for SplitN<'r, 'h> {}
+
+impl Regex {
+    ghost use Rattle.bites_bytes.specs.Split.{pieces_left, limited_left};
+
+    /// The pieces between the matches. The error is want of memory for the room that searches take.
+    pub fn split<'r, 'h>(&'r self, haystack: &'h [u8]) -> Result<Split<'r, 'h>, AllocError>
+        ensures { IfOk result (λ s. pieces_left s ≡ pieces_in self.now haystack.now) }
+    {
+        Ok(Split {
+            matches: Matches::new(self, haystack)?,
+            done: false,
+        })
+    }
+
+    /// At most `limit` pieces: the first ones, and then the whole rest. The error is want of memory for the room that
+    /// searches take.
+    pub fn splitn<'r, 'h>(
+        &'r self,
+        haystack: &'h [u8],
+        limit: usize,
+    ) -> Result<SplitN<'r, 'h>, AllocError>
+        ensures { IfOk result (λ s. limited_left s ≡ pieces_up_to self.now haystack.now limit) }
+    {
+        let split = Split {
+            matches: Matches::new(self, haystack)?,
+            done: false,
+        };
+        Ok(SplitN { split, left: limit })
+    }
+}

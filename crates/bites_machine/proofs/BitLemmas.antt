@@ -1,0 +1,80 @@
+-- Tables of bits.
+use Rattle.std.proofs.Common.{◌≡◌, ℕ, suc, ◌+◌, ◌-◌, ◌*◌, ◌/◌, ◌%◌, ◌^◌, ◌<◌, ◌≤◌, Bool, true, false, ◌||◌, min, List, [], ◌∷◌, refl, sym, ap, ap₂, ◌∙◌, arith, ⊎_elim, slice_index, bit_and, bit_or}
+use Rattle.std.specs.Prelude.{◌==◌}
+use Rattle.std.specs.Int.{bit_at}
+use Rattle.std.proofs.lemmas.Bool.{cases_lt}
+use Rattle.std.proofs.lemmas.Bool.Decides.{nat_tests}
+use Rattle.std.proofs.lemmas.Nat.{div-add-mod'}
+use Rattle.std.proofs.lemmas.Nat.Bits.{bit_at_and, bit_at_or, bit_at-lt, bit_at_mask_inside, bit_at_mask_below, bit_at_ones, bit_at_ones_above, bit_at_cat_high, ones_shr, ones_shl}
+use Rattle.bites_spec.specs.Range.{in_range}
+use Rattle.bites_machine.specs.Bits.{has_bit}
+
+-- a bit is set where it is set in one of both
+pub has_bit-or : (a b c : ℕ) → has_bit (bit_or a b) c ≡ (has_bit a c || has_bit b c)
+has_bit-or a b c =
+    let either = bit_at_or a b c in
+    let first = bit_at-lt a c in
+    let second = bit_at-lt b c in
+    grind (arith, nat_tests)
+
+-- the ones from `low` up to `high`
+pub has_bit-within : (w low high c : ℕ) → low ≤ high → high < w →
+    has_bit (bit_and ((2 ^ w - 1) * 2 ^ low % 2 ^ w) ((2 ^ w - 1) / 2 ^ (w - suc high))) c ≡ in_range (low, high) c
+has_bit-within w low high c le lt =
+    ap (λ x. x == 1) (bit_at_and ((2 ^ w - 1) * 2 ^ low % 2 ^ w) ((2 ^ w - 1) / 2 ^ (w - suc high)) c)
+    ∙ ap₂ (λ x y. min (bit_at x c) (bit_at y c) == 1) (ones_shl w low (omega arith)) (ones_shr w (w - suc high) (omega arith) ∙ ap (λ k. 2 ^ k - 1) back)
+    ∙ both
+  where
+    back : w - (w - suc high) ≡ suc high
+    back = omega arith
+
+    both : (min (bit_at (2 ^ w - 2 ^ low) c) (bit_at (2 ^ suc high - 1) c) == 1) ≡ in_range (low, high) c
+    both =
+        ⊎_elim
+        (λ (less : c < low). let none = bit_at_mask_below low w c less in grind (arith, nat_tests))
+        (λ (from : low ≤ c).
+        ⊎_elim
+        (λ (above : high < c). let none = bit_at_ones_above (suc high) c above in grind (arith, nat_tests))
+        (λ (to : c ≤ high).
+        let one = bit_at_mask_inside low w c from (omega arith) in
+        let two = bit_at_ones (suc high) c (omega arith) in
+        grind (arith, nat_tests))
+        (cases_lt high c))
+        (cases_lt c low)
+
+-- what lies in a range below a bound lies in the range up to the bound
+pub in_range-min : (low high most c : ℕ) → c ≤ most → in_range (low, min high most) c ≡ in_range (low, high) c
+in_range-min low high most c le = grind (arith, nat_tests)
+
+or_three : (a b c : Bool) → (a || (b || c)) ≡ ((a || b) || c)
+or_three true b c = refl
+or_three false b c = refl
+
+-- the bits of one more range
+pub has_bit-more : (bits more c : ℕ) (own rest all : Bool) → all ≡ (has_bit bits c || (own || rest)) → has_bit more c ≡ own → all ≡ (has_bit (bit_or bits more) c || rest)
+has_bit-more bits more c own rest all e f =
+    e ∙ or_three (has_bit bits c) own rest ∙ ap (λ b. (has_bit bits c || b) || rest) (sym f) ∙ ap (λ b. b || rest) (sym (has_bit-or bits more c))
+
+-- the bits below 64 of a number, and those from 64 on
+pub has_bit-words : (bits c : ℕ) → c < 128 → has_bit (slice_index (bit_and bits 18446744073709551615 ∷ bits / 18446744073709551616 ∷ []) (c / 64)) (c % 64) ≡ has_bit bits c
+has_bit-words bits c lt = ⊎_elim low high (cases_lt c 64)
+  where
+    words : List ℕ
+    words = bit_and bits 18446744073709551615 ∷ bits / 18446744073709551616 ∷ []
+
+    low : c < 64 → has_bit (slice_index words (c / 64)) (c % 64) ≡ has_bit bits c
+    low less =
+        let e : c / 64 ≡ 0 = omega arith in
+        let f : c % 64 ≡ c = omega arith in
+        let g = bit_at_and bits 18446744073709551615 c in
+        let h : bit_at 18446744073709551615 c ≡ 1 = bit_at_ones 64 c less in
+        let k = bit_at-lt bits c in
+        let j : min (bit_at bits c) (bit_at 18446744073709551615 c) ≡ bit_at bits c = omega arith in
+        ap₂ (λ n m. has_bit (slice_index words n) m) e f ∙ ap (λ x. x == 1) (g ∙ j)
+
+    high : 64 ≤ c → has_bit (slice_index words (c / 64)) (c % 64) ≡ has_bit bits c
+    high from =
+        let e : c / 64 ≡ 1 = omega arith in
+        let f : c % 64 ≡ c - 64 = omega arith in
+        let g : bit_at (bits / 2 ^ 64 * 2 ^ 64 + bits % 2 ^ 64) c ≡ bit_at (bits / 2 ^ 64) (c - 64) = bit_at_cat_high (bits / 2 ^ 64) 64 (bits % 2 ^ 64) c (omega arith) from in
+        ap₂ (λ n m. has_bit (slice_index words n) m) e f ∙ ap (λ x. x == 1) (sym g ∙ ap (λ n. bit_at n c) (div-add-mod' bits (2 ^ 64)))

@@ -1,0 +1,65 @@
+-- Cells that are copied within a list.
+use Rattle.std.proofs.Common.{◌≡◌, ◌≢◌, ℕ, zero, suc, ◌+◌, ◌-◌, ◌*◌, ◌<◌, ◌≤◌, ◌⊎◌, ⊎_elim, Bool, true, false, List, [], ◌∷◌, ◌++◌, take, drop, length, Option, Some, None, refl, sym, ap, ap₂, ◌∙◌, subst, arith, append_assoc, length-append, length-take, length-drop}
+use Rattle.std.specs.Prelude.{slice_set, slice_index_or}
+use Rattle.std.proofs.lemmas.List.{get_or-drop, get_or-take, get_or_append_left, get_or-append_right, length-take-le, places, drop_at, take_at, take_all}
+use Rattle.std.proofs.lemmas.List.Edits.{paste_more}
+use lib.Seq.{paste}
+
+abbrev Cells : Type 0
+Cells = List (Option ℕ)
+
+-- a cell before those that were written
+read_below : (d s : Cells) (to k i : ℕ) → i < to → to ≤ length d → slice_index_or (paste d to s k) i None ≡ slice_index_or d i None
+read_below d s to k i below room = grind (arith, places)
+
+-- a cell behind those that were written
+read_above : (d s : Cells) (to k i : ℕ) → to + k ≤ i → to + k ≤ length d → k ≤ length s → slice_index_or (paste d to s k) i None ≡ slice_index_or d i None
+read_above d s to k i above room enough = grind (arith, places)
+
+-- one cell more is copied, from a part that does not meet the one that is written
+pub copied_more : (d xs : Cells) (from to w k : ℕ) → from + w ≤ length d → to + w ≤ length d → (from + w ≤ to) ⊎ (to + w ≤ from) → k < w →
+    xs ≡ paste d to (drop from d) k → slice_set xs (to + k) (slice_index_or xs (from + k) None) ≡ paste d to (drop from d) (k + 1)
+copied_more d xs from to w k source target apart lt is =
+    let len : k < length (drop from d) = omega (arith, length-drop from d) in
+    let same : slice_index_or (paste d to (drop from d) k) (from + k) None ≡ slice_index_or d (from + k) None =
+    ⊎_elim (λ (a : from + w ≤ to). read_below d (drop from d) to k (from + k) (omega arith) (omega arith))
+    (λ (b : to + w ≤ from). read_above d (drop from d) to k (from + k) (omega arith) (omega arith) (omega arith)) apart in
+    ap (λ ys. slice_set ys (to + k) (slice_index_or ys (from + k) None)) is
+    ∙ ap (λ v. slice_set (paste d to (drop from d) k) (to + k) v) (same ∙ sym (get_or-drop from d k None))
+    ∙ paste_more d to (drop from d) k None (omega arith) len
+
+module _ (d : Cells) (from to w : ℕ) (source : from + w ≤ length d) (target : to + w ≤ length d) where
+  front : Cells
+  front = take to d
+
+  copied : Cells
+  copied = take w (drop from d)
+
+  behind : Cells
+  behind = drop (to + w) d
+
+  length-front : length (take to d) ≡ to
+  length-front = length-take-le to d (omega arith)
+
+  length-copied : length (take w (drop from d)) ≡ w
+  length-copied = length-take-le w (drop from d) (omega (arith, length-drop from d))
+
+  parts : paste d to (drop from d) w ≡ take to d ++ (take w (drop from d) ++ drop (to + w) d)
+  parts = append_assoc (take to d) (take w (drop from d)) (drop (to + w) d)
+
+  -- the part that was copied
+  pub copied_part : take w (drop to (paste d to (drop from d) w)) ≡ take w (drop from d)
+  copied_part =
+      ap (λ xs. take w (drop to xs)) parts
+      ∙ ap (take w) (drop_at (take to d) (take w (drop from d) ++ drop (to + w) d) to length-front)
+      ∙ take_at (take w (drop from d)) (drop (to + w) d) w length-copied
+
+  -- the part is written anew
+  pub part_anew : (zs : Cells) → length zs ≡ w → paste (paste d to (drop from d) w) to zs w ≡ take to d ++ (zs ++ drop (to + w) d)
+  part_anew zs len =
+      let whole : length (take to d ++ take w (drop from d)) ≡ to + w = omega (arith, length-append (take to d) (take w (drop from d)), length-front, length-copied) in
+      ap₂ (λ (xs ys : Cells). xs ++ take w zs ++ ys)
+      (ap (take to) parts ∙ take_at (take to d) (take w (drop from d) ++ drop (to + w) d) to length-front)
+      (drop_at (take to d ++ take w (drop from d)) (drop (to + w) d) (to + w) whole)
+      ∙ append_assoc (take to d) (take w zs) (drop (to + w) d)
+      ∙ ap (λ xs. take to d ++ (xs ++ drop (to + w) d)) (take_all w zs (omega (arith, len)))

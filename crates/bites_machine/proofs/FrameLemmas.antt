@@ -1,0 +1,17 @@
+-- Frames that wait on the stack of a walk.
+use Rattle.std.proofs.Common.{◌≡◌, ℕ, zero, suc, ◌≤◌, ◌<◌, Bool, true, false, List, [], ◌∷◌, drop, length, refl, sym, ◌∙◌, arith}
+use Rattle.std.proofs.lemmas.List.{length-reverse}
+use Rattle.bites_spec.specs.Program as program
+use Rattle.bites_spec.specs.Program.{targets_of}
+
+-- as many targets, in whichever order
+pub length-targets : (qs : List ℕ) (reverse : Bool) → length (targets_of (program.splits qs reverse)) ≡ length qs
+length-targets qs true = length-reverse qs
+length-targets qs false = refl
+
+-- all but the first, or none of none
+pub drop_first : (n : ℕ) (qs : List ℕ) → n ≤ 1 → (n ≡ 0 → length qs ≡ 0) → drop n qs ≡ drop 1 qs
+drop_first zero [] le none = refl
+drop_first zero (q ∷ qs) le none = absurd (omega (arith, none refl))
+drop_first (suc zero) qs le none = refl
+drop_first (suc (suc n)) qs le none = absurd (omega arith)

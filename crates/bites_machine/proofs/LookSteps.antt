@@ -1,0 +1,144 @@
+-- A look is a step of the machine on lists.
+use Rattle.std.proofs.Common.{◌≡◌, ◌≢◌, ℕ, zero, suc, ◌+◌, ◌*◌, ◌<◌, ◌≤◌, ⊎_elim, inl, inr, Bool, true, false, cond, List, [], ◌∷◌, ◌++◌, map, length, Option, Some, None, refl, sym, ap, ap₂, ◌∙◌, subst, arith}
+use Rattle.std.specs.Prelude.{◌==◌, option_to_list, slice_index_or, slice_set, if◌then◌else◌, sum}
+use Rattle.std.specs.List.{list_any}
+use Rattle.std.proofs.lemmas.List.{length-set}
+use Rattle.bites_spec.specs.Walks.{Among}
+use Rattle.bites_spec.specs.Program as program
+use Rattle.bites_spec.specs.Program.{Spot, at, targets_of, state_at, is_match}
+use Rattle.bites_spec.specs.Counts.{Record}
+use Rattle.bites_machine.specs.Machine as machine
+use Rattle.bites_machine.specs.Machine.{Walking, kept, visited, dropped, stepped}
+use Rattle.bites_machine.specs.Rows.{Pool}
+use Rattle.bites_machine.specs.Stack.{Frames}
+use Rattle.bites_machine.specs.Threads.{Listed}
+use Rattle.bites_machine.specs.Desk.{frame_of, hit_of, walking_of, users_of, next_of}
+use Rattle.bites_machine.specs.Visits.{AreNoted, IsStarted, VisitsTo, behind}
+use Rattle.bites_machine.specs.Looks.{seen_here, visited_before, edges_left, marked, IsReady, LooksTo}
+use Rattle.bites_machine.specs.declared.vm.threads.Thread.{Thread}
+use Rattle.bites_machine.specs.declared.vm.stack.Frame.{Frame}
+use Rattle.bites_machine.specs.declared.vm.walk.Hit.{Hit}
+use Rattle.bites_machine.specs.declared.vm.walk.Desk.{Desk}
+use Rattle.bites_machine.proofs.VisitLemmas.{noted_more}
+use Rattle.bites_machine.proofs.LookLemmas.{marked_more, edges_marked, seen_more, before_same, seen_marked}
+
+module _ (hay : List ℕ) (longest : Bool) (place : ℕ) where
+  -- a step at a state that was visited here
+  pub stepped_seen : (p : program.Program) (u : machine.Thread) (rest : List machine.Thread) (w : Walking) → list_any (λ q. q == u.state) w.seen ≡ true →
+      stepped hay longest p place (u ∷ rest) w ≡ dropped hay longest rest w
+  unfolding stepped
+  stepped_seen p u rest w e = ap (λ (b : Bool). cond b (dropped hay longest rest w) (visited hay longest place (state_at p.states u.state) u rest w)) e
+
+  -- a step at another state
+  pub stepped_new : (p : program.Program) (u : machine.Thread) (rest : List machine.Thread) (w : Walking) → list_any (λ q. q == u.state) w.seen ≡ false →
+      stepped hay longest p place (u ∷ rest) w ≡ visited hay longest place (state_at p.states u.state) u rest w
+  unfolding stepped
+  stepped_new p u rest w e = ap (λ (b : Bool). cond b (dropped hay longest rest w) (visited hay longest place (state_at p.states u.state) u rest w)) e
+
+  -- a look at a state that was visited here
+  pub looks_again : (states : List program.State) (t : Thread) (f : Frame) (was now : Record) (old : Desk) (m : List Bool) (s : Frames) (slots : List (Option ℕ)) (on : Option Frame) →
+      IsReady states place longest was old t (f ∷ old.stack.frames) (length slots) → slice_index_or old.marks f.state false ≡ true → m ≡ old.marks →
+      option_to_list on ++ s.frames ≡ old.stack.frames → s.room ≡ old.stack.room → now.visits ≡ was.visits → now.looks ≡ was.looks + 1 →
+      (on ≡ None → s.frames ≡ []) → LooksTo hay longest place states t f was now old (record { marks = m; stack = s; rows = old.rows; next = old.next; hit = old.hit }) slots slots on
+  looks_again states t f was now old m s slots on r is_marked same frames room visits looks gone = record {
+    ready = record {
+      marks = ap length same ∙ r.marks;
+      seen = λ q lt. ap (λ (ms : List Bool). slice_index_or ms q false) same ∙ r.seen q lt ∙ ap (λ (vs : List Spot). list_any (λ x. x == q) (seen_here place vs)) (sym visits);
+      before = λ v h. r.before v (subst (λ (vs : List Spot). Among (visited_before place vs) v) visits h);
+      known = λ g h. r.known g (inr (subst (λ (fs : List Frame). Among fs g) frames h));
+      notes = subst (λ (ms : List Bool). AreNoted old.rows (marked ms) (option_to_list on ++ s.frames)) (sym same)
+          (subst (AreNoted old.rows (marked old.marks)) (sym frames) (noted_more old.rows f.noted (marked old.marks) old.stack.frames r.notes.0 r.notes.2));
+      noted = r.noted;
+      stack = omega (arith, ap length frames, ap (edges_left states) same, r.stack, room);
+      next = omega (arith, r.next, ap marked same);
+      more = r.more;
+      sum = omega (arith, r.sum, ap marked same);
+      rows = r.rows;
+      width = r.width;
+      starts = r.starts;
+    };
+    users = λ others used. used;
+    kept = λ row h. refl;
+    room = room;
+    rows = refl;
+    len = refl;
+    stays = record { threads = λ row h. h; most = refl; none = λ e. (e, refl) };
+    gone = gone;
+    less = omega (arith, ap length frames, ap (edges_left states) same);
+    before = ap (visited_before place) visits;
+    steps = λ p is others rest used keeps.
+        stepped_seen p (frame_of place old.rows t f) (map (frame_of place old.rows t) old.stack.frames ++ rest)
+        (walking_of place t old slots (f ∷ old.stack.frames) rest (seen_here place was.visits) was.looks) (sym (r.seen f.state (r.known f (inl refl))) ∙ is_marked)
+        ∙ ap₂ (λ (fs : List Frame) (rs : List machine.Thread). record { stack = map (frame_of place old.rows t) fs ++ rs; seen = seen_here place was.visits; next = next_of old; hit = hit_of old.hit slots; looks = suc was.looks })
+        (sym frames) (sym keeps)
+        ∙ ap₂ (λ (vs : List Spot) (n : ℕ). record { stack = map (frame_of place old.rows t) (option_to_list on ++ s.frames) ++ kept hay longest (hit_of old.hit slots) rest; seen = seen_here place vs; next = next_of old; hit = hit_of old.hit slots; looks = n })
+        (sym visits) (next_number was.looks ∙ sym looks);
+  }
+    where
+      next_number : (n : ℕ) → suc n ≡ n + 1
+      next_number n = omega arith
+
+  -- what a visit keeps of the threads behind
+  behind_kept : (st : program.State) (b : Bool) (before after : Option machine.Thread) (rest : List machine.Thread) → is_match st ≡ b → (is_match st ≡ false → after ≡ before) →
+      kept hay longest before rest ≡ rest → behind hay longest st after rest ≡ kept hay longest after rest
+  behind_kept st true before after rest e same keeps = ap (λ (c : Bool). cond c (kept hay longest after rest) rest) e
+  behind_kept st false before after rest e same keeps =
+      ap (λ (c : Bool). cond c (kept hay longest after rest) rest) e ∙ sym keeps ∙ ap (λ (h : Option machine.Thread). kept hay longest h rest) (sym (same e))
+
+  -- a look at another state
+  pub looks_new : (states : List program.State) (t : Thread) (f : Frame) (was now : Record) (old : Desk) (m : List Bool) (mid : Desk) (s : Frames) (slots left : List (Option ℕ)) (first on : Option Frame) →
+      IsReady states place longest was old t (f ∷ old.stack.frames) (length slots) → slice_index_or old.marks f.state false ≡ false → m ≡ slice_set old.marks f.state true →
+      VisitsTo hay longest place (state_at states f.state) t f (record { marks = m; stack = old.stack; rows = old.rows; next = old.next; hit = old.hit }) mid slots left first →
+      option_to_list on ++ s.frames ≡ option_to_list first ++ mid.stack.frames → s.room ≡ mid.stack.room →
+      ((q : ℕ) → Among (targets_of (state_at states f.state)) q → q < length states) → now.visits ≡ at f.state place ∷ was.visits → now.looks ≡ was.looks + 1 →
+      (on ≡ None → s.frames ≡ []) → LooksTo hay longest place states t f was now old (record { marks = mid.marks; stack = s; rows = mid.rows; next = mid.next; hit = mid.hit }) slots left on
+  looks_new states t f was now old m mid s slots left first on r not_marked m_is v frames room targets visits looks gone =
+      let marks : mid.marks ≡ slice_set old.marks f.state true = v.marks ∙ m_is in
+      let state : f.state < length states = r.known f (inl refl) in
+      let within : f.state < length old.marks = omega (arith, state, r.marks) in
+      let more : marked mid.marks ≡ marked old.marks + 1 = ap marked marks ∙ marked_more old.marks f.state within not_marked in
+      let edges : edges_left states old.marks ≡ edges_left states mid.marks + length (targets_of (state_at states f.state)) =
+      edges_marked states old.marks f.state r.marks state not_marked ∙ ap (λ (ms : List Bool). edges_left states ms + length (targets_of (state_at states f.state))) (sym marks) in
+      let before : visited_before place now.visits ≡ visited_before place was.visits = ap (visited_before place) visits ∙ before_same f.state place was.visits in
+      record {
+        ready = record {
+          marks = ap length marks ∙ length-set old.marks f.state true ∙ r.marks;
+          seen = λ q lt. ap (λ (ms : List Bool). slice_index_or ms q false) marks ∙ seen_marked old.marks f.state q place was.visits within (r.seen q lt)
+              ∙ ap (λ (vs : List Spot). list_any (λ x. x == q) (seen_here place vs)) (sym visits);
+          before = λ w h. r.before w (subst (λ (vs : List Spot). Among vs w) before h);
+          known = λ g h. v.known (length states) targets (λ k l. r.known k (inr l)) g (subst (λ (fs : List Frame). Among fs g) frames h);
+          notes = subst (AreNoted mid.rows (marked mid.marks)) (sym frames)
+              (noted_more mid.rows (f.noted + 1) (marked mid.marks) (option_to_list first ++ mid.stack.frames) (omega (arith, more, r.notes.0)) v.notes);
+          noted = v.noted ∙ r.noted;
+          stack = omega (arith, ap length frames, v.frames, edges, r.stack, room, v.room);
+          next = omega (arith, v.next, r.next, more);
+          more = v.more ∙ r.more;
+          sum = omega (arith, v.sum, r.sum, more);
+          rows = omega (arith, r.rows, v.rows);
+          width = v.len ∙ r.width ∙ sym v.width;
+          starts = v.starts;
+        };
+        users = v.users;
+        kept = v.kept;
+        room = room ∙ v.room;
+        rows = v.rows;
+        len = v.len;
+        stays = record { threads = v.stays.threads; most = v.stays.most; none = v.stays.none };
+        gone = gone;
+        less = omega (arith, ap length frames, v.frames, edges);
+        before = before;
+        steps = λ p is others rest used keeps.
+            stepped_new p (frame_of place old.rows t f) (map (frame_of place old.rows t) old.stack.frames ++ rest)
+            (walking_of place t old slots (f ∷ old.stack.frames) rest (seen_here place was.visits) was.looks) (sym (r.seen f.state state) ∙ not_marked)
+            ∙ ap (λ (ss : List program.State). visited hay longest place (state_at ss f.state) (frame_of place old.rows t f) (map (frame_of place old.rows t) old.stack.frames ++ rest)
+            (walking_of place t old slots (f ∷ old.stack.frames) rest (seen_here place was.visits) was.looks)) is
+            ∙ v.moves others rest (seen_here place was.visits) was.looks used
+            ∙ ap₂ (λ (fs : List Frame) (rs : List machine.Thread). record { stack = map (frame_of place mid.rows t) fs ++ rs; seen = f.state ∷ seen_here place was.visits; next = next_of mid; hit = hit_of mid.hit left; looks = suc was.looks })
+            (sym frames)
+            (behind_kept (state_at states f.state) (is_match (state_at states f.state)) (hit_of old.hit slots) (hit_of mid.hit left) rest refl v.hits keeps)
+            ∙ ap₂ (λ (qs : List ℕ) (n : ℕ). record { stack = map (frame_of place mid.rows t) (option_to_list on ++ s.frames) ++ kept hay longest (hit_of mid.hit left) rest; seen = qs; next = next_of mid; hit = hit_of mid.hit left; looks = n })
+            (sym (ap (seen_here place) visits ∙ seen_more f.state place was.visits)) (next_number was.looks ∙ sym looks);
+      }
+    where
+      next_number : (n : ℕ) → suc n ≡ n + 1
+      next_number n = omega arith

@@ -1,0 +1,101 @@
+-- What a thread has in its slots at the end of a run is what the run writes.
+use Rattle.std.proofs.Common.{◌≡◌, ◌≢◌, ℕ, zero, suc, ◌+◌, ◌<◌, ◌≤◌, Bool, true, cond, List, [], ◌∷◌, ◌++◌, map, take, Option, Some, None, refl, sym, ap, ap₂, ◌∙◌, arith, append_assoc, eq-eqb, ne_eqb}
+use Rattle.std.specs.Prelude.{slice_set, replicate}
+use Rattle.std.specs.Option.{option_or}
+use Rattle.std.specs.List.{range_with_len}
+use Rattle.std.proofs.lemmas.List.{append-nil}
+use Rattle.std.proofs.lemmas.List.FromFn.{take-map-range_with_len}
+use Rattle.bites_spec.specs.Walks.{last_of}
+use Rattle.bites_spec.specs.Program.{State, Program, Spot, at, state_at, is_match, char, ranges, splits, goto, capture, fail, match}
+use Rattle.bites_spec.specs.Run.{Run, write_of, last_write, writes, matches, slots}
+use Rattle.bites_spec.proofs.SlotLemmas.{last_write-append}
+use Rattle.bites_machine.specs.Machine.{with_write}
+
+-- the slots from a on, after these writes
+abbrev pub row : List (ℕ × ℕ) → ℕ → ℕ → List (Option ℕ)
+row ws a n = map (last_write ws) (range_with_len a n)
+
+row_empty : (a n : ℕ) → replicate n None ≡ row [] a n
+row_empty a zero = refl
+row_empty a (suc n) = ap (λ (l : List (Option ℕ)). None ∷ l) (row_empty (a + 1) n)
+
+written_here : (ws : List (ℕ × ℕ)) (k i q : ℕ) → k ≡ q → last_write (ws ++ (k, i) ∷ []) q ≡ Some i
+written_here ws k i q e =
+    last_write-append ws ((k, i) ∷ []) q
+    ∙ ap (λ (b : Bool). option_or (option_or None (cond b (Some i) None)) (last_write ws q)) (eq-eqb k q e)
+
+written_elsewhere : (ws : List (ℕ × ℕ)) (k i q : ℕ) → k ≢ q → last_write (ws ++ (k, i) ∷ []) q ≡ last_write ws q
+written_elsewhere ws k i q apart =
+    last_write-append ws ((k, i) ∷ []) q
+    ∙ ap (λ (b : Bool). option_or (option_or None (cond b (Some i) None)) (last_write ws q)) (ne_eqb k q apart)
+
+-- a write to a slot before them
+row_below : (ws : List (ℕ × ℕ)) (k i a n : ℕ) → k < a → row (ws ++ (k, i) ∷ []) a n ≡ row ws a n
+row_below ws k i a zero lt = refl
+row_below ws k i a (suc n) lt = ap₂ ◌∷◌ (written_elsewhere ws k i a (omega arith)) (row_below ws k i (a + 1) n (omega arith))
+
+row_write : (ws : List (ℕ × ℕ)) (i a n k : ℕ) → slice_set (row ws a n) k (Some i) ≡ row (ws ++ (a + k, i) ∷ []) a n
+row_write ws i a zero k = refl
+row_write ws i a (suc n) zero =
+    ap₂ ◌∷◌ (sym (written_here ws (a + 0) i a (omega arith))) (sym (row_below ws (a + 0) i (a + 1) n (omega arith)))
+row_write ws i a (suc n) (suc k) =
+    ap₂ ◌∷◌ (sym (written_elsewhere ws (a + suc k) i a (omega arith)))
+    (row_write ws i (a + 1) n k ∙ ap (λ (m : ℕ). row (ws ++ (m, i) ∷ []) (a + 1) n) (next a k))
+  where
+    next : (a k : ℕ) → a + 1 + k ≡ a + suc k
+    next a k = omega arith
+
+one_write : (st : State) (i : ℕ) (ws : List (ℕ × ℕ)) (n : ℕ) → with_write st i (row ws 0 n) ≡ row (ws ++ write_of st i) 0 n
+one_write (capture q k) i ws n = row_write ws i 0 n k ∙ ap (λ (m : ℕ). row (ws ++ (m, i) ∷ []) 0 n) (from_zero k)
+  where
+    from_zero : (k : ℕ) → 0 + k ≡ k
+    from_zero k = omega arith
+one_write (char q c) i ws n = ap (λ (l : List (ℕ × ℕ)). row l 0 n) (sym (append-nil ws))
+one_write (ranges q rs) i ws n = ap (λ (l : List (ℕ × ℕ)). row l 0 n) (sym (append-nil ws))
+one_write (splits qs b) i ws n = ap (λ (l : List (ℕ × ℕ)). row l 0 n) (sym (append-nil ws))
+one_write (goto q look) i ws n = ap (λ (l : List (ℕ × ℕ)). row l 0 n) (sym (append-nil ws))
+one_write fail i ws n = ap (λ (l : List (ℕ × ℕ)). row l 0 n) (sym (append-nil ws))
+one_write match i ws n = ap (λ (l : List (ℕ × ℕ)). row l 0 n) (sym (append-nil ws))
+
+module _ (p : Program) where
+  abbrev write_at : Spot → List (ℕ × ℕ)
+  write_at s = write_of (state_at p.states s.state) s.place
+
+  -- the slots, with what the states of these spots write, one after the other
+  abbrev pub all_written : List (Option ℕ) → List Spot → List (Option ℕ)
+  all_written slots [] = slots
+  all_written slots (s ∷ r) = all_written (with_write (state_at p.states s.state) s.place slots) r
+
+  abbrev all_writes : List Spot → List (ℕ × ℕ)
+  all_writes [] = []
+  all_writes (s ∷ r) = write_at s ++ all_writes r
+
+  all_row : (ws : List (ℕ × ℕ)) (n : ℕ) (r : List Spot) → all_written (row ws 0 n) r ≡ row (ws ++ all_writes r) 0 n
+  all_row ws n [] = ap (λ (l : List (ℕ × ℕ)). row l 0 n) (sym (append-nil ws))
+  all_row ws n (s ∷ r) =
+      ap (λ (l : List (Option ℕ)). all_written l r) (one_write (state_at p.states s.state) s.place ws n)
+      ∙ all_row (ws ++ write_at s) n r
+      ∙ ap (λ (l : List (ℕ × ℕ)). row l 0 n) (append_assoc ws (write_at s) (all_writes r))
+
+  -- a match writes nothing
+  match_writes : (st : State) (i : ℕ) → is_match st ≡ true → write_of st i ≡ []
+  match_writes match i e = refl
+  match_writes (char q c) i e = refl
+  match_writes (ranges q rs) i e = refl
+  match_writes (splits qs b) i e = refl
+  match_writes (goto q look) i e = refl
+  match_writes (capture q k) i e = absurd (cc)
+  match_writes fail i e = refl
+
+  writes_all : (s : Spot) (r : List Spot) → matches p (last_of s r) ≡ true → all_writes (s ∷ r) ≡ writes p s r
+  writes_all s [] e = append-nil (write_at s) ∙ match_writes (state_at p.states s.state) s.place e
+  writes_all s (t ∷ r) e = ap (λ (l : List (ℕ × ℕ)). write_at s ++ l) (writes_all t r e)
+
+  -- from empty slots on, a run leaves the front of its slots
+  pub run_writes : (width : ℕ) (r : Run) → width ≤ p.slots → matches p (last_of (at p.start r.start) r.spots) ≡ true →
+      all_written (replicate width None) (at p.start r.start ∷ r.spots) ≡ take width (slots p r)
+  run_writes width r le e =
+      ap (λ (l : List (Option ℕ)). all_written l (at p.start r.start ∷ r.spots)) (row_empty 0 width)
+      ∙ all_row [] width (at p.start r.start ∷ r.spots)
+      ∙ ap (λ (ws : List (ℕ × ℕ)). row ws 0 width) (writes_all (at p.start r.start) r.spots e)
+      ∙ sym (take-map-range_with_len (last_write (writes p (at p.start r.start) r.spots)) 0 p.slots width le)

@@ -1,0 +1,198 @@
+-- A search that goes from place to place, and what it answers where it ends.
+use Rattle.std.proofs.Common.{◌≡◌, ◌≢◌, ℕ, zero, suc, ◌+◌, ◌*◌, ◌<◌, ◌≤◌, Bool, true, false, ◌||◌, ◌&&◌, cond, List, [], ◌∷◌, map, length, Option, Some, None, replicate, refl, sym, ap, ap₂, ◌∙◌, subst, arith, true≢false}
+use Rattle.std.specs.Prelude.{◌==◌, is_some, IfSome}
+use Rattle.bites_spec.specs.Utf8.{piece}
+use Rattle.bites_spec.specs.Walks.{Among}
+use Rattle.bites_spec.specs.Program as program
+use Rattle.bites_spec.specs.Program.{Program, Spot}
+use Rattle.bites_spec.specs.Counts.{Record, fit_of}
+use Rattle.bites_machine.specs.Machine as machine
+use Rattle.bites_machine.specs.Machine.{Searching, Searches, SearchedTo, at_start, is_over, is_empty}
+use Rattle.bites_machine.specs.Rows.{Pool}
+use Rattle.bites_machine.specs.Threads.{Listed}
+use Rattle.bites_machine.specs.Used.{IsUsed, slots_at}
+use Rattle.bites_machine.specs.Desk.{thread_of, row_of}
+use Rattle.bites_machine.specs.Sweep.{Sought, IsBetween, HasRoom, IsIdle, IsProgramOf, StandsFor, PlaceSearched}
+use Rattle.bites_machine.proofs.IdleLemmas.{used_by_none}
+use Rattle.bites_machine.specs.declared.vm.threads.Thread.{Thread}
+use Rattle.bites_machine.specs.declared.vm.walk.Desk.{Desk}
+
+-- whether a search is over behind a place, as the code tests it
+abbrev pub ends_by : Bool → ℕ → Bool → ℕ → Bool
+ends_by earliest len is_found threads = (len == 0) || (is_found && (earliest || (threads == 0)))
+
+-- a search that is not over has a piece before it
+pub some_piece : (earliest : Bool) (len : ℕ) (is_found : Bool) (threads : ℕ) → ends_by earliest len is_found threads ≡ false → 0 < len
+some_piece earliest zero is_found threads on = absurd (true≢false on)
+some_piece earliest (suc n) is_found threads on = omega arith
+
+-- where a search begins at a place, a run of the program starts
+pub start_of : (is_found : Bool) (begins : Option ℕ) (first start : ℕ) → begins ≡ cond is_found None (Some first) → start ≡ first →
+    IfSome begins (λ q. q ≡ start)
+start_of is_found begins first start is same =
+    subst (λ (o : Option ℕ). IfSome o (λ q. q ≡ start)) (sym is) (by_found is_found)
+  where
+    by_found : (b : Bool) → IfSome (cond b None (Some first)) (λ q. q ≡ start)
+    by_found true = tt
+    by_found false = sym same
+
+-- a program with room for its searches leaves a desk between two places
+pub between_first : (p : Program) (states : List program.State) (place : ℕ) (walked : Record) (desk : Desk) (list : Listed) (width : ℕ) →
+    p.states ≡ states → HasRoom (fit_of p) desk list → IsIdle desk list → walked.visits ≡ [] → width ≡ desk.rows.width →
+    slots_at desk.rows 0 ≡ replicate desk.rows.width None → length desk.rows.rows ≡ length desk.rows.counts →
+    IsBetween states place walked desk list width
+between_first p states place walked desk list width same room idle visits wide nothing even =
+    subst (λ (ss : List program.State). IsBetween ss place walked desk list width) same (record {
+      marks = room.marks;
+      visits = λ v h. absurd (subst (λ (vs : List Spot). Among vs v) visits h);
+      noted = room.noted;
+      stack = room.stack;
+      empty = room.empty;
+      more = room.next;
+      room = room.threads;
+      few = subst (λ (ts : List Thread). length ts ≤ length p.states) (sym idle.threads) (omega arith);
+      known = λ t h. absurd (subst (λ (ts : List Thread). Among ts t) idle.threads h);
+      used = subst (λ (ts : List Thread). IsUsed desk.rows (map row_of ts)) (sym idle.threads) (used_by_none desk.rows idle.free even nothing);
+      rows = room.rows;
+      wide = wide;
+    })
+
+-- a desk between two places is so at a later place too
+pub between_later : (states : List program.State) (place later : ℕ) (walked : Record) (desk : Desk) (list : Listed) (width : ℕ) →
+    place ≤ later → IsBetween states place walked desk list width → IsBetween states later walked desk list width
+between_later states place later walked desk list width le b = record {
+  marks = b.marks;
+  visits = λ v h. let lt = b.visits v h in omega arith;
+  noted = b.noted;
+  stack = b.stack;
+  empty = b.empty;
+  more = b.more;
+  room = b.room;
+  few = b.few;
+  known = b.known;
+  used = b.used;
+  rows = b.rows;
+  wide = b.wide;
+}
+
+-- between two places there is room for other searches of the program
+pub room_between : (p : Program) (states : List program.State) (place : ℕ) (walked : Record) (desk : Desk) (list : Listed) (width : ℕ) (rows : Pool) (empty : Listed) →
+    p.states ≡ states → IsBetween states place walked desk list width → p.slots ≤ rows.most → length rows.counts ≡ length desk.rows.counts →
+    rows.notes ≡ desk.rows.notes → empty.room ≡ list.room →
+    HasRoom (fit_of p) (record { marks = desk.marks; stack = desk.stack; rows = rows; next = desk.next; hit = desk.hit }) empty
+room_between p states place walked desk list width rows empty same between most counts notes room =
+    let b = subst (λ (ss : List program.State). IsBetween ss place walked desk list width) (sym same) between in
+    record {
+      marks = b.marks;
+      noted = ap length notes ∙ b.noted;
+      stack = b.stack;
+      empty = b.empty;
+      next = b.more;
+      threads = room ∙ b.room;
+      rows = subst (λ n. 2 * length p.states + 1 < n) (sym counts) b.rows;
+      most = most;
+    }
+
+module _ (p : Program) (hay : List ℕ) (longest earliest : Bool) (start : ℕ) (old : List (Option ℕ)) where
+  -- the machine on lists has gone on to this place
+  pub record GoneTo (place : ℕ) (is_found : Bool) (walked : Record) (pool : Pool) (threads : List Thread) (slots : List (Option ℕ)) : Type 0 where
+    pub places : ℕ
+    pub now : Searching
+    pub searched : SearchedTo hay longest p (length old) earliest start places now
+    pub stands : StandsFor now place pool threads walked old slots is_found
+
+  -- the place was searched, and whether the search is over is not known yet
+  pub record HasSearched (place : ℕ) (is_found : Bool) (walked : Record) (pool : Pool) (threads : List Thread) (slots : List (Option ℕ)) : Type 0 where
+    pub places : ℕ
+    pub before : Searching
+    pub now : Searching
+    pub searched : SearchedTo hay longest p (length old) earliest start places before
+    pub place_is : before.place ≡ place
+    pub last : Searches hay longest p (length old) before now
+    pub stands : StandsFor now (place + (piece hay place).len) pool threads walked old slots is_found
+
+  -- a search begins at its start
+  pub gone_first : (walked : Record) (pool : Pool) (threads : List Thread) → walked.visits ≡ [] → walked.looks ≡ 0 → threads ≡ [] →
+      GoneTo start false walked pool threads old
+  gone_first walked pool threads visits looks none = record {
+    places = 0;
+    now = at_start hay longest p (length old) start;
+    searched = refl;
+    stands = record {
+      place = refl;
+      threads = sym (ap (λ (ts : List Thread). map (thread_of pool) ts) none);
+      found = refl;
+      slots = refl;
+      visits = sym visits;
+      looks = sym looks;
+    };
+  }
+
+  -- one place more is searched
+  pub has_searched : (place here len first : ℕ) (text : List ℕ) (states : List program.State) (begins : Option ℕ) (is_found found : Bool) (was now : Record) (desk new : Desk) (threads later : List Thread) (slots left : List (Option ℕ)) →
+      text ≡ hay → here ≡ place → len ≡ (piece hay place).len → length slots ≡ length old → IsProgramOf p states first →
+      begins ≡ cond is_found None (Some first) → found ≡ (is_found || is_some new.hit) →
+      GoneTo place is_found was desk.rows threads slots → PlaceSearched text longest here len states begins was now desk new threads later slots left →
+      HasSearched place found now new.rows later left
+  has_searched place here len first text states begins is_found found was now desk new threads later slots left texts heres lens same is begun founds gone one =
+      let there : PlaceSearched hay longest place (piece hay place).len states begins was now desk new threads later slots left =
+      subst (λ (h : List ℕ). PlaceSearched h longest place (piece hay place).len states begins was now desk new threads later slots left) texts
+      (subst (λ i. PlaceSearched text longest i (piece hay place).len states begins was now desk new threads later slots left) heres
+      (subst (λ n. PlaceSearched text longest here n states begins was now desk new threads later slots left) lens one)) in
+      let on = there.searches p is.states gone.now old is_found (begun ∙ ap (λ q. cond is_found None (Some q)) (sym is.start)) gone.stands in
+      record {
+        places = gone.places;
+        before = gone.now;
+        now = on.0;
+        searched = gone.searched;
+        place_is = gone.stands.place;
+        last = subst (λ n. Searches hay longest p n gone.now on.0) same on.1;
+        stands = subst (λ b. StandsFor on.0 (place + (piece hay place).len) new.rows later now old left b) (sym founds) on.2;
+      }
+
+  empty_by : (pool : Pool) (ts : List Thread) → is_empty (map (thread_of pool) ts) ≡ (length ts == 0)
+  empty_by pool [] = refl
+  empty_by pool (t ∷ ts) = grind arith
+
+  over_by : (place : ℕ) (is_found : Bool) (walked : Record) (pool : Pool) (threads : List Thread) (slots : List (Option ℕ)) →
+      (h : HasSearched place is_found walked pool threads slots) →
+      is_over hay longest p (length old) earliest h.before.place h.now ≡ ends_by earliest (piece hay place).len is_found (length threads)
+  over_by place is_found walked pool threads slots h =
+      ap (λ (i : ℕ). ((piece hay i).len == 0) || (is_some h.now.best && (earliest || is_empty h.now.threads))) h.place_is
+      ∙ ap₂ (λ (b e : Bool). ((piece hay place).len == 0) || (b && (earliest || e))) h.stands.found
+      (ap (λ (ts : List machine.Thread). is_empty ts) h.stands.threads ∙ empty_by pool threads)
+
+  -- a search that is not over has gone on to the next place
+  pub gone_next : (place len : ℕ) (is_found : Bool) (walked : Record) (pool : Pool) (threads : List Thread) (slots : List (Option ℕ)) (left : ℕ) →
+      HasSearched place is_found walked pool threads slots → len ≡ (piece hay place).len → left ≡ length threads → ends_by earliest len is_found left ≡ false →
+      GoneTo (place + len) is_found walked pool threads slots
+  gone_next place len is_found walked pool threads slots left h lens lefts on = record {
+    places = suc h.places;
+    now = h.now;
+    searched = (
+      h.before,
+      h.searched,
+      h.last,
+      over_by place is_found walked pool threads slots h ∙ sym (ap₂ (λ n k. ends_by earliest n is_found k) lens lefts) ∙ on,
+    );
+    stands = subst (λ n. StandsFor h.now (place + n) pool threads walked old slots is_found) (sym lens) h.stands;
+  }
+
+  -- a search that is over was this one
+  pub sought_by : (place len : ℕ) (is_found : Bool) (walked : Record) (pool : Pool) (threads : List Thread) (slots : List (Option ℕ)) (left : ℕ) →
+      HasSearched place is_found walked pool threads slots → len ≡ (piece hay place).len → left ≡ length threads → ends_by earliest len is_found left ≡ true →
+      Sought p hay longest earliest start is_found old slots walked
+  sought_by place len is_found walked pool threads slots left h lens lefts over = record {
+    last = h.now;
+    searched = record {
+      places = h.places;
+      before = h.before;
+      searched = h.searched;
+      last = h.last;
+      over = over_by place is_found walked pool threads slots h ∙ sym (ap₂ (λ n k. ends_by earliest n is_found k) lens lefts) ∙ over;
+    };
+    found = h.stands.found;
+    slots = h.stands.slots;
+    visits = h.stands.visits;
+    looks = h.stands.looks;
+  }

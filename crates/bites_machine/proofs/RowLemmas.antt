@@ -1,0 +1,98 @@
+-- Rows of cells, and what is noted and written in them.
+use Rattle.std.proofs.Common.{◌≡◌, ◌≢◌, ℕ, zero, suc, ◌+◌, ◌-◌, ◌*◌, ◌<◌, ◌≤◌, Bool, true, false, List, [], ◌∷◌, ◌++◌, take, drop, length, Option, Some, None, refl, sym, ap, ap₂, ◌∙◌, subst, arith, append_assoc, length-append, length-take, length-drop}
+use Rattle.std.specs.Prelude.{slice_set, slice_index_or, slice_index, replicate}
+use Rattle.std.proofs.lemmas.List.{drop-drop, drop_at, take_at, get_or-drop, places, length-take-le, take-append-drop, length-set, get_or-set_other, drop_more}
+use Rattle.std.proofs.lemmas.Grind.{common_steps}
+use Rattle.std.proofs.Math.Nat.{mul-le-mul_left, mul-le-mul_right}
+use lib.Seq.{paste}
+use Rattle.bites_machine.specs.Rows.{rows_of, with_notes}
+
+-- one note more, behind the others
+pub with_notes-push : (place : ℕ) (ks : List ℕ) (k : ℕ) (slots : List (Option ℕ)) →
+    with_notes place (ks ++ k ∷ []) slots ≡ slice_set (with_notes place ks slots) k (Some place)
+with_notes-push place [] k slots = refl
+with_notes-push place (j ∷ ks) k slots = with_notes-push place ks k (slice_set slots j (Some place))
+
+pub length-with_notes : (place : ℕ) (ks : List ℕ) (slots : List (Option ℕ)) → length (with_notes place ks slots) ≡ length slots
+length-with_notes place [] slots = refl
+length-with_notes place (k ∷ ks) slots = length-with_notes place ks (slice_set slots k (Some place)) ∙ length-set slots k (Some place)
+
+pub length-rows_of : (w n : ℕ) (cells : List (Option ℕ)) → length (rows_of w n cells) ≡ n
+length-rows_of w zero cells = refl
+length-rows_of w (suc n) cells = ap suc (length-rows_of w n (drop w cells))
+
+row_step : (w r : ℕ) → suc r * w ≡ w + r * w
+row_step w r = omega (arith)
+
+-- a row is a part of the cells
+pub row_at : (w n r : ℕ) (cells : List (Option ℕ)) → r < n → slice_index_or (rows_of w n cells) r [] ≡ take w (drop (r * w) cells)
+row_at w zero r cells lt = absurd (omega arith)
+row_at w (suc n) zero cells lt = ap (λ k. take w (drop k cells)) (zero_row w)
+  where
+    zero_row : (w : ℕ) → 0 ≡ 0 * w
+    zero_row w = omega arith
+row_at w (suc n) (suc r) cells lt =
+    row_at w n r (drop w cells) (omega arith) ∙ ap (take w) (drop-drop (r * w) w cells ∙ ap (λ k. drop k cells) (sym (row_step w r)))
+
+-- one row is written
+pub row_written : (w n r : ℕ) (cells row : List (Option ℕ)) → r < n → n * w ≤ length cells → length row ≡ w →
+    rows_of w n (take (r * w) cells ++ (row ++ drop (r * w + w) cells)) ≡ slice_set (rows_of w n cells) r row
+row_written w zero r cells row lt room len = absurd (omega arith)
+row_written w (suc n) zero cells row lt room len =
+    ap (λ k. rows_of w (suc n) (take k cells ++ (row ++ drop (k + w) cells))) (zero_row w)
+    ∙ ap₂ ◌∷◌ (take_at row (drop (0 + w) cells) w len) (ap (rows_of w n) (drop_at row (drop (0 + w) cells) w len ∙ ap (λ k. drop k cells) (from_zero w)))
+  where
+    zero_row : (w : ℕ) → 0 * w ≡ 0
+    zero_row w = omega arith
+
+    from_zero : (w : ℕ) → 0 + w ≡ w
+    from_zero w = omega arith
+row_written w (suc n) (suc r) cells row lt room len =
+    let fits : w ≤ length cells = omega (arith, row_step w n, room) in
+    let front : length (take w cells) ≡ w = length-take-le w cells fits in
+    let rest : n * w ≤ length (drop w cells) = omega (arith, row_step w n, room, length-drop w cells) in
+    let split : take (suc r * w) cells ++ (row ++ drop (suc r * w + w) cells) ≡ take w cells ++ (take (r * w) (drop w cells) ++ (row ++ drop (r * w + w) (drop w cells))) =
+    ap₂ (λ x y. x ++ (row ++ y)) (ap (λ k. take k cells) (row_step w r) ∙ take_parts w (r * w) cells) (ap (λ k. drop k cells) (behind w (r * w) (suc r * w) (row_step w r)) ∙ sym (drop-drop (r * w + w) w cells))
+    ∙ append_assoc (take w cells) (take (r * w) (drop w cells)) (row ++ drop (r * w + w) (drop w cells)) in
+    ap (rows_of w (suc n)) split
+    ∙ ap₂ ◌∷◌ (take_at (take w cells) _ w front) (ap (rows_of w n) (drop_at (take w cells) _ w front) ∙ row_written w n r (drop w cells) row (omega arith) rest len)
+  where
+    behind : (w k m : ℕ) → m ≡ w + k → m + w ≡ w + (k + w)
+    behind w k m e = omega (arith, e)
+
+    take_all_of : (n : ℕ) → take {A = Option ℕ} n [] ≡ []
+    take_all_of zero = refl
+    take_all_of (suc n) = refl
+
+    take_parts : (m k : ℕ) (xs : List (Option ℕ)) → take (m + k) xs ≡ take m xs ++ take k (drop m xs)
+    take_parts zero k xs = ap (λ n. take n xs) (omega arith)
+    take_parts (suc m) k [] = take_all_of (suc m + k) ∙ sym (take_all_of k)
+    take_parts (suc m) k (x ∷ xs) = ap (λ n. take n (x ∷ xs)) (pair m k) ∙ ap (λ l. x ∷ l) (take_parts m k xs)
+      where
+        pair : (m k : ℕ) → suc m + k ≡ suc (m + k)
+        pair m k = omega arith
+
+-- the cells of a row are there
+pub row_fits : (w most n r : ℕ) → r < n → w ≤ most → r * w + w ≤ n * most
+row_fits w most n r lt le =
+    let below : suc r ≤ n = omega arith in
+    omega (arith, row_step w r, mul-le-mul_left (suc r) le, mul-le-mul_right most below)
+
+-- two rows do not meet
+pub rows_apart : (w r s : ℕ) → r < s → r * w + w ≤ s * w
+rows_apart w r s lt = row_fits w w s r lt (omega arith)
+
+-- a slice that was written is the whole list
+pub whole_again : (n : ℕ) (xs ys : List (Option ℕ)) → length xs ≡ length ys → n ≡ length ys → take n (xs ++ drop (length xs) ys) ≡ xs
+whole_again n xs ys len is = take_at xs (drop (length xs) ys) n (omega (arith, len, is))
+
+-- a row is the copy of another, with the place in some slots
+pub row_copied : (w most n row fresh place : ℕ) (ks : List ℕ) (cells : List (Option ℕ)) → row < n → fresh < n → w ≤ most → length cells ≡ n * most →
+    rows_of w n (take (fresh * w) cells ++ (with_notes place ks (take w (drop (row * w) cells)) ++ drop (fresh * w + w) cells))
+    ≡ slice_set (rows_of w n cells) fresh (with_notes place ks (slice_index_or (rows_of w n cells) row []))
+row_copied w most n row fresh place ks cells known new le is =
+    let fits : row * w + w ≤ n * most = row_fits w most n row known le in
+    let len : length (with_notes place ks (take w (drop (row * w) cells))) ≡ w =
+    length-with_notes place ks (take w (drop (row * w) cells)) ∙ length-take-le w (drop (row * w) cells) (omega (arith, length-drop (row * w) cells, fits, is)) in
+    row_written w n fresh cells (with_notes place ks (take w (drop (row * w) cells))) new (omega (arith, mul-le-mul_left n le, is)) len
+    ∙ ap (λ r. slice_set (rows_of w n cells) fresh (with_notes place ks r)) (sym (row_at w n row cells known))

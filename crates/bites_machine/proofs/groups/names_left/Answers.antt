@@ -1,0 +1,12 @@
+use Rattle.std.proofs.Common.{None, ap, ◌∙◌}
+use Rattle.std.specs.Prelude.{replicate}
+use Rattle.bites_spec.specs.Measure.{groups_of}
+use Rattle.bites_machine.specs.Names.{filled}
+use Rattle.bites_machine.proofs.GroupLemmas.{filled-groups_left}
+use Rattle.bites_machine.proofs.groups.names_left.Goals as goal
+
+pub returns : goal.returns
+returns c =
+    c.in_ok-write_names.ensures
+    ∙ ap (λ names. filled (groups_of c.args.tree.now) names) (c.in_ok-names.ensures ∙ ap (λ n. replicate n None) c.requires.captures)
+    ∙ filled-groups_left c.args.tree.now c.requires.apart

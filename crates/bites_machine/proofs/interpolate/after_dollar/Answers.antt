@@ -1,0 +1,10 @@
+use Rattle.std.proofs.Common.{sym, ap, ◌∙◌}
+use Rattle.std.specs.Option.{option_copied}
+use Rattle.bites_machine.proofs.InterpolateLemmas.{dollar_twice, begins_at}
+use Rattle.bites_machine.proofs.interpolate.after_dollar.Goals as goal
+
+pub returns-in-Some-eq36-clause-cuts : goal.returns-in-Some-eq36-clause-cuts
+returns-in-Some-eq36-clause-cuts c =
+    dollar_twice c.args.rest.text.now c.behind_first-behind.result.text.now c.behind_first.result.text.now c.requires c.behind_first-behind.ensures c.behind_first.ensures
+    (begins_at 36 c.in-Some-eq36.field-0.now c.behind_first-behind.result.text.now c.as_bytes.result.now c.as_bytes.ensures.value
+    (sym (ap option_copied c.in-Some-eq36.is) ∙ c.first.ensures.value) c.in-Some-eq36.field-0-test)

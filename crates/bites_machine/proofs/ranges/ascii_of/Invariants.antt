@@ -1,0 +1,7 @@
+use Rattle.std.proofs.Common.{◌≡◌, ℕ, ◌<◌, ◌||◌, drop}
+use Rattle.bites_spec.specs.Range.{in_ranges}
+use Rattle.bites_machine.specs.Bits.{has_bit}
+use Rattle.bites_machine.proofs.ranges.ascii_of.Given as goal
+
+abbrev pub invariant-loop-first : goal.invariant-loop-first
+invariant-loop-first l = (c : ℕ) → c < 128 → in_ranges l.ranges c ≡ (has_bit l.bits c || in_ranges (drop l.first-index l.ranges) c)

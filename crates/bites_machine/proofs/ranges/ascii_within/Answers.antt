@@ -1,0 +1,15 @@
+use Rattle.std.proofs.Common.{◌≡◌, ◌-◌, ◌*◌, ◌/◌, ◌%◌, ◌^◌, ◌∙◌, suc, ap, arith, bit_and}
+use Rattle.bites_spec.specs.Range.{in_range}
+use Rattle.bites_machine.specs.Bits.{has_bit}
+use Rattle.bites_machine.proofs.BitLemmas.{has_bit-within, in_range-min}
+use Rattle.bites_machine.proofs.ranges.ascii_within.Goals as goal
+
+pub returns : goal.returns
+returns c = λ n lt.
+    let first = c.args.first in
+    let last = c.min-left_out.result in
+    let left_out : 127 - last ≡ 128 - suc last = omega arith in
+    ap (λ k. has_bit (bit_and ((2 ^ 128 - 1) * 2 ^ first % 2 ^ 128) ((2 ^ 128 - 1) / 2 ^ k)) n) left_out
+    ∙ has_bit-within 128 first last n (omega arith) (omega arith)
+    ∙ ap (λ k. in_range (first, k) n) c.min-left_out.ensures
+    ∙ in_range-min first c.args.last 127 n (omega arith)

@@ -1,0 +1,13 @@
+use Rattle.std.proofs.Common.{◌-◌, ◌≤◌, length}
+use Rattle.bites_machine.proofs.SearchedRanges.{AllEndBelow, AllBeginAbove}
+use Rattle.bites_machine.proofs.ranges.is_in_ranges.Given as goal
+
+abbrev pub invariant-loop-low : goal.invariant-loop-low
+invariant-loop-low l = record {
+  below : AllEndBelow l.ranges l.low l.c;
+  above : AllBeginAbove l.ranges l.high l.c;
+  within : l.high ≤ length l.ranges;
+}
+
+abbrev pub decreases-loop-low : goal.decreases-loop-low
+decreases-loop-low l = l.high - l.low

@@ -1,0 +1,17 @@
+-- What is recorded once a state that was lent is given back.
+use Rattle.std.specs.Prelude.{◌≡◌, ℕ, ⊤, ◌∷◌, []}
+use Rattle.std.specs.Borrow.{follows_so, MutBor, Fml}
+use mathlib.Core.Option.{none}
+use mir.Syntax.{named}
+use Rattle.bites_spec.specs.Program.{at}
+use Rattle.bites_machine.specs.declared.vm.counted.Counted.{Counted}
+use Rattle.bites_machine.specs.contracts.vm.counted.Counted as rows
+
+-- the spot was added to the visits, and the states and the number of looks are as they were
+abbrev pub Visits : MutBor Counted → ℕ → ℕ → Fml
+Visits w state place =
+    let row = rows.the_row (record { mir = named 0; lft = [] }) in
+    follows_so row row w.ghost_name none (λ _ _. ⊤)
+    (λ last. (last.walked.visits ≡ at state place ∷ w.now.walked.visits)
+    × (last.walked.looks ≡ w.now.walked.looks)
+    × (last.states ≡ w.now.states))

@@ -1,0 +1,8 @@
+-- The stack of a walk.
+use Rattle.std.specs.Prelude.{ℕ, List}
+use Rattle.bites_machine.specs.declared.vm.stack.Frame.{Frame}
+
+-- the frames, the uppermost first, and how many there may be
+pub record Frames : Type 0 where
+  pub frames : List Frame
+  pub room : ℕ

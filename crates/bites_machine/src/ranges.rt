@@ -1,0 +1,117 @@
+//! The ranges of a state.
+
+ghost use Rattle.std.specs.Prelude.{◌≡◌, ℕ, ◌<◌};
+ghost use Rattle.bites_spec.specs.Range.{in_range, in_ranges};
+ghost use Rattle.bites_spec.specs.Program.{AreRanges};
+ghost use Rattle.bites_machine.specs.Bits.{has_bit};
+
+use std::marker::Model;
+
+/// Ranges of characters, whose ends belong to them. A contract sees their list.
+#[derive(Drop)]
+pub struct Ranges {
+    list: Vec<(char, char)>,
+    /// Of each ASCII character, whether it lies in one of the ranges, as the bit of its number.
+    ascii: [u64; 2],
+}
+
+impl Model for Ranges {
+    ghost use Rattle.std.specs.Prelude.{List};
+    ghost use Rattle.bites_spec.specs.Range.{Range};
+    ghost use Rattle.bites_machine.specs.Bits.{HasAscii};
+
+    ghost Value = { List Range };
+
+    ghost view = { λ a. a.list.items };
+
+    ghost invariant = { λ a. HasAscii a.ascii a.list.items };
+}
+
+impl Ranges {
+    /// The ranges as a slice.
+    #[inline]
+    pub fn as_slice(&self) -> &[(char, char)]
+        ensures { result.now ≡ self.now }
+    {
+        &self.list
+    }
+
+    /// The list of the ranges, in its memory.
+    pub fn into_vec(self) -> Vec<(char, char)>
+        ensures { result.items ≡ self }
+    {
+        self.list
+    }
+
+    /// Whether the character lies in one of the ranges, each of which begins above the one before.
+    ///
+    /// One look for an ASCII character, else as many as the number of ranges has bits.
+    #[inline]
+    pub fn takes(&self, ch: char) -> bool
+        requires { AreRanges self.now }
+        ensures { result ≡ in_ranges self.now ch }
+    {
+        let number = ch as u32;
+        if number < 128 {
+            (self.ascii[(number / 64) as usize] >> (number % 64)) & 1 == 1
+        } else {
+            is_in_ranges(&self.list, ch)
+        }
+    }
+}
+
+impl From<Vec<(char, char)>> for Ranges {
+    ghost from_gives = { λ list ranges. ranges ≡ list.items };
+
+    /// The ranges of this list; it takes no memory.
+    fn from(list: Vec<(char, char)>) -> Ranges {
+        let bits = ascii_of(&list);
+        let ascii = [(bits & 0xFFFF_FFFF_FFFF_FFFF) as u64, (bits >> 64) as u64];
+        Ranges { list, ascii }
+    }
+}
+
+// Of each ASCII character, whether it lies in one of the ranges, as the bit of its number.
+fn ascii_of(ranges: &[(char, char)]) -> u128
+    ensures { (c : ℕ) → c < 128 → has_bit result c ≡ in_ranges ranges.now c }
+{
+    let mut bits = 0u128;
+    for (first, last) in ranges {
+        bits |= ascii_within(*first, *last);
+    }
+    bits
+}
+
+// Of each ASCII character, whether it lies between these two, as the bit of its number.
+fn ascii_within(first: char, last: char) -> u128
+    ensures { (c : ℕ) → c < 128 → has_bit result c ≡ in_range (first, last) c }
+{
+    let (first, last) = (first as u32, last as u32);
+    if first > last || first > 127 {
+        return 0;
+    }
+    let left_out = 127 - last.min(127);
+    (u128::MAX << first) & (u128::MAX >> left_out)
+}
+
+// Whether the character lies in one of the ranges, each of which begins above the one before.
+#[inline(never)]
+fn is_in_ranges(ranges: &[(char, char)], c: char) -> bool
+    requires { AreRanges ranges.now }
+    ensures { result ≡ in_ranges ranges.now c }
+{
+    let mut low = 0;
+    let mut high = ranges.len();
+    while low < high {
+        let middle = low + (high - low) / 2;
+        let (first, last) = ranges[middle];
+        if last < c {
+            low = middle + 1;
+        } else if c < first {
+            high = middle;
+        } else {
+            return true;
+        }
+    }
+    false
+}

@@ -1,0 +1,137 @@
+//! The room that searches of a program take, made once.
+
+ghost use Rattle.std.specs.Prelude.{◌≡◌, ◌<◌, ◌≤◌, ◌↔◌, [], IfOk, IsTrue, length, false};
+ghost use Rattle.bites_spec.specs.Program as program;
+ghost use Rattle.bites_spec.specs.Counts.{fit_of};
+ghost use Rattle.bites_machine.specs.States.{states_of};
+ghost use Rattle.bites_machine.specs.Sweep.{IsProgramOf, Sought};
+
+use super::counted::{Counted, Walked};
+use super::marks::Marks;
+use super::places;
+use super::places::Asked;
+use super::rows::Rows;
+use super::stack::Stack;
+use super::threads::Threads;
+use super::walk::Desk;
+use crate::program::Program;
+use std::alloc::AllocError;
+use std::marker::Model;
+
+/// The room for searches of a program and of those with as many states, slots and targets: the threads of
+/// two places, a stack, marks, and rows of slots. No search takes more.
+#[derive(Drop)]
+pub struct Cache {
+    states: usize,
+    slots: usize,
+    targets: usize,
+    desk: Desk,
+    threads: Threads,
+    walked: Walked,
+}
+
+impl Model for Cache {
+    ghost use Rattle.bites_machine.specs.Room.{Room};
+    ghost use Rattle.bites_machine.specs.Sweep.{HasRoom, IsIdle};
+
+    ghost Value = { Room };
+
+    ghost view = { λ a. record {
+      fits = record { states = a.states; slots = a.slots; targets = a.targets };
+      walked = a.walked;
+    } };
+
+    ghost invariant = { λ a.
+        HasRoom (record { states = a.states; slots = a.slots; targets = a.targets }) a.desk a.threads
+        × IsIdle a.desk a.threads };
+}
+
+impl Cache {
+    /// Room for searches of the program. It takes memory in proportion to its states and targets, and for
+    /// each of them to its slots.
+    pub fn new(program: &Program) -> Result<Cache, AllocError>
+        ensures { IfOk result (λ cache. cache.fits ≡ fit_of program.now.program) }
+    {
+        let alloc = program.alloc();
+        let states = program.len();
+        let slots = program.slots();
+        let targets = program.targets();
+        let frames = targets.checked_add(1).ok_or(AllocError)?;
+        let threads = states.checked_mul(2).ok_or(AllocError)?;
+        let rows = frames.checked_add(threads).ok_or(AllocError)?;
+        let rows = rows.checked_add(2).ok_or(AllocError)?;
+        let desk = Desk {
+            marks: Marks::new(alloc, states)?,
+            stack: Stack::new(alloc, frames)?,
+            rows: Rows::new(alloc, rows, slots, states)?,
+            next: Threads::new(alloc, states)?,
+            hit: None,
+        };
+        Ok(Cache {
+            states,
+            slots,
+            targets,
+            desk,
+            threads: Threads::new(alloc, states)?,
+            walked: Walked::new(),
+        })
+    }
+
+    /// Whether the cache was made for a program of as many states, slots and targets.
+    pub fn fits_program(&self, program: &Program) -> bool
+        ensures { IsTrue result ↔ (self.now.fits ≡ fit_of program.now.program) }
+    {
+        self.states == program.len()
+            && self.slots == program.slots()
+            && self.targets == program.targets()
+    }
+
+    // The search, with the states that it may read.
+    pub(super) fn search(
+        &mut self,
+        mut counted: Counted<'_>,
+        first: u32,
+        haystack: &[u8],
+        start: usize,
+        asked: Asked,
+        slots: &mut [Option<usize>],
+    ) -> bool
+        requires visits { counted.walked.visits ≡ [] }
+        requires looks { counted.walked.looks ≡ 0 }
+        requires fits { (p : program.Program) × IsProgramOf p (states_of counted.states.now) first
+            × (self.old.fits ≡ fit_of p) }
+        requires width { length slots.old ≤ self.old.fits.slots }
+        ensures sought { start ≤ length haystack.now → (p : program.Program) →
+            IsProgramOf p (states_of counted.entry.states.now) first →
+            self.old.fits ≡ fit_of p →
+            Sought p haystack.now asked.longest asked.earliest start result slots.old slots.new
+            self.new.walked }
+        ensures past { length haystack.now < start → (result ≡ false) × (slots.new ≡ slots.old)
+            × (self.new.walked.visits ≡ []) × (self.new.walked.looks ≡ 0) }
+        ensures fits { self.new.fits ≡ self.old.fits }
+    {
+        let found = if start <= haystack.len() {
+            self.desk.rows.begin(slots.len());
+            places::search(
+                &mut counted,
+                &mut self.desk,
+                &mut self.threads,
+                first,
+                haystack,
+                start,
+                asked,
+                slots,
+            )
+        } else {
+            false
+        };
+        self.walked = counted.into_walked();
+        found
+    }
+
+    /// Goes on as in the last round but one.
+    #[cfg(test)]
+    pub(super) fn near_the_end(&mut self) {
+        self.desk.marks.near_the_end();
+    }
+}

@@ -1,0 +1,79 @@
+//! The stack of a walk.
+
+ghost use Rattle.std.specs.Prelude.{◌≡◌, ◌<◌, [], ◌∷◌, IfOk, MatchOption, length};
+
+use std::alloc::{AllocError, Global};
+use std::marker::Model;
+
+/// A state that a walk has still to look at, with the number of notes on the way to it.
+#[derive(Clone, Copy, Drop)]
+pub struct Frame {
+    pub state: u32,
+    pub noted: usize,
+}
+
+/// A stack that holds so many frames at most. Contracts see its frames, the uppermost first, and its room.
+#[derive(Drop)]
+pub struct Stack {
+    frames: Vec<Frame>,
+    len: usize,
+}
+
+impl Model for Stack {
+    ghost use Rattle.std.specs.Prelude.{◌≤◌, length, reverse, take};
+    ghost use Rattle.bites_machine.specs.Stack.{Frames};
+
+    ghost Value = { Frames };
+
+    ghost view = { λ a. record {
+      frames = reverse (take a.len a.frames.items);
+      room = length a.frames.items;
+    } };
+
+    ghost invariant = { λ a. a.len ≤ length a.frames.items };
+}
+
+impl Stack {
+    /// An empty stack with room for so many frames.
+    pub(super) fn new(alloc: Global, room: usize) -> Result<Stack, AllocError>
+        ensures empty { IfOk result (λ s. s.frames ≡ []) }
+        ensures room { IfOk result (λ s. s.room ≡ room) }
+    {
+        let none = Frame { state: 0, noted: 0 };
+        Ok(Stack {
+            frames: vec![in alloc; none; room]?,
+            len: 0,
+        })
+    }
+
+    #[inline(always)]
+    pub(super) fn push(&mut self, frame: Frame)
+        requires { length self.old.frames < self.old.room }
+        ensures frames { self.new.frames ≡ frame ∷ self.old.frames }
+        ensures room { self.new.room ≡ self.old.room }
+    {
+        self.frames[self.len] = frame;
+        self.len += 1;
+    }
+
+    #[inline(always)]
+    pub(super) fn pop(&mut self) -> Option<Frame>
+        ensures frames { MatchOption result
+            ((self.old.frames ≡ []) × (self.new.frames ≡ []))
+            (λ f. self.old.frames ≡ f ∷ self.new.frames) }
+        ensures room { self.new.room ≡ self.old.room }
+    {
+        if self.len == 0 {
+            return None;
+        }
+        self.len -= 1;
+        Some(self.frames[self.len])
+    }
+
+    pub(super) fn clear(&mut self)
+        ensures frames { self.new.frames ≡ [] }
+        ensures room { self.new.room ≡ self.old.room }
+    {
+        self.len = 0;
+    }
+}

@@ -1,0 +1,87 @@
+//! The threads of a place, in order of preference.
+
+ghost use Rattle.std.specs.Prelude.{◌≡◌, ◌<◌, ◌++◌, [], ◌∷◌, IfOk, length, slice_get, slice_index_or};
+
+use std::alloc::{AllocError, Global};
+use std::marker::Model;
+
+/// A thread that has taken its piece: the state that it is to walk from, its row, and the place where it
+/// was started.
+#[derive(Clone, Copy, Drop)]
+pub struct Thread {
+    pub state: u32,
+    pub row: usize,
+    pub start: usize,
+}
+
+/// At most so many threads. Contracts see them as a list, and the room for them.
+#[derive(Drop)]
+pub struct Threads {
+    threads: Vec<Thread>,
+    len: usize,
+}
+
+impl Model for Threads {
+    ghost use Rattle.std.specs.Prelude.{◌≤◌, length, take};
+    ghost use Rattle.bites_machine.specs.Threads.{Listed};
+
+    ghost Value = { Listed };
+
+    ghost view = { λ a. record {
+      threads = take a.len a.threads.items;
+      room = length a.threads.items;
+    } };
+
+    ghost invariant = { λ a. a.len ≤ length a.threads.items };
+}
+
+impl Threads {
+    /// No threads, with room for so many.
+    pub(super) fn new(alloc: Global, room: usize) -> Result<Threads, AllocError>
+        ensures empty { IfOk result (λ t. t.threads ≡ []) }
+        ensures room { IfOk result (λ t. t.room ≡ room) }
+    {
+        let none = Thread {
+            state: 0,
+            row: 0,
+            start: 0,
+        };
+        Ok(Threads {
+            threads: vec![in alloc; none; room]?,
+            len: 0,
+        })
+    }
+
+    #[inline(always)]
+    pub(super) fn len(&self) -> usize
+        ensures { result ≡ length self.now.threads }
+    {
+        self.len
+    }
+
+    #[inline(always)]
+    pub(super) fn at(&self, index: usize) -> Thread
+        requires { index < length self.now.threads }
+        ensures { result ≡ slice_index_or self.now.threads index result }
+    {
+        self.threads[index]
+    }
+
+    #[inline(always)]
+    pub(super) fn push(&mut self, thread: Thread)
+        requires { length self.old.threads < self.old.room }
+        ensures threads { self.new.threads ≡ self.old.threads ++ thread ∷ [] }
+        ensures room { self.new.room ≡ self.old.room }
+    {
+        self.threads[self.len] = thread;
+        self.len += 1;
+    }
+
+    #[inline(always)]
+    pub(super) fn clear(&mut self)
+        ensures threads { self.new.threads ≡ [] }
+        ensures room { self.new.room ≡ self.old.room }
+    {
+        self.len = 0;
+    }
+}

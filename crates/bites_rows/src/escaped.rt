@@ -1,0 +1,57 @@
+//! Texts as tables write them: a byte of printable ASCII is itself, `\\` is a backslash, and `\xHH` any other byte.
+
+ghost use Rattle.std.specs.Prelude.{◌≤◌, length, IfSome};
+
+use crate::fault::Fault;
+use std::alloc::{AllocError, Global};
+use std::fmt::Write;
+use std::str;
+
+/// The bytes that an escaped text stands for.
+pub fn unescaped(alloc: Global, text: &str) -> Result<Vec<u8>, Fault> {
+    let mut bytes = Vec::new(alloc);
+    let mut rest = text.as_bytes();
+    while let Some((first, behind)) = rest.split_first() {
+        let Some((byte, behind)) = unescaped_byte(*first, behind) else {
+            return Err(Fault::NoRow);
+        };
+        bytes.push(byte)?;
+        rest = behind;
+    }
+    Ok(bytes)
+}
+
+// The byte at the front of an escaped text, and what is left behind it.
+fn unescaped_byte(first: u8, behind: &[u8]) -> Option<(u8, &[u8])>
+    ensures { IfSome result (λ read. length read.1.now ≤ length behind.now) }
+{
+    if first != b'\\' {
+        return Some((first, behind));
+    }
+    match behind {
+        [b'\\', rest @ ..] => Some((b'\\', rest)),
+        [b'x', rest @ ..] => {
+            let (digits, rest) = rest.split_at_checked(2)?;
+            Some((byte_of(digits)?, rest))
+        }
+        _ => None,
+    }
+}
+
+// The byte that two hexadecimal digits are.
+fn byte_of(digits: &[u8]) -> Option<u8> {
+    let digits = str::from_utf8(digits).ok()?;
+    u8::from_str_radix(digits, 16).ok()
+}
+
+/// Adds the escaped text of some bytes.
+pub fn push_escaped(text: &mut String, bytes: &[u8]) -> Result<(), AllocError> {
+    for byte in bytes {
+        match *byte {
+            b'\\' => text.push_str("\\\\")?,
+            b' '..=b'~' => text.push(char::from(*byte))?,
+            other => write!(text, "\\x{other:02X}")?,
+        }
+    }
+    Ok(())
+}

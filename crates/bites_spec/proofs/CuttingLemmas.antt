@@ -1,0 +1,156 @@
+-- Templates that are cut part by part.
+use Rattle.std.proofs.Common.{◌≡◌, ◌≢◌, ℕ, zero, suc, ◌+◌, ◌<◌, Bool, true, false, List, [], ◌∷◌, ◌++◌, length, get_or, take, drop, flat_map, refl, sym, ap, ap₂, ◌∙◌, subst, inl, inr, ⊎_elim, true≢false, arith, append_assoc, ◌-◌, length-drop, take_all}
+use Rattle.std.specs.Prelude.{IsUtf8}
+use Rattle.std.proofs.lemmas.List.{append-nil, take_more, flat_map_more}
+use Rattle.bites_spec.specs.Walks.{Among, IsNew}
+use Rattle.bites_spec.specs.Template.{Part, byte, name, Cuts, ends, plain, doubled, named, braced, alone, IsName}
+use Rattle.bites_spec.specs.Cutting.{CutsFirst, NoName, StandsInBraces, IsWordAt, IsFirstBrace}
+
+Among-behind : (xs ys : List ℕ) (x : ℕ) → Among ys x → Among (xs ++ ys) x
+Among-behind [] ys x h = h
+Among-behind (z ∷ xs) ys x h = inr (Among-behind xs ys x h)
+
+IsNew-push : (xs : List ℕ) (x c : ℕ) → IsNew c xs → x ≢ c → IsNew c (xs ++ x ∷ [])
+IsNew-push [] x c new ne h = ⊎_elim (λ (e : x ≡ c). ne e) (λ (no : ⊥). no) h
+IsNew-push (y ∷ xs) x c new ne h =
+    ⊎_elim (λ (e : y ≡ c). new (inl e)) (λ (later : Among (xs ++ x ∷ []) c). IsNew-push xs x c (λ a. new (inr a)) ne later) h
+
+-- no brace so far, and none here
+pub no_brace_more : (bytes : List ℕ) (i : ℕ) → i < length bytes → IsNew 125 (take i bytes) → get_or bytes i 0 ≢ 125 → IsNew 125 (take (i + 1) bytes)
+no_brace_more bytes i lt new ne = subst (IsNew 125) (sym (take_more bytes i 0 lt)) (IsNew-push (take i bytes) (get_or bytes i 0) 125 new ne)
+
+split : (bytes : List ℕ) (i : ℕ) → i < length bytes → bytes ≡ take i bytes ++ get_or bytes i 0 ∷ drop (i + 1) bytes
+split [] i lt = absurd (omega arith)
+split (b ∷ bytes) zero lt = refl
+split (b ∷ bytes) (suc i) lt =
+    ap (λ (l : List ℕ). b ∷ l) (split bytes i (omega arith))
+    ∙ ap (λ (k : ℕ). b ∷ take i bytes ++ get_or bytes i 0 ∷ drop k (b ∷ bytes)) (next i)
+  where
+    next : (i : ℕ) → suc (i + 1) ≡ suc i + 1
+    next i = omega arith
+
+-- the first brace is here
+pub brace_here : (bytes : List ℕ) (i : ℕ) → i < length bytes → IsNew 125 (take i bytes) → get_or bytes i 0 ≡ 125 → IsFirstBrace bytes i
+brace_here bytes i lt new is = record {
+  whole = split bytes i lt ∙ ap (λ (b : ℕ). take i bytes ++ b ∷ drop (i + 1) bytes) is;
+  first = new;
+}
+
+-- where there is no brace no name in braces stands
+pub no_brace : (any : Bool) (inside : List ℕ) → IsNew 125 inside → NoName any inside
+no_brace any inside new word tail e first is_name =
+    new (subst (λ l. Among l 125) (sym e) (Among-behind word (125 ∷ tail) 125 (inl refl)))
+
+same_front : (a b c d : List ℕ) → IsNew 125 a → IsNew 125 b → a ++ 125 ∷ c ≡ b ++ 125 ∷ d → a ≡ b
+same_front [] [] c d new newer e = refl
+same_front [] (y ∷ b) c d new newer e = absurd (newer (inl (head e)))
+  where
+    head : 125 ∷ c ≡ y ∷ b ++ 125 ∷ d → y ≡ 125
+    head e = cc
+same_front (x ∷ a) [] c d new newer e = absurd (new (inl (head e)))
+  where
+    head : x ∷ a ++ 125 ∷ c ≡ 125 ∷ d → x ≡ 125
+    head e = cc
+same_front (x ∷ a) (y ∷ b) c d new newer e =
+    ap₂ ◌∷◌ (head e) (same_front a b c d (λ h. new (inr h)) (λ h. newer (inr h)) (tail e))
+  where
+    head : x ∷ (a ++ 125 ∷ c) ≡ y ∷ (b ++ 125 ∷ d) → x ≡ y
+    head e = cc
+
+    tail : x ∷ (a ++ 125 ∷ c) ≡ y ∷ (b ++ 125 ∷ d) → a ++ 125 ∷ c ≡ b ++ 125 ∷ d
+    tail e = cc
+
+-- what stands up to the first brace is no name
+pub bad_name : (any : Bool) (inside : List ℕ) (i : ℕ) → IsFirstBrace inside i → any ≡ false → (IsUtf8 (take i inside) → ⊥) → NoName any inside
+bad_name any inside i brace strict bad word tail e first is_name =
+    let same = same_front word (take i inside) tail (drop (i + 1) inside) first brace.first (sym e ∙ brace.whole) in
+    ⊎_elim (λ (free : any ≡ true). absurd (true≢false (sym free ∙ strict))) (λ (utf8 : IsUtf8 word). bad (subst IsUtf8 same utf8)) is_name
+
+length_take : (xs : List ℕ) (i : ℕ) → i < length xs → length (take i xs) ≡ i
+length_take [] i lt = absurd (omega arith)
+length_take (x ∷ xs) zero lt = refl
+length_take (x ∷ xs) (suc i) lt = ap suc (length_take xs i (omega arith))
+
+-- what stands up to the first brace is a name
+pub good_name : (any : Bool) (inside : List ℕ) (i : ℕ) → i < length inside → IsFirstBrace inside i → IsName any (take i inside) → StandsInBraces any inside (take i inside)
+good_name any inside i lt brace is_name = record {
+  whole = brace.whole ∙ ap (λ (k : ℕ). take i inside ++ 125 ∷ drop (k + 1) inside) (sym (length_take inside i lt));
+  first = brace.first;
+  named = is_name;
+}
+
+-- a dollar at the end
+pub cuts_last : (any : Bool) (rest : List ℕ) → length rest ≡ 0 → CutsFirst any (36 ∷ rest) (byte 36) (drop 0 rest)
+cuts_last any [] none parts c = alone [] parts ((λ tail e. cc), tt, (λ word tail e first is_name. cc)) c
+cuts_last any (b ∷ rest) none parts c = absurd (omega arith)
+
+-- two dollars
+pub cuts_doubled : (any : Bool) (rest behind : List ℕ) (first : ℕ) → rest ≡ first ∷ behind → first ≡ 36 → CutsFirst any (36 ∷ rest) (byte 36) (drop 1 rest)
+cuts_doubled any rest behind first e is =
+    subst (λ (l : List ℕ). CutsFirst any (36 ∷ l) (byte 36) (drop 1 l)) (sym (e ∙ ap (λ (b : ℕ). b ∷ behind) is)) (λ parts c. doubled behind parts c)
+
+-- a name in braces
+pub cuts_braced : (any : Bool) (rest behind word : List ℕ) (first : ℕ) → rest ≡ first ∷ behind → first ≡ 123 → StandsInBraces any behind word →
+    CutsFirst any (36 ∷ rest) (name word) (drop (length word + 2) rest)
+cuts_braced any rest behind word first e is stands =
+    subst (λ (l : List ℕ). CutsFirst any (36 ∷ l) (name word) (drop (length word + 2) l)) (sym (e ∙ ap (λ (b : ℕ). b ∷ behind) is))
+    (λ parts c. braced (36 ∷ 123 ∷ behind) word (drop (length word + 1) behind) parts (ap (λ (l : List ℕ). 36 ∷ 123 ∷ l) stands.whole)
+    stands.first stands.named (subst (λ (k : ℕ). Cuts any (drop k (123 ∷ behind)) parts) (two (length word)) c))
+  where
+    two : (n : ℕ) → n + 2 ≡ suc (n + 1)
+    two n = omega arith
+
+-- a brace that opens no name
+pub cuts_unnamed : (any : Bool) (rest behind : List ℕ) (first : ℕ) → rest ≡ first ∷ behind → first ≡ 123 → NoName any behind →
+    CutsFirst any (36 ∷ rest) (byte 36) (drop 0 rest)
+cuts_unnamed any rest behind first e is no_name =
+    subst (λ (l : List ℕ). CutsFirst any (36 ∷ l) (byte 36) (drop 0 l)) (sym (e ∙ ap (λ (b : ℕ). b ∷ behind) is))
+    (λ parts c. alone (123 ∷ behind) parts ((λ tail e. cc), refl, (λ word tail e. no_name word tail (inner word tail e))) c)
+  where
+    inner : (word tail : List ℕ) → 123 ∷ behind ≡ 123 ∷ word ++ 125 ∷ tail → behind ≡ word ++ 125 ∷ tail
+    inner word tail e = cc
+
+-- a dollar before anything else
+pub cuts_alone : (any : Bool) (rest behind word : List ℕ) (first : ℕ) → rest ≡ first ∷ behind → first ≢ 36 → first ≢ 123 → IsWordAt rest word → length word ≡ 0 →
+    CutsFirst any (36 ∷ rest) (byte 36) (drop 0 rest)
+cuts_alone any rest behind [] first e not_dollar not_brace word none parts c =
+    alone rest parts (
+      (λ tail is. not_dollar (head first 36 behind tail (sym e ∙ is))),
+      word.ends,
+      (λ w tail is. absurd (not_brace (head first 123 behind (w ++ 125 ∷ tail) (sym e ∙ is)))),
+    ) c
+  where
+    head : (a b : ℕ) (x y : List ℕ) → a ∷ x ≡ b ∷ y → a ≡ b
+    head a b x y e = cc
+cuts_alone any rest behind (b ∷ bs) first e not_dollar not_brace word none parts c = absurd (omega arith)
+
+-- a name without braces
+pub cuts_named : (any : Bool) (rest word : List ℕ) → IsWordAt rest word → 0 < length word → CutsFirst any (36 ∷ rest) (name word) (drop (length word) rest)
+cuts_named any rest word at some parts c =
+    named (36 ∷ rest) word (drop (length word) rest) parts (ap (λ (l : List ℕ). 36 ∷ l) at.whole) some at.word_bytes at.ends c
+
+-- any other byte
+pub cuts_plain : (any : Bool) (first : ℕ) (behind : List ℕ) → first ≢ 36 → CutsFirst any (first ∷ behind) (byte first) (drop 0 behind)
+cuts_plain any first behind ne parts c = plain first behind parts ne c
+
+-- what is known of a template in whose front these parts were found
+abbrev pub Found : Bool → List ℕ → List ℕ → List Part → Type 0
+Found any template rest front = (parts : List Part) → Cuts any rest parts → Cuts any template (front ++ parts)
+
+-- one part more
+pub found_more : (any : Bool) (template rest newer : List ℕ) (front : List Part) (part : Part) → Found any template rest front → CutsFirst any rest part newer →
+    Found any template newer (front ++ part ∷ [])
+found_more any template rest newer front part so_far cut parts c =
+    subst (Cuts any template) (sym (append_assoc front (part ∷ []) parts)) (so_far (part ∷ parts) (cut parts c))
+
+pub found_all : (any : Bool) (template rest : List ℕ) (front : List Part) → length rest ≡ 0 → Found any template rest front → Cuts any template front
+found_all any template [] front none so_far = subst (Cuts any template) (append-nil front) (so_far [] ends)
+found_all any template (b ∷ rest) front none so_far = absurd (omega arith)
+
+pub text_more : (f : Part → List ℕ) (front : List Part) (part : Part) (text newer : List ℕ) → text ≡ flat_map f front → newer ≡ text ++ f part →
+    newer ≡ flat_map f (front ++ part ∷ [])
+text_more f front part text newer so_far is = is ∙ ap (λ (l : List ℕ). l ++ f part) so_far ∙ flat_map_more f [] front part
+
+-- a slice from a place to the end
+pub behind_is : (xs : List ℕ) (n : ℕ) → take (length xs - n) (drop n xs) ≡ drop n xs
+behind_is xs n = take_all (length xs - n) (drop n xs) (omega (arith, length-drop n xs))

@@ -1,0 +1,69 @@
+-- What contracts see of the parts of a haystack that a search hands out.
+use Rattle.std.specs.Prelude.{◌≡◌, ℕ, false, List, length, Option, Some, None, IsSome, option_map, position}
+use Rattle.std.specs.Option.{option_map_or}
+use Rattle.std.specs.Str.{bytes_eq}
+use Rattle.bites_spec.specs.Match.{Span, span}
+use Rattle.bites_spec.specs.Pieces.{text_at}
+use Rattle.bites_spec.specs.Slots.{group_in}
+use Rattle.bites_spec.specs.Spans.{LiesFrom}
+use Rattle.bites_spec.specs.Found.{Answer, Finds}
+use Rattle.bites_spec.specs.Regex.{Regex, IsCompiled, slots_at, span_at}
+
+-- a part of a haystack, by its span
+pub record Excerpt : Type 0 where
+  pub haystack : List ℕ
+  pub span : Span
+
+-- the part at a span
+abbrev pub excerpt : List ℕ → Span → Excerpt
+excerpt hay s = record { haystack = hay; span = s }
+
+-- what stands there
+abbrev pub text_of : Excerpt → List ℕ
+text_of e = text_at e.haystack e.span
+
+-- the groups of a match: the regex whose search answered it, the haystack, and the slots
+pub record Captured : Type 0 where
+  pub regex : Regex
+  pub haystack : List ℕ
+  pub slots : List (Option ℕ)
+
+-- by its parts
+abbrev pub captured : Regex → List ℕ → List (Option ℕ) → Captured
+captured r hay slots = record { regex = r; haystack = hay; slots = slots }
+
+-- the slots have two places for each group; group 0 took part, and each group that took part lies in the haystack
+pub record AreGroups (r : Regex) (hay : List ℕ) (slots : List (Option ℕ)) : Type 0 where
+  pub count : length slots ≡ r.program.slots
+  pub whole : IsSome (group_in slots 0)
+  pub lie : (k : ℕ) (g : Span) → group_in slots k ≡ Some g → LiesFrom (length hay) 0 g
+
+-- the answers say the same: where there is one, group 0 of the slots is its span, and each group stands in the slots
+abbrev pub IsInSlots : Option Answer → Option (List (Option ℕ)) → Type 0
+IsInSlots None None = Unit {0}
+IsInSlots None (Some slots) = ⊥
+IsInSlots (Some a) None = ⊥
+IsInSlots (Some a) (Some slots) =
+    (group_in slots 0 ≡ Some (span a.start a.end)) × ((k : ℕ) → group_in slots k ≡ a.group k)
+
+-- a search of the regex's tree finds the groups in the slots
+abbrev pub FindsGroups : Regex → List ℕ → ℕ → Option (List (Option ℕ)) → Type 0
+FindsGroups r hay s o = (a : Option Answer) × Finds r.leftmost_longest r.tree hay s a × IsInSlots a o
+
+-- a search of the regex's tree finds a match with this span
+abbrev pub FindsSpan : Regex → List ℕ → ℕ → Option Span → Type 0
+FindsSpan r hay s o = (a : Option Answer) × Finds r.leftmost_longest r.tree hay s a × (o ≡ option_map (λ b. span b.start b.end) a)
+
+-- what a regex's search answers is what a search of its tree finds
+abbrev pub SlotsAreFound : Type 0
+SlotsAreFound =
+    (r : Regex) → IsCompiled r → (hay : List ℕ) (s : ℕ) → FindsGroups r hay s (slots_at r hay s) × FindsSpan r hay s (span_at r hay s)
+
+-- the number of the first group of that name
+abbrev pub number_named : List (Option (List ℕ)) → List ℕ → Option ℕ
+number_named names word = position (λ n. option_map_or (λ m. bytes_eq m word) n false) names
+
+-- the slots that a search answers hold such groups
+abbrev pub SlotsAreGroups : Type 0
+SlotsAreGroups =
+    (r : Regex) → IsCompiled r → (hay : List ℕ) (s : ℕ) (slots : List (Option ℕ)) → slots_at r hay s ≡ Some slots → AreGroups r hay slots

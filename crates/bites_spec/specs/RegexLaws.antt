@@ -1,0 +1,16 @@
+-- Laws of what a regex's searches answer.
+use Rattle.std.specs.Prelude.{ℕ, Bool, List, Option, option_map}
+use Rattle.bites_spec.specs.Tree.{Tree}
+use Rattle.bites_spec.specs.Found.{Answer, FoundSome, Finds}
+use Rattle.bites_spec.specs.Slots.{answer_of}
+use Rattle.bites_spec.specs.Regex.{Regex, IsCompiled, run_at}
+
+-- the run that a search of a regex answers is what a search of its tree finds
+abbrev pub RunIsFound : Type 0
+RunIsFound =
+    (r : Regex) → IsCompiled r → (hay : List ℕ) (s : ℕ) →
+    Finds r.leftmost_longest r.tree hay s (option_map (answer_of r.program) (run_at r hay s))
+
+-- what is found, by either choice of the parse, is some parse from the first place
+abbrev pub FindsSome : Type 0
+FindsSome = (longest : Bool) (t : Tree) (hay : List ℕ) (s : ℕ) (o : Option Answer) → Finds longest t hay s o → FoundSome t hay s o

@@ -1,0 +1,43 @@
+-- What a builder of regexes was told, and what it then accepts.
+use Rattle.std.specs.Prelude.{ℕ, Bool, false, List, chars}
+use Rattle.bites_spec.specs.Pattern.{Flags}
+use Rattle.bites_spec.specs.Tree.{Tree}
+use Rattle.bites_spec.specs.Measure.{Limits, TreeLimitsWith, groups_kept}
+
+-- no flag is set
+abbrev pub no_flags : Flags
+no_flags = record {
+  case_insensitive = false;
+  multi_line = false;
+  dot_matches_new_line = false;
+  crlf = false;
+  swap_greed = false;
+  ignore_whitespace = false;
+}
+
+-- the bytes of a pattern, flags, limits, and whether groups that the tree drops are kept
+pub record Settings : Type 0 where
+  pub pattern : List ℕ
+  pub flags : Flags
+  pub size_limit : ℕ
+  pub nest_limit : ℕ
+  pub keep_dropped_groups : Bool
+
+-- settings by their parts
+abbrev pub settings : List ℕ → Flags → ℕ → ℕ → Bool → Settings
+settings pattern flags size_limit nest_limit keep_dropped_groups = record {
+  pattern = pattern;
+  flags = flags;
+  size_limit = size_limit;
+  nest_limit = nest_limit;
+  keep_dropped_groups = keep_dropped_groups;
+}
+
+-- what a builder of this pattern is made with
+abbrev pub by_default : List ℕ → Settings
+by_default pattern = settings pattern no_flags 10485760 50 false
+
+-- the grammar reads the pattern as this tree, and all limits hold, with the groups that are kept
+pub record Accepts (s : Settings) (t : Tree) : Type 0 where
+  pub read : Limits (chars s.pattern) s.flags s.nest_limit t
+  pub small : TreeLimitsWith s.size_limit (groups_kept s.keep_dropped_groups read.reading) t

@@ -1,0 +1,11 @@
+use Rattle.std.proofs.Common.{◌||◌, ap, ◌∙◌}
+use Rattle.bites_spec.specs.Range.{in_ranges}
+use Rattle.bites_spec.proofs.ClassLemmas.{in_ranges-push}
+use Rattle.bites_syntax.proofs.CaseLemmas.{in_lower_case}
+use Rattle.bites_syntax.proofs.class_builder.ClassBuilder.push_lower_case.Goals as goal
+
+pub returns-in_ok-push : goal.returns-in_ok-push
+returns-in_ok-push c = λ d. rw c.in_ok-push.ensures.pushed
+    (in_ranges-push c.args.self.now (c.to_ascii_lowercase.result, c.to_ascii_lowercase-then-low-high.result) d
+    ∙ ap (λ b. in_ranges c.args.self.now d || b) (in_lower_case c.args.start c.args.end c.max-low.result c.min-high.result c.to_ascii_lowercase.result c.to_ascii_lowercase-then-low-high.result
+    c.max-low.ensures c.min-high.ensures c.if-low-high.true c.to_ascii_lowercase.ensures.cases c.to_ascii_lowercase-then-low-high.ensures.cases d))

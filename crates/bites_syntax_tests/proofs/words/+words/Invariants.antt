@@ -1,7 +1,0 @@
-use Rattle.bites_syntax_tests.proofs.words.+words.Given as goal
-
-abbrev pub decreases-write_tree : goal.decreases-write_tree
-decreases-write_tree l = l.levels
-
-abbrev pub decreases-write_parts : goal.decreases-write_parts
-decreases-write_parts l = l.levels

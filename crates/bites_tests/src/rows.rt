@@ -1,0 +1,74 @@
+//! The comparison of rows: that it tells answers that differ, and lines that are no rows.
+
+use bites_rows::compare::compare_line;
+use bites_rows::report::Report;
+use std::process::Abort;
+use std::test::Fail;
+
+// Compares what is told of a line: the end of the report, or the fault.
+fn expect(rt: &(impl Abort + AllocGlobal), line: &str, wanted: &str) -> Result<(), Fail> {
+    let mut report = Report::new(rt.alloc());
+    let mut told = String::new(rt.alloc());
+    match compare_line(rt.alloc(), &mut report, "line 1", line) {
+        Ok(()) => report.write(&mut told)?,
+        Err(fault) => told.push_str(fault.to_string(rt.alloc())?.as_str())?,
+    }
+    assert!(rt; told.ends_with(wanted), "{line}: {told}");
+    Ok(())
+}
+
+#[test]
+fn lines_are_told(rt: HostRuntime) -> Result<(), Fail> {
+    for (line, wanted) in [
+        ("", ""),
+        ("# a comment", ""),
+        (
+            "hand\tfind_at\tbytes\t-\t-\t-\ta|ab\tab\t0\t\t0..1\t",
+            "find_at: 1 compared, 0 different\n",
+        ),
+        (
+            "hand\tcaptures_at\tbytes\t-\t-\t-\ta|ab\tab\t0\t\t0..2\t",
+            "line 1: captures_at: expected 0..2, got 0..1\nline 1: first parses: expected 0..2, got 0..1\n",
+        ),
+        (
+            "hand\tweight\tbytes\t-\t-\t-\t*\\xC3\\xA9\t\t-\t\t144\t",
+            "1 different\nline 1: weight: expected 144, got err: uncounted repetition operator must be applied to a sub-expression\n",
+        ),
+        (
+            "hand\tweight\tbytes\t-\t-\t-\ta\t\t-\t\t143\t",
+            "expected 143, got another size\n",
+        ),
+        (
+            "hand\tmessage\tbytes\t-\t-\t-\t(\t\t-\t\taccepted\t",
+            "got err: found open group without closing ')'\n",
+        ),
+        ("hand\tbuild", "this is no row"),
+        (
+            "hand\tfind\tbytes\t-\t-\t-\ta\ta\t0\t\t0..1\t",
+            "this is no row",
+        ),
+        (
+            "hand\tfind_at\tbyte\t-\t-\t-\ta\ta\t0\t\t0..1\t",
+            "this is no row",
+        ),
+        (
+            "hand\tfind_at\tbytes\tq\t-\t-\ta\ta\t0\t\t0..1\t",
+            "this is no row",
+        ),
+        (
+            "hand\tfind_at\tbytes\t-\t-\t-\ta\ta\\\t0\t\t0..1\t",
+            "this is no row",
+        ),
+        (
+            "hand\tfind_at\tbytes\t-\t-\t-\t\\xFF\ta\t0\t\t0..1\t",
+            "this is no row",
+        ),
+        (
+            "hand\tfind_at\tbytes\t-\t-\t-\ta\ta\tx\t\t0..1\t",
+            "this is no row",
+        ),
+    ] {
+        expect(&rt, line, wanted)?;
+    }
+    Ok(())
+}
