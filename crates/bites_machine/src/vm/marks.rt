@@ -60,9 +60,10 @@ impl Marks {
         true
     }
 
-    /// Goes on as in the last round but one that 64 bits count.
+    /// No mark, in the last round but one that 64 bits count.
     #[cfg(test)]
     pub(super) fn near_the_end(&mut self) {
+        self.rounds.fill(0);
         self.round = u64::MAX - 1;
     }
 }
