@@ -1,7 +1,6 @@
 -- The run that is due, and the slots that a search for it leaves.
-use Rattle.std.proofs.Common.{◌≡◌, ℕ, zero, suc, ◌≤◌, ◌+◌, Bool, true, false, cond, List, [], ◌∷◌, map, length, take, Option, Some, None, option_map, refl, sym, ap, ◌∙◌, subst, true≢false, arith}
+use Rattle.std.proofs.Common.{◌≡◌, ℕ, zero, suc, ◌≤◌, ◌+◌, Bool, true, false, cond, List, [], ◌∷◌, length, take, Option, Some, None, refl, sym, ap, ◌∙◌, subst, true≢false, arith}
 use Rattle.bites_spec.specs.Utf8.{step_len}
-use Rattle.bites_spec.specs.Match.{Span, span}
 use Rattle.bites_spec.specs.Program.{Program}
 use Rattle.bites_spec.specs.Run.{Run, Answered, slots}
 use Rattle.bites_spec.specs.Slots.{group_in, span_of_run}

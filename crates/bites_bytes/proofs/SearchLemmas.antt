@@ -1,9 +1,8 @@
 -- What a search for the least end says of a regex's tree.
-use Rattle.std.proofs.Common.{◌≡◌, ℕ, ◌≤◌, ◌+◌, Bool, true, false, List, [], ◌∷◌, length, take, Option, Some, None, option_map, refl, sym, ap, ◌∙◌, subst, true≢false}
+use Rattle.std.proofs.Common.{◌≡◌, ℕ, ◌≤◌, Bool, true, false, List, length, take, Option, Some, None, option_map, sym, ap, ◌∙◌, subst, true≢false}
 use Rattle.std.specs.Prelude.{IsTrue, ◌↔◌, is_some}
 use Rattle.bites_spec.specs.Match.{Span}
 use Rattle.bites_spec.specs.Tree.{Tree}
-use Rattle.bites_spec.specs.Program.{Program}
 use Rattle.bites_spec.specs.Run.{Run, Answered, LeastEnd, slots}
 use Rattle.bites_spec.specs.Slots.{slot_in, group_in, span_of_run, span_between}
 use Rattle.bites_spec.specs.Found.{HasMatch, IsLeastEnd}
@@ -47,3 +46,11 @@ module _ (r : Regex) (is : IsCompiled r) (hay : List ℕ) (s : ℕ) where
         subst (IsLeastEnd r.tree hay s) (sym e) (LeastEnd-IsLeastEnd r.tree r.program hay is.compilable is.built s (Some x) least),
         ap is_some e,
       )
+
+  -- whether something is found, with any number of slots
+  pub least_found : (o : Option Run) (found : Bool) (old new : List (Option ℕ)) → LeastEnd r.program hay s o → Answered r.program o found old new →
+      IsTrue found ↔ HasMatch r.tree hay s
+  least_found None found old new least h =
+      least_has r.tree hay s None found (LeastEnd-IsLeastEnd r.tree r.program hay is.compilable is.built s None least) h.0
+  least_found (Some x) found old new least h =
+      least_has r.tree hay s (Some x.end) found (LeastEnd-IsLeastEnd r.tree r.program hay is.compilable is.built s (Some x) least) h.0

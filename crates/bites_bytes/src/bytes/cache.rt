@@ -7,7 +7,7 @@ ghost use Rattle.bites_spec.specs.Match.{span};
 ghost use Rattle.bites_spec.specs.Slots.{slot_in, group_in};
 ghost use Rattle.bites_spec.specs.Run.{Answered};
 ghost use Rattle.bites_spec.specs.Regex.{IsCompiled, run_at, span_at};
-ghost use Rattle.bites_spec.specs.Found.{IsLeastEnd};
+ghost use Rattle.bites_spec.specs.Found.{HasMatch, IsLeastEnd};
 ghost use Rattle.bites_spec.specs.Utf8.{step_len};
 ghost use Rattle.bites_spec.specs.Spans.{is_empty_at};
 ghost use Rattle.bites_bytes.specs.Room.{IsSlotCount, IsWalked};
@@ -91,6 +91,24 @@ impl Cache {
             return None;
         }
         ends_in(&slots)
+    }
+
+    // Whether there is a match that begins at a place from `start` on. No slot is asked, and the search ends where it
+    // first meets one.
+    pub(super) fn is_match(&mut self, compiled: &Compiled, haystack: &[u8], start: usize) -> bool
+        requires { self.old.fits ≡ fit_of compiled.now.program }
+        ensures found { IsTrue result ↔ HasMatch compiled.now.tree haystack.now start }
+        ensures fits { self.new.fits ≡ self.old.fits }
+        ensures walked { IsWalked compiled.now.program haystack.now start result self.new.walked }
+    {
+        vm::search(
+            compiled.program(),
+            &mut self.room,
+            haystack,
+            start,
+            true,
+            &mut [],
+        )
     }
 
     // The least end of any match that begins at a place from `start` on.
