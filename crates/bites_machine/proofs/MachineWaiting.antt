@@ -86,7 +86,7 @@ module _ (p : Program) (hay : List ℕ) where
   module _ (fin : Spot → Bool) (fin_matches : (s : Spot) → fin s ≡ true → matches p s ≡ true) where
     -- the first walk from a spot, around those that were seen
     abbrev pub run : (Spot → Bool) → Spot → Option (List Spot)
-    run seen s = walks.first_run is_same_spot (leads p hay) fin (enough p hay) seen s
+    run seen s = walks.first_walk is_same_spot (leads p hay) fin (enough p hay) seen s
 
     -- the first success of those that wait
     abbrev pub pend : (Spot → Bool) → List (Spot × (List Spot → Outcome)) → Option Outcome

@@ -5,7 +5,7 @@ ghost use Rattle.std.specs.Prelude.{◌≡◌, ◌++◌, ◌+◌, ◌<◌, ◌�
 ghost use Rattle.std.specs.List.{prefix_len};
 ghost use Rattle.bites_spec.specs.Look as look;
 ghost use Rattle.bites_spec.specs.Walks.{IsNew};
-ghost use Rattle.bites_spec.specs.Template.{expansion, group_named, number_of, number_of_digits};
+ghost use Rattle.bites_spec.specs.Template.{expansion, group_named, number_in, number_of_digits};
 ghost use Rattle.bites_spec.specs.Cutting.{CutsFront};
 ghost use Rattle.bites_machine.specs.Interpolate.{parts_in, GivesTexts, GivesNumbers, AppendsUntilRefused, IsTextFront, BeginsWith};
 
@@ -147,7 +147,7 @@ where
     ensures { (texts : _) (numbers : _) → GivesNumbers (I.post index_of.now) numbers
         → result ≡ group_named usize.MAX texts numbers name.now }
 {
-    match number_of(name.as_bytes()) {
+    match number_in(name.as_bytes()) {
         Some(number) => Some(number),
         None => index_of(name),
     }
@@ -288,8 +288,8 @@ fn word_len(bytes: &[u8]) -> usize
 }
 
 /// The number that a name is, with one `+` in front or none, if a `usize` holds it.
-fn number_of(name: &[u8]) -> Option<usize>
-    ensures { result ≡ number_of usize.MAX name.now }
+fn number_in(name: &[u8]) -> Option<usize>
+    ensures { result ≡ number_in usize.MAX name.now }
 {
     match name {
         [] => None,

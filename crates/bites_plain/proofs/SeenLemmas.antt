@@ -63,11 +63,11 @@ module _ (p : Program) (hay : List ℕ) (end : Option ℕ) where
       one q = list_any-append (is_same_spot q) xs (s ∷ []) ∙ or_turned (is_same_spot q s) (is_seen xs q)
 
   pub walk_seen : (xs : List Spot) (s : Spot) → is_seen xs s ≡ true → None ≡ first_walk p hay end (is_seen xs) s
-  unfolding walks.first_run
+  unfolding walks.first_walk
   walk_seen xs s e = rw e refl
 
   pub walk_match : (xs : List Spot) (s : Spot) → is_seen xs s ≡ false → is_end p end s ≡ true → Some (s ∷ []) ≡ first_walk p hay end (is_seen xs) s
-  unfolding walks.first_run
+  unfolding walks.first_walk
   walk_match xs s new is = rw (new, is) refl
 
   pub fewer_unseen : (xs : List Spot) (s : Spot) → Inside p hay s → is_seen xs s ≡ false → unseen p hay (is_seen (xs ++ s ∷ [])) < unseen p hay (is_seen xs)

@@ -17,7 +17,7 @@ is_end p (Some j) = λ s. matches p s && (s.place == j)
 module _ (p : Program) (hay : List ℕ) (end : Option ℕ) where
   -- the first walk from a spot to a wanted end, through no spot that was seen and none twice
   abbrev pub first_walk : (Spot → Bool) → Spot → Option (List Spot)
-  first_walk seen s = walks.first_run is_same_spot (leads p hay) (is_end p end) (enough p hay) seen s
+  first_walk seen s = walks.first_walk is_same_spot (leads p hay) (is_end p end) (enough p hay) seen s
 
   -- as to walks, the new spots that were seen make no difference
   abbrev pub LeadsNowhere : List Spot → List Spot → Type 0

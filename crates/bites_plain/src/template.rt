@@ -3,7 +3,7 @@
 ghost use Rattle.std.specs.Prelude.{◌≡◌, ◌≤◌, ◌++◌, ◌∷◌, ℕ, List, drop, length, IfOk, OnOk, MatchOption, MatchBool, IsUtf8, IfSome, ◌<◌, ◌*◌, ◌+◌, option_map, option_and_then};
 ghost use Rattle.std.specs.Option.{option_copied};
 ghost use Rattle.bites_spec.specs.Walks.{IsNew};
-ghost use Rattle.bites_spec.specs.Template.{Expands, stands_for, group_named, number_of, number_of_digits};
+ghost use Rattle.bites_spec.specs.Template.{Expands, stands_for, group_named, number_in, number_of_digits};
 ghost use Rattle.bites_plain.specs.Groups.{text_in, index_in, is_named, part_of};
 ghost use Rattle.bites_spec.specs.Cutting.{CutsFirst, IsFirstBrace, NoName, StandsInBraces, IsWordAt};
 
@@ -206,7 +206,7 @@ fn named_text<'g>(groups: &'g [Group], word: &[u8]) -> Option<&'g [u8]>
 fn group_named(groups: &[Group], word: &[u8]) -> Option<usize>
     ensures { result ≡ group_named usize.MAX (text_in groups.now) (index_in groups.now) word.now }
 {
-    match number_of(word) {
+    match number_in(word) {
         Some(number) => Some(number),
         None => index_in(groups, word),
     }
@@ -230,8 +230,8 @@ fn text_in(groups: &[Group], number: usize) -> Option<&[u8]>
 }
 
 /// The number that the word is, with one `+` in front or none, if a `usize` holds it.
-fn number_of(word: &[u8]) -> Option<usize>
-    ensures { result ≡ number_of usize.MAX word.now }
+fn number_in(word: &[u8]) -> Option<usize>
+    ensures { result ≡ number_in usize.MAX word.now }
 {
     match word {
         [] => None,

@@ -16,7 +16,7 @@ use Rattle.bites_spec.specs.GroupFault.{StuckOpening}
 use Rattle.bites_spec.specs.Fault as fault
 use Rattle.bites_spec.specs.Fault.{StuckItem, StuckSequence, StuckChoice, ComesFirst}
 use Rattle.bites_spec.specs.Reader as reading
-use Rattle.bites_spec.specs.Reader.{Stop, Found, ReadResult, Reader, answer, stop, and_then, and_found, counted, at_operator, at_opened, behind_group, at_item, inner}
+use Rattle.bites_spec.specs.Reader.{Stop, ReadChoice, ReadResult, Reader, answer, stop, and_then, and_found, counted, at_operator, at_opened, behind_group, at_item, inner}
 use Rattle.bites_spec.proofs.EachLemmas.{skip_shorter}
 use Rattle.bites_spec.proofs.EscapeLemmas.{bool_cases, either_side}
 use Rattle.bites_spec.proofs.ItemCounts as counts
@@ -99,7 +99,7 @@ through : {A B : Type 0} {m : Message} {place : Text} (a : ReadResult A) (next :
 through a next s = record { at = s.at; is = ap (λ x. and_then x next) s.is; first = s.first }
 
 -- behind what leads there, or stops at a limit before
-first_then : {nest_limit depth opens counts groups : ℕ} {rest place : Text} {m : Message} (a b : Result Found Stop) → GoesOn nest_limit depth opens counts groups rest a b →
+first_then : {nest_limit depth opens counts groups : ℕ} {rest place : Text} {m : Message} (a b : Result ReadChoice Stop) → GoesOn nest_limit depth opens counts groups rest a b →
     StopsFirst m place b → length place ≤ length rest → StopsFirst m place a
 first_then a b (inl on) s within = first_along a b on s
 first_then a b (inr limit) s within = record { at = limit.at; is = limit.is; first = inl (omega (arith, limit.before)) }
@@ -113,7 +113,7 @@ too_many_first m place at within = of_least_rank message.too_many_groups m place
 
 module _ (list_of : Set → List Range) (lists : (set : Set) → Lists (list_of set) set) (nest_limit : ℕ) where
   module _ (go : Reader) (n depth : ℕ) (front : Front) (branches nodes : List Tree) where
-    abbrev item : Text → Result Found Stop
+    abbrev item : Text → Result ReadChoice Stop
     item t = at_item list_of nest_limit go n depth front branches nodes t
 
     end_first : (t : Text) (m : Message) (place : Text) → t ≡ [] → 0 < depth → place ≡ [] → m ≡ message.unclosed_group → StopsFirst m place (item t)

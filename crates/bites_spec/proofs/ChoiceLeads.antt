@@ -18,7 +18,7 @@ use Rattle.bites_spec.specs.Grammar as grammar
 use Rattle.bites_spec.specs.Grammar.{ReadsAtom, ReadsItem, ReadsSequence, ReadsChoice, group_of, literal_of, dot_set}
 use Rattle.bites_spec.specs.Measure.{open_in_choice, open_in_sequence, open_in_item, count_in_choice, count_in_sequence, count_in_item}
 use Rattle.bites_spec.specs.Reader as reading
-use Rattle.bites_spec.specs.Reader.{Stop, Found, ReadResult, Bounds, Opened, Reader, answer, stop, found, and_then, and_found, lazy, counted, plain_operator, at_operator, at_opened, behind_group, at_item, inner}
+use Rattle.bites_spec.specs.Reader.{Stop, ReadChoice, ReadResult, Bounds, Opened, Reader, answer, stop, found, and_then, and_found, lazy, counted, plain_operator, at_operator, at_opened, behind_group, at_item, inner}
 use Rattle.bites_spec.proofs.EachLemmas.{skip_shorter}
 use Rattle.bites_spec.proofs.EscapeLemmas.{either_side}
 use Rattle.bites_spec.proofs.RangeLemmas.{lists_once}
@@ -52,35 +52,35 @@ passes_outside (by_count is more) = by_count is more
 passes_outside (by_number is more) = by_number is more
 
 -- the answer is a stop before this place, at a limit that is passed
-pub record StopsAtLimit (nest_limit depth opens counts groups : ℕ) (rest : Text) (a : Result Found Stop) : Type 0 where
+pub record StopsAtLimit (nest_limit depth opens counts groups : ℕ) (rest : Text) (a : Result ReadChoice Stop) : Type 0 where
   pub at : Stop
   pub is : a ≡ Err at
   pub before : length rest < length at.place
   pub passes : Passes nest_limit depth opens counts groups at.message
 
 -- a stop within a longer piece of reading
-limit_more : {nest_limit depth opens counts groups o c g : ℕ} {rest end : Text} {a b : Result Found Stop} → StopsAtLimit nest_limit depth opens counts groups rest b →
+limit_more : {nest_limit depth opens counts groups o c g : ℕ} {rest end : Text} {a b : Result ReadChoice Stop} → StopsAtLimit nest_limit depth opens counts groups rest b →
     a ≡ b → opens ≤ o → counts ≤ c → groups ≤ g → length end ≤ length rest → StopsAtLimit nest_limit depth o c g end a
 limit_more s same x y z shorter =
     record { at = s.at; is = same ∙ s.is; before = omega (arith, s.before); passes = passes_more x y z s.passes }
 
 -- the answer goes on as this one, or is a stop at a limit
-abbrev pub GoesOn : ℕ → ℕ → ℕ → ℕ → ℕ → Text → Result Found Stop → Result Found Stop → Type 0
+abbrev pub GoesOn : ℕ → ℕ → ℕ → ℕ → ℕ → Text → Result ReadChoice Stop → Result ReadChoice Stop → Type 0
 GoesOn nest_limit depth opens counts groups rest a b = (a ≡ b) ⊎ StopsAtLimit nest_limit depth opens counts groups rest a
 
-goes_along : {nest_limit depth opens counts groups : ℕ} {rest : Text} (a b c : Result Found Stop) → a ≡ b → GoesOn nest_limit depth opens counts groups rest b c →
+goes_along : {nest_limit depth opens counts groups : ℕ} {rest : Text} (a b c : Result ReadChoice Stop) → a ≡ b → GoesOn nest_limit depth opens counts groups rest b c →
     GoesOn nest_limit depth opens counts groups rest a c
 goes_along a b c same (inl on) = inl (same ∙ on)
 goes_along a b c same (inr s) = inr (limit_more s same (omega arith) (omega arith) (omega arith) (omega arith))
 
 -- an answer within a longer piece of reading
-goes_more : {nest_limit depth opens counts groups o c g : ℕ} {rest end : Text} (a b d : Result Found Stop) → GoesOn nest_limit depth opens counts groups rest a b → b ≡ d →
+goes_more : {nest_limit depth opens counts groups o c g : ℕ} {rest end : Text} (a b d : Result ReadChoice Stop) → GoesOn nest_limit depth opens counts groups rest a b → b ≡ d →
     opens ≤ o → counts ≤ c → groups ≤ g → length end ≤ length rest → GoesOn nest_limit depth o c g end a d
 goes_more a b d (inl on) same x y z shorter = inl (on ∙ same)
 goes_more a b d (inr s) same x y z shorter = inr (limit_more s refl x y z shorter)
 
 -- two pieces of reading, one behind the other
-goes_then : {nest_limit depth opens counts groups o c g : ℕ} {rest end : Text} (a b d : Result Found Stop) → GoesOn nest_limit depth opens counts groups rest a b →
+goes_then : {nest_limit depth opens counts groups o c g : ℕ} {rest end : Text} (a b d : Result ReadChoice Stop) → GoesOn nest_limit depth opens counts groups rest a b →
     GoesOn nest_limit depth o c g end b d → groups ≤ g → length end ≤ length rest → GoesOn nest_limit depth (max opens o) (max counts c) g end a d
 goes_then {depth = depth} a b d (inl on) second grow shorter =
     goes_along a b d on (goes_more b d d second refl (omega arith) (omega arith) (omega arith) (omega arith))
@@ -100,7 +100,7 @@ module _ (list_of : Set → List Range) (lists : (set : Set) → Lists (list_of 
     with_node : (a b : Tree) (rest : Text) → b ≡ a → go depth front branches (nodes ++ a ∷ []) rest ≡ go depth front branches (nodes ++ b ∷ []) rest
     with_node a b rest is = ap (λ x. go depth front branches (nodes ++ x ∷ []) rest) (sym is)
 
-    abbrev item : Text → Result Found Stop
+    abbrev item : Text → Result ReadChoice Stop
     item t = at_item list_of nest_limit go n depth front branches nodes t
 
     escape_leads : (meaning : Meaning) (t next rest : Text) → ReadsEscape front.flags t meaning rest → t ≡ backslash ∷ next → length t ≤ n →

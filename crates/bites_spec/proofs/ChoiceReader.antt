@@ -24,7 +24,7 @@ use Rattle.bites_spec.specs.Grammar.{ReadsAtom, ReadsItem, ReadsSequence, ReadsC
 use Rattle.bites_spec.specs.Fault as fault
 use Rattle.bites_spec.specs.Fault.{StuckItem, StuckSequence, StuckChoice}
 use Rattle.bites_spec.specs.Reader as reading
-use Rattle.bites_spec.specs.Reader.{Stop, Found, ReadResult, Bounds, Opened, Reader, choose, and_then, and_found, lazy, counted, plain_operator, repeat_last, at_end, at_closing, at_operator, at_opened, behind_group, at_item, inner}
+use Rattle.bites_spec.specs.Reader.{Stop, ReadChoice, ReadResult, Bounds, Opened, Reader, choose, and_then, and_found, lazy, counted, plain_operator, repeat_last, at_end, at_closing, at_operator, at_opened, behind_group, at_item, inner}
 use Rattle.bites_spec.proofs.EachLemmas.{skip_shorter}
 use Rattle.bites_spec.proofs.EscapeLemmas.{Means, either_side, escape_means}
 use Rattle.bites_spec.proofs.CountLemmas.{lazy_reads, count_means}
@@ -123,7 +123,7 @@ module _ (list_of : Set → List Range) (lists : (set : Set) → Lists (list_of 
     escape_says nodes (Err e) says = stops_here (fault.in_escape depth front (skip front.flags t) e.place nodes e.message says)
 
     -- behind the group that is open
-    group_says : (nodes : List Tree) (opening : Opening) (inner_front : Front) (inside : Text) (a : Result Found Stop) →
+    group_says : (nodes : List Tree) (opening : Opening) (inner_front : Front) (inside : Text) (a : Result ReadChoice Stop) →
         ReadsOpening front (skip front.flags t) opening inner_front inside → suc depth ≤ nest_limit → Says nest_limit (suc depth) inner_front [] [] inside a →
         Says nest_limit depth front branches nodes t (and_found a (behind_group list_of nest_limit go depth front branches nodes opening))
     group_says nodes opening inner_front inside (Ok f) r deep found =

@@ -10,7 +10,7 @@ use Rattle.bites_spec.specs.Grammar.{ReadsAtom, ReadsItem, ReadsSequence, ReadsC
 use Rattle.bites_spec.specs.Measure.{open_in_choice, open_in_sequence, open_in_item, count_in_choice, count_in_sequence, count_in_item}
 use Rattle.bites_spec.specs.Fault as fault
 use Rattle.bites_spec.specs.Fault.{StuckItem, StuckSequence, StuckChoice}
-use Rattle.bites_spec.specs.Reader.{Stop, Found, Bounds, repeat_last}
+use Rattle.bites_spec.specs.Reader.{Stop, ReadChoice, Bounds, repeat_last}
 use Rattle.bites_spec.proofs.ChoiceParts.{most_of}
 
 -- from t up to rest the branch goes on behind these nodes, and branches may follow: with what they add, within the limits
@@ -34,7 +34,7 @@ EndsChoice zero rest = rest ≡ []
 EndsChoice (suc depth) rest = (more : Text) × (rest ≡ right_parenthesis ∷ more)
 
 -- what is found at the end of the choice
-pub record Finds (nest_limit depth : ℕ) (front : Front) (branches nodes : List Tree) (t : Text) (f : Found) : Type 0 where
+pub record Finds (nest_limit depth : ℕ) (front : Front) (branches nodes : List Tree) (t : Text) (f : ReadChoice) : Type 0 where
   pub added : List Tree
   pub same : f.branches ≡ branches ++ added
   pub adds : Adds nest_limit depth front f.behind t f.rest nodes added
@@ -42,7 +42,7 @@ pub record Finds (nest_limit depth : ℕ) (front : Front) (branches nodes : List
   pub ends : EndsChoice depth f.rest
 
 -- what an answer of the reader says
-abbrev pub Says : ℕ → ℕ → Front → List Tree → List Tree → Text → Result Found Stop → Type 0
+abbrev pub Says : ℕ → ℕ → Front → List Tree → List Tree → Text → Result ReadChoice Stop → Type 0
 Says nest_limit depth front branches nodes t (Ok f) = Finds nest_limit depth front branches nodes t f
 Says nest_limit depth front branches nodes t (Err e) = Stops nest_limit depth front t nodes e.message e.place
 
@@ -84,7 +84,7 @@ stops_item {front = front} {middle = middle} {t = t} {next = next} {nodes = node
     in_later_branch all last beyond (grammar.goes_on front middle last t next (bar ∷ beyond) nodes more all i s) c
 
 -- what the answer behind an item says, before it
-pub says_item : (nest_limit depth : ℕ) (front middle : Front) (t next : Text) (branches nodes more : List Tree) (a : Result Found Stop)
+pub says_item : (nest_limit depth : ℕ) (front middle : Front) (t next : Text) (branches nodes more : List Tree) (a : Result ReadChoice Stop)
     (i : ReadsItem front (skip front.flags t) nodes more middle next) → depth + open_in_item i ≤ nest_limit → count_in_item i ≤ greatest_number →
     Says nest_limit depth middle branches more next a → Says nest_limit depth front branches nodes t a
 says_item nest_limit depth front middle t next branches nodes more (Ok f) i opens counts found =
@@ -105,7 +105,7 @@ stops_bar {depth = depth} {front = front} {more = more} {place = place} nodes {m
     in_later_branch nodes front more (ends_branch nodes at refl) (fault.in_later depth front last more beyond place all m s c)
 
 -- what the answer behind a bar says, before it
-pub says_bar : (nest_limit depth : ℕ) (front : Front) (t more : Text) (branches nodes : List Tree) (a : Result Found Stop) →
+pub says_bar : (nest_limit depth : ℕ) (front : Front) (t more : Text) (branches nodes : List Tree) (a : Result ReadChoice Stop) →
     bar ∷ more ≡ skip front.flags t → depth ≤ nest_limit → Says nest_limit depth front (branches ++ sequence_of nodes ∷ []) [] more a →
     Says nest_limit depth front branches nodes t a
 says_bar nest_limit depth front t more branches nodes (Ok f) at room found =
@@ -133,7 +133,7 @@ says_end {front = front} {t = t} {rest = rest} {nodes = nodes} at ends closes ro
 }
 
 -- an atom in front
-pub says_atom : (nest_limit depth : ℕ) (front : Front) (t rest : Text) (branches nodes : List Tree) (node : Tree) (a : Result Found Stop) →
+pub says_atom : (nest_limit depth : ℕ) (front : Front) (t rest : Text) (branches nodes : List Tree) (node : Tree) (a : Result ReadChoice Stop) →
     ReadsAtom front.flags (skip front.flags t) node rest → depth ≤ nest_limit → Says nest_limit depth front branches (nodes ++ node ∷ []) rest a →
     Says nest_limit depth front branches nodes t a
 says_atom nest_limit depth front t rest branches nodes node a r room says =
@@ -154,7 +154,7 @@ last_repeated b node (other ∷ nodes) =
     record { before = node ∷ r.before; last = r.last; is = ap (λ l. node ∷ l) r.is; repeated = ap (λ l. node ∷ l) r.repeated }
 
 -- an operator in front
-pub says_operator : (nest_limit depth : ℕ) (front : Front) (t rest : Text) (branches nodes : List Tree) (node : Tree) (b : Bounds) (a : Result Found Stop) →
+pub says_operator : (nest_limit depth : ℕ) (front : Front) (t rest : Text) (branches nodes : List Tree) (node : Tree) (b : Bounds) (a : Result ReadChoice Stop) →
     ReadsOperator front.flags (skip front.flags t) b.0 b.1 b.2 rest → most_of b.0 b.1 ≤ greatest_number → depth ≤ nest_limit →
     Says nest_limit depth front branches (repeat_last b node nodes) rest a → Says nest_limit depth front branches (node ∷ nodes) t a
 says_operator nest_limit depth front t rest branches nodes node b a r small room says =

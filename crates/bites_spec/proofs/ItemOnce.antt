@@ -15,7 +15,7 @@ use Rattle.bites_spec.specs.Group.{Opening, unnumbered, ReadsOpening, with_group
 use Rattle.bites_spec.specs.Grammar.{ReadsAtom, at_front}
 use Rattle.bites_spec.specs.RangesOf.{ranges_of}
 use Rattle.bites_spec.specs.Reader as reading
-use Rattle.bites_spec.specs.Reader.{ReadResult, Found, Stop, Reader, Opened, answer, stop, each, lazy, found, opened, at_item}
+use Rattle.bites_spec.specs.Reader.{ReadResult, ReadChoice, Stop, Reader, Opened, answer, stop, each, lazy, found, opened, at_item}
 use Rattle.bites_spec.proofs.EachLemmas.{each_complete}
 use Rattle.bites_spec.proofs.GroupLemmas.{opened_leads, directive_leads}
 use Rattle.bites_spec.proofs.ClassLemmas.{ranges_of_list}
@@ -135,11 +135,11 @@ abbrev node_in : List Tree → Tree
 node_in [] = empty
 node_in (t ∷ ts) = t
 
-abbrev first_node : Result Found Stop → Tree
+abbrev first_node : Result ReadChoice Stop → Tree
 first_node (Ok f) = node_in f.branches
 first_node (Err e) = empty
 
-abbrev rest_in : Result Found Stop → Text
+abbrev rest_in : Result ReadChoice Stop → Text
 rest_in (Ok f) = f.rest
 rest_in (Err e) = []
 

@@ -43,7 +43,7 @@ module _ (p : Program) (hay : List ℕ) where
   from_end j s (t ∷ r) walk = (walk.0, from_end j t r walk.1)
 
   abbrev pub walk_to : ℕ → ℕ → Option (List Spot)
-  walk_to i j = walks.first_run is_same_spot (leads p hay) (is_end_at p j) (enough p hay) (λ s. false) (at p.start i)
+  walk_to i j = walks.first_walk is_same_spot (leads p hay) (is_end_at p j) (enough p hay) (λ s. false) (at p.start i)
 
   -- no run goes from i to j
   abbrev pub NoRunTo : ℕ → ℕ → Type 0

@@ -159,7 +159,7 @@ cycle : Program
 cycle = record { states = program.splits (0 ∷ 1 ∷ []) false ∷ program.goto 0 None ∷ []; start = 0; slots = 2 }
 
 cycle_none : first_run cycle (codes "ab") 0 ≡ None
-unfolding cycle first_run first_run_from walks.first_run piece front_piece places
+unfolding cycle first_run first_run_from walks.first_walk piece front_piece places
 cycle_none = refl
 
 -- a state that leads to itself first
@@ -171,7 +171,7 @@ self_loop = record {
 }
 
 self_loop_slots : option_map (slots self_loop) (first_run self_loop (codes "aab") 0) ≡ Some (Some 0 ∷ Some 2 ∷ [])
-unfolding self_loop first_run first_run_from walks.first_run piece front_piece places
+unfolding self_loop first_run first_run_from walks.first_walk piece front_piece places
 self_loop_slots = refl
 
 -- `(?:|a)*` on `a`: 0..0
@@ -186,7 +186,7 @@ empty_first = record {
 }
 
 empty_first_run : option_map (slots empty_first) (first_run empty_first (codes "a") 0) ≡ Some (Some 0 ∷ Some 0 ∷ [])
-unfolding empty_first first_run first_run_from walks.first_run piece front_piece places
+unfolding empty_first first_run first_run_from walks.first_walk piece front_piece places
 empty_first_run = refl
 
 -- `(a*)*` on `b`: 0..0, and group 1 is 0..0
@@ -202,7 +202,7 @@ star_of_star = record {
 
 star_of_star_run : option_map (slots star_of_star) (first_run star_of_star (codes "b") 0)
     ≡ Some (Some 0 ∷ Some 0 ∷ Some 0 ∷ Some 0 ∷ [])
-unfolding star_of_star first_run first_run_from walks.first_run piece front_piece places
+unfolding star_of_star first_run first_run_from walks.first_walk piece front_piece places
 star_of_star_run = refl
 
 -- `(a*)*`, and its program

@@ -218,7 +218,7 @@ no_place f (q ∷ ps) e k h =
 
 module _ (p : Program) (hay : List ℕ) (well : IsWellFormed p) where
   abbrev found_from : ℕ → Option (List Spot)
-  found_from i = walks.first_run is_same_spot (leads p hay) (matches p) (enough p hay) (λ s. false) (at p.start i)
+  found_from i = walks.first_walk is_same_spot (leads p hay) (matches p) (enough p hay) (λ s. false) (at p.start i)
 
   -- the run that is answered is a simple run, and the first one
   pub record FoundFrom (i : ℕ) (r : Run) : Type 0 where

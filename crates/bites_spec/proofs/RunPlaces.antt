@@ -80,7 +80,7 @@ module _ (p : Program) (hay : List ℕ) where
   ends_at_last s (t ∷ r) walk = (walk.0, ends_at_last t r walk.1)
 
   found_lies : (i : ℕ) (r : Run) (o : Option (List Spot)) → i ≤ length hay →
-      walks.first_run is_same_spot (leads p hay) (matches p) (enough p hay) (λ s. false) (at p.start i) ≡ o →
+      walks.first_walk is_same_spot (leads p hay) (matches p) (enough p hay) (λ s. false) (at p.start i) ≡ o →
       option_and_then (run_of p hay i) o ≡ Some r → LiesFrom (length hay) i (span r.start r.end)
   found_lies i r None le is e = absurd (none_some r e)
   found_lies i r (Some l) le is e =

@@ -12,14 +12,14 @@ use Rattle.bites_spec.specs.Fault.{IsStuck, Fault, ComesFirst}
 use Rattle.bites_spec.specs.GrammarLaws.{FaultsOnce, ReaderReads, IsRefusedBy, ReaderRefuses}
 use Rattle.bites_spec.specs.RangesOf.{ranges_of}
 use Rattle.bites_spec.proofs.ClassLemmas.{ranges_of_list}
-use Rattle.bites_spec.specs.Reader.{Stop, Found, inner, read}
+use Rattle.bites_spec.specs.Reader.{Stop, ReadChoice, inner, read}
 use Rattle.bites_spec.proofs.ChoiceLeads.{Passes, by_nesting, by_count, by_number, StopsAtLimit, choice_leads}
 use Rattle.bites_spec.proofs.ChoiceFirst.{StopsFirst, choice_first}
 use Rattle.bites_spec.proofs.WholeSound.{read_within, read_stuck, within_limits, tall_or_low}
 use Rattle.bites_spec.proofs.WholeRanks.{rank_once}
 
 -- the end of the reader
-abbrev ended : Result Found Stop → Result Tree Stop
+abbrev ended : Result ReadChoice Stop → Result Tree Stop
 ended a = elim a [ Ok f ↦ Ok (choice_of f.branches) | Err e ↦ Err e ]
 
 -- the reader answers this tree, or stops at a limit that the reading passes
@@ -50,12 +50,12 @@ module _ (list_of : Set → List Range) (lists : (set : Set) → Lists (list_of 
       (choice_leads list_of lists nest_limit r.reads (suc (length pattern)) 0 [] (omega arith) refl)
 
   -- where the reader finds branches, a reading of the pattern ends with the same front
-  pub behind_found : {pattern : Text} {flags : Flags} {t : Tree} (r : Reading pattern flags t) (f : Found) →
+  pub behind_found : {pattern : Text} {flags : Flags} {t : Tree} (r : Reading pattern flags t) (f : ReadChoice) →
       inner list_of nest_limit (suc (length pattern)) 0 (at_front flags) [] [] pattern ≡ Ok f → r.behind ≡ f.behind
   behind_found {pattern} {flags} {t} r f is =
       ⊎_elim
       (λ (on : inner list_of nest_limit (suc (length pattern)) 0 (at_front flags) [] [] pattern ≡ Ok (record { branches = r.branches; behind = r.behind; rest = [] })).
-      let same : record { branches = r.branches; behind = r.behind; rest = [] } ≡ f = cc in ap (λ (x : Found). x.behind) same)
+      let same : record { branches = r.branches; behind = r.behind; rest = [] } ≡ f = cc in ap (λ (x : ReadChoice). x.behind) same)
       (λ (s : StopsAtLimit nest_limit 0 (open_in_choice r.reads) (count_in_choice r.reads) r.behind.groups []
       (inner list_of nest_limit (suc (length pattern)) 0 (at_front flags) [] [] pattern)).
       let stopped = s.is in cc)

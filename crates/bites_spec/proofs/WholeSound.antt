@@ -9,7 +9,7 @@ use Rattle.bites_spec.specs.OperatorFault.{greatest_number}
 use Rattle.bites_spec.specs.Grammar.{Reading, at_front}
 use Rattle.bites_spec.specs.Measure.{Limits, IsTooTall, height, open_in_choice, count_in_choice}
 use Rattle.bites_spec.specs.Fault.{IsStuck}
-use Rattle.bites_spec.specs.Reader.{Stop, Found, read}
+use Rattle.bites_spec.specs.Reader.{Stop, ReadChoice, read}
 use Rattle.bites_spec.proofs.ChoiceSound.{Says, Choice, adds_choice}
 use Rattle.bites_spec.proofs.ChoiceReader.{inner_says, stops_choice}
 
@@ -25,7 +25,7 @@ abbrev pub ReadSays : Text → Flags → ℕ → Result Tree Stop → Type 0
 ReadSays pattern flags nest_limit (Ok t) = Within pattern flags nest_limit t
 ReadSays pattern flags nest_limit (Err e) = IsStuck pattern flags nest_limit e.message e.place
 
-whole : (pattern : Text) (flags : Flags) (nest_limit : ℕ) (a : Result Found Stop) → Says nest_limit 0 (at_front flags) [] [] pattern a →
+whole : (pattern : Text) (flags : Flags) (nest_limit : ℕ) (a : Result ReadChoice Stop) → Says nest_limit 0 (at_front flags) [] [] pattern a →
     ReadSays pattern flags nest_limit (elim a [ Ok f ↦ Ok (choice_of f.branches) | Err e ↦ Err e ])
 whole pattern flags nest_limit (Ok f) found =
     let first : Choice nest_limit 0 (at_front flags) f.behind pattern f.rest found.added = adds_choice found.adds in

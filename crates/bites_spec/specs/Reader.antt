@@ -353,17 +353,17 @@ opened front t =
     (λ _. choose (begins (codes "?<") t) (λ _. named_group front (drop 2 t)) (λ _. no_name front t)))
 
 -- what a choice is read as, up to the end or a closing parenthesis
-pub record Found : Type 0 where
+pub record ReadChoice : Type 0 where
   pub branches : List Tree
   pub behind : Front
   pub rest : Text
 
 -- what was found, by its parts
-abbrev pub found : List Tree → Front → Text → Result Found Stop
+abbrev pub found : List Tree → Front → Text → Result ReadChoice Stop
 found branches behind rest = Ok (record { branches = branches; behind = behind; rest = rest })
 
 -- goes on behind a choice
-abbrev pub and_found : Result Found Stop → (Found → Result Found Stop) → Result Found Stop
+abbrev pub and_found : Result ReadChoice Stop → (ReadChoice → Result ReadChoice Stop) → Result ReadChoice Stop
 and_found (Ok x) f = f x
 and_found (Err e) f = Err e
 
@@ -374,21 +374,21 @@ repeat_last b t (u ∷ nodes) = t ∷ repeat_last b u nodes
 
 -- how reading goes on: from so many open groups, the front's decisions, the branches and nodes so far, and the text
 abbrev pub Reader : Type 0
-Reader = ℕ → Front → List Tree → List Tree → Text → Result Found Stop
+Reader = ℕ → Front → List Tree → List Tree → Text → Result ReadChoice Stop
 
 module _ (list_of : Set → List Range) (nest_limit : ℕ) where
   -- at the end of the pattern
-  abbrev pub at_end : ℕ → Front → List Tree → List Tree → Result Found Stop
+  abbrev pub at_end : ℕ → Front → List Tree → List Tree → Result ReadChoice Stop
   at_end zero front branches nodes = found (branches ++ sequence_of nodes ∷ []) front []
   at_end (suc depth) front branches nodes = stop message.unclosed_group []
 
   -- at a closing parenthesis
-  abbrev pub at_closing : ℕ → Front → List Tree → List Tree → Text → Result Found Stop
+  abbrev pub at_closing : ℕ → Front → List Tree → List Tree → Text → Result ReadChoice Stop
   at_closing zero front branches nodes t = stop message.unopened_group t
   at_closing (suc depth) front branches nodes t = found (branches ++ sequence_of nodes ∷ []) front t
 
   -- at an operator, which repeats the last node
-  abbrev pub at_operator : Reader → ℕ → Front → List Tree → List Tree → Message → Text → ReadResult Bounds → Result Found Stop
+  abbrev pub at_operator : Reader → ℕ → Front → List Tree → List Tree → Message → Text → ReadResult Bounds → Result ReadChoice Stop
   at_operator go depth front branches [] m at a = stop m at
   at_operator go depth front branches (t ∷ nodes) m at a = and_then a (λ b rest. go depth front branches (repeat_last b t nodes) rest)
 
@@ -399,18 +399,18 @@ module _ (list_of : Set → List Range) (nest_limit : ℕ) where
   node_of flags (assertion l) = tree.look l
 
   -- behind a group
-  abbrev pub behind_group : Reader → ℕ → Front → List Tree → List Tree → Opening → Found → Result Found Stop
+  abbrev pub behind_group : Reader → ℕ → Front → List Tree → List Tree → Opening → ReadChoice → Result ReadChoice Stop
   behind_group go depth front branches nodes opening f =
       go depth (record (f.behind) { flags = front.flags }) branches (nodes ++ group_of opening front.groups f.branches ∷ []) (drop 1 f.rest)
 
   -- behind what opens a group
-  abbrev pub at_opened : Reader → ℕ → Front → List Tree → List Tree → Opened → Text → Result Found Stop
+  abbrev pub at_opened : Reader → ℕ → Front → List Tree → List Tree → Opened → Text → Result ReadChoice Stop
   at_opened go depth front branches nodes (directive flags) t = go depth (record front { flags = flags }) branches nodes t
   at_opened go depth front branches nodes (group opening inner) t =
       choose (nat_lt nest_limit (depth + 1)) (λ _. stop message.too_much_nesting t) (λ _. and_found (go (suc depth) inner [] [] t) (behind_group go depth front branches nodes opening))
 
   -- the kinds of an item by its first character
-  abbrev pub at_item : Reader → ℕ → ℕ → Front → List Tree → List Tree → Text → Result Found Stop
+  abbrev pub at_item : Reader → ℕ → ℕ → Front → List Tree → List Tree → Text → Result ReadChoice Stop
   at_item go n depth front branches nodes [] = at_end depth front branches nodes
   at_item go n depth front branches nodes (c ∷ t) =
       choose (c == right_parenthesis) (λ _. at_closing depth front branches nodes (c ∷ t))

@@ -135,7 +135,7 @@ module _ (p : Program) (hay : List ℕ) where
   -- the first simple run from i
   unfoldable pub first_run_from : ℕ → Option Run
   first_run_from i =
-      option_and_then (run_of i) (walks.first_run is_same_spot leads (matches p) enough (λ s. false) (at p.start i))
+      option_and_then (run_of i) (walks.first_walk is_same_spot leads (matches p) enough (λ s. false) (at p.start i))
 
   -- what `FirstRun` says, as a function
   unfoldable pub first_run : ℕ → Option Run
@@ -144,7 +144,7 @@ module _ (p : Program) (hay : List ℕ) where
   -- the first simple run from i to j
   unfoldable pub first_run_to : ℕ → ℕ → Option Run
   first_run_to i j =
-      option_and_then (run_of i) (walks.first_run is_same_spot leads (is_end_at p j) enough (λ s. false) (at p.start i))
+      option_and_then (run_of i) (walks.first_walk is_same_spot leads (is_end_at p j) enough (λ s. false) (at p.start i))
 
   -- the first simple run from i to the greatest place below n to which one goes
   unfoldable pub longest_run_below : ℕ → ℕ → Option Run

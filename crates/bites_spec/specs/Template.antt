@@ -60,15 +60,15 @@ number_of_digits largest (d ∷ ds) =
     if list_all is_digit (d ∷ ds) && nat_le (value_from 0 (d ∷ ds)) largest then Some (value_from 0 (d ∷ ds)) else None
 
 -- the same with one `+` in front, if there is one
-abbrev pub number_of : ℕ → List ℕ → Option ℕ
-number_of largest [] = None
-number_of largest (b ∷ bytes) = if b == 43 then number_of_digits largest bytes else number_of_digits largest (b ∷ bytes)
+abbrev pub number_in : ℕ → List ℕ → Option ℕ
+number_in largest [] = None
+number_in largest (b ∷ bytes) = if b == 43 then number_of_digits largest bytes else number_of_digits largest (b ∷ bytes)
 
 -- the greatest number, the text of each group that took part, and the number of each name
 module _ (largest : ℕ) (text_of : ℕ → Option (List ℕ)) (index_of : List ℕ → Option ℕ) where
   -- the group that a name means: a number means itself
   abbrev pub group_named : List ℕ → Option ℕ
-  group_named word = option_map_or (λ k. Some k) (number_of largest word) (index_of word)
+  group_named word = option_map_or (λ k. Some k) (number_in largest word) (index_of word)
 
   -- a group that is unknown or took no part gives nothing
   abbrev pub stands_for : Part → List ℕ

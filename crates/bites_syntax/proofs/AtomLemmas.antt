@@ -10,7 +10,7 @@ use Rattle.bites_spec.specs.Measure.{height}
 use Rattle.bites_spec.specs.Pattern.{Text, Flags, Front, skip, right_parenthesis, left_parenthesis, bar, question, star, plus, left_brace, left_bracket, backslash, dot, caret, dollar}
 use Rattle.bites_spec.specs.RangesOf.{ranges_of}
 use Rattle.bites_spec.specs.Range.{Range}
-use Rattle.bites_spec.specs.Reader.{ReadResult, Reader, Found, Stop, answer, and_then, at_item, bracket, choose, node_of}
+use Rattle.bites_spec.specs.Reader.{ReadResult, Reader, ReadChoice, Stop, answer, and_then, at_item, bracket, choose, node_of}
 use Rattle.bites_spec.specs.Reader as reading
 use Rattle.bites_spec.specs.Tree as tree
 use Rattle.bites_spec.specs.Tree.{Tree}
@@ -60,7 +60,7 @@ atom_low n flags c t =
     (λ b. either_side IsLow (c == caret) _ _ (λ b. refl)
     (λ b. either_side IsLow (c == dollar) _ _ (λ b. refl) (λ b. literal_low flags c)))))
 
-same_behind : {A : Type 0} (a : ReadResult A) (f : A → Tree) (k : Tree → Text → Result Found Stop) →
+same_behind : {A : Type 0} (a : ReadResult A) (f : A → Tree) (k : Tree → Text → Result ReadChoice Stop) →
     and_then a (λ x rest. k (f x) rest) ≡ and_then (and_then a (λ x rest. answer (f x) rest)) k
 same_behind (Ok x) f k = refl
 same_behind (Err e) f k = refl
@@ -75,7 +75,7 @@ module _ (limit : ℕ) (go : Reader) (n depth : ℕ) (front : Front) (branches n
       (c == star) ≡ false → (c == plus) ≡ false → (c == left_brace) ≡ false →
       at_item ranges_of limit go n depth front branches nodes (c ∷ t) ≡ and_then (atom n front.flags c t) (λ node rest. go depth front branches (nodes ++ node ∷ []) rest)
   item_atom c t p1 p2 p3 p4 p5 p6 p7 =
-      let g : ReadResult Tree → Result Found Stop = λ a. and_then a (λ node rest. go depth front branches (nodes ++ node ∷ []) rest) in
+      let g : ReadResult Tree → Result ReadChoice Stop = λ a. and_then a (λ node rest. go depth front branches (nodes ++ node ∷ []) rest) in
       rw p1 (rw p2 (rw p3 (rw p4 (rw p5 (rw p6 (rw p7
       (same_choice g (c == left_bracket) _ _ _ _ (same_behind (bracket n front.flags (skip front.flags t)) (λ set. tree.class (ranges_of set)) _)
       (same_choice g (c == backslash) _ _ _ _ (same_behind (reading.escape n front.flags t) (λ m. node_of ranges_of 0 front.flags m) _)

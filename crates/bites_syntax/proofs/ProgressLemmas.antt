@@ -8,7 +8,7 @@ use Rattle.bites_spec.specs.Message.{Message}
 use Rattle.bites_spec.specs.Pattern as pattern
 use Rattle.bites_spec.specs.Pattern.{Text, Flags, skip}
 use Rattle.bites_spec.specs.RangesOf.{ranges_of}
-use Rattle.bites_spec.specs.Reader.{ReadResult, Bounds, Found, Opened, Reader, Stop, and_found, and_then, at_item, at_opened, inner, at_operator, behind_group, counted, directive, group, opened, repeat_last}
+use Rattle.bites_spec.specs.Reader.{ReadResult, Bounds, ReadChoice, Opened, Reader, Stop, and_found, and_then, at_item, at_opened, inner, at_operator, behind_group, counted, directive, group, opened, repeat_last}
 use Rattle.bites_spec.specs.Tree.{Tree, sequence_of}
 use Rattle.bites_text.specs.declared.error.Error.{Error}
 use Rattle.bites_text.specs.declared.error.Error.TheVariants.{TooMuchNesting, UnclosedGroup, UnopenedGroup}
@@ -68,7 +68,7 @@ pub opened_at : (f : Flags) (g : pattern.Front) (t u : Text) → f ≡ g.flags �
 opened_at f g t u same at = ap (opened g) (ap (λ x. skip x t) (sym same) ∙ sym at)
 
 -- whether a group is opened is what the reader says
-pub enter_steps : (limit depth n : ℕ) (p : Parser) (rows : Rows) (g : pattern.Front) (bs ts : List Tree) (opens : OpenGroup) (result : Result Step Error) (a : Result Found Stop) →
+pub enter_steps : (limit depth n : ℕ) (p : Parser) (rows : Rows) (g : pattern.Front) (bs ts : List Tree) (opens : OpenGroup) (result : Result Step Error) (a : Result ReadChoice Stop) →
     MatchResult result (λ step. (step ≡ Group opens) × (depth < limit)) (λ e. (e ≡ TooMuchNesting) × (limit ≤ depth)) → (depth < limit → Enters limit depth n p opens g bs ts a) →
     (limit ≤ depth → error_in a ≡ Some TooMuchNesting) → AreNodes limit rows.branches.items bs → AreNodes limit rows.nodes.items ts → Steps limit depth n g bs ts result p rows a
 enter_steps limit depth n p rows g bs ts opens (Ok step) a is enters stops bs_are ts_are = rw is.0 (enters is.1, bs_are, ts_are)
@@ -82,7 +82,7 @@ step_forward limit depth (Ok End) old new room less = absurd room
 step_forward limit depth (Err e) old new room less = omega arith
 
 -- an equal answer
-pub steps_at : (limit depth n : ℕ) (g : pattern.Front) (bs ts : List Tree) (result : Result Step Error) (p : Parser) (rows : Rows) (a b : Result Found Stop) → a ≡ b →
+pub steps_at : (limit depth n : ℕ) (g : pattern.Front) (bs ts : List Tree) (result : Result Step Error) (p : Parser) (rows : Rows) (a b : Result ReadChoice Stop) → a ≡ b →
     Steps limit depth n g bs ts result p rows b → Steps limit depth n g bs ts result p rows a
 steps_at limit depth n g bs ts result p rows a b e h = subst (λ x. Steps limit depth n g bs ts result p rows x) (sym e) h
 

@@ -4,7 +4,7 @@ use Rattle.bites_spec.specs.Grammar.{at_front, group_of}
 use Rattle.bites_spec.specs.Group.{Opening}
 use Rattle.bites_spec.specs.Pattern as pattern
 use Rattle.bites_spec.specs.RangesOf.{ranges_of}
-use Rattle.bites_spec.specs.Reader.{Found, Stop, and_found, behind_group, inner, read}
+use Rattle.bites_spec.specs.Reader.{ReadChoice, Stop, and_found, behind_group, inner, read}
 use Rattle.bites_spec.specs.Tree.{Tree, choice_of}
 use Rattle.bites_text.specs.declared.error.Error.{Error}
 use Rattle.bites_syntax.specs.declared.node.Node.{Node}
@@ -72,13 +72,13 @@ module _ (limit depth n : ℕ) (start : pattern.Front) (text : pattern.Text) (p 
       IsErrorOf e (inner ranges_of limit (suc n) depth start [] [] text)
   reached_fault e r fault = ⊎_elim (λ m. inl m) (λ f. inr (ap error_in r.same ∙ f)) fault
 
-fault_inside : (a : Result Found Stop) (f : Found → Result Found Stop) (e : Error) → error_in a ≡ Some e → error_in (and_found a f) ≡ Some e
+fault_inside : (a : Result ReadChoice Stop) (f : ReadChoice → Result ReadChoice Stop) (e : Error) → error_in a ≡ Some e → error_in (and_found a f) ≡ Some e
 fault_inside (Ok x) f e fault = absurd (let wrong : error_in (Ok x) ≡ Some e = fault in cc)
 fault_inside (Err s) f e fault = fault
 
 -- what is read inside a group, by one step less
-inside_by : (limit depth m : ℕ) (q : Parser) (opens : OpenGroup) (g : pattern.Front) (bs ts : List Tree) (a : Result Found Stop) (enters : Enters limit depth m q opens g bs ts a) →
-    (P : Result Found Stop → Type 0) → length q.cursor < m → ((k : ℕ) → length q.cursor ≤ k → P (inner ranges_of limit (suc k) (suc depth) enters.inside [] [] q.cursor)) →
+inside_by : (limit depth m : ℕ) (q : Parser) (opens : OpenGroup) (g : pattern.Front) (bs ts : List Tree) (a : Result ReadChoice Stop) (enters : Enters limit depth m q opens g bs ts a) →
+    (P : Result ReadChoice Stop → Type 0) → length q.cursor < m → ((k : ℕ) → length q.cursor ≤ k → P (inner ranges_of limit (suc k) (suc depth) enters.inside [] [] q.cursor)) →
     P (inner ranges_of limit m (suc depth) enters.inside [] [] q.cursor)
 inside_by limit depth zero q opens g bs ts a enters P less reads = absurd (omega arith)
 inside_by limit depth (suc k) q opens g bs ts a enters P less reads = reads k (omega arith)
@@ -132,6 +132,6 @@ module _ (limit depth n : ℕ) (start : pattern.Front) (text : pattern.Text) (p 
       }
 
 -- the whole pattern
-pub read_is : (limit : ℕ) (text : pattern.Text) (flags : pattern.Flags) (found : Found) → inner ranges_of limit (suc (length text)) 0 (at_front flags) [] [] text ≡ Ok found →
+pub read_is : (limit : ℕ) (text : pattern.Text) (flags : pattern.Flags) (found : ReadChoice) → inner ranges_of limit (suc (length text)) 0 (at_front flags) [] [] text ≡ Ok found →
     read ranges_of limit text flags ≡ Ok (choice_of found.branches)
 read_is limit text flags found same = rw (same, read) refl

@@ -4,7 +4,7 @@ use Rattle.bites_spec.specs.Group.{Opening}
 use Rattle.bites_spec.specs.Pattern as pattern
 use Rattle.bites_spec.specs.Pattern.{Text}
 use Rattle.bites_spec.specs.RangesOf.{ranges_of}
-use Rattle.bites_spec.specs.Reader.{Found, Stop, and_found, behind_group, inner}
+use Rattle.bites_spec.specs.Reader.{ReadChoice, Stop, and_found, behind_group, inner}
 use Rattle.bites_spec.specs.Tree.{Tree, choice_of}
 use Rattle.bites_text.specs.declared.error.Error.{Error}
 use Rattle.bites_syntax.specs.declared.node.Node.{Node}
@@ -25,7 +25,7 @@ pub record IsAt (limit : ℕ) (p : Parser) (rows : Rows) (g : pattern.Front) (br
   pub nodes_are : AreNodes limit rows.nodes.items nodes
 
 -- the reader goes on from where the parser is
-pub record GoesOn (limit depth n : ℕ) (p : Parser) (rows : Rows) (a : Result Found Stop) : Type 0 where
+pub record GoesOn (limit depth n : ℕ) (p : Parser) (rows : Rows) (a : Result ReadChoice Stop) : Type 0 where
   pub g : pattern.Front
   pub branches : List Tree
   pub nodes : List Tree
@@ -33,7 +33,7 @@ pub record GoesOn (limit depth n : ℕ) (p : Parser) (rows : Rows) (a : Result F
   pub same : a ≡ inner ranges_of limit n depth g branches nodes p.cursor
 
 -- the reader goes on inside a group, and behind it from this front, branches and nodes
-pub record Enters (limit depth n : ℕ) (p : Parser) (group : OpenGroup) (g : pattern.Front) (branches nodes : List Tree) (a : Result Found Stop) : Type 0 where
+pub record Enters (limit depth n : ℕ) (p : Parser) (group : OpenGroup) (g : pattern.Front) (branches nodes : List Tree) (a : Result ReadChoice Stop) : Type 0 where
   pub opening : Opening
   pub inside : pattern.Front
   pub front : IsFront p.front inside
@@ -42,14 +42,14 @@ pub record Enters (limit depth n : ℕ) (p : Parser) (group : OpenGroup) (g : pa
   pub same : a ≡ and_found (inner ranges_of limit n (suc depth) inside [] [] p.cursor) (behind_group ranges_of limit (inner ranges_of limit n) depth g branches nodes opening)
 
 -- the reader has found these branches, and the text behind them
-pub record Ends (limit : ℕ) (p : Parser) (rows : Rows) (g : pattern.Front) (a : Result Found Stop) : Type 0 where
+pub record Ends (limit : ℕ) (p : Parser) (rows : Rows) (g : pattern.Front) (a : Result ReadChoice Stop) : Type 0 where
   pub branches : List Tree
   pub front : IsFront p.front g
   pub branches_are : AreNodes limit rows.branches.items branches
   pub same : a ≡ Ok (record { branches = branches; behind = g; rest = p.cursor })
 
 -- what one step of the parser is to the reader
-abbrev pub Steps : ℕ → ℕ → ℕ → pattern.Front → List Tree → List Tree → Result Step Error → Parser → Rows → Result Found Stop → Type 0
+abbrev pub Steps : ℕ → ℕ → ℕ → pattern.Front → List Tree → List Tree → Result Step Error → Parser → Rows → Result ReadChoice Stop → Type 0
 Steps limit depth n g branches nodes (Ok Item) p rows a = GoesOn limit depth n p rows a
 Steps limit depth n g branches nodes (Ok (Group group)) p rows a =
     Enters limit depth n p group g branches nodes a × AreNodes limit rows.branches.items branches × AreNodes limit rows.nodes.items nodes
@@ -57,15 +57,15 @@ Steps limit depth n g branches nodes (Ok End) p rows a = Ends limit p rows g a
 Steps limit depth n g branches nodes (Err e) p rows a = IsErrorOf e a
 
 -- a choice that the reader has read as well
-pub record ReadsAs (limit : ℕ) (p : Parser) (node : Node) (a : Result Found Stop) : Type 0 where
-  pub found : Found
+pub record ReadsAs (limit : ℕ) (p : Parser) (node : Node) (a : Result ReadChoice Stop) : Type 0 where
+  pub found : ReadChoice
   pub same : a ≡ Ok found
   pub rest : found.rest ≡ p.cursor
   pub front : IsFront p.front found.behind
   pub node_is : StandsFor limit node (choice_of found.branches)
 
 -- the reader reads the choice too, or stops
-abbrev pub IsChoice : ℕ → Result Node Error → Parser → Result Found Stop → Type 0
+abbrev pub IsChoice : ℕ → Result Node Error → Parser → Result ReadChoice Stop → Type 0
 IsChoice limit result p a = MatchResult result (λ node. ReadsAs limit p node a) (λ e. IsErrorOf e a)
 
 -- a group is opened only below the limit
