@@ -10,7 +10,7 @@ use Rattle.bites_spec.specs.Iteration.{captures_in, captures_behind, spans_in, s
 use Rattle.bites_spec.specs.Replace.{Gave}
 use Rattle.bites_spec.specs.Refused.{GaveFront}
 use Rattle.bites_spec.proofs.RegexRuns.{captures_have_spans}
-use Rattle.bites_bytes.specs.Replaced.{span_in, ReplacesIn, GivesUpIn}
+use Rattle.bites_spec.specs.Replaced.{span_in, ReplacesIn, GivesUpIn}
 use Rattle.bites_bytes.specs.Limit.{taken, bound}
 use Rattle.bites_bytes.specs.Replacing.{spans_to_replace, captures_to_replace, is_nil, replaces_none, with_texts, with_text, OnByText, EndsByText, EndsBy}
 use Rattle.bites_bytes.specs.declared.bytes.replace.Replacing.{Replacing}

@@ -8,7 +8,7 @@ use Rattle.bites_spec.specs.Replace.{Gave}
 use Rattle.bites_spec.specs.Refused.{GaveFront}
 use Rattle.bites_bytes.specs.Matched.{excerpt_of}
 use Rattle.bites_bytes.specs.Matches.{IsSameSearch, Moves, matches_left, spans_left}
-use Rattle.bites_bytes.specs.Replaced.{span_in}
+use Rattle.bites_spec.specs.Replaced.{span_in}
 use Rattle.bites_bytes.specs.Limit.{taken, bound, Spends}
 use Rattle.bites_bytes.specs.Replacing.{spans_to_replace, captures_to_replace, is_nil, replaces_none, with_texts, with_text, Writes, Rests, StepsByText, OnByText, StepsBy, GoesOn, GoesOnRefused}
 use Rattle.bites_bytes.specs.declared.bytes.matched.Match.{Match}

@@ -10,7 +10,7 @@ use Rattle.bites_spec.specs.Refused.{GaveFront}
 use Rattle.bites_spec.proofs.RegexRuns.{run_at-whole}
 use Rattle.bites_bytes.specs.Matched.{excerpt_of}
 use Rattle.bites_bytes.specs.Matches.{IsSameSearch, Moves, Advances, matches_left, captures_to_come}
-use Rattle.bites_bytes.specs.Replaced.{span_in}
+use Rattle.bites_spec.specs.Replaced.{span_in}
 use Rattle.bites_bytes.specs.Limit.{taken, Spends}
 use Rattle.bites_bytes.specs.Replacing.{spans_to_replace, captures_to_replace, Rests, StepsByText, StepsBy}
 use Rattle.bites_bytes.specs.declared.bytes.matched.Match.{Match}

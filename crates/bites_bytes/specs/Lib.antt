@@ -8,7 +8,5 @@ pub mod Due
 pub mod Matches
 pub mod CapturesLeft
 pub mod Split
-pub mod Replacer
-pub mod Replaced
 pub mod Limit
 pub mod Replacing

@@ -8,8 +8,8 @@ use Rattle.bites_spec.specs.Cutting.{CutsFront}
 use Rattle.bites_spec.proofs.TemplateLemmas.{expansion_front, expansion_end, bytes_stand}
 use Rattle.std.proofs.Math.Seq.{take-append_seam, drop-append_seam}
 use Rattle.bites_spec.proofs.TemplateTexts.{NoFurther, no_further, high_behind, expansion_before}
-use Rattle.bites_spec.specs.Refused.{IsFront}
-use Rattle.bites_machine.specs.Interpolate.{AppendsUntilRefused, IsTextFront}
+use Rattle.bites_spec.specs.Refused.{IsFront, AppendsUntilRefused}
+use Rattle.bites_machine.specs.Interpolate.{IsTextFront}
 
 -- the greatest `usize`
 abbrev pub largest : ℕ

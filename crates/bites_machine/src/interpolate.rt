@@ -7,7 +7,9 @@ ghost use Rattle.bites_spec.specs.Look as look;
 ghost use Rattle.bites_spec.specs.Walks.{IsNew};
 ghost use Rattle.bites_spec.specs.Template.{expansion, group_named, number_in, number_of_digits};
 ghost use Rattle.bites_spec.specs.Cutting.{CutsFront};
-ghost use Rattle.bites_machine.specs.Interpolate.{parts_in, GivesTexts, GivesNumbers, AppendsUntilRefused, IsTextFront, BeginsWith};
+ghost use Rattle.bites_machine.specs.Interpolate.{parts_in, IsTextFront, BeginsWith};
+ghost use Rattle.bites_spec.specs.Expansion.{GivesTexts, GivesNumbers};
+ghost use Rattle.bites_spec.specs.Refused.{AppendsUntilRefused};
 
 use bites_text::utf8::is_word_byte;
 use std::alloc::AllocError;

@@ -44,6 +44,8 @@ pub mod Replace
 pub mod Refused
 pub mod Captured
 pub mod Iteration
+pub mod Replacer
+pub mod Replaced
 pub mod Counts
 pub mod ProgramFaults
 pub mod Reader

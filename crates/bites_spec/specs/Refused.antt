@@ -14,6 +14,11 @@ Appends Texts old new = (text : List ℕ) × Texts text × (new ≡ old ++ text)
 abbrev pub AppendsFront : (List ℕ → Type 0) → List ℕ → List ℕ → Type 0
 AppendsFront Texts old new = (text : List ℕ) × (front : List ℕ) × Texts text × IsFront front text × (new ≡ old ++ front)
 
+-- the text is appended, or a front of it where memory was refused
+abbrev pub AppendsUntilRefused : {E : Type 0} → Result (Unit {0}) E → (old new text : List ℕ) → Type 0
+AppendsUntilRefused r old new text =
+    MatchResult r (λ done. new ≡ old ++ text) (λ e. (front : List ℕ) × IsFront front text × (new ≡ old ++ front))
+
 -- What an iterator hands out where each item is a result: C is what is handed out, and B what is seen of it.
 module _ {S B C E : Type 0} (view : C → B) (left : S → List B) where
   -- a call gives the first item that is left, or in its place a refusal, behind which nothing is left

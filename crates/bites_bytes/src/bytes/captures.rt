@@ -41,9 +41,9 @@ impl<'h> Model for Captures<'h> {
 
 impl<'h> Captures<'h> {
     ghost use Rattle.bites_spec.specs.Expansion.{text_in};
-    ghost use Rattle.bites_machine.specs.Interpolate.{AppendsUntilRefused};
+    ghost use Rattle.bites_spec.specs.Refused.{AppendsUntilRefused};
     ghost use Rattle.bites_bytes.specs.Matched.{excerpt_of};
-    ghost use Rattle.bites_bytes.specs.Replacer.{answer_text, expanded};
+    ghost use Rattle.bites_spec.specs.Replacer.{answer_text, expanded};
 
     // The groups of the match that a search from `start` answers.
     pub(super) fn find(

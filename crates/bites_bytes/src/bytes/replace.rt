@@ -4,7 +4,7 @@ ghost use Rattle.std.specs.Prelude.{◌≡◌, ◌↔◌, ◌++◌, [], List, �
 ghost use Rattle.std.specs.Cow.{cow_slice_items, IsBorrowedSlice};
 ghost use Rattle.bites_spec.specs.Iteration.{captures_in};
 ghost use Rattle.bites_bytes.specs.Matches.{regex_of_matches, last_of_matches};
-ghost use Rattle.bites_bytes.specs.Replaced.{ReplacesIn, GivesUpIn};
+ghost use Rattle.bites_spec.specs.Replaced.{ReplacesIn, GivesUpIn};
 ghost use Rattle.bites_bytes.specs.Limit.{Spends, bound};
 
 use crate::bytes::{CaptureLocations, Captures, Matches, Regex, Replacer};

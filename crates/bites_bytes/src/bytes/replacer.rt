@@ -6,7 +6,7 @@ ghost use Rattle.std.specs.Cow.{cow_slice_items};
 ghost use Rattle.std.specs.Io.BufRead.{Rests};
 ghost use Rattle.bites_spec.specs.Captured.{Captured};
 ghost use Rattle.bites_spec.specs.Refused.{Appends, IsFront};
-ghost use Rattle.bites_bytes.specs.Replacer.{answer_text, plain_text, is_plain, GivesExpansion, AnswersPlain, Stays};
+ghost use Rattle.bites_spec.specs.Replacer.{answer_text, plain_text, is_plain, GivesExpansion, AnswersPlain, Stays};
 
 use crate::bytes::Captures;
 use std::alloc::AllocError;

@@ -1,5 +1,5 @@
 -- Haystacks with their matches replaced.
-use Rattle.std.specs.Prelude.{◌≡◌, ◌↔◌, ℕ, zero, suc, List, [], Option, Some, None, unwrap_or, take}
+use Rattle.std.specs.Prelude.{ℕ, List, Option, unwrap_or}
 use Rattle.bites_spec.specs.Match.{Span, span}
 use Rattle.bites_spec.specs.Slots.{group_in}
 use Rattle.bites_spec.specs.Regex.{Regex}
