@@ -1,7 +1,9 @@
 //! `bites`: searches standard input for a pattern.
 //!
-//! `bites is PATTERN` prints `match` or `none`; the status is 0 if something matched, 1 if nothing did and 2 for a
-//! fault, which is one line on standard error.
+//! `bites is PATTERN` prints `match` or `none`, `bites find PATTERN` and `bites split PATTERN` where each match or piece
+//! is, `bites captures PATTERN` the groups of each match, and `bites replace PATTERN TEMPLATE` the input with each match
+//! replaced. The status is 0 if something matched, 1 if nothing did and 2 for a fault, which is one line on standard
+//! error.
 #![tactic(auto)]
 
 use bites_run::{refuse_words, run};

@@ -1,61 +1,29 @@
 //! What the program `bites` does, over any reader and writers: the program itself hands in the standard streams.
 #![tactic(auto)]
 
+mod answer;
+mod fault;
+mod request;
 #[cfg(test)]
 mod tests;
 
+use answer::{Outcome, write_answer};
 use bites_bytes::bytes::Regex;
-use bites_text::error::Error;
-use std::alloc::{AllocError, Global};
-use std::fmt;
-use std::io::{self, Read, Write};
-
-/// Whether something matched: the answer of a run without a fault.
-#[derive(Clone, Copy)]
-enum Outcome {
-    Found,
-    Nothing,
-}
-
-/// Why a run ends with status 2. Its text is one line of standard error, without the program's name.
-#[derive(Drop)]
-enum Fault {
-    Usage,
-    Pattern(Error),
-    Read,
-    Write,
-}
-
-impl fmt::Display for Fault {
-    fn fmt<W: fmt::Write>(&self, f: &mut fmt::Formatter<W>) -> fmt::Result {
-        match self {
-            Fault::Usage => f.write_str(
-                "usage: bites is|find|captures|split PATTERN or bites replace PATTERN TEMPLATE",
-            ),
-            Fault::Pattern(error) => write!(f, "{error}"),
-            Fault::Read => f.write_str("cannot read standard input"),
-            Fault::Write => f.write_str("cannot write standard output"),
-        }
-    }
-}
-
-impl From<Error> for Fault {
-    fn from(error: Error) -> Fault {
-        Fault::Pattern(error)
-    }
-}
-
-impl From<AllocError> for Fault {
-    fn from(_: AllocError) -> Fault {
-        Fault::Pattern(Error::Memory)
-    }
-}
+use fault::Fault;
+use request::Request;
+use std::alloc::Global;
+use std::io::{self, BufWriter, Read, Write};
 
 /// Runs the program on the words behind its name, reading `input` to its end as bytes.
 ///
+/// The words are `is`, `find`, `captures` or `split` and a pattern, or `replace`, a pattern and a template. `is` writes
+/// `match` or `none`; `find` and `split` write a line `start..end` for each match or piece, in bytes from the start of
+/// the input; `captures` writes a line for each match, all its groups from 0 on as `start..end` or `-`, parted by a
+/// space; `replace` writes the input with each match replaced by what the template stands for, and nothing else.
+///
 /// Answers the status: 0 if something matched, 1 if nothing did, 2 for a fault. Faults are found in this order: the
-/// words, the pattern, reading, writing; want of memory where it comes. A fault is one line on `err`, and the status
-/// is 2 also where that line can't be written.
+/// words, the pattern, reading, writing; want of memory where it comes, and what was written before stays. A fault is
+/// one line on `err`, and the status is 2 also where that line can't be written.
 pub fn run<R: Read, W: Write, E: Write>(
     alloc: Global,
     words: &[String],
@@ -73,12 +41,7 @@ pub fn run<R: Read, W: Write, E: Write>(
 /// Tells on one line of `err` why the program has no words: want of memory, or else a word that is no UTF-8, which can't
 /// be a pattern here and answers the usage line. The status is 2.
 pub fn refuse_words<E: Write>(error: &io::Error, err: &mut E) -> u8 {
-    let fault = if error.kind() == io::ErrorKind::OutOfMemory {
-        Fault::Pattern(Error::Memory)
-    } else {
-        Fault::Usage
-    };
-    tell(&fault, err)
+    tell(&Fault::of_words(error), err)
 }
 
 // Writes the line of a fault; the status is the same where that can't be written.
@@ -87,23 +50,19 @@ fn tell<E: Write>(fault: &Fault, err: &mut E) -> u8 {
     2
 }
 
-// Does what the first word names.
+// Does what the words ask for.
 fn command<R: Read, W: Write>(
     alloc: Global,
     words: &[String],
     input: &mut R,
     out: &mut W,
 ) -> Result<Outcome, Fault> {
-    let [name, pattern] = words else {
-        return Err(Fault::Usage);
-    };
-    match name.as_str() {
-        "is" => {
-            let regex = Regex::new(alloc, pattern.as_str())?;
-            let haystack = read_all(alloc, input)?;
-            is_match(&regex, haystack.as_slice(), out)
-        }
-        _ => Err(Fault::Usage),
+    let request = Request::read(words)?;
+    let regex = Regex::new(alloc, request.pattern)?;
+    let haystack = read_all(alloc, input)?;
+    match write_buffered(alloc, &regex, request, haystack.as_slice(), out) {
+        Ok(outcome) => Ok(outcome),
+        Err(error) => Err(Fault::of_writing(&error)),
     }
 }
 
@@ -112,22 +71,20 @@ fn read_all<R: Read>(alloc: Global, input: &mut R) -> Result<Vec<u8>, Fault> {
     let mut bytes = Vec::new(alloc);
     match input.read_to_end(&mut bytes) {
         Ok(_) => Ok(bytes),
-        Err(error) if error.kind() == io::ErrorKind::OutOfMemory => {
-            Err(Fault::Pattern(Error::Memory))
-        }
-        Err(_) => Err(Fault::Read),
+        Err(error) => Err(Fault::of_reading(&error)),
     }
 }
 
-// Prints `match` if the regex matches somewhere, else `none`.
-fn is_match<W: Write>(regex: &Regex, haystack: &[u8], out: &mut W) -> Result<Outcome, Fault> {
-    let (text, outcome) = if regex.is_match(haystack)? {
-        ("match\n", Outcome::Found)
-    } else {
-        ("none\n", Outcome::Nothing)
-    };
-    if out.write_all(text.as_bytes()).is_err() || out.flush().is_err() {
-        return Err(Fault::Write);
-    }
+// Writes the answer through a buffer, so that there is no system call for each line.
+fn write_buffered<W: Write>(
+    alloc: Global,
+    regex: &Regex,
+    request: Request<'_>,
+    haystack: &[u8],
+    out: &mut W,
+) -> io::Result<Outcome> {
+    let mut buffered = BufWriter::new(alloc, out)?;
+    let outcome = write_answer(regex, request.task, haystack, &mut buffered)?;
+    buffered.flush()?;
     Ok(outcome)
 }

@@ -1,0 +1,39 @@
+//! The groups of a match.
+
+ghost use Rattle.std.specs.Prelude.{◌≡◌, false, IfOk, IfSome};
+ghost use Rattle.bites_spec.specs.Tree.{IsPlain};
+ghost use Rattle.bites_bytes.specs.Matched.{excerpt_of};
+ghost use Rattle.bites_promises.specs.Promises.{LiesWithin, IsPreferred};
+
+use bites_bytes::bytes::{Captures, Match, Regex};
+use std::alloc::AllocError;
+
+/// The first match, and where a group took part in it, if it did: the group lies within the match.
+pub fn match_and_group<'h>(
+    regex: &Regex,
+    haystack: &'h [u8],
+    group: usize,
+) -> Result<Option<(Match<'h>, Match<'h>)>, AllocError>
+    ensures { IfOk result (λ r. IfSome r
+        (λ m. LiesWithin (excerpt_of m.0).span (excerpt_of m.1).span)) }
+{
+    let Some(captures) = regex.captures(haystack)? else {
+        return Ok(None);
+    };
+    match (captures.get(0), captures.get(group)) {
+        (Some(whole), Some(part)) => Ok(Some((whole, part))),
+        _ => Ok(None),
+    }
+}
+
+/// The groups of the first match. Where the pattern's tree is plain, they are those of its preferred parse there, and
+/// so is the end.
+pub fn preferred_groups<'h>(
+    regex: &Regex,
+    haystack: &'h [u8],
+) -> Result<Option<Captures<'h>>, AllocError>
+    ensures { regex.now.leftmost_longest ≡ false → IsPlain regex.now.tree →
+        IfOk result (λ r. IfSome r (λ c. IsPreferred regex.now.tree haystack.now c.slots)) }
+{
+    regex.captures(haystack)
+}
