@@ -1,7 +1,6 @@
 pub mod Parts
 pub mod Settings
 pub mod Names
-pub mod Room
 pub mod Matched
 pub mod Groups
 pub mod Due

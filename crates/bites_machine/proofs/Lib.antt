@@ -1,13 +1,11 @@
 pub mod BitLemmas
 pub mod SoundLemmas
-pub mod MemberLemmas
 pub mod EdgeLemmas
 pub mod SweepLemmas
 pub mod EmitLemmas
 pub mod CompiledLemmas
 pub mod StateLemmas
 pub mod LengthLemmas
-pub mod SearchLemmas
 pub mod SearchedRanges
 pub mod FaultLemmas
 pub mod SizeLemmas

@@ -2,7 +2,6 @@ pub mod Bits
 pub mod States
 pub mod Contents
 pub mod Fields
-pub mod Members
 pub mod Ends
 pub mod Emitted
 pub mod Classes
@@ -24,5 +23,4 @@ pub mod Framed
 pub mod Visits
 pub mod Looks
 pub mod Sweep
-pub mod Room
 pub mod Cuts

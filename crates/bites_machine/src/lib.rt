@@ -8,7 +8,6 @@ mod groups;
 pub mod interpolate;
 pub mod program;
 mod ranges;
-mod set;
 mod size;
 pub mod state;
 mod targets;

@@ -1,5 +1,5 @@
 -- What a search has visited, and how often it looked.
-use Rattle.std.specs.Prelude.{ℕ, ◌+◌, ◌*◌, ◌≤◌, Bool, true, false, List, ◌∷◌, length}
+use Rattle.std.specs.Prelude.{◌≡◌, ◌⊎◌, ℕ, ◌+◌, ◌*◌, ◌≤◌, Bool, true, false, List, ◌∷◌, length}
 use Rattle.bites_spec.specs.Utf8.{places}
 use Rattle.bites_spec.specs.Walks.{Among, AllApart}
 use Rattle.bites_spec.specs.Program.{Program, Spot, at, targets}
@@ -44,3 +44,16 @@ module _ (p : Program) (hay : List ℕ) (s : ℕ) where
   abbrev pub VisitedBy : Bool → Record → Type 0
   VisitedBy true = VisitedSome
   VisitedBy false = VisitedAll
+
+-- The room for searches, as contracts see it: which programs it fits, and what the last search visited.
+pub record Room : Type 0 where
+  pub fits : Fit
+  pub walked : Record
+
+-- a slice may have no slot, two, or all
+abbrev pub IsSlotCount : Program → ℕ → Type 0
+IsSlotCount p n = (n ≡ 0) ⊎ ((n ≡ 2) ⊎ (n ≡ p.slots))
+
+-- what a search from s may have done: it kept to the bounds, and visited what it had to
+abbrev pub IsWalked : Program → List ℕ → ℕ → Bool → Record → Type 0
+IsWalked p hay s found c = IsBounded p hay s c × VisitedBy p hay s found c

@@ -11,6 +11,7 @@ ghost use Rattle.bites_text.specs.Rows.{second_range};
 /// many bytes it takes: one to four, and none at the end.
 ///
 /// It looks at four bytes at most.
+#[inline(always)]
 pub fn decode(bytes: &[u8]) -> (Option<char>, usize)
     ensures decoded { result.0 ≡ (front_piece bytes.now).decoded }
     ensures len { result.1 ≡ (front_piece bytes.now).len }
@@ -31,6 +32,7 @@ pub fn decode(bytes: &[u8]) -> (Option<char>, usize)
 }
 
 /// The same, with U+FFFD where no character stands whole.
+#[inline(always)]
 pub fn decode_lossy(bytes: &[u8]) -> (char, usize)
     ensures decoded { result.0 ≡ character (front_piece bytes.now) }
     ensures len { result.1 ≡ (front_piece bytes.now).len }
@@ -50,6 +52,7 @@ pub const fn is_word_byte(byte: u8) -> bool
 }
 
 /// The piece of a first byte that one more byte follows in a character.
+#[inline(never)]
 fn decode_two(first: u8, rest: &[u8]) -> (Option<char>, usize)
     requires from { 0xC2 ≤ first }
     requires to { first ≤ 0xDF }
@@ -66,6 +69,7 @@ fn decode_two(first: u8, rest: &[u8]) -> (Option<char>, usize)
 }
 
 /// The piece of a first byte that two more bytes follow in a character.
+#[inline(never)]
 fn decode_three(first: u8, rest: &[u8]) -> (Option<char>, usize)
     requires from { 0xE0 ≤ first }
     requires to { first ≤ 0xEF }
@@ -84,6 +88,7 @@ fn decode_three(first: u8, rest: &[u8]) -> (Option<char>, usize)
 }
 
 /// The piece of a first byte that three more bytes follow in a character.
+#[inline(never)]
 fn decode_four(first: u8, rest: &[u8]) -> (Option<char>, usize)
     requires from { 0xF0 ≤ first }
     requires to { first ≤ 0xF4 }

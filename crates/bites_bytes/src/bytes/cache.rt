@@ -2,7 +2,7 @@
 
 ghost use Rattle.std.specs.Prelude.{◌≡◌, ◌↔◌, ◌≤◌, ◌<◌, ◌+◌, ◌^◌, length, option_map, is_some, IsTrue, IfOk, IfSome};
 ghost use Rattle.std.specs.Option.{ForSome};
-ghost use Rattle.bites_spec.specs.Counts.{fit_of};
+ghost use Rattle.bites_spec.specs.Counts.{fit_of, IsSlotCount, IsWalked};
 ghost use Rattle.bites_spec.specs.Match.{span};
 ghost use Rattle.bites_spec.specs.Slots.{slot_in, group_in};
 ghost use Rattle.bites_spec.specs.Run.{Answered};
@@ -10,7 +10,6 @@ ghost use Rattle.bites_spec.specs.Regex.{IsCompiled, run_at, span_at};
 ghost use Rattle.bites_spec.specs.Found.{HasMatch, IsLeastEnd};
 ghost use Rattle.bites_spec.specs.Utf8.{step_len};
 ghost use Rattle.bites_spec.specs.Spans.{is_empty_at};
-ghost use Rattle.bites_bytes.specs.Room.{IsSlotCount, IsWalked};
 ghost use Rattle.bites_bytes.specs.Due.{run_due, LeavesRun};
 
 use crate::bytes::Regex;
@@ -31,7 +30,7 @@ pub struct Cache {
 }
 
 impl Model for Cache {
-    ghost use Rattle.bites_machine.specs.Room.{Room};
+    ghost use Rattle.bites_spec.specs.Counts.{Room};
 
     ghost Value = { Room };
 

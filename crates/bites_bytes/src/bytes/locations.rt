@@ -3,9 +3,8 @@
 ghost use Rattle.std.specs.Prelude.{◌≡◌, ◌≤◌, ◌/◌, ◌↔◌, None, replicate, length, option_map, is_some, unwrap_or, IsTrue, IfOk, IfSome};
 ghost use Rattle.bites_spec.specs.Match.{span};
 ghost use Rattle.bites_spec.specs.Slots.{group_in};
-ghost use Rattle.bites_spec.specs.Counts.{fit_of};
+ghost use Rattle.bites_spec.specs.Counts.{fit_of, IsWalked};
 ghost use Rattle.bites_spec.specs.Regex.{IsCompiled, run_at, span_at, slots_at};
-ghost use Rattle.bites_bytes.specs.Room.{IsWalked};
 
 use crate::bytes::regex::Compiled;
 use crate::bytes::{Cache, Match, Matches, Regex};

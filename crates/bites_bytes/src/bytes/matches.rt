@@ -2,11 +2,10 @@
 
 ghost use Rattle.std.specs.Prelude.{◌≡◌, ◌≤◌, IfOk, IfSome, length, None, map, unwrap_or, is_some};
 ghost use Rattle.std.specs.Option.{ForSome};
-ghost use Rattle.bites_spec.specs.Counts.{fit_of};
+ghost use Rattle.bites_spec.specs.Counts.{fit_of, IsSlotCount};
 ghost use Rattle.bites_spec.specs.Regex.{IsCompiled};
 ghost use Rattle.bites_spec.specs.Captured.{excerpt};
 ghost use Rattle.bites_spec.specs.Iteration.{spans_in};
-ghost use Rattle.bites_bytes.specs.Room.{IsSlotCount};
 
 use crate::bytes::cache::ends_in;
 use crate::bytes::{Cache, Match, Regex};

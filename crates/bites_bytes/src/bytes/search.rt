@@ -1,10 +1,9 @@
 //! Searches that answer where a match is.
 
 ghost use Rattle.std.specs.Prelude.{◌≡◌, None, replicate, length, option_map, is_some, unwrap_or, IfOk, OnOk, OnErr};
-ghost use Rattle.bites_spec.specs.Counts.{fit_of};
+ghost use Rattle.bites_spec.specs.Counts.{fit_of, IsWalked};
 ghost use Rattle.bites_spec.specs.Regex.{span_at, slots_at};
 ghost use Rattle.bites_spec.specs.Captured.{excerpt, FindsSpan};
-ghost use Rattle.bites_bytes.specs.Room.{IsWalked};
 ghost use Rattle.bites_bytes.specs.Matched.{excerpt_of};
 
 use crate::bytes::{Cache, CaptureLocations, Match, Regex};

@@ -2,8 +2,7 @@
 
 ghost use Rattle.std.specs.Prelude.{◌≡◌, ◌↔◌, is_some, IsTrue, IfOk};
 ghost use Rattle.bites_spec.specs.Found.{HasMatch, IsLeastEnd};
-ghost use Rattle.bites_spec.specs.Counts.{fit_of};
-ghost use Rattle.bites_bytes.specs.Room.{IsWalked};
+ghost use Rattle.bites_spec.specs.Counts.{fit_of, IsWalked};
 
 use crate::bytes::{Cache, Regex};
 use std::alloc::AllocError;

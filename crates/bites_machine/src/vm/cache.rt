@@ -31,7 +31,7 @@ pub struct Cache {
 }
 
 impl Model for Cache {
-    ghost use Rattle.bites_machine.specs.Room.{Room};
+    ghost use Rattle.bites_spec.specs.Counts.{Room};
     ghost use Rattle.bites_machine.specs.Sweep.{HasRoom, IsIdle};
 
     ghost Value = { Room };

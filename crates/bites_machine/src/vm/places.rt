@@ -20,7 +20,6 @@ use super::rows::Rows;
 use super::threads::{Thread, Threads};
 use super::walk::{Desk, Here, Hit, walk};
 use bites_text::utf8::decode_lossy;
-use std::mem;
 
 /// What is asked of a search: the first end, or the greatest end of the first place, or else the first run.
 #[derive(Clone, Copy, Drop)]
@@ -192,7 +191,7 @@ fn search_place(
     desk.hit = None;
     desk.rows.first_is_free();
     walk_all(counted, desk, here, threads, first, longest, slots);
-    mem::swap(threads, &mut desk.next);
+    threads.swap(&mut desk.next);
 }
 
 // The state where runs start, while nothing is found.

@@ -1,6 +1,8 @@
 use super::*;
 use crate::program::{BadProgram, compile};
+use crate::state::State;
 use bites_syntax::parse::{Flags, parse};
+use std::alloc::{AllocError, Global};
 use std::test::Fail;
 
 fn splits(alloc: Global, targets: &[u32]) -> Result<State, AllocError> {

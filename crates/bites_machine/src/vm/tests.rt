@@ -1,6 +1,8 @@
 use super::*;
 use crate::program::BadProgram;
+use crate::state::State;
 use bites_syntax::look::Look;
+use std::alloc::{AllocError, Global};
 use std::test::Fail;
 
 // Programs of two slots, without captures.
@@ -15,19 +17,19 @@ fn splits(alloc: Global, targets: &[u32]) -> Result<State, AllocError> {
     })
 }
 
-#[test]
-fn cycles_without_a_match_end(rt: HostRuntime) -> Result<(), Fail> {
-    let alloc = rt.alloc();
-    let goto = State::Goto {
-        target: 0,
-        look: None,
-    };
-    let cycle = program(alloc, vec![in alloc; splits(alloc, &[0, 1])?, goto]?, 0)?;
-    assert_eq!(rt; shortest_match_at(alloc, &cycle, b"aa", 0)?, None);
-    assert!(rt; !is_match_at(alloc, &cycle, b"", 0)?);
-    let nothing = program(alloc, vec![in alloc; splits(alloc, &[])?]?, 0)?;
-    assert_eq!(rt; shortest_match_at(alloc, &nothing, b"aa", 0)?, None);
-    Ok(())
+// The least end of a run from a place on, as slot 1 has it: each program writes it there before the match.
+fn least_end(
+    program: &Program,
+    haystack: &[u8],
+    start: usize,
+) -> Result<Option<usize>, AllocError> {
+    let mut cache = Cache::new(program)?;
+    let mut slots = [None, None];
+    if search(program, &mut cache, haystack, start, true, &mut slots) {
+        Ok(slots[1])
+    } else {
+        Ok(None)
+    }
 }
 
 // a(?:b|c)+d
@@ -39,6 +41,7 @@ fn letters(alloc: Global) -> Result<Program, Fail> {
         State::Char { target: 4, ch: 'c' },
         splits(alloc, &[1, 5])?,
         State::Char { target: 6, ch: 'd' },
+        State::Capture { target: 7, slot: 1 },
         State::Match,
     ]?;
     Ok(program(alloc, states, 0)?)
@@ -59,11 +62,10 @@ fn letters_are_found_at_their_end(rt: HostRuntime) -> Result<(), Fail> {
     ] {
         let bytes = haystack.as_bytes();
         assert_eq!(rt;
-            shortest_match_at(alloc, &letters, bytes, start)?,
+            least_end(&letters, bytes, start)?,
             want,
             "in {haystack:?} from {start}"
         );
-        assert_eq!(rt; is_match_at(alloc, &letters, bytes, start)?, want.is_some());
     }
     Ok(())
 }
@@ -79,21 +81,23 @@ fn the_least_end_may_be_of_a_later_start(rt: HostRuntime) -> Result<(), Fail> {
         State::Char { target: 4, ch: 'a' },
         State::Char { target: 6, ch: 'a' },
         State::Char { target: 6, ch: 'b' },
+        State::Capture { target: 7, slot: 1 },
         State::Match,
     ]?;
     let either = program(alloc, states, 0)?;
-    assert_eq!(rt; shortest_match_at(alloc, &either, b"aaba", 0)?, Some(3));
-    assert_eq!(rt; shortest_match_at(alloc, &either, b"aaaab", 0)?, Some(4));
+    assert_eq!(rt; least_end(&either, b"aaba", 0)?, Some(3));
+    assert_eq!(rt; least_end(&either, b"aaaab", 0)?, Some(4));
     Ok(())
 }
 
 #[test]
 fn a_match_state_alone_is_found_at_the_start(rt: HostRuntime) -> Result<(), Fail> {
     let alloc = rt.alloc();
-    let empty = program(alloc, vec![in alloc; State::Match]?, 0)?;
+    let states = vec![in alloc; State::Capture { target: 1, slot: 1 }, State::Match]?;
+    let empty = program(alloc, states, 0)?;
     for start in 0..4 {
         let want = if start <= 2 { Some(start) } else { None };
-        assert_eq!(rt; shortest_match_at(alloc, &empty, b"ab", start)?, want);
+        assert_eq!(rt; least_end(&empty, b"ab", start)?, want);
     }
     Ok(())
 }
@@ -112,21 +116,20 @@ fn assertions_and_broken_bytes(rt: HostRuntime) -> Result<(), Fail> {
             target: 3,
             look: Some(Look::Word)
         },
+        State::Capture { target: 4, slot: 1 },
         State::Match,
     ]?;
     let last = program(alloc, states, 0)?;
-    assert_eq!(rt; shortest_match_at(alloc, &last, b"x xx xx", 0)?, Some(4));
+    assert_eq!(rt; least_end(&last, b"x xx xx", 0)?, Some(4));
     let ranges = vec![in alloc; ('b', 'd'), ('\u{FFFD}', '\u{FFFD}')]?.into();
-    let states = vec![in alloc; State::Ranges { target: 1, ranges }, State::Match]?;
+    let states = vec![in alloc;
+        State::Ranges { target: 1, ranges },
+        State::Capture { target: 2, slot: 1 },
+        State::Match,
+    ]?;
     let broken = program(alloc, states, 0)?;
-    assert_eq!(rt;
-        shortest_match_at(alloc, &broken, b"ae\xE2\x98z", 0)?,
-        Some(4)
-    );
-    assert_eq!(rt; shortest_match_at(alloc, &broken, b"aed", 0)?, Some(3));
-    assert_eq!(rt;
-        shortest_match_at(alloc, &broken, "e\u{1F600}".as_bytes(), 0)?,
-        None
-    );
+    assert_eq!(rt; least_end(&broken, b"ae\xE2\x98z", 0)?, Some(4));
+    assert_eq!(rt; least_end(&broken, b"aed", 0)?, Some(3));
+    assert_eq!(rt; least_end(&broken, "e\u{1F600}".as_bytes(), 0)?, None);
     Ok(())
 }

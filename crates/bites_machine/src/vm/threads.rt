@@ -4,6 +4,7 @@ ghost use Rattle.std.specs.Prelude.{◌≡◌, ◌<◌, ◌++◌, [], ◌∷◌,
 
 use std::alloc::{AllocError, Global};
 use std::marker::Model;
+use std::mem;
 
 /// A thread that has taken its piece: the state that it is to walk from, its row, and the place where it
 /// was started.
@@ -75,6 +76,16 @@ impl Threads {
     {
         self.threads[self.len] = thread;
         self.len += 1;
+    }
+
+    /// Exchanges these threads with those of another list.
+    #[inline(always)]
+    pub(super) fn swap(&mut self, other: &mut Threads)
+        ensures this { self.new ≡ other.old }
+        ensures other { other.new ≡ self.old }
+    {
+        mem::swap(&mut self.threads, &mut other.threads);
+        mem::swap(&mut self.len, &mut other.len);
     }
 
     #[inline(always)]

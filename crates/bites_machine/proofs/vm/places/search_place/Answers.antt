@@ -21,7 +21,7 @@ walk_all-requires-clause-amid c =
 pub returns-clause-searched : goal.returns-clause-searched
 returns-clause-searched c =
     let cleared : Desk = record { marks = c.clear.new.self; stack = c.args.desk.now.stack; rows = c.args.desk.now.rows; next = c.clear-2.new.self; hit = None } in
-    let new : Desk = record { marks = c.walk_all.new.desk.marks; stack = c.walk_all.new.desk.stack; rows = c.walk_all.new.desk.rows; next = c.swap.new.y; hit = c.walk_all.new.desk.hit } in
+    let new : Desk = record { marks = c.walk_all.new.desk.marks; stack = c.walk_all.new.desk.stack; rows = c.walk_all.new.desk.rows; next = c.swap.new.other; hit = c.walk_all.new.desk.hit } in
     let searched : PlaceSearched c.args.here.now.haystack.now c.args.longest c.args.here.now.place c.args.here.now.len (states_of c.args.counted.now.states.now) c.args.first
     c.args.counted.now.walked c.walk_all.new.counted.walked c.args.desk.now new c.args.threads.now.threads c.walk_all.new.desk.next.threads c.args.slots.now c.walk_all.new.slots =
     record {
@@ -30,8 +30,8 @@ returns-clause-searched c =
     } in
     subst (λ (x : Listed). PlaceSearched c.args.here.now.haystack.now c.args.longest c.args.here.now.place c.args.here.now.len (states_of c.args.counted.now.states.now) c.args.first
     c.args.counted.now.walked c.walk_all.new.counted.walked c.args.desk.now
-    (record { marks = c.walk_all.new.desk.marks; stack = c.walk_all.new.desk.stack; rows = c.walk_all.new.desk.rows; next = c.swap.new.y; hit = c.walk_all.new.desk.hit })
-    c.args.threads.now.threads x.threads c.args.slots.now c.walk_all.new.slots) (sym c.swap.ensures.x_after) searched
+    (record { marks = c.walk_all.new.desk.marks; stack = c.walk_all.new.desk.stack; rows = c.walk_all.new.desk.rows; next = c.swap.new.other; hit = c.walk_all.new.desk.hit })
+    c.args.threads.now.threads x.threads c.args.slots.now c.walk_all.new.slots) (sym c.swap.ensures.this) searched
 
 pub returns-clause-between : goal.returns-clause-between
 returns-clause-between c =
@@ -41,7 +41,7 @@ returns-clause-between c =
     c.requires.program.0 c.requires.program.1 c.requires.program.2 c.requires.place c.requires.program.3 c.args.threads.now c.requires.between.known c.requires.between.room in
     subst (λ (y : Listed). IsBetween (states_of c.args.counted.now.states.now) (c.args.here.now.place + 1) c.walk_all.new.counted.walked
     (record { marks = c.walk_all.new.desk.marks; stack = c.walk_all.new.desk.stack; rows = c.walk_all.new.desk.rows; next = y; hit = c.walk_all.new.desk.hit })
-    c.swap.new.x (length c.walk_all.new.slots)) (sym c.swap.ensures.y_after)
+    c.swap.new.self (length c.walk_all.new.slots)) (sym c.swap.ensures.other)
     (subst (λ (x : Listed). IsBetween (states_of c.args.counted.now.states.now) (c.args.here.now.place + 1) c.walk_all.new.counted.walked
     (record { marks = c.walk_all.new.desk.marks; stack = c.walk_all.new.desk.stack; rows = c.walk_all.new.desk.rows; next = c.args.threads.now; hit = c.walk_all.new.desk.hit })
-    x (length c.walk_all.new.slots)) (sym c.swap.ensures.x_after) again)
+    x (length c.walk_all.new.slots)) (sym c.swap.ensures.this) again)

@@ -1,7 +1,7 @@
 use Rattle.std.proofs.Common.{◌≡◌, ◌∙◌, subst, refl}
 use Rattle.std.specs.Prelude.{option_map}
 use Rattle.bites_spec.specs.Regex.{span_at}
-use Rattle.bites_bytes.specs.Room.{IsWalked}
+use Rattle.bites_spec.specs.Counts.{IsWalked}
 use Rattle.bites_bytes.proofs.SlotLemmas.{ends, two_slots, none_there, answered_found, ends_lie, ends_found}
 use Rattle.bites_bytes.proofs.bytes.cache.Cache.find.Goals as goal
 

@@ -3,7 +3,7 @@ use Rattle.std.specs.Prelude.{is_some}
 use Rattle.bites_spec.specs.Program.{Program}
 use Rattle.bites_spec.specs.Run.{Run, LeastEnd, Answered}
 use Rattle.bites_spec.specs.Found.{IsLeastEnd}
-use Rattle.bites_bytes.specs.Room.{IsWalked}
+use Rattle.bites_spec.specs.Counts.{IsWalked}
 use Rattle.bites_bytes.proofs.SearchLemmas.{least_none, least_some}
 use Rattle.bites_bytes.proofs.bytes.cache.Cache.shortest.Goals as goal
 
