@@ -179,14 +179,14 @@ pub fn first_run_to(
 {
     let mut seen = Vec::new(alloc);
     let first = Spot::new(program.start(), place);
-    match walk(alloc, program, haystack, Some(end), &mut seen, first)? {
-        Some(spots) => Ok(Some(Run {
+    if let Some(spots) = walk(alloc, program, haystack, Some(end), &mut seen, first)? {
+        return Ok(Some(Run {
             start: place,
             spots,
             end,
-        })),
-        None => Ok(None),
+        }));
     }
+    Ok(None)
 }
 
 /// The slots that the run leaves: in each the last place that it writes there.
