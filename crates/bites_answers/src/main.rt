@@ -5,23 +5,23 @@
 //! and 2 for a fault, which is one line on standard error: no row is left out, and a line that is no row is a fault.
 #![tactic(auto)]
 
-use bites_rows::compare::compare_line;
-use bites_rows::report::Report;
+use bites_rows::compare::Comparison;
 use std::process::ExitCode;
 use std::{env, fs, io};
 
 fn main(rt: HostRuntime) -> io::Result<ExitCode> {
-    let mut report = Report::new(rt.alloc());
+    let mut comparison = Comparison::new(rt.alloc());
     for name in env::args(&rt)?.skip(1) {
         let table = fs::read_to_string(&rt, &name)?;
         for (index, line) in table.lines().enumerate() {
             let place = format!(in rt.alloc(); "{name} line {}", index.saturating_add(1))?;
-            if let Err(fault) = compare_line(rt.alloc(), &mut report, &place, line) {
+            if let Err(fault) = comparison.line(&place, line) {
                 eprintln!(rt; "bites_answers: {place}: {fault}")?;
                 return Ok(ExitCode::from(2));
             }
         }
     }
+    let report = comparison.report();
     let mut text = String::new(rt.alloc());
     report.write(&mut text)?;
     print!(rt; "{text}")?;

@@ -1,3 +1,4 @@
+pub mod ChosenLemmas
 pub mod LongestLemmas
 pub mod PlaceLemmas
 pub mod ReachLemmas

@@ -7,7 +7,7 @@ use Rattle.bites_plain.specs.Walk.{first_walk, is_seen}
 
 module _ (p : Program) (hay : List ℕ) where
   -- where no walk was found from the start, with nothing seen
-  none_walked : {A : Type 0} (seen : List Spot) (j place : ℕ) (s : Spot) (f : A → List Spot) (o : Option A) → seen ≡ [] → s ≡ at p.start place →
+  pub none_walked : {A : Type 0} (seen : List Spot) (j place : ℕ) (s : Spot) (f : A → List Spot) (o : Option A) → seen ≡ [] → s ≡ at p.start place →
       ((x : A) → o ≡ Some x → ⊥) → option_map f o ≡ first_walk p hay (Some j) (is_seen seen) s → None ≡ first_walk p hay (Some j) (is_seen []) (at p.start place)
   none_walked seen j place s f None nothing is none found =
       subst (λ x. None ≡ first_walk p hay (Some j) (is_seen []) x) is (subst (λ l. None ≡ first_walk p hay (Some j) (is_seen l) s) nothing found)

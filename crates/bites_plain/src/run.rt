@@ -4,7 +4,7 @@ ghost use Rattle.std.specs.Prelude.{◌≡◌, ◌≤◌, suc, [], ◌∷◌, No
 ghost use Rattle.bites_spec.specs.Utf8 as spec;
 ghost use Rattle.bites_spec.specs.Walks.{last_of};
 ghost use Rattle.bites_spec.specs.Program.{IsWellFormed};
-ghost use Rattle.bites_spec.specs.Run.{first_run, first_run_from, longest_run, longest_run_below, chosen_run, slots, writes, last_write};
+ghost use Rattle.bites_spec.specs.Run.{first_run, first_run_from, first_run_to, longest_run, longest_run_below, chosen_run, slots, writes, last_write};
 ghost use Rattle.bites_plain.specs.Walk.{first_walk, is_end, is_seen, LeadsNowhere};
 ghost use Rattle.bites_spec.proofs.RunLemmas.{Inside, unseen};
 
@@ -110,7 +110,10 @@ pub fn longest_run(
     haystack: &[u8],
     start: usize,
 ) -> Result<Option<Run>, AllocError>
-    ensures { IfOk result (λ run. run ≡ longest_run program.now.program haystack.now start) }
+    ensures longest { IfOk result (λ run. run ≡ longest_run program.now.program haystack.now start) }
+    ensures from { IfOk result (λ run. IfSome run (λ r. start ≤ r.start)) }
+    ensures forward { IfOk result (λ run. IfSome run (λ r. r.start ≤ r.end)) }
+    ensures within { IfOk result (λ run. IfSome run (λ r. r.end ≤ length haystack.now)) }
 {
     let state = program.start();
     match first_run(alloc, program, haystack, start)? {
@@ -127,8 +130,11 @@ pub fn chosen_run(
     haystack: &[u8],
     start: usize,
 ) -> Result<Option<Run>, AllocError>
-    ensures { IfOk result (λ run. run
+    ensures chosen { IfOk result (λ run. run
         ≡ chosen_run longest program.now.program haystack.now start) }
+    ensures from { IfOk result (λ run. IfSome run (λ r. start ≤ r.start)) }
+    ensures forward { IfOk result (λ run. IfSome run (λ r. r.start ≤ r.end)) }
+    ensures within { IfOk result (λ run. IfSome run (λ r. r.end ≤ length haystack.now)) }
 {
     if longest {
         longest_run(alloc, program, haystack, start)
@@ -156,6 +162,29 @@ fn longest_from(
         if let Some(spots) = walk(alloc, program, haystack, Some(end), &mut seen, first)? {
             return Ok(Some(Run { start, spots, end }));
         }
+    }
+    Ok(None)
+}
+
+/// The first simple run that begins at a place and ends at another.
+pub fn first_run_to(
+    alloc: Global,
+    program: &Program,
+    haystack: &[u8],
+    place: usize,
+    end: usize,
+) -> Result<Option<Run>, AllocError>
+    requires { place ≤ length haystack.now }
+    ensures { IfOk result (λ run. run ≡ first_run_to program.now.program haystack.now place end) }
+{
+    let mut seen = Vec::new(alloc);
+    let first = Spot::new(program.start(), place);
+    if let Some(spots) = walk(alloc, program, haystack, Some(end), &mut seen, first)? {
+        return Ok(Some(Run {
+            start: place,
+            spots,
+            end,
+        }));
     }
     Ok(None)
 }

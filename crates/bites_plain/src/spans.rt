@@ -6,51 +6,54 @@ ghost use Rattle.bites_spec.specs.Spans.{is_empty_at, due_after, successive};
 ghost use Rattle.bites_spec.specs.Slots.{span_of_run};
 
 use crate::piece::piece_at;
-use crate::run::{Run, first_run};
+use crate::run::{Run, chosen_run};
 use crate::span::Span;
 use bites_machine::program::Program;
 use std::alloc::{AllocError, Global};
 use std::marker::Model;
 
-/// The successive runs: the first run from 0, then what is due behind each.
+/// The successive runs: the one that a search from 0 answers, then what is due behind each.
 pub fn successive_runs(
     alloc: Global,
+    longest: bool,
     program: &Program,
     haystack: &[u8],
 ) -> Result<Vec<Run>, AllocError>
-    ensures { IfOk result (λ runs. runs.items
-        ≡ successive span_of_run haystack.now (spec.first_run program.now.program haystack.now)) }
+    ensures { IfOk result (λ runs. runs.items ≡ successive span_of_run haystack.now
+        (spec.chosen_run longest program.now.program haystack.now)) }
 {
+    // Only its contract is wanted: the program is well-formed, so that the longest runs lie in the haystack.
+    let _state = program.start();
     let mut runs = Vec::new(alloc);
-    let mut due = first_run(alloc, program, haystack, 0)?;
+    let mut due = chosen_run(alloc, longest, program, haystack, 0)?;
     while let Some(run) = due {
-        due = due_behind(alloc, program, haystack, run.end())?;
+        due = due_behind(alloc, longest, program, haystack, run.end())?;
         runs.push(run)?;
     }
     Ok(runs)
 }
 
-/// The first run from the end of the one before; where that is empty and ends there, the first run from one
-/// piece later.
+/// The run from the end of the one before; where that is empty and ends there, the run from one piece later.
 #[tactic(auto, unfolding(bites_spec::specs::Spans::due_after))]
 fn due_behind(
     alloc: Global,
+    longest: bool,
     program: &Program,
     haystack: &[u8],
     end: usize,
 ) -> Result<Option<Run>, AllocError>
     requires { end ≤ length haystack.now }
-    ensures due { IfOk result (λ due. due
-        ≡ due_after span_of_run haystack.now (spec.first_run program.now.program haystack.now) end) }
+    ensures due { IfOk result (λ due. due ≡ due_after span_of_run haystack.now
+        (spec.chosen_run longest program.now.program haystack.now) end) }
     ensures grows { IfOk result (λ due. IfSome due (λ run. end < run.end)) }
     ensures within { IfOk result (λ due. IfSome due (λ run. run.end ≤ length haystack.now)) }
 {
-    let due = first_run(alloc, program, haystack, end)?;
+    let due = chosen_run(alloc, longest, program, haystack, end)?;
     if !is_empty_at(&due, end) {
         return Ok(due);
     }
     let (_, len) = piece_at(haystack, end);
-    first_run(alloc, program, haystack, end + len.max(1))
+    chosen_run(alloc, longest, program, haystack, end + len.max(1))
 }
 
 /// Whether there is a run, and it begins and ends at the place.

@@ -1,5 +1,6 @@
 //! Why a comparison ends before its last row.
 
+use bites_text::error::Error;
 use std::alloc::{AllocError, AllocFailed};
 use std::fmt;
 
@@ -8,6 +9,8 @@ use std::fmt;
 pub enum Fault {
     /// It is no row, or asks nothing that is known.
     NoRow,
+    /// The engine makes a regex of its pattern, and no program.
+    NoProgram,
     Memory,
 }
 
@@ -15,8 +18,18 @@ impl fmt::Display for Fault {
     fn fmt<W: fmt::Write>(&self, f: &mut fmt::Formatter<W>) -> fmt::Result {
         f.write_str(match self {
             Fault::NoRow => "this is no row",
+            Fault::NoProgram => "this pattern has a regex and no program",
             Fault::Memory => "out of memory",
         })
+    }
+}
+
+impl From<Error> for Fault {
+    fn from(error: Error) -> Fault {
+        match error {
+            Error::Memory => Fault::Memory,
+            _ => Fault::NoProgram,
+        }
     }
 }
 

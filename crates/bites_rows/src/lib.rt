@@ -1,4 +1,5 @@
-//! Rows of tables, each asked of the engine or of the plain programs, and compared with the answer that is wanted.
+//! Rows of tables, each asked of the engine and of the plain programs, and compared with the answer that is wanted. The
+//! engine's searches are compared with the plain programs from each other start too.
 //!
 //! A table is a text. A line that is empty or begins with `#` is no row; each other line is one, of twelve columns
 //! parted by tabs. What they hold is said at the head of each table. The first line that is no row ends the comparison:
@@ -6,13 +7,19 @@
 #![tactic(auto)]
 
 mod answer;
+mod build;
 mod case;
 pub mod compare;
 mod escaped;
 pub mod fault;
-mod parses;
+mod machine;
 mod plain;
 mod product;
 pub mod report;
+mod rooms;
 mod row;
+mod single;
+mod start;
+mod sweep;
+mod told;
 mod words;

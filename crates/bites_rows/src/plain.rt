@@ -1,10 +1,11 @@
-//! Matches, groups, pieces and replaced haystacks. What answers them is named here alone: the plain programs.
+//! What the plain programs answer to searches.
 
+use crate::answer::push_new;
 use crate::case::Case;
-use crate::escaped::push_escaped;
+use crate::told::{close, push_groups, push_span};
 use bites_machine::program::Program;
 use bites_plain::pieces::{part, pieces, pieces_up_to, replaced};
-use bites_plain::run::{Run, first_run, longest_run, slots};
+use bites_plain::run::{Run, chosen_run, slots};
 use bites_plain::span::Span;
 use bites_plain::spans::{spans_of, successive_runs};
 use bites_plain::template::{Group, expand};
@@ -12,67 +13,73 @@ use bites_plain::visits::visits;
 use std::alloc::{AllocError, Global};
 use std::fmt::Write;
 
-/// Adds what is answered to a case.
+/// Adds what is answered to the case.
 pub fn search(
     alloc: Global,
     program: &Program,
     case: &Case<'_>,
     text: &mut String,
 ) -> Result<(), AllocError> {
-    let len = case.haystack.len();
-    if case.call == "program" {
-        return write!(
-            text,
-            "{} {} {}",
-            program.len(),
-            program.slots(),
-            program.targets()
-        );
-    }
-    if case.call == "visits" {
-        let record = visits(alloc, program, &case.haystack, case.argument)?;
-        return write!(text, "{} {}", record.spots().len(), record.looks());
-    }
     let runs = runs_of(alloc, program, case)?;
-    let spans = spans_of(alloc, &runs)?;
-    match case.call {
-        "find_at" | "find_iter" => push_spans(text, &spans),
-        "captures_at" | "captures_iter" | "longest_at" => push_runs(alloc, program, &runs, text),
-        "split" => push_spans(text, &pieces(alloc, len, &spans)?),
-        "splitn" => push_spans(text, &pieces_up_to(alloc, case.argument, len, &spans)?),
-        _ => substitute(alloc, program, case, &runs, &spans, text),
+    match case.row.call {
+        "program" | "visits" => count(alloc, program, case, text),
+        "captures_at" | "captures_iter" => push_runs(alloc, program, &runs, text),
+        "replace" | "replace_lit" | "replace_count" | "expand" => {
+            substitute(alloc, program, case, &runs, text)
+        }
+        _ => push_spans(alloc, case, &runs, text),
     }
 }
 
 // The runs that the case asks for.
 fn runs_of(alloc: Global, program: &Program, case: &Case<'_>) -> Result<Vec<Run>, AllocError> {
-    let run = match case.call {
-        "find_at" | "captures_at" => first_run(alloc, program, &case.haystack, case.argument)?,
-        "longest_at" => longest_run(alloc, program, &case.haystack, case.argument)?,
-        _ => return successive_runs(alloc, program, &case.haystack),
-    };
+    let longest = case.is_longest();
+    if !case.row.call.ends_with("_at") {
+        return successive_runs(alloc, longest, program, &case.haystack);
+    }
     let mut runs = Vec::new(alloc);
-    if let Some(run) = run {
+    if let Some(run) = chosen_run(alloc, longest, program, &case.haystack, case.argument)? {
         runs.push(run)?;
     }
     Ok(runs)
 }
 
-// Adds the spans as `start..end`, parted by spaces; `none` where there are none.
-fn push_spans(text: &mut String, spans: &[Span]) -> Result<(), AllocError> {
-    for span in spans {
-        if !text.is_empty() {
-            text.push(' ')?;
-        }
-        write!(text, "{}..{}", span.start(), span.end())?;
+// Adds how many states, slots and targets the program has, or how many spots a search visits and how often it looks.
+fn count(
+    alloc: Global,
+    program: &Program,
+    case: &Case<'_>,
+    text: &mut String,
+) -> Result<(), AllocError> {
+    if case.row.call == "visits" {
+        let record = visits(alloc, program, &case.haystack, case.argument)?;
+        return write!(text, "{} {}", record.spots().len(), record.looks());
     }
-    if spans.is_empty() {
-        text.push_str("none")?;
-    }
-    Ok(())
+    let (slots, targets) = (program.slots(), program.targets());
+    write!(text, "{} {slots} {targets}", program.len())
 }
 
-// Adds the groups of each run, and `; ` between runs; `none` where there are none.
+// Adds where runs begin and end, or the pieces between them.
+fn push_spans(
+    alloc: Global,
+    case: &Case<'_>,
+    runs: &[Run],
+    text: &mut String,
+) -> Result<(), AllocError> {
+    let found = spans_of(alloc, runs)?;
+    let len = case.haystack.len();
+    let spans = match case.row.call {
+        "split" => pieces(alloc, len, &found)?,
+        "splitn" => pieces_up_to(alloc, case.argument, len, &found)?,
+        _ => found,
+    };
+    for span in &spans {
+        push_span(text, span.start(), span.end())?;
+    }
+    close(text)
+}
+
+// Adds the groups of each run.
 fn push_runs(
     alloc: Global,
     program: &Program,
@@ -80,29 +87,9 @@ fn push_runs(
     text: &mut String,
 ) -> Result<(), AllocError> {
     for run in runs {
-        if !text.is_empty() {
-            text.push_str("; ")?;
-        }
         push_groups(text, &slots(alloc, program, run)?)?;
     }
-    if runs.is_empty() {
-        text.push_str("none")?;
-    }
-    Ok(())
-}
-
-/// Adds the groups whose begins and ends these slots are as `start..end` or `-`, parted by spaces.
-pub fn push_groups(text: &mut String, slots: &[Option<usize>]) -> Result<(), AllocError> {
-    for (number, pair) in slots.chunks_exact(2).enumerate() {
-        if number > 0 {
-            text.push(' ')?;
-        }
-        match pair {
-            [Some(start), Some(end)] => write!(text, "{start}..{end}")?,
-            _ => text.push('-')?,
-        }
-    }
-    Ok(())
+    close(text)
 }
 
 // Adds the haystack with matches replaced, or what the template stands for at the first; `same` where there is none.
@@ -111,28 +98,36 @@ fn substitute(
     program: &Program,
     case: &Case<'_>,
     runs: &[Run],
-    spans: &[Span],
     text: &mut String,
 ) -> Result<(), AllocError> {
+    let texts = texts_for(alloc, program, case, runs)?;
+    match texts.first() {
+        None => text.push_str("same"),
+        Some(first) if case.row.call == "expand" => push_new(text, first),
+        Some(_) => {
+            let spans = spans_of(alloc, runs)?;
+            let new = replaced(alloc, &case.haystack, case.argument, &spans, &texts)?;
+            push_new(text, &new)
+        }
+    }
+}
+
+// What stands for each run.
+fn texts_for(
+    alloc: Global,
+    program: &Program,
+    case: &Case<'_>,
+    runs: &[Run],
+) -> Result<Vec<Vec<u8>>, AllocError> {
     let mut texts = Vec::new(alloc);
     for run in runs {
         let number = texts.len().saturating_add(1);
         texts.push(text_for(alloc, program, case, run, number)?)?;
     }
-    match texts.first() {
-        None => text.push_str("same"),
-        Some(first) => {
-            text.push_str("new:")?;
-            if case.call == "expand" {
-                return push_escaped(text, first);
-            }
-            let new = replaced(alloc, &case.haystack, case.argument, spans, &texts)?;
-            push_escaped(text, &new)
-        }
-    }
+    Ok(texts)
 }
 
-// What stands for the match with this number: the template as it is, the number, or the template expanded.
+// What stands for a run, which is the one of this number: the template as it is, the number, or the template expanded.
 fn text_for(
     alloc: Global,
     program: &Program,
@@ -140,12 +135,12 @@ fn text_for(
     run: &Run,
     number: usize,
 ) -> Result<Vec<u8>, AllocError> {
-    match case.call {
+    match case.row.call {
         "replace_lit" => Vec::from_slice(alloc, &case.template),
         "replace_count" => Vec::from_slice(alloc, number.to_string(alloc)?.as_bytes()),
         _ => {
             let groups = groups_of(alloc, program, &case.haystack, run)?;
-            expand(alloc, case.is_text, &case.template, &groups)
+            expand(alloc, case.is_text(), &case.template, &groups)
         }
     }
 }

@@ -1,112 +1,183 @@
-//! What the engine's surface answers: builds, messages, sizes, and whether and how soon something matches.
+//! What a regex answers to searches.
 
+use crate::answer::push_new;
 use crate::case::Case;
-use crate::escaped::push_escaped;
-use bites_bytes::bytes::{Error, Regex, RegexBuilder};
-use bites_run::run;
+use crate::told::{close, push_span};
+use bites_bytes::bytes::{Captures, Match, NoExpand, Regex, With};
+use bites_plain::pieces::part;
 use std::alloc::{AllocError, Global};
+use std::borrow::CowSlice;
 use std::fmt::Write;
 
-/// The greatest size limit at which a size is sought.
-const GREATEST: usize = 67108864;
-
-// A builder of the case's pattern, flags and limits.
-fn builder(alloc: Global, case: &Case<'_>) -> Result<RegexBuilder, Error> {
-    let mut builder = RegexBuilder::new(alloc, &case.pattern)?;
-    builder.case_insensitive(case.flags.case_insensitive);
-    builder.multi_line(case.flags.multi_line);
-    builder.dot_matches_new_line(case.flags.dot_matches_new_line);
-    builder.crlf(case.flags.crlf);
-    builder.swap_greed(case.flags.swap_greed);
-    builder.ignore_whitespace(case.flags.ignore_whitespace);
-    builder.size_limit(case.size_limit);
-    builder.nest_limit(case.nest_limit);
-    Ok(builder)
+/// Adds what is answered to the case.
+pub fn search(
+    alloc: Global,
+    regex: &Regex,
+    case: &Case<'_>,
+    text: &mut String,
+) -> Result<(), AllocError> {
+    match case.row.call {
+        "is" => write!(text, "{}", regex.is_match_at(&case.haystack, case.argument)?),
+        "shortest" => shortest(regex, case, text),
+        "find_at" => find_at(regex, case, text),
+        "find_iter" => find_iter(regex, case, text),
+        "captures_at" => captures_at(regex, case, text),
+        "captures_iter" => captures_iter(regex, case, text),
+        "split" => split(regex, case, text),
+        "splitn" => splitn(regex, case, text),
+        "expand" => expand(alloc, regex, case, text),
+        _ => replace(alloc, regex, case, text),
+    }
 }
 
-/// Adds what a regex answers: what it is made of, whether something matches from the start on, or the least end.
-pub fn ask_regex(alloc: Global, case: &Case<'_>, text: &mut String) -> Result<(), Error> {
-    let regex = builder(alloc, case)?.build()?;
-    if case.call == "build" {
-        return Ok(describe(&regex, text)?);
-    }
-    let found = regex.is_match_at(&case.haystack, case.argument)?;
-    if case.call == "is" {
-        return Ok(write!(text, "{found}")?);
-    }
+fn shortest(regex: &Regex, case: &Case<'_>, text: &mut String) -> Result<(), AllocError> {
     match regex.shortest_match_at(&case.haystack, case.argument)? {
-        Some(end) if found => Ok(write!(text, "{end}")?),
-        None if !found => Ok(text.push_str("none")?),
-        _ => Ok(text.push_str("no agreement on a match")?),
+        Some(end) => write!(text, "{end}"),
+        None => text.push_str("none"),
     }
 }
 
-// Adds `ok`, how many groups there are, how many take part at least, and the names of all, parted by commas.
-fn describe(regex: &Regex, text: &mut String) -> Result<(), AllocError> {
-    write!(text, "ok {} ", regex.captures_len())?;
-    match regex.static_captures_len() {
-        Some(len) => write!(text, "{len}")?,
-        None => text.push('-')?,
+fn find_at(regex: &Regex, case: &Case<'_>, text: &mut String) -> Result<(), AllocError> {
+    if let Some(found) = regex.find_at(&case.haystack, case.argument)? {
+        push_span(text, found.start(), found.end())?;
     }
-    let mut parting = ' ';
-    for name in regex.capture_names() {
-        text.push(parting)?;
-        push_escaped(text, name.unwrap_or("-").as_bytes())?;
-        parting = ',';
+    close(text)
+}
+
+fn find_iter(regex: &Regex, case: &Case<'_>, text: &mut String) -> Result<(), AllocError> {
+    for found in regex.find_iter(&case.haystack)? {
+        push_span(text, found.start(), found.end())?;
+    }
+    close(text)
+}
+
+fn captures_at(regex: &Regex, case: &Case<'_>, text: &mut String) -> Result<(), AllocError> {
+    if let Some(captures) = regex.captures_at(&case.haystack, case.argument)? {
+        push_captures(text, &captures)?;
+    }
+    close(text)
+}
+
+fn captures_iter(regex: &Regex, case: &Case<'_>, text: &mut String) -> Result<(), AllocError> {
+    for captures in regex.captures_iter(&case.haystack)? {
+        push_captures(text, &captures?)?;
+    }
+    close(text)
+}
+
+// Adds where each group took part, and `;` before them where something was told.
+fn push_captures(text: &mut String, captures: &Captures<'_>) -> Result<(), AllocError> {
+    if !text.is_empty() {
+        text.push(';')?;
+    }
+    for group in captures.iter() {
+        match group {
+            Some(found) => push_span(text, found.start(), found.end())?,
+            None => text.push_str(" -")?,
+        }
     }
     Ok(())
 }
 
-/// Adds the message that refuses the pattern, or `accepted`: what the program `bites` tells where no flag and no limit is
-/// set, else what a build answers.
-pub fn message(alloc: Global, case: &Case<'_>, text: &mut String) -> Result<(), Error> {
-    if case.is_default {
-        return Ok(push_told(alloc, &case.pattern, text)?);
+fn split(regex: &Regex, case: &Case<'_>, text: &mut String) -> Result<(), AllocError> {
+    let mut matches = regex.find_iter(&case.haystack)?;
+    let mut from = 0;
+    for piece in regex.split(&case.haystack)? {
+        push_piece(text, &case.haystack, from, piece)?;
+        from = end_of(matches.next());
     }
-    match builder(alloc, case)?.build().err() {
-        Some(error) => Err(error),
-        None => Ok(text.push_str("accepted")?),
+    close(text)
+}
+
+fn splitn(regex: &Regex, case: &Case<'_>, text: &mut String) -> Result<(), AllocError> {
+    let mut matches = regex.find_iter(&case.haystack)?;
+    let mut from = 0;
+    for piece in regex.splitn(&case.haystack, case.argument)? {
+        push_piece(text, &case.haystack, from, piece)?;
+        from = end_of(matches.next());
+    }
+    close(text)
+}
+
+// Adds where a piece lies that begins at this place, or that it does not.
+fn push_piece(
+    text: &mut String,
+    haystack: &[u8],
+    from: usize,
+    piece: &[u8],
+) -> Result<(), AllocError> {
+    let to = from.saturating_add(piece.len());
+    if part(haystack, from, to) != piece {
+        return text.push_str("no piece");
+    }
+    push_span(text, from, to)
+}
+
+fn end_of(found: Option<Match<'_>>) -> usize {
+    match found {
+        Some(found) => found.end(),
+        None => 0,
     }
 }
 
-// Adds what the program `bites` tells of the pattern.
-fn push_told(alloc: Global, pattern: &str, text: &mut String) -> Result<(), AllocError> {
-    let mut words = Vec::new(alloc);
-    words.push(String::from_str(alloc, "is")?)?;
-    words.push(String::from_str(alloc, pattern)?)?;
-    let mut input: &[u8] = b"";
-    let mut out = Vec::new(alloc);
-    let mut told = Vec::new(alloc);
-    let status = run(alloc, &words, &mut input, &mut out, &mut told);
-    match told.strip_prefix(b"bites: ") {
-        Some(line) if status == 2 && out.is_empty() => {
-            text.push_str("err: ")?;
-            push_escaped(text, line.strip_suffix(b"\n").unwrap_or(b"no line"))
-        }
-        None if status < 2 && told.is_empty() => text.push_str("accepted"),
-        _ => write!(text, "another answer, with status {status}"),
-    }
-}
-
-/// Adds the least size limit at which the pattern is accepted, or `above` if it is refused at the greatest that is asked.
-/// Only the limit that is wanted and the one below it are asked.
-pub fn weight(alloc: Global, case: &Case<'_>, text: &mut String) -> Result<(), Error> {
-    let mut builder = builder(alloc, case)?;
-    let Ok(least) = case.wanted.parse::<usize>() else {
-        let above = is_too_big(&mut builder, GREATEST)?;
-        return Ok(text.push_str(if above { "above" } else { "not above" })?);
+fn expand(
+    alloc: Global,
+    regex: &Regex,
+    case: &Case<'_>,
+    text: &mut String,
+) -> Result<(), AllocError> {
+    let Some(captures) = regex.captures(&case.haystack)? else {
+        return text.push_str("same");
     };
-    if is_too_big(&mut builder, least)? || !is_too_big(&mut builder, least.saturating_sub(1))? {
-        return Ok(text.push_str("another size")?);
-    }
-    Ok(write!(text, "{least}")?)
+    let mut expanded = Vec::new(alloc);
+    captures.expand(&case.template, &mut expanded)?;
+    push_new(text, &expanded)
 }
 
-// Whether the size limit is why a build with it is refused.
-fn is_too_big(builder: &mut RegexBuilder, limit: usize) -> Result<bool, Error> {
-    match builder.size_limit(limit).build().err() {
-        None => Ok(false),
-        Some(Error::TooBig) => Ok(true),
-        Some(error) => Err(error),
+fn replace(
+    alloc: Global,
+    regex: &Regex,
+    case: &Case<'_>,
+    text: &mut String,
+) -> Result<(), AllocError> {
+    let replaced = match case.row.call {
+        "replace_lit" => by_text(regex, case)?,
+        "replace_count" => by_count(alloc, regex, case)?,
+        _ => by_template(regex, case)?,
+    };
+    match &replaced {
+        CowSlice::Borrowed(_) => text.push_str("same"),
+        CowSlice::Owned(new) => push_new(text, new),
     }
+}
+
+fn by_text<'h>(regex: &Regex, case: &'h Case<'_>) -> Result<CowSlice<'h, u8>, AllocError> {
+    let text = NoExpand(&case.template);
+    match case.argument {
+        0 => regex.replace_all(&case.haystack, text),
+        1 => regex.replace(&case.haystack, text),
+        limit => regex.replacen(&case.haystack, limit, text),
+    }
+}
+
+fn by_template<'h>(regex: &Regex, case: &'h Case<'_>) -> Result<CowSlice<'h, u8>, AllocError> {
+    let template = case.template.as_slice();
+    match case.argument {
+        0 => regex.replace_all(&case.haystack, template),
+        1 => regex.replace(&case.haystack, template),
+        limit => regex.replacen(&case.haystack, limit, template),
+    }
+}
+
+fn by_count<'h>(
+    alloc: Global,
+    regex: &Regex,
+    case: &'h Case<'_>,
+) -> Result<CowSlice<'h, u8>, AllocError> {
+    let mut count = 0u32;
+    let counting = With(|_captures: &Captures<'_>| {
+        count = count.wrapping_add(1);
+        format!(in alloc; "{count}")
+    });
+    regex.replacen(&case.haystack, case.argument, counting)
 }

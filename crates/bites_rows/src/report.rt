@@ -6,6 +6,7 @@ use std::fmt::Write;
 /// How many answers of one kind were compared, and how many differ.
 #[derive(Drop)]
 struct Tally {
+    asked: String,
     kind: String,
     compared: usize,
     different: usize,
@@ -14,6 +15,7 @@ struct Tally {
 /// The tallies of each kind of answer, in the order in which they came first, and a line for each answer that differs.
 #[derive(Drop)]
 pub struct Report {
+    alloc: Global,
     tallies: Vec<Tally>,
     lines: String,
 }
@@ -22,41 +24,59 @@ impl Report {
     /// No answers yet.
     pub fn new(alloc: Global) -> Report {
         Report {
+            alloc,
             tallies: Vec::new(alloc),
             lines: String::new(alloc),
         }
     }
 
-    /// Counts an answer of this kind; a line that begins with the place tells of one that is not as wanted.
+    /// Counts an answer of this kind by the one that was asked; a line that begins with the place tells of one that is not
+    /// as wanted.
     pub fn count(
         &mut self,
-        alloc: Global,
+        asked: &str,
         kind: &str,
         place: &str,
         wanted: &str,
         answer: &str,
     ) -> Result<(), AllocError> {
-        self.add(alloc, kind, answer != wanted)?;
-        if answer != wanted {
+        let differs = answer != wanted;
+        if differs {
             let text = &mut self.lines;
-            writeln!(text, "{place}: {kind}: expected {wanted}, got {answer}")?;
+            writeln!(text, "{place}: {asked}: {kind}: expected {wanted}, got {answer}")?;
         }
-        Ok(())
+        self.add(asked, kind, differs)
+    }
+
+    /// Counts whether an answer of this kind from a start is that of the plain programs; a line that begins with the place
+    /// tells of one that is not.
+    pub fn agree(
+        &mut self,
+        kind: &str,
+        place: &str,
+        start: usize,
+        agrees: bool,
+    ) -> Result<(), AllocError> {
+        if !agrees {
+            let text = &mut self.lines;
+            writeln!(text, "{place}: {kind} from {start}: not as the plain program")?;
+        }
+        self.add("from each start", kind, !agrees)
     }
 
     // Adds one to the tally of this kind.
-    fn add(&mut self, alloc: Global, kind: &str, differs: bool) -> Result<(), AllocError> {
+    fn add(&mut self, asked: &str, kind: &str, differs: bool) -> Result<(), AllocError> {
         let more = usize::from(differs);
         for tally in &mut self.tallies {
-            if tally.kind.as_str() == kind {
+            if tally.kind.as_str() == kind && tally.asked.as_str() == asked {
                 tally.compared = tally.compared.saturating_add(1);
                 tally.different = tally.different.saturating_add(more);
                 return Ok(());
             }
         }
-        let kind = String::from_str(alloc, kind)?;
         self.tallies.push(Tally {
-            kind,
+            asked: String::from_str(self.alloc, asked)?,
+            kind: String::from_str(self.alloc, kind)?,
             compared: 1,
             different: more,
         })?;
@@ -66,8 +86,9 @@ impl Report {
     /// Adds the tallies, and the lines of the answers that differ.
     pub fn write(&self, text: &mut String) -> Result<(), AllocError> {
         for tally in &self.tallies {
-            let (kind, compared, different) = (&tally.kind, tally.compared, tally.different);
-            writeln!(text, "{kind}: {compared} compared, {different} different")?;
+            let (compared, different) = (tally.compared, tally.different);
+            write!(text, "{}: {}: ", tally.asked, tally.kind)?;
+            writeln!(text, "{compared} compared, {different} different")?;
         }
         text.push_str(&self.lines)
     }

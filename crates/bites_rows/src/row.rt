@@ -19,30 +19,6 @@ pub struct Row<'t> {
     pub wanted: &'t str,
 }
 
-/// What a row may ask.
-const CALLS: [&str; 20] = [
-    "message",
-    "tree",
-    "build",
-    "weight",
-    "program",
-    "is",
-    "shortest",
-    "find_at",
-    "captures_at",
-    "longest_at",
-    "find_iter",
-    "captures_iter",
-    "split",
-    "splitn",
-    "replace",
-    "replace_lit",
-    "replace_count",
-    "expand",
-    "escape",
-    "visits",
-];
-
 /// The row that a line is.
 pub fn row_of<'t>(alloc: Global, line: &'t str) -> Result<Row<'t>, Fault> {
     let columns: Vec<&str> = line.split('\t').collect(alloc)?;
@@ -60,40 +36,33 @@ pub fn row_of<'t>(alloc: Global, line: &'t str) -> Result<Row<'t>, Fault> {
             template,
             wanted,
             _,
-        ] if CALLS.contains(call) => {
-            Ok(Row {
-                call,
-                kind,
-                flags,
-                size,
-                nest,
-                pattern,
-                haystack,
-                argument,
-                template,
-                wanted,
-            })
-        }
+        ] => Ok(Row {
+            call,
+            kind,
+            flags,
+            size,
+            nest,
+            pattern,
+            haystack,
+            argument,
+            template,
+            wanted,
+        }),
         _ => Err(Fault::NoRow),
     }
 }
 
 /// The flags whose letters stand here; a dash sets none.
-pub fn flags_of(letters: &str) -> Result<Flags, Fault> {
-    let mut flags = Flags::default();
-    for letter in letters.chars() {
-        match letter {
-            'i' => flags.case_insensitive = true,
-            'm' => flags.multi_line = true,
-            's' => flags.dot_matches_new_line = true,
-            'U' => flags.swap_greed = true,
-            'R' => flags.crlf = true,
-            'x' => flags.ignore_whitespace = true,
-            '-' => {}
-            _ => return Err(Fault::NoRow),
-        }
+pub fn flags_of(letters: &str) -> Flags {
+    let set = |letter: char| letters.contains(letter);
+    Flags {
+        case_insensitive: set('i'),
+        multi_line: set('m'),
+        dot_matches_new_line: set('s'),
+        crlf: set('R'),
+        swap_greed: set('U'),
+        ignore_whitespace: set('x'),
     }
-    Ok(flags)
 }
 
 /// The number in a column, or another one for a dash.
