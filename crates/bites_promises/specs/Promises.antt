@@ -17,6 +17,10 @@ IsNoLater (Some l) (Some e) = l ≤ e
 abbrev pub LiesWithin : Span → Span → Type 0
 LiesWithin whole part = (whole.start ≤ part.start) × (part.start ≤ part.end) × (part.end ≤ whole.end)
 
+-- each group that took part lies within group 0
+abbrev pub AllLieWithin : List (Option ℕ) → Type 0
+AllLieWithin slots = (whole part : Span) (k : ℕ) → group_in slots 0 ≡ Some whole → group_in slots k ≡ Some part → LiesWithin whole part
+
 -- the tree matches between these two places, and from s on at no place before; or it matches at no place from s on
 abbrev pub IsFirstMatch : Tree → List ℕ → ℕ → Option (ℕ × ℕ) → Type 0
 IsFirstMatch t hay s None = NoMatch t hay s

@@ -1,7 +1,6 @@
 //! The first match: how the calls that ask for it agree, and what it is on the tree of the pattern.
 
-ghost use Rattle.std.specs.Prelude.{◌≡◌, ◌≤◌, true, is_some, option_map, IfOk};
-ghost use Rattle.bites_spec.specs.Match.{Matches};
+ghost use Rattle.std.specs.Prelude.{◌≡◌, true, is_some, option_map, IfOk};
 ghost use Rattle.bites_spec.specs.Counts.{fit_of};
 ghost use Rattle.bites_bytes.specs.Matched.{excerpt_of};
 ghost use Rattle.bites_promises.specs.Promises.{IsNoLater, IsFirstMatch, IsLongestMatch};
@@ -9,7 +8,7 @@ ghost use Rattle.bites_promises.specs.Promises.{IsNoLater, IsFirstMatch, IsLonge
 use bites_bytes::bytes::{Cache, Match, Regex};
 use std::alloc::AllocError;
 
-/// Where a match begins and ends.
+// Where a match begins and ends.
 fn ends_of(found: Option<Match<'_>>) -> Option<(usize, usize)>
     ensures { result ≡ option_map (λ m. ((excerpt_of m).span.start, (excerpt_of m).span.end)) found.entry }
 {

@@ -3,7 +3,7 @@
 ghost use Rattle.std.specs.Prelude.{◌≡◌, false, IfOk, IfSome};
 ghost use Rattle.bites_spec.specs.Tree.{IsPlain};
 ghost use Rattle.bites_bytes.specs.Matched.{excerpt_of};
-ghost use Rattle.bites_promises.specs.Promises.{LiesWithin, IsPreferred};
+ghost use Rattle.bites_promises.specs.Promises.{AllLieWithin, LiesWithin, IsPreferred};
 
 use bites_bytes::bytes::{Captures, Match, Regex};
 use std::alloc::AllocError;
@@ -26,13 +26,14 @@ pub fn match_and_group<'h>(
     }
 }
 
-/// The groups of the first match. Where the pattern's tree is plain, they are those of its preferred parse there, and
-/// so is the end.
-pub fn preferred_groups<'h>(
+/// The groups of the first match: each that took part lies within group 0. Where the pattern's tree is plain, they are
+/// those of its preferred parse there, and so is the end.
+pub fn first_groups<'h>(
     regex: &Regex,
     haystack: &'h [u8],
 ) -> Result<Option<Captures<'h>>, AllocError>
-    ensures { regex.now.leftmost_longest ≡ false → IsPlain regex.now.tree →
+    ensures within { IfOk result (λ r. IfSome r (λ c. AllLieWithin c.slots)) }
+    ensures preferred { regex.now.leftmost_longest ≡ false → IsPlain regex.now.tree →
         IfOk result (λ r. IfSome r (λ c. IsPreferred regex.now.tree haystack.now c.slots)) }
 {
     regex.captures(haystack)
