@@ -16,6 +16,8 @@ use super::threads::Threads;
 use super::walk::Desk;
 use crate::program::Program;
 use std::alloc::AllocError;
+#[cfg(test)]
+use std::alloc::Global;
 use std::marker::Model;
 
 /// The room for searches of a program and of those with as many states, slots and targets: the threads of
@@ -129,9 +131,12 @@ impl Cache {
         found
     }
 
-    /// Goes on as in the last round but one.
+    /// Goes on as in the last round but one that 64 bits count.
     #[cfg(test)]
-    pub(super) fn near_the_end(&mut self) {
-        self.desk.marks.near_the_end();
+    pub(super) fn near_the_end(&mut self, alloc: Global) -> Result<(), AllocError>
+        ensures { self.new.fits ≡ self.old.fits }
+    {
+        self.desk.marks = Marks::near_the_end(alloc, self.states)?;
+        Ok(())
     }
 }

@@ -38,6 +38,11 @@ fn slots_of(
     Ok(if found { Some(slots) } else { None })
 }
 
+// What is wanted of a slot; nothing behind the last that is named.
+fn wanted_at(want: &[Option<usize>], slot: usize) -> Option<usize> {
+    want.get(slot).copied().unwrap_or(None)
+}
+
 #[test]
 fn first_runs_of_patterns(rt: HostRuntime) -> Result<(), Fail> {
     let alloc = rt.alloc();
@@ -90,7 +95,7 @@ fn first_runs_of_patterns(rt: HostRuntime) -> Result<(), Fail> {
         let program = compiled(alloc, pattern)?;
         let slots = slots_of(alloc, &program, haystack, false)?.ok_or("no match")?;
         for (slot, place) in slots.iter().enumerate() {
-            let wanted = want.get(slot).copied().unwrap_or(None);
+            let wanted = wanted_at(&want, slot);
             assert_eq!(rt; *place, wanted, "slot {slot} of {pattern} on {haystack}");
         }
     }
@@ -132,7 +137,7 @@ fn longest_runs_of_patterns(rt: HostRuntime) -> Result<(), Fail> {
         let program = compiled(alloc, pattern)?;
         let slots = slots_of(alloc, &program, haystack, true)?.ok_or("no match")?;
         for (slot, place) in slots.iter().enumerate() {
-            let wanted = want.get(slot).copied().unwrap_or(None);
+            let wanted = wanted_at(&want, slot);
             assert_eq!(rt; *place, wanted, "slot {slot} of {pattern} on {haystack}");
         }
     }
@@ -165,7 +170,7 @@ fn rounds_begin_anew(rt: HostRuntime) -> Result<(), Fail> {
     let alloc = rt.alloc();
     let program = compiled(alloc, "a+")?;
     let mut cache = Cache::new(&program)?;
-    cache.near_the_end();
+    cache.near_the_end(alloc)?;
     let mut slots = [None, None];
     assert!(rt; search(&program, &mut cache, b"aaa", 0, false, &mut slots));
     assert_eq!(rt; slots, [Some(0), Some(3)]);
