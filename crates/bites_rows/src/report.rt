@@ -61,7 +61,7 @@ impl Report {
             let text = &mut self.lines;
             writeln!(text, "{place}: {kind} from {start}: not as the plain program")?;
         }
-        self.add("from each start", kind, !agrees)
+        self.add("from starts", kind, !agrees)
     }
 
     // Adds one to the tally of this kind.
