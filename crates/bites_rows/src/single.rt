@@ -9,7 +9,10 @@ pub fn are_found(regex: &Regex, cache: &mut Cache, start: &Start<'_>) -> bool {
     if !cache.fits(regex) {
         return false;
     }
-    is_found(regex.find_at_with(cache, start.haystack, start.place), start)
+    is_found(
+        regex.find_at_with(cache, start.haystack, start.place),
+        start,
+    )
 }
 
 // Whether a match lies where the first run does.
@@ -44,11 +47,7 @@ fn has_groups(captures: &Captures<'_>, start: &Start<'_>) -> bool {
 }
 
 /// Whether `captures_read_at` answers the first run, and leaves its groups in locations that held nothing.
-pub fn are_read(
-    regex: &Regex,
-    cache: &mut Cache,
-    start: &Start<'_>,
-) -> Result<bool, AllocError> {
+pub fn are_read(regex: &Regex, cache: &mut Cache, start: &Start<'_>) -> Result<bool, AllocError> {
     let mut locations = regex.capture_locations()?;
     if !cache.fits(regex) || !locations.fits(regex) {
         return Ok(false);
