@@ -4,12 +4,11 @@ use crate::answer::{answer, asks_pattern, refused};
 use crate::build::regex_of;
 use crate::case::{Case, case_of};
 use crate::fault::Fault;
-use crate::plain;
-use crate::product;
 use crate::report::Report;
 use crate::rooms::Rooms;
 use crate::row::row_of;
 use crate::sweep::sweep;
+use crate::{plain, product};
 use bites_bytes::bytes::Regex;
 use bites_machine::program::{Program, compile};
 use bites_syntax::parse::parse;
@@ -65,12 +64,7 @@ impl Comparison {
     }
 
     // Compares the message that refuses the pattern of a search.
-    fn compare_refusal(
-        &mut self,
-        place: &str,
-        case: &Case<'_>,
-        error: Error,
-    ) -> Result<(), Fault> {
+    fn compare_refusal(&mut self, place: &str, case: &Case<'_>, error: Error) -> Result<(), Fault> {
         let mut text = String::new(self.alloc);
         refused(error, &mut text)?;
         self.count("engine", place, case, &text)
@@ -114,14 +108,19 @@ impl Comparison {
         answer: &str,
     ) -> Result<(), Fault> {
         let row = &case.row;
-        self.report.count(asked, row.call, place, row.wanted, answer)?;
+        self.report
+            .count(asked, row.call, place, row.wanted, answer)?;
         Ok(())
     }
 }
 
 // Whether the engine's surface has the call. It does not answer longest matches yet.
 fn asks_regex(case: &Case<'_>) -> bool {
-    !case.is_longest() && !matches!(case.row.call, "program" | "visits")
+    match case.row.call {
+        "program" | "visits" => false,
+        "is" | "shortest" => true,
+        _ => !case.is_longest(),
+    }
 }
 
 // Whether the plain programs have the call.

@@ -17,7 +17,11 @@ pub fn search(
     text: &mut String,
 ) -> Result<(), AllocError> {
     match case.row.call {
-        "is" => write!(text, "{}", regex.is_match_at(&case.haystack, case.argument)?),
+        "is" => write!(
+            text,
+            "{}",
+            regex.is_match_at(&case.haystack, case.argument)?
+        ),
         "shortest" => shortest(regex, case, text),
         "find_at" => find_at(regex, case, text),
         "find_iter" => find_iter(regex, case, text),

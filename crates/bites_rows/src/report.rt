@@ -43,7 +43,10 @@ impl Report {
         let differs = answer != wanted;
         if differs {
             let text = &mut self.lines;
-            writeln!(text, "{place}: {asked}: {kind}: expected {wanted}, got {answer}")?;
+            writeln!(
+                text,
+                "{place}: {asked}: {kind}: expected {wanted}, got {answer}"
+            )?;
         }
         self.add(asked, kind, differs)
     }
@@ -59,9 +62,12 @@ impl Report {
     ) -> Result<(), AllocError> {
         if !agrees {
             let text = &mut self.lines;
-            writeln!(text, "{place}: {kind} from {start}: not as the plain program")?;
+            writeln!(
+                text,
+                "{place}: {kind} from {start}: not as the plain program"
+            )?;
         }
-        self.add("from each start", kind, !agrees)
+        self.add("from starts", kind, !agrees)
     }
 
     // Adds one to the tally of this kind.

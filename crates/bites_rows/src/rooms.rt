@@ -33,7 +33,10 @@ impl Rooms {
 
     /// Room that fits the program: one that served before, or a new one.
     pub fn room(&mut self, program: &Program) -> Result<&mut vm::Cache, AllocError> {
-        let known = self.rooms.iter().position(|room| room.fits_program(program));
+        let known = self
+            .rooms
+            .iter()
+            .position(|room| room.fits_program(program));
         if known.is_none() {
             self.rooms.push(vm::Cache::new(program)?)?;
         }

@@ -1,22 +1,18 @@
-//! Single searches of a regex from a start, each by a call that makes its own cache and by one that takes a cache that is
-//! kept. A cache that does not fit answers nothing right.
+//! Single searches of a regex from a start, in a cache that is kept. One that does not fit answers nothing right.
 
 use crate::start::Start;
 use bites_bytes::bytes::{Cache, CaptureLocations, Captures, Match, Regex};
 use std::alloc::AllocError;
 
 /// Whether `find_at` answers where the first run lies.
-pub fn are_found(
-    regex: &Regex,
-    cache: &mut Cache,
-    start: &Start<'_>,
-) -> Result<bool, AllocError> {
+pub fn are_found(regex: &Regex, cache: &mut Cache, start: &Start<'_>) -> bool {
     if !cache.fits(regex) {
-        return Ok(false);
+        return false;
     }
-    let kept = regex.find_at_with(cache, start.haystack, start.place);
-    let own = regex.find_at(start.haystack, start.place)?;
-    Ok(is_found(kept, start) && is_found(own, start))
+    is_found(
+        regex.find_at_with(cache, start.haystack, start.place),
+        start,
+    )
 }
 
 // Whether a match lies where the first run does.
@@ -50,26 +46,24 @@ fn has_groups(captures: &Captures<'_>, start: &Start<'_>) -> bool {
     true
 }
 
-/// Whether `captures_read_at` answers the first run, and leaves its groups in locations that hold nothing before.
-pub fn are_read(
-    regex: &Regex,
-    cache: &mut Cache,
-    start: &Start<'_>,
-) -> Result<bool, AllocError> {
+/// Whether `captures_read_at` answers the first run, and leaves its groups in locations that held nothing.
+pub fn are_read(regex: &Regex, cache: &mut Cache, start: &Start<'_>) -> Result<bool, AllocError> {
     let mut locations = regex.capture_locations()?;
     if !cache.fits(regex) || !locations.fits(regex) {
         return Ok(false);
     }
-    let kept = regex.captures_read_at_with(cache, &mut locations, start.haystack, start.place);
-    if !is_found(kept, start) || !are_left(&locations, start) {
-        return Ok(false);
-    }
+    let found = regex.captures_read_at_with(cache, &mut locations, start.haystack, start.place);
+    Ok(is_found(found, start) && are_left(&locations, start))
+}
+
+/// The same, in a cache that the call makes.
+pub fn are_read_anew(regex: &Regex, start: &Start<'_>) -> Result<bool, AllocError> {
     let mut locations = regex.capture_locations()?;
     if !locations.fits(regex) {
         return Ok(false);
     }
-    let own = regex.captures_read_at(&mut locations, start.haystack, start.place)?;
-    Ok(is_found(own, start) && are_left(&locations, start))
+    let found = regex.captures_read_at(&mut locations, start.haystack, start.place)?;
+    Ok(is_found(found, start) && are_left(&locations, start))
 }
 
 // Whether locations hold the groups of the first run, or none where there is no run.
@@ -83,19 +77,12 @@ fn are_left(locations: &CaptureLocations, start: &Start<'_>) -> bool {
 }
 
 /// Whether `is_match_at` and `shortest_match_at` answer the least end.
-pub fn are_shortest(
-    regex: &Regex,
-    cache: &mut Cache,
-    start: &Start<'_>,
-) -> Result<bool, AllocError> {
+pub fn are_shortest(regex: &Regex, cache: &mut Cache, start: &Start<'_>) -> bool {
     let (haystack, place) = (start.haystack, start.place);
     if !cache.fits(regex) {
-        return Ok(false);
+        return false;
     }
     let kept = regex.shortest_match_at_with(cache, haystack, place);
     let found = regex.is_match_at_with(cache, haystack, place);
-    Ok(kept == start.least
-        && found == start.least.is_some()
-        && regex.shortest_match_at(haystack, place)? == start.least
-        && regex.is_match_at(haystack, place)? == found)
+    kept == start.least && found == start.least.is_some()
 }

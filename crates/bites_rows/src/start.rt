@@ -32,12 +32,17 @@ pub fn start_at<'h>(
 ) -> Result<Start<'h>, AllocError> {
     let first = first_run(alloc, program, haystack, place)?;
     let longest = longest_run(alloc, program, haystack, place)?;
+    let least = if first.is_some() {
+        least_end(alloc, program, haystack, place)?
+    } else {
+        None
+    };
     Ok(Start {
         haystack,
         place,
         first: slots_of(alloc, program, &first)?,
         longest: slots_of(alloc, program, &longest)?,
-        least: least_end(alloc, program, haystack, place)?,
+        least,
     })
 }
 

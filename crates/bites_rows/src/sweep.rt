@@ -1,20 +1,20 @@
-//! Single searches from each start of a haystack, compared with the plain programs.
+//! Single searches, compared with the plain programs.
 
 use crate::case::Case;
 use crate::machine::{finds_first, finds_least, finds_longest};
 use crate::report::Report;
 use crate::rooms::Rooms;
-use crate::single::{are_captured, are_found, are_read, are_shortest};
+use crate::single::{are_captured, are_found, are_read, are_read_anew, are_shortest};
 use crate::start::{Start, start_at};
 use bites_bytes::bytes::Regex;
 use bites_machine::program::Program;
 use std::alloc::{AllocError, Global};
 
-/// The length of the longest haystack that is searched from each start, and one past its end. In others the search begins
-/// where the case says.
+/// The length of the longest haystack that is searched from each start, and from one past its end.
 const LONGEST: usize = 12;
 
-/// Compares all single searches of the case's haystack.
+/// Compares all single searches of the case's haystack: from each start, but where the case asks for groups from one start,
+/// or where the haystack is long, from the case's own.
 pub fn sweep(
     alloc: Global,
     regex: &Regex,
@@ -25,7 +25,7 @@ pub fn sweep(
     report: &mut Report,
 ) -> Result<(), AllocError> {
     let len = case.haystack.len();
-    let starts = if len <= LONGEST {
+    let starts = if len <= LONGEST && case.row.call != "captures_at" {
         0..len.saturating_add(2)
     } else {
         case.argument..case.argument.saturating_add(1)
@@ -56,7 +56,7 @@ fn ask_program(
     report.agree("search, earliest", place, start.place, least)
 }
 
-// Asks each call both with a cache of its own and with one that is kept.
+// Asks the calls that take a cache with one that is kept, and those for groups with one of their own too.
 fn ask_regex(
     regex: &Regex,
     rooms: &mut Rooms,
@@ -65,12 +65,14 @@ fn ask_regex(
     report: &mut Report,
 ) -> Result<(), AllocError> {
     let cache = rooms.cache(regex)?;
-    let found = are_found(regex, cache, start)?;
-    let captured = are_captured(regex, start)?;
+    let found = are_found(regex, cache, start);
+    let shortest = are_shortest(regex, cache, start);
     let read = are_read(regex, cache, start)?;
-    let shortest = are_shortest(regex, cache, start)?;
-    report.agree("find_at", place, start.place, found)?;
-    report.agree("captures_at", place, start.place, captured)?;
+    report.agree("find_at_with", place, start.place, found)?;
+    report.agree("shortest_match_at_with", place, start.place, shortest)?;
+    report.agree("captures_read_at_with", place, start.place, read)?;
+    let read = are_read_anew(regex, start)?;
+    let captured = are_captured(regex, start)?;
     report.agree("captures_read_at", place, start.place, read)?;
-    report.agree("shortest_match_at", place, start.place, shortest)
+    report.agree("captures_at", place, start.place, captured)
 }

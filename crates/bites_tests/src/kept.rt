@@ -3,6 +3,7 @@
 use crate::refused::Refused;
 use bites_bytes::bytes::{Error, Regex, RegexBuilder};
 use std::process::Abort;
+use std::test::Fail;
 
 /// A pattern, the names of its groups with the switch and without, and the least size limits that allow it.
 struct Row<'a> {
@@ -96,11 +97,15 @@ fn dropped_groups_count_where_they_are_kept(rt: HostRuntime) -> Result<(), Refus
 }
 
 #[test]
-fn matches_are_the_same_with_dropped_groups(rt: HostRuntime) -> Result<(), Refused> {
+fn matches_are_the_same_with_dropped_groups(rt: HostRuntime) -> Result<(), Fail> {
     let mut builder = RegexBuilder::new(rt.alloc(), "(?<x>a){0}(b)")?;
     let kept = builder.keep_dropped_groups(true).build()?;
     assert_eq!(rt; kept.shortest_match(b"ab")?, Some(2));
     assert_eq!(rt; kept.shortest_match(b"a")?, None);
     assert_eq!(rt; kept.static_captures_len(), Some(2));
+    let captures = kept.captures(b"ab")?.ok_or("no match")?;
+    assert_eq!(rt; captures.len(), 3);
+    assert!(rt; captures.get(1).is_none() && captures.name("x").is_none());
+    assert_eq!(rt; captures.get(2).map(|group| group.range()), Some(1..2));
     Ok(())
 }

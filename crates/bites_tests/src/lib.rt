@@ -1,11 +1,18 @@
-//! Tests of what no table of rows says: a builder and a regex that are used more than once, patterns of a million characters, programs
-//! made by hand, and the comparison of rows itself. No expected value comes from this engine.
+//! Tests of what no table of rows says: a builder, a regex, a cache and locations that are used more than once, groups by
+//! name, patterns of a million characters, programs made by hand, and the comparison of rows itself. No expected value
+//! comes from this engine.
 #![tactic(auto)]
 
 #[cfg(test)]
 mod builder;
 #[cfg(test)]
+mod caches;
+#[cfg(test)]
+mod groups;
+#[cfg(test)]
 mod hostile;
+#[cfg(test)]
+mod iterators;
 #[cfg(test)]
 mod kept;
 #[cfg(test)]

@@ -1,5 +1,7 @@
 //! Replaced haystacks against their bytes: templates, texts as they are, functions that keep a count, and limits.
 
+ghost use Rattle.std.specs.Prelude.{⊤};
+
 use bites_bytes::bytes::{Captures, NoExpand, Regex, Replacer, With};
 use std::alloc::{AllocError, Global};
 use std::test::Fail;
@@ -35,6 +37,37 @@ fn counted(alloc: Global, limit: usize) -> Result<Vec<u8>, Fail> {
         }),
     )?;
     Ok(replaced.into_owned(alloc)?)
+}
+
+/// A replacer that has a text for all matches, and gives another one where it is asked for each.
+#[derive(Drop)]
+struct Both;
+
+impl Replacer for Both {
+    ghost replaces = { λ _ _ _ _. ⊤ };
+
+    ghost answers = { λ _ _ _. ⊤ };
+
+    fn replace_append(
+        &mut self,
+        _captures: &Captures<'_>,
+        dst: &mut Vec<u8>,
+    ) -> Result<(), AllocError> {
+        dst.push(b'y')?;
+        Ok(())
+    }
+
+    fn no_expansion(&mut self) -> Option<&[u8]> {
+        Some(b"x")
+    }
+}
+
+#[test]
+fn a_text_for_all_matches_stands_for_each(rt: HostRuntime) -> Result<(), Fail> {
+    let regex = Regex::new(rt.alloc(), "a")?;
+    let replaced = regex.replace_all(b"aba", Both)?;
+    assert_eq!(rt; replaced.as_slice(), b"xbx".as_slice());
+    Ok(())
 }
 
 #[test]

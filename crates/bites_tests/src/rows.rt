@@ -1,16 +1,15 @@
 //! The comparison of rows: that it tells answers that differ, and lines that are no rows.
 
-use bites_rows::compare::compare_line;
-use bites_rows::report::Report;
+use bites_rows::compare::Comparison;
 use std::process::Abort;
 use std::test::Fail;
 
 // Compares what is told of a line: the end of the report, or the fault.
 fn expect(rt: &(impl Abort + AllocGlobal), line: &str, wanted: &str) -> Result<(), Fail> {
-    let mut report = Report::new(rt.alloc());
+    let mut comparison = Comparison::new(rt.alloc());
     let mut told = String::new(rt.alloc());
-    match compare_line(rt.alloc(), &mut report, "line 1", line) {
-        Ok(()) => report.write(&mut told)?,
+    match comparison.line("line 1", line) {
+        Ok(()) => comparison.report().write(&mut told)?,
         Err(fault) => told.push_str(fault.to_string(rt.alloc())?.as_str())?,
     }
     assert!(rt; told.ends_with(wanted), "{line}: {told}");
@@ -24,15 +23,15 @@ fn lines_are_told(rt: HostRuntime) -> Result<(), Fail> {
         ("# a comment", ""),
         (
             "hand\tfind_at\tbytes\t-\t-\t-\ta|ab\tab\t0\t\t0..1\t",
-            "find_at: 1 compared, 0 different\n",
+            "captures_at: 4 compared, 0 different\n",
         ),
         (
             "hand\tcaptures_at\tbytes\t-\t-\t-\ta|ab\tab\t0\t\t0..2\t",
-            "line 1: captures_at: expected 0..2, got 0..1\nline 1: first parses: expected 0..2, got 0..1\n",
+            "line 1: engine: captures_at: expected 0..2, got 0..1\nline 1: plain programs: captures_at: expected 0..2, got 0..1\n",
         ),
         (
             "hand\tweight\tbytes\t-\t-\t-\t*\\xC3\\xA9\t\t-\t\t144\t",
-            "1 different\nline 1: weight: expected 144, got err: uncounted repetition operator must be applied to a sub-expression\n",
+            "1 different\nline 1: engine: weight: expected 144, got err: uncounted repetition operator must be applied to a sub-expression\n",
         ),
         (
             "hand\tweight\tbytes\t-\t-\t-\ta\t\t-\t\t143\t",

@@ -1,7 +1,8 @@
 //! Programs made by hand, each with state 0 as its start: which states are a program, and what their runs are.
 
 use bites_machine::program::{BadProgram, Program, State};
-use bites_plain::run::{first_run, longest_run, slots};
+use bites_machine::vm;
+use bites_plain::run::{chosen_run, slots};
 use std::alloc::{AllocError, Global};
 use std::process::Abort;
 use std::test::Fail;
@@ -58,28 +59,46 @@ fn faults(rt: HostRuntime) -> Result<(), Fail> {
     Ok(())
 }
 
-// Compares the first run, or the longest, of these states with two slots: its begin, its end and what is in the slots.
+// The slots of the first run, or of the longest, by the plain program.
+fn plain_slots(
+    alloc: Global,
+    program: &Program,
+    haystack: &[u8],
+    is_longest: bool,
+) -> Result<Option<Vec<Option<usize>>>, AllocError> {
+    match chosen_run(alloc, is_longest, program, haystack, 0)? {
+        Some(run) => Ok(Some(slots(alloc, program, &run)?)),
+        None => Ok(None),
+    }
+}
+
+// Compares the slots of the first run of these states with two slots, or of the longest, by the machine and by the plain
+// program.
 fn expect_run(
     rt: &(impl Abort + AllocGlobal),
     states: Vec<State>,
     haystack: &[u8],
     is_longest: bool,
-    wanted: &str,
+    wanted: Option<[Option<usize>; 2]>,
 ) -> Result<(), Fail> {
     let program = Program::from_states(rt.alloc(), states, 0, 2)?;
-    let run = if is_longest {
-        longest_run(rt.alloc(), &program, haystack, 0)?
+    let mut room = vm::Cache::new(&program)?;
+    let mut left = [None; 2];
+    assert!(rt; room.fits_program(&program));
+    let found = if !room.fits_program(&program) {
+        false
+    } else if is_longest {
+        vm::search_longest(&program, &mut room, haystack, 0, &mut left)
     } else {
-        first_run(rt.alloc(), &program, haystack, 0)?
+        vm::search(&program, &mut room, haystack, 0, false, &mut left)
     };
-    let told = match run {
-        Some(run) => {
-            let slots = slots(rt.alloc(), &program, &run)?;
-            format!(in rt.alloc(); "{}..{} {:?}", run.start(), run.end(), slots.as_slice())?
-        }
-        None => String::from_str(rt.alloc(), "none")?,
-    };
-    assert_eq!(rt; told.as_str(), wanted);
+    assert_eq!(rt; found, wanted.is_some());
+    assert_eq!(rt; left, wanted.unwrap_or([None; 2]));
+    let plain = plain_slots(rt.alloc(), &program, haystack, is_longest)?;
+    assert_eq!(rt; plain.is_some(), wanted.is_some());
+    if let Some(plain) = plain {
+        assert_eq!(rt; plain.as_slice(), left.as_slice());
+    }
     Ok(())
 }
 
@@ -87,9 +106,9 @@ fn expect_run(
 fn runs_that_go_round(rt: HostRuntime) -> Result<(), Fail> {
     let alloc = rt.alloc();
     let round = vec![in alloc; splits(alloc, &[0, 1])?, goto(0)]?;
-    expect_run(&rt, round, b"", false, "none")?;
+    expect_run(&rt, round, b"", false, None)?;
     let nowhere = vec![in alloc; splits(alloc, &[])?]?;
-    expect_run(&rt, nowhere, b"a", false, "none")
+    expect_run(&rt, nowhere, b"a", false, None)
 }
 
 #[test]
@@ -101,10 +120,10 @@ fn runs_that_write_slots(rt: HostRuntime) -> Result<(), Fail> {
         State::Capture { target: 4, slot: 1 },
         State::Match,
     ]?;
-    expect_run(&rt, states, b"aab", false, "0..2 [Some(0), Some(2)]")
+    expect_run(&rt, states, b"aab", false, Some([Some(0), Some(2)]))
 }
 
-/// A run that writes no slot has no groups, and it is as long as its places say.
+/// The longest run goes the way that writes no slot.
 #[test]
 fn the_longest_run(rt: HostRuntime) -> Result<(), Fail> {
     let states = vec![in rt.alloc();
@@ -116,5 +135,5 @@ fn the_longest_run(rt: HostRuntime) -> Result<(), Fail> {
         State::Capture { target: 6, slot: 1 },
         State::Match,
     ]?;
-    expect_run(&rt, states, b"abc", true, "0..3 [None, None]")
+    expect_run(&rt, states, b"abc", true, Some([None, None]))
 }
