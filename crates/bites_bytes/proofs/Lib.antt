@@ -8,3 +8,4 @@ pub mod SplitLemmas
 pub mod ReplacingLemmas
 pub mod ReplacingSteps
 pub mod ReplacedLemmas
+pub mod CountLemmas
