@@ -9,3 +9,4 @@ pub mod ReplacingLemmas
 pub mod ReplacingSteps
 pub mod ReplacedLemmas
 pub mod CountLemmas
+pub mod PartLemmas
