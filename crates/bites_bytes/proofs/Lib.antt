@@ -8,3 +8,5 @@ pub mod SplitLemmas
 pub mod ReplacingLemmas
 pub mod ReplacingSteps
 pub mod ReplacedLemmas
+pub mod CountLemmas
+pub mod PartLemmas

@@ -74,11 +74,11 @@ refused_kept s t groups read same e refused =
     subst (λ gs. compiled.RefusesTree s.size_limit gs t e) (chosen_kept s.keep_dropped_groups groups read.reading same) refused
 
 -- a regex of a program that was made with these groups
-pub compiled_of : (flags : Flags) (t : Tree) (keep : Bool) (p : Contents) (pattern : List ℕ) (groups : List (Option (List ℕ)))
+pub compiled_of : (flags : Flags) (t : Tree) (keep longest : Bool) (p : Contents) (pattern : List ℕ) (groups : List (Option (List ℕ)))
     (r : Reading (chars pattern) flags t) → groups ≡ groups_opened r → IsCompilable t → p.pattern ≡ pattern → p.names ≡ chosen keep groups t →
     p.program.slots ≡ 2 * length (chosen keep groups t) → p.static_captures_len ≡ static_captures_len t → Built t p.program → IsWellFormed p.program →
-    IsCompiled (regex_of flags t keep p)
-compiled_of flags t keep p pattern groups r same compilable text names slots static built well_formed =
+    IsCompiled (regex_of flags t keep longest p)
+compiled_of flags t keep longest p pattern groups r same compilable text names slots static built well_formed =
     let P : List ℕ → Type 0 = λ x. (s : Reading (chars x) flags t) × (p.names ≡ groups_kept keep s) in
     let x : P p.pattern = subst P (sym text) (r, names ∙ chosen_kept keep groups r same) in
     record {

@@ -6,9 +6,10 @@ use Rattle.bites_spec.specs.Measure.{groups_left}
 use Rattle.bites_spec.specs.Regex.{Regex}
 use Rattle.bites_spec.specs.Contents.{Contents}
 
--- the regex of these flags, this tree, whether dropped groups are kept, and what is in the tree's program; its searches prefer as the pattern does
-abbrev pub regex_of : Flags → Tree → Bool → Contents → Regex
-regex_of flags tree keep_dropped_groups contents = record {
+-- the regex of these flags, this tree, whether dropped groups are kept, whether searches answer the longest match, and what is
+-- in the tree's program
+abbrev pub regex_of : Flags → Tree → Bool → Bool → Contents → Regex
+regex_of flags tree keep_dropped_groups leftmost_longest contents = record {
   pattern = contents.pattern;
   flags = flags;
   tree = tree;
@@ -16,7 +17,7 @@ regex_of flags tree keep_dropped_groups contents = record {
   names = contents.names;
   static_captures_len = contents.static_captures_len;
   keep_dropped_groups = keep_dropped_groups;
-  leftmost_longest = false;
+  leftmost_longest = leftmost_longest;
 }
 
 -- all of these groups, or those that are left in the tree

@@ -20,6 +20,7 @@ use Rattle.bites_spec.proofs.FoundLemmas.{group_0_is_span}
 use Rattle.bites_spec.proofs.MarkPlaces.{parse_lies, group_lies}
 use Rattle.bites_spec.proofs.RunPlaces.{chosen_run-lies}
 use Rattle.bites_spec.proofs.RegexLemmas.{run_is_found}
+use Rattle.bites_spec.proofs.PartCountLemmas.{static_len_takes_part}
 use Rattle.bites_spec.proofs.SuccessiveLemmas.{mapped_successive}
 
 module _ (p : Program) (hay : List ℕ) (well : IsWellFormed p) where
@@ -61,6 +62,7 @@ module _ (r : Regex) (is : IsCompiled r) (hay : List ℕ) where
     lie = λ k g h.
         let inner = run_at-groups s x e k g h in let outer = run_at-lies s x e in
         let one = inner.0 in let two = outer.0 in let three = inner.2 in let four = outer.2 in (omega arith, inner.1, omega arith);
+    enough = λ n known. static_len_takes_part r.tree r.program hay is.compilable is.built n known x (run_at-runs s x e);
   }
 
   some_slots : (s : ℕ) (o : Option Run) (list : List (Option ℕ)) → run_at r hay s ≡ o → option_map (slots r.program) o ≡ Some list → AreGroups r hay list

@@ -1,10 +1,11 @@
 -- What contracts see of the parts of a haystack that a search hands out.
-use Rattle.std.specs.Prelude.{◌≡◌, ℕ, false, List, length, Option, Some, None, IsSome, option_map, position}
+use Rattle.std.specs.Prelude.{◌≡◌, ◌≤◌, ℕ, false, List, length, Option, Some, None, IsSome, option_map, position}
 use Rattle.std.specs.Option.{option_map_or}
 use Rattle.std.specs.Str.{bytes_eq}
 use Rattle.bites_spec.specs.Match.{Span, span}
 use Rattle.bites_spec.specs.Pieces.{text_at}
-use Rattle.bites_spec.specs.Slots.{group_in}
+use Rattle.bites_spec.specs.Measure.{static_captures_len}
+use Rattle.bites_spec.specs.Slots.{group_in, taking_part}
 use Rattle.bites_spec.specs.Spans.{LiesFrom}
 use Rattle.bites_spec.specs.Found.{Answer, Finds}
 use Rattle.bites_spec.specs.Regex.{Regex, IsCompiled, slots_at, span_at}
@@ -32,11 +33,13 @@ pub record Captured : Type 0 where
 abbrev pub captured : Regex → List ℕ → List (Option ℕ) → Captured
 captured r hay slots = record { regex = r; haystack = hay; slots = slots }
 
--- the slots have two places for each group; group 0 took part, and each group that took part lies in the haystack
+-- the slots have two places for each group; group 0 took part, each group that took part lies in the haystack, and at least as
+-- many took part as the form of the pattern says
 pub record AreGroups (r : Regex) (hay : List ℕ) (slots : List (Option ℕ)) : Type 0 where
   pub count : length slots ≡ r.program.slots
   pub whole : IsSome (group_in slots 0)
   pub lie : (k : ℕ) (g : Span) → group_in slots k ≡ Some g → LiesFrom (length hay) 0 g
+  pub enough : (n : ℕ) → static_captures_len r.tree ≡ Some n → n ≤ length (taking_part slots)
 
 -- the answers say the same: where there is one, group 0 of the slots is its span, and each group stands in the slots
 abbrev pub IsInSlots : Option Answer → Option (List (Option ℕ)) → Type 0

@@ -15,27 +15,30 @@ no_flags = record {
   ignore_whitespace = false;
 }
 
--- the bytes of a pattern, flags, limits, and whether groups that the tree drops are kept
+-- the bytes of a pattern, flags, limits, whether groups that the tree drops are kept, and whether searches answer the longest
+-- match
 pub record Settings : Type 0 where
   pub pattern : List ℕ
   pub flags : Flags
   pub size_limit : ℕ
   pub nest_limit : ℕ
   pub keep_dropped_groups : Bool
+  pub leftmost_longest : Bool
 
 -- settings by their parts
-abbrev pub settings : List ℕ → Flags → ℕ → ℕ → Bool → Settings
-settings pattern flags size_limit nest_limit keep_dropped_groups = record {
+abbrev pub settings : List ℕ → Flags → ℕ → ℕ → Bool → Bool → Settings
+settings pattern flags size_limit nest_limit keep_dropped_groups leftmost_longest = record {
   pattern = pattern;
   flags = flags;
   size_limit = size_limit;
   nest_limit = nest_limit;
   keep_dropped_groups = keep_dropped_groups;
+  leftmost_longest = leftmost_longest;
 }
 
 -- what a builder of this pattern is made with
 abbrev pub by_default : List ℕ → Settings
-by_default pattern = settings pattern no_flags 10485760 50 false
+by_default pattern = settings pattern no_flags 10485760 50 false false
 
 -- the grammar reads the pattern as this tree, and all limits hold, with the groups that are kept
 pub record Accepts (s : Settings) (t : Tree) : Type 0 where

@@ -26,6 +26,13 @@ const SIZE_LIMIT: usize = 10 * (1 << 20);
 /// How tall a tree may be, and how many groups open at once, where nothing else is asked.
 const NEST_LIMIT: u32 = 50;
 
+// How large a program and how tall a tree may be.
+#[derive(Clone, Copy)]
+struct Limits {
+    size: usize,
+    nest: u32,
+}
+
 /// A pattern, flags and limits, of which regexes are built.
 ///
 /// A contract sees these settings.
@@ -34,9 +41,9 @@ pub struct RegexBuilder {
     alloc: Global,
     pattern: String,
     flags: Flags,
-    size_limit: usize,
-    nest_limit: u32,
+    limits: Limits,
     keep_dropped_groups: bool,
+    leftmost_longest: bool,
 }
 
 impl Model for RegexBuilder {
@@ -47,12 +54,12 @@ impl Model for RegexBuilder {
     ghost Value = { Settings };
 
     ghost view = { λ a. settings (string_bytes a.pattern) (flags_of a.flags)
-        a.size_limit a.nest_limit a.keep_dropped_groups };
+        a.limits.size a.limits.nest a.keep_dropped_groups a.leftmost_longest };
 }
 
 impl RegexBuilder {
     /// A builder of this pattern, with no flag set, a size limit of 10485760 and a nesting limit of 50, which drops groups
-    /// that the tree drops.
+    /// that the tree drops and whose regexes answer what the pattern prefers.
     ///
     /// The error is want of memory for a copy of the pattern.
     pub fn new(alloc: Global, pattern: &str) -> Result<RegexBuilder, Error>
@@ -63,9 +70,12 @@ impl RegexBuilder {
             alloc,
             pattern: String::from_str(alloc, pattern)?,
             flags: Flags::default(),
-            size_limit: SIZE_LIMIT,
-            nest_limit: NEST_LIMIT,
+            limits: Limits {
+                size: SIZE_LIMIT,
+                nest: NEST_LIMIT,
+            },
             keep_dropped_groups: false,
+            leftmost_longest: false,
         })
     }
 
@@ -136,7 +146,7 @@ impl RegexBuilder {
         ensures same { result.ghost_name ≡ self.entry.ghost_name }
         ensures set { result.now ≡ record self.old { size_limit = limit } }
     {
-        self.size_limit = limit;
+        self.limits.size = limit;
         self
     }
 
@@ -147,7 +157,7 @@ impl RegexBuilder {
         ensures same { result.ghost_name ≡ self.entry.ghost_name }
         ensures set { result.now ≡ record self.old { nest_limit = limit } }
     {
-        self.nest_limit = limit;
+        self.limits.nest = limit;
         self
     }
 
@@ -161,6 +171,20 @@ impl RegexBuilder {
         self
     }
 
+    /// Whether searches answer the longest of the matches that begin where the first one does, in place of the one that the
+    /// pattern prefers. Of several longest ones they answer the preferred one, so that groups are its groups.
+    ///
+    /// All that answers matches, groups, pieces or replaced text goes by it; [`Regex::is_match`] and
+    /// [`Regex::shortest_match`] answer the same either way. `sam|samwise` finds `samwise` in `samwise` under it, and
+    /// `sam` without it.
+    pub fn leftmost_longest(&mut self, yes: bool) -> &mut RegexBuilder
+        ensures same { result.ghost_name ≡ self.entry.ghost_name }
+        ensures set { result.now ≡ record self.old { leftmost_longest = yes } }
+    {
+        self.leftmost_longest = yes;
+        self
+    }
+
     /// A regex of this pattern under these flags and limits, in time linear in the pattern and the size limit.
     ///
     /// It is made exactly if the grammar reads the pattern as a tree and all limits hold; else the error is the message
@@ -169,7 +193,8 @@ impl RegexBuilder {
     pub fn build(&self) -> Result<Regex, Error>
         ensures kept { IfOk result (λ r. (r.pattern ≡ self.now.pattern)
             × (r.flags ≡ self.now.flags)
-            × (r.keep_dropped_groups ≡ self.now.keep_dropped_groups)) }
+            × (r.keep_dropped_groups ≡ self.now.keep_dropped_groups)
+            × (r.leftmost_longest ≡ self.now.leftmost_longest)) }
         ensures accepted { IfOk result (λ r. Accepts self.now r.tree) }
         ensures refused { IfErr result (λ e. e ≢ Error.Memory → (t : Tree) →
             Accepts self.now t → ⊥) }
@@ -179,37 +204,38 @@ impl RegexBuilder {
             self.alloc,
             &self.pattern,
             self.flags,
-            self.size_limit,
-            self.nest_limit,
+            self.limits,
             self.keep_dropped_groups,
+            self.leftmost_longest,
         )
     }
 }
 
-// A regex of the pattern under these flags and limits.
+// A regex of the pattern under these flags and limits, with all of its groups kept or those that are left, whose searches answer
+// the longest match or the preferred one.
 fn build(
     alloc: Global,
     pattern: &str,
     flags: Flags,
-    size_limit: usize,
-    nest_limit: u32,
+    limits: Limits,
     keep: bool,
+    leftmost_longest: bool,
 ) -> Result<Regex, Error>
     ensures kept { IfOk result (λ r. (r.pattern ≡ pattern.now) × (r.flags ≡ flags_of flags)
-        × (r.keep_dropped_groups ≡ keep)) }
+        × (r.keep_dropped_groups ≡ keep) × (r.leftmost_longest ≡ leftmost_longest)) }
     ensures accepted { IfOk result
-        (λ r. Accepts (settings pattern.now (flags_of flags) size_limit nest_limit keep) r.tree) }
+        (λ r. Accepts (settings pattern.now (flags_of flags) limits.size limits.nest keep leftmost_longest) r.tree) }
     ensures refused { IfErr result (λ e. e ≢ Error.Memory → (t : Tree) →
-        Accepts (settings pattern.now (flags_of flags) size_limit nest_limit keep) t → ⊥) }
+        Accepts (settings pattern.now (flags_of flags) limits.size limits.nest keep leftmost_longest) t → ⊥) }
     ensures message { IfErr result (λ e. e ≢ Error.Memory →
-        Refuses (settings pattern.now (flags_of flags) size_limit nest_limit keep) e) }
+        Refuses (settings pattern.now (flags_of flags) limits.size limits.nest keep leftmost_longest) e) }
 {
-    let (tree, groups) = match parse_with_groups(alloc, pattern, flags, nest_limit) {
+    let (tree, groups) = match parse_with_groups(alloc, pattern, flags, limits.nest) {
         Ok(read) => read,
         Err(error) => return Err(error),
     };
-    match compile_kept(alloc, &tree, &groups, keep, pattern, size_limit) {
-        Ok(program) => Regex::from_parts(alloc, &tree, flags, keep, program),
+    match compile_kept(alloc, &tree, &groups, keep, pattern, limits.size) {
+        Ok(program) => Regex::from_parts(alloc, &tree, flags, keep, leftmost_longest, program),
         Err(error) => Err(error),
     }
 }

@@ -53,6 +53,16 @@ impl<'r, 'h> CaptureMatches<'r, 'h> {
             }
         }
     }
+
+    /// The number of matches that are left, which is 0 after a refusal. It searches for each of them, and takes no memory.
+    pub fn count(self) -> usize
+        ensures { result ≡ length (captures_left self.entry) }
+    {
+        if self.refused {
+            return 0;
+        }
+        self.matches.count()
+    }
 }
 
 impl<'r, 'h> Iterator for CaptureMatches<'r, 'h> {

@@ -1,16 +1,18 @@
 //! The groups of a match.
 
-ghost use Rattle.std.specs.Prelude.{◌≡◌, length, IfOk, IsSome, Some, option_map, option_and_then};
-ghost use Rattle.bites_spec.specs.Slots.{group_in};
+ghost use Rattle.std.specs.Prelude.{◌≡◌, ◌+◌, length, map, take, drop, IfOk, IsSome, Some, option_map, option_and_then};
+ghost use Rattle.bites_spec.specs.Measure.{static_captures_len};
+ghost use Rattle.bites_spec.specs.Slots.{group_in, taking_part};
 ghost use Rattle.bites_spec.specs.Counts.{fit_of};
 ghost use Rattle.bites_spec.specs.Pieces.{text_at};
 ghost use Rattle.bites_spec.specs.Regex.{slots_at};
 ghost use Rattle.bites_spec.specs.Captured.{AreGroups, captured, excerpt, number_named, FindsGroups};
 
 use crate::bytes::regex::Compiled;
-use crate::bytes::{Cache, CaptureLocations, Match, Regex, SubCaptureMatches};
+use crate::bytes::{Cache, CaptureLocations, CaptureNames, Match, Regex, SubCaptureMatches};
 use bites_machine::interpolate;
 use std::alloc::AllocError;
+use std::fmt;
 use std::marker::Model;
 use std::rc::Rc;
 
@@ -150,6 +152,88 @@ impl<'h> Captures<'h> {
             (option_and_then (group_in self.now.slots) (number_named self.now.regex.names name.now)) }
     {
         self.name(name).unwrap().as_bytes()
+    }
+
+    /// The bytes of the match; `parts` gets those of the first groups behind group 0 that took part, in the order of their
+    /// numbers, as many as it has places.
+    ///
+    /// So many take part in every match where [`Regex::static_captures_len`] is one more than that: for `(?:(a)|(b))+`, where
+    /// it is `Some(2)`, one part is `a` on `ab`. It takes no memory.
+    pub fn extract(&self, parts: &mut [&'h [u8]]) -> &'h [u8]
+        requires { static_captures_len self.now.regex.tree ≡ Some (length parts.old + 1) }
+        ensures whole { Some result.now ≡ option_map (text_at self.now.haystack) (group_in self.now.slots 0) }
+        ensures parts { map (λ text. text.now) parts.new
+            ≡ map (text_at self.now.haystack) (take (length parts.old) (drop 1 (taking_part self.now.slots))) }
+    {
+        let mut filled = 0;
+        for group in 1..self.locations.len() {
+            if filled == parts.len() {
+                break;
+            }
+            if let Some(text) = self.text_of(group) {
+                parts[filled] = text;
+                filled += 1;
+            }
+        }
+        self.part(0)
+    }
+}
+
+/// A group's number, and its name if it has one.
+#[derive(Clone, Copy)]
+struct Key<'n> {
+    number: usize,
+    name: Option<&'n str>,
+}
+
+impl<'n> fmt::Debug for Key<'n> {
+    fn fmt<W: fmt::Write>(&self, f: &mut fmt::Formatter<W>) -> fmt::Result {
+        write!(f, "{}", self.number)?;
+        match self.name {
+            Some(name) => write!(f, "/{:?}", name),
+            None => Ok(()),
+        }
+    }
+}
+
+/// Where a group took part, and its bytes.
+#[derive(Clone, Copy)]
+struct Part<'h>(Option<Match<'h>>);
+
+impl<'h> fmt::Debug for Part<'h> {
+    fn fmt<W: fmt::Write>(&self, f: &mut fmt::Formatter<W>) -> fmt::Result {
+        match self.0 {
+            Some(found) => write!(
+                f,
+                "{}..{}/{:?}",
+                found.start(),
+                found.end(),
+                found.as_bytes()
+            ),
+            None => f.write_str("None"),
+        }
+    }
+}
+
+/// The groups by their numbers and names.
+#[derive(Clone, Copy)]
+struct Groups<'c, 'h>(&'c Captures<'h>);
+
+impl<'c, 'h> fmt::Debug for Groups<'c, 'h> {
+    fn fmt<W: fmt::Write>(&self, f: &mut fmt::Formatter<W>) -> fmt::Result {
+        let captures = self.0;
+        let names = CaptureNames::new(captures.compiled.program());
+        let mut map = f.debug_map();
+        for (number, name) in names.enumerate() {
+            map.entry(&Key { number, name }, &Part(captures.get(number)));
+        }
+        map.finish()
+    }
+}
+
+impl<'h> fmt::Debug for Captures<'h> {
+    fn fmt<W: fmt::Write>(&self, f: &mut fmt::Formatter<W>) -> fmt::Result {
+        f.debug_tuple("Captures").field(&Groups(self)).finish()
     }
 }
 

@@ -1,6 +1,6 @@
 //! The successive matches in a haystack.
 
-ghost use Rattle.std.specs.Prelude.{◌≡◌, ◌≤◌, IfOk, IfSome, length, None, map, unwrap_or, is_some};
+ghost use Rattle.std.specs.Prelude.{◌≡◌, ◌≤◌, ◌^◌, IfOk, IfSome, length, None, map, unwrap_or, is_some};
 ghost use Rattle.std.specs.Option.{ForSome};
 ghost use Rattle.bites_spec.specs.Counts.{fit_of, IsSlotCount};
 ghost use Rattle.bites_spec.specs.Regex.{IsCompiled};
@@ -103,6 +103,18 @@ impl<'r, 'h> Matches<'r, 'h> {
     {
         let mut slots = [None; 2];
         self.advance(&mut slots)
+    }
+
+    /// The number of matches that are left. It searches for each of them, and takes no memory.
+    pub fn count(mut self) -> usize
+        ensures left { result ≡ length (matches_left self.entry) }
+        ensures bound { result ≤ 2 ^ 63 }
+    {
+        let mut number = 0;
+        while self.step().is_some() {
+            number += 1;
+        }
+        number
     }
 }
 

@@ -26,6 +26,8 @@ use std::snapshot::Snapshot;
 pub(super) struct Compiled {
     flags: Flags,
     program: Program,
+    // Whether searches answer the longest match.
+    leftmost_longest: bool,
     // These take no bytes: only contracts speak of them.
     tree: Snapshot<Tree>,
     keep_dropped_groups: Snapshot<bool>,
@@ -43,10 +45,10 @@ impl Model for Compiled {
     ghost coded = { Prim.hlevel (codes, tree_code) };
 
     ghost view = { λ a. regex_of (flags_of a.flags) a.tree.value
-        a.keep_dropped_groups.value a.program };
+        a.keep_dropped_groups.value a.leftmost_longest a.program };
 
     ghost invariant = { λ a. spec.IsCompiled (regex_of (flags_of a.flags) a.tree.value
-        a.keep_dropped_groups.value a.program) };
+        a.keep_dropped_groups.value a.leftmost_longest a.program) };
 }
 
 impl Compiled {
@@ -64,8 +66,7 @@ impl Compiled {
     pub(super) fn leftmost_longest(&self) -> bool
         ensures { result ≡ self.now.leftmost_longest }
     {
-        let _ = &self.program;
-        false
+        self.leftmost_longest
     }
 
     // The number of the first group of this name.
@@ -129,7 +130,7 @@ impl Regex {
     /// of the first fault, or of the first limit that the tree passes, or want of memory.
     pub fn new(alloc: Global, pattern: &str) -> Result<Regex, Error>
         ensures kept { IfOk result (λ r. (r.pattern ≡ pattern.now) × (r.flags ≡ no_flags)
-            × (r.keep_dropped_groups ≡ false)) }
+            × (r.keep_dropped_groups ≡ false) × (r.leftmost_longest ≡ false)) }
         ensures accepted { IfOk result (λ r. Accepts (by_default pattern.now) r.tree) }
         ensures refused { IfErr result (λ e. e ≢ Error.Memory → (t : Tree) →
             Accepts (by_default pattern.now) t → ⊥) }
@@ -145,16 +146,18 @@ impl Regex {
         tree: &Tree,
         flags: Flags,
         keep_dropped_groups: bool,
+        leftmost_longest: bool,
         program: Program,
     ) -> Result<Regex, Error>
-        requires { IsCompiled (regex_of (flags_of flags) tree.now keep_dropped_groups program) }
+        requires { IsCompiled (regex_of (flags_of flags) tree.now keep_dropped_groups leftmost_longest program) }
         ensures made { IfOk result
-            (λ r. r ≡ regex_of (flags_of flags) tree.now keep_dropped_groups program) }
+            (λ r. r ≡ regex_of (flags_of flags) tree.now keep_dropped_groups leftmost_longest program) }
         ensures refused { IfErr result (λ e. e ≡ Error.Memory) }
     {
         let compiled = Compiled {
             flags,
             program,
+            leftmost_longest,
             tree: Snapshot::of(tree),
             keep_dropped_groups: Snapshot::of(&keep_dropped_groups),
         };
@@ -242,5 +245,11 @@ impl fmt::Display for Regex {
 
     fn fmt<W: fmt::Write>(&self, f: &mut fmt::Formatter<W>) -> fmt::Result {
         f.write_str(self.as_str())
+    }
+}
+
+impl fmt::Debug for Regex {
+    fn fmt<W: fmt::Write>(&self, f: &mut fmt::Formatter<W>) -> fmt::Result {
+        f.debug_tuple("Regex").field(&self.as_str()).finish()
     }
 }

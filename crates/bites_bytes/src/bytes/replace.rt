@@ -164,7 +164,7 @@ impl Regex {
 
     /// The haystack with its first match replaced. The error is want of memory.
     ///
-    /// It is borrowed exactly if nothing matches.
+    /// It is borrowed exactly if nothing matches. A refusal hands out no text, as [`Regex::replacen`] says.
     pub fn replace<'h, R: Replacer + Drop>(
         &self,
         haystack: &'h [u8],
@@ -173,6 +173,8 @@ impl Regex {
         requires { (state : R) → R.can_replace state }
         ensures replaces { IfOk result (λ bytes. (end : R) × ReplacesIn R.replaces R.answers
             self.now haystack.now 1 replacer (cow_slice_items bytes) end) }
+        ensures refused { OnErr result ((end : R) × GivesUpIn R.replaces R.answers R.refuses
+            self.now haystack.now 1 replacer end) }
         ensures borrowed { IfOk result (λ bytes. IsBorrowedSlice bytes ↔ captures_in self.now haystack.now ≡ []) }
     {
         self.replacen(haystack, 1, replacer)
@@ -180,7 +182,7 @@ impl Regex {
 
     /// The haystack with all its matches replaced. The error is want of memory.
     ///
-    /// It is borrowed exactly if nothing matches.
+    /// It is borrowed exactly if nothing matches. A refusal hands out no text, as [`Regex::replacen`] says.
     pub fn replace_all<'h, R: Replacer + Drop>(
         &self,
         haystack: &'h [u8],
@@ -189,6 +191,8 @@ impl Regex {
         requires { (state : R) → R.can_replace state }
         ensures replaces { IfOk result (λ bytes. (end : R) × ReplacesIn R.replaces R.answers
             self.now haystack.now 0 replacer (cow_slice_items bytes) end) }
+        ensures refused { OnErr result ((end : R) × GivesUpIn R.replaces R.answers R.refuses
+            self.now haystack.now 0 replacer end) }
         ensures borrowed { IfOk result (λ bytes. IsBorrowedSlice bytes ↔ captures_in self.now haystack.now ≡ []) }
     {
         self.replacen(haystack, 0, replacer)
@@ -197,7 +201,8 @@ impl Regex {
     /// The haystack with its first `limit` matches replaced, or all of them for 0. The error is want of memory.
     ///
     /// The replacer is asked once for the same bytes for each match; where it has none, it gives what stands for the
-    /// groups of each match in turn. The haystack is borrowed exactly if nothing matches.
+    /// groups of each match in turn. The haystack is borrowed exactly if nothing matches. A refusal hands out no text; the
+    /// replacer has then served a beginning of the matches, or was not asked at all.
     pub fn replacen<'h, R: Replacer + Drop>(
         &self,
         haystack: &'h [u8],
@@ -207,6 +212,8 @@ impl Regex {
         requires { (state : R) → R.can_replace state }
         ensures replaces { IfOk result (λ bytes. (end : R) × ReplacesIn R.replaces R.answers
             self.now haystack.now limit replacer (cow_slice_items bytes) end) }
+        ensures refused { OnErr result ((end : R) × GivesUpIn R.replaces R.answers R.refuses
+            self.now haystack.now limit replacer end) }
         ensures borrowed { IfOk result (λ bytes. IsBorrowedSlice bytes ↔ captures_in self.now haystack.now ≡ []) }
     {
         self.replace_by(haystack, limit, &mut replacer)

@@ -1,6 +1,6 @@
 //! The pieces of a haystack between its matches.
 
-ghost use Rattle.std.specs.Prelude.{◌≡◌, true, IfOk, IfSome, None};
+ghost use Rattle.std.specs.Prelude.{◌≡◌, true, length, IfOk, IfSome, None};
 ghost use Rattle.bites_spec.specs.Iteration.{pieces_in, pieces_up_to};
 
 use crate::bytes::{Matches, Regex};
@@ -17,7 +17,7 @@ pub struct Split<'r, 'h> {
 
 impl<'r, 'h> Split<'r, 'h> {
     ghost use Rattle.std.specs.Iterator.{YieldsFirstBy};
-    ghost use Rattle.bites_bytes.specs.Split.{StepsOn, pieces_by, bytes_at};
+    ghost use Rattle.bites_bytes.specs.Split.{StepsOn, pieces_by, pieces_left, bytes_at};
     ghost use Rattle.std.specs.Prelude.{[]};
 
     // The next piece.
@@ -49,6 +49,16 @@ impl<'r, 'h> Split<'r, 'h> {
         self.done = true;
         let haystack = self.matches.haystack();
         Some(&haystack[self.matches.end_of_last()..haystack.len()])
+    }
+
+    /// The number of pieces that are left. It searches for each match that is left, and takes no memory.
+    pub fn count(self) -> usize
+        ensures { result ≡ length (pieces_left self.entry) }
+    {
+        if self.done {
+            return 0;
+        }
+        self.matches.count() + 1
     }
 }
 
@@ -103,6 +113,18 @@ impl<'r, 'h> SplitN<'r, 'h> {
         } else {
             self.split.step()
         }
+    }
+
+    /// The number of pieces that are left. It searches for the matches between them, and takes no memory.
+    pub fn count(mut self) -> usize
+        ensures { result ≡ length (limited_left self.entry) }
+    {
+        let limit = self.left;
+        let mut number = 0;
+        while number < limit && self.step().is_some() {
+            number += 1;
+        }
+        number
     }
 }
 

@@ -23,26 +23,26 @@ pub from_parts-requires : goal.from_parts-requires
 from_parts-requires c =
     let read = c.in-Ok.ensures.read in
     let made = c.in-Ok-compile_kept.ensures in
-    compiled_of (flags_of c.args.flags) c.in-Ok.read.0 c.args.keep c.in-Ok-compile_kept.program c.args.pattern.now c.in-Ok.read.1 read.reading
+    compiled_of (flags_of c.args.flags) c.in-Ok.read.0 c.args.keep c.args.leftmost_longest c.in-Ok-compile_kept.program c.args.pattern.now c.in-Ok.read.1 read.reading
     (c.in-Ok.ensures.groups read.reading) c.in-Ok.ensures.compilable made.pattern made.names made.slots made.static_len made.built made.well_formed
 
 pub returns-in-Ok-compile_kept-clause-accepted : goal.returns-in-Ok-compile_kept-clause-accepted
 returns-in-Ok-compile_kept-clause-accepted c =
     let read = c.in-Ok.ensures.read in
-    let s = settings c.args.pattern.now (flags_of c.args.flags) c.args.size_limit c.args.nest_limit c.args.keep in
+    let s = settings c.args.pattern.now (flags_of c.args.flags) c.args.limits.size c.args.limits.nest c.args.keep c.args.leftmost_longest in
     accepted_clause s c.in-Ok.read.0 c.in-Ok.read.1 read (c.in-Ok.ensures.groups read.reading) c.in-Ok-compile_kept.ensures.limits c.from_parts.result
-    (regex_of (flags_of c.args.flags) c.in-Ok.read.0 c.args.keep c.in-Ok-compile_kept.program) refl c.from_parts.ensures.made
+    (regex_of (flags_of c.args.flags) c.in-Ok.read.0 c.args.keep c.args.leftmost_longest c.in-Ok-compile_kept.program) refl c.from_parts.ensures.made
 
 pub returns-clause-refused : goal.returns-clause-refused
 returns-clause-refused c = λ ne t a.
     let read = c.in-Ok.ensures.read in
-    let s = settings c.args.pattern.now (flags_of c.args.flags) c.args.size_limit c.args.nest_limit c.args.keep in
+    let s = settings c.args.pattern.now (flags_of c.args.flags) c.args.limits.size c.args.limits.nest c.args.keep c.args.leftmost_longest in
     no_other_tree s c.in-Ok.read.0 c.in-Err-compile_kept.error read
     (refused_kept s c.in-Ok.read.0 c.in-Ok.read.1 read (c.in-Ok.ensures.groups read.reading) c.in-Err-compile_kept.error c.in-Err-compile_kept.ensures.refused) ne t a
 
 pub returns-clause-message : goal.returns-clause-message
 returns-clause-message c = λ ne.
     let read = c.in-Ok.ensures.read in
-    let s = settings c.args.pattern.now (flags_of c.args.flags) c.args.size_limit c.args.nest_limit c.args.keep in
+    let s = settings c.args.pattern.now (flags_of c.args.flags) c.args.limits.size c.args.limits.nest c.args.keep c.args.leftmost_longest in
     limit c.in-Ok.read.0 read
     (refused_kept s c.in-Ok.read.0 c.in-Ok.read.1 read (c.in-Ok.ensures.groups read.reading) c.in-Err-compile_kept.error c.in-Err-compile_kept.ensures.refused)

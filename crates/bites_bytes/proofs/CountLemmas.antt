@@ -1,0 +1,83 @@
+-- How many items iterators have left.
+use Rattle.std.proofs.Common.{◌≡◌, ℕ, zero, suc, ◌≤◌, Bool, true, false, cond, List, [], ◌∷◌, map, length, take, Option, Some, None, refl, sym, ap, ◌∙◌, true≢false, arith}
+use Rattle.std.specs.Prelude.{is_some, unwrap_or}
+use Rattle.std.specs.Iterator.{YieldsFirstBy}
+use Rattle.std.proofs.lemmas.List.{length-map, length-take}
+use Rattle.bites_spec.specs.Match.{Span}
+use Rattle.bites_spec.specs.Pieces.{gaps_from, text_at}
+use Rattle.bites_spec.specs.Slots.{span_of_run}
+use Rattle.bites_spec.specs.Spans.{successive, successive_after}
+use Rattle.bites_spec.specs.Regex.{Regex, run_at, span_at}
+use Rattle.bites_spec.specs.Captured.{excerpt}
+use Rattle.bites_spec.specs.Iteration.{spans_behind, captured_by, captures_behind}
+use Rattle.bites_spec.proofs.PieceTextLemmas.{length-gaps_from}
+use Rattle.bites_spec.proofs.SuccessiveLemmas.{successive-length, successive_after-length, mapped_after, mapped_successive}
+use Rattle.bites_bytes.specs.Matches.{spans_left, matches_left, captures_to_come}
+use Rattle.bites_bytes.specs.Split.{pieces_by, pieces_left, at_most_left}
+use Rattle.bites_bytes.specs.declared.bytes.matches.Matches.{Matches}
+use Rattle.bites_bytes.specs.declared.bytes.split.Split.{Split}
+
+module _ {S A B : Type 0} (view : A → B) (left : S → List B) where
+  -- a step that gives an item takes one
+  pub one_less : (s t : S) (r : Option A) → YieldsFirstBy view left s r t → is_some r ≡ true → length (left s) ≡ suc (length (left t))
+  one_less s t None steps some = absurd (true≢false (sym some))
+  one_less s t (Some x) steps some = ap length steps
+
+  -- and there is none where it gives none
+  pub none_left : (s t : S) (r : Option A) → YieldsFirstBy view left s r t → is_some r ≡ false → length (left s) ≡ 0
+  none_left s t None steps none = ap length steps.0
+  none_left s t (Some x) steps none = absurd (true≢false none)
+
+spans_bound : (r : Regex) (hay : List ℕ) (last : Option ℕ) → length (spans_behind r hay last) ≤ suc (length hay)
+spans_bound r hay None = successive-length (λ s. s) hay (span_at r hay)
+spans_bound r hay (Some e) = let le = successive_after-length (λ s. s) hay (span_at r hay) e in omega (arith, le)
+
+pub length-matches : (s : Matches) → length (matches_left s) ≡ length (spans_left s)
+length-matches s = length-map (spans_left s) (excerpt s.haystack.now)
+
+-- at most one match more is left than the haystack has bytes
+pub matches_bound : (s : Matches) → length (matches_left s) ≤ suc (length s.haystack.now)
+matches_bound s =
+    let le = spans_bound s.regex.now s.haystack.now s.last in let e = length-matches s in omega (arith, le, e)
+
+captures_spans : (r : Regex) (hay : List ℕ) (last : Option ℕ) → length (captures_behind r hay last) ≡ length (spans_behind r hay last)
+captures_spans r hay None =
+    let runs = successive span_of_run hay (run_at r hay) in
+    length-map runs (captured_by r hay) ∙ sym (length-map runs span_of_run)
+    ∙ ap length (mapped_successive span_of_run span_of_run (λ s. s) (λ x. refl) hay (run_at r hay))
+captures_spans r hay (Some e) =
+    let runs = successive_after span_of_run hay (run_at r hay) e in
+    length-map runs (captured_by r hay) ∙ sym (length-map runs span_of_run)
+    ∙ ap length (mapped_after span_of_run span_of_run (λ s. s) (λ x. refl) hay (run_at r hay) e)
+
+-- as many captures are to come as matches are left
+pub length-captures : (s : Matches) → length (captures_to_come s) ≡ length (matches_left s)
+length-captures s = captures_spans s.regex.now s.haystack.now s.last ∙ sym (length-matches s)
+
+length-by : (s : Split) (ss : List Span) (done : Bool) → s.done ≡ done → length (pieces_by s ss) ≡ cond done 0 (suc (length ss))
+length-by s ss done is =
+    let hay = s.matches.haystack.now in let gaps = gaps_from (length hay) (unwrap_or s.matches.last 0) ss in
+    ap (λ b. length (cond b [] (map (text_at hay) gaps))) is ∙ each done
+  where
+    each : (b : Bool) → length (cond b [] (map (text_at s.matches.haystack.now) (gaps_from (length s.matches.haystack.now) (unwrap_or s.matches.last 0) ss))) ≡ cond b 0 (suc (length ss))
+    each true = refl
+    each false =
+        length-map (gaps_from (length s.matches.haystack.now) (unwrap_or s.matches.last 0) ss) (text_at s.matches.haystack.now)
+        ∙ length-gaps_from (length s.matches.haystack.now) (unwrap_or s.matches.last 0) ss
+
+pub no_pieces : (s : Split) → s.done ≡ true → length (pieces_left s) ≡ 0
+no_pieces s is = length-by s (spans_left s.matches) true is
+
+-- one piece more is left than there are matches
+pub length-pieces : (s : Split) → s.done ≡ false → length (pieces_left s) ≡ suc (length (matches_left s.matches))
+length-pieces s is = length-by s (spans_left s.matches) false is ∙ ap suc (sym (length-matches s.matches))
+
+limited_by : (n : ℕ) (s : Split) (done : Bool) → s.done ≡ done → length (pieces_by s (take n (spans_left s.matches))) ≤ suc n
+limited_by n s true is = let e = length-by s (take n (spans_left s.matches)) true is in omega (arith, e)
+limited_by n s false is =
+    let e = length-by s (take n (spans_left s.matches)) false is in let l = length-take n (spans_left s.matches) in omega (arith, e, l)
+
+-- no more pieces are left than may come
+pub limited_bound : (n : ℕ) (s : Split) → length (at_most_left n s) ≤ n
+limited_bound zero s = omega arith
+limited_bound (suc n) s = limited_by n s s.done refl
