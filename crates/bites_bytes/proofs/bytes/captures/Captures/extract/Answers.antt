@@ -2,7 +2,7 @@ use Rattle.std.proofs.Common.{◌≡◌, ◌/◌, ◌+◌, ◌≤◌, ◌<◌, �
 use Rattle.bites_spec.specs.Pieces.{text_at}
 use Rattle.bites_spec.specs.Slots.{taking_part}
 use Rattle.bites_spec.specs.Captured.{Captured, AreGroups}
-use Rattle.bites_bytes.specs.Replacer.{answer_text}
+use Rattle.bites_spec.specs.Replacer.{answer_text}
 use Rattle.bites_bytes.proofs.PartLemmas.{Written, nothing_written, passed_over, one_written, all_written}
 use Rattle.bites_bytes.proofs.bytes.captures.Captures.extract.Goals as goal
 use Rattle.bites_bytes.proofs.bytes.captures.Captures.extract.Goals.{in-Some, in_default, else-loop-group-test, then-loop-group-test+then-filled-parts}
