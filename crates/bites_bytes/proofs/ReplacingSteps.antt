@@ -125,8 +125,3 @@ module _ {S : Type 0} (gives : S → Captured → List ℕ → S → Type 0) (an
 pub on_err : {A E : Type 0} (r : Result A E) (P : Type 0) → P → OnErr r P
 on_err (Ok x) P p = tt
 on_err (Err e) P p = p
-
--- what an error says of one state, it says of some state
-pub on_err_some : {A E S : Type 0} (r : Result A E) (P : S → Type 0) (s : S) → OnErr r (P s) → OnErr r ((t : S) × P t)
-on_err_some (Ok x) P s h = tt
-on_err_some (Err e) P s h = (s, h)

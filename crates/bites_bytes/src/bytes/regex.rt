@@ -186,8 +186,12 @@ impl Regex {
     }
 
     /// The text of the pattern.
+    ///
+    /// Its contract also says what every regex is: its tree is what the pattern is read as, and its program is built from
+    /// that tree. A caller whose proof needs that calls it.
     pub fn as_str(&self) -> &str
-        ensures { result.now ≡ self.now.pattern }
+        ensures pattern { result.now ≡ self.now.pattern }
+        ensures compiled { IsCompiled self.now }
     {
         self.compiled.program().pattern()
     }

@@ -173,8 +173,6 @@ impl Regex {
         requires { (state : R) → R.can_replace state }
         ensures replaces { IfOk result (λ bytes. (end : R) × ReplacesIn R.replaces R.answers
             self.now haystack.now 1 replacer (cow_slice_items bytes) end) }
-        ensures refused { OnErr result ((end : R) × GivesUpIn R.replaces R.answers R.refuses
-            self.now haystack.now 1 replacer end) }
         ensures borrowed { IfOk result (λ bytes. IsBorrowedSlice bytes ↔ captures_in self.now haystack.now ≡ []) }
     {
         self.replacen(haystack, 1, replacer)
@@ -191,8 +189,6 @@ impl Regex {
         requires { (state : R) → R.can_replace state }
         ensures replaces { IfOk result (λ bytes. (end : R) × ReplacesIn R.replaces R.answers
             self.now haystack.now 0 replacer (cow_slice_items bytes) end) }
-        ensures refused { OnErr result ((end : R) × GivesUpIn R.replaces R.answers R.refuses
-            self.now haystack.now 0 replacer end) }
         ensures borrowed { IfOk result (λ bytes. IsBorrowedSlice bytes ↔ captures_in self.now haystack.now ≡ []) }
     {
         self.replacen(haystack, 0, replacer)
@@ -212,8 +208,6 @@ impl Regex {
         requires { (state : R) → R.can_replace state }
         ensures replaces { IfOk result (λ bytes. (end : R) × ReplacesIn R.replaces R.answers
             self.now haystack.now limit replacer (cow_slice_items bytes) end) }
-        ensures refused { OnErr result ((end : R) × GivesUpIn R.replaces R.answers R.refuses
-            self.now haystack.now limit replacer end) }
         ensures borrowed { IfOk result (λ bytes. IsBorrowedSlice bytes ↔ captures_in self.now haystack.now ≡ []) }
     {
         self.replace_by(haystack, limit, &mut replacer)
