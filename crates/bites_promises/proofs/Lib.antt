@@ -1,3 +1,4 @@
 pub mod FirstLemmas
 pub mod GroupLemmas
 pub mod PieceLemmas
+pub mod SuccessiveLemmas

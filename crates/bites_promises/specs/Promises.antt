@@ -1,10 +1,12 @@
 -- What users rely on.
-use Rattle.std.specs.Prelude.{◌≡◌, ℕ, ◌≤◌, List, Option, Some, None}
+use Rattle.std.specs.Prelude.{◌≡◌, ℕ, ◌≤◌, List, [], ◌∷◌, Option, Some, None}
 use Rattle.bites_spec.specs.Tree.{Tree}
 use Rattle.bites_spec.specs.Match.{Span, Matches, groups}
 use Rattle.bites_spec.specs.Preference.{Way, parses}
 use Rattle.bites_spec.specs.Found.{NoMatch, IsFirstPlace, head_of}
 use Rattle.bites_spec.specs.Slots.{group_in}
+use Rattle.bites_spec.specs.Spans.{EndsGrow}
+use Rattle.bites_spec.specs.Pieces.{AreInOrder}
 
 -- both have an answer or none has, and the first answer is not above the second
 abbrev pub IsNoLater : Option ℕ → Option ℕ → Type 0
@@ -36,3 +38,12 @@ abbrev pub IsPreferred : Tree → List ℕ → List (Option ℕ) → Type 0
 IsPreferred t hay slots =
     (i : ℕ) × (w : Way) × IsFirstPlace t hay 0 i × (head_of (parses hay t i) ≡ Some w)
     × ((k : ℕ) → group_in slots k ≡ groups i w.end w.marks k)
+
+-- each span behind the first ends above the one before
+abbrev pub GrowBehindFirst : List Span → Type 0
+GrowBehindFirst [] = Unit {0}
+GrowBehindFirst (s ∷ ss) = EndsGrow s.end ss
+
+-- the spans stand in order within so many bytes, none overlaps another, and each ends above the one before
+abbrev pub StandApart : ℕ → List Span → Type 0
+StandApart len ss = AreInOrder len 0 ss × GrowBehindFirst ss

@@ -1,6 +1,6 @@
 //! The groups of a match.
 
-ghost use Rattle.std.specs.Prelude.{◌≡◌, false, IfOk, IfSome};
+ghost use Rattle.std.specs.Prelude.{◌≡◌, false, option_map, IfOk, IfSome};
 ghost use Rattle.bites_spec.specs.Tree.{IsPlain};
 ghost use Rattle.bites_bytes.specs.Matched.{excerpt_of};
 ghost use Rattle.bites_promises.specs.Promises.{AllLieWithin, LiesWithin, IsPreferred};
@@ -37,4 +37,18 @@ pub fn first_groups<'h>(
         IfOk result (λ r. IfSome r (λ c. IsPreferred regex.now.tree haystack.now c.slots)) }
 {
     regex.captures(haystack)
+}
+
+/// The first match by `find`, and group 0 by `captures`: they are the same.
+pub fn find_and_group_0<'h>(
+    regex: &Regex,
+    haystack: &'h [u8],
+) -> Result<(Option<Match<'h>>, Option<Match<'h>>), AllocError>
+    ensures { IfOk result (λ r. option_map excerpt_of r.0 ≡ option_map excerpt_of r.1) }
+{
+    let first = regex.find(haystack)?;
+    match regex.captures(haystack)? {
+        Some(captures) => Ok((first, captures.get(0))),
+        None => Ok((first, None)),
+    }
 }
