@@ -15,6 +15,8 @@ mod replaced;
 #[cfg(test)]
 mod rows;
 #[cfg(test)]
+mod shown;
+#[cfg(test)]
 mod states;
 #[cfg(test)]
 mod templates;
