@@ -46,6 +46,8 @@ pub fn find_and_group_0<'h>(
 ) -> Result<(Option<Match<'h>>, Option<Match<'h>>), AllocError>
     ensures { IfOk result (λ r. option_map excerpt_of r.0 ≡ option_map excerpt_of r.1) }
 {
+    // Its contract says that the regex is compiled.
+    regex.as_str();
     let first = regex.find(haystack)?;
     match regex.captures(haystack)? {
         Some(captures) => Ok((first, captures.get(0))),

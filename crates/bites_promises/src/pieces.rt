@@ -1,4 +1,6 @@
 //! The successive matches, the pieces between them, and the haystack with all of them replaced.
+//!
+//! `as_str` is called for its contract: it says that the regex is compiled, which the laws of its answers ask.
 
 ghost use Rattle.std.specs.Prelude.{◌≡◌, ◌+◌, length, map, IfOk, vec_len};
 ghost use Rattle.std.specs.Cow.{cow_slice_items};
@@ -32,6 +34,7 @@ pub fn all_matches<'h>(
     ensures { IfOk result
         (λ v. StandApart (length haystack.now) (map (λ m. (excerpt_of m).span) v.items)) }
 {
+    regex.as_str();
     let matches = regex.find_iter(haystack)?.collect(alloc)?;
     Ok(matches)
 }
@@ -47,6 +50,7 @@ pub fn replaced_and_pieces<'h>(
     ensures { IfOk result
         (λ r. cow_slice_items r.0 ≡ joined_by text.now (map (λ p. p.now) r.1.items)) }
 {
+    regex.as_str();
     let pieces = regex.split(haystack)?.collect(alloc)?;
     let replaced = regex.replace_all(haystack, NoExpand(text))?;
     Ok((replaced, pieces))

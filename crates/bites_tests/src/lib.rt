@@ -22,6 +22,8 @@ mod replaced;
 #[cfg(test)]
 mod rows;
 #[cfg(test)]
+mod shown;
+#[cfg(test)]
 mod states;
 #[cfg(test)]
 mod templates;

@@ -6,7 +6,7 @@ pub returns-in-Some : goal.returns-in-Some
 returns-in-Some c =
     c.in_ok-first.ensures.found
     ∙ sym (c.get.ensures
-    ∙ whole_is_span c.args.regex.now c.in_ok-first.ensures.compiled c.args.haystack.now 0 c.in-Some.captures
+    ∙ whole_is_span c.args.regex.now c.as_str.ensures.compiled c.args.haystack.now 0 c.in-Some.captures
     (sym c.in-Some.is ∙ c.in_ok-captures.ensures.found))
 
 pub returns-in-None : goal.returns-in-None

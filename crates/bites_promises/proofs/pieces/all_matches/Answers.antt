@@ -14,6 +14,6 @@ returns c =
     let r = c.args.regex.now in let hay = c.args.haystack.now in
     let all = map (excerpt hay) (spans_in r hay) in
     let found = map_from_collect {E = Unit {0}} (Ok c.in_ok-matches.matches) c.in_ok-matches.ensures.ran
-    (YieldsList-from_first excerpt_of matches_left all c.in_ok-find_iter.ensures.matches) in
+    (YieldsList-from_first excerpt_of matches_left all c.in_ok-find_iter.ensures) in
     subst (StandApart (length hay)) (sym (spans_of_parts hay c.in_ok-matches.matches.items (spans_in r hay) found))
-    (spans_stand_apart r c.in_ok-find_iter.ensures.compiled hay)
+    (spans_stand_apart r c.as_str.ensures.compiled hay)

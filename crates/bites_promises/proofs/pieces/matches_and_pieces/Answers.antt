@@ -16,8 +16,8 @@ returns c =
     let all = map (excerpt hay) (spans_in r hay) in
     let matches : vec_len c.in_ok-matches.matches ≡ length all =
     length_from_collect {E = Unit {0}} (Ok c.in_ok-matches.matches) (length all) c.in_ok-matches.ensures.ran
-    (YieldsList-from_first excerpt_of matches_left all c.in_ok-find_iter.ensures.matches) refl in
+    (YieldsList-from_first excerpt_of matches_left all c.in_ok-find_iter.ensures) refl in
     let pieces : vec_len c.in_ok-pieces.pieces ≡ length (pieces_in r hay) =
     length_from_collect {E = Unit {0}} (Ok c.in_ok-pieces.pieces) (length (pieces_in r hay)) c.in_ok-pieces.ensures.ran
-    (YieldsList-from_first bytes_at pieces_left (pieces_in r hay) c.in_ok-split.ensures.pieces) refl in
+    (YieldsList-from_first bytes_at pieces_left (pieces_in r hay) c.in_ok-split.ensures) refl in
     pieces ∙ pieces_are_one_more r hay ∙ ap (λ n. n + 1) (sym matches)

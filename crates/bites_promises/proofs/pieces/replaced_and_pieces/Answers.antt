@@ -16,6 +16,6 @@ returns c =
     let asked = h.1.1 in
     let texts = text_served replaces-value.it answers-value.it asked.0 text asked.1 (captures_in r hay) h.1.0 h.0 asked.2.0 asked.3 in
     let pieces = map_from_collect {E = Unit {0}} (Ok c.in_ok-pieces.pieces) c.in_ok-pieces.ensures.ran
-    (YieldsList-from_first bytes_at pieces_left (pieces_in r hay) c.in_ok-split.ensures.pieces) in
-    replaced_is_joined r c.in_ok-split.ensures.compiled hay text (cow_slice_items c.in_ok-replaced.replaced) h.1.0 texts h.1.2
+    (YieldsList-from_first bytes_at pieces_left (pieces_in r hay) c.in_ok-split.ensures) in
+    replaced_is_joined r c.as_str.ensures.compiled hay text (cow_slice_items c.in_ok-replaced.replaced) h.1.0 texts h.1.2
     ∙ ap (joined_by text) (sym pieces)
