@@ -15,7 +15,7 @@ use Rattle.bites_spec.proofs.RegexRuns.{captures_have_spans, run_at-whole, span_
 use Rattle.bites_spec.proofs.SpanLemmas.{Successive-in_order, Successive-ends_grow}
 use Rattle.bites_spec.proofs.SuccessiveLemmas.{successive_follow}
 use Rattle.bites_bytes.specs.Matched.{excerpt_of}
-use Rattle.bites_bytes.specs.Replaced.{span_in}
+use Rattle.bites_spec.specs.Replaced.{span_in}
 use Rattle.bites_bytes.specs.declared.bytes.matched.Match.{Match}
 use Rattle.bites_promises.specs.Promises.{StandApart, GrowBehindFirst}
 
