@@ -39,7 +39,7 @@ fn slots_of(
 }
 
 // What is wanted of a slot; nothing behind the last that is named.
-fn wanted_at(want: &[Option<usize>], slot: usize) -> Option<usize> {
+fn wanted_at(want: [Option<usize>; 6], slot: usize) -> Option<usize> {
     want.get(slot).copied().unwrap_or(None)
 }
 
@@ -95,7 +95,7 @@ fn first_runs_of_patterns(rt: HostRuntime) -> Result<(), Fail> {
         let program = compiled(alloc, pattern)?;
         let slots = slots_of(alloc, &program, haystack, false)?.ok_or("no match")?;
         for (slot, place) in slots.iter().enumerate() {
-            let wanted = wanted_at(&want, slot);
+            let wanted = wanted_at(want, slot);
             assert_eq!(rt; *place, wanted, "slot {slot} of {pattern} on {haystack}");
         }
     }
@@ -137,7 +137,7 @@ fn longest_runs_of_patterns(rt: HostRuntime) -> Result<(), Fail> {
         let program = compiled(alloc, pattern)?;
         let slots = slots_of(alloc, &program, haystack, true)?.ok_or("no match")?;
         for (slot, place) in slots.iter().enumerate() {
-            let wanted = wanted_at(&want, slot);
+            let wanted = wanted_at(want, slot);
             assert_eq!(rt; *place, wanted, "slot {slot} of {pattern} on {haystack}");
         }
     }
