@@ -12,7 +12,7 @@ returns-in-Some c =
     let hay = c.args.haystack.now in
     let first = c.new-first.ensures ∙ ap (λ q. at q c.args.place) c.start.ensures.start in
     let found = walk_found p hay (Some c.args.end) c.new-seen.result.items c.in-Some.spots.items c.args.place c.new-first.result
-        c.new-seen.ensures.items first (rw c.in-Some.is at c.in_ok-spots.ensures.first) in
+    c.new-seen.ensures.items first (rw c.in-Some.is at c.in_ok-spots.ensures.first) in
     sym (walk_makes_run p hay c.args.place c.args.end c.in-Some.spots.items (sym found))
 
 pub returns : goal.returns
