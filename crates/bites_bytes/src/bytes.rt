@@ -6,6 +6,7 @@ mod builder;
 mod cache;
 mod capture_matches;
 mod captures;
+pub(crate) mod for_texts;
 mod groups;
 mod locations;
 mod matched;

@@ -5,3 +5,5 @@
 #![tactic(auto)]
 
 pub mod bytes;
+
+pub use bytes::for_texts::is_compiled;
