@@ -1,10 +1,11 @@
 -- What searches of a text hand out begins and ends at borders.
-use Rattle.std.proofs.Common.{◌≡◌, ℕ, zero, suc, ◌+◌, ◌<◌, ◌≤◌, Bool, true, false, cond, List, [], ◌∷◌, map, length, Option, Some, None, option_map, refl, sym, ap, ◌∙◌, subst, inl, inr, ⊎_elim, arith, ltb, ltb-true, ltb-false, IsUtf8, IsCharBoundary}
+use Rattle.std.proofs.Common.{◌≡◌, ℕ, zero, suc, ◌+◌, ◌≤◌, Bool, true, false, cond, List, [], ◌∷◌, map, length, Option, Some, None, option_map, refl, sym, subst, ⊎_elim, arith, ltb, ltb-true, ltb-false, IsUtf8, IsCharBoundary}
 use Rattle.std.specs.Prelude.{IfSome, unwrap_or, option_and_then}
+use Rattle.std.specs.List.{AllByRecursion}
 use Rattle.std.proofs.lemmas.Str.{IsCharBoundary-start}
 use Rattle.bites_spec.specs.Utf8.{piece, places, step_len}
 use Rattle.bites_spec.specs.Walks.{Among}
-use Rattle.bites_spec.specs.Match.{Span, span}
+use Rattle.bites_spec.specs.Match.{Span}
 use Rattle.bites_spec.specs.Spans.{is_empty_at, due_after, followed, some_after, successive, successive_after}
 use Rattle.bites_spec.specs.Tree.{Tree}
 use Rattle.bites_spec.specs.Found.{Finds, IsLeastEnd}
@@ -13,15 +14,19 @@ use Rattle.bites_spec.specs.Run.{Run, slots}
 use Rattle.bites_spec.specs.Slots.{group_in, span_of_run, answer_of}
 use Rattle.bites_spec.specs.Regex.{Regex, IsCompiled, run_at, span_at, slots_at}
 use Rattle.bites_spec.specs.Captured.{Excerpt, excerpt, Captured, captured}
-use Rattle.bites_spec.specs.Iteration.{spans_in}
+use Rattle.bites_spec.specs.Pieces.{AreInOrder}
+use Rattle.bites_spec.specs.Iteration.{spans_in, captured_by, captures_in}
 use Rattle.bites_spec.proofs.EscapeLemmas.{bool_cases}
 use Rattle.bites_spec.proofs.PieceLemmas.{piece_some, Among-places_within}
 use Rattle.bites_spec.proofs.TextPlaces.{border_behind}
 use Rattle.bites_spec.proofs.TextMatches.{found_borders, least_end_border}
 use Rattle.bites_spec.proofs.FoundSomeLemmas.{finds_some}
 use Rattle.bites_spec.proofs.RegexLemmas.{run_is_found}
-use Rattle.bites_spec.proofs.RegexRuns.{run_at-lies}
-use Rattle.regex_bites.specs.Borders.{Each, IsPart, HaveBorders, AreGroupsOf}
+use Rattle.bites_spec.proofs.SpanLemmas.{Successive-in_order}
+use Rattle.bites_spec.proofs.SuccessiveLemmas.{successive_follow}
+use Rattle.bites_spec.proofs.RegexRuns.{run_at-lies, span_at-lies}
+use Rattle.regex_bites.specs.Order.{BeginFrom}
+use Rattle.regex_bites.specs.Borders.{IsPart, HaveBorders, AreGroupsOf}
 
 some_same : {A : Type 0} (a b : A) → Some a ≡ Some b → a ≡ b
 some_same a b e = cc
@@ -58,16 +63,16 @@ module _ (hay : List ℕ) (utf8 : IsUtf8 hay) where
         chosen false h = answers e (λ le. border) x h
 
     each_followed : (f : ℕ → List B) (o : Option B) → ((x : B) → o ≡ Some x → P x × IsCharBoundary hay (span_of x).end) →
-        ((e : ℕ) → IsCharBoundary hay e → Each P (f e)) → Each P (followed span_of f o)
+        ((e : ℕ) → IsCharBoundary hay e → AllByRecursion P (f e)) → AllByRecursion P (followed span_of f o)
     each_followed f None one more = tt
     each_followed f (Some x) one more = let h = one x refl in (h.0, more (span_of x).end h.1)
 
-    each_after : (n e : ℕ) → IsCharBoundary hay e → Each P (some_after span_of hay A n e)
+    each_after : (n e : ℕ) → IsCharBoundary hay e → AllByRecursion P (some_after span_of hay A n e)
     unfolding some_after
     each_after zero e border = tt
     each_after (suc n) e border = each_followed (some_after span_of hay A n) (due_after span_of hay A e) (due_answers e border) (each_after n)
 
-    pub each_successive : Each P (successive span_of hay A)
+    pub each_successive : AllByRecursion P (successive span_of hay A)
     unfolding successive successive_after
     each_successive = each_followed (some_after span_of hay A (length hay)) (A 0) (answers 0 may_start) (each_after (length hay))
 
@@ -106,7 +111,7 @@ module _ (hay : List ℕ) (utf8 : IsUtf8 hay) where
     captured_of : (o : Option (List (Option ℕ))) → ((l : List (Option ℕ)) → o ≡ Some l → HaveBorders hay l) → (c : Captured) →
         Some c ≡ option_map (captured r hay) o → AreGroupsOf hay c
     captured_of None borders c e = none_some c (sym e)
-    captured_of (Some l) borders c e = subst (AreGroupsOf hay) (sym (some_same c (captured r hay l) e)) (refl, borders l refl)
+    captured_of (Some l) borders c e = subst (AreGroupsOf hay) (sym (some_same c (captured r hay l) e)) (refl, (borders l refl).groups)
 
     -- the groups that a search answers are those of a match in the text
     pub found_groups : (s : ℕ) → MayStart hay s → (c : Captured) → Some c ≡ option_map (captured r hay) (slots_at r hay s) → AreGroupsOf hay c
@@ -138,15 +143,37 @@ module _ (hay : List ℕ) (utf8 : IsUtf8 hay) where
         option_map f o ≡ option_map (excerpt hay) (span_at r hay s) → (m : M) → o ≡ Some m → IsPart hay (f m)
     found_part f s may o e m is = part_at f o (span_at r hay s) (span_borders s may) e m is
 
-    parts : (ss : List Span) → Each (HasBorders hay) ss → Each (IsPart hay) (map (excerpt hay) ss)
+    parts : (ss : List Span) → AllByRecursion (HasBorders hay) ss → AllByRecursion (IsPart hay) (map (excerpt hay) ss)
     parts [] h = tt
     parts (s ∷ ss) h = ((refl, h.0), parts ss h.1)
 
     -- all matches are parts of the text
-    pub spans_parts : Each (IsPart hay) (map (excerpt hay) (spans_in r hay))
+    pub spans_parts : AllByRecursion (IsPart hay) (map (excerpt hay) (spans_in r hay))
     spans_parts =
         parts (spans_in r hay)
         (each_successive (λ s. s) (span_at r hay) (HasBorders hay) (λ s may g e. let b = span_borders s may g e in (b, b.1)))
+
+    groups_of_all : (xs : List Run) → AllByRecursion (λ x. HaveBorders hay (slots r.program x)) xs → AllByRecursion (AreGroupsOf hay) (map (captured_by r hay) xs)
+    groups_of_all [] h = tt
+    groups_of_all (x ∷ xs) h = ((refl, h.0.groups), groups_of_all xs h.1)
+
+    -- the groups of all matches are those of matches in the text
+    pub captures_groups : AllByRecursion (AreGroupsOf hay) (captures_in r hay)
+    captures_groups =
+        groups_of_all (successive span_of_run hay (run_at r hay))
+        (each_successive span_of_run (run_at r hay) (λ x. HaveBorders hay (slots r.program x))
+        (λ s may x e. let b = run_borders s may x e in (b.1, b.0.1)))
+
+    begin_from : (len e : ℕ) (ss : List Span) → AreInOrder len e (map (λ s. s) ss) → BeginFrom e (map (λ e. e.span) (map (excerpt hay) ss))
+    begin_from len e [] h = tt
+    begin_from len e (s ∷ ss) h = (h.0, begin_from len s.end ss h.2)
+
+    -- all matches stand in order
+    pub spans_ordered : BeginFrom 0 (map (λ e. e.span) (map (excerpt hay) (spans_in r hay)))
+    spans_ordered =
+        let lie = λ (s : ℕ) (x : Span) (e : span_at r hay s ≡ Some x). span_at-lies r is hay s x e in
+        begin_from (length hay) 0 (spans_in r hay)
+        (Successive-in_order (λ s. s) hay (λ s o. span_at r hay s ≡ o) lie (spans_in r hay) (successive_follow (λ s. s) hay (span_at r hay) lie))
 
 -- the groups of a match in a text are parts of it
 module _ (hay : List ℕ) (c : Captured) (of : AreGroupsOf hay c) where
@@ -160,11 +187,11 @@ module _ (hay : List ℕ) (c : Captured) (of : AreGroupsOf hay c) where
 
   pub group_part : {M : Type 0} (f : M → Excerpt) (k : ℕ) (o : Option M) →
       option_map f o ≡ option_map (excerpt c.haystack) (group_in c.slots k) → (m : M) → o ≡ Some m → IsPart hay (f m)
-  group_part f k o e m is = part_of f o (group_in c.slots k) (of.1.groups k) e m is
+  group_part f k o e m is = part_of f o (group_in c.slots k) (of.1 k) e m is
 
   named : (n : Option ℕ) (g : Span) → option_and_then (group_in c.slots) n ≡ Some g → HasBorders hay g
   named None g h = none_some g h
-  named (Some k) g h = of.1.groups k g h
+  named (Some k) g h = of.1 k g h
 
   pub named_part : {M : Type 0} (f : M → Excerpt) (n : Option ℕ) (o : Option M) →
       option_map f o ≡ option_map (excerpt c.haystack) (option_and_then (group_in c.slots) n) → (m : M) → o ≡ Some m → IsPart hay (f m)

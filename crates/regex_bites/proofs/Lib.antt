@@ -1,1 +1,2 @@
 pub mod BorderLemmas
+pub mod SplitLemmas

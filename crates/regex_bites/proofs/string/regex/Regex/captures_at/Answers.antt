@@ -1,4 +1,4 @@
-use Rattle.std.proofs.Common.{◌∙◌, ap, sym, option_map, Some}
+use Rattle.std.proofs.Common.{◌∙◌, ap, sym, option_map}
 use Rattle.bites_spec.specs.Regex.{slots_at}
 use Rattle.bites_spec.specs.Captured.{captured}
 use Rattle.regex_bites.proofs.BorderLemmas.{found_groups}

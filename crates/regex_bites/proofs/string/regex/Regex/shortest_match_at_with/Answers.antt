@@ -1,4 +1,4 @@
-use Rattle.std.proofs.Common.{subst, ◌∙◌, ap}
+use Rattle.std.proofs.Common.{subst}
 use Rattle.bites_spec.specs.Found.{IsLeastEnd}
 use Rattle.regex_bites.proofs.BorderLemmas.{end_border}
 use Rattle.regex_bites.proofs.string.regex.Regex.shortest_match_at_with.Goals as goal
