@@ -18,3 +18,5 @@ mod rows;
 mod states;
 #[cfg(test)]
 mod templates;
+#[cfg(test)]
+mod texts;
