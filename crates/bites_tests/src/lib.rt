@@ -18,5 +18,3 @@ mod rows;
 mod states;
 #[cfg(test)]
 mod templates;
-#[cfg(test)]
-mod texts;
