@@ -1,0 +1,198 @@
+-- What searches of a text hand out begins and ends at borders.
+use Rattle.std.proofs.Common.{◌≡◌, ℕ, zero, suc, ◌+◌, ◌≤◌, Bool, true, false, cond, List, [], ◌∷◌, map, length, Option, Some, None, option_map, refl, sym, subst, ⊎_elim, arith, ltb, ltb-true, ltb-false, IsUtf8, IsCharBoundary}
+use Rattle.std.specs.Prelude.{IfSome, unwrap_or, option_and_then}
+use Rattle.std.specs.List.{AllByRecursion}
+use Rattle.std.proofs.lemmas.Str.{IsCharBoundary-start}
+use Rattle.bites_spec.specs.Utf8.{piece, places, step_len}
+use Rattle.bites_spec.specs.Walks.{Among}
+use Rattle.bites_spec.specs.Match.{Span}
+use Rattle.bites_spec.specs.Spans.{is_empty_at, due_after, followed, some_after, successive, successive_after}
+use Rattle.bites_spec.specs.Tree.{Tree}
+use Rattle.bites_spec.specs.Found.{Finds, IsLeastEnd}
+use Rattle.bites_spec.specs.TextLaws.{HasBorders}
+use Rattle.bites_spec.specs.Run.{Run, slots}
+use Rattle.bites_spec.specs.Slots.{group_in, span_of_run, answer_of}
+use Rattle.bites_spec.specs.Regex.{Regex, IsCompiled, run_at, span_at, slots_at}
+use Rattle.bites_spec.specs.Captured.{Excerpt, excerpt, Captured, captured}
+use Rattle.bites_spec.specs.Pieces.{AreInOrder}
+use Rattle.bites_spec.specs.Iteration.{spans_in, captured_by, captures_in}
+use Rattle.bites_spec.proofs.EscapeLemmas.{bool_cases}
+use Rattle.bites_spec.proofs.PieceLemmas.{piece_some, Among-places_within}
+use Rattle.bites_spec.proofs.TextPlaces.{border_behind}
+use Rattle.bites_spec.proofs.TextMatches.{found_borders, least_end_border}
+use Rattle.bites_spec.proofs.FoundSomeLemmas.{finds_some}
+use Rattle.bites_spec.proofs.RegexLemmas.{run_is_found}
+use Rattle.bites_spec.proofs.SpanLemmas.{Successive-in_order}
+use Rattle.bites_spec.proofs.SuccessiveLemmas.{successive_follow}
+use Rattle.bites_spec.proofs.RegexRuns.{run_at-lies, span_at-lies}
+use Rattle.regex_bites.specs.Order.{BeginFrom}
+use Rattle.regex_bites.specs.Borders.{IsPart, HaveBorders, AreGroupsOf}
+
+some_same : {A : Type 0} (a b : A) → Some a ≡ Some b → a ≡ b
+some_same a b e = cc
+
+none_some : {A B : Type 0} (a : A) → None ≡ Some a → B
+none_some a e = absurd (cc)
+
+-- a search may begin at the place
+abbrev pub MayStart : List ℕ → ℕ → Type 0
+MayStart hay s = s ≤ length hay → IsCharBoundary hay s
+
+module _ (hay : List ℕ) (utf8 : IsUtf8 hay) where
+  pub may_start : MayStart hay 0
+  may_start le = IsCharBoundary-start hay utf8
+
+  step_border : (e : ℕ) → IsCharBoundary hay e → MayStart hay (e + step_len hay e)
+  step_border e border le =
+      ⊎_elim (λ (h : ltb e (length hay) ≡ true).
+      let some = piece_some hay e (ltb-true e (length hay) h) in
+      let same : (piece hay e).len ≡ step_len hay e = omega (arith, some) in
+      subst (λ (k : ℕ). IsCharBoundary hay (e + k)) same (border_behind hay e utf8 border))
+      (λ (h : ltb e (length hay) ≡ false). let past = ltb-false e (length hay) h in absurd (omega (arith, past, le)))
+      (bool_cases (ltb e (length hay)))
+
+  -- successive answers, where each answer of a search from a border has P and ends at a border
+  module _ {B : Type 0} (span_of : B → Span) (A : ℕ → Option B) (P : B → Type 0)
+      (answers : (s : ℕ) → MayStart hay s → (x : B) → A s ≡ Some x → P x × IsCharBoundary hay (span_of x).end) where
+    due_answers : (e : ℕ) → IsCharBoundary hay e → (x : B) → due_after span_of hay A e ≡ Some x → P x × IsCharBoundary hay (span_of x).end
+    unfolding due_after
+    due_answers e border x h = chosen (is_empty_at span_of e (A e)) h
+      where
+        chosen : (b : Bool) → cond b (A (e + step_len hay e)) (A e) ≡ Some x → P x × IsCharBoundary hay (span_of x).end
+        chosen true h = answers (e + step_len hay e) (step_border e border) x h
+        chosen false h = answers e (λ le. border) x h
+
+    each_followed : (f : ℕ → List B) (o : Option B) → ((x : B) → o ≡ Some x → P x × IsCharBoundary hay (span_of x).end) →
+        ((e : ℕ) → IsCharBoundary hay e → AllByRecursion P (f e)) → AllByRecursion P (followed span_of f o)
+    each_followed f None one more = tt
+    each_followed f (Some x) one more = let h = one x refl in (h.0, more (span_of x).end h.1)
+
+    each_after : (n e : ℕ) → IsCharBoundary hay e → AllByRecursion P (some_after span_of hay A n e)
+    unfolding some_after
+    each_after zero e border = tt
+    each_after (suc n) e border = each_followed (some_after span_of hay A n) (due_after span_of hay A e) (due_answers e border) (each_after n)
+
+    pub each_successive : AllByRecursion P (successive span_of hay A)
+    unfolding successive successive_after
+    each_successive = each_followed (some_after span_of hay A (length hay)) (A 0) (answers 0 may_start) (each_after (length hay))
+
+  place_lies : (s i : ℕ) → Among (places hay s) i → s ≤ length hay
+  unfolding places
+  place_lies s i h = let lies = Among-places_within (suc (length hay)) hay s i h in let one = lies.0 in let two = lies.1 in omega (arith, one, two)
+
+  -- the least end of a match is a border
+  pub end_border : (t : Tree) (s : ℕ) → MayStart hay s → (o : Option ℕ) → IsLeastEnd t hay s o → IfSome o (IsCharBoundary hay)
+  end_border t s may None least = tt
+  end_border t s may (Some j) least = least_end_border t hay s j utf8 (may (place_lies s least.0.0 least.0.1)) least
+
+  module _ (r : Regex) (is : IsCompiled r) where
+    -- the run that a search answers begins and ends at borders, and so do its groups
+    pub run_borders : (s : ℕ) → MayStart hay s → (x : Run) → run_at r hay s ≡ Some x → HasBorders hay (span_of_run x) × HaveBorders hay (slots r.program x)
+    run_borders s may x e =
+        let lies = run_at-lies r is hay s x e in let one = lies.0 in let two = lies.1 in let three = lies.2 in
+        let finds =
+        subst (λ o. Finds r.leftmost_longest r.tree hay s (option_map (answer_of r.program) o)) e (run_is_found r is hay s) in
+        let found =
+        found_borders r.tree hay s (answer_of r.program x) utf8 (may (omega (arith, one, two, three)))
+        (finds_some r.leftmost_longest r.tree hay s (Some (answer_of r.program x)) finds) in
+        (found.0, record { groups = found.1 })
+
+    span_of : (s : ℕ) → MayStart hay s → (o : Option Run) → run_at r hay s ≡ o → (g : Span) → option_map span_of_run o ≡ Some g → HasBorders hay g
+    span_of s may None e g h = none_some g h
+    span_of s may (Some x) e g h = subst (HasBorders hay) (some_same (span_of_run x) g h) (run_borders s may x e).0
+
+    pub span_borders : (s : ℕ) → MayStart hay s → (g : Span) → span_at r hay s ≡ Some g → HasBorders hay g
+    span_borders s may g h = span_of s may (run_at r hay s) refl g h
+
+    slots_of : (s : ℕ) → MayStart hay s → (o : Option Run) → run_at r hay s ≡ o → (l : List (Option ℕ)) → option_map (slots r.program) o ≡ Some l → HaveBorders hay l
+    slots_of s may None e l h = none_some l h
+    slots_of s may (Some x) e l h = subst (HaveBorders hay) (some_same (slots r.program x) l h) (run_borders s may x e).1
+
+    captured_of : (o : Option (List (Option ℕ))) → ((l : List (Option ℕ)) → o ≡ Some l → HaveBorders hay l) → (c : Captured) →
+        Some c ≡ option_map (captured r hay) o → AreGroupsOf hay c
+    captured_of None borders c e = none_some c (sym e)
+    captured_of (Some l) borders c e = subst (AreGroupsOf hay) (sym (some_same c (captured r hay l) e)) (refl, (borders l refl).groups)
+
+    -- the groups that a search answers are those of a match in the text
+    pub found_groups : (s : ℕ) → MayStart hay s → (c : Captured) → Some c ≡ option_map (captured r hay) (slots_at r hay s) → AreGroupsOf hay c
+    found_groups s may c e = captured_of (slots_at r hay s) (slots_of s may (run_at r hay s) refl) c e
+
+    -- slots into which a search has written
+    written_by : {M : Type 0} (f : M → Excerpt) (s : ℕ) → MayStart hay s → (x : Option Run) → run_at r hay s ≡ x → (o : Option M) →
+        option_map f o ≡ option_map (excerpt hay) (option_map span_of_run x) → (old new : List (Option ℕ)) →
+        new ≡ unwrap_or (option_map (slots r.program) x) old → IfSome o (λ m. HaveBorders hay new)
+    written_by f s may x e None same old new is = tt
+    written_by f s may None e (Some m) same old new is = none_some (f m) (sym same)
+    written_by f s may (Some x) e (Some m) same old new is = subst (HaveBorders hay) (sym is) (run_borders s may x e).1
+
+    pub written_borders : {M : Type 0} (f : M → Excerpt) (s : ℕ) → MayStart hay s → (o : Option M) →
+        option_map f o ≡ option_map (excerpt hay) (span_at r hay s) → (old new : List (Option ℕ)) →
+        new ≡ unwrap_or (slots_at r hay s) old → IfSome o (λ m. HaveBorders hay new)
+    written_borders f s may o same old new is = written_by f s may (run_at r hay s) refl o same old new is
+
+    pub part_at : {M : Type 0} (f : M → Excerpt) (o : Option M) (q : Option Span) → ((g : Span) → q ≡ Some g → HasBorders hay g) →
+        option_map f o ≡ option_map (excerpt hay) q → (m : M) → o ≡ Some m → IsPart hay (f m)
+    part_at f None q borders e m is = none_some m is
+    part_at f (Some n) None borders e m is = none_some (f n) (sym e)
+    part_at f (Some n) (Some g) borders e m is =
+        subst (λ k. IsPart hay (f k)) (some_same n m is)
+        (subst (IsPart hay) (sym (some_same (f n) (excerpt hay g) e)) (refl, borders g refl))
+
+    -- and so it is a part of the text
+    pub found_part : {M : Type 0} (f : M → Excerpt) (s : ℕ) → MayStart hay s → (o : Option M) →
+        option_map f o ≡ option_map (excerpt hay) (span_at r hay s) → (m : M) → o ≡ Some m → IsPart hay (f m)
+    found_part f s may o e m is = part_at f o (span_at r hay s) (span_borders s may) e m is
+
+    parts : (ss : List Span) → AllByRecursion (HasBorders hay) ss → AllByRecursion (IsPart hay) (map (excerpt hay) ss)
+    parts [] h = tt
+    parts (s ∷ ss) h = ((refl, h.0), parts ss h.1)
+
+    -- all matches are parts of the text
+    pub spans_parts : AllByRecursion (IsPart hay) (map (excerpt hay) (spans_in r hay))
+    spans_parts =
+        parts (spans_in r hay)
+        (each_successive (λ s. s) (span_at r hay) (HasBorders hay) (λ s may g e. let b = span_borders s may g e in (b, b.1)))
+
+    groups_of_all : (xs : List Run) → AllByRecursion (λ x. HaveBorders hay (slots r.program x)) xs → AllByRecursion (AreGroupsOf hay) (map (captured_by r hay) xs)
+    groups_of_all [] h = tt
+    groups_of_all (x ∷ xs) h = ((refl, h.0.groups), groups_of_all xs h.1)
+
+    -- the groups of all matches are those of matches in the text
+    pub captures_groups : AllByRecursion (AreGroupsOf hay) (captures_in r hay)
+    captures_groups =
+        groups_of_all (successive span_of_run hay (run_at r hay))
+        (each_successive span_of_run (run_at r hay) (λ x. HaveBorders hay (slots r.program x))
+        (λ s may x e. let b = run_borders s may x e in (b.1, b.0.1)))
+
+    begin_from : (len e : ℕ) (ss : List Span) → AreInOrder len e (map (λ s. s) ss) → BeginFrom e (map (λ e. e.span) (map (excerpt hay) ss))
+    begin_from len e [] h = tt
+    begin_from len e (s ∷ ss) h = (h.0, begin_from len s.end ss h.2)
+
+    -- all matches stand in order
+    pub spans_ordered : BeginFrom 0 (map (λ e. e.span) (map (excerpt hay) (spans_in r hay)))
+    spans_ordered =
+        let lie = λ (s : ℕ) (x : Span) (e : span_at r hay s ≡ Some x). span_at-lies r is hay s x e in
+        begin_from (length hay) 0 (spans_in r hay)
+        (Successive-in_order (λ s. s) hay (λ s o. span_at r hay s ≡ o) lie (spans_in r hay) (successive_follow (λ s. s) hay (span_at r hay) lie))
+
+-- the groups of a match in a text are parts of it
+module _ (hay : List ℕ) (c : Captured) (of : AreGroupsOf hay c) where
+  part_of : {M : Type 0} (f : M → Excerpt) (o : Option M) (q : Option Span) → ((g : Span) → q ≡ Some g → HasBorders hay g) →
+      option_map f o ≡ option_map (excerpt c.haystack) q → (m : M) → o ≡ Some m → IsPart hay (f m)
+  part_of f None q borders e m is = none_some m is
+  part_of f (Some n) None borders e m is = none_some (f n) (sym e)
+  part_of f (Some n) (Some g) borders e m is =
+      subst (λ k. IsPart hay (f k)) (some_same n m is)
+      (subst (IsPart hay) (sym (some_same (f n) (excerpt c.haystack g) e)) (of.0, borders g refl))
+
+  pub group_part : {M : Type 0} (f : M → Excerpt) (k : ℕ) (o : Option M) →
+      option_map f o ≡ option_map (excerpt c.haystack) (group_in c.slots k) → (m : M) → o ≡ Some m → IsPart hay (f m)
+  group_part f k o e m is = part_of f o (group_in c.slots k) (of.1 k) e m is
+
+  named : (n : Option ℕ) (g : Span) → option_and_then (group_in c.slots) n ≡ Some g → HasBorders hay g
+  named None g h = none_some g h
+  named (Some k) g h = of.1 k g h
+
+  pub named_part : {M : Type 0} (f : M → Excerpt) (n : Option ℕ) (o : Option M) →
+      option_map f o ≡ option_map (excerpt c.haystack) (option_and_then (group_in c.slots) n) → (m : M) → o ≡ Some m → IsPart hay (f m)
+  named_part f n o e m is = part_of f o (option_and_then (group_in c.slots) n) (named n) e m is

@@ -1,0 +1,2 @@
+pub mod BorderLemmas
+pub mod SplitLemmas

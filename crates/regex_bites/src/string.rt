@@ -1,0 +1,30 @@
+//! Regular expressions that search texts.
+//!
+//! Each is a layer over the regular expression of [`crate::bytes`] with the same pattern, which searches the UTF-8 of
+//! the text. Whatever it hands out begins and ends between two characters, and so is a text.
+
+mod builder;
+mod cache;
+mod capture_matches;
+mod captures;
+mod groups;
+mod locations;
+mod matched;
+mod matches;
+mod regex;
+mod search;
+mod shortest;
+mod split;
+
+pub use bites_bytes::bytes::CaptureNames;
+pub use bites_text::error::Error;
+pub use builder::RegexBuilder;
+pub use cache::Cache;
+pub use capture_matches::CaptureMatches;
+pub use captures::Captures;
+pub use groups::SubCaptureMatches;
+pub use locations::CaptureLocations;
+pub use matched::Match;
+pub use matches::Matches;
+pub use regex::Regex;
+pub use split::{Split, SplitN};

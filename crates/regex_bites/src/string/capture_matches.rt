@@ -1,0 +1,70 @@
+//! The groups of the successive matches in a text.
+
+ghost use Rattle.std.specs.Prelude.{◌≡◌, ◌≤◌, IfOk, IfSome, length, None};
+ghost use Rattle.bites_spec.specs.Iteration.{captures_in};
+ghost use Rattle.bites_bytes.specs.CapturesLeft as over_bytes;
+ghost use Rattle.std.specs.List.{AllByRecursion};
+ghost use Rattle.std.proofs.Props.{props};
+ghost use Rattle.regex_bites.specs.Borders.{AreGroupsOf};
+
+use crate::string::{Captures, Regex};
+use bites_bytes::bytes;
+use std::alloc::AllocError;
+use std::iter::FusedIterator;
+
+/// The groups of the successive matches of a regex in a text, from left to right.
+///
+/// Where memory is refused for the groups of a match, the error comes in their place, and nothing comes behind it.
+#[derive(Drop)]
+pub struct CaptureMatches<'r, 'h> {
+    matches: bytes::CaptureMatches<'r, 'h>,
+    haystack: &'h str,
+    pub ghost groups: { AllByRecursion (AreGroupsOf haystack.now) (over_bytes.captures_left matches) } by { Prim.hlevel props },
+}
+
+impl<'r, 'h> Iterator for CaptureMatches<'r, 'h> {
+    ghost use Rattle.std.specs.Iterator.{at_most, Count, UpTo, item_count};
+    ghost use Rattle.std.specs.Iterator.SizeHint.{IsWithinCount};
+    ghost use Rattle.bites_spec.specs.Refused.{YieldsUntilRefused};
+    ghost use Rattle.regex_bites.specs.CapturesLeft.{captures_left};
+
+    type Item = Result<Captures<'h>, AllocError>;
+
+    ghost next_gives = { YieldsUntilRefused (λ c. c) captures_left };
+
+    ghost remaining = { item_count captures_left };
+
+    fn next(&mut self) -> Option<Result<Captures<'h>, AllocError>> {
+        match self.matches.next() {
+            Some(Ok(captures)) => Some(Ok(Captures::of(self.haystack, captures))),
+            Some(Err(refusal)) => Some(Err(refusal)),
+            None => None,
+        }
+    }
+
+    fn size_hint(&self) -> (usize, Option<usize>)
+        ensures lower { IsWithinCount result.0 (item_count captures_left self.now) }
+        ensures upper { IfSome result.1 (UpTo (item_count captures_left self.now)) }
+        ensures value { result ≡ (0, None) }
+    {
+        (0, None)
+    }
+}
+
+impl<'r, 'h> FusedIterator for CaptureMatches<'r, 'h> {}
+
+impl Regex {
+    ghost use Rattle.regex_bites.specs.CapturesLeft.{captures_left};
+
+    /// The groups of the successive matches in the haystack. The error is want of memory for the room that searches take.
+    pub fn captures_iter<'r, 'h>(
+        &'r self,
+        haystack: &'h str,
+    ) -> Result<CaptureMatches<'r, 'h>, AllocError>
+        ensures { IfOk result (λ m. captures_left m ≡ captures_in self.now haystack.now) }
+    {
+        let regex = self.over_bytes();
+        let matches = regex.captures_iter(haystack.as_bytes())?;
+        Ok(CaptureMatches { matches, haystack })
+    }
+}

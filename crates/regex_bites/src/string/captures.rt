@@ -1,0 +1,123 @@
+//! The groups of a match in a text.
+
+ghost use Rattle.std.specs.Prelude.{◌≡◌, ◌≤◌, length, IfOk, IsSome, Some, option_map, option_and_then, IsCharBoundary};
+ghost use Rattle.bites_spec.specs.Slots.{group_in};
+ghost use Rattle.bites_spec.specs.Pieces.{text_at};
+ghost use Rattle.bites_spec.specs.Regex.{slots_at};
+ghost use Rattle.bites_spec.specs.Captured.{captured, excerpt, number_named, FindsGroups};
+
+use crate::string::{Match, Regex};
+use bites_bytes::bytes;
+use std::alloc::AllocError;
+use std::marker::Model;
+
+/// The groups of a match: where each of them took part. Each begins and ends at the border of a character.
+///
+/// It shares the program with its regex, and may outlive it. A contract sees the regex, the haystack, and the two slots
+/// of each group.
+#[derive(Drop)]
+pub struct Captures<'h> {
+    captures: bytes::Captures<'h>,
+    haystack: &'h str,
+}
+
+impl<'h> Model for Captures<'h> {
+    ghost use Rattle.std.specs.Coded.{codes};
+    ghost use Rattle.bites_syntax.specs.TreeCode.{tree_code};
+    ghost use Rattle.bites_spec.specs.Captured as spec;
+    ghost use Rattle.regex_bites.specs.Borders.{AreGroupsOf};
+
+    ghost Value = { spec.Captured };
+
+    ghost coded = { Prim.hlevel (codes, tree_code) };
+
+    ghost view = { λ a. a.captures };
+
+    ghost invariant = { λ a. AreGroupsOf a.haystack.now a.captures };
+}
+
+impl<'h> Captures<'h> {
+    ghost use Rattle.regex_bites.specs.Matched.{excerpt_of};
+    ghost use Rattle.regex_bites.specs.Borders.{AreGroupsOf};
+
+    // The groups in the text whose bytes were searched.
+    pub(super) fn of(haystack: &'h str, captures: bytes::Captures<'h>) -> Captures<'h>
+        requires { AreGroupsOf haystack.now captures }
+        ensures { result ≡ captures.entry }
+    {
+        Captures { captures, haystack }
+    }
+
+    /// Where the group of this number took part; None if it took no part, and from [`Captures::len`] on.
+    pub fn get(&self, group: usize) -> Option<Match<'h>>
+        ensures { option_map excerpt_of result
+            ≡ option_map (excerpt self.now.haystack) (group_in self.now.slots group) }
+    {
+        let found = self.captures.get(group);
+        Match::of_found(self.haystack, found)
+    }
+
+    /// Where the group of this name took part; None if it took no part, and if no group has the name.
+    pub fn name(&self, name: &str) -> Option<Match<'h>>
+        ensures { option_map excerpt_of result ≡ option_map (excerpt self.now.haystack)
+            (option_and_then (group_in self.now.slots) (number_named self.now.regex.names name.now)) }
+    {
+        let found = self.captures.name(name);
+        Match::of_found(self.haystack, found)
+    }
+
+    /// The number of groups, group 0 counted.
+    pub fn len(&self) -> usize
+        ensures { result ≡ length self.now.regex.names }
+    {
+        self.captures.len()
+    }
+
+    /// The text of the group of this number, which took part.
+    pub fn part(&self, group: usize) -> &'h str
+        requires { IsSome (group_in self.now.slots group) }
+        ensures { Some result.now ≡ option_map (text_at self.now.haystack) (group_in self.now.slots group) }
+    {
+        self.get(group).unwrap().as_str()
+    }
+
+    /// The text of the group of this name, which took part.
+    pub fn part_named(&self, name: &str) -> &'h str
+        requires { IsSome (option_and_then (group_in self.now.slots) (number_named self.now.regex.names name.now)) }
+        ensures { Some result.now ≡ option_map (text_at self.now.haystack)
+            (option_and_then (group_in self.now.slots) (number_named self.now.regex.names name.now)) }
+    {
+        self.name(name).unwrap().as_str()
+    }
+}
+
+impl Regex {
+    /// The groups of the first match in the haystack. The error is want of memory.
+    pub fn captures<'h>(&self, haystack: &'h str) -> Result<Option<Captures<'h>>, AllocError>
+        ensures found { IfOk result (λ c. c
+            ≡ option_map (captured self.now haystack.now) (slots_at self.now haystack.now 0)) }
+        ensures on_tree { IfOk result (λ c. FindsGroups self.now haystack.now 0 (option_map (λ x. x.slots) c)) }
+    {
+        self.captures_at(haystack, 0)
+    }
+
+    /// The groups of the first match from `start` on, a number of bytes; past the end of the haystack nothing matches.
+    /// A start within the haystack is the border of a character, as `str::is_char_boundary` tests.
+    ///
+    /// Assertions look at the bytes before `start` too.
+    pub fn captures_at<'h>(
+        &self,
+        haystack: &'h str,
+        start: usize,
+    ) -> Result<Option<Captures<'h>>, AllocError>
+        requires { start ≤ length haystack.now → IsCharBoundary haystack.now start }
+        ensures found { IfOk result (λ c. c
+            ≡ option_map (captured self.now haystack.now) (slots_at self.now haystack.now start)) }
+        ensures on_tree { IfOk result (λ c. FindsGroups self.now haystack.now start (option_map (λ x. x.slots) c)) }
+    {
+        match self.over_bytes().captures_at(haystack.as_bytes(), start)? {
+            Some(captures) => Ok(Some(Captures::of(haystack, captures))),
+            None => Ok(None),
+        }
+    }
+}

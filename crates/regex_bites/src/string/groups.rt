@@ -1,0 +1,66 @@
+//! The groups of a match in turn.
+
+ghost use Rattle.std.specs.Prelude.{◌≡◌, IfSome, length, Some};
+
+use crate::string::{Captures, Match};
+use std::iter::FusedIterator;
+
+/// Where each group of a match took part, from group 0 on.
+#[derive(Clone, Copy)]
+pub struct SubCaptureMatches<'c, 'h> {
+    captures: &'c Captures<'h>,
+    next: usize,
+}
+
+impl<'h> Captures<'h> {
+    ghost use Rattle.regex_bites.specs.Groups.{groups_left};
+    ghost use Rattle.bites_bytes.specs.Groups.{groups_of};
+
+    /// Where each group took part, from group 0 on.
+    pub fn iter<'c>(&'c self) -> SubCaptureMatches<'c, 'h>
+        ensures { groups_left result ≡ groups_of self.now }
+    {
+        SubCaptureMatches {
+            captures: self,
+            next: 0,
+        }
+    }
+}
+
+impl<'c, 'h> Iterator for SubCaptureMatches<'c, 'h> {
+    ghost use Rattle.std.specs.Iterator.{at_most, Count, UpTo, YieldsFirstBy, item_count};
+    ghost use Rattle.std.specs.Iterator.SizeHint.{IsWithinCount};
+    ghost use Rattle.regex_bites.specs.Groups.{groups_left, excerpt_if};
+
+    type Item = Option<Match<'h>>;
+
+    ghost next_gives = { YieldsFirstBy excerpt_if groups_left };
+
+    ghost remaining = { item_count groups_left };
+
+    fn next(&mut self) -> Option<Option<Match<'h>>> {
+        if self.next >= self.captures.len() {
+            return None;
+        }
+        let group = self.captures.get(self.next);
+        self.next += 1;
+        Some(group)
+    }
+
+    fn size_hint(&self) -> (usize, Option<usize>)
+        ensures lower { IsWithinCount result.0 (item_count groups_left self.now) }
+        ensures upper { IfSome result.1 (UpTo (item_count groups_left self.now)) }
+        ensures value { result ≡ (length (groups_left self.now), Some (length (groups_left self.now))) }
+    {
+        let left = self.len();
+        (left, Some(left))
+    }
+}
+
+impl<'c, 'h> ExactSizeIterator for SubCaptureMatches<'c, 'h> {
+    fn len(&self) -> usize {
+        self.captures.len().saturating_sub(self.next)
+    }
+}
+
+impl<'c, 'h> FusedIterator for SubCaptureMatches<'c, 'h> {}

@@ -1,0 +1,98 @@
+//! The successive matches in a text.
+
+ghost use Rattle.std.specs.Prelude.{◌≡◌, ◌≤◌, IfOk, IfSome, length, None, map};
+ghost use Rattle.bites_spec.specs.Captured.{excerpt};
+ghost use Rattle.bites_spec.specs.Iteration.{spans_in};
+ghost use Rattle.bites_bytes.specs.Matches as over_bytes;
+ghost use Rattle.std.specs.List.{AllByRecursion};
+ghost use Rattle.std.proofs.Props.{props};
+ghost use Rattle.regex_bites.specs.Borders.{IsPart};
+ghost use Rattle.regex_bites.specs.Order.{BeginFrom};
+
+use crate::string::{Match, Regex};
+use bites_bytes::bytes;
+use std::alloc::AllocError;
+use std::iter::FusedIterator;
+
+/// The successive matches of a regex in a text, from left to right.
+///
+/// AllByRecursion search goes on where the match before ended; an empty match there is dropped, and the search goes on one
+/// character later. No search takes memory.
+#[derive(Drop)]
+pub struct Matches<'r, 'h> {
+    matches: bytes::Matches<'r, 'h>,
+    haystack: &'h str,
+    pub ghost parts: { AllByRecursion (IsPart haystack.now) (over_bytes.matches_left matches) } by { Prim.hlevel props },
+}
+
+impl<'r, 'h> Matches<'r, 'h> {
+    ghost use Rattle.std.specs.Iterator.{YieldsFirstBy};
+    ghost use Rattle.regex_bites.specs.Matched.{excerpt_of};
+    ghost use Rattle.regex_bites.specs.Matches.{matches_left, spans_left, haystack_of_matches};
+
+    pub(super) fn new(regex: &'r Regex, haystack: &'h str) -> Result<Matches<'r, 'h>, AllocError>
+        ensures left { IfOk result (λ m. matches_left m
+            ≡ map (excerpt haystack.now) (spans_in regex.now haystack.now)) }
+        ensures haystack { IfOk result (λ m. haystack_of_matches m ≡ haystack.now) }
+        ensures in_order { IfOk result (λ m. BeginFrom 0 (spans_left m)) }
+    {
+        let regex = regex.over_bytes();
+        let matches = regex.find_iter(haystack.as_bytes())?;
+        Ok(Matches { matches, haystack })
+    }
+
+    pub(super) fn haystack(&self) -> &'h str
+        ensures { result.now ≡ haystack_of_matches self.now }
+    {
+        self.haystack
+    }
+
+    // The next match.
+    pub(super) fn step(&mut self) -> Option<Match<'h>>
+        ensures steps { YieldsFirstBy excerpt_of matches_left self.old result self.new }
+        ensures same { haystack_of_matches self.new ≡ haystack_of_matches self.old }
+    {
+        let found = self.matches.next();
+        Match::of_found(self.haystack, found)
+    }
+}
+
+impl<'r, 'h> Iterator for Matches<'r, 'h> {
+    ghost use Rattle.std.specs.Iterator.{at_most, Count, UpTo, YieldsFirstBy, item_count};
+    ghost use Rattle.std.specs.Iterator.SizeHint.{IsWithinCount};
+    ghost use Rattle.regex_bites.specs.Matched.{excerpt_of};
+    ghost use Rattle.regex_bites.specs.Matches.{matches_left};
+
+    type Item = Match<'h>;
+
+    ghost next_gives = { YieldsFirstBy excerpt_of matches_left };
+
+    ghost remaining = { item_count matches_left };
+
+    fn next(&mut self) -> Option<Match<'h>> {
+        self.step()
+    }
+
+    fn size_hint(&self) -> (usize, Option<usize>)
+        ensures lower { IsWithinCount result.0 (item_count matches_left self.now) }
+        ensures upper { IfSome result.1 (UpTo (item_count matches_left self.now)) }
+        ensures value { result ≡ (0, None) }
+    {
+        (0, None)
+    }
+}
+
+impl<'r, 'h> FusedIterator for Matches<'r, 'h> {}
+
+impl Regex {
+    ghost use Rattle.regex_bites.specs.Matches.{matches_left};
+
+    /// The successive matches in the haystack. The error is want of memory for the room that searches take; the iterator
+    /// takes none.
+    pub fn find_iter<'r, 'h>(&'r self, haystack: &'h str) -> Result<Matches<'r, 'h>, AllocError>
+        ensures { IfOk result (λ m. matches_left m
+            ≡ map (excerpt haystack.now) (spans_in self.now haystack.now)) }
+    {
+        Matches::new(self, haystack)
+    }
+}

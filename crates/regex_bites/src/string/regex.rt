@@ -1,0 +1,138 @@
+//! A compiled regular expression over texts.
+
+ghost use Rattle.std.specs.Prelude.{◌≡◌, ◌≢◌, ◌<◌, ◌^◌, false, IfOk, IfErr, length};
+ghost use Rattle.bites_spec.specs.Tree.{Tree, captures_len};
+ghost use Rattle.bites_spec.specs.Measure.{groups_left, static_captures_len};
+ghost use Rattle.bites_spec.specs.Regex.{IsCompiled, NamesAreKept};
+ghost use Rattle.bites_spec.specs.Settings.{Accepts, by_default, no_flags};
+ghost use Rattle.bites_bytes.specs.Settings.{Refuses};
+
+use crate::string::RegexBuilder;
+use bites_bytes::bytes;
+use bites_bytes::bytes::CaptureNames;
+use bites_text::error::Error;
+use std::alloc::{AllocError, Global};
+use std::fmt;
+use std::marker::Model;
+
+/// A compiled regular expression, which searches texts.
+///
+/// A contract sees its pattern, its flags and its tree: the one that the grammar reads the pattern as. A clone shares
+/// the program.
+#[derive(Drop)]
+pub struct Regex {
+    regex: bytes::Regex,
+}
+
+impl Model for Regex {
+    ghost use Rattle.std.specs.Coded.{codes};
+    ghost use Rattle.bites_syntax.specs.TreeCode.{tree_code};
+    ghost use Rattle.bites_spec.specs.Regex as spec;
+
+    ghost Value = { spec.Regex };
+
+    ghost coded = { Prim.hlevel (codes, tree_code) };
+
+    ghost view = { λ a. a.regex };
+
+    ghost invariant = { λ a. spec.IsCompiled a.regex };
+}
+
+impl Regex {
+    /// A regex of the pattern, with no flag set and the limits of [`RegexBuilder::new`].
+    ///
+    /// It is made exactly if the grammar reads the pattern as a tree and all limits hold; else the error is the message
+    /// of the first fault, or of the first limit that the tree passes, or want of memory.
+    pub fn new(alloc: Global, pattern: &str) -> Result<Regex, Error>
+        ensures kept { IfOk result (λ r. (r.pattern ≡ pattern.now) × (r.flags ≡ no_flags)
+            × (r.keep_dropped_groups ≡ false) × (r.leftmost_longest ≡ false)) }
+        ensures accepted { IfOk result (λ r. Accepts (by_default pattern.now) r.tree) }
+        ensures refused { IfErr result (λ e. e ≢ Error.Memory → (t : Tree) →
+            Accepts (by_default pattern.now) t → ⊥) }
+        ensures message { IfErr result (λ e. e ≢ Error.Memory →
+            Refuses (by_default pattern.now) e) }
+    {
+        RegexBuilder::new(alloc, pattern)?.build()
+    }
+
+    // The regex over texts with this pattern and program. The contract of `as_str` says that it is compiled.
+    pub(super) fn from_bytes(regex: bytes::Regex) -> Regex
+        ensures { result ≡ regex }
+    {
+        regex.as_str();
+        Regex { regex }
+    }
+
+    // The regex over bytes.
+    pub(super) fn over_bytes(&self) -> &bytes::Regex
+        ensures same { result.now ≡ self.now }
+        ensures compiled { IsCompiled self.now }
+    {
+        &self.regex
+    }
+
+    /// The text of the pattern.
+    ///
+    /// Its contract also says what every regex is: its tree is what the pattern is read as, and its program is built from
+    /// that tree. A caller whose proof needs that calls it.
+    pub fn as_str(&self) -> &str
+        ensures pattern { result.now ≡ self.now.pattern }
+        ensures compiled { IsCompiled self.now }
+    {
+        self.regex.as_str()
+    }
+}
+
+impl Regex {
+    /// The number of groups, group 0 counted: one more than the greatest number of a group that is left in the tree, or
+    /// where dropped groups are kept one more than the number of groups that the pattern opens.
+    pub fn captures_len(&self) -> usize
+        ensures groups { result ≡ length self.now.names }
+        ensures left { self.now.keep_dropped_groups ≡ false → result ≡ captures_len self.now.tree }
+        ensures kept { NamesAreKept self.now }
+    {
+        self.regex.captures_len()
+    }
+
+    /// How many groups take part in every match, group 0 counted, where the form of the pattern says so.
+    ///
+    /// At least so many groups take part; more may.
+    pub fn static_captures_len(&self) -> Option<usize>
+        ensures { result ≡ static_captures_len self.now.tree }
+    {
+        self.regex.static_captures_len()
+    }
+
+    /// The name of each group, if it has one, from group 0 on, which has none. A group that the tree drops has its name
+    /// only where dropped groups are kept.
+    pub fn capture_names(&self) -> CaptureNames<'_>
+        ensures names { result ≡ self.now.names }
+        ensures left { self.now.keep_dropped_groups ≡ false →
+            result ≡ groups_left self.now.tree }
+        ensures kept { NamesAreKept self.now }
+        ensures fits { length result < 2 ^ 64 }
+    {
+        self.regex.capture_names()
+    }
+}
+
+impl Clone for Regex {
+    ghost is_clone = { λ regex copy. copy ≡ regex };
+
+    /// A regex that shares the program. The error is want of memory, where the count of sharers is full.
+    fn clone(&self) -> Result<Regex, AllocError> {
+        Ok(Regex {
+            regex: self.regex.clone()?,
+        })
+    }
+}
+
+impl fmt::Display for Regex {
+    ghost use Rattle.std.specs.Prelude.{Some};
+
+    ghost output = { λ regex. Some regex.pattern };
+
+    fn fmt<W: fmt::Write>(&self, f: &mut fmt::Formatter<W>) -> fmt::Result {
+        f.write_str(self.as_str())
+    }
+}

@@ -1,0 +1,179 @@
+//! The pieces of a text between its matches.
+
+ghost use Rattle.std.specs.Prelude.{◌≡◌, true, ℕ, length, IfOk, IfSome, None, IsCharBoundary};
+ghost use Rattle.bites_spec.specs.Iteration.{pieces_in, pieces_up_to};
+ghost use Rattle.regex_bites.specs.Order.{BeginFrom, BeginFrom-prop};
+ghost use Rattle.regex_bites.specs.Matches.{haystack_of_matches, spans_left};
+
+use crate::string::{Matches, Regex};
+use std::alloc::AllocError;
+use std::iter::FusedIterator;
+
+/// The pieces of a haystack between the successive matches of a regex: one more than there are matches.
+#[derive(Drop)]
+pub struct Split<'r, 'h> {
+    matches: Matches<'r, 'h>,
+    // Where the next piece begins: at the end of the match before, if there was one.
+    begin: usize,
+    // Whether the last piece was handed out.
+    done: bool,
+    ghost border: { IsCharBoundary (haystack_of_matches matches) begin },
+    ghost in_order: { BeginFrom begin (spans_left matches) } by { BeginFrom-prop begin (spans_left matches) },
+}
+
+impl<'r, 'h> Split<'r, 'h> {
+    ghost use Rattle.std.specs.Iterator.{YieldsFirstBy};
+    ghost use Rattle.regex_bites.specs.Split.{StepsOn, pieces_by, pieces_left, at_most_left, text_now};
+    ghost use Rattle.std.specs.Prelude.{[]};
+
+    // No piece was handed out yet.
+    fn new(regex: &'r Regex, haystack: &'h str) -> Result<Split<'r, 'h>, AllocError>
+        ensures all { IfOk result (λ s. pieces_left s ≡ pieces_in regex.now haystack.now) }
+        ensures limited { IfOk result (λ s. (n : ℕ)
+            → at_most_left n s ≡ pieces_up_to regex.now haystack.now n) }
+    {
+        Ok(Split {
+            matches: Matches::new(regex, haystack)?,
+            begin: 0,
+            done: false,
+        })
+    }
+
+    // The next piece.
+    fn step(&mut self) -> Option<&'h str>
+        ensures { StepsOn self.old result self.new }
+    {
+        if self.done {
+            return None;
+        }
+        let haystack = self.matches.haystack();
+        let begin = self.begin;
+        match self.matches.step() {
+            Some(found) => {
+                self.begin = found.end();
+                Some(&haystack[begin..found.start()])
+            }
+            None => {
+                self.done = true;
+                Some(&haystack[begin..haystack.len()])
+            }
+        }
+    }
+
+    // The rest of the haystack as the last piece.
+    fn rest(&mut self) -> Option<&'h str>
+        ensures steps { YieldsFirstBy text_now (λ s. pieces_by s []) self.old result self.new }
+        ensures done { self.new.done ≡ true }
+    {
+        if self.done {
+            return None;
+        }
+        self.done = true;
+        let haystack = self.matches.haystack();
+        Some(&haystack[self.begin..haystack.len()])
+    }
+}
+
+impl<'r, 'h> Iterator for Split<'r, 'h> {
+    ghost use Rattle.std.specs.Iterator.{at_most, Count, UpTo, YieldsFirstBy, item_count};
+    ghost use Rattle.std.specs.Iterator.SizeHint.{IsWithinCount};
+    ghost use Rattle.regex_bites.specs.Split.{pieces_left, text_now};
+
+    type Item = &'h str;
+
+    ghost next_gives = { YieldsFirstBy text_now pieces_left };
+
+    ghost remaining = { item_count pieces_left };
+
+    fn next(&mut self) -> Option<&'h str> {
+        self.step()
+    }
+
+    fn size_hint(&self) -> (usize, Option<usize>)
+        ensures lower { IsWithinCount result.0 (item_count pieces_left self.now) }
+        ensures upper { IfSome result.1 (UpTo (item_count pieces_left self.now)) }
+        ensures value { result ≡ (0, None) }
+    {
+        (0, None)
+    }
+}
+
+impl<'r, 'h> FusedIterator for Split<'r, 'h> {}
+
+/// At most so many pieces of a haystack: the last of them has the whole rest.
+#[derive(Drop)]
+pub struct SplitN<'r, 'h> {
+    split: Split<'r, 'h>,
+    // How many pieces may still come.
+    left: usize,
+}
+
+impl<'r, 'h> SplitN<'r, 'h> {
+    ghost use Rattle.std.specs.Iterator.{YieldsFirstBy};
+    ghost use Rattle.regex_bites.specs.Split.{limited_left, text_now};
+
+    // The next piece: the rest, if no more may come behind it.
+    fn step(&mut self) -> Option<&'h str>
+        ensures { YieldsFirstBy text_now limited_left self.old result self.new }
+    {
+        if self.left == 0 {
+            return None;
+        }
+        self.left -= 1;
+        if self.left == 0 {
+            self.split.rest()
+        } else {
+            self.split.step()
+        }
+    }
+}
+
+impl<'r, 'h> Iterator for SplitN<'r, 'h> {
+    ghost use Rattle.std.specs.Iterator.{at_most, Count, UpTo, YieldsFirstBy, item_count};
+    ghost use Rattle.std.specs.Iterator.SizeHint.{IsWithinCount};
+    ghost use Rattle.regex_bites.specs.Split.{limited_left, text_now};
+
+    type Item = &'h str;
+
+    ghost next_gives = { YieldsFirstBy text_now limited_left };
+
+    ghost remaining = { item_count limited_left };
+
+    fn next(&mut self) -> Option<&'h str> {
+        self.step()
+    }
+
+    fn size_hint(&self) -> (usize, Option<usize>)
+        ensures lower { IsWithinCount result.0 (item_count limited_left self.now) }
+        ensures upper { IfSome result.1 (UpTo (item_count limited_left self.now)) }
+        ensures value { result ≡ (0, None) }
+    {
+        (0, None)
+    }
+}
+
+impl<'r, 'h> FusedIterator for SplitN<'r, 'h> {}
+
+impl Regex {
+    ghost use Rattle.regex_bites.specs.Split.{pieces_left, limited_left};
+
+    /// The pieces between the matches. The error is want of memory for the room that searches take.
+    pub fn split<'r, 'h>(&'r self, haystack: &'h str) -> Result<Split<'r, 'h>, AllocError>
+        ensures { IfOk result (λ s. pieces_left s ≡ pieces_in self.now haystack.now) }
+    {
+        Split::new(self, haystack)
+    }
+
+    /// At most `limit` pieces: the first ones, and then the whole rest. The error is want of memory for the room that
+    /// searches take.
+    pub fn splitn<'r, 'h>(
+        &'r self,
+        haystack: &'h str,
+        limit: usize,
+    ) -> Result<SplitN<'r, 'h>, AllocError>
+        ensures { IfOk result (λ s. limited_left s ≡ pieces_up_to self.now haystack.now limit) }
+    {
+        let split = Split::new(self, haystack)?;
+        Ok(SplitN { split, left: limit })
+    }
+}
