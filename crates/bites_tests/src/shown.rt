@@ -11,10 +11,16 @@ fn debug_shows_pattern_places_and_groups(rt: HostRuntime) -> Result<(), Refused>
     assert_eq!(rt; shown.as_str(), "Regex(\"(?<x>a)|b\")");
     let found = regex.find(b"b")?;
     let shown = format!(in alloc; "{:?}", found)?;
-    assert_eq!(rt; shown.as_str(), "Some(Match { start: 0, end: 1, bytes: [98] })");
+    assert_eq!(rt;
+        shown.as_str(),
+        "Some(Match { start: 0, end: 1, bytes: [98] })"
+    );
     let captures = regex.captures(b"b")?;
     let shown = format!(in alloc; "{:?}", captures)?;
-    assert_eq!(rt; shown.as_str(), "Some(Captures({0: 0..1/[98], 1/\"x\": None}))");
+    assert_eq!(rt;
+        shown.as_str(),
+        "Some(Captures({0: 0..1/[98], 1/\"x\": None}))"
+    );
     Ok(())
 }
 
