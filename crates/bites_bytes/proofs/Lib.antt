@@ -1,7 +1,6 @@
 pub mod SearchLemmas
 pub mod SettingsLemmas
 pub mod SlotLemmas
-pub mod NamedLemmas
 pub mod DueLemmas
 pub mod MatchLemmas
 pub mod SplitLemmas

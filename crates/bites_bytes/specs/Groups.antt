@@ -20,5 +20,5 @@ abbrev pub groups_of : Captured → List (Option Excerpt)
 groups_of c = groups_from c 0
 
 -- the groups that are still to come
-abbrev pub groups_left : SubCaptureMatches → List (Option Excerpt)
-groups_left s = groups_from s.captures.now s.next
+abbrev pub sub_captures_left : SubCaptureMatches → List (Option Excerpt)
+sub_captures_left s = groups_from s.captures.now s.next

@@ -9,7 +9,7 @@ use Rattle.bites_spec.specs.Tree.{Tree, Trees, empty, char, class, look, repetit
 use Rattle.bites_spec.specs.Program as program
 use Rattle.bites_spec.specs.Program.{State, state_at}
 use Rattle.bites_spec.specs.Built.{Fragment, One, Behind, Copies, Options, Loop, Star, OptionalLoop, Bounded, CopiesUpTo, Repeated, HasForm, HasFormAll, HasFormEach}
-use Rattle.bites_machine.specs.Emitted.{Emitted, emitted, Emitter, pushed, in_front, again, choice, chosen, options, bounded, around, looped, loop, starred, star, optional_loop, copies_up_to, repeated, class_state, writing, grouped, Branches, branches, with_branch, split, emit, emit_all, emit_each}
+use Rattle.bites_machine.specs.Emitted.{Emitted, emitted, Emitter, pushed, in_front, again, choice, with_choice, options, bounded, around, looped, loop, starred, star, optional_loop, copies_up_to, repeated, class_state, writing, grouped, Branches, branches, with_branch, split, emit, emit_all, emit_each}
 
 -- the states that were there stay
 pub record Extends (old new : List State) : Type 0 where

@@ -13,7 +13,7 @@ use Rattle.bites_spec.specs.Program.{State, targets_of}
 use Rattle.bites_spec.specs.Built.{Fragment, HasForm}
 use Rattle.bites_spec.specs.ProgramFaults.{ProgramFault, bad_target, bad_ranges, bad_slot, are_ranges, has_ranges, has_slot, fault_of}
 use Rattle.bites_spec.proofs.FirstLemmas.{or_none}
-use Rattle.bites_machine.specs.Emitted.{Emitted, Emitter, pushed, in_front, again, choice, chosen, options, bounded, around, loop, star, optional_loop, copies_up_to, repeated, class_state, grouped, writing, Branches, branches, split, emit, emit_all, emit_each}
+use Rattle.bites_machine.specs.Emitted.{Emitted, Emitter, pushed, in_front, again, choice, with_choice, options, bounded, around, loop, star, optional_loop, copies_up_to, repeated, class_state, grouped, writing, Branches, branches, split, emit, emit_all, emit_each}
 use Rattle.bites_machine.specs.Classes.{HasClasses, AllHaveClasses}
 use Rattle.bites_machine.proofs.EmitLemmas.{length_pushed, Extends, Forms, FormsBody, Forms-emit, Forms-emit_all, Forms-again, Forms-options, Forms-loop, FormsBranches, Forms-emit_each}
 

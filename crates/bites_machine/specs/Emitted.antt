@@ -33,13 +33,13 @@ abbrev pub choice : Bool → ℕ → ℕ → State
 choice greedy round leave = program.splits (round ∷ leave ∷ []) (not greedy)
 
 -- a choice between what was written last and leaving
-abbrev pub chosen : Bool → ℕ → Emitted → Emitted
-chosen greedy out e = pushed e.states (choice greedy e.from out)
+abbrev pub with_choice : Bool → ℕ → Emitted → Emitted
+with_choice greedy out e = pushed e.states (choice greedy e.from out)
 
 -- n times a choice between the body and leaving
 abbrev pub options : ℕ → Bool → Emitter → Emitter
 options zero greedy body out states = emitted states out
-options (suc n) greedy body out states = chosen greedy out (in_front body (options n greedy body out states))
+options (suc n) greedy body out states = with_choice greedy out (in_front body (options n greedy body out states))
 
 -- options that all leave to one state
 abbrev pub bounded : ℕ → Bool → Emitter → Emitter
@@ -68,7 +68,7 @@ star greedy body to states = starred greedy to (length states) (around body stat
 -- a choice between a loop and leaving, both to one state
 abbrev pub optional_loop : Bool → Emitter → Emitter
 optional_loop greedy body to states =
-    chosen greedy (length states) (in_front (loop greedy body) (pushed states (program.goto to None)))
+    with_choice greedy (length states) (in_front (loop greedy body) (pushed states (program.goto to None)))
 
 -- n copies, one more, and up to so many more
 abbrev pub copies_up_to : ℕ → ℕ → Bool → Emitter → Emitter

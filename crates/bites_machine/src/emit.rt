@@ -5,7 +5,7 @@ ghost use Rattle.bites_spec.specs.Tree as spec;
 ghost use Rattle.bites_spec.specs.Tree.{trees_of, sequence, is_empty_by_form, groups_in, groups_in_all, greatest, IsReduced, AllAreReduced};
 ghost use Rattle.bites_spec.specs.Measure.{size_of, repeated_size};
 ghost use Rattle.bites_machine.specs.States.{state_of};
-ghost use Rattle.bites_machine.specs.Emitted.{emitted, pushed, class_state, choice, chosen, again, bounded, loop, star, optional_loop, repeated, grouped, split, emit, emit_all, emit_each};
+ghost use Rattle.bites_machine.specs.Emitted.{emitted, pushed, class_state, choice, with_choice, again, bounded, loop, star, optional_loop, repeated, grouped, split, emit, emit_all, emit_each};
 
 use crate::state::State;
 use bites_syntax::measure::is_empty_by_form;

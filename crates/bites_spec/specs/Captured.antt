@@ -1,7 +1,5 @@
 -- What contracts see of the parts of a haystack that a search hands out.
-use Rattle.std.specs.Prelude.{◌≡◌, ◌≤◌, ℕ, false, List, length, Option, Some, None, IsSome, option_map, position}
-use Rattle.std.specs.Option.{option_map_or}
-use Rattle.std.specs.Str.{bytes_eq}
+use Rattle.std.specs.Prelude.{◌≡◌, ◌≤◌, ℕ, List, length, Option, Some, None, IsSome, option_map}
 use Rattle.bites_spec.specs.Match.{Span, span}
 use Rattle.bites_spec.specs.Pieces.{text_at}
 use Rattle.bites_spec.specs.Measure.{static_captures_len}
@@ -61,10 +59,6 @@ FindsSpan r hay s o = (a : Option Answer) × Finds r.leftmost_longest r.tree hay
 abbrev pub SlotsAreFound : Type 0
 SlotsAreFound =
     (r : Regex) → IsCompiled r → (hay : List ℕ) (s : ℕ) → FindsGroups r hay s (slots_at r hay s) × FindsSpan r hay s (span_at r hay s)
-
--- the number of the first group of that name
-abbrev pub number_named : List (Option (List ℕ)) → List ℕ → Option ℕ
-number_named names word = position (λ n. option_map_or (λ m. bytes_eq m word) n false) names
 
 -- the slots that a search answers hold such groups
 abbrev pub SlotsAreGroups : Type 0

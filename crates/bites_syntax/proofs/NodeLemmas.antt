@@ -4,7 +4,7 @@ use Rattle.bites_spec.specs.Measure.{height, IsTooTall}
 use Rattle.bites_spec.specs.Tree.{Tree, sequence, alternation, trees_of}
 use Rattle.bites_syntax.specs.declared.node.Node.{Node}
 use Rattle.bites_syntax.specs.declared.node.Node.TheVariants.{Kept, TooTall}
-use Rattle.bites_syntax.specs.Nodes.{StandsFor, AreNodes}
+use Rattle.bites_syntax.specs.Nodes.{IsNodeOf, AreNodes}
 
 -- the trees of nodes, the last apart
 pub record Last (limit : ℕ) (nodes : List Node) (node : Node) (ts : List Tree) : Type 0 where
@@ -12,7 +12,7 @@ pub record Last (limit : ℕ) (nodes : List Node) (node : Node) (ts : List Tree)
   pub last : Tree
   pub are : ts ≡ front ++ last ∷ []
   pub nodes_are : AreNodes limit nodes front
-  pub node_is : StandsFor limit node last
+  pub node_is : IsNodeOf limit node last
 
 pub last_of : (limit : ℕ) (nodes : List Node) (node : Node) (ts : List Tree) → AreNodes limit (nodes ++ node ∷ []) ts → Last limit nodes node ts
 last_of limit [] node [] are = absurd are
@@ -24,7 +24,7 @@ last_of limit (n ∷ nodes) node (t ∷ ts) are =
     record { front = t ∷ rest.front; last = rest.last; are = ap (λ x. t ∷ x) rest.are; nodes_are = (are.0, rest.nodes_are); node_is = rest.node_is }
 
 -- one node more
-pub nodes_push : (limit : ℕ) (nodes : List Node) (node : Node) (ts : List Tree) (t : Tree) → AreNodes limit nodes ts → StandsFor limit node t →
+pub nodes_push : (limit : ℕ) (nodes : List Node) (node : Node) (ts : List Tree) (t : Tree) → AreNodes limit nodes ts → IsNodeOf limit node t →
     AreNodes limit (nodes ++ node ∷ []) (ts ++ t ∷ [])
 nodes_push limit [] node [] t are is = (is, tt)
 nodes_push limit [] node (u ∷ ts) t are is = absurd are
@@ -78,7 +78,7 @@ pub kept_more : (limit : ℕ) (nodes : List Node) (node : Node) (tree : Tree) (h
 kept_more limit nodes node tree h tallest trees is so_far ts are =
     let r = last_of limit nodes node ts are in
     let before = so_far r.front r.nodes_are in
-    let last : StandsFor limit (Kept tree h) r.last = subst (λ x. StandsFor limit x r.last) is r.node_is in
+    let last : IsNodeOf limit (Kept tree h) r.last = subst (λ x. IsNodeOf limit x r.last) is r.node_is in
     rw r.are (
       ap (λ x. x ++ tree ∷ []) before.0 ∙ ap (λ x. r.front ++ x ∷ []) last.0,
       rw (height_push r.front r.last, ← before.1, last.1) (omega arith),

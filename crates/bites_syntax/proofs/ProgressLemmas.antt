@@ -20,7 +20,7 @@ use Rattle.bites_syntax.specs.declared.parse.Step.{Step}
 use Rattle.bites_syntax.specs.declared.parse.Step.TheVariants.{Item, Group, End}
 use Rattle.bites_syntax.specs.Nodes.{AreNodes}
 use Rattle.bites_syntax.specs.Parts.{error_in, IsErrorOf}
-use Rattle.bites_syntax.specs.Progress.{Enters, HasRoom, IsForward, Steps}
+use Rattle.bites_syntax.specs.Progress.{Enters, HasDepth, IsForward, Steps}
 
 -- at least one node stands for at least one tree
 pub record Some_of (ts : List Tree) : Type 0 where
@@ -75,7 +75,7 @@ enter_steps limit depth n p rows g bs ts opens (Ok step) a is enters stops bs_ar
 enter_steps limit depth n p rows g bs ts opens (Err e) a is enters stops bs_are ts_are = inr (rw is.0 (stops is.1))
 
 -- a step that reads a character more
-pub step_forward : (limit depth : ℕ) (result : Result Step Error) (old new : Text) → HasRoom limit depth result → length new < length old → IsForward limit depth result old new
+pub step_forward : (limit depth : ℕ) (result : Result Step Error) (old new : Text) → HasDepth limit depth result → length new < length old → IsForward limit depth result old new
 step_forward limit depth (Ok Item) old new room less = less
 step_forward limit depth (Ok (Group opens)) old new room less = (less, room)
 step_forward limit depth (Ok End) old new room less = absurd room

@@ -11,10 +11,10 @@ use Rattle.bites_syntax.specs.declared.node.Node.{Node}
 use Rattle.bites_syntax.specs.declared.parse.OpenGroup.{OpenGroup}
 use Rattle.bites_syntax.specs.declared.parse.Parser.{Parser}
 use Rattle.bites_syntax.specs.declared.parse.Rows.{Rows}
-use Rattle.bites_syntax.specs.Nodes.{AreNodes, StandsFor}
-use Rattle.bites_syntax.specs.Openings.{IsFront}
+use Rattle.bites_syntax.specs.Nodes.{AreNodes, IsNodeOf}
+use Rattle.bites_syntax.specs.Openings.{IsPatternFront}
 use Rattle.bites_syntax.specs.Parts.{error_in, IsErrorOf}
-use Rattle.bites_syntax.specs.Progress.{IsAt, GoesOn, Enters, Ends, ReadsAs}
+use Rattle.bites_syntax.specs.Progress.{IsAt, GoesOn, Enters, EndsReading, ReadsAs}
 
 -- what the reader is asked at the start, it is asked where the parser is
 pub record Reached (limit depth n : ℕ) (start : pattern.Front) (text : pattern.Text) (p : Parser) (rows : Rows) : Type 0 where
@@ -28,7 +28,7 @@ pub record Reached (limit depth n : ℕ) (start : pattern.Front) (text : pattern
 
 -- the same for each front that the parser's stands for, and each number of steps that is enough
 abbrev pub Reaches : ℕ → ℕ → Parser → Parser → Rows → Type 0
-Reaches limit depth from p rows = (start : pattern.Front) → IsFront from.front start → (n : ℕ) → length from.cursor ≤ n → Reached limit depth n start from.cursor p rows
+Reaches limit depth from p rows = (start : pattern.Front) → IsPatternFront from.front start → (n : ℕ) → length from.cursor ≤ n → Reached limit depth n start from.cursor p rows
 
 -- before the first step
 pub reached_start : (limit depth : ℕ) (p : Parser) (rows : Rows) → rows.branches.items ≡ [] → rows.nodes.items ≡ [] → Reaches limit depth p p rows
@@ -56,8 +56,8 @@ module _ (limit depth n : ℕ) (start : pattern.Front) (text : pattern.Text) (p 
 
   -- at the end of the choice
   pub reached_end : (q : Parser) (after : Rows) (node : Node) (r : Reached limit depth n start text p rows) →
-      Ends limit q after r.g (inner ranges_of limit (suc r.steps) depth r.g r.branches r.nodes p.cursor) →
-      ((ts : List Tree) → AreNodes limit after.branches.items ts → StandsFor limit node (choice_of ts)) →
+      EndsReading limit q after r.g (inner ranges_of limit (suc r.steps) depth r.g r.branches r.nodes p.cursor) →
+      ((ts : List Tree) → AreNodes limit after.branches.items ts → IsNodeOf limit node (choice_of ts)) →
       ReadsAs limit q node (inner ranges_of limit (suc n) depth start [] [] text)
   reached_end q after node r ends stands = record {
     found = record { branches = ends.branches; behind = r.g; rest = q.cursor };
@@ -102,14 +102,14 @@ module _ (limit depth n : ℕ) (start : pattern.Front) (text : pattern.Text) (p 
       length inside.cursor ≤ length q.cursor → behind.cursor ≡ drop 1 inside.cursor → length behind.cursor ≤ length inside.cursor →
       behind.front ≡ record (inside.front) { flags = opens.flags } →
       AreNodes limit after.branches.items r.branches →
-      ((branches : List Tree) → StandsFor limit node (choice_of branches) → AreNodes limit after.nodes.items (r.nodes ++ group_of enters.opening r.g.groups branches ∷ [])) →
+      ((branches : List Tree) → IsNodeOf limit node (choice_of branches) → AreNodes limit after.nodes.items (r.nodes ++ group_of enters.opening r.g.groups branches ∷ [])) →
       Reached limit depth n start text behind after
   reached_group inside behind after node reads forward bumped shorter front branches_are nodes_are = by_steps r.steps refl
     where
       here : ReadsAs limit inside node (inner ranges_of limit r.steps (suc depth) enters.inside [] [] q.cursor)
       here = inside_by limit depth r.steps q opens r.g r.branches r.nodes _ enters (λ a. ReadsAs limit inside node a) (omega (arith, r.room)) reads
 
-      front_is : IsFront behind.front (record (here.found.behind) { flags = r.g.flags })
+      front_is : IsPatternFront behind.front (record (here.found.behind) { flags = r.g.flags })
       front_is = rw front (record { flags = enters.outer; groups = here.front.groups; names = here.front.names; opened = here.front.opened })
 
       goes : and_found (inner ranges_of limit r.steps (suc depth) enters.inside [] [] q.cursor) (behind_group ranges_of limit (inner ranges_of limit r.steps) depth r.g r.branches r.nodes enters.opening)

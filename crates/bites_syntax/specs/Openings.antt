@@ -12,7 +12,7 @@ use Rattle.bites_syntax.specs.FlagsView.{flags_of}
 use Rattle.bites_syntax.specs.Groups.{AreNames}
 
 -- the front of the program stands for one of the definitions
-pub record IsFront (f : Front) (g : pattern.Front) : Type 0 where
+pub record IsPatternFront (f : Front) (g : pattern.Front) : Type 0 where
   pub flags : flags_of f.flags ≡ g.flags
   pub groups : f.groups ≡ g.groups
   pub names : AreNames f.names (given g.names)
@@ -20,8 +20,8 @@ pub record IsFront (f : Front) (g : pattern.Front) : Type 0 where
 
 -- what was opened, and the front f behind it, stand for what the reader answers from the front g on
 abbrev pub IsOpened : Opened → Front → pattern.Front → reading.Opened → Type 0
-IsOpened Directive f g x = (flags : pattern.Flags) × (x ≡ reading.directive flags) × IsFront f (record g { flags = flags })
-IsOpened Unnumbered f g x = (inner : pattern.Front) × (x ≡ reading.group unnumbered inner) × IsFront f inner
+IsOpened Directive f g x = (flags : pattern.Flags) × (x ≡ reading.directive flags) × IsPatternFront f (record g { flags = flags })
+IsOpened Unnumbered f g x = (inner : pattern.Front) × (x ≡ reading.group unnumbered inner) × IsPatternFront f inner
 IsOpened (Numbered name) f g x =
     (text : Option Text) × (inner : pattern.Front) × (x ≡ reading.group (numbered text) inner) × (name ≡ option_map encode_utf8_all text)
-    × (inner.groups ≡ g.groups + 1) × IsFront f inner
+    × (inner.groups ≡ g.groups + 1) × IsPatternFront f inner

@@ -14,13 +14,13 @@ use Rattle.bites_syntax.specs.declared.parse.Rows.{Rows}
 use Rattle.bites_syntax.specs.declared.parse.Step.{Step}
 use Rattle.bites_syntax.specs.declared.parse.Step.TheVariants.{Item, Group, End}
 use Rattle.bites_syntax.specs.FlagsView.{flags_of}
-use Rattle.bites_syntax.specs.Nodes.{AreNodes, IsNumbered, StandsFor}
-use Rattle.bites_syntax.specs.Openings.{IsFront}
+use Rattle.bites_syntax.specs.Nodes.{AreNodes, IsNumbered, IsNodeOf}
+use Rattle.bites_syntax.specs.Openings.{IsPatternFront}
 use Rattle.bites_syntax.specs.Parts.{IsErrorOf}
 
 -- the parser and its rows are at this front of the reader, with these branches and nodes
 pub record IsAt (limit : ℕ) (p : Parser) (rows : Rows) (g : pattern.Front) (branches nodes : List Tree) : Type 0 where
-  pub front : IsFront p.front g
+  pub front : IsPatternFront p.front g
   pub branches_are : AreNodes limit rows.branches.items branches
   pub nodes_are : AreNodes limit rows.nodes.items nodes
 
@@ -36,15 +36,15 @@ pub record GoesOn (limit depth n : ℕ) (p : Parser) (rows : Rows) (a : Result R
 pub record Enters (limit depth n : ℕ) (p : Parser) (group : OpenGroup) (g : pattern.Front) (branches nodes : List Tree) (a : Result ReadChoice Stop) : Type 0 where
   pub opening : Opening
   pub inside : pattern.Front
-  pub front : IsFront p.front inside
+  pub front : IsPatternFront p.front inside
   pub outer : flags_of group.flags ≡ g.flags
   pub numbered : IsNumbered group.numbered opening g.groups
   pub same : a ≡ and_found (inner ranges_of limit n (suc depth) inside [] [] p.cursor) (behind_group ranges_of limit (inner ranges_of limit n) depth g branches nodes opening)
 
 -- the reader has found these branches, and the text behind them
-pub record Ends (limit : ℕ) (p : Parser) (rows : Rows) (g : pattern.Front) (a : Result ReadChoice Stop) : Type 0 where
+pub record EndsReading (limit : ℕ) (p : Parser) (rows : Rows) (g : pattern.Front) (a : Result ReadChoice Stop) : Type 0 where
   pub branches : List Tree
-  pub front : IsFront p.front g
+  pub front : IsPatternFront p.front g
   pub branches_are : AreNodes limit rows.branches.items branches
   pub same : a ≡ Ok (record { branches = branches; behind = g; rest = p.cursor })
 
@@ -53,7 +53,7 @@ abbrev pub Steps : ℕ → ℕ → ℕ → pattern.Front → List Tree → List 
 Steps limit depth n g branches nodes (Ok Item) p rows a = GoesOn limit depth n p rows a
 Steps limit depth n g branches nodes (Ok (Group group)) p rows a =
     Enters limit depth n p group g branches nodes a × AreNodes limit rows.branches.items branches × AreNodes limit rows.nodes.items nodes
-Steps limit depth n g branches nodes (Ok End) p rows a = Ends limit p rows g a
+Steps limit depth n g branches nodes (Ok End) p rows a = EndsReading limit p rows g a
 Steps limit depth n g branches nodes (Err e) p rows a = IsErrorOf e a
 
 -- a choice that the reader has read as well
@@ -61,19 +61,19 @@ pub record ReadsAs (limit : ℕ) (p : Parser) (node : Node) (a : Result ReadChoi
   pub found : ReadChoice
   pub same : a ≡ Ok found
   pub rest : found.rest ≡ p.cursor
-  pub front : IsFront p.front found.behind
-  pub node_is : StandsFor limit node (choice_of found.branches)
+  pub front : IsPatternFront p.front found.behind
+  pub node_is : IsNodeOf limit node (choice_of found.branches)
 
 -- the reader reads the choice too, or stops
 abbrev pub IsChoice : ℕ → Result Node Error → Parser → Result ReadChoice Stop → Type 0
 IsChoice limit result p a = MatchResult result (λ node. ReadsAs limit p node a) (λ e. IsErrorOf e a)
 
 -- a group is opened only below the limit
-abbrev pub HasRoom : ℕ → ℕ → Result Step Error → Type 0
-HasRoom limit depth (Ok Item) = Unit {0}
-HasRoom limit depth (Ok (Group group)) = depth < limit
-HasRoom limit depth (Ok End) = ⊥
-HasRoom limit depth (Err e) = Unit {0}
+abbrev pub HasDepth : ℕ → ℕ → Result Step Error → Type 0
+HasDepth limit depth (Ok Item) = Unit {0}
+HasDepth limit depth (Ok (Group group)) = depth < limit
+HasDepth limit depth (Ok End) = ⊥
+HasDepth limit depth (Err e) = Unit {0}
 
 -- a step reads something, but where the choice ends or is refused
 abbrev pub IsForward : ℕ → ℕ → Result Step Error → Text → Text → Type 0

@@ -7,7 +7,7 @@ ghost use Rattle.bites_spec.specs.Pattern.{Text};
 ghost use Rattle.bites_spec.specs.Reader.{flags_end, flags_from, flags_unclosed, named_group, no_name, opened};
 ghost use Rattle.bites_text.specs.Messages.{error_of};
 ghost use Rattle.bites_syntax.specs.Groups.{ends_flags};
-ghost use Rattle.bites_syntax.specs.Openings.{IsFront, IsOpened};
+ghost use Rattle.bites_syntax.specs.Openings.{IsPatternFront, IsOpened};
 ghost use Rattle.bites_syntax.specs.Parts.{Agrees};
 
 use crate::cursor::Cursor;
@@ -61,7 +61,7 @@ fn ends_with_dash(run: &[char]) -> bool
 
 /// What flags and the character behind them open.
 fn flags_end(run: &[char], end: char, front: &mut Front) -> Result<Opened, Error>
-    ensures { (g : pattern.Front) → (rest : Text) → IsFront front.old g →
+    ensures { (g : pattern.Front) → (rest : Text) → IsPatternFront front.old g →
         Agrees (λ o x. IsOpened o front.new g x) result rest (flags_end g run.now end rest) }
 {
     if run.is_empty() {
@@ -84,7 +84,7 @@ fn flags_end(run: &[char], end: char, front: &mut Front) -> Result<Opened, Error
 
 /// Reads flags and what ends them, from behind the question mark.
 fn open_by_flags(alloc: Global, cursor: &mut Cursor<'_>, front: &mut Front) -> Result<Opened, Error>
-    ensures reads { (g : pattern.Front) → IsFront front.old g →
+    ensures reads { (g : pattern.Front) → IsPatternFront front.old g →
         Agrees (λ o x. IsOpened o front.new g x) result cursor.new (flags_from g [] cursor.old) }
     ensures forward { length cursor.new ≤ length cursor.old }
 {
@@ -97,7 +97,7 @@ fn open_by_flags(alloc: Global, cursor: &mut Cursor<'_>, front: &mut Front) -> R
 
 /// Reads a name and its closing bracket, and opens the group of that name.
 fn named_group(alloc: Global, cursor: &mut Cursor<'_>, front: &mut Front) -> Result<Opened, Error>
-    ensures reads { (g : pattern.Front) → IsFront front.old g →
+    ensures reads { (g : pattern.Front) → IsPatternFront front.old g →
         Agrees (λ o x. IsOpened o front.new g x) result cursor.new (named_group g cursor.old) }
     ensures forward { length cursor.new ≤ length cursor.old }
 {
@@ -113,7 +113,7 @@ fn named_group(alloc: Global, cursor: &mut Cursor<'_>, front: &mut Front) -> Res
 
 /// Reads what opens a group that has no name.
 fn no_name(alloc: Global, cursor: &mut Cursor<'_>, front: &mut Front) -> Result<Opened, Error>
-    ensures reads { (g : pattern.Front) → IsFront front.old g →
+    ensures reads { (g : pattern.Front) → IsPatternFront front.old g →
         Agrees (λ o x. IsOpened o front.new g x) result cursor.new (no_name g cursor.old) }
     ensures forward { length cursor.new ≤ length cursor.old }
 {
@@ -142,7 +142,7 @@ pub(crate) fn open_group(
     cursor: &mut Cursor<'_>,
     front: &mut Front,
 ) -> Result<Opened, Error>
-    ensures reads { (g : pattern.Front) → IsFront front.old g →
+    ensures reads { (g : pattern.Front) → IsPatternFront front.old g →
         Agrees (λ o x. IsOpened o front.new g x) result cursor.new (opened g cursor.old) }
     ensures forward { length cursor.new ≤ length cursor.old }
 {

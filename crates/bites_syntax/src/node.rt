@@ -7,7 +7,7 @@ ghost use Rattle.bites_spec.specs.Group.{Opening};
 ghost use Rattle.bites_spec.specs.Measure.{height, IsTooTall};
 ghost use Rattle.bites_spec.specs.Tree as spec;
 ghost use Rattle.bites_spec.specs.Tree.{choice_of, repetition_of, sequence_of, trees_of};
-ghost use Rattle.bites_syntax.specs.Nodes.{AreNodes, ArePartsOf, IsNumbered, StandsFor};
+ghost use Rattle.bites_syntax.specs.Nodes.{AreNodes, ArePartsOf, IsNumbered, IsNodeOf};
 
 use crate::name::Name;
 use crate::operator::Bounds;
@@ -54,7 +54,7 @@ impl Node {
     /// The node of a tree with no parts.
     pub(crate) fn leaf(tree: Tree) -> Node
         requires { height tree ≡ 0 }
-        ensures { (limit : ℕ) → StandsFor limit result tree }
+        ensures { (limit : ℕ) → IsNodeOf limit result tree }
     {
         Node::Kept { tree, height: 0 }
     }
@@ -67,9 +67,9 @@ pub(crate) fn repetition_of(
     body: Node,
     limit: u32,
 ) -> Result<Node, AllocError>
-    ensures { (t : spec.Tree) → StandsFor limit body t →
+    ensures { (t : spec.Tree) → IsNodeOf limit body t →
         IfOk result
-        (λ node. StandsFor limit node (repetition_of bounds.min bounds.max bounds.greedy t)) }
+        (λ node. IsNodeOf limit node (repetition_of bounds.min bounds.max bounds.greedy t)) }
 {
     if bounds.max == Some(0) {
         return Ok(Node::leaf(Tree::empty()));
@@ -81,9 +81,9 @@ pub(crate) fn repetition_of(
 }
 
 fn repeated(alloc: Global, bounds: Bounds, body: Node, limit: u32) -> Result<Node, AllocError>
-    ensures { (t : spec.Tree) → StandsFor limit body t →
+    ensures { (t : spec.Tree) → IsNodeOf limit body t →
         IfOk result
-        (λ node. StandsFor limit node (spec.repetition bounds.min bounds.max bounds.greedy t)) }
+        (λ node. IsNodeOf limit node (spec.repetition bounds.min bounds.max bounds.greedy t)) }
 {
     let Node::Kept { tree, height } = body else {
         return Ok(Node::TooTall);
@@ -97,8 +97,8 @@ fn repeated(alloc: Global, bounds: Bounds, body: Node, limit: u32) -> Result<Nod
 }
 
 fn captured(alloc: Global, numbered: Numbered, body: Node, limit: u32) -> Result<Node, AllocError>
-    ensures { (t : spec.Tree) → StandsFor limit body t →
-        IfOk result (λ node. StandsFor limit node (spec.group numbered.index numbered.name t)) }
+    ensures { (t : spec.Tree) → IsNodeOf limit body t →
+        IfOk result (λ node. IsNodeOf limit node (spec.group numbered.index numbered.name t)) }
 {
     let Node::Kept { tree, height } = body else {
         return Ok(Node::TooTall);
@@ -119,8 +119,8 @@ pub(crate) fn group_of(
     limit: u32,
 ) -> Result<Node, AllocError>
     ensures { (opening : Opening) → (before : ℕ) → (branches : List spec.Tree) →
-        IsNumbered numbered opening before → StandsFor limit choice (choice_of branches) →
-        IfOk result (λ node. StandsFor limit node (group_of opening before branches)) }
+        IsNumbered numbered opening before → IsNodeOf limit choice (choice_of branches) →
+        IfOk result (λ node. IsNodeOf limit node (group_of opening before branches)) }
 {
     match numbered {
         Some(numbered) => captured(alloc, numbered, choice, limit),
@@ -169,7 +169,7 @@ fn parts_of(alloc: Global, mut nodes: Vec<Node>, limit: u32) -> Result<Parts, Al
 /// The nodes one behind another. It refuses only for memory.
 pub(crate) fn sequence_of(alloc: Global, nodes: Vec<Node>, limit: u32) -> Result<Node, AllocError>
     ensures { (ts : List spec.Tree) → AreNodes limit nodes.items ts →
-        IfOk result (λ node. StandsFor limit node (sequence_of ts)) }
+        IfOk result (λ node. IsNodeOf limit node (sequence_of ts)) }
 {
     Ok(match parts_of(alloc, nodes, limit)? {
         Parts::None => Node::leaf(Tree::empty()),
@@ -185,7 +185,7 @@ pub(crate) fn sequence_of(alloc: Global, nodes: Vec<Node>, limit: u32) -> Result
 /// A choice between the nodes. It refuses only for memory.
 pub(crate) fn choice_of(alloc: Global, nodes: Vec<Node>, limit: u32) -> Result<Node, AllocError>
     ensures { (ts : List spec.Tree) → AreNodes limit nodes.items ts →
-        IfOk result (λ node. StandsFor limit node (choice_of ts)) }
+        IfOk result (λ node. IsNodeOf limit node (choice_of ts)) }
 {
     Ok(match parts_of(alloc, nodes, limit)? {
         Parts::None => Node::leaf(Tree::empty()),

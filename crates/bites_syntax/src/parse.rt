@@ -11,11 +11,11 @@ ghost use Rattle.bites_spec.specs.Group.{Opening};
 ghost use Rattle.bites_spec.specs.Tree as spec;
 ghost use Rattle.bites_spec.specs.Tree.{choice_of, sequence_of};
 ghost use Rattle.bites_syntax.specs.Atoms.{atom};
-ghost use Rattle.bites_syntax.specs.Nodes.{AreNodes, IsNumbered, StandsFor};
-ghost use Rattle.bites_syntax.specs.Progress.{HasRoom, IsAt, IsChoice, IsForward, Steps};
+ghost use Rattle.bites_syntax.specs.Nodes.{AreNodes, IsNumbered, IsNodeOf};
+ghost use Rattle.bites_syntax.specs.Progress.{HasDepth, IsAt, IsChoice, IsForward, Steps};
 ghost use Rattle.bites_syntax.specs.Operators.{bounds_of};
 ghost use Rattle.bites_syntax.specs.Parts.{IsErrorOf, WithSteps};
-ghost use Rattle.bites_syntax.specs.Openings.{IsFront};
+ghost use Rattle.bites_syntax.specs.Openings.{IsPatternFront};
 ghost use Rattle.bites_syntax.specs.FlagsView.{flags_of};
 ghost use Rattle.bites_spec.specs.Message.{Message};
 ghost use Rattle.bites_spec.specs.Built.{IsCompilable};
@@ -121,7 +121,7 @@ fn close_group(
     ensures branches { rows.new.branches.items ≡ rows.old.branches.items }
     ensures flags { IfOk result (λ flags. flags ≡ group.flags) }
     ensures nodes { (opening : Opening) → (before : ℕ) → (branches nodes : List spec.Tree) →
-        IsNumbered group.numbered opening before → StandsFor limit choice (choice_of branches) →
+        IsNumbered group.numbered opening before → IsNodeOf limit choice (choice_of branches) →
         AreNodes limit rows.old.nodes.items nodes →
         IfOk result
         (λ _.
@@ -163,7 +163,7 @@ impl Parser<'_> {
             (at_operator ranges_of limit (inner ranges_of limit n) depth g bs ts
             message.nothing_to_repeat at
             (plain_operator g.flags min max (lazy self.old.cursor))) }
-        ensures room { (depth : ℕ) → HasRoom limit depth result }
+        ensures room { (depth : ℕ) → HasDepth limit depth result }
         ensures forward { length self.new.cursor ≤ length self.old.cursor }
     {
         if rows.nodes.is_empty() {
@@ -185,7 +185,7 @@ impl Parser<'_> {
             (at_operator ranges_of limit (inner ranges_of limit n) depth g bs ts
             message.nothing_to_count at
             (counted n g.flags (skip g.flags self.old.cursor)))) }
-        ensures room { (depth : ℕ) → HasRoom limit depth result }
+        ensures room { (depth : ℕ) → HasDepth limit depth result }
         ensures forward { length self.new.cursor ≤ length self.old.cursor }
     {
         if rows.nodes.is_empty() {
@@ -204,7 +204,7 @@ impl Parser<'_> {
             Steps limit depth n g bs ts result self.new rows
             (and_then (opened g (skip g.flags self.old.cursor))
             (at_opened ranges_of limit (inner ranges_of limit n) depth g bs ts)) }
-        ensures room { HasRoom limit depth result }
+        ensures room { HasDepth limit depth result }
         ensures forward { length self.new.cursor ≤ length self.old.cursor }
     {
         let flags = self.front.flags;
@@ -253,7 +253,7 @@ impl Parser<'_> {
             Steps limit depth n g bs ts result self.new rows.new
             (at_item ranges_of limit (inner ranges_of limit n) n depth g bs ts
             (c ∷ self.old.cursor))) }
-        ensures room { HasRoom limit depth result }
+        ensures room { HasDepth limit depth result }
         ensures forward { length self.new.cursor ≤ length self.old.cursor }
     {
         match c {
@@ -278,7 +278,7 @@ impl Parser<'_> {
             (λ n. Steps limit depth n g bs ts result self.new rows.new
             (and_then (atom n g.flags c self.old.cursor)
             (λ node rest. inner ranges_of limit n depth g bs (ts ++ node ∷ []) rest))) }
-        ensures room { (limit depth : ℕ) → HasRoom limit depth result }
+        ensures room { (limit depth : ℕ) → HasDepth limit depth result }
         ensures forward { length self.new.cursor ≤ length self.old.cursor }
     {
         let tree = atom(alloc, &mut self.cursor, self.front.flags, c)?;
@@ -329,7 +329,7 @@ impl Parser<'_> {
     /// Reads a choice, up to what closes the group that it stands in, or to the end. It calls
     /// itself once for each open group, at most `limit` deep.
     fn choice(&mut self, alloc: Global, limit: u32, depth: u32) -> Result<Node, Error>
-        ensures reads { (g : pattern.Front) → IsFront self.old.front g →
+        ensures reads { (g : pattern.Front) → IsPatternFront self.old.front g →
             WithSteps self.old.cursor
             (λ n.
             IsChoice limit result self.new

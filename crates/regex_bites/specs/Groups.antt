@@ -11,5 +11,5 @@ abbrev pub excerpt_if : Option Match → Option Excerpt
 excerpt_if = option_map excerpt_of
 
 -- the groups that are still to come
-abbrev pub groups_left : SubCaptureMatches → List (Option Excerpt)
-groups_left s = groups_from s.captures.now s.next
+abbrev pub sub_captures_left : SubCaptureMatches → List (Option Excerpt)
+sub_captures_left s = groups_from s.captures.now s.next

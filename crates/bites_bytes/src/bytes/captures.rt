@@ -6,7 +6,7 @@ ghost use Rattle.bites_spec.specs.Slots.{group_in, taking_part};
 ghost use Rattle.bites_spec.specs.Counts.{fit_of};
 ghost use Rattle.bites_spec.specs.Pieces.{text_at};
 ghost use Rattle.bites_spec.specs.Regex.{slots_at};
-ghost use Rattle.bites_spec.specs.Captured.{AreGroups, captured, excerpt, number_named, FindsGroups};
+ghost use Rattle.bites_spec.specs.Captured.{AreGroups, captured, excerpt, FindsGroups};
 
 use crate::bytes::regex::Compiled;
 use crate::bytes::{Cache, CaptureLocations, CaptureNames, Match, Regex, SubCaptureMatches};
@@ -42,7 +42,7 @@ impl<'h> Model for Captures<'h> {
 }
 
 impl<'h> Captures<'h> {
-    ghost use Rattle.bites_spec.specs.Expansion.{text_in};
+    ghost use Rattle.bites_spec.specs.Expansion.{index_in, text_in};
     ghost use Rattle.bites_spec.specs.Refused.{AppendsUntilRefused};
     ghost use Rattle.bites_bytes.specs.Matched.{excerpt_of};
     ghost use Rattle.bites_spec.specs.Replacer.{answer_text, expanded};
@@ -97,7 +97,7 @@ impl<'h> Captures<'h> {
     /// Where the group of this name took part; None if it took no part, and if no group has the name.
     pub fn name(&self, name: &str) -> Option<Match<'h>>
         ensures { option_map excerpt_of result ≡ option_map (excerpt self.now.haystack)
-            (option_and_then (group_in self.now.slots) (number_named self.now.regex.names name.now)) }
+            (option_and_then (group_in self.now.slots) (index_in self.now.regex.names name.now)) }
     {
         match self.compiled.number_named(name) {
             Some(group) => self.get(group),
@@ -147,9 +147,9 @@ impl<'h> Captures<'h> {
 
     /// The bytes of the group of this name, which took part.
     pub fn part_named(&self, name: &str) -> &'h [u8]
-        requires { IsSome (option_and_then (group_in self.now.slots) (number_named self.now.regex.names name.now)) }
+        requires { IsSome (option_and_then (group_in self.now.slots) (index_in self.now.regex.names name.now)) }
         ensures { Some result.now ≡ option_map (text_at self.now.haystack)
-            (option_and_then (group_in self.now.slots) (number_named self.now.regex.names name.now)) }
+            (option_and_then (group_in self.now.slots) (index_in self.now.regex.names name.now)) }
     {
         self.name(name).unwrap().as_bytes()
     }

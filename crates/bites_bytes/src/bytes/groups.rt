@@ -13,11 +13,11 @@ pub struct SubCaptureMatches<'c, 'h> {
 }
 
 impl<'h> Captures<'h> {
-    ghost use Rattle.bites_bytes.specs.Groups.{groups_left, groups_of};
+    ghost use Rattle.bites_bytes.specs.Groups.{sub_captures_left, groups_of};
 
     /// Where each group took part, from group 0 on.
     pub fn iter<'c>(&'c self) -> SubCaptureMatches<'c, 'h>
-        ensures { groups_left result ≡ groups_of self.now }
+        ensures { sub_captures_left result ≡ groups_of self.now }
     {
         SubCaptureMatches {
             captures: self,
@@ -29,13 +29,13 @@ impl<'h> Captures<'h> {
 impl<'c, 'h> Iterator for SubCaptureMatches<'c, 'h> {
     ghost use Rattle.std.specs.Iterator.{at_most, Count, UpTo, YieldsFirstBy, item_count};
     ghost use Rattle.std.specs.Iterator.SizeHint.{IsWithinCount};
-    ghost use Rattle.bites_bytes.specs.Groups.{groups_left, excerpt_if};
+    ghost use Rattle.bites_bytes.specs.Groups.{sub_captures_left, excerpt_if};
 
     type Item = Option<Match<'h>>;
 
-    ghost next_gives = { YieldsFirstBy excerpt_if groups_left };
+    ghost next_gives = { YieldsFirstBy excerpt_if sub_captures_left };
 
-    ghost remaining = { item_count groups_left };
+    ghost remaining = { item_count sub_captures_left };
 
     fn next(&mut self) -> Option<Option<Match<'h>>> {
         if self.next >= self.captures.len() {
@@ -47,9 +47,9 @@ impl<'c, 'h> Iterator for SubCaptureMatches<'c, 'h> {
     }
 
     fn size_hint(&self) -> (usize, Option<usize>)
-        ensures lower { IsWithinCount result.0 (item_count groups_left self.now) }
-        ensures upper { IfSome result.1 (UpTo (item_count groups_left self.now)) }
-        ensures value { result ≡ (length (groups_left self.now), Some (length (groups_left self.now))) }
+        ensures lower { IsWithinCount result.0 (item_count sub_captures_left self.now) }
+        ensures upper { IfSome result.1 (UpTo (item_count sub_captures_left self.now)) }
+        ensures value { result ≡ (length (sub_captures_left self.now), Some (length (sub_captures_left self.now))) }
     {
         let left = self.len();
         (left, Some(left))

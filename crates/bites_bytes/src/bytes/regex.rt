@@ -4,7 +4,7 @@ ghost use Rattle.std.specs.Prelude.{◌≡◌, ◌≢◌, ◌<◌, ◌^◌, fals
 ghost use Rattle.bites_spec.specs.Tree.{Tree, captures_len};
 ghost use Rattle.bites_spec.specs.Measure.{groups_left, static_captures_len};
 ghost use Rattle.bites_spec.specs.Regex.{IsCompiled, NamesAreKept};
-ghost use Rattle.bites_spec.specs.Captured.{number_named};
+ghost use Rattle.bites_spec.specs.Expansion.{index_in};
 ghost use Rattle.bites_spec.specs.Settings.{Accepts, by_default, no_flags};
 ghost use Rattle.bites_bytes.specs.Parts.{regex_of};
 ghost use Rattle.bites_syntax.specs.FlagsView.{flags_of};
@@ -71,7 +71,7 @@ impl Compiled {
 
     // The number of the first group of this name.
     pub(super) fn number_named(&self, name: &str) -> Option<usize>
-        ensures { result ≡ number_named self.now.names name.now }
+        ensures { result ≡ index_in self.now.names name.now }
     {
         self.program.index_of(name)
     }

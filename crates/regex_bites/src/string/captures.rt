@@ -4,7 +4,8 @@ ghost use Rattle.std.specs.Prelude.{◌≡◌, ◌≤◌, length, IfOk, IsSome, 
 ghost use Rattle.bites_spec.specs.Slots.{group_in};
 ghost use Rattle.bites_spec.specs.Pieces.{text_at};
 ghost use Rattle.bites_spec.specs.Regex.{slots_at};
-ghost use Rattle.bites_spec.specs.Captured.{captured, excerpt, number_named, FindsGroups};
+ghost use Rattle.bites_spec.specs.Captured.{captured, excerpt, FindsGroups};
+ghost use Rattle.bites_spec.specs.Expansion.{index_in};
 
 use crate::string::{Match, Regex};
 use bites_bytes::bytes;
@@ -60,7 +61,7 @@ impl<'h> Captures<'h> {
     /// Where the group of this name took part; None if it took no part, and if no group has the name.
     pub fn name(&self, name: &str) -> Option<Match<'h>>
         ensures { option_map excerpt_of result ≡ option_map (excerpt self.now.haystack)
-            (option_and_then (group_in self.now.slots) (number_named self.now.regex.names name.now)) }
+            (option_and_then (group_in self.now.slots) (index_in self.now.regex.names name.now)) }
     {
         let found = self.captures.name(name);
         Match::of_found(self.haystack, found)
@@ -83,9 +84,9 @@ impl<'h> Captures<'h> {
 
     /// The text of the group of this name, which took part.
     pub fn part_named(&self, name: &str) -> &'h str
-        requires { IsSome (option_and_then (group_in self.now.slots) (number_named self.now.regex.names name.now)) }
+        requires { IsSome (option_and_then (group_in self.now.slots) (index_in self.now.regex.names name.now)) }
         ensures { Some result.now ≡ option_map (text_at self.now.haystack)
-            (option_and_then (group_in self.now.slots) (number_named self.now.regex.names name.now)) }
+            (option_and_then (group_in self.now.slots) (index_in self.now.regex.names name.now)) }
     {
         self.name(name).unwrap().as_str()
     }

@@ -5,7 +5,7 @@ use Rattle.bites_spec.specs.Reader.{inner}
 use Rattle.bites_syntax.specs.declared.parse.Step.TheVariants.{Item, Group, End}
 use Rattle.bites_syntax.specs.Nodes.{AreNodes}
 use Rattle.bites_syntax.specs.Parts.{IsErrorOf}
-use Rattle.bites_syntax.specs.Progress.{Ends, Enters, GoesOn, IsForward, ReadsAs, Steps}
+use Rattle.bites_syntax.specs.Progress.{EndsReading, Enters, GoesOn, IsForward, ReadsAs, Steps}
 use Rattle.bites_syntax.proofs.ReachedLemmas.{reached_start, reached_item, reached_end, reached_fault, reached_group, fault_in_group}
 use Rattle.bites_syntax.proofs.parse.Parser.+choice.Goals as goal
 
@@ -78,7 +78,7 @@ loop-rows-preserved t c =
 pub returns-in-End-clause-reads : goal.returns-in-End-clause-reads
 returns-in-End-clause-reads t c = λ g is n room.
     let r = c.loop-rows.invariant.0 g is n room in
-    let ends : Ends c.args.limit c.step.new.self c.step.new.rows r.g (inner ranges_of c.args.limit (suc r.steps) c.args.depth r.g r.branches r.nodes c.loop-rows.self.cursor) =
+    let ends : EndsReading c.args.limit c.step.new.self c.step.new.rows r.g (inner ranges_of c.args.limit (suc r.steps) c.args.depth r.g r.branches r.nodes c.loop-rows.self.cursor) =
     subst (λ s. Steps c.args.limit c.args.depth r.steps r.g r.branches r.nodes (Ok s) c.step.new.self c.step.new.rows
     (inner ranges_of c.args.limit (suc r.steps) c.args.depth r.g r.branches r.nodes c.loop-rows.self.cursor))
     c.in-End.is (c.in_ok-step.ensures.steps r.g r.branches r.nodes r.is_at r.steps r.room) in
