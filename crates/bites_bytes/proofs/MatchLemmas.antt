@@ -1,5 +1,5 @@
 -- Iterators over matches, step by step.
-use Rattle.std.proofs.Common.{◌≡◌, ℕ, zero, suc, ◌≤◌, ◌<◌, ◌+◌, Bool, true, false, cond, List, [], ◌∷◌, map, length, take, Option, Some, None, option_map, refl, sym, ap, ap₂, ◌∙◌, subst, true≢false, arith}
+use Rattle.std.proofs.Common.{◌≡◌, ℕ, ◌≤◌, ◌+◌, Bool, true, false, cond, List, [], ◌∷◌, map, length, take, Option, Some, None, option_map, refl, sym, ap, ap₂, ◌∙◌, subst, true≢false, arith}
 use Rattle.std.specs.Prelude.{unwrap_or, is_some}
 use Rattle.std.proofs.lemmas.List.{take_all}
 use Rattle.std.specs.Iterator.{YieldsFirstBy}
@@ -9,7 +9,7 @@ use Rattle.bites_spec.specs.Run.{Run, slots}
 use Rattle.bites_spec.specs.Slots.{group_in, span_of_run}
 use Rattle.bites_spec.specs.Spans.{Due, is_empty_at, due_after, followed, successive_after, successive, LiesFrom}
 use Rattle.bites_spec.specs.Regex.{Regex, IsCompiled, run_at}
-use Rattle.bites_spec.specs.Captured.{Captured, Excerpt, excerpt, captured, AreGroups}
+use Rattle.bites_spec.specs.Captured.{Excerpt, excerpt, captured, AreGroups}
 use Rattle.bites_spec.specs.Iteration.{spans_behind, captured_by, captures_behind}
 use Rattle.bites_spec.proofs.RegexRuns.{run_at-whole, run_at-lies, run_at-AreGroups}
 use Rattle.bites_spec.proofs.SpanLemmas.{due_next}

@@ -6,7 +6,6 @@ use Rattle.bites_spec.specs.Match.{Span}
 use Rattle.bites_spec.specs.Pieces.{text_at}
 use Rattle.bites_spec.specs.Slots.{group_in, taking_part}
 use Rattle.bites_spec.specs.Expansion.{text_in}
-use Rattle.bites_spec.specs.Replacer.{answer_text}
 
 -- those from a number on
 unfoldable pub parts_from : List (Option ℕ) → ℕ → List Span

@@ -1,5 +1,5 @@
 -- What is replaced in the end.
-use Rattle.std.proofs.Common.{◌≡◌, ◌↔◌, ℕ, zero, suc, Bool, true, false, List, [], ◌∷◌, ◌++◌, map, take, drop, Option, Some, None, refl, sym, ap, ap₂, ◌∙◌, subst, true≢false}
+use Rattle.std.proofs.Common.{◌≡◌, ◌↔◌, ℕ, zero, suc, List, [], ◌∷◌, ◌++◌, map, take, drop, Option, Some, None, refl, sym, ap, ap₂, ◌∙◌, subst, true≢false}
 use Rattle.std.specs.Prelude.{unwrap_or, Result, Ok, Err, IfOk}
 use Rattle.bites_spec.specs.Match.{Span, span}
 use Rattle.bites_spec.specs.Slots.{group_in}
@@ -8,11 +8,10 @@ use Rattle.bites_spec.specs.Regex.{Regex, IsCompiled}
 use Rattle.bites_spec.specs.Captured.{Captured}
 use Rattle.bites_spec.specs.Iteration.{captures_in, captures_behind, spans_in, spans_behind}
 use Rattle.bites_spec.specs.Replace.{Gave}
-use Rattle.bites_spec.specs.Refused.{GaveFront}
 use Rattle.bites_spec.proofs.RegexRuns.{captures_have_spans}
-use Rattle.bites_spec.specs.Replaced.{span_in, ReplacesIn, GivesUpIn}
+use Rattle.bites_spec.specs.Replaced.{span_in, ReplacesIn}
 use Rattle.bites_bytes.specs.Limit.{taken, bound}
-use Rattle.bites_bytes.specs.Replacing.{spans_to_replace, captures_to_replace, is_nil, replaces_none, with_texts, with_text, OnByText, EndsByText, EndsBy}
+use Rattle.bites_bytes.specs.Replacing.{spans_to_replace, captures_to_replace, is_nil, replaces_none, with_texts, EndsByText, EndsBy}
 use Rattle.bites_bytes.specs.declared.bytes.replace.Replacing.{Replacing}
 use Rattle.bites_bytes.proofs.ReplacingLemmas.{taken_limited, limited_map}
 

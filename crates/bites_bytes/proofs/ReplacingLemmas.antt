@@ -1,5 +1,5 @@
 -- Replacing matches, step by step.
-use Rattle.std.proofs.Common.{◌≡◌, ℕ, zero, suc, Bool, true, false, List, [], ◌∷◌, ◌++◌, map, take, drop, Option, Some, None, refl, sym, ap, ap₂, ◌∙◌, subst, true≢false, append_assoc, inl, inr}
+use Rattle.std.proofs.Common.{◌≡◌, ℕ, zero, suc, Bool, true, false, List, [], ◌∷◌, ◌++◌, map, take, Option, Some, None, refl, sym, ap, ap₂, ◌∙◌, subst, true≢false, append_assoc, inr}
 use Rattle.std.specs.Prelude.{unwrap_or, slice_range}
 use Rattle.bites_spec.specs.Match.{Span}
 use Rattle.bites_spec.specs.Pieces.{replaced_from, limited}
@@ -7,10 +7,10 @@ use Rattle.bites_spec.specs.Captured.{Captured, Excerpt}
 use Rattle.bites_spec.specs.Replace.{Gave}
 use Rattle.bites_spec.specs.Refused.{GaveFront}
 use Rattle.bites_bytes.specs.Matched.{excerpt_of}
-use Rattle.bites_bytes.specs.Matches.{IsSameSearch, Moves, matches_left, spans_left}
+use Rattle.bites_bytes.specs.Matches.{IsSameSearch, matches_left, spans_left}
 use Rattle.bites_spec.specs.Replaced.{span_in}
 use Rattle.bites_bytes.specs.Limit.{taken, bound, Spends}
-use Rattle.bites_bytes.specs.Replacing.{spans_to_replace, captures_to_replace, is_nil, replaces_none, with_texts, with_text, Writes, Rests, StepsByText, OnByText, StepsBy, GoesOn, GoesOnRefused}
+use Rattle.bites_bytes.specs.Replacing.{spans_to_replace, captures_to_replace, replaces_none, with_texts, Writes, Rests, StepsByText, OnByText, StepsBy, GoesOn, GoesOnRefused}
 use Rattle.bites_bytes.specs.declared.bytes.matched.Match.{Match}
 use Rattle.bites_bytes.specs.declared.bytes.matches.Matches.{Matches}
 use Rattle.bites_bytes.specs.declared.bytes.replace.Replacing.{Replacing}

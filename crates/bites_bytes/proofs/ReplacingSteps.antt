@@ -1,10 +1,10 @@
 -- Steps of replacing, from the calls that they make.
-use Rattle.std.proofs.Common.{◌≡◌, ◌≤◌, ℕ, Bool, true, false, List, [], ◌∷◌, ◌++◌, Option, Some, None, refl, sym, ap, ap₂, ◌∙◌, subst, inl, inr}
-use Rattle.std.specs.Prelude.{unwrap_or, slice_range, is_some, Result, Ok, Err, OnErr}
+use Rattle.std.proofs.Common.{◌≡◌, ◌≤◌, ℕ, Bool, true, false, List, [], ◌∷◌, ◌++◌, Option, Some, None, refl, sym, ap, ◌∙◌, subst, inl, inr}
+use Rattle.std.specs.Prelude.{unwrap_or, slice_range, Result, Ok, Err, OnErr}
 use Rattle.bites_spec.specs.Match.{Span, span}
 use Rattle.bites_spec.specs.Run.{slots}
 use Rattle.bites_spec.specs.Slots.{group_in}
-use Rattle.bites_spec.specs.Regex.{Regex, IsCompiled}
+use Rattle.bites_spec.specs.Regex.{IsCompiled}
 use Rattle.bites_spec.specs.Captured.{Captured, captured, Excerpt}
 use Rattle.bites_spec.specs.Refused.{GaveFront}
 use Rattle.bites_spec.proofs.RegexRuns.{run_at-whole}

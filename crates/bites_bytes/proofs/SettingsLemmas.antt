@@ -1,6 +1,6 @@
 -- A tree that passes a limit is the pattern's only one, and its groups are those that are kept.
-use Rattle.std.proofs.Common.{◌≡◌, ◌≢◌, ◌<◌, ◌≤◌, ℕ, Bool, true, false, List, Option, arith, refl, ap, sym, subst, ◌∙◌, ◌*◌, length, Result, Ok, Err, IfOk}
-use Rattle.std.specs.Prelude.{chars}
+use Rattle.std.proofs.Common.{◌≡◌, ◌≢◌, ℕ, Bool, true, false, List, Option, arith, refl, ap, sym, subst, ◌∙◌, ◌*◌, length, Result, Ok, Err, IfOk, IfErr}
+use Rattle.std.specs.Prelude.{chars, IsErrAnd}
 use Rattle.bites_spec.specs.Tree.{Tree, captures_len}
 use Rattle.bites_spec.specs.Program.{IsWellFormed}
 use Rattle.bites_spec.specs.Built.{Built, IsCompilable}
@@ -16,6 +16,11 @@ use Rattle.bites_text.specs.declared.error.Error.TheVariants.{TooBig, TooManySta
 use Rattle.bites_machine.specs.Compiled as compiled
 use Rattle.bites_spec.specs.Settings.{Settings, Accepts}
 use Rattle.bites_bytes.specs.Parts.{chosen, regex_of}
+
+-- what holds of an error holds of the result that hands it on
+pub handed_on : {B : Type 0} (r : Result B Error) (e : Error) (P : Error → Type 0) → IsErrAnd r (λ f. f ≡ e) → P e → IfErr r P
+handed_on (Err f) e P same holds = subst P (sym same) holds
+handed_on (Ok b) e P same holds = absurd same
 
 -- what passes a limit is not within the limits
 not_within : (size_limit : ℕ) (groups : List (Option (List ℕ))) (t : Tree) (e : Error) → compiled.RefusesTree size_limit groups t e → e ≢ Memory →

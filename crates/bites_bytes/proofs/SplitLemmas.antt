@@ -1,9 +1,8 @@
 -- Iterators over pieces, step by step.
-use Rattle.std.proofs.Common.{◌≡◌, ℕ, zero, suc, ◌-◌, Bool, true, false, cond, List, [], ◌∷◌, map, length, take, drop, Option, Some, None, refl, sym, ap, ap₂, ◌∙◌, subst}
+use Rattle.std.proofs.Common.{◌≡◌, ℕ, zero, suc, ◌-◌, true, false, cond, List, [], ◌∷◌, map, length, take, drop, Option, Some, None, refl, sym, ap, ap₂, ◌∙◌}
 use Rattle.std.specs.Prelude.{unwrap_or, MatchOption, slice_range}
 use Rattle.std.specs.Borrow.{Bor}
-use Rattle.std.specs.Iterator.{YieldsFirstBy}
-use Rattle.bites_spec.specs.Match.{Span, span}
+use Rattle.bites_spec.specs.Match.{Span}
 use Rattle.bites_spec.specs.Pieces.{gaps_from, text_at}
 use Rattle.bites_spec.specs.Regex.{Regex}
 use Rattle.bites_spec.specs.Captured.{Excerpt, excerpt}
@@ -12,7 +11,6 @@ use Rattle.bites_bytes.specs.Matched.{excerpt_of}
 use Rattle.bites_bytes.specs.Matches.{IsSameSearch, Moves, matches_left, spans_left}
 use Rattle.bites_bytes.specs.Split.{pieces_by, pieces_left, at_most_left, bytes_at, StepsOn}
 use Rattle.bites_bytes.specs.declared.bytes.matched.Match.{Match}
-use Rattle.bites_bytes.specs.declared.bytes.matches.Matches.{Matches}
 use Rattle.bites_bytes.specs.declared.bytes.split.Split.{Split}
 
 pub spans_of : (hay : List ℕ) (ss : List Span) → map (λ e. e.span) (map (excerpt hay) ss) ≡ ss

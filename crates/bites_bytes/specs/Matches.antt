@@ -1,13 +1,11 @@
 -- The matches that iterators have left.
-use Rattle.std.specs.Prelude.{◌≡◌, ◌≤◌, ℕ, Bool, true, false, List, [], ◌∷◌, map, take, length, Option, Some, None, unwrap_or, MatchOption}
-use Rattle.std.specs.Borrow.{Bor}
+use Rattle.std.specs.Prelude.{◌≡◌, ◌≤◌, ℕ, Bool, true, false, List, [], ◌∷◌, map, take, Option, Some, None, unwrap_or, MatchOption}
 use Rattle.bites_spec.specs.Match.{Span}
 use Rattle.bites_spec.specs.Run.{Run, slots}
 use Rattle.bites_spec.specs.Slots.{span_of_run}
 use Rattle.bites_spec.specs.Regex.{Regex}
 use Rattle.bites_spec.specs.Captured.{Captured, Excerpt, excerpt, captured, AreGroups}
 use Rattle.bites_spec.specs.Iteration.{spans_behind, captures_behind}
-use Rattle.bites_spec.specs.Pieces.{gaps_from, text_at}
 use Rattle.bites_bytes.specs.Due.{run_due}
 use Rattle.bites_bytes.specs.Matched.{excerpt_of}
 use Rattle.bites_bytes.specs.declared.bytes.matched.Match.{Match}

@@ -1,9 +1,8 @@
 -- The pieces that iterators over them have left.
-use Rattle.std.specs.Prelude.{◌≡◌, ℕ, zero, suc, Bool, true, false, cond, List, [], ◌∷◌, map, take, length, Option, Some, None, unwrap_or}
+use Rattle.std.specs.Prelude.{◌≡◌, ℕ, zero, suc, cond, List, [], ◌∷◌, map, take, length, Option, Some, None, unwrap_or}
 use Rattle.std.specs.Borrow.{Bor}
-use Rattle.bites_spec.specs.Match.{Span, span}
+use Rattle.bites_spec.specs.Match.{Span}
 use Rattle.bites_spec.specs.Pieces.{gaps_from, text_at}
-use Rattle.bites_spec.specs.Regex.{Regex}
 use Rattle.bites_bytes.specs.Matches.{spans_left}
 use Rattle.bites_bytes.specs.declared.bytes.split.Split.{Split}
 use Rattle.bites_bytes.specs.declared.bytes.split.SplitN.{SplitN}

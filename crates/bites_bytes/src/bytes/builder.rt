@@ -230,14 +230,9 @@ fn build(
     ensures message { IfErr result (λ e. e ≢ Error.Memory →
         Refuses (settings pattern.now (flags_of flags) limits.size limits.nest keep leftmost_longest) e) }
 {
-    let (tree, groups) = match parse_with_groups(alloc, pattern, flags, limits.nest) {
-        Ok(read) => read,
-        Err(error) => return Err(error),
-    };
-    match compile_kept(alloc, &tree, &groups, keep, pattern, limits.size) {
-        Ok(program) => Regex::from_parts(alloc, &tree, flags, keep, leftmost_longest, program),
-        Err(error) => Err(error),
-    }
+    let (tree, groups) = parse_with_groups(alloc, pattern, flags, limits.nest)?;
+    let program = compile_kept(alloc, &tree, &groups, keep, pattern, limits.size)?;
+    Regex::from_parts(alloc, &tree, flags, keep, leftmost_longest, program)
 }
 
 // The program of the tree, with all of the groups or with those that are left in the tree.

@@ -161,9 +161,6 @@ impl RegexBuilder {
             Accepts self.now t → ⊥) }
         ensures message { IfErr result (λ e. e ≢ Error.Memory → Refuses self.now e) }
     {
-        match self.builder.build() {
-            Ok(regex) => Ok(Regex::from_bytes(regex)),
-            Err(error) => Err(error),
-        }
+        self.builder.build().map(Regex::from_bytes)
     }
 }

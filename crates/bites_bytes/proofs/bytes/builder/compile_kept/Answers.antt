@@ -1,4 +1,4 @@
-use Rattle.std.proofs.Common.{◌≡◌, ◌*◌, ap, sym, subst, length, IfOk}
+use Rattle.std.proofs.Common.{◌≡◌, ◌*◌, sym, subst, length, IfOk}
 use Rattle.bites_spec.specs.Tree.{captures_len}
 use Rattle.bites_spec.proofs.LeftLemmas.{length-left}
 use Rattle.bites_bytes.specs.Parts.{chosen}

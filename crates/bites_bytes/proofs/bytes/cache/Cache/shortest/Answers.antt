@@ -1,4 +1,4 @@
-use Rattle.std.proofs.Common.{◌≡◌, ◌∙◌, ℕ, Option, None, [], ◌∷◌, List, ap, sym, subst, refl, arith}
+use Rattle.std.proofs.Common.{◌∙◌, ℕ, Option, None, [], ◌∷◌, List, ap, sym, subst, refl, arith}
 use Rattle.std.specs.Prelude.{is_some}
 use Rattle.bites_spec.specs.Program.{Program}
 use Rattle.bites_spec.specs.Run.{Run, LeastEnd, Answered}

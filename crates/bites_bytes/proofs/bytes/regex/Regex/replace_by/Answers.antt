@@ -3,7 +3,7 @@ use Rattle.bites_spec.specs.Pieces.{limited}
 use Rattle.bites_spec.specs.Refused.{GaveFront}
 use Rattle.bites_spec.specs.Iteration.{captures_in}
 use Rattle.bites_bytes.proofs.ReplacingSteps.{front_none, on_err}
-use Rattle.bites_bytes.proofs.ReplacedLemmas.{if_ok, text_replaces, text_borrows, by_replaces, by_borrows, captures_start}
+use Rattle.bites_bytes.proofs.ReplacedLemmas.{if_ok, text_replaces, text_borrows, by_replaces, captures_start}
 use Rattle.bites_bytes.proofs.bytes.regex.Regex.replace_by.Goals as goal
 
 pub returns-in-Some-clause-replaces : goal.returns-in-Some-clause-replaces

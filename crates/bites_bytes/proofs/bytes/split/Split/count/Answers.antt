@@ -1,5 +1,5 @@
-use Rattle.std.proofs.Common.{◌∙◌, arith}
-use Rattle.bites_bytes.proofs.CountLemmas.{no_pieces, length-pieces}
+use Rattle.std.proofs.Common.{arith}
+use Rattle.bites_bytes.proofs.CountLemmas.{length-pieces}
 use Rattle.bites_bytes.proofs.bytes.split.Split.count.Goals as goal
 
 pub overflow_add-result : goal.overflow_add-result

@@ -1,4 +1,4 @@
-use Rattle.std.proofs.Common.{refl, ap, length, ◌∙◌, sym}
+use Rattle.std.proofs.Common.{ap, length}
 use Rattle.bites_bytes.proofs.SplitLemmas.{piece_is, split_some, split_none}
 use Rattle.bites_bytes.proofs.bytes.split.Split.step.Goals as goal
 
