@@ -1,6 +1,7 @@
 -- The grammar read as a function of the text: the trees of the branches, or the first fault and its place.
 use Rattle.std.specs.Prelude.{ℕ, zero, suc, ◌+◌, Bool, true, false, ◌==◌, nat_lt, nat_le, List, [], ◌∷◌, ◌++◌, length, drop, codes, Option, Some, None, option_map, Result, Ok, Err, if◌then◌else◌}
 use Rattle.std.specs.Char.{is_whitespace, is_ascii_digit}
+use Rattle.bites_spec.specs.Code.{code}
 use Rattle.bites_spec.specs.Message as message
 use Rattle.bites_spec.specs.Message.{Message}
 use Rattle.bites_spec.specs.Range.{Range}
@@ -194,7 +195,7 @@ escape n flags [] = stop message.escape_unfinished []
 escape n flags (c ∷ t) =
     choose (is_ascii_digit c) (λ _. stop message.backreference (c ∷ t))
     (λ _. choose (one_of (codes "pP") c) (λ _. stop message.unicode_class (c ∷ t))
-    (λ _. choose (c == 98) (λ _. boundary n flags t) (λ _. simple n flags c t)))
+    (λ _. choose (c == code "b") (λ _. boundary n flags t) (λ _. simple n flags c t)))
 
 -- how the members of a class go on: from the set so far
 abbrev pub Members : Type 0
@@ -239,7 +240,7 @@ after_first go n flags set first (c ∷ t) =
 -- the message of an operator on sets
 abbrev pub set_operator_message : ℕ → Message
 set_operator_message c =
-    if c == 38 then message.class_intersection else if c == dash then message.class_difference else message.class_symmetric_difference
+    if c == code "&" then message.class_intersection else if c == dash then message.class_difference else message.class_symmetric_difference
 
 -- at a place where a member or the closing bracket may stand
 abbrev pub member : Members → ℕ → Flags → Set → Text → ReadResult Set

@@ -62,7 +62,7 @@ number_of_digits largest (d ∷ ds) =
 -- the same with one `+` in front, if there is one
 abbrev pub number_in : ℕ → List ℕ → Option ℕ
 number_in largest [] = None
-number_in largest (b ∷ bytes) = if b == 43 then number_of_digits largest bytes else number_of_digits largest (b ∷ bytes)
+number_in largest (b ∷ bytes) = if b == code "+" then number_of_digits largest bytes else number_of_digits largest (b ∷ bytes)
 
 -- the greatest number, the text of each group that took part, and the number of each name
 module _ (largest : ℕ) (text_of : ℕ → Option (List ℕ)) (index_of : List ℕ → Option ℕ) where
