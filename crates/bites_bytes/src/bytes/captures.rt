@@ -99,10 +99,24 @@ impl<'h> Captures<'h> {
         ensures { option_map excerpt_of result ≡ option_map (excerpt self.now.haystack)
             (option_and_then (group_in self.now.slots) (number_named self.now.regex.names name.now)) }
     {
-        match self.compiled.number_named(name) {
+        match self.number_named(name) {
             Some(group) => self.get(group),
             None => None,
         }
+    }
+
+    /// The number of the first group of this name; None if no group has it.
+    pub fn number_named(&self, name: &str) -> Option<usize>
+        ensures { result ≡ number_named self.now.regex.names name.now }
+    {
+        self.compiled.number_named(name)
+    }
+
+    /// The name of each group, if it has one, from group 0 on, which has none.
+    pub fn capture_names(&self) -> CaptureNames<'_>
+        ensures { result ≡ self.now.regex.names }
+    {
+        CaptureNames::new(self.compiled.program())
     }
 
     // The bytes of the group of this number, if it took part.
@@ -125,7 +139,7 @@ impl<'h> Captures<'h> {
         interpolate::bytes(
             template,
             |group: usize| self.text_of(group),
-            |name: &str| self.compiled.number_named(name),
+            |name: &str| self.number_named(name),
             dst,
         )
     }
@@ -222,9 +236,8 @@ struct Groups<'c, 'h>(&'c Captures<'h>);
 impl<'c, 'h> fmt::Debug for Groups<'c, 'h> {
     fn fmt<W: fmt::Write>(&self, f: &mut fmt::Formatter<W>) -> fmt::Result {
         let captures = self.0;
-        let names = CaptureNames::new(captures.compiled.program());
         let mut map = f.debug_map();
-        for (number, name) in names.enumerate() {
+        for (number, name) in captures.capture_names().enumerate() {
             map.entry(&Key { number, name }, &Part(captures.get(number)));
         }
         map.finish()
