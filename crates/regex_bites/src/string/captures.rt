@@ -8,6 +8,7 @@ ghost use Rattle.bites_spec.specs.Captured.{captured, excerpt, number_named, Fin
 
 use crate::string::{Match, Regex};
 use bites_bytes::bytes;
+use bites_machine::interpolate;
 use std::alloc::AllocError;
 use std::marker::Model;
 
@@ -37,6 +38,10 @@ impl<'h> Model for Captures<'h> {
 }
 
 impl<'h> Captures<'h> {
+    ghost use Rattle.std.specs.Prelude.{string_bytes};
+    ghost use Rattle.bites_spec.specs.Expansion.{text_in};
+    ghost use Rattle.bites_spec.specs.Refused.{AppendsUntilRefused};
+    ghost use Rattle.bites_spec.specs.Replacer.{answer_text, expanded};
     ghost use Rattle.regex_bites.specs.Matched.{excerpt_of};
     ghost use Rattle.regex_bites.specs.Borders.{AreGroupsOf};
 
@@ -64,6 +69,32 @@ impl<'h> Captures<'h> {
     {
         let found = self.captures.name(name);
         Match::of_found(self.haystack, found)
+    }
+
+    // The text of the group of this number, if it took part.
+    fn text_of(&self, group: usize) -> Option<&'h str>
+        ensures { answer_text result ≡ text_in self.now.slots self.now.haystack group }
+    {
+        match self.get(group) {
+            Some(found) => Some(found.as_str()),
+            None => None,
+        }
+    }
+
+    /// Appends what a template stands for: `$name` and `${name}` are the text of the group of that name or number, `$$` is
+    /// a `$`, and all else stands for itself.
+    ///
+    /// The error is want of memory; `dst` is then the old text followed by a beginning of what the template stands for.
+    pub fn expand(&self, template: &str, dst: &mut String) -> Result<(), AllocError>
+        ensures { AppendsUntilRefused result (string_bytes dst.old) (string_bytes dst.new)
+            (expanded self.now template.now) }
+    {
+        interpolate::string(
+            template,
+            |group: usize| self.text_of(group),
+            |name: &str| self.captures.number_named(name),
+            dst,
+        )
     }
 
     /// The number of groups, group 0 counted.
