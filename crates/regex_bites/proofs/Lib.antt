@@ -1,2 +1,3 @@
 pub mod BorderLemmas
 pub mod SplitLemmas
+pub mod ReplacingLemmas

@@ -12,6 +12,7 @@ mod locations;
 mod matched;
 mod matches;
 mod regex;
+mod replace;
 mod replacer;
 mod search;
 mod shortest;

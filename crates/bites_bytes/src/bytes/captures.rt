@@ -145,8 +145,12 @@ impl<'h> Captures<'h> {
     }
 
     /// The number of groups, group 0 counted.
+    ///
+    /// Its contract also says what the groups of a match always are: group 0 took part, and each that did lies in the
+    /// haystack. A caller whose proof needs that calls it.
     pub fn len(&self) -> usize
-        ensures { result ≡ length self.now.regex.names }
+        ensures groups { result ≡ length self.now.regex.names }
+        ensures are { AreGroups self.now.regex self.now.haystack self.now.slots }
     {
         self.compiled.captures_len()
     }

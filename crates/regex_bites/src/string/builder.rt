@@ -16,6 +16,7 @@ use std::marker::Model;
 /// A contract sees these settings.
 #[derive(Drop)]
 pub struct RegexBuilder {
+    alloc: Global,
     builder: bytes::RegexBuilder,
 }
 
@@ -37,6 +38,7 @@ impl RegexBuilder {
         ensures refused { IfErr result (λ e. e ≡ Error.Memory) }
     {
         Ok(RegexBuilder {
+            alloc,
             builder: bytes::RegexBuilder::new(alloc, pattern)?,
         })
     }
@@ -162,7 +164,7 @@ impl RegexBuilder {
         ensures message { IfErr result (λ e. e ≢ Error.Memory → Refuses self.now e) }
     {
         match self.builder.build() {
-            Ok(regex) => Ok(Regex::from_bytes(regex)),
+            Ok(regex) => Ok(Regex::from_bytes(self.alloc, regex)),
             Err(error) => Err(error),
         }
     }

@@ -4,7 +4,7 @@ ghost use Rattle.std.specs.Prelude.{◌≡◌, ◌≤◌, length, IfOk, IsSome, 
 ghost use Rattle.bites_spec.specs.Slots.{group_in};
 ghost use Rattle.bites_spec.specs.Pieces.{text_at};
 ghost use Rattle.bites_spec.specs.Regex.{slots_at};
-ghost use Rattle.bites_spec.specs.Captured.{captured, excerpt, number_named, FindsGroups};
+ghost use Rattle.bites_spec.specs.Captured.{AreGroups, captured, excerpt, number_named, FindsGroups};
 
 use crate::string::{Match, Regex};
 use bites_bytes::bytes;
@@ -41,9 +41,10 @@ impl<'h> Captures<'h> {
     ghost use Rattle.std.specs.Prelude.{string_bytes};
     ghost use Rattle.bites_spec.specs.Expansion.{text_in};
     ghost use Rattle.bites_spec.specs.Refused.{AppendsUntilRefused};
+    ghost use Rattle.bites_spec.specs.Replaced.{span_in};
     ghost use Rattle.bites_spec.specs.Replacer.{answer_text, expanded};
     ghost use Rattle.regex_bites.specs.Matched.{excerpt_of};
-    ghost use Rattle.regex_bites.specs.Borders.{AreGroupsOf};
+    ghost use Rattle.regex_bites.specs.Borders.{AreGroupsOf, IsPart};
 
     // The groups in the text whose bytes were searched.
     pub(super) fn of(haystack: &'h str, captures: bytes::Captures<'h>) -> Captures<'h>
@@ -60,6 +61,15 @@ impl<'h> Captures<'h> {
     {
         let found = self.captures.get(group);
         Match::of_found(self.haystack, found)
+    }
+
+    // The match.
+    pub(super) fn whole(&self) -> Match<'h>
+        ensures span { excerpt_of result ≡ excerpt self.now.haystack (span_in self.now) }
+        ensures part { IsPart self.now.haystack (excerpt_of result) }
+    {
+        self.len();
+        self.get(0).unwrap()
     }
 
     /// Where the group of this name took part; None if it took no part, and if no group has the name.
@@ -98,8 +108,12 @@ impl<'h> Captures<'h> {
     }
 
     /// The number of groups, group 0 counted.
+    ///
+    /// Its contract also says what the groups of a match always are: group 0 took part, and each that did lies in the
+    /// haystack. A caller whose proof needs that calls it.
     pub fn len(&self) -> usize
-        ensures { result ≡ length self.now.regex.names }
+        ensures groups { result ≡ length self.now.regex.names }
+        ensures are { AreGroups self.now.regex self.now.haystack self.now.slots }
     {
         self.captures.len()
     }
