@@ -6,3 +6,4 @@
 
 pub mod bytes;
 pub mod limit;
+pub mod shown;

@@ -1,6 +1,6 @@
 //! The groups of a match.
 
-ghost use Rattle.std.specs.Prelude.{◌≡◌, ◌+◌, length, map, take, drop, IfOk, IsSome, Some, option_map, option_and_then};
+ghost use Rattle.std.specs.Prelude.{◌≡◌, ◌+◌, ◌/◌, length, map, take, drop, IfOk, IsSome, Some, option_map, option_and_then};
 ghost use Rattle.bites_spec.specs.Measure.{static_captures_len};
 ghost use Rattle.bites_spec.specs.Slots.{group_in, taking_part};
 ghost use Rattle.bites_spec.specs.Counts.{fit_of};
@@ -10,6 +10,7 @@ ghost use Rattle.bites_spec.specs.Captured.{AreGroups, captured, excerpt, number
 
 use crate::bytes::regex::Compiled;
 use crate::bytes::{Cache, CaptureLocations, CaptureNames, Match, Regex, SubCaptureMatches};
+use crate::shown::{Key, Part};
 use bites_machine::interpolate;
 use std::alloc::AllocError;
 use std::fmt;
@@ -150,6 +151,7 @@ impl<'h> Captures<'h> {
     /// haystack. A caller whose proof needs that calls it.
     pub fn len(&self) -> usize
         ensures groups { result ≡ length self.now.regex.names }
+        ensures slots { result ≡ length self.now.slots / 2 }
         ensures are { AreGroups self.now.regex self.now.haystack self.now.slots }
     {
         self.compiled.captures_len()
@@ -197,42 +199,6 @@ impl<'h> Captures<'h> {
     }
 }
 
-/// A group's number, and its name if it has one.
-#[derive(Clone, Copy)]
-struct Key<'n> {
-    number: usize,
-    name: Option<&'n str>,
-}
-
-impl<'n> fmt::Debug for Key<'n> {
-    fn fmt<W: fmt::Write>(&self, f: &mut fmt::Formatter<W>) -> fmt::Result {
-        write!(f, "{}", self.number)?;
-        match self.name {
-            Some(name) => write!(f, "/{:?}", name),
-            None => Ok(()),
-        }
-    }
-}
-
-/// Where a group took part, and its bytes.
-#[derive(Clone, Copy)]
-struct Part<'h>(Option<Match<'h>>);
-
-impl<'h> fmt::Debug for Part<'h> {
-    fn fmt<W: fmt::Write>(&self, f: &mut fmt::Formatter<W>) -> fmt::Result {
-        match self.0 {
-            Some(found) => write!(
-                f,
-                "{}..{}/{:?}",
-                found.start(),
-                found.end(),
-                found.as_bytes()
-            ),
-            None => f.write_str("None"),
-        }
-    }
-}
-
 /// The groups by their numbers and names.
 #[derive(Clone, Copy)]
 struct Groups<'c, 'h>(&'c Captures<'h>);
@@ -242,7 +208,7 @@ impl<'c, 'h> fmt::Debug for Groups<'c, 'h> {
         let captures = self.0;
         let mut map = f.debug_map();
         for (number, name) in captures.capture_names().enumerate() {
-            map.entry(&Key { number, name }, &Part(captures.get(number)));
+            map.entry(&Key { number, name }, &captures.shown(number));
         }
         map.finish()
     }
@@ -251,6 +217,16 @@ impl<'c, 'h> fmt::Debug for Groups<'c, 'h> {
 impl<'h> fmt::Debug for Captures<'h> {
     fn fmt<W: fmt::Write>(&self, f: &mut fmt::Formatter<W>) -> fmt::Result {
         f.debug_tuple("Captures").field(&Groups(self)).finish()
+    }
+}
+
+impl<'h> Captures<'h> {
+    // Where a group took part, and its bytes.
+    fn shown(&self, group: usize) -> Part<&'h [u8]> {
+        match self.get(group) {
+            Some(found) => Part(Some((found.start(), found.end(), found.as_bytes()))),
+            None => Part(None),
+        }
     }
 }
 

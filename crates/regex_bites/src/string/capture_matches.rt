@@ -71,6 +71,13 @@ impl<'r, 'h> CaptureMatches<'r, 'h> {
         }
         self.step()
     }
+
+    /// The number of matches that are left, which is 0 after a refusal. It searches for each of them, and takes no memory.
+    pub fn count(self) -> usize
+        ensures { result ≡ length (captures_left self.entry) }
+    {
+        self.matches.count()
+    }
 }
 
 impl<'r, 'h> Iterator for CaptureMatches<'r, 'h> {

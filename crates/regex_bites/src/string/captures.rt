@@ -1,15 +1,18 @@
 //! The groups of a match in a text.
 
-ghost use Rattle.std.specs.Prelude.{◌≡◌, ◌≤◌, length, IfOk, IsSome, Some, option_map, option_and_then, IsCharBoundary};
-ghost use Rattle.bites_spec.specs.Slots.{group_in};
+ghost use Rattle.std.specs.Prelude.{◌≡◌, ◌≤◌, ◌+◌, ◌/◌, length, map, take, drop, IfOk, IsSome, Some, option_map, option_and_then, IsCharBoundary};
+ghost use Rattle.bites_spec.specs.Measure.{static_captures_len};
+ghost use Rattle.bites_spec.specs.Slots.{group_in, taking_part};
 ghost use Rattle.bites_spec.specs.Pieces.{text_at};
 ghost use Rattle.bites_spec.specs.Regex.{slots_at};
 ghost use Rattle.bites_spec.specs.Captured.{AreGroups, captured, excerpt, number_named, FindsGroups};
 
 use crate::string::{Match, Regex};
 use bites_bytes::bytes;
+use bites_bytes::shown::{Key, Part};
 use bites_machine::interpolate;
 use std::alloc::AllocError;
+use std::fmt;
 use std::marker::Model;
 
 /// The groups of a match: where each of them took part. Each begins and ends at the border of a character.
@@ -113,6 +116,7 @@ impl<'h> Captures<'h> {
     /// haystack. A caller whose proof needs that calls it.
     pub fn len(&self) -> usize
         ensures groups { result ≡ length self.now.regex.names }
+        ensures slots { result ≡ length self.now.slots / 2 }
         ensures are { AreGroups self.now.regex self.now.haystack self.now.slots }
     {
         self.captures.len()
@@ -133,6 +137,59 @@ impl<'h> Captures<'h> {
             (option_and_then (group_in self.now.slots) (number_named self.now.regex.names name.now)) }
     {
         self.name(name).unwrap().as_str()
+    }
+
+    /// The text of the match; `parts` gets those of the first groups behind group 0 that took part, in the order of their
+    /// numbers, as many as it has places.
+    ///
+    /// So many take part in every match where [`Regex::static_captures_len`] is one more than that: for `(?:(a)|(b))+`, where
+    /// it is `Some(2)`, one part is `a` on `ab`. It takes no memory.
+    pub fn extract(&self, parts: &mut [&'h str]) -> &'h str
+        requires { static_captures_len self.now.regex.tree ≡ Some (length parts.old + 1) }
+        ensures whole { Some result.now ≡ option_map (text_at self.now.haystack) (group_in self.now.slots 0) }
+        ensures parts { map (λ text. text.now) parts.new
+            ≡ map (text_at self.now.haystack) (take (length parts.old) (drop 1 (taking_part self.now.slots))) }
+    {
+        let mut filled = 0;
+        for group in 1..self.len() {
+            if filled == parts.len() {
+                break;
+            }
+            if let Some(text) = self.text_of(group) {
+                parts[filled] = text;
+                filled += 1;
+            }
+        }
+        self.part(0)
+    }
+
+    // Where a group took part, and its text.
+    fn shown(&self, group: usize) -> Part<&'h str> {
+        match self.get(group) {
+            Some(found) => Part(Some((found.start(), found.end(), found.as_str()))),
+            None => Part(None),
+        }
+    }
+}
+
+/// The groups by their numbers and names.
+#[derive(Clone, Copy)]
+struct Groups<'c, 'h>(&'c Captures<'h>);
+
+impl<'c, 'h> fmt::Debug for Groups<'c, 'h> {
+    fn fmt<W: fmt::Write>(&self, f: &mut fmt::Formatter<W>) -> fmt::Result {
+        let captures = self.0;
+        let mut map = f.debug_map();
+        for (number, name) in captures.captures.capture_names().enumerate() {
+            map.entry(&Key { number, name }, &captures.shown(number));
+        }
+        map.finish()
+    }
+}
+
+impl<'h> fmt::Debug for Captures<'h> {
+    fn fmt<W: fmt::Write>(&self, f: &mut fmt::Formatter<W>) -> fmt::Result {
+        f.debug_tuple("Captures").field(&Groups(self)).finish()
     }
 }
 

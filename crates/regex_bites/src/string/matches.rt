@@ -1,6 +1,6 @@
 //! The successive matches in a text.
 
-ghost use Rattle.std.specs.Prelude.{◌≡◌, ◌≤◌, IfOk, IfSome, length, None, map};
+ghost use Rattle.std.specs.Prelude.{◌≡◌, ◌≤◌, ◌^◌, IfOk, IfSome, length, None, map};
 ghost use Rattle.bites_spec.specs.Regex.{IsCompiled};
 ghost use Rattle.bites_spec.specs.Captured.{excerpt};
 ghost use Rattle.bites_spec.specs.Iteration.{spans_in};
@@ -72,6 +72,14 @@ impl<'r, 'h> Matches<'r, 'h> {
             return None;
         }
         self.step()
+    }
+
+    /// The number of matches that are left. It searches for each of them, and takes no memory.
+    pub fn count(self) -> usize
+        ensures left { result ≡ length (matches_left self.entry) }
+        ensures bound { result ≤ 2 ^ 63 }
+    {
+        self.matches.count()
     }
 }
 

@@ -142,3 +142,9 @@ impl fmt::Display for Regex {
         f.write_str(self.as_str())
     }
 }
+
+impl fmt::Debug for Regex {
+    fn fmt<W: fmt::Write>(&self, f: &mut fmt::Formatter<W>) -> fmt::Result {
+        f.debug_tuple("Regex").field(&self.as_str()).finish()
+    }
+}
