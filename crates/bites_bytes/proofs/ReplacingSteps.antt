@@ -110,15 +110,15 @@ module _ (s t : Replacing) (there : Bool) (spends : Spends s.left there t.left) 
         same = same;
       }
 
-module _ {S : Type 0} (gives : S → Captured → List ℕ → S → Type 0) (answers : S → Option (List ℕ) → S → Type 0)
-    (refuses : S → Captured → S → Type 0) where
+module _ {S C : Type 0} (gives : S → C → List ℕ → S → Type 0) (answers : S → Option (List ℕ) → S → Type 0)
+    (refuses : S → C → S → Type 0) where
   -- no call
-  pub front_none : (s : S) (cs : List Captured) → GaveFront gives answers refuses s cs s
+  pub front_none : (s : S) (cs : List C) → GaveFront gives answers refuses s cs s
   front_none s [] = refl
   front_none s (c ∷ cs) = inl refl
 
   -- a call that was refused
-  pub front_refused : (s t : S) (c : Captured) (rest cs : List Captured) → cs ≡ c ∷ rest → refuses s c t → GaveFront gives answers refuses s cs t
+  pub front_refused : (s t : S) (c : C) (rest cs : List C) → cs ≡ c ∷ rest → refuses s c t → GaveFront gives answers refuses s cs t
   front_refused s t c rest cs e h = subst (λ l. GaveFront gives answers refuses s l t) (sym e) (inr (inl h))
 
 -- what holds anyhow holds of an error

@@ -5,3 +5,5 @@
 #![tactic(auto)]
 
 pub mod bytes;
+pub mod limit;
+pub mod shown;

@@ -1,2 +1,4 @@
 pub mod BorderLemmas
 pub mod SplitLemmas
+pub mod ReplacingLemmas
+pub mod CountLemmas

@@ -5,3 +5,5 @@ pub mod Groups
 pub mod Matches
 pub mod CapturesLeft
 pub mod Split
+pub mod Replacing
+pub mod Replaced

@@ -13,6 +13,6 @@ pub use bites_syntax::{parse, tree};
 pub use bites_text::error::Error;
 pub use bites_text::{error, utf8};
 pub use string::{
-    Cache, CaptureLocations, CaptureMatches, CaptureNames, Captures, Match, Matches, Regex,
-    RegexBuilder, Split, SplitN, SubCaptureMatches,
+    Cache, CaptureLocations, CaptureMatches, CaptureNames, Captures, Match, Matches, NoExpand,
+    Regex, RegexBuilder, Replacer, ReplacerRef, Split, SplitN, SubCaptureMatches, With,
 };

@@ -1,6 +1,6 @@
 //! The groups of a match.
 
-ghost use Rattle.std.specs.Prelude.{◌≡◌, ◌+◌, length, map, take, drop, IfOk, IsSome, Some, option_map, option_and_then};
+ghost use Rattle.std.specs.Prelude.{◌≡◌, ◌+◌, ◌/◌, length, map, take, drop, IfOk, IsSome, Some, option_map, option_and_then};
 ghost use Rattle.bites_spec.specs.Measure.{static_captures_len};
 ghost use Rattle.bites_spec.specs.Slots.{group_in, taking_part};
 ghost use Rattle.bites_spec.specs.Counts.{fit_of};
@@ -10,6 +10,7 @@ ghost use Rattle.bites_spec.specs.Captured.{AreGroups, captured, excerpt, FindsG
 
 use crate::bytes::regex::Compiled;
 use crate::bytes::{Cache, CaptureLocations, CaptureNames, Match, Regex, SubCaptureMatches};
+use crate::shown::{Key, Part};
 use bites_machine::interpolate;
 use std::alloc::AllocError;
 use std::fmt;
@@ -99,10 +100,24 @@ impl<'h> Captures<'h> {
         ensures { option_map excerpt_of result ≡ option_map (excerpt self.now.haystack)
             (option_and_then (group_in self.now.slots) (index_in self.now.regex.names name.now)) }
     {
-        match self.compiled.number_named(name) {
+        match self.number_named(name) {
             Some(group) => self.get(group),
             None => None,
         }
+    }
+
+    /// The number of the first group of this name; None if no group has it.
+    pub fn number_named(&self, name: &str) -> Option<usize>
+        ensures { result ≡ index_in self.now.regex.names name.now }
+    {
+        self.compiled.number_named(name)
+    }
+
+    /// The name of each group, if it has one, from group 0 on, which has none.
+    pub fn capture_names(&self) -> CaptureNames<'_>
+        ensures { result ≡ self.now.regex.names }
+    {
+        CaptureNames::new(self.compiled.program())
     }
 
     // The bytes of the group of this number, if it took part.
@@ -125,14 +140,19 @@ impl<'h> Captures<'h> {
         interpolate::bytes(
             template,
             |group: usize| self.text_of(group),
-            |name: &str| self.compiled.number_named(name),
+            |name: &str| self.number_named(name),
             dst,
         )
     }
 
     /// The number of groups, group 0 counted.
+    ///
+    /// Its contract also says what the groups of a match always are: group 0 took part, and each that did lies in the
+    /// haystack. A caller whose proof needs that calls it.
     pub fn len(&self) -> usize
-        ensures { result ≡ length self.now.regex.names }
+        ensures groups { result ≡ length self.now.regex.names }
+        ensures slots { result ≡ length self.now.slots / 2 }
+        ensures are { AreGroups self.now.regex self.now.haystack self.now.slots }
     {
         self.compiled.captures_len()
     }
@@ -179,42 +199,6 @@ impl<'h> Captures<'h> {
     }
 }
 
-/// A group's number, and its name if it has one.
-#[derive(Clone, Copy)]
-struct Key<'n> {
-    number: usize,
-    name: Option<&'n str>,
-}
-
-impl<'n> fmt::Debug for Key<'n> {
-    fn fmt<W: fmt::Write>(&self, f: &mut fmt::Formatter<W>) -> fmt::Result {
-        write!(f, "{}", self.number)?;
-        match self.name {
-            Some(name) => write!(f, "/{:?}", name),
-            None => Ok(()),
-        }
-    }
-}
-
-/// Where a group took part, and its bytes.
-#[derive(Clone, Copy)]
-struct Part<'h>(Option<Match<'h>>);
-
-impl<'h> fmt::Debug for Part<'h> {
-    fn fmt<W: fmt::Write>(&self, f: &mut fmt::Formatter<W>) -> fmt::Result {
-        match self.0 {
-            Some(found) => write!(
-                f,
-                "{}..{}/{:?}",
-                found.start(),
-                found.end(),
-                found.as_bytes()
-            ),
-            None => f.write_str("None"),
-        }
-    }
-}
-
 /// The groups by their numbers and names.
 #[derive(Clone, Copy)]
 struct Groups<'c, 'h>(&'c Captures<'h>);
@@ -222,10 +206,9 @@ struct Groups<'c, 'h>(&'c Captures<'h>);
 impl<'c, 'h> fmt::Debug for Groups<'c, 'h> {
     fn fmt<W: fmt::Write>(&self, f: &mut fmt::Formatter<W>) -> fmt::Result {
         let captures = self.0;
-        let names = CaptureNames::new(captures.compiled.program());
         let mut map = f.debug_map();
-        for (number, name) in names.enumerate() {
-            map.entry(&Key { number, name }, &Part(captures.get(number)));
+        for (number, name) in captures.capture_names().enumerate() {
+            map.entry(&Key { number, name }, &captures.shown(number));
         }
         map.finish()
     }
@@ -234,6 +217,16 @@ impl<'c, 'h> fmt::Debug for Groups<'c, 'h> {
 impl<'h> fmt::Debug for Captures<'h> {
     fn fmt<W: fmt::Write>(&self, f: &mut fmt::Formatter<W>) -> fmt::Result {
         f.debug_tuple("Captures").field(&Groups(self)).finish()
+    }
+}
+
+impl<'h> Captures<'h> {
+    // Where a group took part, and its bytes.
+    fn shown(&self, group: usize) -> Part<&'h [u8]> {
+        match self.get(group) {
+            Some(found) => Part(Some((found.start(), found.end(), found.as_bytes()))),
+            None => Part(None),
+        }
     }
 }
 

@@ -1,6 +1,6 @@
 //! A compiled regular expression and its searches.
 
-ghost use Rattle.std.specs.Prelude.{◌≡◌, ◌≢◌, ◌<◌, ◌^◌, false, IfOk, IfErr, length};
+ghost use Rattle.std.specs.Prelude.{◌≡◌, ◌≢◌, ◌<◌, ◌/◌, ◌^◌, false, IfOk, IfErr, length};
 ghost use Rattle.bites_spec.specs.Tree.{Tree, captures_len};
 ghost use Rattle.bites_spec.specs.Measure.{groups_left, static_captures_len};
 ghost use Rattle.bites_spec.specs.Regex.{IsCompiled, NamesAreKept};
@@ -78,6 +78,7 @@ impl Compiled {
 
     pub(super) fn captures_len(&self) -> usize
         ensures groups { result ≡ length self.now.names }
+        ensures slots { result ≡ self.now.program.slots / 2 }
         ensures left { self.now.keep_dropped_groups ≡ false → result ≡ captures_len self.now.tree }
         ensures kept { NamesAreKept self.now }
     {

@@ -5,9 +5,10 @@ ghost use Rattle.std.specs.Cow.{cow_slice_items, IsBorrowedSlice};
 ghost use Rattle.bites_spec.specs.Iteration.{captures_in};
 ghost use Rattle.bites_bytes.specs.Matches.{regex_of_matches, last_of_matches};
 ghost use Rattle.bites_spec.specs.Replaced.{ReplacesIn, GivesUpIn};
-ghost use Rattle.bites_bytes.specs.Limit.{Spends, bound};
+ghost use Rattle.bites_bytes.specs.Limit.{bound};
 
 use crate::bytes::{CaptureLocations, Captures, Matches, Regex, Replacer};
+use crate::limit::{bound, spend};
 use std::alloc::AllocError;
 use std::borrow::CowSlice;
 
@@ -39,10 +40,9 @@ impl<'r, 'h> Replacing<'r, 'h> {
         ensures left { IfOk result (λ s. s.left ≡ bound limit) }
         ensures out { IfOk result (λ s. s.out.items ≡ []) }
     {
-        let left = if limit == 0 { None } else { Some(limit) };
         Ok(Replacing {
             matches: Matches::new(regex, haystack)?,
-            left,
+            left: bound(limit),
             out: Vec::new(regex.alloc()),
         })
     }
@@ -211,19 +211,5 @@ impl Regex {
         ensures borrowed { IfOk result (λ bytes. IsBorrowedSlice bytes ↔ captures_in self.now haystack.now ≡ []) }
     {
         self.replace_by(haystack, limit, &mut replacer)
-    }
-}
-
-// Takes one from what is left, if there is one.
-fn spend(left: &mut Option<usize>) -> bool
-    ensures { Spends left.old result left.new }
-{
-    match *left {
-        None => true,
-        Some(0) => false,
-        Some(number) => {
-            *left = Some(number - 1);
-            true
-        }
     }
 }

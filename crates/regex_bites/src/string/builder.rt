@@ -16,6 +16,7 @@ use std::marker::Model;
 /// A contract sees these settings.
 #[derive(Drop)]
 pub struct RegexBuilder {
+    alloc: Global,
     builder: bytes::RegexBuilder,
 }
 
@@ -37,6 +38,7 @@ impl RegexBuilder {
         ensures refused { IfErr result (λ e. e ≡ Error.Memory) }
     {
         Ok(RegexBuilder {
+            alloc,
             builder: bytes::RegexBuilder::new(alloc, pattern)?,
         })
     }
@@ -161,6 +163,7 @@ impl RegexBuilder {
             Accepts self.now t → ⊥) }
         ensures message { IfErr result (λ e. e ≢ Error.Memory → Refuses self.now e) }
     {
-        self.builder.build().map(Regex::from_bytes)
+        let regex = self.builder.build()?;
+        Ok(Regex::from_bytes(self.alloc, regex))
     }
 }

@@ -1,14 +1,17 @@
 //! The groups of the successive matches in a text.
 
-ghost use Rattle.std.specs.Prelude.{◌≡◌, ◌≤◌, IfOk, IfSome, length, None};
+ghost use Rattle.std.specs.Prelude.{◌≡◌, ◌≤◌, IfOk, IfSome, length, None, map};
 ghost use Rattle.bites_spec.specs.Iteration.{captures_in};
 ghost use Rattle.bites_bytes.specs.CapturesLeft as over_bytes;
 ghost use Rattle.std.specs.List.{AllByRecursion};
 ghost use Rattle.std.proofs.Props.{props};
+ghost use Rattle.bites_spec.specs.Replaced.{span_in};
 ghost use Rattle.regex_bites.specs.Borders.{AreGroupsOf};
+ghost use Rattle.regex_bites.specs.Order.{BeginFrom};
 
 use crate::string::{Captures, Regex};
 use bites_bytes::bytes;
+use bites_bytes::limit::spend;
 use std::alloc::AllocError;
 use std::iter::FusedIterator;
 
@@ -20,6 +23,61 @@ pub struct CaptureMatches<'r, 'h> {
     matches: bytes::CaptureMatches<'r, 'h>,
     haystack: &'h str,
     pub ghost groups: { AllByRecursion (AreGroupsOf haystack.now) (over_bytes.captures_left matches) } by { Prim.hlevel props },
+}
+
+impl<'r, 'h> CaptureMatches<'r, 'h> {
+    ghost use Rattle.bites_spec.specs.Refused.{YieldsUntilRefused};
+    ghost use Rattle.bites_bytes.specs.Limit.{taken};
+    ghost use Rattle.regex_bites.specs.CapturesLeft.{captures_left, haystack_of_captures};
+    ghost use Rattle.regex_bites.specs.Replacing.{TakesUntilRefused};
+
+    pub(super) fn new(
+        regex: &'r Regex,
+        haystack: &'h str,
+    ) -> Result<CaptureMatches<'r, 'h>, AllocError>
+        ensures left { IfOk result (λ m. captures_left m ≡ captures_in regex.now haystack.now) }
+        ensures haystack { IfOk result (λ m. haystack_of_captures m ≡ haystack.now) }
+        ensures in_order { IfOk result (λ m. BeginFrom 0 (map span_in (captures_left m))) }
+    {
+        let regex = regex.over_bytes();
+        let matches = regex.captures_iter(haystack.as_bytes())?;
+        Ok(CaptureMatches { matches, haystack })
+    }
+
+    // The groups of the next match, or a refusal.
+    fn step(&mut self) -> Option<Result<Captures<'h>, AllocError>>
+        ensures steps { YieldsUntilRefused (λ c. c) captures_left self.old result self.new }
+        ensures same { haystack_of_captures self.new ≡ haystack_of_captures self.old }
+    {
+        match self.matches.next() {
+            Some(Ok(captures)) => Some(Ok(Captures::of(self.haystack, captures))),
+            Some(Err(refusal)) => Some(Err(refusal)),
+            None => None,
+        }
+    }
+
+    // The same, if one match more is to be replaced.
+    pub(super) fn step_of(
+        &mut self,
+        left: &mut Option<usize>,
+    ) -> Option<Result<Captures<'h>, AllocError>>
+        ensures steps { TakesUntilRefused (taken left.old (captures_left self.old))
+            result (taken left.new (captures_left self.new)) }
+        ensures groups { IfSome result (λ r. IfOk r (AreGroupsOf (haystack_of_captures self.old))) }
+        ensures same { haystack_of_captures self.new ≡ haystack_of_captures self.old }
+    {
+        if !spend(left) {
+            return None;
+        }
+        self.step()
+    }
+
+    /// The number of matches that are left, which is 0 after a refusal. It searches for each of them, and takes no memory.
+    pub fn count(self) -> usize
+        ensures { result ≡ length (captures_left self.entry) }
+    {
+        self.matches.count()
+    }
 }
 
 impl<'r, 'h> Iterator for CaptureMatches<'r, 'h> {
@@ -35,11 +93,7 @@ impl<'r, 'h> Iterator for CaptureMatches<'r, 'h> {
     ghost remaining = { item_count captures_left };
 
     fn next(&mut self) -> Option<Result<Captures<'h>, AllocError>> {
-        match self.matches.next() {
-            Some(Ok(captures)) => Some(Ok(Captures::of(self.haystack, captures))),
-            Some(Err(refusal)) => Some(Err(refusal)),
-            None => None,
-        }
+        self.step()
     }
 
     fn size_hint(&self) -> (usize, Option<usize>)
@@ -63,8 +117,6 @@ impl Regex {
     ) -> Result<CaptureMatches<'r, 'h>, AllocError>
         ensures { IfOk result (λ m. captures_left m ≡ captures_in self.now haystack.now) }
     {
-        let regex = self.over_bytes();
-        let matches = regex.captures_iter(haystack.as_bytes())?;
-        Ok(CaptureMatches { matches, haystack })
+        CaptureMatches::new(self, haystack)
     }
 }

@@ -1,15 +1,19 @@
 //! The groups of a match in a text.
 
-ghost use Rattle.std.specs.Prelude.{◌≡◌, ◌≤◌, length, IfOk, IsSome, Some, option_map, option_and_then, IsCharBoundary};
-ghost use Rattle.bites_spec.specs.Slots.{group_in};
+ghost use Rattle.std.specs.Prelude.{◌≡◌, ◌≤◌, ◌+◌, ◌/◌, length, map, take, drop, IfOk, IsSome, Some, option_map, option_and_then, IsCharBoundary};
+ghost use Rattle.bites_spec.specs.Measure.{static_captures_len};
+ghost use Rattle.bites_spec.specs.Slots.{group_in, taking_part};
 ghost use Rattle.bites_spec.specs.Pieces.{text_at};
 ghost use Rattle.bites_spec.specs.Regex.{slots_at};
-ghost use Rattle.bites_spec.specs.Captured.{captured, excerpt, FindsGroups};
+ghost use Rattle.bites_spec.specs.Captured.{AreGroups, captured, excerpt, FindsGroups};
 ghost use Rattle.bites_spec.specs.Expansion.{index_in};
 
 use crate::string::{Match, Regex};
 use bites_bytes::bytes;
+use bites_bytes::shown::{Key, Part};
+use bites_machine::interpolate;
 use std::alloc::AllocError;
+use std::fmt;
 use std::marker::Model;
 
 /// The groups of a match: where each of them took part. Each begins and ends at the border of a character.
@@ -38,8 +42,13 @@ impl<'h> Model for Captures<'h> {
 }
 
 impl<'h> Captures<'h> {
+    ghost use Rattle.std.specs.Prelude.{string_bytes};
+    ghost use Rattle.bites_spec.specs.Expansion.{text_in};
+    ghost use Rattle.bites_spec.specs.Refused.{AppendsUntilRefused};
+    ghost use Rattle.bites_spec.specs.Replaced.{span_in};
+    ghost use Rattle.bites_spec.specs.Replacer.{answer_text, expanded};
     ghost use Rattle.regex_bites.specs.Matched.{excerpt_of};
-    ghost use Rattle.regex_bites.specs.Borders.{AreGroupsOf};
+    ghost use Rattle.regex_bites.specs.Borders.{AreGroupsOf, IsPart};
 
     // The groups in the text whose bytes were searched.
     pub(super) fn of(haystack: &'h str, captures: bytes::Captures<'h>) -> Captures<'h>
@@ -58,6 +67,15 @@ impl<'h> Captures<'h> {
         Match::of_found(self.haystack, found)
     }
 
+    // The match.
+    pub(super) fn whole(&self) -> Match<'h>
+        ensures span { excerpt_of result ≡ excerpt self.now.haystack (span_in self.now) }
+        ensures part { IsPart self.now.haystack (excerpt_of result) }
+    {
+        self.len();
+        self.get(0).unwrap()
+    }
+
     /// Where the group of this name took part; None if it took no part, and if no group has the name.
     pub fn name(&self, name: &str) -> Option<Match<'h>>
         ensures { option_map excerpt_of result ≡ option_map (excerpt self.now.haystack)
@@ -67,9 +85,40 @@ impl<'h> Captures<'h> {
         Match::of_found(self.haystack, found)
     }
 
+    // The text of the group of this number, if it took part.
+    fn text_of(&self, group: usize) -> Option<&'h str>
+        ensures { answer_text result ≡ text_in self.now.slots self.now.haystack group }
+    {
+        match self.get(group) {
+            Some(found) => Some(found.as_str()),
+            None => None,
+        }
+    }
+
+    /// Appends what a template stands for: `$name` and `${name}` are the text of the group of that name or number, `$$` is
+    /// a `$`, and all else stands for itself.
+    ///
+    /// The error is want of memory; `dst` is then the old text followed by a beginning of what the template stands for.
+    pub fn expand(&self, template: &str, dst: &mut String) -> Result<(), AllocError>
+        ensures { AppendsUntilRefused result (string_bytes dst.old) (string_bytes dst.new)
+            (expanded self.now template.now) }
+    {
+        interpolate::string(
+            template,
+            |group: usize| self.text_of(group),
+            |name: &str| self.captures.number_named(name),
+            dst,
+        )
+    }
+
     /// The number of groups, group 0 counted.
+    ///
+    /// Its contract also says what the groups of a match always are: group 0 took part, and each that did lies in the
+    /// haystack. A caller whose proof needs that calls it.
     pub fn len(&self) -> usize
-        ensures { result ≡ length self.now.regex.names }
+        ensures groups { result ≡ length self.now.regex.names }
+        ensures slots { result ≡ length self.now.slots / 2 }
+        ensures are { AreGroups self.now.regex self.now.haystack self.now.slots }
     {
         self.captures.len()
     }
@@ -89,6 +138,59 @@ impl<'h> Captures<'h> {
             (option_and_then (group_in self.now.slots) (index_in self.now.regex.names name.now)) }
     {
         self.name(name).unwrap().as_str()
+    }
+
+    /// The text of the match; `parts` gets those of the first groups behind group 0 that took part, in the order of their
+    /// numbers, as many as it has places.
+    ///
+    /// So many take part in every match where [`Regex::static_captures_len`] is one more than that: for `(?:(a)|(b))+`, where
+    /// it is `Some(2)`, one part is `a` on `ab`. It takes no memory.
+    pub fn extract(&self, parts: &mut [&'h str]) -> &'h str
+        requires { static_captures_len self.now.regex.tree ≡ Some (length parts.old + 1) }
+        ensures whole { Some result.now ≡ option_map (text_at self.now.haystack) (group_in self.now.slots 0) }
+        ensures parts { map (λ text. text.now) parts.new
+            ≡ map (text_at self.now.haystack) (take (length parts.old) (drop 1 (taking_part self.now.slots))) }
+    {
+        let mut filled = 0;
+        for group in 1..self.len() {
+            if filled == parts.len() {
+                break;
+            }
+            if let Some(text) = self.text_of(group) {
+                parts[filled] = text;
+                filled += 1;
+            }
+        }
+        self.part(0)
+    }
+
+    // Where a group took part, and its text.
+    fn shown(&self, group: usize) -> Part<&'h str> {
+        match self.get(group) {
+            Some(found) => Part(Some((found.start(), found.end(), found.as_str()))),
+            None => Part(None),
+        }
+    }
+}
+
+/// The groups by their numbers and names.
+#[derive(Clone, Copy)]
+struct Groups<'c, 'h>(&'c Captures<'h>);
+
+impl<'c, 'h> fmt::Debug for Groups<'c, 'h> {
+    fn fmt<W: fmt::Write>(&self, f: &mut fmt::Formatter<W>) -> fmt::Result {
+        let captures = self.0;
+        let mut map = f.debug_map();
+        for (number, name) in captures.captures.capture_names().enumerate() {
+            map.entry(&Key { number, name }, &captures.shown(number));
+        }
+        map.finish()
+    }
+}
+
+impl<'h> fmt::Debug for Captures<'h> {
+    fn fmt<W: fmt::Write>(&self, f: &mut fmt::Formatter<W>) -> fmt::Result {
+        f.debug_tuple("Captures").field(&Groups(self)).finish()
     }
 }
 

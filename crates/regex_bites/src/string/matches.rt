@@ -1,6 +1,7 @@
 //! The successive matches in a text.
 
-ghost use Rattle.std.specs.Prelude.{◌≡◌, ◌≤◌, IfOk, IfSome, length, None, map};
+ghost use Rattle.std.specs.Prelude.{◌≡◌, ◌≤◌, ◌^◌, IfOk, IfSome, length, None, map};
+ghost use Rattle.bites_spec.specs.Regex.{IsCompiled};
 ghost use Rattle.bites_spec.specs.Captured.{excerpt};
 ghost use Rattle.bites_spec.specs.Iteration.{spans_in};
 ghost use Rattle.bites_bytes.specs.Matches as over_bytes;
@@ -11,12 +12,13 @@ ghost use Rattle.regex_bites.specs.Order.{BeginFrom};
 
 use crate::string::{Match, Regex};
 use bites_bytes::bytes;
+use bites_bytes::limit::spend;
 use std::alloc::AllocError;
 use std::iter::FusedIterator;
 
 /// The successive matches of a regex in a text, from left to right.
 ///
-/// AllByRecursion search goes on where the match before ended; an empty match there is dropped, and the search goes on one
+/// Each search goes on where the match before ended; an empty match there is dropped, and the search goes on one
 /// character later. No search takes memory.
 #[derive(Drop)]
 pub struct Matches<'r, 'h> {
@@ -28,13 +30,16 @@ pub struct Matches<'r, 'h> {
 impl<'r, 'h> Matches<'r, 'h> {
     ghost use Rattle.std.specs.Iterator.{YieldsFirstBy};
     ghost use Rattle.regex_bites.specs.Matched.{excerpt_of};
+    ghost use Rattle.bites_bytes.specs.Limit.{taken};
     ghost use Rattle.regex_bites.specs.Matches.{matches_left, spans_left, haystack_of_matches};
+    ghost use Rattle.regex_bites.specs.Replacing.{TakesFirst};
 
     pub(super) fn new(regex: &'r Regex, haystack: &'h str) -> Result<Matches<'r, 'h>, AllocError>
         ensures left { IfOk result (λ m. matches_left m
             ≡ map (excerpt haystack.now) (spans_in regex.now haystack.now)) }
         ensures haystack { IfOk result (λ m. haystack_of_matches m ≡ haystack.now) }
         ensures in_order { IfOk result (λ m. BeginFrom 0 (spans_left m)) }
+        ensures compiled { IsCompiled regex.now }
     {
         let regex = regex.over_bytes();
         let matches = regex.find_iter(haystack.as_bytes())?;
@@ -54,6 +59,27 @@ impl<'r, 'h> Matches<'r, 'h> {
     {
         let found = self.matches.next();
         Match::of_found(self.haystack, found)
+    }
+
+    // The next match, if one more is to be replaced.
+    pub(super) fn step_of(&mut self, left: &mut Option<usize>) -> Option<Match<'h>>
+        ensures steps { TakesFirst excerpt_of (taken left.old (matches_left self.old))
+            result (taken left.new (matches_left self.new)) }
+        ensures part { IfSome result (λ m. IsPart (haystack_of_matches self.old) (excerpt_of m)) }
+        ensures same { haystack_of_matches self.new ≡ haystack_of_matches self.old }
+    {
+        if !spend(left) {
+            return None;
+        }
+        self.step()
+    }
+
+    /// The number of matches that are left. It searches for each of them, and takes no memory.
+    pub fn count(self) -> usize
+        ensures left { result ≡ length (matches_left self.entry) }
+        ensures bound { result ≤ 2 ^ 63 }
+    {
+        self.matches.count()
     }
 }
 

@@ -21,6 +21,7 @@ use std::marker::Model;
 /// the program.
 #[derive(Drop)]
 pub struct Regex {
+    alloc: Global,
     regex: bytes::Regex,
 }
 
@@ -56,11 +57,15 @@ impl Regex {
     }
 
     // The regex over texts with this pattern and program. The contract of `as_str` says that it is compiled.
-    pub(super) fn from_bytes(regex: bytes::Regex) -> Regex
+    pub(super) fn from_bytes(alloc: Global, regex: bytes::Regex) -> Regex
         ensures { result ≡ regex }
     {
         regex.as_str();
-        Regex { regex }
+        Regex { alloc, regex }
+    }
+
+    pub(super) fn alloc(&self) -> Global {
+        self.alloc
     }
 
     // The regex over bytes.
@@ -122,6 +127,7 @@ impl Clone for Regex {
     /// A regex that shares the program. The error is want of memory, where the count of sharers is full.
     fn clone(&self) -> Result<Regex, AllocError> {
         Ok(Regex {
+            alloc: self.alloc,
             regex: self.regex.clone()?,
         })
     }
@@ -134,5 +140,11 @@ impl fmt::Display for Regex {
 
     fn fmt<W: fmt::Write>(&self, f: &mut fmt::Formatter<W>) -> fmt::Result {
         f.write_str(self.as_str())
+    }
+}
+
+impl fmt::Debug for Regex {
+    fn fmt<W: fmt::Write>(&self, f: &mut fmt::Formatter<W>) -> fmt::Result {
+        f.debug_tuple("Regex").field(&self.as_str()).finish()
     }
 }

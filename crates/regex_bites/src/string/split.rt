@@ -72,6 +72,16 @@ impl<'r, 'h> Split<'r, 'h> {
         let haystack = self.matches.haystack();
         Some(&haystack[self.begin..haystack.len()])
     }
+
+    /// The number of pieces that are left. It searches for each match that is left, and takes no memory.
+    pub fn count(self) -> usize
+        ensures { result ≡ length (pieces_left self.entry) }
+    {
+        if self.done {
+            return 0;
+        }
+        self.matches.count() + 1
+    }
 }
 
 impl<'r, 'h> Iterator for Split<'r, 'h> {
@@ -125,6 +135,18 @@ impl<'r, 'h> SplitN<'r, 'h> {
         } else {
             self.split.step()
         }
+    }
+
+    /// The number of pieces that are left. It searches for the matches between them, and takes no memory.
+    pub fn count(mut self) -> usize
+        ensures { result ≡ length (limited_left self.entry) }
+    {
+        let limit = self.left;
+        let mut number = 0;
+        while number < limit && self.step().is_some() {
+            number += 1;
+        }
+        number
     }
 }
 

@@ -4,5 +4,5 @@ use Rattle.bites_bytes.proofs.bytes.groups.SubCaptureMatchesExactSizeIterator.le
 
 pub returns-clause-value : goal.returns-clause-value
 returns-clause-value c =
-    c.saturating_sub.ensures ∙ ap (λ n. n - c.args.self.now.next) c.len.ensures
+    c.saturating_sub.ensures ∙ ap (λ n. n - c.args.self.now.next) c.len.ensures.groups
     ∙ sym (length-map-range_with_len _ c.args.self.now.next _)

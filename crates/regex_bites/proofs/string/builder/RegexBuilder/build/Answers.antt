@@ -1,16 +1,16 @@
 use Rattle.std.proofs.Common.{◌≡◌, Result, Ok, Err, IfErr, subst, sym}
-use Rattle.std.specs.Prelude.{IsOkAnd, MatchResult}
+use Rattle.std.specs.Prelude.{IsErrAnd}
 use Rattle.regex_bites.proofs.string.builder.RegexBuilder.build.Goals as goal
 
--- what holds of an error holds where a value in its place is mapped
-mapped : {A B E : Type 0} (r : Result A E) (q : Result B E) (F : A → B → Type 0) (P : E → Type 0) →
-    MatchResult r (λ a. IsOkAnd q (F a)) (λ e. q ≡ Err e) → IfErr r P → IfErr q P
-mapped (Ok a) (Ok b) F P is holds = tt
-mapped (Ok a) (Err e) F P is holds = absurd is
-mapped (Err e) q F P is holds = subst (λ z. IfErr z P) (sym is) holds
+-- what holds of an error holds of the result that hands it on
+handed_on : {B E : Type 0} (r : Result B E) (e : E) (P : E → Type 0) → IsErrAnd r (λ f. f ≡ e) → P e → IfErr r P
+handed_on (Err f) e P same holds = subst P (sym same) holds
+handed_on (Ok b) e P same holds = absurd same
 
-pub returns-clause-refused : goal.returns-clause-refused
-returns-clause-refused c = rw (← c.self.view_is) (mapped c.build.result c.map.result _ _ c.map.ensures.cases c.build.ensures.refused)
+pub returns-in_err-regex-clause-refused : goal.returns-in_err-regex-clause-refused
+returns-in_err-regex-clause-refused c =
+    rw (← c.self.view_is) (handed_on c.from_residual.result c.in_err-regex.field-0.0 _ c.from_residual.ensures.1 c.in_err-regex.ensures.refused)
 
-pub returns-clause-message : goal.returns-clause-message
-returns-clause-message c = rw (← c.self.view_is) (mapped c.build.result c.map.result _ _ c.map.ensures.cases c.build.ensures.message)
+pub returns-in_err-regex-clause-message : goal.returns-in_err-regex-clause-message
+returns-in_err-regex-clause-message c =
+    rw (← c.self.view_is) (handed_on c.from_residual.result c.in_err-regex.field-0.0 _ c.from_residual.ensures.1 c.in_err-regex.ensures.message)

@@ -1,0 +1,79 @@
+use Rattle.std.proofs.Common.{◌≡◌, ◌<◌, ◌∷◌, ◌++◌, ◌∙◌, map, length, drop, refl, sym, ap, subst, string_bytes}
+use Rattle.std.specs.Prelude.{slice_range, unwrap_or, MatchResult}
+use Rattle.bites_spec.specs.Pieces.{limited, replaced_from}
+use Rattle.bites_spec.specs.Iteration.{captures_in}
+use Rattle.bites_spec.specs.Replaced.{span_in}
+use Rattle.bites_bytes.specs.Limit.{taken}
+use Rattle.bites_bytes.proofs.ReplacingLemmas.{taken_limited, limited_map}
+use Rattle.bites_bytes.proofs.ReplacingSteps.{front_none, on_err}
+use Rattle.bites_bytes.proofs.ReplacedLemmas.{if_ok, limited_none}
+use Rattle.regex_bites.specs.CapturesLeft.{captures_left}
+use Rattle.regex_bites.specs.Order.{BeginFrom}
+use Rattle.regex_bites.proofs.ReplacingLemmas.{IsOn, on_start, on_step, on_end, on_borrows, served_start, served_step, begin_limited}
+use Rattle.regex_bites.proofs.string.regex.Regex.replace_each.Goals as goal
+
+pub returns-in_err-matches-clause-refused : goal.returns-in_err-matches-clause-refused
+returns-in_err-matches-clause-refused g c =
+    let R = g.R.Replacer in
+    on_err c.from_residual.result _
+    (front_none R.replaces R.answers R.refuses c.args.replacer.now (limited c.args.limit (captures_in c.args.self.now c.args.haystack.now)))
+
+pub loop-captures-init : goal.loop-captures-init
+loop-captures-init g c =
+    let R = g.R.Replacer in let hay = c.args.haystack.now in let n = c.args.limit in let e = c.in_ok-matches.ensures in
+    let m = c.in_ok-matches.matches in let cs = captures_in c.args.self.now hay in
+    let s = c.new-replacing.result in let begun = c.new-replacing.ensures in let r = c.args.replacer.now in
+    let rest : taken c.bound-left.result (captures_left m) ≡ limited n cs =
+    ap (λ o. taken o (captures_left m)) c.bound-left.ensures ∙ taken_limited n (captures_left m) ∙ ap (limited n) e.left in
+    record {
+      on =
+          subst (λ l. IsOn R.replaces R.answers span_in hay (limited n cs) r (string_bytes s.out) s.last l r) (sym rest)
+          (on_start R.replaces R.answers span_in hay (limited n cs) r (string_bytes s.out) s.last begun.out begun.last
+          (begin_limited span_in n cs (subst (λ ds. BeginFrom 0 (map span_in ds)) e.left e.in_order)));
+      served = served_start R.replaces R.answers (limited n cs) r R.refuses (taken c.bound-left.result (captures_left m)) rest;
+      haystack = begun.haystack;
+      same = e.haystack;
+    }
+
+pub loop-captures-preserved : goal.loop-captures-preserved
+loop-captures-preserved g c =
+    let R = g.R.Replacer in let hay = c.args.haystack.now in let all = limited c.args.limit (captures_in c.args.self.now hay) in
+    let l = c.loop-captures in let s = l.replacing in let on = l.invariant in let t = c.by-in-Some.new.self in
+    let d = c.in_ok-captures.field-0 in let r = c.args.replacer.now in
+    let cs = taken l.left (captures_left l.matches) in let rest = taken c.step_of.new.left (captures_left c.step_of.new.self) in
+    let steps : cs ≡ d ∷ rest =
+    subst (λ x. MatchResult x (λ y. cs ≡ y ∷ rest) (λ e. 0 < length cs)) c.in_ok-captures.was c.in-Some.ensures.steps in
+    let gave = c.in_ok-by.ensures.gives in let e = gave.2 in
+    record {
+      on =
+          on_step R.replaces R.answers span_in hay all r (string_bytes s.out) s.last d rest l.replacer
+          (subst (λ ds. IsOn R.replaces R.answers span_in hay all r (string_bytes s.out) s.last ds l.replacer) steps on.on)
+          gave.0 c.by-in-Some.new.replacer gave.1 (string_bytes t.out) t.last
+          (e.2 ∙ ap (λ h. (string_bytes s.out ++ slice_range h (unwrap_or s.last 0) (span_in d).start) ++ gave.0) on.haystack) e.1;
+      served = served_step R.replaces R.answers all r R.refuses d rest cs l.replacer on.served steps gave.0 c.by-in-Some.new.replacer gave.1;
+      haystack = e.0 ∙ on.haystack;
+      same = c.in-Some.ensures.same ∙ on.same;
+    }
+
+pub returns-clause-replaces : goal.returns-clause-replaces
+returns-clause-replaces g c =
+    let R = g.R.Replacer in let hay = c.args.haystack.now in let cs = captures_in c.args.self.now hay in let n = c.args.limit in
+    let l = c.loop-captures in let s = l.replacing in let on = l.invariant in
+    let end = on_end R.replaces R.answers span_in hay (limited n cs) c.args.replacer.now (string_bytes s.out) s.last _ l.replacer on.on c.in_default.ensures.steps in
+    if_ok c.finish.result _ _ c.finish.ensures.bytes
+    (λ x written. (
+      end.0,
+      end.1,
+      written ∙ ap (λ h. string_bytes s.out ++ drop (unwrap_or s.last 0) h) on.haystack ∙ end.2
+          ∙ ap (λ ss. replaced_from hay 0 ss end.0) (sym (limited_map span_in n cs)),
+    ))
+
+pub returns-clause-borrowed : goal.returns-clause-borrowed
+returns-clause-borrowed g c =
+    let R = g.R.Replacer in let hay = c.args.haystack.now in let cs = captures_in c.args.self.now hay in let n = c.args.limit in
+    let l = c.loop-captures in let s = l.replacing in
+    let is =
+    on_borrows R.replaces R.answers span_in hay (limited n cs) c.args.replacer.now (string_bytes s.out) s.last _ l.replacer l.invariant.on
+    c.in_default.ensures.steps in
+    let none = limited_none n cs in
+    if_ok c.finish.result _ _ c.finish.ensures.borrowed (λ x same. (λ b. none.0 (is.0 (same.0 b)), λ bare. same.1 (is.1 (none.1 bare))))

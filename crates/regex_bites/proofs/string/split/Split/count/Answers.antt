@@ -1,0 +1,9 @@
+use Rattle.std.proofs.Common.{◌∙◌, arith}
+use Rattle.regex_bites.proofs.CountLemmas.{no_pieces, length-pieces}
+use Rattle.regex_bites.proofs.string.split.Split.count.Goals as goal
+
+pub overflow_add-result : goal.overflow_add-result
+overflow_add-result c = omega (arith, c.count.ensures.bound)
+
+pub returns : goal.returns
+returns c = omega (arith, c.count.ensures.left, length-pieces c.args.self c.if-self.false)

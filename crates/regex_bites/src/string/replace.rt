@@ -1,0 +1,218 @@
+//! Texts with their matches replaced.
+
+ghost use Rattle.std.specs.Prelude.{◌≡◌, ◌↔◌, ◌≤◌, ◌++◌, ◌⊎◌, [], None, IfOk, OnOk, OnErr, drop, map, string_bytes, unwrap_or, IsCharBoundary};
+ghost use Rattle.std.specs.Cow.{cow_str_bytes, IsBorrowedStr};
+ghost use Rattle.bites_spec.specs.Pieces.{limited, replaced};
+ghost use Rattle.bites_spec.specs.Iteration.{captures_in};
+ghost use Rattle.bites_spec.specs.Refused.{GaveFront};
+ghost use Rattle.bites_spec.specs.Replaced.{span_in, ReplacesIn, GivesUpIn};
+ghost use Rattle.regex_bites.specs.Replaced.{ReplacesEach};
+
+use crate::string::{CaptureMatches, Captures, Match, Matches, Regex, Replacer};
+use bites_bytes::limit::bound;
+use std::alloc::{AllocError, Global};
+use std::borrow::CowStr;
+
+// A text whose matches are being replaced, from left to right.
+#[derive(Drop)]
+struct Replacing<'h> {
+    haystack: &'h str,
+    // Where the last match that was replaced ends, if one was.
+    last: Option<usize>,
+    // The haystack up to there, with the new texts.
+    out: String,
+    ghost border: { IsCharBoundary haystack.now (unwrap_or last 0) },
+    ghost fresh: { last ≡ None → string_bytes out ≡ [] },
+}
+
+impl<'h> Replacing<'h> {
+    ghost use Rattle.regex_bites.specs.Matched.{excerpt_of};
+    ghost use Rattle.regex_bites.specs.Borders.{IsPart};
+    ghost use Rattle.regex_bites.specs.Replacing.{KeepsUpTo, Writes, WritesBy};
+
+    // Nothing is replaced yet.
+    fn new(alloc: Global, haystack: &'h str) -> Replacing<'h>
+        ensures haystack { result.haystack.now ≡ haystack.now }
+        ensures last { result.last ≡ None }
+        ensures out { string_bytes result.out ≡ [] }
+    {
+        Replacing {
+            haystack,
+            last: None,
+            out: String::new(alloc),
+        }
+    }
+
+    // Keeps what stands before a match, and goes on behind it.
+    fn keep_up_to(&mut self, found: Match<'h>) -> Result<(), AllocError>
+        requires part { IsPart self.old.haystack.now (excerpt_of found) }
+        requires order { unwrap_or self.old.last 0 ≤ (excerpt_of found).span.start }
+        ensures { OnOk result (KeepsUpTo (excerpt_of found.entry).span self.old self.new) }
+    {
+        let begin = self.last.unwrap_or(0);
+        self.out.push_str(&self.haystack[begin..found.start()])?;
+        self.last = Some(found.end());
+        Ok(())
+    }
+
+    // Replaces a match by the text.
+    fn by_text(&mut self, found: Match<'h>, text: &str) -> Result<(), AllocError>
+        requires part { IsPart self.old.haystack.now (excerpt_of found) }
+        requires order { unwrap_or self.old.last 0 ≤ (excerpt_of found).span.start }
+        ensures { OnOk result (Writes (excerpt_of found.entry).span text.now self.old self.new) }
+    {
+        self.keep_up_to(found)?;
+        self.out.push_str(text)
+    }
+
+    // Replaces a match by what the replacer gives for its groups.
+    fn by<R: Replacer>(
+        &mut self,
+        captures: &Captures<'h>,
+        replacer: &mut R,
+    ) -> Result<(), AllocError>
+        requires callable { R.can_replace replacer.old }
+        requires haystack { captures.now.haystack ≡ self.old.haystack.now }
+        requires order { unwrap_or self.old.last 0 ≤ (span_in captures.now).start }
+        ensures gives { OnOk result (WritesBy R.replaces captures.now
+            self.old replacer.old self.new replacer.new) }
+        ensures refused { OnErr result ((replacer.new ≡ replacer.old)
+            ⊎ R.refuses replacer.old captures.now replacer.new) }
+    {
+        self.keep_up_to(captures.whole())?;
+        replacer.replace_append(captures, &mut self.out)
+    }
+
+    // What is written, with the rest of the haystack; where nothing was replaced, the haystack as it is.
+    fn finish(self) -> Result<CowStr<'h>, AllocError>
+        ensures bytes { IfOk result (λ r. cow_str_bytes r ≡ string_bytes self.entry.out
+            ++ drop (unwrap_or self.entry.last 0) self.entry.haystack.now) }
+        ensures borrowed { IfOk result (λ r. IsBorrowedStr r ↔ self.entry.last ≡ None) }
+    {
+        let Some(end) = self.last else {
+            return Ok(CowStr::Borrowed(self.haystack));
+        };
+        let mut out = self.out;
+        out.push_str(&self.haystack[end..])?;
+        Ok(CowStr::Owned(out))
+    }
+}
+
+impl Regex {
+    // The haystack with at most `limit` matches, or all for 0, replaced by the text.
+    fn replace_by_text<'h>(
+        &self,
+        haystack: &'h str,
+        limit: usize,
+        text: &str,
+    ) -> Result<CowStr<'h>, AllocError>
+        ensures replaces { IfOk result (λ r. cow_str_bytes r ≡ replaced haystack.now limit
+            (map span_in (captures_in self.now haystack.now))
+            (map (λ c. text.now) (limited limit (captures_in self.now haystack.now)))) }
+        ensures borrowed { IfOk result (λ r. IsBorrowedStr r ↔ captures_in self.now haystack.now ≡ []) }
+    {
+        let mut matches = Matches::new(self, haystack)?;
+        let mut left = bound(limit);
+        let mut replacing = Replacing::new(self.alloc(), haystack);
+        while let Some(found) = matches.step_of(&mut left) {
+            replacing.by_text(found, text)?;
+        }
+        replacing.finish()
+    }
+
+    // The same, by what the replacer gives for each match.
+    fn replace_each<'h, R: Replacer>(
+        &self,
+        haystack: &'h str,
+        limit: usize,
+        replacer: &mut R,
+    ) -> Result<CowStr<'h>, AllocError>
+        requires { (state : R) → R.can_replace state }
+        ensures replaces { IfOk result (λ r. ReplacesEach R.replaces R.answers
+            self.now haystack.now limit replacer.old (cow_str_bytes r) replacer.new) }
+        ensures served { OnOk result (GaveFront R.replaces R.answers R.refuses replacer.old
+            (limited limit (captures_in self.now haystack.now)) replacer.new) }
+        ensures refused { OnErr result (GaveFront R.replaces R.answers R.refuses replacer.old
+            (limited limit (captures_in self.now haystack.now)) replacer.new) }
+        ensures borrowed { IfOk result (λ r. IsBorrowedStr r ↔ captures_in self.now haystack.now ≡ []) }
+    {
+        let mut matches = CaptureMatches::new(self, haystack)?;
+        let mut left = bound(limit);
+        let mut replacing = Replacing::new(self.alloc(), haystack);
+        while let Some(captures) = matches.step_of(&mut left) {
+            replacing.by(&captures?, replacer)?;
+        }
+        replacing.finish()
+    }
+
+    // The haystack with at most `limit` matches replaced, or all for 0.
+    fn replace_by<'h, R: Replacer>(
+        &self,
+        haystack: &'h str,
+        limit: usize,
+        replacer: &mut R,
+    ) -> Result<CowStr<'h>, AllocError>
+        requires { (state : R) → R.can_replace state }
+        ensures replaces { IfOk result (λ r. ReplacesIn R.replaces R.answers
+            self.now haystack.now limit replacer.old (cow_str_bytes r) replacer.new) }
+        ensures refused { OnErr result (GivesUpIn R.replaces R.answers R.refuses
+            self.now haystack.now limit replacer.old replacer.new) }
+        ensures borrowed { IfOk result (λ r. IsBorrowedStr r ↔ captures_in self.now haystack.now ≡ []) }
+    {
+        if let Some(text) = replacer.no_expansion() {
+            return self.replace_by_text(haystack, limit, text);
+        }
+        self.replace_each(haystack, limit, replacer)
+    }
+
+    /// The haystack with its first match replaced. The error is want of memory.
+    ///
+    /// It is borrowed exactly if nothing matches. A refusal hands out no text, as [`Regex::replacen`] says.
+    pub fn replace<'h, R: Replacer + Drop>(
+        &self,
+        haystack: &'h str,
+        replacer: R,
+    ) -> Result<CowStr<'h>, AllocError>
+        requires { (state : R) → R.can_replace state }
+        ensures replaces { IfOk result (λ r. (end : R) × ReplacesIn R.replaces R.answers
+            self.now haystack.now 1 replacer (cow_str_bytes r) end) }
+        ensures borrowed { IfOk result (λ r. IsBorrowedStr r ↔ captures_in self.now haystack.now ≡ []) }
+    {
+        self.replacen(haystack, 1, replacer)
+    }
+
+    /// The haystack with all its matches replaced. The error is want of memory.
+    ///
+    /// It is borrowed exactly if nothing matches. A refusal hands out no text, as [`Regex::replacen`] says.
+    pub fn replace_all<'h, R: Replacer + Drop>(
+        &self,
+        haystack: &'h str,
+        replacer: R,
+    ) -> Result<CowStr<'h>, AllocError>
+        requires { (state : R) → R.can_replace state }
+        ensures replaces { IfOk result (λ r. (end : R) × ReplacesIn R.replaces R.answers
+            self.now haystack.now 0 replacer (cow_str_bytes r) end) }
+        ensures borrowed { IfOk result (λ r. IsBorrowedStr r ↔ captures_in self.now haystack.now ≡ []) }
+    {
+        self.replacen(haystack, 0, replacer)
+    }
+
+    /// The haystack with its first `limit` matches replaced, or all of them for 0. The error is want of memory.
+    ///
+    /// The replacer is asked once for the same text for each match; where it has none, it gives what stands for the
+    /// groups of each match in turn. The haystack is borrowed exactly if nothing matches. A refusal hands out no text; the
+    /// replacer has then served a beginning of the matches, or was not asked at all.
+    pub fn replacen<'h, R: Replacer + Drop>(
+        &self,
+        haystack: &'h str,
+        limit: usize,
+        mut replacer: R,
+    ) -> Result<CowStr<'h>, AllocError>
+        requires { (state : R) → R.can_replace state }
+        ensures replaces { IfOk result (λ r. (end : R) × ReplacesIn R.replaces R.answers
+            self.now haystack.now limit replacer (cow_str_bytes r) end) }
+        ensures borrowed { IfOk result (λ r. IsBorrowedStr r ↔ captures_in self.now haystack.now ≡ []) }
+    {
+        self.replace_by(haystack, limit, &mut replacer)
+    }
+}

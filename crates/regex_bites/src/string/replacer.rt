@@ -1,0 +1,254 @@
+//! What stands for a match: templates, texts, and what functions answer.
+
+ghost use Rattle.std.specs.Prelude.{◌≡◌, string_bytes, ℕ, List, Option, Some, None, Ok, Err, OnOk, OnErr, ⊤};
+ghost use Rattle.std.specs.Borrow.{sem};
+ghost use Rattle.std.specs.Cow.{cow_str_bytes};
+ghost use Rattle.std.specs.Io.BufRead.{Rests};
+ghost use Rattle.bites_spec.specs.Captured.{Captured};
+ghost use Rattle.bites_spec.specs.Refused.{Appends, IsFront};
+ghost use Rattle.bites_spec.specs.Replacer.{answer_text, plain_text, is_plain, GivesExpansion, AnswersPlain, Stays};
+
+use crate::string::Captures;
+use std::alloc::AllocError;
+use std::borrow::CowStr;
+use std::convert::AsStr;
+
+/// What stands for the matches of a regex.
+///
+/// An implementation says when [`Replacer::replace_append`] may be called, what it gives, and what
+/// [`Replacer::no_expansion`] answers.
+pub trait Replacer {
+    /// The states in which `replace_append` may be called.
+    ghost can_replace: { Self → Type 0 } = { λ _. ⊤ };
+
+    /// Relates a state, the groups of a match, the text that is appended for it, and the state after.
+    ghost replaces: { Self → Captured → List ℕ → Self → Type 0 };
+
+    /// Relates a state, the groups of a match, and the state that a refused call leaves.
+    ghost refuses: { Self → Captured → Self → Type 0 } = { λ _ _ _. ⊤ };
+
+    /// Relates a state, what `no_expansion` answers, and the state after.
+    ghost answers: { Self → Option (List ℕ) → Self → Type 0 };
+
+    /// Appends what stands for a match. The error is want of memory; `dst` still begins with the old text then.
+    fn replace_append(
+        &mut self,
+        captures: &Captures<'_>,
+        dst: &mut String,
+    ) -> Result<(), AllocError>
+        requires { can_replace self.old }
+        ensures appends { OnOk result (Appends (λ text. replaces self.old captures.now text self.new)
+            (string_bytes dst.old) (string_bytes dst.new)) }
+        ensures refused { OnErr result (refuses self.old captures.now self.new) }
+        ensures front { OnErr result (IsFront (string_bytes dst.old) (string_bytes dst.new)) }
+        ensures again { OnOk result (can_replace self.new) };
+
+    /// The text that stands for each match, if it is always the same.
+    fn no_expansion(&mut self) -> Option<&str>
+        ensures* after_borrow { sem 𝓛 (Rests Self.row self.entry
+            (λ new. answers self.old (answer_text result) new)) };
+
+    /// A replacer that hands both calls on to this one.
+    final fn by_ref(&mut self) -> ReplacerRef<'_, Self>
+    where
+        Self: Sized,
+        ensures same_reference { result.0.ghost_name ≡ self.entry.ghost_name }
+        ensures value { result.0.now ≡ self.old }
+    {
+        ReplacerRef(self)
+    }
+}
+
+/// Hands both calls on to a replacer, which can be used again then.
+#[derive(Drop)]
+pub struct ReplacerRef<'a, R>(&'a mut R);
+
+impl<'a, R: Replacer> Replacer for ReplacerRef<'a, R> {
+    ghost can_replace = { λ s. R.can_replace s.0.now };
+
+    ghost replaces = { λ s captures text t. R.replaces s.0.now captures text t.0.now };
+
+    ghost refuses = { λ s captures t. R.refuses s.0.now captures t.0.now };
+
+    ghost answers = { λ s answer t. R.answers s.0.now answer t.0.now };
+
+    fn replace_append(
+        &mut self,
+        captures: &Captures<'_>,
+        dst: &mut String,
+    ) -> Result<(), AllocError> {
+        self.0.replace_append(captures, dst)
+    }
+
+    fn no_expansion(&mut self) -> Option<&str> {
+        self.0.no_expansion()
+    }
+}
+
+/// Appends what a function answers for the groups of each match.
+#[derive(Drop)]
+pub struct With<F>(pub F);
+
+impl<F, T> Replacer for With<F>
+where
+    F: FnMut(&Captures<'_>) -> Result<T, AllocError>,
+    T: AsStr + Drop,
+{
+    ghost can_replace = { λ s. F.IsAlwaysCallable s.0 };
+
+    ghost replaces = { λ s captures text t. (c : _) × (answer : _) × (c.now ≡ captures)
+        × F.step s.0 c (Ok answer) t.0 × (text ≡ T.text answer) };
+
+    ghost answers = { λ s answer t. (answer ≡ None) × (t ≡ s) };
+
+    fn replace_append(
+        &mut self,
+        captures: &Captures<'_>,
+        dst: &mut String,
+    ) -> Result<(), AllocError> {
+        let answer = (self.0)(captures)?;
+        dst.push_str(answer.as_str())
+    }
+
+    fn no_expansion(&mut self) -> Option<&str> {
+        None
+    }
+}
+
+/// A text that is appended as it is, also where it holds a `$`.
+#[derive(Clone, Copy)]
+pub struct NoExpand<'t>(pub &'t str);
+
+impl<'t> Replacer for NoExpand<'t> {
+    ghost replaces = { λ s _ text t. (text ≡ s.0.now) × (t ≡ s) };
+
+    ghost refuses = { Stays };
+
+    ghost answers = { λ s answer t. (answer ≡ Some s.0.now) × (t ≡ s) };
+
+    fn replace_append(
+        &mut self,
+        _captures: &Captures<'_>,
+        dst: &mut String,
+    ) -> Result<(), AllocError> {
+        dst.push_str(self.0)
+    }
+
+    fn no_expansion(&mut self) -> Option<&str> {
+        Some(self.0)
+    }
+}
+
+impl<'t> Replacer for &'t str {
+    ghost replaces = { GivesExpansion (λ s. s.now) };
+
+    ghost refuses = { Stays };
+
+    ghost answers = { AnswersPlain (λ s. s.now) };
+
+    fn replace_append(
+        &mut self,
+        captures: &Captures<'_>,
+        dst: &mut String,
+    ) -> Result<(), AllocError> {
+        captures.expand(*self, dst)
+    }
+
+    fn no_expansion(&mut self) -> Option<&str> {
+        plain(*self)
+    }
+}
+
+impl Replacer for String {
+    ghost replaces = { GivesExpansion string_bytes };
+
+    ghost refuses = { Stays };
+
+    ghost answers = { AnswersPlain string_bytes };
+
+    fn replace_append(
+        &mut self,
+        captures: &Captures<'_>,
+        dst: &mut String,
+    ) -> Result<(), AllocError> {
+        captures.expand(self.as_str(), dst)
+    }
+
+    fn no_expansion(&mut self) -> Option<&str> {
+        plain(self.as_str())
+    }
+}
+
+impl<'t> Replacer for &'t String {
+    ghost replaces = { GivesExpansion (λ s. string_bytes s.now) };
+
+    ghost refuses = { Stays };
+
+    ghost answers = { AnswersPlain (λ s. string_bytes s.now) };
+
+    fn replace_append(
+        &mut self,
+        captures: &Captures<'_>,
+        dst: &mut String,
+    ) -> Result<(), AllocError> {
+        captures.expand(self.as_str(), dst)
+    }
+
+    fn no_expansion(&mut self) -> Option<&str> {
+        plain(self.as_str())
+    }
+}
+
+impl<'t> Replacer for CowStr<'t> {
+    ghost replaces = { GivesExpansion cow_str_bytes };
+
+    ghost refuses = { Stays };
+
+    ghost answers = { AnswersPlain cow_str_bytes };
+
+    fn replace_append(
+        &mut self,
+        captures: &Captures<'_>,
+        dst: &mut String,
+    ) -> Result<(), AllocError> {
+        captures.expand(self.as_str(), dst)
+    }
+
+    fn no_expansion(&mut self) -> Option<&str> {
+        plain(self.as_str())
+    }
+}
+
+impl<'c, 't> Replacer for &'c CowStr<'t> {
+    ghost replaces = { GivesExpansion (λ s. cow_str_bytes s.now) };
+
+    ghost refuses = { Stays };
+
+    ghost answers = { AnswersPlain (λ s. cow_str_bytes s.now) };
+
+    fn replace_append(
+        &mut self,
+        captures: &Captures<'_>,
+        dst: &mut String,
+    ) -> Result<(), AllocError> {
+        captures.expand(self.as_str(), dst)
+    }
+
+    fn no_expansion(&mut self) -> Option<&str> {
+        plain(self.as_str())
+    }
+}
+
+/// The text, if it holds no `$`.
+fn plain(text: &str) -> Option<&str>
+    ensures { answer_text result ≡ plain_text text.now }
+{
+    if is_plain(text) { Some(text) } else { None }
+}
+
+/// Whether the text holds no `$`.
+fn is_plain(text: &str) -> bool
+    ensures { result ≡ is_plain text.now }
+{
+    text.as_bytes().iter().all(|byte| *byte != b'$')
+}
