@@ -1,9 +1,10 @@
 //! Regular expressions over byte strings.
 //!
 //! [`bytes::Regex`] is a compiled pattern. Its contracts speak of the tree of its pattern: a search answers a match
-//! exactly if the tree matches there.
+//! exactly if the tree matches there. The other modules are for the surface over texts.
 #![tactic(auto)]
 
 pub mod bytes;
 pub mod limit;
+pub mod named;
 pub mod shown;

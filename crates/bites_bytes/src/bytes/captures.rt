@@ -106,15 +106,15 @@ impl<'h> Captures<'h> {
         }
     }
 
-    /// The number of the first group of this name; None if no group has it.
-    pub fn number_named(&self, name: &str) -> Option<usize>
+    // The number of the first group of this name; None if no group has it.
+    pub(crate) fn number_named(&self, name: &str) -> Option<usize>
         ensures { result ≡ index_in self.now.regex.names name.now }
     {
         self.compiled.number_named(name)
     }
 
-    /// The name of each group, if it has one, from group 0 on, which has none.
-    pub fn capture_names(&self) -> CaptureNames<'_>
+    // The name of each group, if it has one, from group 0 on, which has none.
+    pub(crate) fn capture_names(&self) -> CaptureNames<'_>
         ensures { result ≡ self.now.regex.names }
     {
         CaptureNames::new(self.compiled.program())

@@ -10,6 +10,7 @@ ghost use Rattle.bites_spec.specs.Expansion.{index_in};
 
 use crate::string::{Match, Regex};
 use bites_bytes::bytes;
+use bites_bytes::named::{names_of, number_named};
 use bites_bytes::shown::{Key, Part};
 use bites_machine::interpolate;
 use std::alloc::AllocError;
@@ -106,7 +107,7 @@ impl<'h> Captures<'h> {
         interpolate::string(
             template,
             |group: usize| self.text_of(group),
-            |name: &str| self.captures.number_named(name),
+            |name: &str| number_named(&self.captures, name),
             dst,
         )
     }
@@ -181,7 +182,7 @@ impl<'c, 'h> fmt::Debug for Groups<'c, 'h> {
     fn fmt<W: fmt::Write>(&self, f: &mut fmt::Formatter<W>) -> fmt::Result {
         let captures = self.0;
         let mut map = f.debug_map();
-        for (number, name) in captures.captures.capture_names().enumerate() {
+        for (number, name) in names_of(&captures.captures).enumerate() {
             map.entry(&Key { number, name }, &captures.shown(number));
         }
         map.finish()
