@@ -1,4 +1,5 @@
 pub mod FirstLemmas
 pub mod GroupLemmas
+pub mod HeadlineLemmas
 pub mod PieceLemmas
 pub mod SuccessiveLemmas

@@ -1,4 +1,4 @@
-//! What a user of `bites_bytes::bytes` may rely on, as a caller proves it.
+//! What a user of `regex_bites` may rely on, as a caller proves it. [`headline`] is the page to open first.
 //!
 //! Each function makes a few public calls, and its contract is a fact that follows from the contracts of these calls and
 //! from the laws of `bites_spec`. Nothing here is part of the engine.
@@ -6,4 +6,5 @@
 
 pub mod first;
 pub mod groups;
+pub mod headline;
 pub mod pieces;
