@@ -1,4 +1,4 @@
-pub mod FirstLemmas
+pub mod AgreementLemmas
 pub mod GroupLemmas
 pub mod HeadlineLemmas
 pub mod PieceLemmas

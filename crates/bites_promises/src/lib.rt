@@ -4,7 +4,6 @@
 //! from the laws of `bites_spec`. Nothing here is part of the engine.
 #![tactic(auto)]
 
-pub mod first;
-pub mod groups;
+pub mod agreement;
 pub mod headline;
-pub mod pieces;
+pub mod successive;

@@ -7,7 +7,7 @@ use Rattle.bites_spec.specs.Iteration.{captures_in, pieces_in}
 use Rattle.bites_bytes.specs.Split.{pieces_left, bytes_at}
 use Rattle.bites_bytes.specs.contracts.bytes.replacer.NoExpandReplacer.TheImpl.{replaces-value, answers-value}
 use Rattle.bites_promises.proofs.SuccessiveLemmas.{replaced_is_joined, text_served}
-use Rattle.bites_promises.proofs.pieces.replaced_and_pieces.Goals as goal
+use Rattle.bites_promises.proofs.successive.over_bytes.replaced_and_pieces.Goals as goal
 
 pub returns : goal.returns
 returns c =
