@@ -5,5 +5,6 @@
 #![tactic(auto)]
 
 pub mod agreement;
+pub mod escaped;
 pub mod headline;
 pub mod successive;
