@@ -1,14 +1,13 @@
 -- What a search's clauses on the tree say of the groups that it answers.
 use Rattle.std.proofs.Common.{◌≡◌, ℕ, List, Option, Some, None, option_map, sym, ap, ◌∙◌, subst}
-use Rattle.std.specs.Prelude.{Result, Ok, Err, IfOk, IfSome}
 use Rattle.bites_spec.specs.Match.{Span, span}
 use Rattle.bites_spec.specs.Found.{Answer, Finds}
 use Rattle.bites_spec.specs.Slots.{group_in}
 use Rattle.bites_spec.specs.Regex.{Regex}
-use Rattle.bites_spec.specs.Captured.{Captured, Excerpt, excerpt, FindsGroups, IsInSlots}
+use Rattle.bites_spec.specs.Captured.{Excerpt, excerpt, FindsGroups, IsInSlots}
 use Rattle.bites_spec.proofs.BoundLemmas.{found_lies}
 use Rattle.bites_spec.proofs.FoundSomeLemmas.{finds_some}
-use Rattle.bites_promises.specs.Promises.{AllLieWithin, LiesWithin}
+use Rattle.bites_promises.specs.Promises.{LiesWithin}
 
 -- the span of a part that stands at a group's span
 pub group_of_part : (hay : List ℕ) (o : Option Span) (x : Excerpt) → Some x ≡ option_map (excerpt hay) o → o ≡ Some x.span
@@ -28,10 +27,3 @@ module _ (r : Regex) (hay : List ℕ) (s : ℕ) (slots : List (Option ℕ)) wher
   pub group_within : FindsGroups r hay s (Some slots) → (whole part : Span) (k : ℕ) →
       group_in slots 0 ≡ Some whole → group_in slots k ≡ Some part → LiesWithin whole part
   group_within found = within_answer found.0 found.1 found.2
-
--- the same of the captures that a call answers
-pub all_lie_within : {E : Type 0} (r : Regex) (hay : List ℕ) (s : ℕ) (o : Result (Option Captured) E) →
-    IfOk o (λ c. FindsGroups r hay s (option_map (λ x. x.slots) c)) → IfOk o (λ c. IfSome c (λ x. AllLieWithin x.slots))
-all_lie_within r hay s (Ok None) found = tt
-all_lie_within r hay s (Ok (Some c)) found = group_within r hay s c.slots found
-all_lie_within r hay s (Err e) found = tt

@@ -1,4 +1,6 @@
-pub mod FirstLemmas
+pub mod AgreementLemmas
+pub mod EscapedLemmas
 pub mod GroupLemmas
+pub mod HeadlineLemmas
 pub mod PieceLemmas
 pub mod SuccessiveLemmas

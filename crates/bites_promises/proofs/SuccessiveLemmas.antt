@@ -1,22 +1,21 @@
 -- The successive matches of a compiled regex, and the haystack with all of them replaced.
-use Rattle.std.proofs.Common.{◌≡◌, ℕ, List, [], ◌∷◌, map, length, Option, Some, None, option_map, refl, sym, ap, ◌∙◌, subst}
+use Rattle.std.proofs.Common.{◌≡◌, ℕ, List, [], ◌∷◌, ◌++◌, map, length, Option, Some, None, option_map, refl, sym, ap, ◌∙◌, subst}
 use Rattle.std.specs.Prelude.{unwrap_or}
+use Rattle.std.proofs.lemmas.List.{map-append, append_assoc, append-nil}
 use Rattle.bites_spec.specs.Match.{Span, span}
 use Rattle.bites_spec.specs.Run.{Run, slots}
 use Rattle.bites_spec.specs.Slots.{group_in, span_of_run}
-use Rattle.bites_spec.specs.Spans.{Successive, EndsGrow}
-use Rattle.bites_spec.specs.Pieces.{AreInOrder, replaced, joined_by}
-use Rattle.bites_spec.specs.Regex.{Regex, IsCompiled, run_at, span_at, slots_at}
-use Rattle.bites_spec.specs.Captured.{Captured, Excerpt, excerpt, captured}
-use Rattle.bites_spec.specs.Iteration.{spans_in, captures_in, pieces_in}
+use Rattle.bites_spec.specs.Spans.{Successive, successive, EndsGrow}
+use Rattle.bites_spec.specs.Pieces.{AreInOrder, text_at, replaced, joined_by}
+use Rattle.bites_spec.specs.Regex.{Regex, IsCompiled, run_at, span_at}
+use Rattle.bites_spec.specs.Captured.{Captured, Excerpt, excerpt, text_of}
+use Rattle.bites_spec.specs.Iteration.{spans_in, captured_by, captures_in, pieces_in}
 use Rattle.bites_spec.specs.Replace.{Served}
+use Rattle.bites_spec.specs.Replaced.{span_in}
 use Rattle.bites_spec.proofs.PieceTextLemmas.{replaced_from-joined}
-use Rattle.bites_spec.proofs.RegexRuns.{captures_have_spans, run_at-whole, span_at-lies}
+use Rattle.bites_spec.proofs.RegexRuns.{captures_have_spans, span_at-lies}
 use Rattle.bites_spec.proofs.SpanLemmas.{Successive-in_order, Successive-ends_grow}
 use Rattle.bites_spec.proofs.SuccessiveLemmas.{successive_follow}
-use Rattle.bites_bytes.specs.Matched.{excerpt_of}
-use Rattle.bites_spec.specs.Replaced.{span_in}
-use Rattle.bites_bytes.specs.declared.bytes.matched.Match.{Match}
 use Rattle.bites_promises.specs.Promises.{StandApart, GrowBehindFirst}
 
 same_list : {A : Type 0} (xs : List A) → map (λ x. x) xs ≡ xs
@@ -68,32 +67,6 @@ module _ (r : Regex) (is : IsCompiled r) (hay : List ℕ) where
       ∙ ap (λ ss. replaced hay 0 ss (map (λ s. u) ss)) spans_of_captures
       ∙ replaced_from-joined hay u 0 (spans_in r hay)
 
-  module _ (s : ℕ) where
-    whole_of_run : (o : Option Run) → run_at r hay s ≡ o → (c : Captured) →
-        Some c ≡ option_map (captured r hay) (option_map (slots r.program) o) →
-        option_map (excerpt c.haystack) (group_in c.slots 0) ≡ option_map (excerpt hay) (option_map span_of_run o)
-    whole_of_run None e c same = let never : Some c ≡ None = same in cc
-    whole_of_run (Some x) e c same =
-        let groups : Some c ≡ Some (captured r hay (slots r.program x)) = same in
-        let at : c ≡ captured r hay (slots r.program x) = cc in
-        ap (λ (d : Captured). option_map (excerpt d.haystack) (group_in d.slots 0)) at
-        ∙ ap (option_map (excerpt hay)) (run_at-whole r is hay s x e)
-
-    -- group 0 of the captures is where the search finds a match
-    pub whole_is_span : (c : Captured) → Some c ≡ option_map (captured r hay) (slots_at r hay s) →
-        option_map (excerpt c.haystack) (group_in c.slots 0) ≡ option_map (excerpt hay) (span_at r hay s)
-    whole_is_span = whole_of_run (run_at r hay s) refl
-
-module _ (r : Regex) (hay : List ℕ) where
-  no_run : (o : Option Run) → None ≡ option_map (captured r hay) (option_map (slots r.program) o) →
-      option_map (excerpt hay) (option_map span_of_run o) ≡ None
-  no_run None e = refl
-  no_run (Some x) e = let never : None ≡ Some (captured r hay (slots r.program x)) = e in cc
-
-  -- where no captures are answered, the search finds nothing
-  pub no_captures : (s : ℕ) → None ≡ option_map (captured r hay) (slots_at r hay s) → option_map (excerpt hay) (span_at r hay s) ≡ None
-  no_captures s = no_run (run_at r hay s)
-
 -- the texts where the replacer answered one for all matches
 pub text_served : {S : Type 0} (gives : S → Captured → List ℕ → S → Type 0) (answers : S → Option (List ℕ) → S → Type 0)
     (answer : Option (List ℕ)) (u : List ℕ) (asked : S) (cs : List Captured) (texts : List (List ℕ)) (end : S) → answer ≡ Some u →
@@ -103,15 +76,74 @@ text_served gives answers (Some t) u asked cs texts end e served =
     let known : Some t ≡ Some u = e in let same : t ≡ u = cc in
     served.0 ∙ ap (λ (v : List ℕ). map (λ c. v) cs) same
 
--- the spans of parts of a haystack
-pub spans_of_parts : (hay : List ℕ) (ms : List Match) (ss : List Span) → map excerpt_of ms ≡ map (excerpt hay) ss →
-    map (λ m. (excerpt_of m).span) ms ≡ ss
-spans_of_parts hay ms ss e = spans ms ∙ ap (map (λ (x : Excerpt). x.span)) e ∙ back ss
-  where
-    spans : (xs : List Match) → map (λ m. (excerpt_of m).span) xs ≡ map (λ (x : Excerpt). x.span) (map excerpt_of xs)
-    spans [] = refl
-    spans (x ∷ xs) = ap (λ l. (excerpt_of x).span ∷ l) (spans xs)
+-- where matches are read as parts of a haystack
+module _ {M : Type 0} (f : M → Excerpt) (hay : List ℕ) where
+  part_spans : (ms : List M) → map (λ m. (f m).span) ms ≡ map (λ (x : Excerpt). x.span) (map f ms)
+  part_spans [] = refl
+  part_spans (m ∷ ms) = ap (λ l. (f m).span ∷ l) (part_spans ms)
 
-    back : (xs : List Span) → map (λ (x : Excerpt). x.span) (map (excerpt hay) xs) ≡ xs
-    back [] = refl
-    back (x ∷ xs) = ap (λ l. x ∷ l) (back xs)
+  back : (ss : List Span) → map (λ (x : Excerpt). x.span) (map (excerpt hay) ss) ≡ ss
+  back [] = refl
+  back (s ∷ ss) = ap (λ l. s ∷ l) (back ss)
+
+  -- their spans
+  pub spans_of_parts : (ms : List M) (ss : List Span) → map f ms ≡ map (excerpt hay) ss → map (λ m. (f m).span) ms ≡ ss
+  spans_of_parts ms ss e = part_spans ms ∙ ap (map (λ (x : Excerpt). x.span)) e ∙ back ss
+
+  part_texts : (ms : List M) → map (λ m. text_of (f m)) ms ≡ map text_of (map f ms)
+  part_texts [] = refl
+  part_texts (m ∷ ms) = ap (λ l. text_of (f m) ∷ l) (part_texts ms)
+
+  texts_at : (ss : List Span) → map text_of (map (excerpt hay) ss) ≡ map (text_at hay) ss
+  texts_at [] = refl
+  texts_at (s ∷ ss) = ap (λ l. text_at hay s ∷ l) (texts_at ss)
+
+  -- and what stands there
+  pub texts_of_parts : (ms : List M) (ss : List Span) → map f ms ≡ map (excerpt hay) ss → map (λ m. text_of (f m)) ms ≡ map (text_at hay) ss
+  texts_of_parts ms ss e = part_texts ms ∙ ap (map text_of) e ∙ texts_at ss
+
+  some_parts : (ms : List M) → map (λ m. Some (f m)) ms ≡ map (λ x. Some x) (map f ms)
+  some_parts [] = refl
+  some_parts (m ∷ ms) = ap (λ l. Some (f m) ∷ l) (some_parts ms)
+
+-- where group 0 took part in a match
+abbrev pub whole_of : Captured → Option Excerpt
+whole_of c = option_map (excerpt c.haystack) (group_in c.slots 0)
+
+-- the groups 0 that were read, and those that are still to come, are these
+abbrev pub WithRest : {M : Type 0} → (M → Excerpt) → List (Option M) → List Captured → List Captured → Type 0
+WithRest f wholes rest all = map (option_map f) wholes ++ map whole_of rest ≡ map whole_of all
+
+module _ {M : Type 0} (f : M → Excerpt) where
+  -- one more was read
+  pub one_more_whole : (wholes : List (Option M)) (before : List Captured) (c : Captured) (rest all : List Captured) (m : Option M) →
+      WithRest f wholes before all → before ≡ c ∷ rest → option_map f m ≡ whole_of c → WithRest f (wholes ++ m ∷ []) rest all
+  one_more_whole wholes before c rest all m so_far next is =
+      ap (λ l. l ++ map whole_of rest) (map-append (option_map f) wholes (m ∷ []))
+      ∙ append_assoc (map (option_map f) wholes) (option_map f m ∷ []) (map whole_of rest)
+      ∙ ap (λ x. map (option_map f) wholes ++ x ∷ map whole_of rest) is
+      ∙ ap (λ l. map (option_map f) wholes ++ map whole_of l) (sym next)
+      ∙ so_far
+
+  module _ (r : Regex) (is : IsCompiled r) (hay : List ℕ) where
+    wholes_by : (xs : List Run) → map whole_of (map (captured_by r hay) xs)
+        ≡ map (option_map (excerpt hay)) (map (λ c. group_in c.slots 0) (map (captured_by r hay) xs))
+    wholes_by [] = refl
+    wholes_by (x ∷ xs) = ap (λ l. option_map (excerpt hay) (group_in (slots r.program x) 0) ∷ l) (wholes_by xs)
+
+    some_spans : (ss : List Span) → map (option_map (excerpt hay)) (map (λ s. Some s) ss) ≡ map (λ x. Some x) (map (excerpt hay) ss)
+    some_spans [] = refl
+    some_spans (s ∷ ss) = ap (λ l. Some (excerpt hay s) ∷ l) (some_spans ss)
+
+    -- all of them are all matches
+    pub wholes_are_matches : (wholes : List (Option M)) (ms : List M) (rest : List Captured) → WithRest f wholes rest (captures_in r hay) → rest ≡ [] →
+        map f ms ≡ map (excerpt hay) (spans_in r hay) → map (option_map f) wholes ≡ map (λ m. Some (f m)) ms
+    wholes_are_matches wholes ms rest all none found =
+        sym (append-nil (map (option_map f) wholes))
+        ∙ ap (λ l. map (option_map f) wholes ++ map whole_of l) (sym none)
+        ∙ all
+        ∙ wholes_by (successive span_of_run hay (run_at r hay))
+        ∙ ap (map (option_map (excerpt hay))) (captures_have_spans r is hay)
+        ∙ some_spans (spans_in r hay)
+        ∙ ap (map (λ x. Some x)) (sym found)
+        ∙ sym (some_parts f hay ms)

@@ -110,6 +110,10 @@ escaped_scalars (c ∷ text) s = by_mark (is_marked c) (escaped_scalars text bot
 pub chars_are_scalars : (text : List ℕ) → IsUtf8 text → scalars (chars text) ≡ true
 chars_are_scalars text (cs, h) = subst (λ (l : List ℕ). scalars l ≡ true) (sym (chars-encodes cs h.0) ∙ ap chars h.1) h.0
 
+-- and so they are those of its UTF-8
+pub escaped_chars : (text : List ℕ) → IsUtf8 text → chars (encode_utf8_all (escaped (chars text))) ≡ escaped (chars text)
+escaped_chars text utf8 = chars-encodes (escaped (chars text)) (escaped_scalars (chars text) (chars_are_scalars text utf8))
+
 -- group 0 alone
 one_group : (t : Tree) → groups_in t ≡ [] → length (groups_left t) ≡ 1
 one_group t none = length-map-range_with_len (group_name t) 0 (captures_len t) ∙ ap (λ (ks : List ℕ). suc (greatest ks)) none
@@ -117,7 +121,7 @@ one_group t none = length-map-range_with_len (group_name t) 0 (captures_len t) �
 pub escaped_is_accepted : (text : List ℕ) → IsUtf8 text → weight (text_tree (chars text)) ≤ 10485760 →
     Accepts (by_default (encode_utf8_all (escaped (chars text)))) (text_tree (chars text))
 escaped_is_accepted text utf8 light = record {
-  read = subst (λ (l : Text). Limits l no_flags 50 (text_tree (chars text))) (sym (chars-encodes (escaped (chars text)) (escaped_scalars (chars text) (chars_are_scalars text utf8))))
+  read = subst (λ (l : Text). Limits l no_flags 50 (text_tree (chars text))) (sym (escaped_chars text utf8))
       (escaped_is_read (chars text) 50 (omega (arith, (escaped_is_flat (chars text)).1)));
   small = record {
     light = light;

@@ -1,0 +1,80 @@
+-- How what the calls of one regex answer agrees.
+use Rattle.std.proofs.Common.{◌≡◌, ℕ, ◌≤◌, List, Option, Some, None, option_map, length, refl, sym, ap, ◌∙◌, subst, true≢false}
+use Rattle.std.specs.Prelude.{IsSome, IfSome}
+use Rattle.bites_spec.specs.Measure.{static_captures_len}
+use Rattle.bites_spec.specs.Match.{Span, span}
+use Rattle.bites_spec.specs.Found.{Answer, FoundSome, IsLeastEnd}
+use Rattle.bites_spec.specs.Run.{Run, slots}
+use Rattle.bites_spec.specs.Slots.{group_in, taking_part, span_of_run}
+use Rattle.bites_spec.specs.Regex.{Regex, IsCompiled, run_at, span_at, slots_at}
+use Rattle.bites_spec.specs.Captured.{Captured, excerpt, captured, FindsSpan, AreGroups}
+use Rattle.bites_spec.proofs.AlikeLemmas.{least_end_is_at_most}
+use Rattle.bites_spec.proofs.FoundSomeLemmas.{finds_some}
+use Rattle.bites_spec.proofs.RegexRuns.{run_at-whole, slots_are_groups}
+use Rattle.bites_promises.specs.Promises.{IsNoLater}
+
+module _ (r : Regex) (hay : List ℕ) (s : ℕ) where
+  no_later : (a : Option Answer) (e : Option ℕ) → FoundSome r.tree hay s a → IsLeastEnd r.tree hay s e →
+      IsNoLater e (option_map (λ b. b.end) a)
+  no_later None None h least = tt
+  no_later None (Some j) h least = absurd (true≢false (least_end_is_at_most r.tree hay s None (Some j) h least).0)
+  no_later (Some a) None h least = absurd (true≢false (sym (least_end_is_at_most r.tree hay s (Some a) None h least).0))
+  no_later (Some a) (Some j) h least = (least_end_is_at_most r.tree hay s (Some a) (Some j) h least).1 a j refl refl
+
+  module _ {M : Type 0} (at : M → Span) where
+    end_of : (o : Option M) (a : Option Answer) → option_map at o ≡ option_map (λ b. span b.start b.end) a →
+        option_map (λ b. b.end) a ≡ option_map (λ m. (at m).end) o
+    end_of None None e = refl
+    end_of None (Some a) e = let never : None ≡ Some (span a.start a.end) = e in absurd (cc)
+    end_of (Some m) None e = let never : Some (at m) ≡ None = e in absurd (cc)
+    end_of (Some m) (Some a) e = sym (ap (option_map (λ (g : Span). g.end)) e)
+
+    -- the soonest end is at most that of the first match, and there is one exactly if there is the other
+    pub soonest_is_no_later : (o : Option M) → FindsSpan r hay s (option_map at o) → (e : Option ℕ) → IsLeastEnd r.tree hay s e →
+        IsNoLater e (option_map (λ m. (at m).end) o)
+    soonest_is_no_later o f e least =
+        subst (IsNoLater e) (end_of o f.0 f.2) (no_later f.0 e (finds_some r.leftmost_longest r.tree hay s f.0 f.1) least)
+
+  no_run : (o : Option Run) → None ≡ option_map (captured r hay) (option_map (slots r.program) o) →
+      option_map (excerpt hay) (option_map span_of_run o) ≡ None
+  no_run None e = refl
+  no_run (Some x) e = let never : None ≡ Some (captured r hay (slots r.program x)) = e in cc
+
+  -- where no captures are answered, the search finds nothing
+  pub no_captures : None ≡ option_map (captured r hay) (slots_at r hay s) → option_map (excerpt hay) (span_at r hay s) ≡ None
+  no_captures = no_run (run_at r hay s)
+
+  module _ (is : IsCompiled r) where
+    whole_of_run : (o : Option Run) → run_at r hay s ≡ o → (c : Captured) →
+        Some c ≡ option_map (captured r hay) (option_map (slots r.program) o) →
+        option_map (excerpt c.haystack) (group_in c.slots 0) ≡ option_map (excerpt hay) (option_map span_of_run o)
+    whole_of_run None e c same = let never : Some c ≡ None = same in cc
+    whole_of_run (Some x) e c same =
+        let groups : Some c ≡ Some (captured r hay (slots r.program x)) = same in
+        let at : c ≡ captured r hay (slots r.program x) = cc in
+        ap (λ (d : Captured). option_map (excerpt d.haystack) (group_in d.slots 0)) at
+        ∙ ap (option_map (excerpt hay)) (run_at-whole r is hay s x e)
+
+    -- group 0 of the captures is where the search finds a match
+    pub whole_is_span : (c : Captured) → Some c ≡ option_map (captured r hay) (slots_at r hay s) →
+        option_map (excerpt c.haystack) (group_in c.slots 0) ≡ option_map (excerpt hay) (span_at r hay s)
+    whole_is_span = whole_of_run (run_at r hay s) refl
+
+    groups_of : (o : Option (List (Option ℕ))) → slots_at r hay s ≡ o → (c : Captured) → Some c ≡ option_map (captured r hay) o → AreGroups r hay c.slots
+    groups_of None e c same = let never : Some c ≡ None = same in absurd (cc)
+    groups_of (Some l) e c same =
+        let groups : Some c ≡ Some (captured r hay l) = same in
+        let at : c ≡ captured r hay l = cc in
+        subst (λ (d : Captured). AreGroups r hay d.slots) (sym at) (slots_are_groups r is hay s l e)
+
+    -- group 0 took part
+    pub whole_takes_part : (o : Option Captured) → o ≡ option_map (captured r hay) (slots_at r hay s) → IfSome o (λ c. IsSome (group_in c.slots 0))
+    whole_takes_part None e = tt
+    whole_takes_part (Some c) e = (groups_of (slots_at r hay s) refl c e).whole
+
+    -- and at least as many as the form says
+    pub enough_take_part : (n : Option ℕ) → n ≡ static_captures_len r.tree → (o : Option Captured) →
+        o ≡ option_map (captured r hay) (slots_at r hay s) → IfSome n (λ k. IfSome o (λ c. k ≤ length (taking_part c.slots)))
+    enough_take_part None is_len o e = tt
+    enough_take_part (Some k) is_len None e = tt
+    enough_take_part (Some k) is_len (Some c) e = (groups_of (slots_at r hay s) refl c e).enough k (sym is_len)

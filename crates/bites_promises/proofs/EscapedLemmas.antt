@@ -1,0 +1,76 @@
+-- The regex of an escaped text.
+use Rattle.std.proofs.Common.{◌≡◌, ◌≢◌, ℕ, ◌<◌, ◌≤◌, List, Option, option_map, refl, sym, subst, arith, IsUtf8}
+use Rattle.std.specs.Prelude.{chars, encode_utf8_all, Result, Ok, Err, IfErr}
+use Rattle.std.proofs.lemmas.Str.{IsCharBoundary-start}
+use Rattle.bites_spec.specs.Pattern.{Text}
+use Rattle.bites_spec.specs.Tree.{Tree}
+use Rattle.bites_spec.specs.Measure.{Limits, weight, groups_left}
+use Rattle.bites_spec.specs.RangesOf.{ranges_of}
+use Rattle.bites_spec.specs.Match.{Span}
+use Rattle.bites_spec.specs.Found.{FoundSome}
+use Rattle.bites_spec.specs.Regex.{Regex}
+use Rattle.bites_spec.specs.Captured.{FindsSpan}
+use Rattle.bites_spec.specs.Settings.{no_flags, by_default, Accepts}
+use Rattle.bites_spec.specs.Escaped.{escaped, text_tree}
+use Rattle.bites_spec.specs.Occurrence.{IsLeftmost}
+use Rattle.bites_spec.proofs.ClassLemmas.{ranges_of_list}
+use Rattle.bites_spec.proofs.WholeOnce.{reads_once}
+use Rattle.bites_spec.proofs.WholeLaws.{refused_has_no_tree}
+use Rattle.bites_spec.proofs.EscapedReading.{escaped_is_flat, escaped_is_read, escaped_chars, escaped_is_accepted}
+use Rattle.bites_spec.proofs.EscapedMatches.{escaped_finds}
+use Rattle.bites_spec.proofs.FoundSomeLemmas.{finds_some}
+use Rattle.bites_text.specs.declared.error.Error.{Error}
+use Rattle.bites_text.specs.declared.error.Error.TheVariants.{TooBig, TooManyStates, TooManySlots, Memory}
+use Rattle.bites_machine.specs.Compiled.{RefusesTree}
+use Rattle.bites_bytes.specs.Settings.{Refuses, fault, limit}
+
+above : (n m : ℕ) → (n ≤ m → ⊥) → m < n
+above n m h = omega (arith, h)
+
+-- an error that refuses a tree that is refused by its weight alone
+by_weight : (t : Tree) → (weight t ≤ 10485760 → ⊥) → (e : Error) → e ≢ Memory → RefusesTree 10485760 (groups_left t) t e → e ≡ TooBig
+by_weight t heavy TooBig known h = refl
+by_weight t heavy TooManyStates known h = absurd (heavy h.0)
+by_weight t heavy TooManySlots known h = absurd (heavy h.0)
+by_weight t heavy Memory known h = absurd (known refl)
+by_weight t heavy _ known h = absurd h
+
+module _ (text pattern : List ℕ) (utf8 : IsUtf8 text) (is : pattern ≡ encode_utf8_all (escaped (chars text))) where
+  is_read : Limits (chars pattern) no_flags 50 (text_tree (chars text))
+  is_read =
+      subst (λ (p : List ℕ). Limits (chars p) no_flags 50 (text_tree (chars text))) (sym is)
+      (subst (λ (l : Text). Limits l no_flags 50 (text_tree (chars text))) (sym (escaped_chars text utf8))
+      (escaped_is_read (chars text) 50 (omega (arith, (escaped_is_flat (chars text)).1))))
+
+  -- the only tree of the pattern is that of the text
+  pub tree_of_text : (t : Tree) → Limits (chars pattern) no_flags 50 t → t ≡ text_tree (chars text)
+  tree_of_text t read = reads_once (chars pattern) no_flags t (text_tree (chars text)) read.reading is_read.reading
+
+  module _ (refused : (t : Tree) → Accepts (by_default pattern) t → ⊥) where
+    heavy : weight (text_tree (chars text)) ≤ 10485760 → ⊥
+    heavy light = refused (text_tree (chars text)) (subst (λ p. Accepts (by_default p) (text_tree (chars text))) (sym is) (escaped_is_accepted text utf8 light))
+
+    too_big : (e : Error) → e ≢ Memory → Refuses (by_default pattern) e → e ≡ TooBig
+    too_big e known (fault m f same) =
+        absurd (refused_has_no_tree ranges_of ranges_of_list 50 (chars pattern) no_flags m (text_tree (chars text)) f is_read)
+    too_big e known (limit t read h) =
+        by_weight t (λ light. heavy (subst (λ u. weight u ≤ 10485760) (tree_of_text t read) light)) e known h
+
+    -- a build of it is refused only for its size
+    pub only_too_big : (e : Error) → e ≢ Memory → Refuses (by_default pattern) e → (e ≡ TooBig) × (10485760 < weight (text_tree (chars text)))
+    only_too_big e known h = (too_big e known h, above (weight (text_tree (chars text))) 10485760 heavy)
+
+-- so it is, where its refusal says both that no tree is accepted and why
+pub refused_by_size : {R : Type 0} (text pattern : List ℕ) → IsUtf8 text → pattern ≡ encode_utf8_all (escaped (chars text)) → (r : Result R Error) →
+    IfErr r (λ e. e ≢ Memory → (t : Tree) → Accepts (by_default pattern) t → ⊥) → IfErr r (λ e. e ≢ Memory → Refuses (by_default pattern) e) →
+    IfErr r (λ e. e ≢ Memory → (e ≡ TooBig) × (10485760 < weight (text_tree (chars text))))
+refused_by_size text pattern utf8 is (Ok x) refused message = tt
+refused_by_size text pattern utf8 is (Err e) refused message = λ known. only_too_big text pattern utf8 is (refused known) e known (message known)
+
+-- what its search finds is where the text stands first
+pub text_is_found : {M : Type 0} (at : M → Span) (r : Regex) (hay text : List ℕ) → IsUtf8 hay → IsUtf8 text → r.tree ≡ text_tree (chars text) →
+    (o : Option M) → FindsSpan r hay 0 (option_map at o) → IsLeftmost hay text 0 (option_map at o)
+text_is_found at r hay text hay_utf8 text_utf8 is o f =
+    subst (IsLeftmost hay text 0) (sym f.2)
+    (escaped_finds hay text 0 hay_utf8 text_utf8 (IsCharBoundary-start hay hay_utf8) f.0
+    (subst (λ t. FoundSome t hay 0 f.0) is (finds_some r.leftmost_longest r.tree hay 0 f.0 f.1)))

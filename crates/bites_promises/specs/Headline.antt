@@ -1,0 +1,48 @@
+-- What the headline says of what a search answers.
+use Rattle.std.specs.Prelude.{◌≡◌, ℕ, ◌≤◌, List, Option, Some}
+use Rattle.bites_spec.specs.Tree.{Tree}
+use Rattle.bites_spec.specs.Match.{Span, Mark, Matches, Parse, groups}
+use Rattle.bites_spec.specs.Preference.{parses}
+use Rattle.bites_spec.specs.Found.{IsFirstPlace, head_of, first_ending, way}
+use Rattle.bites_spec.specs.Slots.{group_in}
+
+module _ (t : Tree) (hay : List ℕ) (g : Span) where
+  -- the tree matches from its start to its end
+  abbrev pub MatchesOver : Type 0
+  MatchesOver = Matches hay t g.start g.end
+
+  -- it ends where the parse does that the pattern prefers from its start
+  abbrev pub EndsAsPreferred : Type 0
+  EndsAsPreferred = (ms : List Mark) × (head_of (parses hay t g.start) ≡ Some (way g.end ms))
+
+  -- no match from its start ends behind it
+  abbrev pub EndsLast : Type 0
+  EndsLast = (l : ℕ) → Matches hay t g.start l → l ≤ g.end
+
+module _ (t : Tree) (hay : List ℕ) (s : ℕ) where
+  -- In the slots stand the groups of one parse, of which Q holds; it begins at the first place from s on at which the tree matches.
+  pub record AreOfParse (Q : (i j : ℕ) → List Mark → Type 0) (slots : List (Option ℕ)) : Type 0 where
+    pub start : ℕ
+    pub end : ℕ
+    pub marks : List Mark
+    pub first : IsFirstPlace t hay s start
+    pub parse : Parse hay t start end marks
+    pub groups : (k : ℕ) → group_in slots k ≡ groups start end marks k
+    pub chosen : Q start end marks
+
+  -- of one parse, whichever it is
+  abbrev pub AreOfOneParse : List (Option ℕ) → Type 0
+  AreOfOneParse = AreOfParse (λ i j ms. Unit {0})
+
+  -- of the parse that the pattern prefers
+  abbrev pub AreOfPreferredParse : List (Option ℕ) → Type 0
+  AreOfPreferredParse = AreOfParse (λ i j ms. head_of (parses hay t i) ≡ Some (way j ms))
+
+  -- of a parse to the greatest end
+  abbrev pub AreOfLongestParse : List (Option ℕ) → Type 0
+  AreOfLongestParse = AreOfParse (λ i j ms. (l : ℕ) → Matches hay t i l → l ≤ j)
+
+  -- of the one that the pattern prefers among the parses to that end
+  abbrev pub AreOfPreferredLongestParse : List (Option ℕ) → Type 0
+  AreOfPreferredLongestParse =
+      AreOfParse (λ i j ms. ((l : ℕ) → Matches hay t i l → l ≤ j) × (first_ending j (parses hay t i) ≡ Some (way j ms)))
