@@ -3,7 +3,7 @@
 //! `as_str` is called for its contract: it says that the regex is compiled, which the laws of its answers ask.
 
 ghost use Rattle.std.specs.Prelude.{◌≡◌, ◌+◌, Some, length, map, option_map, IfOk, vec_len};
-ghost use Rattle.std.specs.Cow.{cow_slice_items};
+ghost use Rattle.std.specs.Cow.{cow_slice_items, cow_str_bytes};
 ghost use Rattle.bites_spec.specs.Pieces.{joined_by, alternate};
 ghost use Rattle.bites_spec.specs.Captured.{text_of};
 ghost use Rattle.bites_bytes.specs.Matched as bytes;
@@ -85,8 +85,9 @@ pub mod over_bytes {
 
 /// Over texts.
 pub mod over_texts {
-    use regex_bites::{Match, Regex};
+    use regex_bites::{Match, NoExpand, Regex};
     use std::alloc::{AllocError, Global};
+    use std::borrow::CowStr;
 
     /// All matches: they stand in order, none overlaps another, and each ends behind the one before.
     pub fn all_matches<'h>(
@@ -135,5 +136,22 @@ pub mod over_texts {
         let matches = regex.find_iter(haystack)?.collect(alloc)?;
         let pieces = regex.split(haystack)?.collect(alloc)?;
         Ok((matches, pieces))
+    }
+
+    /// The haystack with each match replaced by a text, and the pieces between the matches: the first is the pieces joined
+    /// by the text.
+    pub fn replaced_and_pieces<'h>(
+        alloc: Global,
+        regex: &Regex,
+        haystack: &'h str,
+        text: &str,
+    ) -> Result<(CowStr<'h>, Vec<&'h str>), AllocError>
+        ensures { IfOk result
+            (λ r. cow_str_bytes r.0 ≡ joined_by text.now (map (λ p. p.now) r.1.items)) }
+    {
+        regex.as_str();
+        let pieces = regex.split(haystack)?.collect(alloc)?;
+        let replaced = regex.replace_all(haystack, NoExpand(text))?;
+        Ok((replaced, pieces))
     }
 }
