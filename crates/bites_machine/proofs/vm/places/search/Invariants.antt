@@ -2,7 +2,7 @@ use Rattle.std.proofs.Common.{◌≡◌, ◌≤◌, ◌-◌, length}
 use Rattle.bites_spec.specs.Program as program
 use Rattle.bites_machine.specs.States.{states_of}
 use Rattle.bites_machine.specs.Sweep.{IsBetween, IsProgramOf}
-use Rattle.bites_machine.proofs.PlaceSteps.{GoneTo}
+use Rattle.bites_machine.specs.Sweep.{GoneTo}
 use Rattle.bites_machine.proofs.vm.places.search.Given as goal
 
 abbrev pub invariant-places : goal.invariant-places
