@@ -28,6 +28,15 @@ pub struct Asked {
     pub longest: bool,
 }
 
+/// What is searched for: runs that start in a state, from a place of the haystack on.
+#[derive(Clone, Copy, Drop)]
+pub struct Request<'h> {
+    pub haystack: &'h [u8],
+    pub start: usize,
+    pub first: u32,
+    pub asked: Asked,
+}
+
 // The place, with the character of its piece.
 #[inline(always)]
 #[tactic(auto, unfolding(bites_spec::specs::Utf8::piece))]
@@ -232,7 +241,7 @@ fn search_start(
 {
     desk.marks.clear();
     desk.rows.first_is_free();
-    walk_on(counted, desk, here, started(first, here), slots);
+    walk(counted, desk, here, started(first, here), slots);
 }
 
 // Searches places from this one on while no thread is alive and nothing is found. Answers the place that
@@ -353,30 +362,33 @@ pub(super) fn search(
     counted: &mut Counted<'_>,
     desk: &mut Desk,
     threads: &mut Threads,
-    first: u32,
-    haystack: &[u8],
-    start: usize,
-    asked: Asked,
+    request: &Request<'_>,
     slots: &mut [Option<usize>],
 ) -> bool
-    requires start { start ≤ length haystack.now }
+    requires start { request.now.start ≤ length request.now.haystack.now }
     requires visits { counted.old.walked.visits ≡ [] }
     requires looks { counted.old.walked.looks ≡ 0 }
-    requires program { (p : program.Program) × IsProgramOf p (states_of counted.old.states.now) first
-        × HasRoom (fit_of p) desk.old threads.old }
+    requires program { (p : program.Program) × IsProgramOf p (states_of counted.old.states.now)
+        request.now.first × HasRoom (fit_of p) desk.old threads.old }
     requires idle { IsIdle desk.old threads.old }
     requires width { length slots.old ≡ desk.old.rows.width }
     requires nothing { slots_at desk.old.rows 0 ≡ replicate desk.old.rows.width None }
     requires even { length desk.old.rows.rows ≡ length desk.old.rows.counts }
     ensures sought { (p : program.Program) →
-        IsProgramOf p (states_of counted.old.states.now) first →
-        Sought p haystack.now asked.longest asked.earliest start result slots.old slots.new
-        counted.new.walked }
+        IsProgramOf p (states_of counted.old.states.now) request.now.first →
+        Sought p request.now.haystack.now request.now.asked.longest request.now.asked.earliest
+        request.now.start result slots.old slots.new counted.new.walked }
     ensures room { (p : program.Program) →
-        IsProgramOf p (states_of counted.old.states.now) first →
+        IsProgramOf p (states_of counted.old.states.now) request.now.first →
         HasRoom (fit_of p) desk.old threads.old → HasRoom (fit_of p) desk.new threads.new }
     ensures idle { IsIdle desk.new threads.new }
 {
+    let Request {
+        haystack,
+        start,
+        first,
+        asked,
+    } = *request;
     let mut is_found = false;
     let mut place = start;
     'places: loop {

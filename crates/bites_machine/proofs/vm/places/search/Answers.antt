@@ -18,9 +18,9 @@ places-init c =
       len = refl;
       states = refl;
       most = refl;
-      between = between_first p states c.args.start c.args.counted.now.walked c.args.desk.now c.args.threads.now (length c.args.slots.now)
+      between = between_first p states c.args.request.now.start c.args.counted.now.walked c.args.desk.now c.args.threads.now (length c.args.slots.now)
           is.states c.requires.program.2 c.requires.idle c.requires.visits c.requires.width c.requires.nothing c.requires.even;
-      gone = λ q same. gone_first q c.args.haystack.now c.args.asked.longest c.args.asked.earliest c.args.start c.args.slots.now c.args.counted.now.walked
+      gone = λ q same. gone_first q c.args.request.now.haystack.now c.args.request.now.asked.longest c.args.request.now.asked.earliest c.args.request.now.start c.args.slots.now c.args.counted.now.walked
           c.args.desk.now.rows c.args.threads.now.threads c.requires.visits c.requires.looks c.requires.idle.threads;
     }
 
@@ -37,7 +37,7 @@ search_on-last-requires c =
       within = omega (arith, e.within, e.place, ap length e.haystack);
       taken = e.taken ∙ sym (ap₂ next_character e.haystack e.place);
       len = e.len ∙ sym (ap₂ (λ h i. (piece h i).len) e.haystack e.place);
-      program = (p, is.states ∙ sym states, is.well, start_of c.places.is_found c.first_of-begins.result c.args.first p.start c.first_of-begins.ensures is.start);
+      program = (p, is.states ∙ sym states, is.well, start_of c.places.is_found c.first_of-begins.result c.args.request.now.first p.start c.first_of-begins.ensures is.start);
       between = subst (λ i. IsBetween (states_of c.places.counted.states.now) i c.places.counted.walked c.places.desk c.places.threads (length c.places.slots)) (sym e.place)
           (subst (λ (l : List program.State). IsBetween l c.places.place c.places.counted.walked c.places.desk c.places.threads (length c.places.slots)) (sym states) inv.between);
     }
@@ -51,8 +51,8 @@ places-preserved c =
     let last = c.search_on-last.result in
     let states = ap (λ s. states_of s.now) inv.states in
     let lens = done.len ∙ ap (λ (h : List ℕ). (piece h last.place).len) e.haystack in
-    let on : ends_by c.args.asked.earliest last.len c.is_found_with-is_found.result c.len.result ≡ false = sym c.is_over.ensures ∙ c.if-is_over.false in
-    let some : 0 < last.len = some_piece c.args.asked.earliest last.len c.is_found_with-is_found.result c.len.result on in
+    let on : ends_by c.args.request.now.asked.earliest last.len c.is_found_with-is_found.result c.len.result ≡ false = sym c.is_over.ensures ∙ c.if-is_over.false in
+    let some : 0 < last.len = some_piece c.args.request.now.asked.earliest last.len c.is_found_with-is_found.result c.len.result on in
     let later : last.place + 1 ≤ last.place + last.len = omega (arith, some) in
     record {
       within = omega (arith, done.within, ap length e.haystack);
@@ -62,9 +62,9 @@ places-preserved c =
       between = subst (λ (l : List program.State). IsBetween l (last.place + last.len) new.counted.walked new.desk new.threads (length new.slots)) states
           (between_later (states_of c.places.counted.states.now) (last.place + 1) (last.place + last.len) new.counted.walked new.desk new.threads (length new.slots) later done.between);
       gone = λ p is.
-          gone_next p c.args.haystack.now c.args.asked.longest c.args.asked.earliest c.args.start c.args.slots.now last.place last.len c.is_found_with-is_found.result
+          gone_next p c.args.request.now.haystack.now c.args.request.now.asked.longest c.args.request.now.asked.earliest c.args.request.now.start c.args.slots.now last.place last.len c.is_found_with-is_found.result
           new.counted.walked new.desk.rows new.threads.threads new.slots c.len.result
-          (searched_on p c.args.haystack.now c.args.asked.longest c.args.asked.earliest c.args.start c.args.slots.now c.places.place c.piece_at-here.result.place last.place c.args.first
+          (searched_on p c.args.request.now.haystack.now c.args.request.now.asked.longest c.args.request.now.asked.earliest c.args.request.now.start c.args.slots.now c.places.place c.piece_at-here.result.place last.place c.args.request.now.first
           c.piece_at-here.result.haystack.now c.piece_at-here.result.longest (states_of c.places.counted.states.now) c.first_of-begins.result c.places.is_found c.is_found_with-is_found.result
           c.places.counted.walked new.counted.walked c.places.desk new.desk c.places.threads.threads new.threads.threads c.places.slots new.slots
           e.haystack e.longest e.place inv.len (record { states = is.states ∙ sym states; start = is.start; well = is.well }) c.first_of-begins.ensures c.is_found_with-is_found.ensures
@@ -81,9 +81,9 @@ returns-clause-sought c p is =
     let last = c.search_on-last.result in
     let states = ap (λ s. states_of s.now) inv.states in
     let lens = done.len ∙ ap (λ (h : List ℕ). (piece h last.place).len) e.haystack in
-    sought_by p c.args.haystack.now c.args.asked.longest c.args.asked.earliest c.args.start c.args.slots.now last.place last.len c.is_found_with-is_found.result
+    sought_by p c.args.request.now.haystack.now c.args.request.now.asked.longest c.args.request.now.asked.earliest c.args.request.now.start c.args.slots.now last.place last.len c.is_found_with-is_found.result
     new.counted.walked new.desk.rows new.threads.threads new.slots c.len.result
-    (searched_on p c.args.haystack.now c.args.asked.longest c.args.asked.earliest c.args.start c.args.slots.now c.places.place c.piece_at-here.result.place last.place c.args.first
+    (searched_on p c.args.request.now.haystack.now c.args.request.now.asked.longest c.args.request.now.asked.earliest c.args.request.now.start c.args.slots.now c.places.place c.piece_at-here.result.place last.place c.args.request.now.first
     c.piece_at-here.result.haystack.now c.piece_at-here.result.longest (states_of c.places.counted.states.now) c.first_of-begins.result c.places.is_found c.is_found_with-is_found.result
     c.places.counted.walked new.counted.walked c.places.desk new.desk c.places.threads.threads new.threads.threads c.places.slots new.slots
     e.haystack e.longest e.place inv.len (record { states = is.states ∙ sym states; start = is.start; well = is.well }) c.first_of-begins.ensures c.is_found_with-is_found.ensures
@@ -103,6 +103,6 @@ returns-clause-room c p is room =
 pub places-smaller : goal.places-smaller
 places-smaller c =
     let last = c.search_on-last.result in
-    let on : ends_by c.args.asked.earliest last.len c.is_found_with-is_found.result c.len.result ≡ false = sym c.is_over.ensures ∙ c.if-is_over.false in
-    let some : 0 < last.len = some_piece c.args.asked.earliest last.len c.is_found_with-is_found.result c.len.result on in
+    let on : ends_by c.args.request.now.asked.earliest last.len c.is_found_with-is_found.result c.len.result ≡ false = sym c.is_over.ensures ∙ c.if-is_over.false in
+    let some : 0 < last.len = some_piece c.args.request.now.asked.earliest last.len c.is_found_with-is_found.result c.len.result on in
     omega (arith, some, c.search_on-last.ensures.within, c.search_on-last.ensures.onward, c.piece_at-here.ensures.place, ap length c.piece_at-here.ensures.haystack)
