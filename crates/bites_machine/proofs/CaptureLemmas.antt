@@ -1,9 +1,9 @@
 -- A visit of a state that writes a slot, or of a match, is a step of the machine on lists.
-use Rattle.std.proofs.Common.{◌≡◌, ◌≢◌, ℕ, zero, suc, ◌+◌, ◌<◌, ◌≤◌, ◌⊎◌, ⊎_elim, inl, inr, Bool, true, false, cond, List, [], ◌∷◌, ◌++◌, map, take, length, Option, Some, None, refl, sym, ap, ap₂, ◌∙◌, subst, arith, append_assoc, length-append, eq-eqb, ltb-true, ltb-false, sum}
-use Rattle.std.specs.Prelude.{option_to_list, slice_index, slice_set, nat_lt, nat_le, if◌then◌else◌, IfSome, is_some, option_map, slice_index_or, replicate}
+use Rattle.std.proofs.Common.{◌≡◌, ℕ, suc, ◌+◌, ◌<◌, ◌≤◌, ◌⊎◌, ⊎_elim, inl, Bool, true, false, cond, List, [], ◌∷◌, ◌++◌, map, take, length, Option, Some, None, refl, sym, ap, ap₂, ◌∙◌, subst, arith, ltb-true, ltb-false, sum}
+use Rattle.std.specs.Prelude.{slice_index, slice_set, nat_lt, nat_le, if◌then◌else◌, is_some, slice_index_or, replicate}
 use Rattle.std.specs.Option.{option_or}
 use Rattle.std.specs.List.{filter}
-use Rattle.std.proofs.lemmas.List.{append-nil, length-set, get_or-set_same, get_or-set_other, take_more_set, take-set-le, set_past}
+use Rattle.std.proofs.lemmas.List.{length-set, get_or-set_same, get_or-set_other, take_more_set, take-set-le, set_past}
 use Rattle.std.proofs.lemmas.Bool.{le-leb}
 use Rattle.std.proofs.lemmas.List.Elements.{filter-append}
 use Rattle.bites_spec.specs.Walks.{Among}
@@ -12,17 +12,15 @@ use Rattle.bites_spec.specs.Program.{Spot, at, is_match}
 use Rattle.bites_machine.specs.Machine as machine
 use Rattle.bites_machine.specs.Machine.{Walking, kept, moved, visited, thread_on, with_write}
 use Rattle.bites_machine.specs.Rows.{Pool, with_notes}
-use Rattle.bites_machine.specs.Used.{IsUsed, KeepsRows, slots_at}
-use Rattle.bites_machine.specs.Stack.{Frames}
+use Rattle.bites_machine.specs.Used.{IsUsed, slots_at}
 use Rattle.bites_machine.specs.Threads.{Listed}
 use Rattle.bites_machine.specs.Framed.{frame_at}
 use Rattle.bites_machine.specs.Desk.{frame_of, hit_of, walking_of, users_of, next_of, thread_of, row_of}
-use Rattle.bites_machine.specs.Visits.{AreNoted, IsStarted, VisitsTo, behind}
+use Rattle.bites_machine.specs.Visits.{AreNoted, IsStarted, VisitsTo}
 use Rattle.bites_machine.specs.declared.vm.threads.Thread.{Thread}
 use Rattle.bites_machine.specs.declared.vm.stack.Frame.{Frame}
 use Rattle.bites_machine.specs.declared.vm.walk.Hit.{Hit}
 use Rattle.bites_machine.specs.declared.vm.walk.Desk.{Desk}
-use Rattle.bites_machine.proofs.MachineCases.{gone, at_match}
 use Rattle.bites_machine.proofs.RowLemmas.{with_notes-push, length-with_notes}
 use Rattle.bites_machine.proofs.VisitLemmas.{visited_capture, visited_match, noted_more, noted_kept, known_framed}
 

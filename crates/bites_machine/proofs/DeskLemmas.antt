@@ -1,17 +1,14 @@
 -- The threads that the machine holds, when one comes.
-use Rattle.std.proofs.Common.{◌≡◌, ◌≢◌, ℕ, zero, suc, ◌+◌, ◌-◌, ◌<◌, ◌≤◌, ◌⊎◌, ⊎_elim, inl, inr, Bool, true, false, cond, List, [], ◌∷◌, ◌++◌, map, take, length, refl, sym, ap, ap₂, ◌∙◌, subst, arith, append_assoc, length-append}
+use Rattle.std.proofs.Common.{◌≡◌, ◌≢◌, ℕ, ◌+◌, ◌<◌, ⊎_elim, inl, inr, cond, List, [], ◌∷◌, ◌++◌, map, length, refl, sym, ap, ap₂, ◌∙◌, subst, arith, length-append}
 use Rattle.std.specs.Prelude.{◌==◌, slice_index, count_by}
 use Rattle.std.proofs.lemmas.List.{map-append}
 use Rattle.std.proofs.lemmas.List.Sums.{sum_by-cons, sum_by-append}
 use Rattle.bites_spec.specs.Walks.{Among}
 use Rattle.bites_spec.proofs.SlotLemmas.{Among-left, Among-right}
 use Rattle.bites_machine.proofs.EdgeLemmas.{Among-apart}
-use Rattle.bites_machine.specs.Machine as machine
-use Rattle.bites_machine.specs.Rows.{Pool, with_notes}
+use Rattle.bites_machine.specs.Rows.{Pool}
 use Rattle.bites_machine.specs.Used.{IsUsed, KeepsRows, GoesOnBy, slots_at}
-use Rattle.bites_machine.specs.Stack.{Frames}
-use Rattle.bites_machine.specs.Threads.{Listed}
-use Rattle.bites_machine.specs.Desk.{thread_of, next_of, users_of, row_of, PutsIn, OnlyGoesOn}
+use Rattle.bites_machine.specs.Desk.{thread_of, users_of, row_of, PutsIn}
 use Rattle.bites_machine.specs.declared.vm.threads.Thread.{Thread}
 use Rattle.bites_machine.specs.declared.vm.walk.Desk.{Desk}
 use Rattle.bites_machine.proofs.UsedLemmas.{same_or_not, users_more}

@@ -1,5 +1,5 @@
 -- The edges of a state, apart into those that take a character and those that take nothing.
-use Rattle.std.proofs.Common.{◌≡◌, ℕ, ◌+◌, ◌<◌, Bool, true, false, cond, ◌&&◌, List, [], ◌∷◌, ◌++◌, map, reverse, take, Option, Some, None, refl, sym, ap, subst, inl, inr, ⊎_elim, ◌⊎◌, ltb-true}
+use Rattle.std.proofs.Common.{◌≡◌, ℕ, ◌+◌, ◌<◌, Bool, true, false, cond, ◌&&◌, List, [], ◌∷◌, ◌++◌, map, reverse, Option, Some, None, refl, sym, ap, subst, inl, inr, ⊎_elim, ◌⊎◌, ltb-true}
 use Rattle.std.specs.Prelude.{nat_lt, ◌==◌, if◌then◌else◌}
 use mathlib.Core.List.{reverse-cons}
 use Rattle.bites_spec.specs.Utf8.{piece, character}

@@ -1,14 +1,13 @@
 -- Steps of the code that writes the states of a tree.
-use Rattle.std.proofs.Common.{◌≡◌, ℕ, zero, suc, ◌+◌, ◌-◌, ◌*◌, ◌<◌, ◌≤◌, Bool, true, false, cond, max, List, [], ◌∷◌, ◌++◌, length, get_or, drop, Option, Some, None, Result, Ok, Err, IfOk, refl, sym, ap, ◌∙◌, subst, arith, append_assoc, append-nil, add-one}
+use Rattle.std.proofs.Common.{◌≡◌, ℕ, zero, suc, ◌+◌, ◌-◌, ◌*◌, ◌<◌, ◌≤◌, Bool, false, List, [], ◌∷◌, ◌++◌, length, get_or, drop, Some, None, Result, IfOk, refl, sym, ap, ◌∙◌, subst, arith, append_assoc, append-nil}
 use Rattle.std.specs.declared.alloc.AllocError.{AllocError}
-use Rattle.std.proofs.lemmas.List.{length-set}
-use Rattle.bites_spec.specs.Tree.{Tree, Trees, sequence, alternation, no_tree, tree_and, trees_of, is_empty_by_form, groups_in, groups_in_all, greatest, IsReduced, AllAreReduced}
-use Rattle.bites_spec.specs.Measure.{Size, repeated_size, size_of, copies}
+use Rattle.bites_spec.specs.Tree.{Tree, Trees, sequence, alternation, tree_and, trees_of, groups_in, groups_in_all, greatest, IsReduced, AllAreReduced}
+use Rattle.bites_spec.specs.Measure.{Size, repeated_size, size_of}
 use Rattle.bites_spec.specs.Program as program
 use Rattle.bites_spec.specs.Program.{State}
 use Rattle.bites_syntax.specs.View.{tree_of}
 use Rattle.bites_syntax.specs.declared.tree.Kind.{Kind}
-use Rattle.bites_machine.specs.Emitted.{Emitted, emitted, Emitter, pushed, in_front, again, choice, options, bounded, around, loop, star, optional_loop, copies_up_to, repeated, grouped, writing, Branches, branches, with_branch, split, emit, emit_all, emit_each}
+use Rattle.bites_machine.specs.Emitted.{Emitted, emitted, Emitter, pushed, in_front, again, options, bounded, loop, copies_up_to, repeated, Branches, branches, with_branch, split, emit, emit_all, emit_each}
 use Rattle.bites_machine.proofs.EmitLemmas.{length_pushed}
 use Rattle.bites_machine.proofs.LengthLemmas.{Grows-emit, Grows-again, Grows-options, Grows-bounded, Grows-loop, Grows-emit_all, Grows-emit_each, sum_times, unbounded_size, exact_size, ranged_size, optional_size}
 use Rattle.bites_syntax.proofs.TreeParts.{parts_from, parts_end}

@@ -1,21 +1,21 @@
 -- What is written for a tree has no fault.
-use Rattle.std.proofs.Common.{◌≡◌, ℕ, zero, suc, ◌+◌, ◌-◌, ◌*◌, ◌<◌, ◌≤◌, Bool, true, false, cond, not, ◌&&◌, max, List, [], ◌∷◌, ◌++◌, length, reverse, Option, Some, None, refl, sym, ap, ◌∙◌, arith, lt-ltb, le-leb, slice_set, length-append}
-use Rattle.std.specs.Prelude.{nat_lt, nat_le, ◌==◌}
+use Rattle.std.proofs.Common.{◌≡◌, ℕ, zero, suc, ◌+◌, ◌-◌, ◌*◌, ◌<◌, ◌≤◌, Bool, true, false, cond, not, ◌&&◌, max, List, [], ◌∷◌, ◌++◌, length, Option, Some, None, refl, arith, lt-ltb, le-leb, slice_set}
+use Rattle.std.specs.Prelude.{nat_lt}
 use Rattle.std.specs.List.{list_all}
 use Rattle.std.specs.Option.{option_or}
 use Rattle.std.proofs.lemmas.List.{length-set}
 use Rattle.std.proofs.lemmas.Bool.Decides.{nat_tests}
 use Rattle.bites_spec.specs.Walks.{first_among}
-use Rattle.bites_spec.specs.Class.{AreGreatest, IsRange, following}
+use Rattle.bites_spec.specs.Class.{AreGreatest, following}
 use Rattle.bites_spec.specs.Tree.{Tree, Trees, empty, char, class, look, repetition, group, sequence, alternation, no_tree, tree_and, is_empty_by_form, groups_in, groups_in_all, greatest}
 use Rattle.bites_spec.specs.Program as program
 use Rattle.bites_spec.specs.Program.{State, targets_of}
 use Rattle.bites_spec.specs.Built.{Fragment, HasForm}
 use Rattle.bites_spec.specs.ProgramFaults.{ProgramFault, bad_target, bad_ranges, bad_slot, are_ranges, has_ranges, has_slot, fault_of}
 use Rattle.bites_spec.proofs.FirstLemmas.{or_none}
-use Rattle.bites_machine.specs.Emitted.{Emitted, Emitter, pushed, in_front, again, choice, with_choice, options, bounded, around, loop, star, optional_loop, copies_up_to, repeated, class_state, grouped, writing, Branches, branches, split, emit, emit_all, emit_each}
+use Rattle.bites_machine.specs.Emitted.{Emitted, Emitter, pushed, in_front, again, choice, options, bounded, around, loop, star, optional_loop, copies_up_to, repeated, class_state, grouped, Branches, emit, emit_all, emit_each}
 use Rattle.bites_machine.specs.Classes.{HasClasses, AllHaveClasses}
-use Rattle.bites_machine.proofs.EmitLemmas.{length_pushed, Extends, Forms, FormsBody, Forms-emit, Forms-emit_all, Forms-again, Forms-options, Forms-loop, FormsBranches, Forms-emit_each}
+use Rattle.bites_machine.proofs.EmitLemmas.{length_pushed, FormsBody, Forms-emit, Forms-options, Forms-loop, Forms-emit_each}
 
 pub both_true : (a b : Bool) → a ≡ true → b ≡ true → (a && b) ≡ true
 both_true true b e f = f

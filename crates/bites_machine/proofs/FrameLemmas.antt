@@ -1,5 +1,5 @@
 -- Frames that wait on the stack of a walk.
-use Rattle.std.proofs.Common.{◌≡◌, ℕ, zero, suc, ◌≤◌, ◌<◌, Bool, true, false, List, [], ◌∷◌, drop, length, refl, sym, ◌∙◌, arith}
+use Rattle.std.proofs.Common.{◌≡◌, ℕ, zero, suc, ◌≤◌, Bool, true, false, List, [], ◌∷◌, drop, length, refl, arith}
 use Rattle.std.proofs.lemmas.List.{length-reverse}
 use Rattle.bites_spec.specs.Program as program
 use Rattle.bites_spec.specs.Program.{targets_of}

@@ -1,14 +1,13 @@
 -- The users of rows, when they let go.
-use Rattle.std.proofs.Common.{◌≡◌, ◌≢◌, ℕ, zero, suc, ◌+◌, ◌-◌, ◌<◌, ◌≤◌, ◌⊎◌, ⊎_elim, inl, inr, Bool, true, false, cond, List, [], ◌∷◌, length, sum, Option, Some, None, refl, sym, ap, ◌∙◌, subst, arith, eq-eqb, ne_eqb}
+use Rattle.std.proofs.Common.{◌≡◌, ◌≢◌, ℕ, suc, ◌+◌, ◌-◌, ◌<◌, ⊎_elim, inl, inr, Bool, true, false, cond, List, [], ◌∷◌, length, Option, None, refl, sym, ap, ◌∙◌, subst, arith, eq-eqb, ne_eqb}
 use Rattle.std.specs.Prelude.{◌==◌, slice_set, slice_index, slice_index_or, count_by, replicate}
 use Rattle.std.proofs.lemmas.List.{length-set, get_or-set_same, get_or-set_other}
 use Rattle.std.proofs.Math.Seq.{drop-cons}
 use Rattle.std.specs.Prelude.{drop, map}
 use Rattle.bites_machine.specs.Desk.{row_of}
 use Rattle.bites_machine.specs.declared.vm.threads.Thread.{Thread}
-use Rattle.bites_spec.specs.Walks.{Among}
 use Rattle.bites_machine.specs.Rows.{Pool, one_less}
-use Rattle.bites_machine.specs.Used.{IsUsed, KeepsRows, slots_at}
+use Rattle.bites_machine.specs.Used.{IsUsed, slots_at}
 use Rattle.bites_machine.proofs.UsedLemmas.{users_more, users_same, same_or_not}
 
 -- a user of the row goes, the counts follow

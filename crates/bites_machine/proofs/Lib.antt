@@ -49,3 +49,4 @@ pub mod PlaceSteps
 pub mod PlaceLemmas
 pub mod BetweenLemmas
 pub mod PlaceSearches
+pub mod HuntSteps

@@ -1,6 +1,6 @@
 -- A look is a step of the machine on lists.
-use Rattle.std.proofs.Common.{◌≡◌, ◌≢◌, ℕ, zero, suc, ◌+◌, ◌*◌, ◌<◌, ◌≤◌, ⊎_elim, inl, inr, Bool, true, false, cond, List, [], ◌∷◌, ◌++◌, map, length, Option, Some, None, refl, sym, ap, ap₂, ◌∙◌, subst, arith}
-use Rattle.std.specs.Prelude.{◌==◌, option_to_list, slice_index_or, slice_set, if◌then◌else◌, sum}
+use Rattle.std.proofs.Common.{◌≡◌, ℕ, suc, ◌+◌, ◌<◌, inl, inr, Bool, true, false, cond, List, [], ◌∷◌, ◌++◌, map, length, Option, None, refl, sym, ap, ap₂, ◌∙◌, subst, arith}
+use Rattle.std.specs.Prelude.{◌==◌, option_to_list, slice_index_or, slice_set}
 use Rattle.std.specs.List.{list_any}
 use Rattle.std.proofs.lemmas.List.{length-set}
 use Rattle.bites_spec.specs.Walks.{Among}
@@ -9,15 +9,12 @@ use Rattle.bites_spec.specs.Program.{Spot, at, targets_of, state_at, is_match}
 use Rattle.bites_spec.specs.Counts.{Record}
 use Rattle.bites_machine.specs.Machine as machine
 use Rattle.bites_machine.specs.Machine.{Walking, kept, visited, dropped, stepped}
-use Rattle.bites_machine.specs.Rows.{Pool}
 use Rattle.bites_machine.specs.Stack.{Frames}
-use Rattle.bites_machine.specs.Threads.{Listed}
-use Rattle.bites_machine.specs.Desk.{frame_of, hit_of, walking_of, users_of, next_of}
-use Rattle.bites_machine.specs.Visits.{AreNoted, IsStarted, VisitsTo, behind}
+use Rattle.bites_machine.specs.Desk.{frame_of, hit_of, walking_of, next_of}
+use Rattle.bites_machine.specs.Visits.{AreNoted, VisitsTo, behind}
 use Rattle.bites_machine.specs.Looks.{seen_here, visited_before, edges_left, marked, IsReady, LooksTo}
 use Rattle.bites_machine.specs.declared.vm.threads.Thread.{Thread}
 use Rattle.bites_machine.specs.declared.vm.stack.Frame.{Frame}
-use Rattle.bites_machine.specs.declared.vm.walk.Hit.{Hit}
 use Rattle.bites_machine.specs.declared.vm.walk.Desk.{Desk}
 use Rattle.bites_machine.proofs.VisitLemmas.{noted_more}
 use Rattle.bites_machine.proofs.LookLemmas.{marked_more, edges_marked, seen_more, before_same, seen_marked}

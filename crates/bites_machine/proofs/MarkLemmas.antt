@@ -1,7 +1,7 @@
 -- Marks and the rounds in which they were set.
-use Rattle.std.proofs.Common.{◌≡◌, ◌≢◌, ℕ, zero, suc, ◌+◌, ◌<◌, ◌≤◌, Bool, true, false, List, [], ◌∷◌, map, length, refl, sym, ap, ap₂, ◌∙◌, arith, eq-eqb, ne_eqb}
-use Rattle.std.specs.Prelude.{◌==◌, slice_index, slice_index_or, slice_set, replicate}
-use Rattle.std.proofs.lemmas.List.{map-set, set-get_or, length-map}
+use Rattle.std.proofs.Common.{◌≡◌, ℕ, zero, suc, ◌+◌, ◌<◌, true, false, List, [], ◌∷◌, length, refl, sym, ap, ap₂, ◌∙◌, arith, eq-eqb, ne_eqb}
+use Rattle.std.specs.Prelude.{◌==◌, slice_index, slice_set, replicate}
+use Rattle.std.proofs.lemmas.List.{map-set, set-get_or}
 use Rattle.bites_machine.specs.Marks.{marks_of, AreRounds}
 
 -- the state is marked in this round

@@ -1,5 +1,5 @@
 -- A search that goes from place to place, and what it answers where it ends.
-use Rattle.std.proofs.Common.{◌≡◌, ◌≢◌, ℕ, zero, suc, ◌+◌, ◌*◌, ◌<◌, ◌≤◌, Bool, true, false, ◌||◌, ◌&&◌, cond, List, [], ◌∷◌, map, length, Option, Some, None, replicate, refl, sym, ap, ap₂, ◌∙◌, subst, arith, true≢false}
+use Rattle.std.proofs.Common.{◌≡◌, ℕ, zero, suc, ◌+◌, ◌*◌, ◌<◌, ◌≤◌, Bool, true, false, ◌||◌, ◌&&◌, cond, List, [], ◌∷◌, map, length, Option, Some, None, replicate, refl, sym, ap, ap₂, ◌∙◌, subst, arith, true≢false}
 use Rattle.std.specs.Prelude.{◌==◌, is_some, IfSome}
 use Rattle.bites_spec.specs.Utf8.{piece}
 use Rattle.bites_spec.specs.Walks.{Among}
@@ -12,7 +12,7 @@ use Rattle.bites_machine.specs.Rows.{Pool}
 use Rattle.bites_machine.specs.Threads.{Listed}
 use Rattle.bites_machine.specs.Used.{IsUsed, slots_at}
 use Rattle.bites_machine.specs.Desk.{thread_of, row_of}
-use Rattle.bites_machine.specs.Sweep.{Sought, IsBetween, HasRoom, IsIdle, IsProgramOf, StandsFor, PlaceSearched}
+use Rattle.bites_machine.specs.Sweep.{Sought, IsBetween, HasRoom, IsIdle, IsProgramOf, StandsFor, PlaceSearched, GoneTo, HasSearched}
 use Rattle.bites_machine.proofs.IdleLemmas.{used_by_none}
 use Rattle.bites_machine.specs.declared.vm.threads.Thread.{Thread}
 use Rattle.bites_machine.specs.declared.vm.walk.Desk.{Desk}
@@ -94,26 +94,9 @@ room_between p states place walked desk list width rows empty same between most 
     }
 
 module _ (p : Program) (hay : List ℕ) (longest earliest : Bool) (start : ℕ) (old : List (Option ℕ)) where
-  -- the machine on lists has gone on to this place
-  pub record GoneTo (place : ℕ) (is_found : Bool) (walked : Record) (pool : Pool) (threads : List Thread) (slots : List (Option ℕ)) : Type 0 where
-    pub places : ℕ
-    pub now : Searching
-    pub searched : SearchedTo hay longest p (length old) earliest start places now
-    pub stands : StandsFor now place pool threads walked old slots is_found
-
-  -- the place was searched, and whether the search is over is not known yet
-  pub record HasSearched (place : ℕ) (is_found : Bool) (walked : Record) (pool : Pool) (threads : List Thread) (slots : List (Option ℕ)) : Type 0 where
-    pub places : ℕ
-    pub before : Searching
-    pub now : Searching
-    pub searched : SearchedTo hay longest p (length old) earliest start places before
-    pub place_is : before.place ≡ place
-    pub last : Searches hay longest p (length old) before now
-    pub stands : StandsFor now (place + (piece hay place).len) pool threads walked old slots is_found
-
   -- a search begins at its start
   pub gone_first : (walked : Record) (pool : Pool) (threads : List Thread) → walked.visits ≡ [] → walked.looks ≡ 0 → threads ≡ [] →
-      GoneTo start false walked pool threads old
+      GoneTo p hay longest earliest start old start false walked pool threads old
   gone_first walked pool threads visits looks none = record {
     places = 0;
     now = at_start hay longest p (length old) start;
@@ -132,8 +115,8 @@ module _ (p : Program) (hay : List ℕ) (longest earliest : Bool) (start : ℕ) 
   pub has_searched : (place here len first : ℕ) (text : List ℕ) (states : List program.State) (begins : Option ℕ) (is_found found : Bool) (was now : Record) (desk new : Desk) (threads later : List Thread) (slots left : List (Option ℕ)) →
       text ≡ hay → here ≡ place → len ≡ (piece hay place).len → length slots ≡ length old → IsProgramOf p states first →
       begins ≡ cond is_found None (Some first) → found ≡ (is_found || is_some new.hit) →
-      GoneTo place is_found was desk.rows threads slots → PlaceSearched text longest here len states begins was now desk new threads later slots left →
-      HasSearched place found now new.rows later left
+      GoneTo p hay longest earliest start old place is_found was desk.rows threads slots → PlaceSearched text longest here len states begins was now desk new threads later slots left →
+      HasSearched p hay longest earliest start old place found now new.rows later left
   has_searched place here len first text states begins is_found found was now desk new threads later slots left texts heres lens same is begun founds gone one =
       let there : PlaceSearched hay longest place (piece hay place).len states begins was now desk new threads later slots left =
       subst (λ (h : List ℕ). PlaceSearched h longest place (piece hay place).len states begins was now desk new threads later slots left) texts
@@ -155,7 +138,7 @@ module _ (p : Program) (hay : List ℕ) (longest earliest : Bool) (start : ℕ) 
   empty_by pool (t ∷ ts) = grind arith
 
   over_by : (place : ℕ) (is_found : Bool) (walked : Record) (pool : Pool) (threads : List Thread) (slots : List (Option ℕ)) →
-      (h : HasSearched place is_found walked pool threads slots) →
+      (h : HasSearched p hay longest earliest start old place is_found walked pool threads slots) →
       is_over hay longest p (length old) earliest h.before.place h.now ≡ ends_by earliest (piece hay place).len is_found (length threads)
   over_by place is_found walked pool threads slots h =
       ap (λ (i : ℕ). ((piece hay i).len == 0) || (is_some h.now.best && (earliest || is_empty h.now.threads))) h.place_is
@@ -164,8 +147,8 @@ module _ (p : Program) (hay : List ℕ) (longest earliest : Bool) (start : ℕ) 
 
   -- a search that is not over has gone on to the next place
   pub gone_next : (place len : ℕ) (is_found : Bool) (walked : Record) (pool : Pool) (threads : List Thread) (slots : List (Option ℕ)) (left : ℕ) →
-      HasSearched place is_found walked pool threads slots → len ≡ (piece hay place).len → left ≡ length threads → ends_by earliest len is_found left ≡ false →
-      GoneTo (place + len) is_found walked pool threads slots
+      HasSearched p hay longest earliest start old place is_found walked pool threads slots → len ≡ (piece hay place).len → left ≡ length threads → ends_by earliest len is_found left ≡ false →
+      GoneTo p hay longest earliest start old (place + len) is_found walked pool threads slots
   gone_next place len is_found walked pool threads slots left h lens lefts on = record {
     places = suc h.places;
     now = h.now;
@@ -180,7 +163,7 @@ module _ (p : Program) (hay : List ℕ) (longest earliest : Bool) (start : ℕ) 
 
   -- a search that is over was this one
   pub sought_by : (place len : ℕ) (is_found : Bool) (walked : Record) (pool : Pool) (threads : List Thread) (slots : List (Option ℕ)) (left : ℕ) →
-      HasSearched place is_found walked pool threads slots → len ≡ (piece hay place).len → left ≡ length threads → ends_by earliest len is_found left ≡ true →
+      HasSearched p hay longest earliest start old place is_found walked pool threads slots → len ≡ (piece hay place).len → left ≡ length threads → ends_by earliest len is_found left ≡ true →
       Sought p hay longest earliest start is_found old slots walked
   sought_by place len is_found walked pool threads slots left h lens lefts over = record {
     last = h.now;

@@ -1,10 +1,8 @@
 -- Rows of cells, and what is noted and written in them.
-use Rattle.std.proofs.Common.{◌≡◌, ◌≢◌, ℕ, zero, suc, ◌+◌, ◌-◌, ◌*◌, ◌<◌, ◌≤◌, Bool, true, false, List, [], ◌∷◌, ◌++◌, take, drop, length, Option, Some, None, refl, sym, ap, ap₂, ◌∙◌, subst, arith, append_assoc, length-append, length-take, length-drop}
-use Rattle.std.specs.Prelude.{slice_set, slice_index_or, slice_index, replicate}
-use Rattle.std.proofs.lemmas.List.{drop-drop, drop_at, take_at, get_or-drop, places, length-take-le, take-append-drop, length-set, get_or-set_other, drop_more}
-use Rattle.std.proofs.lemmas.Grind.{common_steps}
+use Rattle.std.proofs.Common.{◌≡◌, ℕ, zero, suc, ◌+◌, ◌*◌, ◌<◌, ◌≤◌, List, [], ◌∷◌, ◌++◌, take, drop, length, Option, Some, refl, sym, ap, ap₂, ◌∙◌, arith, append_assoc, length-drop}
+use Rattle.std.specs.Prelude.{slice_set, slice_index_or}
+use Rattle.std.proofs.lemmas.List.{drop-drop, drop_at, take_at, length-take-le, length-set}
 use Rattle.std.proofs.Math.Nat.{mul-le-mul_left, mul-le-mul_right}
-use lib.Seq.{paste}
 use Rattle.bites_machine.specs.Rows.{rows_of, with_notes}
 
 -- one note more, behind the others

@@ -2,7 +2,7 @@
 use Rattle.std.proofs.Common.{◌≡◌, ℕ, suc, ◌+◌, List, [], ◌∷◌, length, refl, sym, ap, ap₂, ◌∙◌, arith}
 use Rattle.bites_spec.specs.Tree.{Tree, sequence, alternation, trees_of, count}
 use Rattle.bites_spec.specs.Measure.{Size, size, size_of}
-use Rattle.bites_machine.specs.Sizes.{held, held_size, both_sizes}
+use Rattle.bites_machine.specs.Sizes.{held_size, both_sizes}
 
 count-trees_of : (ts : List Tree) → count (trees_of ts) ≡ length ts
 count-trees_of [] = refl

@@ -1,5 +1,5 @@
 -- Programs that have no fault.
-use Rattle.std.proofs.Common.{◌≡◌, Option, Some, None, IsTrue, is_none, refl, sym, subst, Result, Ok, Err, IfOk, IfSome}
+use Rattle.std.proofs.Common.{◌≡◌, Option, Some, None, IsTrue, is_none, refl, sym, subst, Result, IfOk, IfSome}
 use Rattle.std.specs.Option.{ok_or}
 use Rattle.bites_text.specs.declared.error.Error.{Error}
 use Rattle.bites_spec.specs.Contents.{Contents}

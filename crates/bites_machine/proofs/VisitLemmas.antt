@@ -1,9 +1,9 @@
 -- A visit of a state is a step of the machine on lists.
-use Rattle.std.proofs.Common.{◌≡◌, ◌≢◌, ℕ, zero, suc, ◌+◌, ◌<◌, ◌≤◌, ◌⊎◌, ⊎_elim, inl, inr, Bool, true, false, cond, ◌&&◌, List, [], ◌∷◌, ◌++◌, map, take, length, Option, Some, None, refl, sym, ap, ap₂, ◌∙◌, subst, arith, append_assoc, length-append}
-use Rattle.std.specs.Prelude.{option_to_list, slice_index, slice_set, nat_lt, nat_le, if◌then◌else◌, IfSome, sum, ◌==◌}
+use Rattle.std.proofs.Common.{◌≡◌, ℕ, suc, ◌+◌, ◌<◌, ◌≤◌, ⊎_elim, inl, inr, Bool, true, false, cond, ◌&&◌, List, [], ◌∷◌, ◌++◌, map, take, length, Option, Some, None, refl, sym, ap, ap₂, ◌∙◌, subst, arith, append_assoc, length-append}
+use Rattle.std.specs.Prelude.{option_to_list, slice_index, nat_lt, if◌then◌else◌, ◌==◌}
 use Rattle.std.proofs.lemmas.List.{map-append, append-nil, length-map}
 use Rattle.bites_spec.specs.Utf8.{piece, character}
-use Rattle.bites_spec.specs.Look.{Look, holds}
+use Rattle.bites_spec.specs.Look.{Look}
 use Rattle.bites_spec.specs.Walks.{Among}
 use Rattle.bites_spec.specs.Program as program
 use Rattle.bites_spec.specs.Program.{Spot, at, targets_of, is_match, taking, looking, edges}
@@ -11,9 +11,8 @@ use Rattle.bites_machine.specs.Ends.{next_character}
 use Rattle.bites_machine.specs.Machine as machine
 use Rattle.bites_machine.specs.Machine.{Walking, kept, moved, visited, thread_on, with_write}
 use Rattle.bites_machine.specs.Rows.{Pool, with_notes}
-use Rattle.bites_machine.specs.Used.{IsUsed, KeepsRows, slots_at}
+use Rattle.bites_machine.specs.Used.{slots_at}
 use Rattle.bites_machine.specs.Stack.{Frames}
-use Rattle.bites_machine.specs.Threads.{Listed}
 use Rattle.bites_machine.specs.Framed.{framed, frame_at}
 use Rattle.bites_machine.specs.Desk.{frame_of, hit_of, walking_of, users_of, next_of, PutsIn}
 use Rattle.bites_machine.specs.Visits.{lets_on, takes_by, AreNoted, IsStarted, VisitsTo, behind}
@@ -22,7 +21,6 @@ use Rattle.bites_machine.specs.declared.vm.stack.Frame.{Frame}
 use Rattle.bites_machine.specs.declared.vm.walk.Hit.{Hit}
 use Rattle.bites_machine.specs.declared.vm.walk.Desk.{Desk}
 use Rattle.bites_machine.proofs.MachineCases.{gone, taken, at_match}
-use Rattle.bites_machine.proofs.FrameLemmas.{length-targets}
 use Rattle.bites_machine.proofs.DeskLemmas.{row_kept}
 use Rattle.std.specs.Bool.{MatchBool}
 use Rattle.bites_spec.specs.Range.{in_ranges}

@@ -1,11 +1,9 @@
 -- What the code of the machine works with, as the machine on lists has it.
-use Rattle.std.specs.Prelude.{◌≡◌, ◌≢◌, ℕ, ◌+◌, ◌<◌, ◌≤◌, List, [], ◌∷◌, ◌++◌, map, take, length, Option, Some, None, option_map, option_to_list, slice_index, sum}
+use Rattle.std.specs.Prelude.{◌≡◌, ℕ, ◌+◌, ◌≤◌, List, [], ◌∷◌, ◌++◌, map, take, length, Option, option_map, sum}
 use Rattle.bites_spec.specs.Walks.{Among}
 use Rattle.bites_machine.specs.Machine as machine
 use Rattle.bites_machine.specs.Rows.{Pool, with_notes}
 use Rattle.bites_machine.specs.Used.{IsUsed, KeepsRows, slots_at}
-use Rattle.bites_machine.specs.Stack.{Frames}
-use Rattle.bites_machine.specs.Threads.{Listed}
 use Rattle.bites_machine.specs.declared.vm.threads.Thread.{Thread}
 use Rattle.bites_machine.specs.declared.vm.stack.Frame.{Frame}
 use Rattle.bites_machine.specs.declared.vm.walk.Hit.{Hit}

@@ -1,9 +1,7 @@
 -- Templates as the code cuts them, and what their texts are appended to.
-use Rattle.std.specs.Prelude.{◌≡◌, ℕ, ◌<◌, ◌^◌, List, [], ◌∷◌, ◌++◌, length, map, Option, Result, MatchResult, option_map, IsUtf8, ◌⊎◌}
-use Rattle.std.specs.Borrow.{Bor}
+use Rattle.std.specs.Prelude.{◌≡◌, ℕ, List, [], ◌∷◌, ◌++◌, length, map, IsUtf8, ◌⊎◌}
 use Rattle.std.specs.Str.{IsValidUpTo}
 use Rattle.bites_spec.specs.Template as template
-use Rattle.bites_spec.specs.Refused.{IsFront}
 use Rattle.bites_machine.specs.declared.interpolate.Part.{Part}
 use Rattle.bites_machine.specs.declared.interpolate.Part.TheVariants.{Text, Name}
 

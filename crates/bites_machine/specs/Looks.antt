@@ -1,5 +1,5 @@
 -- What a walk keeps from look to look.
-use Rattle.std.specs.Prelude.{◌≡◌, ℕ, zero, suc, ◌+◌, ◌*◌, ◌<◌, ◌≤◌, Bool, true, false, List, [], ◌∷◌, ◌++◌, length, Option, None, option_to_list, if◌then◌else◌, ◌==◌, slice_index_or, count_by, sum}
+use Rattle.std.specs.Prelude.{◌≡◌, ℕ, ◌+◌, ◌*◌, ◌<◌, ◌≤◌, Bool, false, List, [], ◌∷◌, ◌++◌, length, Option, None, option_to_list, if◌then◌else◌, ◌==◌, slice_index_or, count_by, sum}
 use Rattle.std.specs.List.{list_any}
 use Rattle.bites_spec.specs.Walks.{Among}
 use Rattle.bites_spec.specs.Program as program
@@ -8,14 +8,10 @@ use Rattle.bites_spec.specs.Counts.{Record}
 use Rattle.bites_machine.specs.Machine as machine
 use Rattle.bites_machine.specs.Machine.{kept, step}
 use Rattle.bites_machine.specs.Used.{IsUsed, KeepsRows}
-use Rattle.bites_machine.specs.Rows.{Pool}
-use Rattle.bites_machine.specs.Stack.{Frames}
-use Rattle.bites_machine.specs.Threads.{Listed}
 use Rattle.bites_machine.specs.Desk.{hit_of, walking_of, users_of}
 use Rattle.bites_machine.specs.Visits.{AreNoted, IsStarted, Stays}
 use Rattle.bites_machine.specs.declared.vm.threads.Thread.{Thread}
 use Rattle.bites_machine.specs.declared.vm.stack.Frame.{Frame}
-use Rattle.bites_machine.specs.declared.vm.walk.Hit.{Hit}
 use Rattle.bites_machine.specs.declared.vm.walk.Desk.{Desk}
 
 -- the states that were visited last, at this place

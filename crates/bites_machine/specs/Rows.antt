@@ -1,5 +1,5 @@
 -- A pool of rows of slots, which threads share.
-use Rattle.std.specs.Prelude.{◌≡◌, ◌≢◌, ℕ, zero, suc, ◌+◌, ◌-◌, ◌*◌, ◌<◌, ◌≤◌, Bool, not, List, [], ◌∷◌, take, drop, length, Option, Some, None, if◌then◌else◌, ◌==◌, slice_set, slice_index, count_by}
+use Rattle.std.specs.Prelude.{◌≡◌, ◌≢◌, ℕ, zero, suc, ◌+◌, ◌-◌, ◌<◌, ◌≤◌, Bool, not, List, [], ◌∷◌, take, drop, length, Option, Some, if◌then◌else◌, ◌==◌, slice_set, slice_index, count_by}
 use Rattle.bites_spec.specs.Walks.{Among, AllApart}
 
 -- the rows, how many users each has, the slots that were noted, how many slots a row has and may have

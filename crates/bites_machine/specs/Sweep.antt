@@ -6,7 +6,8 @@ use Rattle.bites_spec.specs.Program as program
 use Rattle.bites_spec.specs.Program.{Spot, Program, targets_of, IsWellFormed}
 use Rattle.bites_spec.specs.Counts.{Record, Fit}
 use Rattle.bites_machine.specs.Machine as machine
-use Rattle.bites_machine.specs.Machine.{kept, WalksTo, Searching, Searches, Searched}
+use Rattle.bites_spec.specs.Utf8.{piece}
+use Rattle.bites_machine.specs.Machine.{kept, WalksTo, Searching, Searches, SearchedTo, Searched}
 use Rattle.bites_machine.specs.Rows.{Pool}
 use Rattle.bites_machine.specs.Threads.{Listed}
 use Rattle.bites_machine.specs.Used.{IsUsed, KeepsRows}
@@ -132,6 +133,24 @@ pub record PlaceSearched (hay : List ℕ) (longest : Bool) (place len : ℕ) (st
       begins ≡ (if found then None else Some p.start) → StandsFor s place old.rows threads was first slots found →
       (t : Searching) × Searches hay longest p (length slots) s t × StandsFor t (place + len) new.rows later now first left (found || is_some new.hit)
 
+module _ (p : Program) (hay : List ℕ) (longest earliest : Bool) (start : ℕ) (old : List (Option ℕ)) where
+  -- the machine on lists has gone on to this place
+  pub record GoneTo (place : ℕ) (is_found : Bool) (walked : Record) (pool : Pool) (threads : List Thread) (slots : List (Option ℕ)) : Type 0 where
+    pub places : ℕ
+    pub now : Searching
+    pub searched : SearchedTo hay longest p (length old) earliest start places now
+    pub stands : StandsFor now place pool threads walked old slots is_found
+
+  -- the place was searched, and whether the search is over is not known yet
+  pub record HasSearched (place : ℕ) (is_found : Bool) (walked : Record) (pool : Pool) (threads : List Thread) (slots : List (Option ℕ)) : Type 0 where
+    pub places : ℕ
+    pub before : Searching
+    pub now : Searching
+    pub searched : SearchedTo hay longest p (length old) earliest start places before
+    pub place_is : before.place ≡ place
+    pub last : Searches hay longest p (length old) before now
+    pub stands : StandsFor now (place + (piece hay place).len) pool threads walked old slots is_found
+
 -- there is a program with these states, and with that start if one is given
 abbrev pub IsOfProgram : List program.State → Option ℕ → Type 0
 IsOfProgram states begins = (p : Program) × (p.states ≡ states) × IsWellFormed p × IfSome begins (λ q. q ≡ p.start)
@@ -157,6 +176,13 @@ pub record IsProgramOf (p : Program) (all : List program.State) (first : ℕ) : 
   pub states : p.states ≡ all
   pub start : p.start ≡ first
   pub well : IsWellFormed p
+
+-- Places from one on were searched, up to the last.
+pub record PlacesSearched (hay : List ℕ) (longest : Bool) (place last : ℕ) (states : List program.State) (begins : Option ℕ) (was now : Record) (old new : Desk) (threads later : List Thread) (slots left : List (Option ℕ)) : Type 0 where
+  pub searches : (p : Program) (q : ℕ) → IsProgramOf p states q → (earliest : Bool) (start : ℕ) (first : List (Option ℕ)) (found : Bool) →
+      begins ≡ (if found then None else Some q) → length slots ≡ length first →
+      GoneTo p hay longest earliest start first place found was old.rows threads slots →
+      HasSearched p hay longest earliest start first last (found || is_some new.hit) now new.rows later left
 
 -- The machine on lists searched from the start on, and this is what it found and did.
 pub record Sought (p : Program) (hay : List ℕ) (longest earliest : Bool) (start : ℕ) (answer : Bool) (old new : List (Option ℕ)) (walked : Record) : Type 0 where

@@ -8,8 +8,6 @@ use Rattle.bites_machine.specs.Machine as machine
 use Rattle.bites_machine.specs.Machine.{kept, visited}
 use Rattle.bites_machine.specs.Rows.{Pool}
 use Rattle.bites_machine.specs.Used.{IsUsed, KeepsRows}
-use Rattle.bites_machine.specs.Stack.{Frames}
-use Rattle.bites_machine.specs.Threads.{Listed}
 use Rattle.bites_machine.specs.Desk.{frame_of, hit_of, walking_of, users_of, row_of}
 use Rattle.bites_machine.specs.declared.vm.threads.Thread.{Thread}
 use Rattle.bites_machine.specs.declared.vm.stack.Frame.{Frame}

@@ -1,5 +1,5 @@
 -- The record of a history.
-use Rattle.std.specs.Prelude.{ℕ, ◌+◌, [], ◌∷◌}
+use Rattle.std.specs.Prelude.{◌+◌, [], ◌∷◌}
 use Rattle.bites_spec.specs.Program.{at}
 use Rattle.bites_spec.specs.Counts.{Record}
 use Rattle.bites_machine.specs.declared.vm.counted.History.{History}

@@ -42,11 +42,16 @@ pub fn search(
     ensures visited { VisitedBy program.now.program haystack.now start result cache.new.walked }
 {
     let counted = counted::Counted::new(program.states());
-    let asked = places::Asked {
-        earliest,
-        longest: false,
+    let request = places::Request {
+        haystack,
+        start,
+        first: program.start(),
+        asked: places::Asked {
+            earliest,
+            longest: false,
+        },
     };
-    cache.search(counted, program.start(), haystack, start, asked, slots)
+    cache.search(counted, &request, slots)
 }
 
 /// The same for the run that ends last of all those from the first place where one begins, and of these the
@@ -68,11 +73,16 @@ pub fn search_longest(
     ensures visited { VisitedBy program.now.program haystack.now start result cache.new.walked }
 {
     let counted = counted::Counted::new(program.states());
-    let asked = places::Asked {
-        earliest: false,
-        longest: true,
+    let request = places::Request {
+        haystack,
+        start,
+        first: program.start(),
+        asked: places::Asked {
+            earliest: false,
+            longest: true,
+        },
     };
-    cache.search(counted, program.start(), haystack, start, asked, slots)
+    cache.search(counted, &request, slots)
 }
 
 #[cfg(test)]

@@ -9,7 +9,7 @@ ghost use Rattle.bites_machine.specs.Sweep.{IsProgramOf, Sought};
 use super::counted::{Counted, Walked};
 use super::marks::Marks;
 use super::places;
-use super::places::Asked;
+use super::places::Request;
 use super::rows::Rows;
 use super::stack::Stack;
 use super::threads::Threads;
@@ -92,36 +92,34 @@ impl Cache {
     pub(super) fn search(
         &mut self,
         mut counted: Counted<'_>,
-        first: u32,
-        haystack: &[u8],
-        start: usize,
-        asked: Asked,
+        request: &Request<'_>,
         slots: &mut [Option<usize>],
     ) -> bool
         requires visits { counted.walked.visits ≡ [] }
         requires looks { counted.walked.looks ≡ 0 }
-        requires fits { (p : program.Program) × IsProgramOf p (states_of counted.states.now) first
+        requires fits { (p : program.Program)
+            × IsProgramOf p (states_of counted.states.now) request.now.first
             × (self.old.fits ≡ fit_of p) }
         requires width { length slots.old ≤ self.old.fits.slots }
-        ensures sought { start ≤ length haystack.now → (p : program.Program) →
-            IsProgramOf p (states_of counted.entry.states.now) first →
+        ensures sought { request.now.start ≤ length request.now.haystack.now →
+            (p : program.Program) →
+            IsProgramOf p (states_of counted.entry.states.now) request.now.first →
             self.old.fits ≡ fit_of p →
-            Sought p haystack.now asked.longest asked.earliest start result slots.old slots.new
+            Sought p request.now.haystack.now request.now.asked.longest
+            request.now.asked.earliest request.now.start result slots.old slots.new
             self.new.walked }
-        ensures past { length haystack.now < start → (result ≡ false) × (slots.new ≡ slots.old)
+        ensures past { length request.now.haystack.now < request.now.start →
+            (result ≡ false) × (slots.new ≡ slots.old)
             × (self.new.walked.visits ≡ []) × (self.new.walked.looks ≡ 0) }
         ensures fits { self.new.fits ≡ self.old.fits }
     {
-        let found = if start <= haystack.len() {
+        let found = if request.start <= request.haystack.len() {
             self.desk.rows.begin(slots.len());
             places::search(
                 &mut counted,
                 &mut self.desk,
                 &mut self.threads,
-                first,
-                haystack,
-                start,
-                asked,
+                request,
                 slots,
             )
         } else {

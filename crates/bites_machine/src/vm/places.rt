@@ -13,7 +13,7 @@ ghost use Rattle.bites_machine.specs.Desk.{users_of, row_of};
 ghost use Rattle.bites_machine.specs.declared.vm.threads.Thread as thread;
 ghost use Rattle.bites_machine.specs.Looks.{AreSound};
 ghost use Rattle.bites_machine.specs.Cuts.{cuts};
-ghost use Rattle.bites_machine.specs.Sweep.{IsAmid, WalksPast, WalksSome, WalksAll, IsBetween, PlaceSearched, IsOfProgram, HasRoom, IsIdle, IsProgramOf, Sought};
+ghost use Rattle.bites_machine.specs.Sweep.{IsAmid, WalksPast, WalksSome, WalksAll, IsBetween, PlaceSearched, PlacesSearched, IsOfProgram, HasRoom, IsIdle, IsProgramOf, Sought};
 
 use super::counted::Counted;
 use super::rows::Rows;
@@ -28,13 +28,23 @@ pub struct Asked {
     pub longest: bool,
 }
 
+/// What is searched for: runs that start in a state, from a place of the haystack on.
+#[derive(Clone, Copy, Drop)]
+pub struct Request<'h> {
+    pub haystack: &'h [u8],
+    pub start: usize,
+    pub first: u32,
+    pub asked: Asked,
+}
+
 // The place, with the character of its piece.
 #[inline(always)]
 #[tactic(auto, unfolding(bites_spec::specs::Utf8::piece))]
-fn piece_at(haystack: &[u8], place: usize) -> Here<'_>
+fn piece_at(haystack: &[u8], place: usize, longest: bool) -> Here<'_>
     requires { place ≤ length haystack.now }
     ensures haystack { result.haystack.now ≡ haystack.now }
     ensures place { result.place ≡ place }
+    ensures longest { result.longest ≡ longest }
     ensures taken { result.taken ≡ next_character haystack.now place }
     ensures len { result.len ≡ (piece haystack.now place).len }
     ensures within { place + result.len ≤ length haystack.now }
@@ -46,6 +56,24 @@ fn piece_at(haystack: &[u8], place: usize) -> Here<'_>
         place,
         taken,
         len,
+        longest,
+    }
+}
+
+// The thread that starts here in that state. Only the longest run asks where a thread was started.
+#[inline(always)]
+fn started(state: u32, here: &Here<'_>) -> Thread
+    ensures { result ≡ record {
+      state = state;
+      row = 0;
+      start = if here.now.longest then here.now.place else 0;
+    } }
+{
+    let start = if here.longest { here.place } else { 0 };
+    Thread {
+        state,
+        row: 0,
+        start,
     }
 }
 
@@ -67,7 +95,6 @@ fn walk_on(
     desk: &mut Desk,
     here: &Here<'_>,
     thread: Thread,
-    longest: bool,
     slots: &mut [Option<usize>],
 )
     requires place { here.now.place ≤ length here.now.haystack.now }
@@ -78,14 +105,14 @@ fn walk_on(
         counted.old.walked desk.old (length slots.old) }
     requires used { (others : List ℕ) × IsUsed desk.old.rows (users_of desk.old thread others) }
     ensures states { counted.new.states ≡ counted.old.states }
-    ensures walks { WalksPast here.now.haystack.now longest here.now.place
+    ensures walks { WalksPast here.now.haystack.now here.now.longest here.now.place
         (states_of counted.old.states.now) thread counted.old.walked counted.new.walked
         desk.old desk.new slots.old slots.new }
 {
-    if is_cut(&desk.hit, longest, thread.start) {
+    if is_cut(&desk.hit, here.longest, thread.start) {
         desk.rows.release(thread.row);
     } else {
-        walk(counted, desk, here, thread, longest, slots);
+        walk(counted, desk, here, thread, slots);
     }
 }
 
@@ -96,7 +123,6 @@ fn walk_each(
     desk: &mut Desk,
     here: &Here<'_>,
     threads: &Threads,
-    longest: bool,
     slots: &mut [Option<usize>],
 )
     requires place { here.now.place ≤ length here.now.haystack.now }
@@ -109,13 +135,13 @@ fn walk_each(
     requires used { IsUsed desk.old.rows
         (map row_of desk.old.next.threads ++ map row_of threads.now.threads) }
     ensures states { counted.new.states ≡ counted.old.states }
-    ensures walks { WalksSome here.now.haystack.now longest here.now.place
+    ensures walks { WalksSome here.now.haystack.now here.now.longest here.now.place
         (states_of counted.old.states.now) threads.now.threads []
         counted.old.walked counted.new.walked desk.old desk.new slots.old slots.new }
 {
     let mut index = 0;
     while index < threads.len() {
-        walk_on(counted, desk, here, threads.at(index), longest, slots);
+        walk_on(counted, desk, here, threads.at(index), slots);
         index += 1;
     }
 }
@@ -128,7 +154,6 @@ fn walk_all(
     here: &Here<'_>,
     threads: &Threads,
     first: Option<u32>,
-    longest: bool,
     slots: &mut [Option<usize>],
 )
     requires place { here.now.place ≤ length here.now.haystack.now }
@@ -142,21 +167,15 @@ fn walk_all(
     requires used { IsUsed desk.old.rows
         (map row_of desk.old.next.threads ++ map row_of threads.now.threads) }
     ensures states { counted.new.states ≡ counted.old.states }
-    ensures walks { WalksAll here.now.haystack.now longest here.now.place
+    ensures walks { WalksAll here.now.haystack.now here.now.longest here.now.place
         (states_of counted.old.states.now) first threads.now.threads
         counted.old.walked counted.new.walked desk.old desk.new slots.old slots.new }
 {
-    walk_each(counted, desk, here, threads, longest, slots);
+    walk_each(counted, desk, here, threads, slots);
     let Some(state) = first else {
         return;
     };
-    let start = if longest { here.place } else { 0 };
-    let thread = Thread {
-        state,
-        row: 0,
-        start,
-    };
-    walk_on(counted, desk, here, thread, longest, slots);
+    walk_on(counted, desk, here, started(state, here), slots);
 }
 
 // Searches one place: its threads, and behind them the start while nothing is found. The threads are then
@@ -168,7 +187,6 @@ fn search_place(
     threads: &mut Threads,
     here: &Here<'_>,
     first: Option<u32>,
-    longest: bool,
     slots: &mut [Option<usize>],
 )
     requires place { here.now.place ≤ length here.now.haystack.now }
@@ -178,9 +196,10 @@ fn search_place(
     requires between { IsBetween (states_of counted.old.states.now) here.now.place
         counted.old.walked desk.old threads.old (length slots.old) }
     ensures states { counted.new.states ≡ counted.old.states }
-    ensures searched { PlaceSearched here.now.haystack.now longest here.now.place here.now.len
-        (states_of counted.old.states.now) first counted.old.walked counted.new.walked
-        desk.old desk.new threads.old.threads threads.new.threads slots.old slots.new }
+    ensures searched { PlaceSearched here.now.haystack.now here.now.longest here.now.place
+        here.now.len (states_of counted.old.states.now) first counted.old.walked
+        counted.new.walked desk.old desk.new threads.old.threads threads.new.threads
+        slots.old slots.new }
     ensures between { IsBetween (states_of counted.old.states.now) (here.now.place + 1)
         counted.new.walked desk.new threads.new (length slots.new) }
     ensures most { desk.new.rows.most ≡ desk.old.rows.most }
@@ -190,8 +209,127 @@ fn search_place(
     desk.next.clear();
     desk.hit = None;
     desk.rows.first_is_free();
-    walk_all(counted, desk, here, threads, first, longest, slots);
+    walk_all(counted, desk, here, threads, first, slots);
     threads.swap(&mut desk.next);
+}
+
+// Searches one place where no thread is alive and nothing is found: the start alone is walked.
+#[inline(always)]
+fn search_start(
+    counted: &mut Counted<'_>,
+    desk: &mut Desk,
+    here: &Here<'_>,
+    first: u32,
+    slots: &mut [Option<usize>],
+)
+    requires place { here.now.place ≤ length here.now.haystack.now }
+    requires taken { here.now.taken ≡ next_character here.now.haystack.now here.now.place }
+    requires len { here.now.len ≡ (piece here.now.haystack.now here.now.place).len }
+    requires program { IsOfProgram (states_of counted.old.states.now) (Some first) }
+    requires between { IsBetween (states_of counted.old.states.now) here.now.place
+        counted.old.walked desk.old desk.old.next (length slots.old) }
+    requires next { desk.old.next.threads ≡ [] }
+    requires hit { desk.old.hit ≡ None }
+    ensures states { counted.new.states ≡ counted.old.states }
+    ensures searched { PlaceSearched here.now.haystack.now here.now.longest here.now.place
+        here.now.len (states_of counted.old.states.now) (Some first) counted.old.walked
+        counted.new.walked desk.old desk.new [] desk.new.next.threads slots.old slots.new }
+    ensures between { IsBetween (states_of counted.old.states.now) (here.now.place + 1)
+        counted.new.walked desk.new desk.new.next (length slots.new) }
+    ensures most { desk.new.rows.most ≡ desk.old.rows.most }
+    ensures len { length slots.new ≡ length slots.old }
+{
+    desk.marks.clear();
+    desk.rows.first_is_free();
+    walk(counted, desk, here, started(first, here), slots);
+}
+
+// Searches places from this one on while no thread is alive and nothing is found. Answers the place that
+// was searched last; the threads that took its piece are those that the desk has put in.
+#[inline(always)]
+fn hunt<'h>(
+    counted: &mut Counted<'_>,
+    desk: &mut Desk,
+    from: Here<'h>,
+    first: u32,
+    slots: &mut [Option<usize>],
+) -> Here<'h>
+    requires place { from.place ≤ length from.haystack.now }
+    requires taken { from.taken ≡ next_character from.haystack.now from.place }
+    requires within { from.place + from.len ≤ length from.haystack.now }
+    requires len { from.len ≡ (piece from.haystack.now from.place).len }
+    requires program { IsOfProgram (states_of counted.old.states.now) (Some first) }
+    requires between { IsBetween (states_of counted.old.states.now) from.place
+        counted.old.walked desk.old desk.old.next (length slots.old) }
+    requires next { desk.old.next.threads ≡ [] }
+    requires hit { desk.old.hit ≡ None }
+    ensures states { counted.new.states ≡ counted.old.states }
+    ensures onward { from.entry.place ≤ result.place }
+    ensures within { result.place + result.len ≤ length from.entry.haystack.now }
+    ensures len { result.len ≡ (piece from.entry.haystack.now result.place).len }
+    ensures searched { PlacesSearched from.entry.haystack.now from.entry.longest from.entry.place
+        result.place (states_of counted.old.states.now) (Some first) counted.old.walked
+        counted.new.walked desk.old desk.new [] desk.new.next.threads slots.old slots.new }
+    ensures between { IsBetween (states_of counted.old.states.now) (result.place + 1)
+        counted.new.walked desk.new desk.new.next (length slots.new) }
+    ensures most { desk.new.rows.most ≡ desk.old.rows.most }
+    ensures slots { length slots.new ≡ length slots.old }
+{
+    let mut here = from;
+    'places: loop {
+        search_start(counted, desk, &here, first, slots);
+        if here.len == 0 || desk.hit.is_some() || desk.next.len() > 0 {
+            break;
+        }
+        here = piece_at(here.haystack, here.place + here.len, here.longest);
+    }
+    here
+}
+
+// Searches this place, or while no thread is alive and nothing is found also those behind it. Answers the
+// place that was searched last. The threads are then those of the next place.
+#[inline(always)]
+fn search_on<'h>(
+    counted: &mut Counted<'_>,
+    desk: &mut Desk,
+    threads: &mut Threads,
+    here: Here<'h>,
+    first: Option<u32>,
+    slots: &mut [Option<usize>],
+) -> Here<'h>
+    requires place { here.place ≤ length here.haystack.now }
+    requires within { here.place + here.len ≤ length here.haystack.now }
+    requires taken { here.taken ≡ next_character here.haystack.now here.place }
+    requires len { here.len ≡ (piece here.haystack.now here.place).len }
+    requires program { IsOfProgram (states_of counted.old.states.now) first }
+    requires between { IsBetween (states_of counted.old.states.now) here.place
+        counted.old.walked desk.old threads.old (length slots.old) }
+    ensures states { counted.new.states ≡ counted.old.states }
+    ensures onward { here.entry.place ≤ result.place }
+    ensures within { result.place + result.len ≤ length here.entry.haystack.now }
+    ensures len { result.len ≡ (piece here.entry.haystack.now result.place).len }
+    ensures searched { PlacesSearched here.entry.haystack.now here.entry.longest here.entry.place
+        result.place (states_of counted.old.states.now) first counted.old.walked
+        counted.new.walked desk.old desk.new threads.old.threads threads.new.threads
+        slots.old slots.new }
+    ensures between { IsBetween (states_of counted.old.states.now) (result.place + 1)
+        counted.new.walked desk.new threads.new (length slots.new) }
+    ensures most { desk.new.rows.most ≡ desk.old.rows.most }
+    ensures slots { length slots.new ≡ length slots.old }
+{
+    match first {
+        Some(first) if threads.len() == 0 => {
+            desk.next.clear();
+            desk.hit = None;
+            let last = hunt(counted, desk, here, first, slots);
+            threads.swap(&mut desk.next);
+            last
+        }
+        _ => {
+            search_place(counted, desk, threads, &here, first, slots);
+            here
+        }
+    }
 }
 
 // The state where runs start, while nothing is found.
@@ -224,41 +362,44 @@ pub(super) fn search(
     counted: &mut Counted<'_>,
     desk: &mut Desk,
     threads: &mut Threads,
-    first: u32,
-    haystack: &[u8],
-    start: usize,
-    asked: Asked,
+    request: &Request<'_>,
     slots: &mut [Option<usize>],
 ) -> bool
-    requires start { start ≤ length haystack.now }
+    requires start { request.now.start ≤ length request.now.haystack.now }
     requires visits { counted.old.walked.visits ≡ [] }
     requires looks { counted.old.walked.looks ≡ 0 }
-    requires program { (p : program.Program) × IsProgramOf p (states_of counted.old.states.now) first
-        × HasRoom (fit_of p) desk.old threads.old }
+    requires program { (p : program.Program) × IsProgramOf p (states_of counted.old.states.now)
+        request.now.first × HasRoom (fit_of p) desk.old threads.old }
     requires idle { IsIdle desk.old threads.old }
     requires width { length slots.old ≡ desk.old.rows.width }
     requires nothing { slots_at desk.old.rows 0 ≡ replicate desk.old.rows.width None }
     requires even { length desk.old.rows.rows ≡ length desk.old.rows.counts }
     ensures sought { (p : program.Program) →
-        IsProgramOf p (states_of counted.old.states.now) first →
-        Sought p haystack.now asked.longest asked.earliest start result slots.old slots.new
-        counted.new.walked }
+        IsProgramOf p (states_of counted.old.states.now) request.now.first →
+        Sought p request.now.haystack.now request.now.asked.longest request.now.asked.earliest
+        request.now.start result slots.old slots.new counted.new.walked }
     ensures room { (p : program.Program) →
-        IsProgramOf p (states_of counted.old.states.now) first →
+        IsProgramOf p (states_of counted.old.states.now) request.now.first →
         HasRoom (fit_of p) desk.old threads.old → HasRoom (fit_of p) desk.new threads.new }
     ensures idle { IsIdle desk.new threads.new }
 {
+    let Request {
+        haystack,
+        start,
+        first,
+        asked,
+    } = *request;
     let mut is_found = false;
     let mut place = start;
     'places: loop {
-        let here = piece_at(haystack, place);
+        let here = piece_at(haystack, place, asked.longest);
         let begins = first_of(is_found, first);
-        search_place(counted, desk, threads, &here, begins, asked.longest, slots);
+        let last = search_on(counted, desk, threads, here, begins, slots);
         is_found = is_found_with(is_found, &desk.hit);
-        if is_over(here.len, is_found, asked.earliest, threads.len()) {
+        if is_over(last.len, is_found, asked.earliest, threads.len()) {
             break;
         }
-        place += here.len;
+        place = last.place + last.len;
     }
     release_all(&mut desk.rows, threads);
     is_found

@@ -214,7 +214,7 @@ impl Rows {
             (slice_index_or self.now.rows row []) }
     {
         let from = row * self.width;
-        slots.copy_from_slice(&self.cells[from..from + self.width]);
+        copy_slots(slots, &self.cells[from..from + self.width]);
         write_notes(slots, &self.notes[..noted], place);
     }
 }
@@ -251,6 +251,17 @@ fn copy_cells(cells: &mut [Option<usize>], from: usize, to: usize, width: usize)
 {
     for k in 0..width {
         cells[to + k] = cells[from + k];
+    }
+}
+
+// The slots become these. Rows are short, so that a loop costs less than a call that copies memory.
+#[inline(always)]
+fn copy_slots(slots: &mut [Option<usize>], row: &[Option<usize>])
+    requires { length slots.old ≡ length row.now }
+    ensures { slots.new ≡ row.now }
+{
+    for k in 0..slots.len() {
+        slots[k] = row[k];
     }
 }
 

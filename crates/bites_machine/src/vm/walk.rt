@@ -31,13 +31,15 @@ use crate::targets::Targets;
 use bites_syntax::look::Look;
 use std::alloc::{AllocError, Global};
 
-/// A place of the haystack, and the character that may be taken there.
+/// A place of the haystack, with the character that may be taken there and the length of its piece, and
+/// whether the longest run is asked.
 #[derive(Clone, Copy, Drop)]
 pub struct Here<'h> {
     pub haystack: &'h [u8],
     pub place: usize,
     pub taken: Option<char>,
     pub len: usize,
+    pub longest: bool,
 }
 
 /// The first thread that came to a match at a place: its state, and the place where it was started.
@@ -65,7 +67,6 @@ fn visit(
     here: &Here<'_>,
     thread: Thread,
     frame: Frame,
-    longest: bool,
     slots: &mut [Option<usize>],
 ) -> Option<Frame>
     requires known { frame.state < length counted.old.states.now }
@@ -81,12 +82,12 @@ fn visit(
     requires notes { AreNoted desk.old.rows frame.noted (frame ∷ desk.old.stack.frames) }
     requires rows { sum desk.old.rows.counts + 1 < length desk.old.rows.counts }
     requires width { length slots.old ≡ desk.old.rows.width }
-    requires starts { IsStarted longest thread.start desk.old.hit }
+    requires starts { IsStarted here.now.longest thread.start desk.old.hit }
     ensures visits { counted.new.walked.visits
         ≡ at frame.state here.now.place ∷ counted.old.walked.visits }
     ensures looks { counted.new.walked.looks ≡ counted.old.walked.looks }
     ensures states { counted.new.states ≡ counted.old.states }
-    ensures moves { VisitsTo here.now.haystack.now longest here.now.place
+    ensures moves { VisitsTo here.now.haystack.now here.now.longest here.now.place
         (state_at (states_of counted.old.states.now) frame.state)
         thread frame desk.old desk.new slots.old slots.new result }
 {
@@ -118,7 +119,7 @@ fn visit(
         }
         State::Fail => None,
         State::Match => {
-            found(desk, here.place, thread, frame, longest, slots);
+            found(desk, here.place, thread, frame, here.longest, slots);
             None
         }
     }
@@ -244,7 +245,7 @@ fn put_in(desk: &mut Desk, place: usize, thread: Thread, noted: usize, target: u
 }
 
 // The thread came to a match. What it wrote is kept, if it is the first here.
-#[inline(never)]
+#[inline(always)]
 fn found(
     desk: &mut Desk,
     place: usize,
@@ -289,17 +290,16 @@ fn look(
     here: &Here<'_>,
     thread: Thread,
     frame: Frame,
-    longest: bool,
     slots: &mut [Option<usize>],
 ) -> Option<Frame>
     requires place { here.now.place ≤ length here.now.haystack.now }
     requires taken { here.now.taken ≡ next_character here.now.haystack.now here.now.place }
     requires sound { AreSound (states_of counted.old.states.now) }
-    requires ready { IsReady (states_of counted.old.states.now) here.now.place longest
+    requires ready { IsReady (states_of counted.old.states.now) here.now.place here.now.longest
         counted.old.walked desk.old thread (frame ∷ desk.old.stack.frames) (length slots.old) }
     requires used { (others : List ℕ) × IsUsed desk.old.rows (users_of desk.old thread others) }
     ensures states { counted.new.states ≡ counted.old.states }
-    ensures looks { LooksTo here.now.haystack.now longest here.now.place
+    ensures looks { LooksTo here.now.haystack.now here.now.longest here.now.place
         (states_of counted.old.states.now) thread frame
         counted.old.walked counted.new.walked desk.old desk.new slots.old slots.new result }
 {
@@ -307,7 +307,7 @@ fn look(
     if !desk.marks.insert(frame.state) {
         return desk.stack.pop();
     }
-    match visit(counted, desk, here, thread, frame, longest, slots) {
+    match visit(counted, desk, here, thread, frame, slots) {
         Some(frame) => Some(frame),
         None => desk.stack.pop(),
     }
@@ -320,18 +320,17 @@ pub(super) fn walk(
     desk: &mut Desk,
     here: &Here<'_>,
     thread: Thread,
-    longest: bool,
     slots: &mut [Option<usize>],
 )
     requires place { here.now.place ≤ length here.now.haystack.now }
     requires taken { here.now.taken ≡ next_character here.now.haystack.now here.now.place }
     requires sound { AreSound (states_of counted.old.states.now) }
     requires empty { desk.old.stack.frames ≡ [] }
-    requires ready { IsReady (states_of counted.old.states.now) here.now.place longest
+    requires ready { IsReady (states_of counted.old.states.now) here.now.place here.now.longest
         counted.old.walked desk.old thread (frame_at 0 thread.state ∷ []) (length slots.old) }
     requires used { (others : List ℕ) × IsUsed desk.old.rows (users_of desk.old thread others) }
     ensures states { counted.new.states ≡ counted.old.states }
-    ensures walks { WalksOff here.now.haystack.now longest here.now.place
+    ensures walks { WalksOff here.now.haystack.now here.now.longest here.now.place
         (states_of counted.old.states.now) thread counted.old.walked counted.new.walked
         desk.old desk.new slots.old slots.new }
 {
@@ -340,7 +339,7 @@ pub(super) fn walk(
         noted: 0,
     });
     while let Some(frame) = next {
-        next = look(counted, desk, here, thread, frame, longest, slots);
+        next = look(counted, desk, here, thread, frame, slots);
     }
     desk.rows.release(thread.row);
 }

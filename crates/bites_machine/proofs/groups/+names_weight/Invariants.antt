@@ -1,9 +1,8 @@
-use Rattle.std.proofs.Common.{◌≡◌, ◌+◌, ◌*◌, ◌-◌, ◌<◌, ◌≤◌, max, length, drop}
+use Rattle.std.proofs.Common.{◌≡◌, ◌+◌, ◌*◌, ◌-◌, ◌≤◌, drop}
 use Rattle.std.specs.Prelude.{sum_by}
-use Rattle.bites_spec.specs.Tree.{sequence, trees_of, groups_in_all, greatest, names_in_all}
-use Rattle.bites_spec.specs.Measure.{height, name_weight, groups_of}
+use Rattle.bites_spec.specs.Tree.{sequence, trees_of, names_in_all}
+use Rattle.bites_spec.specs.Measure.{height, name_weight}
 use Rattle.bites_machine.specs.Sizes.{held}
-use Rattle.bites_machine.specs.Names.{bytes_of, filled}
 use Rattle.bites_machine.proofs.groups.+names_weight.Given as goal
 
 abbrev pub decreases-names_weight : goal.decreases-names_weight

@@ -1,4 +1,4 @@
-use Rattle.std.proofs.Common.{◌≡◌, ◌+◌, OnOk, ap, sym, ◌∙◌, subst, length, slice_set, option_map, string_bytes, arith}
+use Rattle.std.proofs.Common.{◌≡◌, OnOk, ap, sym, ◌∙◌, subst, length, slice_set, option_map, string_bytes, arith}
 use Rattle.std.proofs.lemmas.List.{map-set, length-map}
 use Rattle.bites_spec.specs.Tree.{Tree, group}
 use Rattle.bites_spec.specs.Measure.{groups_of}

@@ -1,8 +1,6 @@
-use Rattle.std.proofs.Common.{◌≡◌, ◌+◌, ◌*◌, ◌-◌, ◌<◌, ◌≤◌, max, length, drop}
-use Rattle.std.specs.Prelude.{sum_by}
-use Rattle.bites_spec.specs.Tree.{sequence, trees_of, groups_in_all, greatest, names_in_all}
-use Rattle.bites_spec.specs.Measure.{height, name_weight, groups_of}
-use Rattle.bites_machine.specs.Sizes.{held}
+use Rattle.std.proofs.Common.{◌≡◌, ◌*◌, ◌-◌, length, drop}
+use Rattle.bites_spec.specs.Tree.{sequence, trees_of}
+use Rattle.bites_spec.specs.Measure.{height, groups_of}
 use Rattle.bites_machine.specs.Names.{bytes_of, filled}
 use Rattle.bites_machine.proofs.groups.+write_names.Given as goal
 

@@ -1,6 +1,6 @@
-use Rattle.std.proofs.Common.{◌+◌, ap, ap₂, ◌∙◌, sym, subst, arith}
-use Rattle.bites_spec.specs.Tree.{Tree, Trees, sequence, alternation, trees_of, AllAreReduced}
-use Rattle.bites_spec.specs.Measure.{size, size_of}
+use Rattle.std.proofs.Common.{ap, ◌∙◌, sym, subst, arith}
+use Rattle.bites_spec.specs.Tree.{Tree, Trees, sequence, AllAreReduced}
+use Rattle.bites_spec.specs.Measure.{size_of}
 use Rattle.bites_syntax.specs.View.{tree_of}
 use Rattle.bites_syntax.specs.declared.tree.Kind.{Kind}
 use Rattle.bites_machine.specs.Sizes.{held_size, both_sizes}

@@ -1,7 +1,7 @@
-use Rattle.std.proofs.Common.{◌≡◌, ◌≤◌, ◌<◌, Bool, true, false, length, refl, sym, ap, ◌∙◌, subst}
+use Rattle.std.proofs.Common.{true, false, length, sym, ap, ◌∙◌}
 use Rattle.bites_machine.specs.States.{states_of}
-use Rattle.bites_machine.specs.Sweep.{IsProgramOf, Sought}
-use Rattle.bites_machine.proofs.SoughtLemmas.{slots_fit, did_first, did_least, did_longest, did_visit, did_bounded}
+use Rattle.bites_machine.specs.Sweep.{IsProgramOf}
+use Rattle.bites_machine.proofs.SoughtLemmas.{slots_fit, did_longest, did_visit, did_bounded}
 use Rattle.bites_machine.proofs.vm.search_longest.Goals as goal
 
 pub returns-clause-longest : goal.returns-clause-longest

@@ -4,7 +4,8 @@ use Rattle.bites_spec.specs.Program as program
 use Rattle.bites_machine.specs.States.{states_of}
 use Rattle.bites_machine.specs.Ends.{next_character}
 use Rattle.bites_machine.specs.Sweep.{IsBetween}
-use Rattle.bites_machine.proofs.PlaceSteps.{ends_by, some_piece, start_of, between_first, between_later, room_between, gone_first, has_searched, gone_next, sought_by}
+use Rattle.bites_machine.proofs.PlaceSteps.{ends_by, some_piece, start_of, between_first, between_later, room_between, gone_first, gone_next, sought_by}
+use Rattle.bites_machine.proofs.HuntSteps.{searched_on}
 use Rattle.bites_machine.proofs.vm.places.search.Goals as goal
 
 pub places-init : goal.places-init
@@ -17,14 +18,14 @@ places-init c =
       len = refl;
       states = refl;
       most = refl;
-      between = between_first p states c.args.start c.args.counted.now.walked c.args.desk.now c.args.threads.now (length c.args.slots.now)
+      between = between_first p states c.args.request.now.start c.args.counted.now.walked c.args.desk.now c.args.threads.now (length c.args.slots.now)
           is.states c.requires.program.2 c.requires.idle c.requires.visits c.requires.width c.requires.nothing c.requires.even;
-      gone = λ q same. gone_first q c.args.haystack.now c.args.asked.longest c.args.asked.earliest c.args.start c.args.slots.now c.args.counted.now.walked
+      gone = λ q same. gone_first q c.args.request.now.haystack.now c.args.request.now.asked.longest c.args.request.now.asked.earliest c.args.request.now.start c.args.slots.now c.args.counted.now.walked
           c.args.desk.now.rows c.args.threads.now.threads c.requires.visits c.requires.looks c.requires.idle.threads;
     }
 
-pub search_place-requires : goal.search_place-requires
-search_place-requires c =
+pub search_on-last-requires : goal.search_on-last-requires
+search_on-last-requires c =
     let p = c.requires.program.0 in
     let is = c.requires.program.1 in
     let e = c.piece_at-here.ensures in
@@ -33,9 +34,10 @@ search_place-requires c =
     record {
       place = subst (λ i. i ≤ length c.piece_at-here.result.haystack.now) (sym e.place)
           (subst (λ (h : List ℕ). c.places.place ≤ length h) (sym e.haystack) inv.within);
+      within = omega (arith, e.within, e.place, ap length e.haystack);
       taken = e.taken ∙ sym (ap₂ next_character e.haystack e.place);
       len = e.len ∙ sym (ap₂ (λ h i. (piece h i).len) e.haystack e.place);
-      program = (p, is.states ∙ sym states, is.well, start_of c.places.is_found c.first_of-begins.result c.args.first p.start c.first_of-begins.ensures is.start);
+      program = (p, is.states ∙ sym states, is.well, start_of c.places.is_found c.first_of-begins.result c.args.request.now.first p.start c.first_of-begins.ensures is.start);
       between = subst (λ i. IsBetween (states_of c.places.counted.states.now) i c.places.counted.walked c.places.desk c.places.threads (length c.places.slots)) (sym e.place)
           (subst (λ (l : List program.State). IsBetween l c.places.place c.places.counted.walked c.places.desk c.places.threads (length c.places.slots)) (sym states) inv.between);
     }
@@ -44,53 +46,63 @@ pub places-preserved : goal.places-preserved
 places-preserved c =
     let e = c.piece_at-here.ensures in
     let inv = c.places.invariant in
-    let done = c.search_place.ensures in
-    let new = c.search_place.new in
-    let len = c.piece_at-here.result.len in
+    let done = c.search_on-last.ensures in
+    let new = c.search_on-last.new in
+    let last = c.search_on-last.result in
     let states = ap (λ s. states_of s.now) inv.states in
-    let on : ends_by c.args.asked.earliest len c.is_found_with-is_found.result c.len.result ≡ false = sym c.is_over.ensures ∙ c.if-is_over.false in
-    let some : 0 < len = some_piece c.args.asked.earliest len c.is_found_with-is_found.result c.len.result on in
-    let later : c.piece_at-here.result.place + 1 ≤ c.places.place + len = omega (arith, e.place, some) in
+    let lens = done.len ∙ ap (λ (h : List ℕ). (piece h last.place).len) e.haystack in
+    let on : ends_by c.args.request.now.asked.earliest last.len c.is_found_with-is_found.result c.len.result ≡ false = sym c.is_over.ensures ∙ c.if-is_over.false in
+    let some : 0 < last.len = some_piece c.args.request.now.asked.earliest last.len c.is_found_with-is_found.result c.len.result on in
+    let later : last.place + 1 ≤ last.place + last.len = omega (arith, some) in
     record {
-      within = e.within;
-      len = done.len ∙ inv.len;
+      within = omega (arith, done.within, ap length e.haystack);
+      len = done.slots ∙ inv.len;
       states = done.states ∙ inv.states;
       most = done.most ∙ inv.most;
-      between = subst (λ (l : List program.State). IsBetween l (c.places.place + len) new.counted.walked new.desk new.threads (length new.slots)) states
-          (between_later (states_of c.places.counted.states.now) (c.piece_at-here.result.place + 1) (c.places.place + len) new.counted.walked new.desk new.threads (length new.slots) later done.between);
+      between = subst (λ (l : List program.State). IsBetween l (last.place + last.len) new.counted.walked new.desk new.threads (length new.slots)) states
+          (between_later (states_of c.places.counted.states.now) (last.place + 1) (last.place + last.len) new.counted.walked new.desk new.threads (length new.slots) later done.between);
       gone = λ p is.
-          gone_next p c.args.haystack.now c.args.asked.longest c.args.asked.earliest c.args.start c.args.slots.now c.places.place len c.is_found_with-is_found.result
+          gone_next p c.args.request.now.haystack.now c.args.request.now.asked.longest c.args.request.now.asked.earliest c.args.request.now.start c.args.slots.now last.place last.len c.is_found_with-is_found.result
           new.counted.walked new.desk.rows new.threads.threads new.slots c.len.result
-          (has_searched p c.args.haystack.now c.args.asked.longest c.args.asked.earliest c.args.start c.args.slots.now c.places.place c.piece_at-here.result.place len c.args.first
-          c.piece_at-here.result.haystack.now (states_of c.places.counted.states.now) c.first_of-begins.result c.places.is_found c.is_found_with-is_found.result
+          (searched_on p c.args.request.now.haystack.now c.args.request.now.asked.longest c.args.request.now.asked.earliest c.args.request.now.start c.args.slots.now c.places.place c.piece_at-here.result.place last.place c.args.request.now.first
+          c.piece_at-here.result.haystack.now c.piece_at-here.result.longest (states_of c.places.counted.states.now) c.first_of-begins.result c.places.is_found c.is_found_with-is_found.result
           c.places.counted.walked new.counted.walked c.places.desk new.desk c.places.threads.threads new.threads.threads c.places.slots new.slots
-          e.haystack e.place e.len inv.len (record { states = is.states ∙ sym states; start = is.start; well = is.well }) c.first_of-begins.ensures c.is_found_with-is_found.ensures
+          e.haystack e.longest e.place inv.len (record { states = is.states ∙ sym states; start = is.start; well = is.well }) c.first_of-begins.ensures c.is_found_with-is_found.ensures
           (inv.gone p is) done.searched)
-          e.len c.len.ensures on;
+          lens c.len.ensures on;
     }
 
 pub returns-clause-sought : goal.returns-clause-sought
 returns-clause-sought c p is =
     let e = c.piece_at-here.ensures in
     let inv = c.places.invariant in
-    let new = c.search_place.new in
-    let len = c.piece_at-here.result.len in
+    let done = c.search_on-last.ensures in
+    let new = c.search_on-last.new in
+    let last = c.search_on-last.result in
     let states = ap (λ s. states_of s.now) inv.states in
-    sought_by p c.args.haystack.now c.args.asked.longest c.args.asked.earliest c.args.start c.args.slots.now c.places.place len c.is_found_with-is_found.result
+    let lens = done.len ∙ ap (λ (h : List ℕ). (piece h last.place).len) e.haystack in
+    sought_by p c.args.request.now.haystack.now c.args.request.now.asked.longest c.args.request.now.asked.earliest c.args.request.now.start c.args.slots.now last.place last.len c.is_found_with-is_found.result
     new.counted.walked new.desk.rows new.threads.threads new.slots c.len.result
-    (has_searched p c.args.haystack.now c.args.asked.longest c.args.asked.earliest c.args.start c.args.slots.now c.places.place c.piece_at-here.result.place len c.args.first
-    c.piece_at-here.result.haystack.now (states_of c.places.counted.states.now) c.first_of-begins.result c.places.is_found c.is_found_with-is_found.result
+    (searched_on p c.args.request.now.haystack.now c.args.request.now.asked.longest c.args.request.now.asked.earliest c.args.request.now.start c.args.slots.now c.places.place c.piece_at-here.result.place last.place c.args.request.now.first
+    c.piece_at-here.result.haystack.now c.piece_at-here.result.longest (states_of c.places.counted.states.now) c.first_of-begins.result c.places.is_found c.is_found_with-is_found.result
     c.places.counted.walked new.counted.walked c.places.desk new.desk c.places.threads.threads new.threads.threads c.places.slots new.slots
-    e.haystack e.place e.len inv.len (record { states = is.states ∙ sym states; start = is.start; well = is.well }) c.first_of-begins.ensures c.is_found_with-is_found.ensures
-    (inv.gone p is) c.search_place.ensures.searched)
-    e.len c.len.ensures (sym c.is_over.ensures ∙ c.if-is_over.true)
+    e.haystack e.longest e.place inv.len (record { states = is.states ∙ sym states; start = is.start; well = is.well }) c.first_of-begins.ensures c.is_found_with-is_found.ensures
+    (inv.gone p is) done.searched)
+    lens c.len.ensures (sym c.is_over.ensures ∙ c.if-is_over.true)
 
 pub returns-clause-room : goal.returns-clause-room
 returns-clause-room c p is room =
     let inv = c.places.invariant in
-    let done = c.search_place.ensures in
-    let new = c.search_place.new in
+    let done = c.search_on-last.ensures in
+    let new = c.search_on-last.new in
     let end = c.release_all.ensures in
-    room_between p (states_of c.places.counted.states.now) (c.piece_at-here.result.place + 1) new.counted.walked new.desk new.threads (length new.slots)
+    room_between p (states_of c.places.counted.states.now) (c.search_on-last.result.place + 1) new.counted.walked new.desk new.threads (length new.slots)
     c.release_all.new.rows c.release_all.new.threads (is.states ∙ sym (ap (λ s. states_of s.now) inv.states)) done.between
     (subst (λ n. p.slots ≤ n) (sym (end.most ∙ done.most ∙ inv.most)) room.most) end.rows end.notes end.room
+
+pub places-smaller : goal.places-smaller
+places-smaller c =
+    let last = c.search_on-last.result in
+    let on : ends_by c.args.request.now.asked.earliest last.len c.is_found_with-is_found.result c.len.result ≡ false = sym c.is_over.ensures ∙ c.if-is_over.false in
+    let some : 0 < last.len = some_piece c.args.request.now.asked.earliest last.len c.is_found_with-is_found.result c.len.result on in
+    omega (arith, some, c.search_on-last.ensures.within, c.search_on-last.ensures.onward, c.piece_at-here.ensures.place, ap length c.piece_at-here.ensures.haystack)

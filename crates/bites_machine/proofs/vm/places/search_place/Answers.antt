@@ -22,13 +22,13 @@ pub returns-clause-searched : goal.returns-clause-searched
 returns-clause-searched c =
     let cleared : Desk = record { marks = c.clear.new.self; stack = c.args.desk.now.stack; rows = c.args.desk.now.rows; next = c.clear-2.new.self; hit = None } in
     let new : Desk = record { marks = c.walk_all.new.desk.marks; stack = c.walk_all.new.desk.stack; rows = c.walk_all.new.desk.rows; next = c.swap.new.other; hit = c.walk_all.new.desk.hit } in
-    let searched : PlaceSearched c.args.here.now.haystack.now c.args.longest c.args.here.now.place c.args.here.now.len (states_of c.args.counted.now.states.now) c.args.first
+    let searched : PlaceSearched c.args.here.now.haystack.now c.args.here.now.longest c.args.here.now.place c.args.here.now.len (states_of c.args.counted.now.states.now) c.args.first
     c.args.counted.now.walked c.walk_all.new.counted.walked c.args.desk.now new c.args.threads.now.threads c.walk_all.new.desk.next.threads c.args.slots.now c.walk_all.new.slots =
     record {
-      searches = place_searches c.args.here.now.haystack.now c.args.longest c.args.here.now.place (states_of c.args.counted.now.states.now) c.args.first c.args.threads.now.threads
+      searches = place_searches c.args.here.now.haystack.now c.args.here.now.longest c.args.here.now.place (states_of c.args.counted.now.states.now) c.args.first c.args.threads.now.threads
           c.args.counted.now.walked c.walk_all.new.counted.walked cleared c.walk_all.new.desk c.args.slots.now c.walk_all.new.slots c.walk_all.ensures.walks refl c.clear-2.ensures.threads c.requires.between.visits c.args.here.now.len c.requires.len;
     } in
-    subst (λ (x : Listed). PlaceSearched c.args.here.now.haystack.now c.args.longest c.args.here.now.place c.args.here.now.len (states_of c.args.counted.now.states.now) c.args.first
+    subst (λ (x : Listed). PlaceSearched c.args.here.now.haystack.now c.args.here.now.longest c.args.here.now.place c.args.here.now.len (states_of c.args.counted.now.states.now) c.args.first
     c.args.counted.now.walked c.walk_all.new.counted.walked c.args.desk.now
     (record { marks = c.walk_all.new.desk.marks; stack = c.walk_all.new.desk.stack; rows = c.walk_all.new.desk.rows; next = c.swap.new.other; hit = c.walk_all.new.desk.hit })
     c.args.threads.now.threads x.threads c.args.slots.now c.walk_all.new.slots) (sym c.swap.ensures.this) searched
@@ -36,7 +36,7 @@ returns-clause-searched c =
 pub returns-clause-between : goal.returns-clause-between
 returns-clause-between c =
     let cleared : Desk = record { marks = c.clear.new.self; stack = c.args.desk.now.stack; rows = c.args.desk.now.rows; next = c.clear-2.new.self; hit = None } in
-    let again = between_again c.args.here.now.haystack.now c.args.longest c.args.here.now.place (states_of c.args.counted.now.states.now) c.args.first c.args.threads.now.threads
+    let again = between_again c.args.here.now.haystack.now c.args.here.now.longest c.args.here.now.place (states_of c.args.counted.now.states.now) c.args.first c.args.threads.now.threads
     c.args.counted.now.walked c.walk_all.new.counted.walked cleared c.walk_all.new.desk c.args.slots.now c.walk_all.new.slots c.walk_all.ensures.walks refl c.clear-2.ensures.threads c.requires.between.visits
     c.requires.program.0 c.requires.program.1 c.requires.program.2 c.requires.place c.requires.program.3 c.args.threads.now c.requires.between.known c.requires.between.room in
     subst (λ (y : Listed). IsBetween (states_of c.args.counted.now.states.now) (c.args.here.now.place + 1) c.walk_all.new.counted.walked

@@ -19,11 +19,11 @@ walk_on-requires-clause-used c =
     let i = c.loop-index.index in
     let states = states_of c.args.counted.now.states.now in
     let lt = subst (λ n. c.loop-index.index < n) c.len.ensures c.loop-index-test.true in
-    let w = subst (λ (l : List Thread). WalksSome c.args.here.now.haystack.now c.args.longest c.args.here.now.place states ts l
+    let w = subst (λ (l : List Thread). WalksSome c.args.here.now.haystack.now c.args.here.now.longest c.args.here.now.place states ts l
     c.args.counted.now.walked c.loop-index.counted.walked c.args.desk.now c.loop-index.desk c.args.slots.now c.loop-index.slots)
     (front_is ts i c.at.result lt c.at.ensures) c.loop-index.invariant.walks in (
       map row_of (drop (i + 1) ts),
-      user_first c.args.here.now.haystack.now c.args.longest c.args.here.now.place states ts c.at.result (drop (i + 1) ts)
+      user_first c.args.here.now.haystack.now c.args.here.now.longest c.args.here.now.place states ts c.at.result (drop (i + 1) ts)
           c.args.counted.now.walked c.loop-index.counted.walked c.args.desk.now c.loop-index.desk c.args.slots.now c.loop-index.slots w,
     )
 
@@ -33,16 +33,16 @@ loop-index-preserved c =
     let i = c.loop-index.index in
     let states = states_of c.args.counted.now.states.now in
     let lt = subst (λ n. c.loop-index.index < n) c.len.ensures c.loop-index-test.true in
-    let w = subst (λ (l : List Thread). WalksSome c.args.here.now.haystack.now c.args.longest c.args.here.now.place states ts l
+    let w = subst (λ (l : List Thread). WalksSome c.args.here.now.haystack.now c.args.here.now.longest c.args.here.now.place states ts l
     c.args.counted.now.walked c.loop-index.counted.walked c.args.desk.now c.loop-index.desk c.args.slots.now c.loop-index.slots)
     (front_is ts i c.at.result lt c.at.ensures) c.loop-index.invariant.walks in
-    let past = subst (λ (b : Bor (List State)). WalksPast c.args.here.now.haystack.now c.args.longest c.args.here.now.place (states_of b.now) c.at.result
+    let past = subst (λ (b : Bor (List State)). WalksPast c.args.here.now.haystack.now c.args.here.now.longest c.args.here.now.place (states_of b.now) c.at.result
     c.loop-index.counted.walked c.walk_on.new.counted.walked c.loop-index.desk c.walk_on.new.desk c.loop-index.slots c.walk_on.new.slots)
     c.loop-index.invariant.states c.walk_on.ensures.walks in
     record {
       within = omega arith;
       states = c.walk_on.ensures.states ∙ c.loop-index.invariant.states;
-      walks = some_more c.args.here.now.haystack.now c.args.longest c.args.here.now.place states ts c.at.result (drop (i + 1) ts)
+      walks = some_more c.args.here.now.haystack.now c.args.here.now.longest c.args.here.now.place states ts c.at.result (drop (i + 1) ts)
           c.args.counted.now.walked c.loop-index.counted.walked c.walk_on.new.counted.walked c.args.desk.now c.loop-index.desk c.walk_on.new.desk
           c.args.slots.now c.loop-index.slots c.walk_on.new.slots w past;
     }

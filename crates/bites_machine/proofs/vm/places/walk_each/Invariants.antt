@@ -7,7 +7,7 @@ abbrev pub invariant-loop-index : goal.invariant-loop-index
 invariant-loop-index l = record {
   within : l.index ≤ length l.threads.threads;
   states : l.counted.states ≡ l.initial.counted.states;
-  walks : WalksSome l.here.haystack.now l.longest l.here.place (states_of l.initial.counted.states.now) l.threads.threads (drop l.index l.threads.threads)
+  walks : WalksSome l.here.haystack.now l.here.longest l.here.place (states_of l.initial.counted.states.now) l.threads.threads (drop l.index l.threads.threads)
       l.initial.counted.walked l.counted.walked l.initial.desk l.desk l.initial.slots l.slots;
 }
 

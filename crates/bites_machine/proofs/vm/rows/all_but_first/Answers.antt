@@ -1,5 +1,4 @@
-use Rattle.std.proofs.Common.{◌≡◌, ◌≤◌, ◌<◌, ◌-◌, arith, sym, subst}
-use Rattle.bites_machine.specs.Rows.{AreRows}
+use Rattle.std.proofs.Common.{arith}
 use Rattle.bites_machine.proofs.FreeLemmas.{row_below}
 use Rattle.bites_machine.proofs.vm.rows.all_but_first.Goals as goal
 

@@ -1,4 +1,4 @@
-use Rattle.std.proofs.Common.{◌≡◌, ◌+◌, ◌-◌, length, take, drop, arith, ap, ap₂, sym, ◌∙◌, ◌++◌}
+use Rattle.std.proofs.Common.{◌≡◌, ◌+◌, ◌-◌, length, take, drop, arith, ap, ap₂, sym, ◌∙◌}
 use Rattle.std.proofs.lemmas.Slice.{put_mid-paste}
 use Rattle.bites_machine.specs.Rows.{with_notes}
 use Rattle.bites_machine.proofs.CellLemmas.{copied_part, part_anew}

@@ -1,4 +1,4 @@
-use Rattle.std.proofs.Common.{◌≡◌, ◌<◌, ◌≤◌, ◌+◌, ◌∷◌, ◌++◌, [], inl, inr, refl, sym, ap, ap₂, ◌∙◌, subst, arith, length, true, false, not, Bool, List, ℕ, Bor, Some, None}
+use Rattle.std.proofs.Common.{◌≡◌, ◌∷◌, inl, refl, sym, ap, ◌∙◌, subst, arith, length, true, false, not, Bool, List, Bor, Some, None}
 use Rattle.bites_spec.specs.Walks.{IsNew}
 use Rattle.std.specs.Prelude.{slice_index_or, slice_set}
 use Rattle.std.proofs.lemmas.List.{set-get_or, length-map}
@@ -20,7 +20,7 @@ insert-requires c = omega (arith, c.requires.ready.known c.args.frame (inl refl)
 pub returns-then-not-insert-clause-looks : goal.returns-then-not-insert-clause-looks
 returns-then-not-insert-clause-looks c =
     let is_marked : slice_index_or c.args.desk.now.marks c.args.frame.state false ≡ true = was_true (slice_index_or c.args.desk.now.marks c.args.frame.state false) (sym c.insert.ensures.new ∙ c.if-not-insert.true) in
-    looks_again c.args.here.now.haystack.now c.args.longest c.args.here.now.place (states_of c.args.counted.now.states.now) c.args.thread c.args.frame c.args.counted.now.walked c.look.new.self.walked
+    looks_again c.args.here.now.haystack.now c.args.here.now.longest c.args.here.now.place (states_of c.args.counted.now.states.now) c.args.thread c.args.frame c.args.counted.now.walked c.look.new.self.walked
     c.args.desk.now c.insert.new.self c.pop.new.self c.args.slots.now c.pop.result c.requires.ready is_marked
     (c.insert.ensures.marked ∙ ap (slice_set c.args.desk.now.marks c.args.frame.state) (sym is_marked) ∙ set-get_or c.args.desk.now.marks c.args.frame.state false)
     (popped c.pop.result c.args.desk.now.stack.frames c.pop.new.self.frames c.pop.ensures.frames) c.pop.ensures.room c.look.ensures.visits c.look.ensures.looks
@@ -67,10 +67,10 @@ pub returns-in-Some-clause-looks : goal.returns-in-Some-clause-looks
 returns-in-Some-clause-looks c =
     let not_marked : slice_index_or c.args.desk.now.marks c.args.frame.state false ≡ false = was_false (slice_index_or c.args.desk.now.marks c.args.frame.state false) c.if-not-insert.ensures.new in
     let state = c.requires.ready.known c.args.frame (inl refl) in
-    let v = subst (λ (b : Bor (List State)). VisitsTo c.args.here.now.haystack.now c.args.longest c.args.here.now.place (state_at (states_of b.now) c.args.frame.state) c.args.thread c.args.frame
+    let v = subst (λ (b : Bor (List State)). VisitsTo c.args.here.now.haystack.now c.args.here.now.longest c.args.here.now.place (state_at (states_of b.now) c.args.frame.state) c.args.thread c.args.frame
     (record { marks = c.insert.new.self; stack = c.args.desk.now.stack; rows = c.args.desk.now.rows; next = c.args.desk.now.next; hit = c.args.desk.now.hit })
     c.visit.new.desk c.args.slots.now c.visit.new.slots (Some c.in-Some.frame)) c.look.ensures.states c.in-Some.ensures.moves in
-    looks_new c.args.here.now.haystack.now c.args.longest c.args.here.now.place (states_of c.args.counted.now.states.now) c.args.thread c.args.frame c.args.counted.now.walked c.visit.new.counted.walked
+    looks_new c.args.here.now.haystack.now c.args.here.now.longest c.args.here.now.place (states_of c.args.counted.now.states.now) c.args.thread c.args.frame c.args.counted.now.walked c.visit.new.counted.walked
     c.args.desk.now c.insert.new.self c.visit.new.desk c.visit.new.desk.stack c.args.slots.now c.visit.new.slots (Some c.in-Some.frame) (Some c.in-Some.frame) c.requires.ready not_marked c.insert.ensures.marked v
     refl refl (c.requires.sound c.args.frame.state state).1
     (c.visit.ensures.visits ∙ ap (λ (vs : List Spot). at c.args.frame.state c.args.here.now.place ∷ vs) c.look.ensures.visits) (c.visit.ensures.looks ∙ c.look.ensures.looks) (λ e. cc)
@@ -79,10 +79,10 @@ pub returns-in-None-clause-looks : goal.returns-in-None-clause-looks
 returns-in-None-clause-looks c =
     let not_marked : slice_index_or c.args.desk.now.marks c.args.frame.state false ≡ false = was_false (slice_index_or c.args.desk.now.marks c.args.frame.state false) c.if-not-insert.ensures.new in
     let state = c.requires.ready.known c.args.frame (inl refl) in
-    let v = subst (λ (b : Bor (List State)). VisitsTo c.args.here.now.haystack.now c.args.longest c.args.here.now.place (state_at (states_of b.now) c.args.frame.state) c.args.thread c.args.frame
+    let v = subst (λ (b : Bor (List State)). VisitsTo c.args.here.now.haystack.now c.args.here.now.longest c.args.here.now.place (state_at (states_of b.now) c.args.frame.state) c.args.thread c.args.frame
     (record { marks = c.insert.new.self; stack = c.args.desk.now.stack; rows = c.args.desk.now.rows; next = c.args.desk.now.next; hit = c.args.desk.now.hit })
     c.visit.new.desk c.args.slots.now c.visit.new.slots None) c.look.ensures.states c.in-None.ensures.moves in
-    looks_new c.args.here.now.haystack.now c.args.longest c.args.here.now.place (states_of c.args.counted.now.states.now) c.args.thread c.args.frame c.args.counted.now.walked c.visit.new.counted.walked
+    looks_new c.args.here.now.haystack.now c.args.here.now.longest c.args.here.now.place (states_of c.args.counted.now.states.now) c.args.thread c.args.frame c.args.counted.now.walked c.visit.new.counted.walked
     c.args.desk.now c.insert.new.self c.visit.new.desk c.pop-in-None.new.self c.args.slots.now c.visit.new.slots None c.pop-in-None.result c.requires.ready not_marked c.insert.ensures.marked v
     (popped c.pop-in-None.result c.visit.new.desk.stack.frames c.pop-in-None.new.self.frames c.pop-in-None.ensures.frames) c.pop-in-None.ensures.room (c.requires.sound c.args.frame.state state).1
     (c.visit.ensures.visits ∙ ap (λ (vs : List Spot). at c.args.frame.state c.args.here.now.place ∷ vs) c.look.ensures.visits) (c.visit.ensures.looks ∙ c.look.ensures.looks)

@@ -1,4 +1,4 @@
-use Rattle.std.proofs.Common.{◌≡◌, refl}
+use Rattle.std.proofs.Common.{refl}
 use Rattle.bites_machine.proofs.DeskLemmas.{puts_in}
 use Rattle.bites_machine.proofs.vm.walk.put_in.Goals as goal
 

@@ -1,6 +1,6 @@
-use Rattle.std.proofs.Common.{◌≡◌, ℕ, length, ap, ap₂, sym, ◌∙◌, rules, false, Bool, List}
+use Rattle.std.proofs.Common.{◌≡◌, length, ap, sym, ◌∙◌, rules, false, Bool}
 use Rattle.std.specs.Prelude.{replicate}
-use Rattle.std.proofs.lemmas.List.{length-map, length-replicate}
+use Rattle.std.proofs.lemmas.List.{length-map}
 use Rattle.bites_machine.specs.Marks.{marks_of}
 use Rattle.bites_machine.proofs.MarkLemmas.{none_marked, none_at_first}
 use Rattle.bites_machine.proofs.vm.marks.Marks.clear.Goals as goal

@@ -1,7 +1,6 @@
-use Rattle.std.proofs.Common.{◌≡◌, ◌<◌, ℕ, length, ap, ap₂, sym, ◌∙◌, subst, false, true, Bool, List, arith}
+use Rattle.std.proofs.Common.{◌≡◌, ◌<◌, length, ap, sym, ◌∙◌, true, arith}
 use Rattle.std.specs.Prelude.{slice_set, slice_index}
 use Rattle.std.proofs.lemmas.List.{get_or_default, length-map}
-use Rattle.bites_machine.specs.Marks.{marks_of}
 use Rattle.bites_machine.proofs.MarkLemmas.{marked, marked_again}
 use Rattle.bites_machine.proofs.vm.marks.Marks.insert.Goals as goal
 

@@ -1,9 +1,8 @@
-use Rattle.std.proofs.Common.{◌≡◌, ◌≢◌, ◌<◌, ◌≤◌, ◌+◌, ◌*◌, ◌⊎◌, inl, inr, ⊎_elim, [], ◌∷◌, length, sum, take, drop, arith, ap, ap₂, sym, ◌∙◌, ◌++◌, subst, refl, ℕ, List, Option, Fits, vec_len, true≢false}
+use Rattle.std.proofs.Common.{◌≡◌, ◌≢◌, ◌<◌, ◌≤◌, ◌+◌, ◌*◌, ◌⊎◌, inl, inr, ⊎_elim, [], length, sum, take, drop, arith, ap, ap₂, sym, ◌∙◌, ◌++◌, subst, ℕ, List, Option, vec_len, true≢false}
 use Rattle.std.specs.Prelude.{slice_index, slice_index_or, slice_set}
-use Rattle.std.proofs.lemmas.List.{length-set, length-take-le}
-use Rattle.bites_spec.proofs.SlotLemmas.{Among-right}
+use Rattle.std.proofs.lemmas.List.{length-set}
 use Rattle.bites_machine.specs.Rows.{AreFree, with_notes, rows_of}
-use Rattle.bites_machine.proofs.RowLemmas.{row_fits, rows_apart, row_written, row_copied, whole_again}
+use Rattle.bites_machine.proofs.RowLemmas.{row_fits, rows_apart, row_copied, whole_again}
 use Rattle.bites_machine.proofs.FreeLemmas.{taken, some_free, last_free}
 use Rattle.bites_machine.proofs.vm.rows.Rows.copy.Goals as goal
 

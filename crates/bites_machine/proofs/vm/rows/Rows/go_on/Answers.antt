@@ -1,5 +1,5 @@
-use Rattle.std.proofs.Common.{◌≡◌, ◌<◌, ℕ, subst, sym}
-use Rattle.bites_machine.specs.Used.{IsUsed, GoesOnBy}
+use Rattle.std.proofs.Common.{subst, sym}
+use Rattle.bites_machine.specs.Used.{GoesOnBy}
 use Rattle.bites_machine.proofs.UsedLemmas.{user_known, user_counted, few_users, shared, copied}
 use Rattle.bites_machine.proofs.vm.rows.Rows.go_on.Goals as goal
 

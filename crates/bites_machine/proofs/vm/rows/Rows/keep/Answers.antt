@@ -1,4 +1,4 @@
-use Rattle.std.proofs.Common.{◌≡◌, ◌≢◌, ◌<◌, ◌+◌, ◌-◌, ◌*◌, ap, ap₂, sym, ◌∙◌, take, drop, length, subst, arith, [], ℕ, List, Option}
+use Rattle.std.proofs.Common.{◌≡◌, ◌<◌, ◌+◌, ◌-◌, ◌*◌, ap, ap₂, sym, ◌∙◌, take, drop, length, subst, arith, []}
 use Rattle.std.specs.Prelude.{slice_index_or}
 use Rattle.bites_machine.specs.Rows.{with_notes, rows_of}
 use Rattle.bites_machine.proofs.RowLemmas.{row_at}
@@ -9,8 +9,8 @@ returns c =
     let known : c.args.row < length c.self.inside.counts.items = subst (λ p. c.args.row < length p.counts) (sym c.self.view_is) c.requires.known in
     let w = c.self.inside.width in
     let n : c.args.row * w + w - c.args.row * w ≡ w = omega arith in
-    let row : c.copy_from_slice.new.self ≡ slice_index_or (rows_of w (length c.self.inside.counts.items) c.self.inside.cells.items) c.args.row [] =
-    c.copy_from_slice.ensures.after
+    let row : c.copy_slots.new.slots ≡ slice_index_or (rows_of w (length c.self.inside.counts.items) c.self.inside.cells.items) c.args.row [] =
+    c.copy_slots.ensures
     ∙ ap₂ (λ k xs. take k (drop (c.args.row * w) xs)) n c.deref.ensures.value
     ∙ sym (row_at w (length c.self.inside.counts.items) c.args.row c.self.inside.cells.items known) in
     c.write_notes.ensures

@@ -1,7 +1,6 @@
-use Rattle.std.proofs.Common.{◌≡◌, ◌≤◌, ◌*◌, length, refl, ap, ◌∙◌, sym, arith, vec_len, rules, subst}
+use Rattle.std.proofs.Common.{◌≡◌, ◌*◌, length, arith, rules}
 use Rattle.std.specs.Prelude.{replicate}
 use Rattle.std.proofs.lemmas.List.{length-replicate}
-use Rattle.bites_machine.specs.Rows.{AreFree}
 use Rattle.bites_machine.proofs.FreeLemmas.{all_free}
 use Rattle.bites_machine.proofs.vm.rows.Rows.new.Goals as goal
 

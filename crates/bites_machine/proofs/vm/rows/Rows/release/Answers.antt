@@ -1,7 +1,6 @@
-use Rattle.std.proofs.Common.{◌≡◌, ◌<◌, ◌≤◌, ◌+◌, ◌-◌, ◌∷◌, ◌++◌, [], ap, sym, ◌∙◌, subst, length, arith, cond, vec_len, vec_capacity, length-append}
+use Rattle.std.proofs.Common.{◌≡◌, ◌<◌, ◌-◌, ◌∷◌, ◌++◌, [], ap, sym, ◌∙◌, subst, length, arith, cond, vec_len, vec_capacity}
 use Rattle.std.specs.Prelude.{slice_index, slice_set}
-use Rattle.std.proofs.lemmas.List.{length-set, get_or_default}
-use Rattle.bites_machine.specs.Rows.{AreFree}
+use Rattle.std.proofs.lemmas.List.{length-set}
 use Rattle.bites_machine.proofs.FreeLemmas.{freed}
 use Rattle.bites_machine.proofs.vm.rows.Rows.release.Goals as goal
 

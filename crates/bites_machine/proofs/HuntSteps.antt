@@ -1,0 +1,117 @@
+-- Places that are searched in turn, while no thread is alive and nothing is found.
+use Rattle.std.proofs.Common.{◌≡◌, ℕ, zero, suc, ◌+◌, ◌<◌, ◌≤◌, Bool, true, false, ◌||◌, cond, List, [], ◌∷◌, length, Option, Some, None, refl, sym, ap, ◌∙◌, subst, arith, ne_eqb}
+use Rattle.std.specs.Prelude.{◌==◌, is_some}
+use Rattle.bites_spec.specs.Utf8.{piece}
+use Rattle.bites_spec.specs.Program as program
+use Rattle.bites_spec.specs.Program.{Program}
+use Rattle.bites_spec.specs.Counts.{Record}
+use Rattle.bites_machine.specs.Rows.{Pool}
+use Rattle.bites_machine.specs.Sweep.{IsProgramOf, PlaceSearched, PlacesSearched, GoneTo, HasSearched}
+use Rattle.bites_machine.specs.declared.vm.threads.Thread.{Thread}
+use Rattle.bites_machine.specs.declared.vm.walk.Hit.{Hit}
+use Rattle.bites_machine.specs.declared.vm.walk.Desk.{Desk}
+use Rattle.bites_machine.proofs.PlaceSteps.{has_searched, gone_next, ends_by}
+
+-- a list without a thread is empty
+pub no_threads : (ts : List Thread) → length ts ≤ 0 → ts ≡ []
+no_threads [] none = refl
+no_threads (t ∷ ts) none = absurd (omega arith)
+
+-- no match was found
+pub no_hit : (hit : Option Hit) → is_some hit ≡ false → hit ≡ None
+no_hit None none = refl
+no_hit (Some h) none = cc
+
+-- a piece that takes some bytes
+pub not_zero : (n : ℕ) → 0 < n → (n == 0) ≡ false
+not_zero zero some = absurd (omega arith)
+not_zero (suc n) some = ne_eqb (suc n) 0 (λ e. absurd (omega (arith, e)))
+
+-- a search is not over behind a piece where nothing was found
+not_over : (earliest : Bool) (len threads : ℕ) → (len == 0) ≡ false → ends_by earliest len false threads ≡ false
+not_over earliest len threads some = ap (λ (b : Bool). b || false) some
+
+module _ (hay : List ℕ) (longest : Bool) (place : ℕ) (states : List program.State) where
+  -- one place was searched
+  pub one_place : (len : ℕ) (begins : Option ℕ) (was now : Record) (old new : Desk) (threads later : List Thread) (slots left : List (Option ℕ)) →
+      len ≡ (piece hay place).len → PlaceSearched hay longest place len states begins was now old new threads later slots left →
+      PlacesSearched hay longest place place states begins was now old new threads later slots left
+  one_place len begins was now old new threads later slots left lens one = record {
+    searches = λ p q is earliest start first found begun same gone.
+        has_searched p hay longest earliest start first place place len q hay states begins found (found || is_some new.hit) was now old new threads later slots left
+        refl refl lens same is begun refl gone one;
+  }
+
+  module _ (q : ℕ) (was : Record) (old : Pool) (slots : List (Option ℕ)) where
+    -- The places from one on and before this one were searched; no thread is alive and nothing was found.
+    pub record Hunts (here : ℕ) (now : Record) (new : Pool) (left : List (Option ℕ)) : Type 0 where
+      pub gone : (p : Program) → IsProgramOf p states q → (earliest : Bool) (start : ℕ) (first : List (Option ℕ)) → length slots ≡ length first →
+          GoneTo p hay longest earliest start first place false was old [] slots → GoneTo p hay longest earliest start first here false now new [] left
+
+    -- none was searched yet
+    pub hunts_first : Hunts place was old slots
+    hunts_first = record { gone = λ p is earliest start first same gone. gone }
+
+    -- one place more is searched
+    pub hunted : (here len : ℕ) (text : List ℕ) (deep : Bool) (all : List program.State) (mid now : Record) (desk last new : Desk) (later : List Thread) (left more : List (Option ℕ)) →
+        desk.rows ≡ old → text ≡ hay → deep ≡ longest → all ≡ states → len ≡ (piece text here).len → length left ≡ length slots → Hunts here mid last.rows left →
+        PlaceSearched text deep here len all (Some q) mid now last new [] later left more →
+        PlacesSearched hay longest place here states (Some q) was now desk new [] later slots more
+    hunted here len text deep all mid now desk last new later left more olds texts deeps alls lens same hunts one =
+        let there : PlaceSearched text longest here len states (Some q) mid now last new [] later left more =
+        subst (λ (b : Bool). PlaceSearched text b here len states (Some q) mid now last new [] later left more) deeps
+        (subst (λ (l : List program.State). PlaceSearched text deep here len l (Some q) mid now last new [] later left more) alls one) in
+        record {
+          searches = λ p r is earliest start first found begun width gone.
+              let qs : Some q ≡ cond found None (Some r) = begun in
+              one_by p r is earliest start first found (started found r qs) qs there width gone;
+        }
+      where
+        started : (found : Bool) (r : ℕ) → Some q ≡ cond found None (Some r) → (found ≡ false) × (q ≡ r)
+        started true r is = (cc, cc)
+        started false r is = (refl, cc)
+
+        one_by : (p : Program) (r : ℕ) → IsProgramOf p states r → (earliest : Bool) (start : ℕ) (first : List (Option ℕ)) (found : Bool) → (found ≡ false) × (q ≡ r) → Some q ≡ cond found None (Some r) →
+            PlaceSearched text longest here len states (Some q) mid now last new [] later left more → length slots ≡ length first →
+            GoneTo p hay longest earliest start first place found was desk.rows [] slots →
+            HasSearched p hay longest earliest start first here (found || is_some new.hit) now new.rows later more
+        one_by p r is earliest start first found by begun there width gone =
+            let mine : IsProgramOf p states q = subst (λ (n : ℕ). IsProgramOf p states n) (sym by.1) is in
+            let from : GoneTo p hay longest earliest start first place false was old [] slots =
+            subst (λ (b : Bool). GoneTo p hay longest earliest start first place b was old [] slots) by.0
+            (subst (λ (pool : Pool). GoneTo p hay longest earliest start first place found was pool [] slots) olds gone) in
+            has_searched p hay longest earliest start first here here len r text states (Some q) found (found || is_some new.hit) mid now last new [] later left more
+            texts refl (lens ∙ ap (λ (h : List ℕ). (piece h here).len) texts) (same ∙ width) is begun refl
+            (subst (λ (b : Bool). GoneTo p hay longest earliest start first here b mid last.rows [] left) (sym by.0) (hunts.gone p mine earliest start first width from)) there
+
+    -- nothing was found there, and the hunt goes on
+    pub hunts_on : (here len : ℕ) (text : List ℕ) (deep : Bool) (all : List program.State) (mid now : Record) (last new : Desk) (later : List Thread) (left more : List (Option ℕ)) →
+        text ≡ hay → deep ≡ longest → all ≡ states → len ≡ (piece text here).len → length left ≡ length slots → Hunts here mid last.rows left →
+        PlaceSearched text deep here len all (Some q) mid now last new [] later left more → (len == 0) ≡ false → is_some new.hit ≡ false → later ≡ [] →
+        Hunts (here + len) now new.rows more
+    hunts_on here len text deep all mid now last new later left more texts deeps alls lens same hunts one some none empty =
+        let there : PlaceSearched text longest here len states (Some q) mid now last new [] later left more =
+        subst (λ (b : Bool). PlaceSearched text b here len states (Some q) mid now last new [] later left more) deeps
+        (subst (λ (l : List program.State). PlaceSearched text deep here len l (Some q) mid now last new [] later left more) alls one) in
+        let lens_in : len ≡ (piece hay here).len = lens ∙ ap (λ (h : List ℕ). (piece h here).len) texts in
+        record {
+          gone = λ p is earliest start first width gone.
+              let did = has_searched p hay longest earliest start first here here len q text states (Some q) false false mid now last new [] later left more
+              texts refl lens_in (same ∙ width) is refl (sym none) (hunts.gone p is earliest start first width gone) there in
+              subst (λ (ts : List Thread). GoneTo p hay longest earliest start first (here + len) false now new.rows ts more) empty
+              (gone_next p hay longest earliest start first here len false now new.rows later more (length later) did lens_in refl (not_over earliest len (length later) some));
+        }
+
+-- some places more were searched
+pub searched_on : (p : Program) (hay : List ℕ) (longest earliest : Bool) (start : ℕ) (old : List (Option ℕ)) (place here last q : ℕ) (text : List ℕ) (deep : Bool) (states : List program.State) (begins : Option ℕ) (is_found found : Bool)
+    (was now : Record) (desk new : Desk) (threads later : List Thread) (slots left : List (Option ℕ)) →
+    text ≡ hay → deep ≡ longest → here ≡ place → length slots ≡ length old → IsProgramOf p states q → begins ≡ cond is_found None (Some q) → found ≡ (is_found || is_some new.hit) →
+    GoneTo p hay longest earliest start old place is_found was desk.rows threads slots → PlacesSearched text deep here last states begins was now desk new threads later slots left →
+    HasSearched p hay longest earliest start old last found now new.rows later left
+searched_on p hay longest earliest start old place here last q text deep states begins is_found found was now desk new threads later slots left texts deeps heres same is begun founds gone some =
+    let there : PlacesSearched hay longest place last states begins was now desk new threads later slots left =
+    subst (λ (h : List ℕ). PlacesSearched h longest place last states begins was now desk new threads later slots left) texts
+    (subst (λ (b : Bool). PlacesSearched text b place last states begins was now desk new threads later slots left) deeps
+    (subst (λ i. PlacesSearched text deep i last states begins was now desk new threads later slots left) heres some)) in
+    subst (λ (b : Bool). HasSearched p hay longest earliest start old last b now new.rows later left) (sym founds)
+    (there.searches p q is earliest start old is_found begun same gone)

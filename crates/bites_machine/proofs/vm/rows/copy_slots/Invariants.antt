@@ -1,0 +1,6 @@
+use Rattle.std.proofs.Common.{◌≡◌}
+use lib.Seq.{paste}
+use Rattle.bites_machine.proofs.vm.rows.copy_slots.Given as goal
+
+abbrev pub invariant-loop-k : goal.invariant-loop-k
+invariant-loop-k l = l.slots ≡ paste l.initial.slots 0 l.row l.k
