@@ -65,7 +65,7 @@ returns-clause-replaces g c =
       end.0,
       end.1,
       written ∙ ap (λ h. string_bytes s.out ++ drop (unwrap_or s.last 0) h) on.haystack ∙ end.2
-      ∙ ap (λ ss. replaced_from hay 0 ss end.0) (sym (limited_map span_in n cs)),
+          ∙ ap (λ ss. replaced_from hay 0 ss end.0) (sym (limited_map span_in n cs)),
     ))
 
 pub returns-clause-borrowed : goal.returns-clause-borrowed
