@@ -1,59 +1,64 @@
-//! What is answered to questions on patterns alone: trees, builds, messages, sizes and escaped texts.
+//! What is answered to a search of a haystack.
 
-use crate::build::{describe, message, weight};
-use crate::case::Case;
-use crate::escaped::push_escaped;
-use crate::fault::Fault;
-use crate::words::write_words;
-use bites_syntax::parse::parse;
-use bites_syntax::tree::escape;
-use bites_text::error::Error;
+use bites_plain::pieces::part;
+use bites_plain::span::Span;
 use std::alloc::{AllocError, Global};
-use std::fmt::Write;
 
-/// Whether the call asks of the pattern alone.
-pub fn asks_pattern(call: &str) -> bool {
-    matches!(call, "message" | "tree" | "build" | "weight" | "escape")
+/// The groups of a match: where each of them took part.
+pub type Groups = Vec<Option<Span>>;
+
+/// An answer to a search.
+#[derive(Drop)]
+pub enum Answer {
+    /// Whether something matches.
+    Whether(bool),
+    /// Where a match ends first.
+    End(Option<usize>),
+    /// Where matches or pieces lie.
+    Spans(Vec<Span>),
+    /// A piece that does not begin where the match before it ended.
+    NoPiece,
+    /// The groups of each match.
+    Groups(Vec<Groups>),
+    /// The bytes of a match, and of groups.
+    Parts(Vec<Vec<u8>>),
+    /// What stands for the haystack, or for a template, where something matches.
+    Text(Option<Vec<u8>>),
 }
 
-/// Adds the answer to a question on the pattern alone.
-pub fn answer(alloc: Global, case: &Case<'_>, text: &mut String) -> Result<(), Fault> {
-    let told = match case.row.call {
-        "message" => message(alloc, case, text),
-        "weight" => weight(alloc, case, text),
-        "build" => describe(alloc, case, text),
-        "tree" => write_tree(alloc, case, text),
-        _ => write_escaped(alloc, case, text),
-    };
-    match told {
-        Ok(()) => Ok(()),
-        Err(error) => refused(error, text),
+/// The answer of a single span, or of none.
+pub fn span(alloc: Global, found: Option<Span>) -> Result<Answer, AllocError> {
+    let mut spans = Vec::new(alloc);
+    if let Some(found) = found {
+        spans.push(found)?;
     }
+    Ok(Answer::Spans(spans))
 }
 
-/// Adds `err: ` and the message of the refusal. Want of memory is none.
-pub fn refused(error: Error, text: &mut String) -> Result<(), Fault> {
-    match error {
-        Error::Memory => Err(Fault::Memory),
-        error => Ok(write!(text, "err: {error}")?),
+/// The answer of pieces of a haystack, each of which begins where the match before it ended.
+pub fn pieces(
+    alloc: Global,
+    haystack: &[u8],
+    matches: &[Span],
+    pieces: &[&[u8]],
+) -> Result<Answer, AllocError> {
+    let mut from = 0usize;
+    let mut spans = Vec::new(alloc);
+    for (number, piece) in pieces.iter().enumerate() {
+        let to = from.saturating_add(piece.len());
+        if part(haystack, from, to) != *piece {
+            return Ok(Answer::NoPiece);
+        }
+        spans.push(Span::new(from, to))?;
+        from = end_of(matches, number);
     }
+    Ok(Answer::Spans(spans))
 }
 
-// The tree of the pattern in words.
-fn write_tree(alloc: Global, case: &Case<'_>, text: &mut String) -> Result<(), Error> {
-    let tree = parse(alloc, &case.pattern, case.flags, case.nest_limit)?;
-    let mut words = String::new(alloc);
-    write_words(&tree, &mut words)?;
-    Ok(push_escaped(text, words.as_bytes())?)
-}
-
-fn write_escaped(alloc: Global, case: &Case<'_>, text: &mut String) -> Result<(), Error> {
-    let escaped = escape(alloc, &case.pattern)?;
-    Ok(push_new(text, escaped.as_bytes())?)
-}
-
-/// Adds `new:` and the escaped text.
-pub fn push_new(text: &mut String, bytes: &[u8]) -> Result<(), AllocError> {
-    text.push_str("new:")?;
-    push_escaped(text, bytes)
+// Where the match with this number ends.
+fn end_of(matches: &[Span], number: usize) -> usize {
+    match matches.get(number) {
+        Some(found) => found.end(),
+        None => usize::MAX,
+    }
 }

@@ -1,19 +1,23 @@
 //! Lines of tables compared.
 
-use crate::answer::{answer, asks_pattern, refused};
-use crate::build::regex_of;
+use crate::call::{Call, Count, Question, Search};
 use crate::case::{Case, case_of};
 use crate::fault::Fault;
+use crate::pattern::{answer, push_refusal};
 use crate::report::Report;
 use crate::rooms::Rooms;
 use crate::row::row_of;
+use crate::subject::{Subject, subject_of};
 use crate::sweep::sweep;
-use crate::{plain, product};
-use bites_bytes::bytes::Regex;
-use bites_machine::program::{Program, compile};
-use bites_syntax::parse::parse;
+use crate::told::push_answer;
+use crate::{bytes, plain, texts};
 use bites_text::error::Error;
 use std::alloc::Global;
+use std::str;
+
+/// The length of the longest haystack that is searched with the switch for longest matches turned: in a longer one the
+/// plain programs are slow.
+const LONGEST_SWITCHED: usize = 24;
 
 /// A comparison of rows: the report of it, and the room that searches take, which is kept from row to row.
 #[derive(Drop)]
@@ -45,58 +49,97 @@ impl Comparison {
             return Ok(());
         }
         let case = case_of(self.alloc, row_of(self.alloc, line)?)?;
-        if asks_pattern(case.row.call) {
-            return self.compare_pattern(place, &case);
+        match case.call {
+            Call::Pattern(question) => self.compare_pattern(place, &case, question),
+            Call::Program(count) => self.compare_count(place, &case, count),
+            Call::Search(search) => self.compare_search(place, &case, search),
         }
-        let regex = match regex_of(self.alloc, &case) {
-            Ok(regex) => regex,
-            Err(error) => return self.compare_refusal(place, &case, error),
-        };
-        let program = program_of(self.alloc, &case)?;
-        self.compare_searches(place, &case, &regex, &program)
     }
 
     // Compares what is answered to a question on the pattern alone.
-    fn compare_pattern(&mut self, place: &str, case: &Case<'_>) -> Result<(), Fault> {
+    fn compare_pattern(
+        &mut self,
+        place: &str,
+        case: &Case<'_>,
+        question: Question,
+    ) -> Result<(), Fault> {
         let mut text = String::new(self.alloc);
-        answer(self.alloc, case, &mut text)?;
-        self.count("engine", place, case, &text)
+        answer(self.alloc, question, case, &mut text)?;
+        self.count(asked(case.is_text), place, case, &text)
+    }
+
+    // Compares a count of the program, or of a search.
+    fn compare_count(&mut self, place: &str, case: &Case<'_>, count: Count) -> Result<(), Fault> {
+        let subject = subject_of(self.alloc, case)?;
+        let mut text = String::new(self.alloc);
+        plain::count::push_count(self.alloc, &subject.program, case, count, &mut text)?;
+        self.count("plain programs", place, case, &text)
+    }
+
+    // Compares what is answered to a search, or the message that refuses its pattern.
+    fn compare_search(
+        &mut self,
+        place: &str,
+        case: &Case<'_>,
+        search: Search,
+    ) -> Result<(), Fault> {
+        match subject_of(self.alloc, case) {
+            Ok(subject) => self.compare_answers(place, case, search, &subject),
+            Err(error) => self.compare_refusal(place, case, error),
+        }
     }
 
     // Compares the message that refuses the pattern of a search.
     fn compare_refusal(&mut self, place: &str, case: &Case<'_>, error: Error) -> Result<(), Fault> {
         let mut text = String::new(self.alloc);
-        refused(error, &mut text)?;
-        self.count("engine", place, case, &text)
+        push_refusal(error, &mut text)?;
+        self.count(asked(case.is_text), place, case, &text)
     }
 
     // Compares what the engine and the plain programs answer to a search.
-    fn compare_searches(
+    fn compare_answers(
         &mut self,
         place: &str,
         case: &Case<'_>,
-        regex: &Regex,
-        program: &Program,
+        search: Search,
+        subject: &Subject,
     ) -> Result<(), Fault> {
-        let mut text = String::new(self.alloc);
-        if asks_regex(case) {
-            product::search(self.alloc, regex, case, &mut text)?;
-            self.count("engine", place, case, &text)?;
-            text.clear();
-        }
-        if asks_plain(case.row.call) {
-            plain::search(self.alloc, program, case, &mut text)?;
-            self.count("plain programs", place, case, &text)?;
+        let is_longest = case.settings.leftmost_longest;
+        let (is_text, told) = told_by_engine(self.alloc, subject, is_longest, case, search)?;
+        self.count(asked(is_text), place, case, &told)?;
+        let told = told_by_plain(self.alloc, subject, is_longest, case, search)?;
+        self.count("plain programs", place, case, &told)?;
+        if case.haystack.len() <= LONGEST_SWITCHED {
+            self.compare_switched(place, case, search, subject)?;
         }
         sweep(
             self.alloc,
-            regex,
-            program,
+            subject,
             &mut self.rooms,
             case,
             place,
             &mut self.report,
         )?;
+        Ok(())
+    }
+
+    // Compares what the engine answers where the switch for longest matches is turned to what the plain programs answer then.
+    fn compare_switched(
+        &mut self,
+        place: &str,
+        case: &Case<'_>,
+        search: Search,
+        subject: &Subject,
+    ) -> Result<(), Fault> {
+        let is_longest = !case.settings.leftmost_longest;
+        let wanted = told_by_plain(self.alloc, subject, is_longest, case, search)?;
+        let (is_text, told) = told_by_engine(self.alloc, subject, is_longest, case, search)?;
+        let asked = if is_text {
+            "texts, switched"
+        } else {
+            "bytes, switched"
+        };
+        self.report.count(asked, case.word, place, &wanted, &told)?;
         Ok(())
     }
 
@@ -107,29 +150,52 @@ impl Comparison {
         case: &Case<'_>,
         answer: &str,
     ) -> Result<(), Fault> {
-        let row = &case.row;
         self.report
-            .count(asked, row.call, place, row.wanted, answer)?;
+            .count(asked, case.word, place, case.wanted, answer)?;
         Ok(())
     }
 }
 
-// Whether the engine's surface has the call. It does not answer longest matches yet.
-fn asks_regex(case: &Case<'_>) -> bool {
-    match case.row.call {
-        "program" | "visits" => false,
-        "is" | "shortest" => true,
-        _ => !case.is_longest(),
+// The name of the engine over texts or over bytes.
+fn asked(is_text: bool) -> &'static str {
+    if is_text { "texts" } else { "bytes" }
+}
+
+// What the engine answers to a search, and whether the one over texts was asked, as a case of texts wants it.
+fn told_by_engine(
+    alloc: Global,
+    subject: &Subject,
+    leftmost_longest: bool,
+    case: &Case<'_>,
+    search: Search,
+) -> Result<(bool, String), Fault> {
+    let mut told = String::new(alloc);
+    if let Some(texts) = &subject.texts {
+        let text = str::from_utf8(&case.haystack).map_err(|_| Fault::NoRow)?;
+        let regex = texts.regex(leftmost_longest);
+        if let Some(answer) = texts::search::answer(alloc, regex, text, case.argument, search)? {
+            push_answer(&mut told, &answer)?;
+            return Ok((true, told));
+        }
     }
+    let regex = subject.regex(leftmost_longest);
+    push_answer(
+        &mut told,
+        &bytes::search::answer(alloc, regex, case, search)?,
+    )?;
+    Ok((false, told))
 }
 
-// Whether the plain programs have the call.
-fn asks_plain(call: &str) -> bool {
-    !matches!(call, "is" | "shortest")
-}
-
-// The program of the case's pattern.
-fn program_of(alloc: Global, case: &Case<'_>) -> Result<Program, Fault> {
-    let tree = parse(alloc, &case.pattern, case.flags, case.nest_limit)?;
-    Ok(compile(alloc, &tree, &case.pattern, case.size_limit)?)
+// What the plain programs answer to a search.
+fn told_by_plain(
+    alloc: Global,
+    subject: &Subject,
+    leftmost_longest: bool,
+    case: &Case<'_>,
+    search: Search,
+) -> Result<String, Fault> {
+    let answer = plain::search::answer(alloc, &subject.program, leftmost_longest, case, search)?;
+    let mut told = String::new(alloc);
+    push_answer(&mut told, &answer)?;
+    Ok(told)
 }

@@ -7,19 +7,22 @@
 #![tactic(auto)]
 
 mod answer;
-mod build;
+mod bytes;
+mod call;
 mod case;
 pub mod compare;
 mod escaped;
 pub mod fault;
 mod machine;
+mod pattern;
 mod plain;
-mod product;
 pub mod report;
 mod rooms;
 mod row;
-mod single;
-mod start;
+mod settings;
+mod singles;
+mod subject;
 mod sweep;
+mod texts;
 mod told;
 mod words;

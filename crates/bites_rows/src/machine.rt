@@ -1,6 +1,6 @@
 //! Searches of a program from a start, in room that is kept, with no slots, with two, and with all.
 
-use crate::start::Start;
+use crate::plain::start::Start;
 use bites_machine::program::Program;
 use bites_machine::vm;
 use std::alloc::{AllocError, Global};

@@ -55,6 +55,7 @@ impl Report {
     /// tells of one that is not.
     pub fn agree(
         &mut self,
+        asked: &str,
         kind: &str,
         place: &str,
         start: usize,
@@ -64,10 +65,10 @@ impl Report {
             let text = &mut self.lines;
             writeln!(
                 text,
-                "{place}: {kind} from {start}: not as the plain program"
+                "{place}: {asked}: {kind} from {start}: not as the plain program"
             )?;
         }
-        self.add("from starts", kind, !agrees)
+        self.add(asked, kind, !agrees)
     }
 
     // Adds one to the tally of this kind.

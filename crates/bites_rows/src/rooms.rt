@@ -8,39 +8,54 @@ use std::alloc::{AllocError, Global};
 /// Room that is kept for all regexes and programs of one size: what it served before is to change no answer.
 #[derive(Drop)]
 pub struct Rooms {
-    caches: Vec<Cache>,
-    rooms: Vec<vm::Cache>,
+    bytes: Vec<Cache>,
+    texts: Vec<regex_bites::Cache>,
+    machine: Vec<vm::Cache>,
 }
 
 impl Rooms {
     /// No room yet.
     pub fn new(alloc: Global) -> Rooms {
         Rooms {
-            caches: Vec::new(alloc),
-            rooms: Vec::new(alloc),
+            bytes: Vec::new(alloc),
+            texts: Vec::new(alloc),
+            machine: Vec::new(alloc),
         }
     }
 
-    /// A cache that fits the regex: one that served before, or a new one.
+    /// A cache that fits the regex over bytes: one that served before, or a new one.
     pub fn cache(&mut self, regex: &Regex) -> Result<&mut Cache, AllocError> {
-        let known = self.caches.iter().position(|cache| cache.fits(regex));
+        let known = self.bytes.iter().position(|cache| cache.fits(regex));
+        let index = known.unwrap_or(self.bytes.len());
         if known.is_none() {
-            self.caches.push(regex.cache()?)?;
+            self.bytes.push(regex.cache()?)?;
         }
-        let index = known.unwrap_or(self.caches.len().saturating_sub(1));
-        self.caches.get_mut(index).ok_or(AllocError)
+        self.bytes.get_mut(index).ok_or(AllocError)
+    }
+
+    /// A cache that fits the regex over texts: one that served before, or a new one.
+    pub fn text_cache(
+        &mut self,
+        regex: &regex_bites::Regex,
+    ) -> Result<&mut regex_bites::Cache, AllocError> {
+        let known = self.texts.iter().position(|cache| cache.fits(regex));
+        let index = known.unwrap_or(self.texts.len());
+        if known.is_none() {
+            self.texts.push(regex.cache()?)?;
+        }
+        self.texts.get_mut(index).ok_or(AllocError)
     }
 
     /// Room that fits the program: one that served before, or a new one.
     pub fn room(&mut self, program: &Program) -> Result<&mut vm::Cache, AllocError> {
         let known = self
-            .rooms
+            .machine
             .iter()
             .position(|room| room.fits_program(program));
+        let index = known.unwrap_or(self.machine.len());
         if known.is_none() {
-            self.rooms.push(vm::Cache::new(program)?)?;
+            self.machine.push(vm::Cache::new(program)?)?;
         }
-        let index = known.unwrap_or(self.rooms.len().saturating_sub(1));
-        self.rooms.get_mut(index).ok_or(AllocError)
+        self.machine.get_mut(index).ok_or(AllocError)
     }
 }

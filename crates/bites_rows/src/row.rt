@@ -1,8 +1,10 @@
 //! A row of a table, as it stands there.
 
 use crate::fault::Fault;
-use bites_syntax::parse::Flags;
 use std::alloc::Global;
+
+/// How many columns a row has.
+const COLUMNS: usize = 12;
 
 /// The columns of a row that a comparison reads.
 #[derive(Clone, Copy)]
@@ -22,47 +24,21 @@ pub struct Row<'t> {
 /// The row that a line is.
 pub fn row_of<'t>(alloc: Global, line: &'t str) -> Result<Row<'t>, Fault> {
     let columns: Vec<&str> = line.split('\t').collect(alloc)?;
-    match columns.as_slice() {
-        [
-            _,
-            call,
-            kind,
-            flags,
-            size,
-            nest,
-            pattern,
-            haystack,
-            argument,
-            template,
-            wanted,
-            _,
-        ] => Ok(Row {
-            call,
-            kind,
-            flags,
-            size,
-            nest,
-            pattern,
-            haystack,
-            argument,
-            template,
-            wanted,
-        }),
-        _ => Err(Fault::NoRow),
+    if columns.len() != COLUMNS {
+        return Err(Fault::NoRow);
     }
-}
-
-/// The flags whose letters stand here; a dash sets none.
-pub fn flags_of(letters: &str) -> Flags {
-    let set = |letter: char| letters.contains(letter);
-    Flags {
-        case_insensitive: set('i'),
-        multi_line: set('m'),
-        dot_matches_new_line: set('s'),
-        crlf: set('R'),
-        swap_greed: set('U'),
-        ignore_whitespace: set('x'),
-    }
+    Ok(Row {
+        call: columns[1],
+        kind: columns[2],
+        flags: columns[3],
+        size: columns[4],
+        nest: columns[5],
+        pattern: columns[6],
+        haystack: columns[7],
+        argument: columns[8],
+        template: columns[9],
+        wanted: columns[10],
+    })
 }
 
 /// The number in a column, or another one for a dash.

@@ -23,15 +23,15 @@ fn lines_are_told(rt: HostRuntime) -> Result<(), Fail> {
         ("# a comment", ""),
         (
             "hand\tfind_at\tbytes\t-\t-\t-\ta|ab\tab\t0\t\t0..1\t",
-            "captures_at: 4 compared, 0 different\n",
+            "from starts: parses: longest: 4 compared, 0 different\n",
         ),
         (
             "hand\tcaptures_at\tbytes\t-\t-\t-\ta|ab\tab\t0\t\t0..2\t",
-            "line 1: engine: captures_at: expected 0..2, got 0..1\nline 1: plain programs: captures_at: expected 0..2, got 0..1\n",
+            "line 1: bytes: captures_at: expected 0..2, got 0..1\nline 1: plain programs: captures_at: expected 0..2, got 0..1\n",
         ),
         (
             "hand\tweight\tbytes\t-\t-\t-\t*\\xC3\\xA9\t\t-\t\t144\t",
-            "1 different\nline 1: engine: weight: expected 144, got err: uncounted repetition operator must be applied to a sub-expression\n",
+            "1 different\nline 1: bytes: weight: expected 144, got err: uncounted repetition operator must be applied to a sub-expression\n",
         ),
         (
             "hand\tweight\tbytes\t-\t-\t-\ta\t\t-\t\t143\t",
@@ -40,6 +40,14 @@ fn lines_are_told(rt: HostRuntime) -> Result<(), Fail> {
         (
             "hand\tmessage\tbytes\t-\t-\t-\t(\t\t-\t\taccepted\t",
             "got err: found open group without closing ')'\n",
+        ),
+        (
+            "hand\tcaptures_at\ttext\tL\t-\t-\ta|ab\tab\t0\t\t0..1\t",
+            "line 1: texts: captures_at: expected 0..1, got 0..2\nline 1: plain programs: captures_at: expected 0..1, got 0..2\n",
+        ),
+        (
+            "hand\tfind_at\ttext\t-\t-\t-\ta\t\\xFF\t0\t\t0..1\t",
+            "this is no row",
         ),
         ("hand\tbuild", "this is no row"),
         (

@@ -1,0 +1,78 @@
+//! What a row may ask.
+
+/// A question on the pattern alone.
+#[derive(Clone, Copy)]
+pub enum Question {
+    Message,
+    Tree,
+    Build,
+    Weight,
+    Escape,
+}
+
+/// A count that only the program of the pattern and the plain programs answer.
+#[derive(Clone, Copy)]
+pub enum Count {
+    States,
+    Visits,
+}
+
+/// A search of a haystack.
+#[derive(Clone, Copy)]
+pub enum Search {
+    Is,
+    Shortest,
+    FindAt,
+    CapturesAt,
+    FindIter,
+    CapturesIter,
+    Split,
+    SplitN,
+    Extract,
+    Expand,
+    Replace,
+    ReplaceLiteral,
+    ReplaceCount,
+}
+
+/// What a row asks.
+#[derive(Clone, Copy)]
+pub enum Call {
+    Pattern(Question),
+    Program(Count),
+    Search(Search),
+}
+
+/// Each call by its word.
+const CALLS: [(&str, Call); 20] = [
+    ("message", Call::Pattern(Question::Message)),
+    ("tree", Call::Pattern(Question::Tree)),
+    ("build", Call::Pattern(Question::Build)),
+    ("weight", Call::Pattern(Question::Weight)),
+    ("escape", Call::Pattern(Question::Escape)),
+    ("program", Call::Program(Count::States)),
+    ("visits", Call::Program(Count::Visits)),
+    ("is", Call::Search(Search::Is)),
+    ("shortest", Call::Search(Search::Shortest)),
+    ("find_at", Call::Search(Search::FindAt)),
+    ("captures_at", Call::Search(Search::CapturesAt)),
+    ("find_iter", Call::Search(Search::FindIter)),
+    ("captures_iter", Call::Search(Search::CapturesIter)),
+    ("split", Call::Search(Search::Split)),
+    ("splitn", Call::Search(Search::SplitN)),
+    ("extract", Call::Search(Search::Extract)),
+    ("expand", Call::Search(Search::Expand)),
+    ("replace", Call::Search(Search::Replace)),
+    ("replace_lit", Call::Search(Search::ReplaceLiteral)),
+    ("replace_count", Call::Search(Search::ReplaceCount)),
+];
+
+/// The call that has the word.
+pub fn call_of(word: &str) -> Option<Call> {
+    for (name, call) in CALLS {
+        if name == word {
+            return Some(call);
+        }
+    }
+    None
+}

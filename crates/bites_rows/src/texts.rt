@@ -1,0 +1,6 @@
+//! What the engine over texts answers.
+
+pub mod border;
+pub mod build;
+pub mod search;
+pub mod single;
