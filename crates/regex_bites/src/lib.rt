@@ -85,11 +85,8 @@
 //! ```rust
 //! let regex = Regex::new(rt.alloc(), "a+")?;
 //! let mut cache = regex.cache()?;
-//! for line in ["xa", "aax", "x"] {
-//!     if let Some(found) = regex.find_with(&mut cache, line) {
-//!         assert!(rt; !found.is_empty());
-//!     }
-//! }
+//! assert!(rt; regex.is_match_with(&mut cache, "xa"));
+//! assert!(rt; !regex.is_match_with(&mut cache, "x"));
 //! ```
 //!
 //! # What differs from the Rust crate regex-bites
