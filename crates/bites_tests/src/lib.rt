@@ -8,6 +8,8 @@ mod builder;
 #[cfg(test)]
 mod caches;
 #[cfg(test)]
+mod examples;
+#[cfg(test)]
 mod groups;
 #[cfg(test)]
 mod hostile;

@@ -1,0 +1,91 @@
+//! The examples on the first page of `regex_bites` and in the README, word for word.
+
+use regex_bites::{Error, Regex, RegexBuilder, bytes, escape};
+use std::alloc::Global;
+use std::test::Fail;
+
+fn has_word(alloc: Global, text: &str) -> Result<bool, Error> {
+    let regex = Regex::new(alloc, r"\bfoo\b")?;
+    Ok(regex.is_match(text)?)
+}
+
+#[test]
+fn the_example_of_the_readme(rt: HostRuntime) -> Result<(), Fail> {
+    assert!(rt; has_word(rt.alloc(), "a foo")?);
+    assert!(rt; !has_word(rt.alloc(), "food")?);
+    Ok(())
+}
+
+#[test]
+fn whether_it_matches(rt: HostRuntime) -> Result<(), Fail> {
+    let regex = Regex::new(rt.alloc(), r"\d{4}-\d{2}-\d{2}")?;
+    assert!(rt; regex.is_match("on 2010-03-14")?);
+    assert!(rt; !regex.is_match("on Sunday")?);
+    Ok(())
+}
+
+#[test]
+fn the_match(rt: HostRuntime) -> Result<(), Fail> {
+    let regex = Regex::new(rt.alloc(), "a+")?;
+    let found = regex.find("baaac")?.ok_or("no match")?;
+    assert_eq!(rt; found.range(), 1..4);
+    assert_eq!(rt; found.as_str(), "aaa");
+    Ok(())
+}
+
+#[test]
+fn groups_by_name(rt: HostRuntime) -> Result<(), Fail> {
+    let regex = Regex::new(rt.alloc(), r"(?<year>\d{4})-(?<month>\d{2})")?;
+    let captures = regex.captures("on 2010-03-14")?.ok_or("no match")?;
+    let year = captures.name("year").ok_or("no year")?;
+    assert_eq!(rt; year.as_str(), "2010");
+    let month = captures.get(2).ok_or("no month")?;
+    assert_eq!(rt; month.as_str(), "03");
+    Ok(())
+}
+
+#[test]
+fn all_matches(rt: HostRuntime) -> Result<(), Fail> {
+    let regex = Regex::new(rt.alloc(), r"\w+")?;
+    let mut lengths = Vec::new(rt.alloc());
+    for word in regex.find_iter("the quick fox")? {
+        lengths.push(word.len())?;
+    }
+    assert_eq!(rt; lengths.as_slice(), [3, 5, 3].as_slice());
+    Ok(())
+}
+
+#[test]
+fn replaced(rt: HostRuntime) -> Result<(), Fail> {
+    let regex = bytes::Regex::new(rt.alloc(), r"(\w+)=(\w+)")?;
+    let turned = regex.replace_all(b"a=1, b=2", b"$2=$1".as_slice())?;
+    let turned = turned.into_owned(rt.alloc())?;
+    assert_eq!(rt; turned.as_slice(), b"1=a, 2=b".as_slice());
+    Ok(())
+}
+
+#[test]
+fn limits(rt: HostRuntime) -> Result<(), Fail> {
+    let mut builder = RegexBuilder::new(rt.alloc(), "(?:a{1000}){1000}")?;
+    builder.size_limit(1 << 20).nest_limit(10);
+    assert_eq!(rt; builder.build().err(), Some(Error::TooBig));
+    Ok(())
+}
+
+#[test]
+fn a_text_as_a_pattern(rt: HostRuntime) -> Result<(), Fail> {
+    let pattern = escape(rt.alloc(), "1.5")?;
+    let regex = Regex::new(rt.alloc(), &pattern)?;
+    assert!(rt; regex.is_match("it is 1.5")?);
+    assert!(rt; !regex.is_match("it is 125")?);
+    Ok(())
+}
+
+#[test]
+fn a_cache_that_is_kept(rt: HostRuntime) -> Result<(), Fail> {
+    let regex = Regex::new(rt.alloc(), "a+")?;
+    let mut cache = regex.cache()?;
+    assert!(rt; regex.is_match_with(&mut cache, "xa"));
+    assert!(rt; !regex.is_match_with(&mut cache, "x"));
+    Ok(())
+}
