@@ -57,7 +57,7 @@ fn readers(work: Work<'_>) -> Result<usize, Refused> {
 }
 
 fn regex_reads(regex: &Regex) -> usize {
-    let mut count = regex.as_str().len().min(1);
+    let mut count = regex.as_str().len();
     count = count.wrapping_add(regex.captures_len());
     count = count.wrapping_add(regex.static_captures_len().is_some() as usize);
     for name in regex.capture_names() {
@@ -71,9 +71,11 @@ fn captures_reads(captures: &Captures<'_>) -> usize {
     for group in captures.iter() {
         count = count.wrapping_add(group.map_or(0, |found| match_reads(found)));
     }
-    count = count.wrapping_add(captures.name("year").is_some() as usize);
     if captures.get(0).is_some() {
-        count = count.wrapping_add(captures.part(0).len().min(1));
+        count = count.wrapping_add(captures.part(0).len());
+    }
+    if captures.name("year").is_some() {
+        count = count.wrapping_add(captures.part_named("year").len());
     }
     count
 }
