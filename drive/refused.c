@@ -107,6 +107,9 @@ struct row {
     const char *answer; /* NULL: what the run with ample memory tells */
 };
 
+#define TIMES_4(text) text text text text
+#define TIMES_16(text) TIMES_4(TIMES_4(text))
+#define WORDS "(?i)(?<w>[[:alpha:]_-]{2,3})(?:\\d|\\x{2603}|k)+$"
 #define DATES "(\\d{4})-(\\d{2})-(\\d{2})"
 #define DAYS "On 2010-03-14, foo happened. On 2014-10-14, bar happened."
 #define SWAPPED "b[na][na]a\n"
@@ -115,6 +118,7 @@ struct row {
 
 static const struct row rows[] = {
     {AGAIN, "new", DATES, DAYS, "", "3..13\n" DATES "\n4\n4\n- - - - \n"},
+    {AGAIN, "new", WORDS, "1 Ab-7K", "", "2..7\n" WORDS "\n2\n2\n- w \n"},
     {AGAIN, "builder", "sam|SAMWISE (x){0}", "a samwise", "", "2..9\nsam|SAMWISE (x){0}\n2\n1\n- - \n"},
     {ONCE, "clone", "(?<year>\\d{4})|x", "in 1999", "", "3..7\n(?<year>\\d{4})|x\n2\nnone\n- year \n"},
     {AGAIN, "search.is_match", DATES, DAYS, "", "1\n"},
@@ -138,6 +142,7 @@ static const struct row rows[] = {
     {AGAIN, "replace.template", "(a)(n)", "banana", "[$2$1]", "b[na]ana\n"},
     {AGAIN, "replacen.template", "(a)(n)", "bananan", "[$2$1]", "b[na][na]an\n"},
     {AGAIN, "replace_all.template", "(a)(n)", "banana", "[$2$1]", SWAPPED},
+    {AGAIN, "replace_all.template", "a", TIMES_16("banana"), "[$0]", TIMES_16("b[a]n[a]n[a]") "\n"},
     {AGAIN, "replace_all.vec", "(a)(n)", "banana", "[$2$1]", SWAPPED},
     {AGAIN, "replace_all.vec_ref", "(a)(n)", "banana", "[$2$1]", SWAPPED},
     {AGAIN, "replace_all.cow", "(a)(n)", "banana", "[$2$1]", SWAPPED},
@@ -146,12 +151,15 @@ static const struct row rows[] = {
     {AGAIN, "replace_all.function", "(a)(n)", "banana", "", "b12a\n"},
     {SERVED, "replace_all.by_ref", "(a)(n)", "banana", "[$2$1]", "1..3 3..5 b[na][na]a\n"},
     {SERVED, "replacen.by_ref", "(a)(n)", "bananan", "[$2$1]", "1..3 3..5 b[na][na]an\n"},
+    {SERVED, "replace_all.by_ref", "na", TIMES_4("banana"), "[$0]",
+     "2..4 4..6 8..10 10..12 14..16 16..18 20..22 22..24 " TIMES_4("ba[na][na]") "\n"},
     {APPENDED, "expand.expand", DATES, DAYS, "$3.$2.$1, which is ${0} $$ and a text that is long enough to need more room",
      DAYS "14.03.2010, which is 2010-03-14 $ and a text that is long enough to need more room\n"},
     {APPENDED, "expand.bytes", "", "old ", LONG_TEMPLATE, LONG_TEXT},
     {APPENDED, "expand.string", "", "old ", LONG_TEMPLATE, LONG_TEXT},
     {AGAIN, "compile.escape", "a.b*c[d]", "", "", "a\\.b\\*c\\[d\\]\n"},
     {AGAIN, "compile.parse", "(a)(b){0}", "", "", "2\n"},
+    {AGAIN, "compile.parse", WORDS, "", "", "2\n"},
     {AGAIN, "compile.parse_with_groups", "(?<x>a)(?<y>b){0}", "", "", "- x y \n"},
     {AGAIN, "compile.compile", "(a)(a){0}", "", "", "7 4 6\n(a)(a){0}\n"},
     {AGAIN, "compile.compile_with_groups", "(a)(a){0}", "", "", "7 6 6\n(a)(a){0}\n"},
@@ -262,7 +270,7 @@ static bool is_right(const struct row *row, struct text told, struct text answer
     struct text rest = behind(told, left.len + strlen(want));
     seen->before += left.len > 0;
     if (rest.len == 0) return true;
-    if (row->rule == ITEMS && left.len + 8 <= answer.len && is_same(rest, text_of("nothing\n"))) return ++seen->ended;
+    if (row->rule == ITEMS && is_same(rest, text_of("nothing\n"))) return ++seen->ended;
     if (row->rule == ONCE) return false;
     if (is_same(rest, answer)) return ++seen->again;
     /* All that was asked again was refused again. */
