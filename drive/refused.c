@@ -175,6 +175,7 @@ static const struct row rows[] = {
 static const struct row quiet_rows[] = {
     {ONCE, "quiet.setters", "a", "a", "", NULL},
     {ONCE, "quiet.readers", "(?<year>\\d{4})-(\\d{2})", "a", "on 2010-03", NULL},
+    {ONCE, "quiet.extract", "(?<year>\\d{4})-(\\d{2})", "a", "on 2010-03", NULL},
     {ONCE, "quiet.clones", DATES, "a", "", NULL},
     {ONCE, "quiet.searches", DATES, "2010-03-14, ", "", NULL},
     {ONCE, "quiet.machine", DATES, "2010-03-14, ", "", NULL},

@@ -1,6 +1,9 @@
 //! Calls that take no memory, with objects that are made before: each is asked once for each byte of the haystack, so that a
 //! job takes as much memory for a long haystack as for the empty one.
 
+ghost use Rattle.std.specs.Prelude.{◌≡◌, Some};
+ghost use Rattle.bites_spec.specs.Measure.{static_captures_len};
+
 use crate::build::set;
 use crate::told::Told;
 use crate::work::{Refused, Work};
@@ -17,6 +20,7 @@ pub fn run(call: &str, work: Work<'_>, told: &mut Told<'_>) -> Result<(), Refuse
     let count = match call {
         "setters" => setters(work)?,
         "readers" => readers(work)?,
+        "extract" => extract(work)?,
         "clones" => clones(work)?,
         "searches" => searches(work)?,
         "machine" => machine(work)?,
@@ -86,6 +90,30 @@ fn match_reads(found: Match<'_>) -> usize {
     count = count.wrapping_add((range.end == found.end()) as usize);
     count = count.wrapping_add((found.len() == found.as_bytes().len()) as usize);
     count.wrapping_add(found.is_empty() as usize)
+}
+
+// The haystack only counts here: the template is searched, in all of whose matches two groups take part.
+fn extract(work: Work<'_>) -> Result<usize, Refused> {
+    let regex = work.regex()?;
+    if regex.static_captures_len() != Some(3) {
+        return Err(Refused::NoJob);
+    }
+    let Some(captures) = regex.captures(work.template)? else {
+        return Err(Refused::NoJob);
+    };
+    Ok(extracted(&captures, work.template, work.haystack))
+}
+
+// How many bytes the matches have that are extracted, so often as the haystack has bytes.
+fn extracted<'h>(captures: &Captures<'h>, template: &'h [u8], haystack: &[u8]) -> usize
+    requires { static_captures_len captures.now.regex.tree ≡ Some 3 }
+{
+    let mut count = 0usize;
+    for _ in haystack {
+        let mut parts = [template; 2];
+        count = count.wrapping_add(captures.extract(&mut parts).len());
+    }
+    count
 }
 
 fn clones(work: Work<'_>) -> Result<usize, Refused> {
