@@ -222,7 +222,10 @@ static bool run(const struct row *row, struct text haystack, size_t number, bool
                            (const uint8_t *)haystack.at, haystack.len, (const uint8_t *)template.at, template.len,
                            (uint8_t *)room, sizeof room);
     refuse_at = 0;
-    const char *fault = blocks != 0 ? "blocks are not freed" : misused ? "a block is freed twice" : len > sizeof room ? "no answer" : NULL;
+    const char *fault = NULL;
+    if (len > sizeof room) fault = "no answer";
+    if (blocks != 0) fault = "blocks are not freed";
+    if (misused) fault = "a block is freed twice";
     if (fault != NULL) printf("%s: request %zu refused: %s\n", row->job, number, fault);
     blocks = 0;
     misused = false;
