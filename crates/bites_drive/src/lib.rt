@@ -1,10 +1,26 @@
-//! Whole jobs over byte slices, for programs in other languages that link the library and time them.
+//! Whole jobs over byte slices, for programs in other languages that link the library: they time them, or refuse memory to
+//! them.
 #![tactic(auto)]
 
+mod build;
+mod compile;
+mod expand;
+mod iterate;
 mod job;
+mod jobs;
+mod program;
+mod quiet;
+mod read;
+mod replace;
+mod search;
+mod told;
+mod work;
 
 use job::Job;
 use std::alloc::Global;
+use std::io::Write;
+use told::Told;
+use work::{Refused, Work};
 
 /// Does a job with one regex so often, and answers the checksum of the last time; the greatest number where the job is
 /// unknown, or where the pattern or memory was refused.
@@ -30,5 +46,48 @@ pub extern "C" fn bites_bench(
     match job.run(alloc, pattern, hay, template, times) {
         Ok(answer) => answer,
         Err(_) => usize::MAX,
+    }
+}
+
+/// Does the job of this name once, and writes what was answered into the room, as lines. It answers the number of bytes
+/// written, or the greatest number where the job is unknown, does not fit its arguments, or tells more than the room holds.
+///
+/// The name and the pattern are UTF-8. A name is a group and a call, as `search.find` or `replace_all.template`; the modules
+/// of the groups say what they tell. Where memory is refused, the line `want of memory` stands in the answer's place: a call
+/// that can be made again, with all that the refusal left, then is, once, and its answer follows.
+#[unsafe(no_mangle)]
+pub extern "C" fn bites_job(
+    alloc: Global,
+    job: &[u8],
+    pattern: &[u8],
+    haystack: &[u8],
+    template: &[u8],
+    room: &mut [u8],
+) -> usize {
+    let mut told = Told::new(room);
+    let outcome = match (std::str::from_utf8(job), std::str::from_utf8(pattern)) {
+        (Ok(job), Ok(pattern)) => {
+            let work = Work {
+                alloc,
+                pattern,
+                haystack,
+                template,
+            };
+            jobs::run(job, work, &mut told)
+        }
+        _ => Err(Refused::NoJob),
+    };
+    if tell(outcome, &mut told).is_err() {
+        return usize::MAX;
+    }
+    told.len()
+}
+
+// Tells a refusal that ended the job.
+fn tell(outcome: Result<(), Refused>, told: &mut Told<'_>) -> Result<(), Refused> {
+    match outcome {
+        Err(Refused::Memory) => Ok(told.want()?),
+        Err(Refused::Pattern(error)) => Ok(writeln!(told, "{error}")?),
+        other => other,
     }
 }
