@@ -1,0 +1,4 @@
+pub mod CacheHandles
+pub mod CodesLemmas
+pub mod Handles
+pub mod Values

@@ -1,0 +1,5 @@
+pub mod Codes
+pub mod Holding
+pub mod Made
+pub mod Searched
+pub mod Words
