@@ -1,4 +1,6 @@
 pub mod CacheHandles
 pub mod CodesLemmas
+pub mod FrontLemmas
 pub mod Handles
+pub mod SlotsLemmas
 pub mod Values

@@ -26,6 +26,14 @@ empty_handle = 103
 abbrev pub unfit_cache : ℕ
 unfit_cache = 104
 
+-- the room that the caller gave is too small
+abbrev pub too_small : ℕ
+too_small = 105
+
+-- no group has the name, or the group has none
+abbrev pub no_name : ℕ
+no_name = 106
+
 -- the number of an error, from 1 on; want of memory is 58
 abbrev pub code_of : Error → ℕ
 code_of TooMuchNesting = 1

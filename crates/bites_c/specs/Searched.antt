@@ -1,16 +1,19 @@
 -- What a search by two handles answers.
-use Rattle.std.specs.Prelude.{◌≡◌, ◌≢◌, ◌↔◌, ℕ, Option, Some, None}
+use Rattle.std.specs.Prelude.{◌≡◌, ◌≢◌, ◌↔◌, ◌<◌, ◌≤◌, ℕ, List, length, Option, Some, None}
 use Rattle.bites_spec.specs.Counts.{Room, fit_of}
-use Rattle.bites_spec.specs.Regex.{Regex}
-use Rattle.bites_c.specs.Codes.{matched, not_matched, empty_handle, unfit_cache}
+use Rattle.bites_spec.specs.Regex.{Regex, slots_at}
+use Rattle.bites_spec.specs.Captured.{FindsGroups}
+use Rattle.bites_c.specs.Put.{Puts, PutsGroups}
+use Rattle.bites_c.specs.Codes.{matched, not_matched, empty_handle, unfit_cache, too_small}
+use Rattle.bites_c.specs.declared.span.BitesSpan.{BitesSpan}
 
 -- a search is made if there is a regex and room that fits it, and P then says of the regex what it answered; else the number
--- says what is missing
-abbrev pub Searched : Option Regex → Option Room → ℕ → (Regex → Type 0) → Type 0
-Searched None room number P = number ≡ empty_handle
-Searched (Some regex) None number P = number ≡ empty_handle
-Searched (Some regex) (Some room) number P =
-    (room.fits ≡ fit_of regex.program → P regex) × (room.fits ≢ fit_of regex.program → number ≡ unfit_cache)
+-- says what is missing, and S holds
+abbrev pub Searched : Option Regex → Option Room → ℕ → Type 0 → (Regex → Type 0) → Type 0
+Searched None room number S P = (number ≡ empty_handle) × S
+Searched (Some regex) None number S P = (number ≡ empty_handle) × S
+Searched (Some regex) (Some room) number S P =
+    (room.fits ≡ fit_of regex.program → P regex) × (room.fits ≢ fit_of regex.program → (number ≡ unfit_cache) × S)
 
 -- a match is answered exactly if Q holds, and none exactly if it does not
 abbrev pub AnswersIf : ℕ → Type 0 → Type 0
@@ -22,11 +25,12 @@ Lacks None room number = number ≡ empty_handle
 Lacks (Some regex) None number = number ≡ empty_handle
 Lacks (Some regex) (Some room) number = (room.fits ≢ fit_of regex.program) × (number ≡ unfit_cache)
 
--- the place that was found is put where the old one stood, which stays where there is none
-abbrev pub Puts : Option ℕ → ℕ → ℕ → ℕ → Type 0
-Puts None number old new = (number ≡ not_matched) × (new ≡ old)
-Puts (Some place) number old new = (number ≡ matched) × (new ≡ place)
-
 -- of what was found P holds
 abbrev pub AnswersPlace : ℕ → ℕ → ℕ → (Option ℕ → Type 0) → Type 0
 AnswersPlace number old new P = (found : Option ℕ) × P found × Puts found number old new
+
+-- a slice with too few places stays, and none is searched for; else the groups that are found are put at its front
+abbrev pub PutsCaptures : Regex → List ℕ → ℕ → ℕ → List BitesSpan → List BitesSpan → Type 0
+PutsCaptures r hay s number old new =
+    (length old < length r.names → (number ≡ too_small) × (new ≡ old))
+    × (length r.names ≤ length old → FindsGroups r hay s (slots_at r hay s) × PutsGroups (slots_at r hay s) (length r.names) number old new)

@@ -1,6 +1,6 @@
 //! The numbers that C is answered.
 
-ghost use Rattle.std.specs.Prelude.{◌≡◌, ◌≤◌, ◌++◌, IfSome, IfNone, length, take, drop};
+ghost use Rattle.std.specs.Prelude.{◌≡◌, ◌≢◌, [], ◌≤◌, ◌++◌, IfSome, IfNone, length, take, drop};
 ghost use Rattle.bites_text.specs.Texts.{error_text};
 ghost use Rattle.bites_text.specs.declared.error.Error.{Error as Fault};
 ghost use Rattle.bites_c.specs.Codes.{code_of};
@@ -27,6 +27,12 @@ pub(crate) const EMPTY_HANDLE: u32 = 103;
 
 /// The cache was made for another regex.
 pub(crate) const UNFIT_CACHE: u32 = 104;
+
+/// The room that the caller gave is too small.
+pub(crate) const TOO_SMALL: u32 = 105;
+
+/// No group has the name, or the group has none.
+pub(crate) const NO_NAME: u32 = 106;
 
 /// The number of an error, which is not 0.
 pub(crate) fn number(error: Error) -> u32
@@ -164,7 +170,8 @@ pub(crate) fn of_number(code: u32) -> Option<Error>
 
 /// The text of a number, which is empty where no error has it.
 pub(crate) fn text(code: u32) -> &'static str
-    ensures { (e : Fault) → code ≡ code_of e → result.now ≡ error_text e }
+    ensures text { (e : Fault) → code ≡ code_of e → result.now ≡ error_text e }
+    ensures none { ((e : Fault) → code ≢ code_of e) → result.now ≡ [] }
 {
     match of_number(code) {
         Some(error) => error.text(),

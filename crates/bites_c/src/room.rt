@@ -1,9 +1,15 @@
 //! The room for searches, which C holds.
 
-ghost use Rattle.std.specs.Prelude.{◌≡◌, ◌↔◌, IfOk, IsTrue};
+ghost use Rattle.std.specs.Prelude.{◌≡◌, ◌≤◌, ◌/◌, ◌↔◌, if◌then◌else◌, IfOk, IsTrue, length, option_map};
 ghost use Rattle.bites_spec.specs.Counts.{fit_of};
+ghost use Rattle.bites_spec.specs.Captured.{FindsGroups, FindsSpan};
 ghost use Rattle.bites_spec.specs.Found.{HasMatch, IsLeastEnd};
+ghost use Rattle.bites_spec.specs.Match.{span};
+ghost use Rattle.bites_spec.specs.Regex.{slots_at, span_at};
+ghost use Rattle.bites_c.specs.Codes.{matched, not_matched};
+ghost use Rattle.bites_c.specs.Put.{HasFront, PutsGroups};
 
+use crate::span::BitesSpan;
 use bites_bytes::bytes::{Cache, CaptureLocations, Regex};
 use std::alloc::AllocError;
 use std::marker::Model;
@@ -61,5 +67,67 @@ impl Room {
         ensures fits { self.new.fits ≡ self.old.fits }
     {
         regex.shortest_match_at_with(&mut self.cache, haystack, start)
+    }
+
+    /// Where the first match from `start` on begins and ends.
+    pub(crate) fn find(
+        &mut self,
+        regex: &Regex,
+        haystack: &[u8],
+        start: usize,
+    ) -> Option<(usize, usize)>
+        requires { self.old.fits ≡ fit_of regex.now.program }
+        ensures found { option_map (λ s. span s.0 s.1) result ≡ span_at regex.now haystack.now start }
+        ensures on_tree { FindsSpan regex.now haystack.now start (span_at regex.now haystack.now start) }
+        ensures fits { self.new.fits ≡ self.old.fits }
+    {
+        match regex.find_at_with(&mut self.cache, haystack, start) {
+            Some(found) => Some((found.start(), found.end())),
+            None => None,
+        }
+    }
+
+    /// Puts the groups of the first match from `start` on at the front of `groups`, if there is a match.
+    pub(crate) fn captures(
+        &mut self,
+        regex: &Regex,
+        haystack: &[u8],
+        start: usize,
+        groups: &mut [BitesSpan],
+    ) -> bool
+        requires fits { self.old.fits ≡ fit_of regex.now.program }
+        requires wide { length regex.now.names ≤ length groups.old }
+        ensures put { PutsGroups (slots_at regex.now haystack.now start) (length regex.now.names)
+            (if result then matched else not_matched) groups.old groups.new }
+        ensures on_tree { FindsGroups regex.now haystack.now start (slots_at regex.now haystack.now start) }
+        ensures len { length groups.new ≡ length groups.old }
+        ensures same { self.new.fits ≡ self.old.fits }
+    {
+        // What every regex is, and what then holds of the slots that its program answers: they are those of the groups, and
+        // its tree finds them.
+        let _pattern = regex.as_str();
+        bites_spec::slots_are_found();
+        bites_spec::slots_are_groups();
+        let Some(_) = regex.captures_read_at_with(
+            &mut self.cache,
+            &mut self.locations,
+            haystack,
+            start,
+        ) else {
+            return false;
+        };
+        put_groups(&self.locations, groups);
+        true
+    }
+}
+
+// Puts the groups at the front.
+fn put_groups(locations: &CaptureLocations, groups: &mut [BitesSpan])
+    requires { length locations.now / 2 ≤ length groups.old }
+    ensures put { HasFront locations.now (length locations.now / 2) groups.old groups.new }
+    ensures len { length groups.new ≡ length groups.old }
+{
+    for group in 0..locations.len() {
+        groups[group] = BitesSpan::of(locations.get(group));
     }
 }

@@ -1,15 +1,20 @@
 //! A search by two handles: their objects are taken out, used, and put back.
 
-ghost use Rattle.std.specs.Prelude.{◌≡◌, ◌↔◌, IsTrue, IfOk, IfErr, OnErr};
+ghost use Rattle.std.specs.Prelude.{◌≡◌, ◌↔◌, IsTrue, IfOk, IfErr, OnErr, length, option_map};
 ghost use Rattle.std.specs.declared.option.Option.TheVariants.{Some};
 ghost use Rattle.bites_spec.specs.Counts.{fit_of};
+ghost use Rattle.bites_spec.specs.Captured.{FindsSpan};
 ghost use Rattle.bites_spec.specs.Found.{HasMatch, IsLeastEnd};
-ghost use Rattle.bites_c.specs.Searched.{Lacks};
+ghost use Rattle.bites_spec.specs.Match.{span};
+ghost use Rattle.bites_spec.specs.Regex.{span_at};
+ghost use Rattle.bites_c.specs.Searched.{Lacks, PutsCaptures};
 
 use crate::cache::BitesCache;
-use crate::codes::{EMPTY_HANDLE, UNFIT_CACHE};
+use crate::codes::{EMPTY_HANDLE, MATCH, NO_MATCH, TOO_SMALL, UNFIT_CACHE};
 use crate::handle::Bites;
 use crate::room::Room;
+use crate::span::BitesSpan;
+use crate::text::BitesSize;
 use bites_bytes::bytes::Regex;
 use std::alloc::Global;
 
@@ -61,6 +66,45 @@ impl Search {
         ensures fits { self.new.room.value.fits ≡ self.old.room.value.fits }
     {
         self.room.shortest(&self.regex, haystack, start)
+    }
+
+    /// Where the first match from `start` on begins and ends.
+    pub(crate) fn find(&mut self, haystack: &[u8], start: usize) -> Option<(usize, usize)>
+        ensures found { option_map (λ s. span s.0 s.1) result
+            ≡ span_at self.old.regex.value haystack.now start }
+        ensures on_tree { FindsSpan self.old.regex.value haystack.now start
+            (span_at self.old.regex.value haystack.now start) }
+        ensures regex { self.new.regex.value ≡ self.old.regex.value }
+        ensures fits { self.new.room.value.fits ≡ self.old.room.value.fits }
+    {
+        self.room.find(&self.regex, haystack, start)
+    }
+
+    /// Puts the groups of the first match from `start` on at the front of `groups`, if it has a place for each group and
+    /// there is a match.
+    pub(crate) fn captures(
+        &mut self,
+        haystack: &[u8],
+        start: usize,
+        groups: &mut [BitesSpan],
+    ) -> BitesSize
+        ensures size { result.size ≡ length self.old.regex.value.names }
+        ensures put { PutsCaptures self.old.regex.value haystack.now start result.code groups.old groups.new }
+        ensures regex { self.new.regex.value ≡ self.old.regex.value }
+        ensures fits { self.new.room.value.fits ≡ self.old.room.value.fits }
+    {
+        let size = self.regex.captures_len();
+        if groups.len() < size {
+            return BitesSize {
+                code: TOO_SMALL,
+                size,
+            };
+        }
+        let found = self.room.captures(&self.regex, haystack, start, groups);
+        BitesSize {
+            code: if found { MATCH } else { NO_MATCH },
+            size,
+        }
     }
 
     /// Puts back what was taken.
