@@ -44,7 +44,7 @@ enum {
 #define BITES_SIZE_LIMIT ((size_t)10485760)
 #define BITES_NEST_LIMIT ((uint32_t)50)
 
-/* Both places of a group that took no part. */
+/* Both places of a group that took no part, and the end of the match before where there is none. */
 #define BITES_NONE SIZE_MAX
 
 typedef struct { void *at; } bites;
@@ -76,6 +76,11 @@ uint32_t bites_shortest_match_at(bites *regex, bites_cache *cache, const uint8_t
 
 /* Where the first match from `start` on begins and ends. */
 uint32_t bites_find_at(bites *regex, bites_cache *cache, const uint8_t *haystack, size_t len, size_t start, bites_span *out);
+
+/* Where the match begins and ends that is due behind one that ends at `last`, or the first of all for BITES_NONE. So all
+ * matches come, in order, each once:
+ *     for (size_t last = BITES_NONE; bites_find_next(&regex, &cache, text, len, last, &m) == BITES_MATCH; last = m.end) */
+uint32_t bites_find_next(bites *regex, bites_cache *cache, const uint8_t *haystack, size_t len, size_t last, bites_span *out);
 
 /* The groups of the first match from `start` on, group 0 first. `size` is the number of groups; where `count` is less, the
  * code is BITES_TOO_SMALL. Places behind the last group stay. */

@@ -44,6 +44,24 @@ static void searches(void) {
     bites_free(&regex);
 }
 
+/* the matches of x* in "axb" with a letter of two bytes behind: empty, x, empty, empty */
+static void successive(void) {
+    bites regex = {0};
+    bites_cache cache = {0};
+    bites_span m = {0, 0};
+    const size_t wanted[] = {0, 0, 1, 2, 3, 3, 5, 5};
+    size_t count = 0;
+    CHECK(bites_new(BYTES("x*"), 0, LIMITS, &regex) == BITES_DONE && bites_cache_new(&regex, &cache) == BITES_DONE);
+    for (size_t last = BITES_NONE; bites_find_next(&regex, &cache, BYTES("axb\xc3\xa9"), last, &m) == BITES_MATCH; last = m.end) {
+        CHECK(count < 4 && m.start == wanted[2 * count] && m.end == wanted[2 * count + 1]);
+        count++;
+    }
+    CHECK(count == 4 && m.end == 5);
+    CHECK(bites_find_next(&regex, &cache, BYTES("a"), 9, &m) == BITES_NO_MATCH);
+    bites_cache_free(&cache);
+    bites_free(&regex);
+}
+
 static void handles(void) {
     bites regex = {0}, copy = {0}, other = {0};
     bites_cache cache = {0};
@@ -104,6 +122,7 @@ static void flags(void) {
 
 int main(void) {
     searches();
+    successive();
     handles();
     refusals();
     flags();

@@ -19,7 +19,7 @@ ghost use Rattle.bites_bytes.specs.Settings.{Refuses};
 ghost use Rattle.bites_c.specs.Codes.{code_of, done, not_utf8, empty_handle};
 ghost use Rattle.bites_c.specs.Made.{IsMadeBy};
 ghost use Rattle.bites_c.specs.Put.{Puts, PutsSpan};
-ghost use Rattle.bites_c.specs.Searched.{AnswersIf, AnswersPlace, PutsCaptures, Searched};
+ghost use Rattle.bites_c.specs.Searched.{AnswersIf, AnswersPlace, AnswersSpan, FindsNext, PutsCaptures, Searched, last_for_c};
 ghost use Rattle.bites_c.specs.Words.{asked};
 
 mod cache;
@@ -209,6 +209,34 @@ pub extern "C" fn bites_find_at(
     match search::begin(alloc, regex, cache) {
         Ok(mut search) => {
             let found = search.find(haystack, start);
+            search.end(regex, cache);
+            span::put(found, out)
+        }
+        Err(code) => code,
+    }
+}
+
+/// Where the match begins and ends that is due behind one that ends at `last`, or the first of all where `last` is the
+/// greatest number, goes into `out`, which stays where there is none. It takes no memory.
+///
+/// The search goes on at `last`; an empty match there is passed over, and it goes on one character later.
+#[unsafe(no_mangle)]
+pub extern "C" fn bites_find_next(
+    alloc: Global,
+    regex: &mut Bites,
+    cache: &mut BitesCache,
+    haystack: &[u8],
+    last: usize,
+    out: &mut BitesSpan,
+) -> u32
+    ensures same { regex.new.regex ≡ regex.old.regex }
+    ensures fits { option_map (λ c. c.fits) cache.new.room ≡ option_map (λ c. c.fits) cache.old.room }
+    ensures answered { Searched regex.old.regex cache.old.room result (out.new ≡ out.old) (λ r.
+        AnswersSpan result out.old out.new (FindsNext r haystack.now (last_for_c last))) }
+{
+    match search::begin(alloc, regex, cache) {
+        Ok(mut search) => {
+            let found = search.next(haystack, span::last(last));
             search.end(regex, cache);
             span::put(found, out)
         }

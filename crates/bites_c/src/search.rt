@@ -7,7 +7,7 @@ ghost use Rattle.bites_spec.specs.Captured.{FindsSpan};
 ghost use Rattle.bites_spec.specs.Found.{HasMatch, IsLeastEnd};
 ghost use Rattle.bites_spec.specs.Match.{span};
 ghost use Rattle.bites_spec.specs.Regex.{span_at};
-ghost use Rattle.bites_c.specs.Searched.{Lacks, PutsCaptures};
+ghost use Rattle.bites_c.specs.Searched.{FindsNext, Lacks, PutsCaptures};
 
 use crate::cache::BitesCache;
 use crate::codes::{EMPTY_HANDLE, MATCH, NO_MATCH, TOO_SMALL, UNFIT_CACHE};
@@ -78,6 +78,15 @@ impl Search {
         ensures fits { self.new.room.value.fits ≡ self.old.room.value.fits }
     {
         self.room.find(&self.regex, haystack, start)
+    }
+
+    /// Where the match begins and ends that is due behind one that ends at `last`, or the first of all.
+    pub(crate) fn next(&mut self, haystack: &[u8], last: Option<usize>) -> Option<(usize, usize)>
+        ensures next { FindsNext self.old.regex.value haystack.now last (option_map (λ s. span s.0 s.1) result) }
+        ensures regex { self.new.regex.value ≡ self.old.regex.value }
+        ensures fits { self.new.room.value.fits ≡ self.old.room.value.fits }
+    {
+        self.room.next(&self.regex, haystack, last)
     }
 
     /// Puts the groups of the first match from `start` on at the front of `groups`, if it has a place for each group and

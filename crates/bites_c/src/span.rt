@@ -3,6 +3,7 @@
 ghost use Rattle.std.specs.Prelude.{◌≡◌, option_map};
 ghost use Rattle.bites_spec.specs.Match.{span};
 ghost use Rattle.bites_c.specs.Put.{PutsSpan, span_for_c};
+ghost use Rattle.bites_c.specs.Searched.{last_for_c};
 
 use crate::codes::{MATCH, NO_MATCH};
 
@@ -27,6 +28,13 @@ impl BitesSpan {
             },
         }
     }
+}
+
+/// Where the match before ended, if there was one.
+pub(crate) fn last(end: usize) -> Option<usize>
+    ensures { result ≡ last_for_c end }
+{
+    if end == usize::MAX { None } else { Some(end) }
 }
 
 /// Puts the span into `out`, if there is one.
