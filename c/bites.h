@@ -25,7 +25,8 @@ enum {
     BITES_NOT_UTF8 = 102,     /* the pattern is no UTF-8 */
     BITES_EMPTY_HANDLE = 103, /* a handle holds nothing */
     BITES_UNFIT_CACHE = 104,  /* the cache was made for a regex of another size */
-    BITES_TOO_SMALL = 105     /* what the caller gave has too few places; it stays as it was */
+    BITES_TOO_SMALL = 105,    /* what the caller gave has too few places; it stays as it was */
+    BITES_NO_NAME = 106       /* there is no such group, or it has no name */
 };
 
 /* Flags of bites_new, which may be added up. */
@@ -91,6 +92,10 @@ size_t bites_captures_len(bites *regex);
 
 /* How many groups take part in every match, group 0 counted; 0 if the form of the pattern does not say so. */
 size_t bites_static_captures_len(bites *regex);
+
+/* Puts the name of the group of this number into `name`, in UTF-8 with no NUL. `size` is how many bytes it has; where `len` is
+ * less, the code is BITES_TOO_SMALL, so a call with `len` 0 asks for the size. */
+bites_size bites_group_name(bites *regex, size_t group, uint8_t *name, size_t len);
 
 /* Puts as much of the text of an error's number, 1 to 58, into `text` as fits, with no NUL, and answers its length: 0 for
  * any other number. */

@@ -62,6 +62,21 @@ static void successive(void) {
     bites_free(&regex);
 }
 
+static void names(void) {
+    bites regex = {0};
+    uint8_t name[8] = "--------";
+    CHECK(bites_group_name(&regex, 0, name, 8).code == BITES_EMPTY_HANDLE);
+    CHECK(bites_new(BYTES("(?P<year>a)(b)"), 0, LIMITS, &regex) == BITES_DONE);
+    bites_size size = bites_group_name(&regex, 1, name, 0);
+    CHECK(size.code == BITES_TOO_SMALL && size.size == 4 && name[0] == '-');
+    size = bites_group_name(&regex, 1, name, 8);
+    CHECK(size.code == BITES_DONE && size.size == 4 && !memcmp(name, "year----", 8));
+    CHECK(bites_group_name(&regex, 0, name, 8).code == BITES_NO_NAME);
+    CHECK(bites_group_name(&regex, 2, name, 8).code == BITES_NO_NAME);
+    CHECK(bites_group_name(&regex, SIZE_MAX, name, 8).code == BITES_NO_NAME);
+    bites_free(&regex);
+}
+
 static void handles(void) {
     bites regex = {0}, copy = {0}, other = {0};
     bites_cache cache = {0};
@@ -123,6 +138,7 @@ static void flags(void) {
 int main(void) {
     searches();
     successive();
+    names();
     handles();
     refusals();
     flags();

@@ -5,7 +5,7 @@
 //! wrong with the call.
 #![tactic(auto)]
 
-ghost use Rattle.std.specs.Prelude.{◌≡◌, ◌≢◌, IsSomeAnd, IfSome, IsUtf8, ◌++◌, drop, length, option_map, take, unwrap_or, ⊤};
+ghost use Rattle.std.specs.Prelude.{◌≡◌, ◌≢◌, IsSomeAnd, IfSome, IsUtf8, ◌++◌, drop, length, option_map, slice_index_or, take, unwrap_or, ⊤};
 ghost use Rattle.std.specs.declared.option.Option.TheVariants.{None};
 ghost use Rattle.bites_spec.specs.Counts.{fit_of};
 ghost use Rattle.bites_spec.specs.Captured.{FindsSpan};
@@ -18,7 +18,7 @@ ghost use Rattle.bites_text.specs.declared.error.Error.TheVariants.{Memory};
 ghost use Rattle.bites_bytes.specs.Settings.{Refuses};
 ghost use Rattle.bites_c.specs.Codes.{code_of, done, not_utf8, empty_handle};
 ghost use Rattle.bites_c.specs.Made.{IsMadeBy};
-ghost use Rattle.bites_c.specs.Put.{Puts, PutsSpan};
+ghost use Rattle.bites_c.specs.Put.{Puts, PutsName, PutsSpan};
 ghost use Rattle.bites_c.specs.Searched.{AnswersIf, AnswersPlace, AnswersSpan, FindsNext, PutsCaptures, Searched, last_for_c};
 ghost use Rattle.bites_c.specs.Words.{asked};
 
@@ -314,6 +314,33 @@ pub extern "C" fn bites_static_captures_len(alloc: Global, regex: &mut Bites) ->
     let len = held.static_captures_len();
     *regex = Bites::of(held);
     len.unwrap_or(0)
+}
+
+/// The name of the group of this number goes to the front of `out`, in UTF-8. The code is 0; 105 where it does not fit, and
+/// the size is how many bytes it has; 106 where the group has no name or there is no such group; 103 where there is no
+/// regex. Where it is not 0, `out` stays.
+#[unsafe(no_mangle)]
+pub extern "C" fn bites_group_name(
+    alloc: Global,
+    regex: &mut Bites,
+    group: usize,
+    out: &mut [u8],
+) -> BitesSize
+    ensures same { regex.new.regex ≡ regex.old.regex }
+    ensures name { IfSome regex.old.regex (λ r.
+        PutsName (slice_index_or r.names group None) result out.old out.new) }
+    ensures empty { regex.old.regex ≡ None →
+        (result.code ≡ empty_handle) × (result.size ≡ 0) × (out.new ≡ out.old) }
+{
+    let Some(held) = std::mem::replace(regex, Bites::empty(alloc)).into_box() else {
+        return BitesSize {
+            code: EMPTY_HANDLE,
+            size: 0,
+        };
+    };
+    let answer = text::put_name(&held, group, out);
+    *regex = Bites::of(held);
+    answer
 }
 
 /// Puts as much of the text of an error's number, 1 to 58, into `buf` as fits, and answers the length of the text: 0 for
