@@ -27,3 +27,5 @@ mod shown;
 mod states;
 #[cfg(test)]
 mod templates;
+#[cfg(test)]
+mod texts;
