@@ -29,3 +29,5 @@ mod shown;
 mod states;
 #[cfg(test)]
 mod templates;
+#[cfg(test)]
+mod texts;
