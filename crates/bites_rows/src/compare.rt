@@ -172,8 +172,10 @@ fn told_by_engine(
     let mut told = String::new(alloc);
     if let Some(texts) = &subject.texts {
         let text = str::from_utf8(&case.haystack).map_err(|_| Fault::NoRow)?;
+        let template = str::from_utf8(&case.template).map_err(|_| Fault::NoRow)?;
         let regex = texts.regex(leftmost_longest);
-        if let Some(answer) = texts::search::answer(alloc, regex, text, case.argument, search)? {
+        let asked = texts::search::answer(alloc, regex, text, template, case.argument, search)?;
+        if let Some(answer) = asked {
             push_answer(&mut told, &answer)?;
             return Ok((true, told));
         }

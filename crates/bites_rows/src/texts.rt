@@ -2,5 +2,6 @@
 
 pub mod border;
 pub mod build;
+pub mod replace;
 pub mod search;
 pub mod single;

@@ -1,6 +1,6 @@
 //! The examples on the first page of `regex_bites` and in the README, word for word.
 
-use regex_bites::{Error, Regex, RegexBuilder, bytes, escape};
+use regex_bites::{Error, Regex, RegexBuilder, escape};
 use std::alloc::Global;
 use std::test::Fail;
 
@@ -57,10 +57,9 @@ fn all_matches(rt: HostRuntime) -> Result<(), Fail> {
 
 #[test]
 fn replaced(rt: HostRuntime) -> Result<(), Fail> {
-    let regex = bytes::Regex::new(rt.alloc(), r"(\w+)=(\w+)")?;
-    let turned = regex.replace_all(b"a=1, b=2", b"$2=$1".as_slice())?;
-    let turned = turned.into_owned(rt.alloc())?;
-    assert_eq!(rt; turned.as_slice(), b"1=a, 2=b".as_slice());
+    let regex = Regex::new(rt.alloc(), r"(\w+)=(\w+)")?;
+    let turned = regex.replace_all("a=1, b=2", "$2=$1")?;
+    assert_eq!(rt; turned.as_str(), "1=a, 2=b");
     Ok(())
 }
 

@@ -46,14 +46,13 @@
 //!
 //! # Replace
 //!
-//! Over byte strings, by a template, in which `$1` and `$name` stand for groups, by a text as it is ([`bytes::NoExpand`]),
-//! or by what a function answers ([`bytes::With`]).
+//! By a template, in which `$1` and `$name` stand for groups, by a text as it is ([`NoExpand`]), or by what a function
+//! answers ([`With`]).
 //!
 //! ```rust
-//! let regex = bytes::Regex::new(rt.alloc(), r"(\w+)=(\w+)")?;
-//! let turned = regex.replace_all(b"a=1, b=2", b"$2=$1".as_slice())?;
-//! let turned = turned.into_owned(rt.alloc())?;
-//! assert_eq!(rt; turned.as_slice(), b"1=a, 2=b".as_slice());
+//! let regex = Regex::new(rt.alloc(), r"(\w+)=(\w+)")?;
+//! let turned = regex.replace_all("a=1, b=2", "$2=$1")?;
+//! assert_eq!(rt; turned.as_str(), "1=a, 2=b");
 //! ```
 //!
 //! # A text as a pattern
