@@ -96,20 +96,6 @@ fn empty_matches_stand_between_characters(rt: HostRuntime) -> Result<(), Fail> {
 }
 
 #[test]
-fn parts(rt: HostRuntime) -> Result<(), Fail> {
-    let regex = Regex::new(rt.alloc(), "(?:(a)|(b))+")?;
-    if regex.static_captures_len() != Some(2) {
-        return Err(Fail::from("two groups take part"));
-    }
-    let captures = regex.captures("ab")?.ok_or("no match")?;
-    let mut parts = [""; 1];
-    let whole = captures.extract(&mut parts);
-    assert_eq!(rt; whole, "ab");
-    assert_eq!(rt; parts[0], "a");
-    Ok(())
-}
-
-#[test]
 fn counts(rt: HostRuntime) -> Result<(), Fail> {
     let regex = Regex::new(rt.alloc(), "a")?;
     assert_eq!(rt; regex.find_iter("aba")?.count(), 2);

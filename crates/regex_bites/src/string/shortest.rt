@@ -49,8 +49,8 @@ impl Regex {
         ensures fits { cache.new.fits ≡ cache.old.fits }
         ensures walked { IsWalked self.now.program haystack.now start result cache.new.walked }
     {
-        let end = self.shortest_match_at_with(cache, haystack, start);
-        end.is_some()
+        self.over_bytes()
+            .is_match_at_with(&mut cache.cache, haystack.as_bytes(), start)
     }
 
     /// The least end of any match in the haystack, a number of bytes from its start.
