@@ -115,13 +115,13 @@ impl Cache {
     {
         let found = if request.start <= request.haystack.len() {
             self.desk.rows.begin(slots.len());
-            places::search(
-                &mut counted,
-                &mut self.desk,
-                &mut self.threads,
-                request,
-                slots,
-            )
+            let (desk, threads) = (&mut self.desk, &mut self.threads);
+            // One body for each width that is asked, each with loops over so many slots.
+            match slots.len() {
+                0 => places::search(&mut counted, desk, threads, request, slots),
+                2 => places::search(&mut counted, desk, threads, request, slots),
+                _ => places::search(&mut counted, desk, threads, request, slots),
+            }
         } else {
             false
         };

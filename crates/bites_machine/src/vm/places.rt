@@ -358,6 +358,7 @@ fn is_over(len: usize, is_found: bool, earliest: bool, threads: usize) -> bool
 
 /// Searches from a place on, with the threads of each place in turn. Answers whether a match was found,
 /// whose slots are then in the slice.
+#[inline(always)]
 pub(super) fn search(
     counted: &mut Counted<'_>,
     desk: &mut Desk,

@@ -92,10 +92,12 @@ impl Rows {
         let _ = &self.counts;
     }
 
-    /// Notes that the slot is written, behind so many notes. Answers how many there are then.
+    /// Notes that the slot is written, behind so many notes, in rows of this width. Answers how many notes there
+    /// are then.
     #[inline(always)]
-    pub(super) fn note(&mut self, noted: usize, slot: u32) -> usize
-        requires { noted < length self.old.notes }
+    pub(super) fn note(&mut self, noted: usize, slot: u32, width: usize) -> usize
+        requires room { noted < length self.old.notes }
+        requires width { width ≡ self.old.width }
         ensures count { result ≡ (if nat_lt slot self.old.width then noted + 1 else noted) }
         ensures notes { self.new.notes ≡ (if nat_lt slot self.old.width
             then slice_set self.old.notes noted slot else self.old.notes) }
@@ -104,7 +106,7 @@ impl Rows {
         ensures width { self.new.width ≡ self.old.width }
         ensures most { self.new.most ≡ self.old.most }
     {
-        if (slot as usize) < self.width {
+        if (slot as usize) < width {
             self.notes[noted] = slot;
             noted + 1
         } else {
@@ -204,7 +206,7 @@ impl Rows {
     }
 
     /// The row and the place in each slot of the first so many notes, written into the slice.
-    #[inline(never)]
+    #[inline(always)]
     pub(super) fn keep(&self, row: usize, noted: usize, place: usize, slots: &mut [Option<usize>])
         requires known { row < length self.now.counts }
         requires noted { noted ≤ length self.now.notes }
@@ -214,7 +216,7 @@ impl Rows {
             (slice_index_or self.now.rows row []) }
     {
         let from = row * self.width;
-        copy_slots(slots, &self.cells[from..from + self.width]);
+        copy_slots(slots, &self.cells[from..from + slots.len()]);
         write_notes(slots, &self.notes[..noted], place);
     }
 }
@@ -287,6 +289,7 @@ fn copy_row(
 }
 
 // The place is written to each of these slots.
+#[inline(always)]
 fn write_notes(slots: &mut [Option<usize>], notes: &[u32], place: usize)
     requires { (k : ℕ) → k < length notes.now → slice_index notes.now k < length slots.old }
     ensures { slots.new ≡ with_notes place notes.now slots.old }

@@ -114,7 +114,7 @@ fn visit(
         }
         State::Capture { target, slot } => {
             let state = *target;
-            let noted = desk.rows.note(noted, *slot);
+            let noted = desk.rows.note(noted, *slot, slots.len());
             Some(Frame { state, noted })
         }
         State::Fail => None,

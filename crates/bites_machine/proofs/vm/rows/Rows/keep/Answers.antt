@@ -8,10 +8,13 @@ pub returns : goal.returns
 returns c =
     let known : c.args.row < length c.self.inside.counts.items = subst (λ p. c.args.row < length p.counts) (sym c.self.view_is) c.requires.known in
     let w = c.self.inside.width in
-    let n : c.args.row * w + w - c.args.row * w ≡ w = omega arith in
+    let asked = length c.args.slots.now in
+    let width : asked ≡ w = c.requires.width ∙ sym (ap (λ p. p.width) c.self.view_is) in
+    let n : c.args.row * w + asked - c.args.row * w ≡ asked = omega arith in
     let row : c.copy_slots.new.slots ≡ slice_index_or (rows_of w (length c.self.inside.counts.items) c.self.inside.cells.items) c.args.row [] =
     c.copy_slots.ensures
     ∙ ap₂ (λ k xs. take k (drop (c.args.row * w) xs)) n c.deref.ensures.value
+    ∙ ap (λ k. take k (drop (c.args.row * w) c.self.inside.cells.items)) width
     ∙ sym (row_at w (length c.self.inside.counts.items) c.args.row c.self.inside.cells.items known) in
     c.write_notes.ensures
     ∙ ap₂ (λ ks xs. with_notes c.args.place (take c.args.noted ks) xs) c.deref-2.ensures.value row
