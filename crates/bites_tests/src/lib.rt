@@ -1,5 +1,5 @@
 //! Tests of what no table of rows says: a builder, a regex, a cache and locations that are used more than once, groups by
-//! name, patterns of a million characters, programs made by hand, and the comparison of rows itself. No expected value
+//! name, calls that no row asks, patterns of a million characters, programs made by hand, and the comparison of rows itself. No expected value
 //! comes from this engine.
 #![tactic(auto)]
 
@@ -7,6 +7,8 @@
 mod builder;
 #[cfg(test)]
 mod caches;
+#[cfg(test)]
+mod calls;
 #[cfg(test)]
 mod examples;
 #[cfg(test)]
