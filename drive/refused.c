@@ -2,6 +2,7 @@
  * Refuses each request for memory of each job of the library bites_drive in turn: the first, the second and each further one,
  * until a run has none refused. Each row is a job with its answer under ample memory, worked out by hand. A refused run must
  * tell want of memory, or that very answer, and leave what its rule says. Each run must free as many blocks as it takes.
+ * Where it says so, each call of a reader or a writer is refused in turn instead.
  *
  * Each row is run twice over: once so that the requests behind the refused one are granted, once so that they are refused too.
  */
@@ -103,7 +104,8 @@ enum rule {
 
 struct row {
     enum rule rule;
-    const char *job, *pattern, *haystack, *template;
+    const char *job; /* behind the name of a surface */
+    const char *pattern, *haystack, *template;
     const char *answer; /* NULL: what the run with ample memory tells */
 };
 
@@ -116,9 +118,11 @@ struct row {
 #define LONG_TEMPLATE "<$first ${1}> $$ ${2}$0 and a text that is longer than all before it, and again $first"
 #define LONG_TEXT "old <one one> $  and a text that is longer than all before it, and again one\n"
 
+/* Jobs that are done over bytes and over texts, with the same answers. */
 static const struct row rows[] = {
     {AGAIN, "new", DATES, DAYS, "", "3..13\n" DATES "\n4\n4\n- - - - \n"},
     {AGAIN, "new", WORDS, "1 Ab-7K", "", "2..7\n" WORDS "\n2\n2\n- w \n"},
+    {ONCE, "limits", "(?:a|b){2}", "xab", "", "1..3\n(?:a|b){2}\n1\n1\n- \n"},
     {AGAIN, "builder", "sam|SAMWISE (x){0}", "a samwise", "", "2..9\nsam|SAMWISE (x){0}\n2\n1\n- - \n"},
     {ONCE, "clone", "(?<year>\\d{4})|x", "in 1999", "", "3..7\n(?<year>\\d{4})|x\n2\nnone\n- year \n"},
     {AGAIN, "search.is_match", DATES, DAYS, "", "1\n"},
@@ -127,6 +131,7 @@ static const struct row rows[] = {
     {AGAIN, "search.shortest_match_at", "a+", "aab", "", "2\n"},
     {AGAIN, "search.find", DATES, DAYS, "", "3..13\n"},
     {AGAIN, "search.find_at", "a+", "aab", "", "1..2\n"},
+    {AGAIN, "search.find_at", "(?i)\u2603+|K", "ak\u2603", "", "1..2\n"},
     {AGAIN, "search.captures", DATES, DAYS, "", "3..13 3..7 8..10 11..13 \n"},
     {AGAIN, "search.captures_at", "(a)(b)?", "abac", "", "2..3 2..3 - \n"},
     {AGAIN, "search.cache", DATES, DAYS, "", "3..13\n"},
@@ -137,14 +142,16 @@ static const struct row rows[] = {
     {AGAIN, "iterate.find_iter", "a*", "baac", "", "0..0\n1..3\n4..4\nnothing\n"},
     {ITEMS, "iterate.captures_iter", DATES, DAYS, "",
      "3..13 3..7 8..10 11..13 \n32..42 32..36 37..39 40..42 \nnothing\n"},
+    {AGAIN, "iterate.find_iter", "", "a\u2603", "", "0..0\n1..1\n4..4\nnothing\n"},
     {AGAIN, "iterate.split", ",", "a,b,c", "", "a\nb\nc\nnothing\n"},
     {AGAIN, "iterate.splitn", ",", "a,b,c", "", "a\nb,c\nnothing\n"},
     {AGAIN, "replace.template", "(a)(n)", "banana", "[$2$1]", "b[na]ana\n"},
     {AGAIN, "replacen.template", "(a)(n)", "bananan", "[$2$1]", "b[na][na]an\n"},
     {AGAIN, "replace_all.template", "(a)(n)", "banana", "[$2$1]", SWAPPED},
     {AGAIN, "replace_all.template", "a", TIMES_16("banana"), "[$0]", TIMES_16("b[a]n[a]n[a]") "\n"},
-    {AGAIN, "replace_all.vec", "(a)(n)", "banana", "[$2$1]", SWAPPED},
-    {AGAIN, "replace_all.vec_ref", "(a)(n)", "banana", "[$2$1]", SWAPPED},
+    {AGAIN, "replace_all.no_expand", "", "\u2603", "-", "-\u2603-\n"},
+    {AGAIN, "replace_all.owned", "(a)(n)", "banana", "[$2$1]", SWAPPED},
+    {AGAIN, "replace_all.owned_ref", "(a)(n)", "banana", "[$2$1]", SWAPPED},
     {AGAIN, "replace_all.cow", "(a)(n)", "banana", "[$2$1]", SWAPPED},
     {AGAIN, "replace_all.cow_ref", "(a)(n)", "banana", "[$2$1]", SWAPPED},
     {AGAIN, "replace_all.no_expand", "(a)(n)", "banana", "[$2$1]", "b[$2$1][$2$1]a\n"},
@@ -155,8 +162,11 @@ static const struct row rows[] = {
      "2..4 4..6 8..10 10..12 14..16 16..18 20..22 22..24 " TIMES_4("ba[na][na]") "\n"},
     {APPENDED, "expand.expand", DATES, DAYS, "$3.$2.$1, which is ${0} $$ and a text that is long enough to need more room",
      DAYS "14.03.2010, which is 2010-03-14 $ and a text that is long enough to need more room\n"},
-    {APPENDED, "expand.bytes", "", "old ", LONG_TEMPLATE, LONG_TEXT},
-    {APPENDED, "expand.string", "", "old ", LONG_TEMPLATE, LONG_TEXT},
+    {APPENDED, "expand.interpolate", "", "old ", LONG_TEMPLATE, LONG_TEXT},
+};
+
+/* Jobs that know no surface. */
+static const struct row other_rows[] = {
     {AGAIN, "compile.escape", "a.b*c[d]", "", "", "a\\.b\\*c\\[d\\]\n"},
     {AGAIN, "compile.parse", "(a)(b){0}", "", "", "2\n"},
     {AGAIN, "compile.parse", WORDS, "", "", "2\n"},
@@ -171,17 +181,31 @@ static const struct row rows[] = {
     {WORD, "bites.replace", "a", "banana", "<$0>", "b<a>n<a>n<a>status 0\n"},
 };
 
-/* Jobs that take as much memory for a long haystack as for the empty one. */
+/* Jobs that take as much memory for a long haystack as for the empty one, over bytes and over texts. */
 static const struct row quiet_rows[] = {
     {ONCE, "quiet.setters", "a", "a", "", NULL},
-    {ONCE, "quiet.readers", "(?<year>\\d{4})-(\\d{2})", "a", "on 2010-03", NULL},
+    {ONCE, "quiet.regex", "(?<year>\\d{4})-(\\d{2})", "a", "", NULL},
+    {ONCE, "quiet.captures", "(?<year>\\d{4})-(\\d{2})", "a", "on 2010-03", NULL},
     {ONCE, "quiet.extract", "(?<year>\\d{4})-(\\d{2})", "a", "on 2010-03", NULL},
     {ONCE, "quiet.clones", DATES, "a", "", NULL},
     {ONCE, "quiet.searches", DATES, "2010-03-14, ", "", NULL},
-    {ONCE, "quiet.machine", DATES, "2010-03-14, ", "", NULL},
+    {ONCE, "quiet.read", DATES, "2010-03-14, ", "", NULL},
     {ONCE, "quiet.iterators", DATES, "2010-03-14, ", "", NULL},
     {ONCE, "quiet.counts", DATES, "2010-03-14, ", "", NULL},
+};
+
+static const struct row other_quiet_rows[] = {
+    {ONCE, "quiet.machine", DATES, "2010-03-14, ", "", NULL},
     {ONCE, "quiet.states", "", "a", "", NULL},
+};
+
+/* Words of the program over streams that take and give one byte a call. What they write stands as the answer. */
+static const struct row stream_rows[] = {
+    {ONCE, "is", "a", "banana", "", "match\n"},
+    {ONCE, "find", "a", "banana", "", "1..2\n3..4\n5..6\n"},
+    {ONCE, "captures", "(a)(n)|b", "banana", "", "0..1 - -\n1..3 1..2 2..3\n3..5 3..4 4..5\n"},
+    {ONCE, "split", "n", "banana", "", "0..2\n3..4\n5..6\n"},
+    {ONCE, "replace", "a", "banana", "<$0>", "b<a>n<a>n<a>"},
 };
 
 /* Runs. */
@@ -193,6 +217,7 @@ struct text {
 
 static char room[1 << 16];
 static int failures_told;
+static const char *surface = ""; /* what stands before the name of a job */
 
 static struct text text_of(const char *chars) { return (struct text){chars, strlen(chars)}; }
 
@@ -217,7 +242,9 @@ static bool run(const struct row *row, struct text haystack, size_t number, bool
     requests = refusals = 0;
     refuse_at = number;
     refuse_rest = rest;
-    struct text job = text_of(row->job), pattern = text_of(row->pattern), template = text_of(row->template);
+    char name[100];
+    snprintf(name, sizeof name, "%s%s", surface, row->job);
+    struct text job = text_of(name), pattern = text_of(row->pattern), template = text_of(row->template);
     size_t len = bites_job((const uint8_t *)job.at, job.len, (const uint8_t *)pattern.at, pattern.len,
                            (const uint8_t *)haystack.at, haystack.len, (const uint8_t *)template.at, template.len,
                            (uint8_t *)room, sizeof room);
@@ -226,7 +253,7 @@ static bool run(const struct row *row, struct text haystack, size_t number, bool
     if (len > sizeof room) fault = "no answer";
     if (blocks != 0) fault = "blocks are not freed";
     if (misused) fault = "a block is freed twice";
-    if (fault != NULL) printf("%s: request %zu refused: %s\n", row->job, number, fault);
+    if (fault != NULL) printf("%s%s: request %zu refused: %s\n", surface, row->job, number, fault);
     blocks = 0;
     misused = false;
     *told = (struct text){room, fault == NULL ? len : 0};
@@ -294,7 +321,7 @@ static bool has_shown(const struct row *row, const struct seen *seen) {
 }
 
 static bool complain(const struct row *row, size_t number, struct text told) {
-    if (failures_told++ < 20) printf("%s: request %zu refused: told %.*s\n", row->job, number, (int)told.len, told.at);
+    if (failures_told++ < 20) printf("%s%s: request %zu refused: told %.*s\n", surface, row->job, number, (int)told.len, told.at);
     return false;
 }
 
@@ -320,7 +347,7 @@ static bool try_row(const struct row *row, struct text haystack, size_t *needed)
     struct text answer = {kept, told.len};
     if (!refuse_each(row, haystack, answer, false, &seen) || !refuse_each(row, haystack, answer, true, &seen)) return false;
     if (*needed > 0 && has_shown(row, &seen)) return true;
-    printf("%s: the refusals did not show what they are to show\n", row->job);
+    printf("%s%s: the refusals did not show what they are to show\n", surface, row->job);
     return false;
 }
 
@@ -338,7 +365,7 @@ static bool is_quiet(const struct row *row, size_t *needed) {
     for (size_t count = 1; count <= 100; count *= 10) {
         if (!run(row, repeated(text_of(row->haystack), count), 0, false, &told)) return false;
         if (requests != *needed) {
-            printf("%s: %zu requests, and for the empty haystack %zu\n", row->job, requests, *needed);
+            printf("%s%s: %zu requests, and for the empty haystack %zu\n", surface, row->job, requests, *needed);
             return false;
         }
         if (strcmp(row->job, "quiet.setters") != 0 && is_same(told, text_of("0\n"))) return complain(row, 0, told);
@@ -346,24 +373,80 @@ static bool is_quiet(const struct row *row, size_t *needed) {
     return is_right;
 }
 
-static bool report(const struct row *row, bool is_right, size_t needed, const char *what) {
-    printf("%s: %zu requests, %s\n", row->job, needed, is_right ? what : "FAILED");
-    return is_right;
+/* The sums over all rows. */
+static size_t passed, failed;
+
+/* A line of the table. */
+static void report(const char *job, bool is_right, size_t needed, const char *what) {
+    printf("%-36s %9zu  %s\n", job, needed, is_right ? what : "FAILED");
+    is_right ? passed++ : failed++;
 }
 
-int main(void) {
-    size_t passed = 0, failed = 0, needed = 0;
-    for (size_t index = 0; index < sizeof rows / sizeof *rows; index++) {
-        bool is_right = try_row(&rows[index], text_of(rows[index].haystack), &needed);
-        report(&rows[index], is_right, needed, "each refused") ? passed++ : failed++;
+static void report_row(const struct row *row, bool is_right, size_t needed, const char *what) {
+    char name[100];
+    snprintf(name, sizeof name, "%s%s", surface, row->job);
+    report(name, is_right, needed, what);
+}
+
+static void try_rows(const struct row *some, size_t count, bool are_quiet) {
+    for (size_t index = 0; index < count; index++) {
+        const struct row *row = &some[index];
+        size_t needed = 0;
+        if (are_quiet)
+            report_row(row, is_quiet(row, &needed), needed, "each refused in turn, and none by the calls");
+        else
+            report_row(row, try_row(row, text_of(row->haystack), &needed), needed, "each refused in turn");
     }
-    /* More lines than the program's buffer holds, so that some were written before a refusal. */
+}
+
+/* More lines than the program's buffer holds, so that some were written before a refusal. */
+static void try_many_lines(void) {
     struct row many = {WORD, "bites.captures", "(a)|(b)", "", "", NULL};
+    size_t needed = 0;
     bool is_right = try_row(&many, repeated(text_of("ab"), 400), &needed);
-    report(&many, is_right, needed, "each refused") ? passed++ : failed++;
-    for (size_t index = 0; index < sizeof quiet_rows / sizeof *quiet_rows; index++) {
-        is_right = is_quiet(&quiet_rows[index], &needed);
-        report(&quiet_rows[index], is_right, needed, "each refused, and none by the calls") ? passed++ : failed++;
+    report_row(&many, is_right, needed, "each refused in turn, over 800 lines");
+}
+
+/* What is told where so many calls are refused in turn, one byte of the answer being written before each next one or none. */
+static struct text streamed(const char *fault, size_t calls, const char *answer, bool is_writing) {
+    static char told[sizeof room];
+    size_t len = 0;
+    for (size_t call = 0; call < calls; call++)
+        len += (size_t)snprintf(told + len, sizeof told - len, "bites: %s\nstatus 2, %zu bytes written\n", fault,
+                                is_writing ? call : 0);
+    len += (size_t)snprintf(told + len, sizeof told - len, "status 0, %zu bytes written\n", strlen(answer));
+    return (struct text){told, len};
+}
+
+/* Refuses each call of the reader, or of the writer, in turn: one for each byte, and one for the end. */
+static void try_stream(const struct row *row, bool is_writing) {
+    char job[100];
+    snprintf(job, sizeof job, "%s.%s", is_writing ? "writes" : "reads", row->job);
+    struct row asked = {ONCE, job, row->pattern, row->haystack, row->template, NULL};
+    size_t calls = strlen(is_writing ? row->answer : row->haystack) + 1;
+    struct text told, wanted;
+    bool is_right = run(&asked, text_of(row->haystack), 0, false, &told);
+    wanted = streamed(is_writing ? "cannot write standard output" : "cannot read standard input", calls, row->answer, is_writing);
+    is_right = is_right && (is_same(told, wanted) || complain(&asked, 0, told));
+    report(job, is_right, calls, is_writing ? "calls of the writer, each refused" : "calls of the reader, each refused");
+}
+
+#define COUNT(some) (sizeof some / sizeof *some)
+
+int main(void) {
+    printf("%-36s %9s\n", "job", "requests");
+    for (int turn = 0; turn < 2; turn++) {
+        surface = turn == 0 ? "bytes." : "texts.";
+        try_rows(rows, COUNT(rows), false);
+        try_rows(quiet_rows, COUNT(quiet_rows), true);
+    }
+    surface = "";
+    try_rows(other_rows, COUNT(other_rows), false);
+    try_rows(other_quiet_rows, COUNT(other_quiet_rows), true);
+    try_many_lines();
+    for (size_t index = 0; index < COUNT(stream_rows); index++) {
+        try_stream(&stream_rows[index], false);
+        try_stream(&stream_rows[index], true);
     }
     printf("%zu passed, %zu failed\n", passed, failed);
     return failed != 0;

@@ -13,6 +13,8 @@ mod quiet;
 mod read;
 mod replace;
 mod search;
+mod streams;
+mod surface;
 mod told;
 mod work;
 
@@ -52,8 +54,8 @@ pub extern "C" fn bites_bench(
 /// Does the job of this name once, and writes what was answered into the room, as lines. It answers the number of bytes
 /// written, or the greatest number where the job is unknown, does not fit its arguments, or tells more than the room holds.
 ///
-/// The name and the pattern are UTF-8. A name is a group and a call, as `search.find` or `replace_all.template`; the modules
-/// of the groups say what they tell. Where memory is refused, the line `want of memory` stands in the answer's place: a call
+/// The name and the pattern are UTF-8. A name is a group and a call, as `search.find` or `replace_all.template`, and `texts.`
+/// before them asks the engine over texts; the modules of the groups say what they tell. Where memory is refused, the line `want of memory` stands in the answer's place: a call
 /// that can be made again, with all that the refusal left, then is, once, and its answer follows.
 #[unsafe(no_mangle)]
 pub extern "C" fn bites_job(
@@ -67,8 +69,10 @@ pub extern "C" fn bites_job(
     let mut told = Told::new(room);
     let outcome = match (std::str::from_utf8(job), std::str::from_utf8(pattern)) {
         (Ok(job), Ok(pattern)) => {
+            let (surface, job) = jobs::surface_of(job);
             let work = Work {
                 alloc,
+                surface,
                 pattern,
                 haystack,
                 template,

@@ -1,8 +1,9 @@
 //! What a job tells, in room that the caller gave.
 
+use crate::surface::Groups;
 use crate::work::Refused;
-use bites_bytes::bytes::{CaptureLocations, Captures, Match};
 use std::io::{self, Write};
+use std::ops::Range;
 
 /// The line that stands where memory was refused.
 const WANT: &[u8] = b"want of memory\n";
@@ -25,6 +26,11 @@ impl<'a> Told<'a> {
         self.len
     }
 
+    /// What was told.
+    pub fn as_slice(&self) -> &[u8] {
+        self.room.get(..self.len).unwrap_or(&[])
+    }
+
     /// Tells that memory was refused.
     pub fn want(&mut self) -> io::Result<()> {
         self.write_all(WANT)
@@ -36,10 +42,10 @@ impl<'a> Told<'a> {
         self.write_all(b"\n")
     }
 
-    /// Tells where a match begins and ends, or `none`.
-    pub fn found(&mut self, found: Option<Match<'_>>) -> io::Result<()> {
+    /// Tells where a match lies, or `none`.
+    pub fn found(&mut self, found: Option<Range<usize>>) -> io::Result<()> {
         match found {
-            Some(found) => writeln!(self, "{}..{}", found.start(), found.end()),
+            Some(found) => writeln!(self, "{}..{}", found.start, found.end),
             None => self.line(b"none"),
         }
     }
@@ -52,30 +58,22 @@ impl<'a> Told<'a> {
         }
     }
 
-    /// Tells where each group took part, or `none`.
-    pub fn groups(&mut self, captures: Option<&Captures<'_>>) -> io::Result<()> {
-        let Some(captures) = captures else {
-            return self.line(b"none");
-        };
-        for group in captures.iter() {
-            self.group(group.map(|found| (found.start(), found.end())))?;
+    /// Tells where each group took part, or `-`, with a space behind it.
+    pub fn groups<G: Groups>(&mut self, groups: &G) -> io::Result<()> {
+        for number in 0..groups.count() {
+            match groups.place(number) {
+                Some(place) => write!(self, "{}..{} ", place.start, place.end)?,
+                None => self.write_all(b"- ")?,
+            }
         }
         self.line(b"")
     }
 
-    /// Tells the places that the locations hold.
-    pub fn places(&mut self, locations: &CaptureLocations) -> io::Result<()> {
-        for group in 0..locations.len() {
-            self.group(locations.get(group))?;
-        }
-        self.line(b"")
-    }
-
-    // Tells where a group took part, or `-`, with a space behind it.
-    fn group(&mut self, ends: Option<(usize, usize)>) -> io::Result<()> {
-        match ends {
-            Some((start, end)) => write!(self, "{start}..{end} "),
-            None => self.write_all(b"- "),
+    /// The same of what a search found, or `none`.
+    pub fn captures<G: Groups>(&mut self, captures: Option<&G>) -> io::Result<()> {
+        match captures {
+            Some(captures) => self.groups(captures),
+            None => self.line(b"none"),
         }
     }
 }

@@ -1,14 +1,16 @@
 //! What jobs are done with.
 
-use bites_bytes::bytes::{Error, Regex};
+use crate::surface::{Builder, Regex, Surface};
+use regex_bites::Error;
 use std::alloc::{AllocError, Global};
 use std::io;
 use std::str::Utf8Error;
 
-/// A pattern, a haystack and a template, of which a job uses those that it needs.
+/// A surface, a pattern, a haystack and a template, of which a job uses those that it needs.
 #[derive(Clone, Copy)]
 pub struct Work<'a> {
     pub alloc: Global,
+    pub surface: Surface,
     pub pattern: &'a str,
     pub haystack: &'a [u8],
     pub template: &'a [u8],
@@ -17,7 +19,12 @@ pub struct Work<'a> {
 impl<'a> Work<'a> {
     /// A regex of the pattern.
     pub fn regex(&self) -> Result<Regex, Refused> {
-        Ok(Regex::new(self.alloc, self.pattern)?)
+        Ok(Regex::new(self.surface, self.alloc, self.pattern)?)
+    }
+
+    /// A builder of the pattern.
+    pub fn builder(&self) -> Result<Builder, Refused> {
+        Ok(Builder::new(self.surface, self.alloc, self.pattern)?)
     }
 }
 
