@@ -1,0 +1,238 @@
+/* Asks each call of bites.h for an answer that is known, and each refusal. It stops at the first wrong answer. */
+#include "bites.h"
+#include <stdio.h>
+#include <stdlib.h>
+#include <string.h>
+
+#define BYTES(text) (const uint8_t *)(text), sizeof(text) - 1
+#define LIMITS BITES_SIZE_LIMIT, BITES_NEST_LIMIT
+#define CHECK(holds) ((holds) ? (void)0 : wrong(#holds, __LINE__))
+
+/* what the archive takes these types to be */
+_Static_assert(sizeof(bites) == sizeof(void *) && sizeof(bites_cache) == sizeof(void *), "a handle is a pointer");
+_Static_assert(sizeof(bites_span) == 16 && offsetof(bites_span, end) == 8, "a span is two places");
+_Static_assert(sizeof(bites_size) == 16 && offsetof(bites_size, size) == 8, "a code, and a size behind it");
+
+static void wrong(const char *what, int line) {
+    fprintf(stderr, "check.c:%d: not so: %s\n", line, what);
+    exit(1);
+}
+
+static void searches(void) {
+    bites regex = {0};
+    bites_cache cache = {0};
+    bites_span span = {7, 7}, groups[4] = {{7, 7}, {7, 7}, {7, 7}, {7, 7}};
+    size_t end = 7;
+    CHECK(bites_new(BYTES("(?P<year>[0-9]{4})(-[0-9]+)?|x"), 0, LIMITS, &regex) == BITES_DONE);
+    CHECK(bites_cache_new(&regex, &cache) == BITES_DONE);
+    CHECK(bites_captures_len(&regex) == 3 && bites_static_captures_len(&regex) == 0);
+    CHECK(bites_is_match_at(&regex, &cache, BYTES("in 2024-05"), 0) == BITES_MATCH);
+    CHECK(bites_is_match_at(&regex, &cache, BYTES("in 2024-05"), 4) == BITES_NO_MATCH);
+    CHECK(bites_shortest_match_at(&regex, &cache, BYTES("in 2024-05"), 0, &end) == BITES_MATCH && end == 7);
+    end = 9;
+    CHECK(bites_shortest_match_at(&regex, &cache, BYTES("in"), 0, &end) == BITES_NO_MATCH && end == 9);
+    CHECK(bites_find_at(&regex, &cache, BYTES("in 2024-05"), 0, &span) == BITES_MATCH && span.start == 3 && span.end == 10);
+    bites_size size = bites_captures_at(&regex, &cache, BYTES("in 2024-05"), 0, groups, 4);
+    CHECK(size.code == BITES_MATCH && size.size == 3);
+    CHECK(groups[0].start == 3 && groups[0].end == 10 && groups[1].start == 3 && groups[1].end == 7);
+    CHECK(groups[2].start == 7 && groups[2].end == 10 && groups[3].start == 7 && groups[3].end == 7);
+    size = bites_captures_at(&regex, &cache, BYTES("x"), 0, groups, 3);
+    CHECK(size.code == BITES_MATCH && groups[0].end == 1 && groups[1].start == BITES_NONE && groups[2].end == BITES_NONE);
+    /* a start past the end, and a slice with too few places */
+    span.start = 5;
+    CHECK(bites_find_at(&regex, &cache, BYTES("x"), 2, &span) == BITES_NO_MATCH && span.start == 5);
+    CHECK(bites_is_match_at(&regex, &cache, BYTES("x"), SIZE_MAX) == BITES_NO_MATCH);
+    groups[0].end = 7;
+    size = bites_captures_at(&regex, &cache, BYTES("x"), 0, groups, 2);
+    CHECK(size.code == BITES_TOO_SMALL && size.size == 3 && groups[0].end == 7);
+    bites_cache_free(&cache);
+    bites_free(&regex);
+}
+
+/* the matches of x* in "axb" with a letter of two bytes behind: empty, x, empty, empty */
+static void successive(void) {
+    bites regex = {0};
+    bites_cache cache = {0};
+    bites_span m = {0, 0};
+    const size_t wanted[] = {0, 0, 1, 2, 3, 3, 5, 5};
+    size_t count = 0;
+    CHECK(bites_new(BYTES("x*"), 0, LIMITS, &regex) == BITES_DONE && bites_cache_new(&regex, &cache) == BITES_DONE);
+    for (size_t last = BITES_NONE; bites_find_next(&regex, &cache, BYTES("axb\xc3\xa9"), last, &m) == BITES_MATCH; last = m.end) {
+        CHECK(count < 4 && m.start == wanted[2 * count] && m.end == wanted[2 * count + 1]);
+        count++;
+    }
+    CHECK(count == 4 && m.end == 5);
+    CHECK(bites_find_next(&regex, &cache, BYTES("a"), 9, &m) == BITES_NO_MATCH);
+    bites_cache_free(&cache);
+    bites_free(&regex);
+}
+
+static void names(void) {
+    bites regex = {0};
+    uint8_t name[8] = "--------";
+    CHECK(bites_group_name(&regex, 0, name, 8).code == BITES_EMPTY_HANDLE);
+    CHECK(bites_new(BYTES("(?P<year>a)(b)"), 0, LIMITS, &regex) == BITES_DONE);
+    bites_size size = bites_group_name(&regex, 1, name, 0);
+    CHECK(size.code == BITES_TOO_SMALL && size.size == 4 && name[0] == '-');
+    size = bites_group_name(&regex, 1, name, 8);
+    CHECK(size.code == BITES_DONE && size.size == 4 && !memcmp(name, "year----", 8));
+    CHECK(bites_group_name(&regex, 0, name, 8).code == BITES_NO_NAME);
+    CHECK(bites_group_name(&regex, 2, name, 8).code == BITES_NO_NAME);
+    CHECK(bites_group_name(&regex, SIZE_MAX, name, 8).code == BITES_NO_NAME);
+    bites_free(&regex);
+}
+
+/* the groups of all matches of ([a-z])(x)? in "axb": a with x, then b without */
+static void groups_in_turn(void) {
+    bites regex = {0};
+    bites_cache cache = {0};
+    bites_span groups[3] = {{7, 7}, {7, 7}, {7, 7}};
+    CHECK(bites_captures_next(&regex, &cache, BYTES("axb"), BITES_NONE, groups, 3).code == BITES_EMPTY_HANDLE);
+    CHECK(bites_new(BYTES("([a-z])(x)?"), 0, LIMITS, &regex) == BITES_DONE && bites_cache_new(&regex, &cache) == BITES_DONE);
+    bites_size size = bites_captures_next(&regex, &cache, BYTES("axb"), BITES_NONE, groups, 2);
+    CHECK(size.code == BITES_TOO_SMALL && size.size == 3 && groups[0].end == 7);
+    size = bites_captures_next(&regex, &cache, BYTES("axb"), BITES_NONE, groups, 3);
+    CHECK(size.code == BITES_MATCH && size.size == 3 && groups[0].start == 0 && groups[0].end == 2);
+    CHECK(groups[1].end == 1 && groups[2].start == 1 && groups[2].end == 2);
+    size = bites_captures_next(&regex, &cache, BYTES("axb"), 2, groups, 3);
+    CHECK(size.code == BITES_MATCH && groups[0].start == 2 && groups[0].end == 3 && groups[2].start == BITES_NONE);
+    CHECK(bites_captures_next(&regex, &cache, BYTES("axb"), 3, groups, 3).code == BITES_NO_MATCH && groups[0].end == 3);
+    /* an empty match behind one that ended there is passed over */
+    CHECK(bites_new(BYTES("(x)*"), 0, LIMITS, &regex) == BITES_DONE && bites_cache_new(&regex, &cache) == BITES_DONE);
+    size = bites_captures_next(&regex, &cache, BYTES("axb"), 0, groups, 3);
+    CHECK(size.code == BITES_MATCH && groups[0].start == 1 && groups[0].end == 2 && groups[1].start == 1);
+    bites_cache_free(&cache);
+    bites_free(&regex);
+}
+
+static void numbers(void) {
+    bites regex = {0};
+    CHECK(bites_group_index(&regex, BYTES("year")).code == BITES_EMPTY_HANDLE);
+    CHECK(bites_new(BYTES("(?P<year>a)(b)(?P<day>c)"), 0, LIMITS, &regex) == BITES_DONE);
+    bites_size size = bites_group_index(&regex, BYTES("day"));
+    CHECK(size.code == BITES_DONE && size.size == 3);
+    size = bites_group_index(&regex, BYTES("year"));
+    CHECK(size.code == BITES_DONE && size.size == 1);
+    size = bites_group_index(&regex, BYTES("month"));
+    CHECK(size.code == BITES_NO_NAME && size.size == 0);
+    CHECK(bites_group_index(&regex, BYTES("\xff")).code == BITES_NO_NAME);
+    CHECK(bites_group_index(&regex, BYTES("")).code == BITES_NO_NAME);
+    bites_free(&regex);
+}
+
+/* whether the answer is this text */
+static int is_text(bites_size size, const uint8_t *out, const char *text) {
+    return size.code == BITES_DONE && size.size == strlen(text) && !memcmp(out, text, size.size);
+}
+
+static void texts(void) {
+    bites regex = {0};
+    uint8_t out[32];
+    bites_size size = bites_escape(BYTES("a.b"), out, 0);
+    CHECK(size.code == BITES_TOO_SMALL && size.size == 4);
+    CHECK(is_text(bites_escape(BYTES("a.b"), out, sizeof out), out, "a\\.b"));
+    CHECK(bites_escape(BYTES("\xff"), out, sizeof out).code == BITES_NOT_UTF8);
+    CHECK(bites_replace(&regex, BYTES("a"), 0, BYTES("b"), out, sizeof out).code == BITES_EMPTY_HANDLE);
+    CHECK(bites_replace_literal(&regex, BYTES("a"), 0, BYTES("b"), out, sizeof out).code == BITES_EMPTY_HANDLE);
+    CHECK(bites_new(BYTES("(?P<first>[a-z])([0-9])?"), 0, LIMITS, &regex) == BITES_DONE);
+    out[0] = '-';
+    size = bites_replace(&regex, BYTES("a1 b"), 0, BYTES("<$2$first>"), out, 7);
+    CHECK(size.code == BITES_TOO_SMALL && size.size == 8 && out[0] == '-');
+    CHECK(is_text(bites_replace(&regex, BYTES("a1 b"), 0, BYTES("<$2$first>"), out, sizeof out), out, "<1a> <b>"));
+    CHECK(is_text(bites_replace(&regex, BYTES("a1 b"), 1, BYTES("$$"), out, sizeof out), out, "$ b"));
+    CHECK(is_text(bites_replace_literal(&regex, BYTES("a1 b"), 0, BYTES("$2"), out, sizeof out), out, "$2 $2"));
+    CHECK(is_text(bites_replace_literal(&regex, BYTES("??"), 0, BYTES("x"), out, sizeof out), out, "??"));
+    size = bites_replace_literal(&regex, BYTES("a1 b"), 0, BYTES("$2"), out, 4);
+    CHECK(size.code == BITES_TOO_SMALL && size.size == 5 && out[0] == '?');
+    bites_free(&regex);
+}
+
+static void templates(void) {
+    bites regex = {0};
+    uint8_t out[32] = "-";
+    bites_span groups[3] = {{0, 2}, {0, 1}, {BITES_NONE, BITES_NONE}};
+    CHECK(bites_expand(&regex, BYTES("a1"), groups, 3, BYTES("$0"), out, sizeof out).code == BITES_EMPTY_HANDLE);
+    CHECK(bites_new(BYTES("(?P<first>[a-z])([0-9])?"), 0, LIMITS, &regex) == BITES_DONE);
+    bites_size size = bites_expand(&regex, BYTES("a1"), groups, 3, BYTES("$first-${0}-$2-$9"), out, 0);
+    CHECK(size.code == BITES_TOO_SMALL && size.size == 6 && out[0] == '-');
+    CHECK(is_text(bites_expand(&regex, BYTES("a1"), groups, 3, BYTES("$first-${0}-$2-$9"), out, sizeof out), out, "a-a1--"));
+    CHECK(is_text(bites_expand(&regex, BYTES("a1"), groups, 1, BYTES("[$first]"), out, sizeof out), out, "[]"));
+    groups[1].end = 3;
+    CHECK(bites_expand(&regex, BYTES("a1"), groups, 3, BYTES("$0"), out, sizeof out).code == BITES_BAD_SPAN);
+    groups[1].start = 2, groups[1].end = 1;
+    CHECK(bites_expand(&regex, BYTES("a1"), groups, 3, BYTES("$0"), out, sizeof out).code == BITES_BAD_SPAN && out[0] == '[');
+    bites_free(&regex);
+}
+
+static void handles(void) {
+    bites regex = {0}, copy = {0}, other = {0};
+    bites_cache cache = {0};
+    bites_span span = {7, 7};
+    CHECK(bites_is_match_at(&regex, &cache, BYTES("a"), 0) == BITES_EMPTY_HANDLE);
+    CHECK(bites_clone(&regex, &copy) == BITES_EMPTY_HANDLE && !copy.at);
+    CHECK(bites_cache_new(&regex, &cache) == BITES_EMPTY_HANDLE && !cache.at);
+    CHECK(bites_captures_len(&regex) == 0 && bites_static_captures_len(&regex) == 0);
+    CHECK(bites_new(BYTES("b+"), 0, LIMITS, &regex) == BITES_DONE);
+    CHECK(bites_static_captures_len(&regex) == 1);
+    CHECK(bites_find_at(&regex, &cache, BYTES("b"), 0, &span) == BITES_EMPTY_HANDLE && span.start == 7);
+    CHECK(bites_cache_new(&regex, &cache) == BITES_DONE);
+    CHECK(bites_clone(&regex, &copy) == BITES_DONE);
+    bites_free(&regex);
+    CHECK(!regex.at);
+    bites_free(&regex);
+    /* the clone goes on, and the room serves it */
+    CHECK(bites_find_at(&copy, &cache, BYTES("abbc"), 0, &span) == BITES_MATCH && span.start == 1 && span.end == 3);
+    CHECK(bites_new(BYTES("(a)(b)(c)"), 0, LIMITS, &other) == BITES_DONE);
+    CHECK(bites_find_at(&other, &cache, BYTES("abc"), 0, &span) == BITES_UNFIT_CACHE && span.end == 3);
+    CHECK(bites_captures_at(&other, &cache, BYTES("abc"), 0, &span, 1).code == BITES_UNFIT_CACHE && span.end == 3);
+    /* making a new one frees the old one */
+    CHECK(bites_cache_new(&other, &cache) == BITES_DONE && bites_clone(&other, &copy) == BITES_DONE);
+    CHECK(bites_is_match_at(&copy, &cache, BYTES("abc"), 0) == BITES_MATCH);
+    bites_cache_free(&cache);
+    bites_cache_free(&cache);
+    bites_free(&copy);
+    bites_free(&other);
+}
+
+static void refusals(void) {
+    bites regex = {0};
+    uint8_t text[128];
+    CHECK(bites_new(BYTES("x"), 0, LIMITS, &regex) == BITES_DONE);
+    CHECK(bites_new(BYTES("\xff"), 0, LIMITS, &regex) == BITES_NOT_UTF8 && !regex.at);
+    uint32_t code = bites_new(BYTES("(a"), 0, LIMITS, &regex);
+    size_t len = bites_error_text(code, text, sizeof text);
+    CHECK(!regex.at && len == 36 && !memcmp(text, "found open group without closing ')'", 36));
+    CHECK(bites_new(BYTES("abc"), 0, 10, BITES_NEST_LIMIT, &regex) == 55);
+    CHECK(bites_error_text(BITES_NO_MEMORY, text, 3) > 3 && bites_error_text(0, text, 3) == 0 && bites_error_text(59, text, 3) == 0);
+}
+
+static void flags(void) {
+    bites regex = {0};
+    bites_cache cache = {0};
+    bites_span span = {0, 0};
+    CHECK(bites_new(BYTES("SAM|samwise"), BITES_CASE_INSENSITIVE, LIMITS, &regex) == BITES_DONE);
+    CHECK(bites_cache_new(&regex, &cache) == BITES_DONE);
+    CHECK(bites_find_at(&regex, &cache, BYTES("samwise"), 0, &span) == BITES_MATCH && span.end == 3);
+    CHECK(bites_new(BYTES("sam|samwise"), BITES_LEFTMOST_LONGEST, LIMITS, &regex) == BITES_DONE);
+    CHECK(bites_cache_new(&regex, &cache) == BITES_DONE);
+    CHECK(bites_find_at(&regex, &cache, BYTES("samwise"), 0, &span) == BITES_MATCH && span.end == 7);
+    CHECK(bites_new(BYTES("(a){0}b"), 0, LIMITS, &regex) == BITES_DONE && bites_captures_len(&regex) == 1);
+    CHECK(bites_new(BYTES("(a){0}b"), BITES_KEEP_DROPPED_GROUPS, LIMITS, &regex) == BITES_DONE && bites_captures_len(&regex) == 2);
+    bites_cache_free(&cache);
+    bites_free(&regex);
+}
+
+int main(void) {
+    searches();
+    successive();
+    names();
+    groups_in_turn();
+    numbers();
+    texts();
+    templates();
+    handles();
+    refusals();
+    flags();
+    puts("all answers are as they should be");
+    return 0;
+}

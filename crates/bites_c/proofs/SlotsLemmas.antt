@@ -1,0 +1,32 @@
+-- What stands in the slots that a search answers.
+use Rattle.std.proofs.Common.{◌≡◌, ℕ, ◌/◌, List, length, Option, Some, None, is_some, true, option_map, unwrap_or, refl, sym, ap, subst, ◌∙◌, true≢false}
+use Rattle.bites_spec.specs.Regex.{Regex, IsCompiled, slots_at}
+use Rattle.bites_spec.specs.Captured.{SlotsAreGroups}
+use Rattle.bites_c.specs.Codes.{matched}
+use Rattle.bites_c.specs.Put.{HasFront, PutsGroups}
+use Rattle.bites_c.specs.declared.span.BitesSpan.{BitesSpan}
+
+-- locations that were read keep their number
+pub read_len :
+    (r : Regex) → IsCompiled r → SlotsAreGroups → (hay : List ℕ) (s : ℕ) (old new : List (Option ℕ)) →
+    length old ≡ r.program.slots → new ≡ unwrap_or (slots_at r hay s) old → length new ≡ r.program.slots
+read_len r compiled groups hay s old new len is = by_answer (slots_at r hay s) refl is
+  where
+    by_answer : (o : Option (List (Option ℕ))) → slots_at r hay s ≡ o → new ≡ unwrap_or o old → length new ≡ r.program.slots
+    by_answer None e is = ap length is ∙ len
+    by_answer (Some xs) e is = ap length is ∙ (groups r compiled hay s xs e).count
+
+-- where something was found, there are slots
+pub some_slots :
+    {M E S R L : Type 0} → (m : M) (e : M → E) (x : S → E) (g : R → S) (f : R → L) (found : Option M) (run : Option R) →
+    found ≡ Some m → option_map e found ≡ option_map x (option_map g run) → is_some (option_map f run) ≡ true
+some_slots m e x g f found (Some r) is same = refl
+some_slots m e x g f found None is same = sym (ap is_some same) ∙ ap (λ o. is_some (option_map e o)) is
+
+-- groups that were read and put are the groups that were found
+pub found_put :
+    (o : Option (List (Option ℕ))) (read was : List (Option ℕ)) (n : ℕ) (old new : List BitesSpan) →
+    is_some o ≡ true → read ≡ unwrap_or o was → length read / 2 ≡ n → HasFront read (length read / 2) old new → PutsGroups o n matched old new
+found_put None read was n old new some is half h = absurd (true≢false (sym some))
+found_put (Some xs) read was n old new some is half h =
+    (refl, subst (λ k. HasFront xs k old new) half (subst (λ ys. HasFront ys (length read / 2) old new) is h))

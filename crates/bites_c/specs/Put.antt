@@ -1,0 +1,64 @@
+-- What is put where C can read it.
+use Rattle.std.specs.Prelude.{◌≡◌, ◌≢◌, ◌<◌, ◌≤◌, ◌++◌, ℕ, List, length, map, take, drop, Option, Some, None}
+use Rattle.std.specs.List.{range_with_len}
+use Rattle.bites_spec.specs.Match.{Span}
+use Rattle.bites_spec.specs.Slots.{group_in}
+use Rattle.bites_text.specs.declared.error.Error.TheVariants.{Memory}
+use Rattle.bites_c.specs.Codes.{matched, not_matched, done, too_small, no_name, code_of}
+use Rattle.bites_c.specs.declared.text.BitesSize.{BitesSize}
+use Rattle.bites_c.specs.declared.span.BitesSpan.{BitesSpan}
+
+-- a span, or the greatest number twice
+abbrev pub span_for_c : Option Span → BitesSpan
+span_for_c None = record { start = 0xFFFF_FFFF_FFFF_FFFF; end = 0xFFFF_FFFF_FFFF_FFFF }
+span_for_c (Some s) = record { start = s.start; end = s.end }
+
+-- the place that was found is put where the old one stood, which stays where there is none
+abbrev pub Puts : Option ℕ → ℕ → ℕ → ℕ → Type 0
+Puts None number old new = (number ≡ not_matched) × (new ≡ old)
+Puts (Some place) number old new = (number ≡ matched) × (new ≡ place)
+
+-- the same of a span
+abbrev pub PutsSpan : Option Span → ℕ → BitesSpan → BitesSpan → Type 0
+PutsSpan None number old new = (number ≡ not_matched) × (new ≡ old)
+PutsSpan (Some s) number old new = (number ≡ matched) × (new ≡ span_for_c (Some s))
+
+-- the first n groups in the slots
+abbrev pub groups_for_c : List (Option ℕ) → ℕ → List BitesSpan
+groups_for_c slots n = map (λ k. span_for_c (group_in slots k)) (range_with_len 0 n)
+
+-- the first n groups in the slots stand at the front, and the rest stays
+pub record HasFront (slots : List (Option ℕ)) (n : ℕ) (old new : List BitesSpan) : Type 0 where
+  pub front : take n new ≡ groups_for_c slots n
+  pub rest : drop n new ≡ drop n old
+
+-- the groups that were found are put at the front; where there are none all stays
+abbrev pub PutsGroups : Option (List (Option ℕ)) → ℕ → ℕ → List BitesSpan → List BitesSpan → Type 0
+PutsGroups None n number old new = (number ≡ not_matched) × (new ≡ old)
+PutsGroups (Some slots) n number old new = (number ≡ matched) × HasFront slots n old new
+
+-- the text is put at the front where there is room for it, and else all stays; the size is that of the text
+pub record PutsText (text : List ℕ) (answer : BitesSize) (old new : List ℕ) : Type 0 where
+  pub size : answer.size ≡ length text
+  pub fits : length text ≤ length old → (answer.code ≡ done) × (new ≡ text ++ drop (length text) old)
+  pub small : length old < length text → (answer.code ≡ too_small) × (new ≡ old)
+
+-- the same of a name, if there is one
+abbrev pub PutsName : Option (List ℕ) → BitesSize → List ℕ → List ℕ → Type 0
+PutsName None answer old new = (answer.code ≡ no_name) × (answer.size ≡ 0) × (new ≡ old)
+PutsName (Some text) answer old new = PutsText text answer old new
+
+-- nothing is put, for the reason of this number
+abbrev pub PutsNone : ℕ → BitesSize → List ℕ → List ℕ → Type 0
+PutsNone number answer old new = (answer.code ≡ number) × (answer.size ≡ 0) × (new ≡ old)
+
+-- the text is put where there is room for it, unless memory was refused
+abbrev pub PutsMade : List ℕ → BitesSize → List ℕ → List ℕ → Type 0
+PutsMade text answer old new =
+    (answer.code ≡ code_of Memory → PutsNone (code_of Memory) answer old new)
+    × (answer.code ≢ code_of Memory → PutsText text answer old new)
+
+-- the number of a group is answered, if there is one
+abbrev pub AnswersIndex : Option ℕ → BitesSize → Type 0
+AnswersIndex None answer = (answer.code ≡ no_name) × (answer.size ≡ 0)
+AnswersIndex (Some index) answer = (answer.code ≡ done) × (answer.size ≡ index)

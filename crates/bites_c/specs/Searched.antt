@@ -1,0 +1,71 @@
+-- What a search by two handles answers.
+use Rattle.std.specs.Prelude.{◌≡◌, ◌≢◌, ◌↔◌, ◌<◌, ◌≤◌, ℕ, cond, nat_eq, List, [], ◌∷◌, length, Option, Some, None}
+use Rattle.bites_spec.specs.Counts.{Room, fit_of}
+use Rattle.bites_spec.specs.Regex.{Regex, slots_at}
+use Rattle.bites_spec.specs.Captured.{FindsGroups, captured}
+use Rattle.bites_spec.specs.Slots.{group_in}
+use Rattle.bites_spec.specs.Match.{Span}
+use Rattle.bites_spec.specs.Iteration.{spans_behind, captures_behind}
+use Rattle.bites_c.specs.Put.{Puts, PutsGroups, PutsSpan}
+use Rattle.bites_c.specs.Codes.{matched, not_matched, empty_handle, unfit_cache, too_small}
+use Rattle.bites_c.specs.declared.span.BitesSpan.{BitesSpan}
+
+-- a search is made if there is a regex and room that fits it, and P then says of the regex what it answered; else the number
+-- says what is missing, and S holds
+abbrev pub Searched : Option Regex → Option Room → ℕ → Type 0 → (Regex → Type 0) → Type 0
+Searched None room number S P = (number ≡ empty_handle) × S
+Searched (Some regex) None number S P = (number ≡ empty_handle) × S
+Searched (Some regex) (Some room) number S P =
+    (room.fits ≡ fit_of regex.program → P regex) × (room.fits ≢ fit_of regex.program → (number ≡ unfit_cache) × S)
+
+-- a match is answered exactly if Q holds, and none exactly if it does not
+abbrev pub AnswersIf : ℕ → Type 0 → Type 0
+AnswersIf number Q = (number ≡ matched ↔ Q) × (number ≡ not_matched ↔ (Q → ⊥))
+
+-- what a number says of handles by which no search can be made
+abbrev pub Lacks : Option Regex → Option Room → ℕ → Type 0
+Lacks None room number = number ≡ empty_handle
+Lacks (Some regex) None number = number ≡ empty_handle
+Lacks (Some regex) (Some room) number = (room.fits ≢ fit_of regex.program) × (number ≡ unfit_cache)
+
+-- of what was found P holds
+abbrev pub AnswersPlace : ℕ → ℕ → ℕ → (Option ℕ → Type 0) → Type 0
+AnswersPlace number old new P = (found : Option ℕ) × P found × Puts found number old new
+
+-- the same of a span
+abbrev pub AnswersSpan : ℕ → BitesSpan → BitesSpan → (Option Span → Type 0) → Type 0
+AnswersSpan number old new P = (found : Option Span) × P found × PutsSpan found number old new
+
+-- a slice with too few places stays, and none is searched for; else the groups that are found are put at its front
+abbrev pub PutsCaptures : Regex → List ℕ → ℕ → ℕ → List BitesSpan → List BitesSpan → Type 0
+PutsCaptures r hay s number old new =
+    (length old < length r.names → (number ≡ too_small) × (new ≡ old))
+    × (length r.names ≤ length old → FindsGroups r hay s (slots_at r hay s) × PutsGroups (slots_at r hay s) (length r.names) number old new)
+
+-- what C says of the match before: the greatest number where there is none, else its end
+abbrev pub last_for_c : ℕ → Option ℕ
+last_for_c n = cond (nat_eq n 0xFFFF_FFFF_FFFF_FFFF) None (Some n)
+
+-- what is found is the first of the spans that are left behind a match that ends at a place, or of all; the others are left
+-- behind it
+abbrev pub FindsNext : Regex → List ℕ → Option ℕ → Option Span → Type 0
+FindsNext r hay last None = spans_behind r hay last ≡ []
+FindsNext r hay last (Some s) = spans_behind r hay last ≡ s ∷ spans_behind r hay (Some s.end)
+
+-- the groups that are found are those of the match that is due behind another, or of the first of all: their match is the first
+-- that is left, and what is left behind it are the groups of the others
+abbrev pub FindsNextGroups : Regex → List ℕ → Option ℕ → Option (List (Option ℕ)) → Type 0
+FindsNextGroups r hay last None = FindsNext r hay last None × (captures_behind r hay last ≡ [])
+FindsNextGroups r hay last (Some slots) =
+    (s : Span) × FindsNext r hay last (Some s) × (group_in slots 0 ≡ Some s)
+    × (captures_behind r hay last ≡ captured r hay slots ∷ captures_behind r hay (Some s.end))
+
+-- the groups that are found are put at the front
+abbrev pub PutsFound : (Option (List (Option ℕ)) → Type 0) → ℕ → ℕ → List BitesSpan → List BitesSpan → Type 0
+PutsFound Finds n number old new = (found : Option (List (Option ℕ))) × Finds found × PutsGroups found n number old new
+
+-- a slice with too few places stays, and none is searched for; else the groups of the next match are put at its front
+abbrev pub PutsNextCaptures : Regex → List ℕ → Option ℕ → ℕ → List BitesSpan → List BitesSpan → Type 0
+PutsNextCaptures r hay last number old new =
+    (length old < length r.names → (number ≡ too_small) × (new ≡ old))
+    × (length r.names ≤ length old → PutsFound (FindsNextGroups r hay last) (length r.names) number old new)

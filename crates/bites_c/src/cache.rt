@@ -1,0 +1,68 @@
+//! Room for searches that C holds.
+
+ghost use Rattle.std.specs.Prelude.{◌≡◌, MatchOption};
+ghost use Rattle.std.specs.declared.option.Option.{Option as Maybe};
+ghost use Rattle.std.specs.declared.option.Option.TheVariants.{None, Some};
+ghost use Rattle.std.specs.Coded.{codes, coded_option};
+ghost use Rattle.bites_spec.specs.Counts.{Room as SearchRoom};
+ghost use Rattle.bites_c.specs.contracts.room.Room.{the_row};
+ghost use Rattle.bites_c.specs.Holding.{holds};
+
+use crate::room::Room;
+use std::alloc::Global;
+use std::marker::Model;
+
+/// What C holds between calls: the pointer of room for searches, or null. C begins with null and never copies it.
+#[repr(C)]
+pub struct BitesCache {
+    at: *mut (),
+    alloc: Global,
+    pub ghost room: { Maybe SearchRoom } by { coded_option (Prim.hlevel codes) },
+}
+
+impl Model for BitesCache {
+    ghost also_owns = { λ h. holds the_row h.alloc h.at h.room };
+}
+
+impl BitesCache {
+    /// A handle that holds none.
+    pub(crate) fn empty(alloc: Global) -> BitesCache
+        ensures { result.room ≡ None }
+    {
+        BitesCache {
+            at: std::ptr::null_mut(),
+            alloc,
+        }
+    }
+
+    /// A handle of this room.
+    pub(crate) fn of(held: Box<Room, Global>) -> BitesCache
+        ensures { result.room ≡ Some held.value }
+    {
+        let (at, alloc) = Box::into_raw_with_allocator(held);
+        BitesCache {
+            at: at as *mut (),
+            alloc,
+        }
+    }
+
+    /// The room that it holds, if there is some.
+    pub(crate) fn into_box(self) -> Option<Box<Room, Global>>
+        ensures { MatchOption result (self.room ≡ None) (λ b. self.room ≡ Some b.value) }
+    {
+        let BitesCache { at, alloc } = self;
+        if at.is_null() {
+            return None;
+        }
+        Some(unsafe { Box::from_raw(alloc, at as *mut Room) })
+    }
+}
+
+impl Drop for BitesCache {
+    fn drop(self) {
+        match self.into_box() {
+            Some(room) => drop(room),
+            None => {}
+        }
+    }
+}

@@ -1,0 +1,69 @@
+//! A regex that C holds.
+
+ghost use Rattle.std.specs.Prelude.{◌≡◌, MatchOption};
+ghost use Rattle.std.specs.declared.option.Option.{Option as Maybe};
+ghost use Rattle.std.specs.declared.option.Option.TheVariants.{None, Some};
+ghost use Rattle.std.specs.Coded.{codes, coded_option};
+ghost use Rattle.bites_syntax.specs.TreeCode.{tree_code};
+ghost use Rattle.bites_spec.specs.Regex.{Regex as Compiled};
+ghost use Rattle.bites_bytes.specs.contracts.bytes.regex.Regex.{the_row};
+ghost use Rattle.bites_c.specs.Holding.{holds};
+
+use bites_bytes::bytes::Regex;
+use std::alloc::Global;
+use std::marker::Model;
+
+/// What C holds between calls: the pointer of a regex, or null. C begins with null and never copies it.
+#[repr(C)]
+pub struct Bites {
+    at: *mut (),
+    alloc: Global,
+    pub ghost regex: { Maybe Compiled } by { coded_option (Prim.hlevel (codes, tree_code)) },
+}
+
+impl Model for Bites {
+    ghost also_owns = { λ h. holds the_row h.alloc h.at h.regex };
+}
+
+impl Bites {
+    /// A handle that holds none.
+    pub(crate) fn empty(alloc: Global) -> Bites
+        ensures { result.regex ≡ None }
+    {
+        Bites {
+            at: std::ptr::null_mut(),
+            alloc,
+        }
+    }
+
+    /// A handle of this regex.
+    pub(crate) fn of(held: Box<Regex, Global>) -> Bites
+        ensures { result.regex ≡ Some held.value }
+    {
+        let (at, alloc) = Box::into_raw_with_allocator(held);
+        Bites {
+            at: at as *mut (),
+            alloc,
+        }
+    }
+
+    /// The regex that it holds, if there is one.
+    pub(crate) fn into_box(self) -> Option<Box<Regex, Global>>
+        ensures { MatchOption result (self.regex ≡ None) (λ b. self.regex ≡ Some b.value) }
+    {
+        let Bites { at, alloc } = self;
+        if at.is_null() {
+            return None;
+        }
+        Some(unsafe { Box::from_raw(alloc, at as *mut Regex) })
+    }
+}
+
+impl Drop for Bites {
+    fn drop(self) {
+        match self.into_box() {
+            Some(regex) => drop(regex),
+            None => {}
+        }
+    }
+}

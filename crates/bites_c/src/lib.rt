@@ -1,0 +1,486 @@
+//! The engine for C: a regex and the room for its searches are held by pointers between calls.
+//!
+//! A function that answers a `u32` answers one of the numbers of `c/bites.h`: 0 where what was asked is done, 100 and 101
+//! for a match and none, 1 to 57 for the messages of refused patterns, 58 for want of memory, and from 102 on what was
+//! wrong with the call.
+#![tactic(auto)]
+
+ghost use Rattle.std.specs.Prelude.{All, ◌≡◌, ◌≢◌, IsSomeAnd, IfSome, IsUtf8, ◌++◌, drop, length, option_map, slice_index_or, take, unwrap_or, ⊤};
+ghost use Rattle.std.specs.declared.option.Option.TheVariants.{None};
+ghost use Rattle.bites_spec.specs.Counts.{fit_of};
+ghost use Rattle.bites_spec.specs.Captured.{FindsSpan};
+ghost use Rattle.bites_spec.specs.Found.{HasMatch, IsLeastEnd};
+ghost use Rattle.bites_spec.specs.Measure.{static_captures_len};
+ghost use Rattle.bites_spec.specs.Regex.{span_at};
+ghost use Rattle.bites_text.specs.Texts.{error_text};
+ghost use Rattle.bites_text.specs.declared.error.Error.{Error as Fault};
+ghost use Rattle.bites_text.specs.declared.error.Error.TheVariants.{Memory};
+ghost use Rattle.bites_bytes.specs.Settings.{Refuses};
+ghost use Rattle.bites_spec.specs.Expansion.{index_in};
+ghost use Rattle.bites_c.specs.Codes.{bad_span, code_of, done, not_utf8, empty_handle};
+ghost use Rattle.bites_c.specs.Made.{IsMadeBy};
+ghost use Rattle.bites_c.specs.Put.{AnswersIndex, Puts, PutsMade, PutsName, PutsNone, PutsSpan};
+ghost use Rattle.bites_c.specs.Searched.{AnswersIf, AnswersPlace, AnswersSpan, FindsNext, PutsCaptures, PutsNextCaptures, Searched, last_for_c};
+ghost use Rattle.bites_c.specs.Replaced.{LiesWithin, escaped_text, expanded_by, with_template, with_text};
+ghost use Rattle.bites_c.specs.Words.{asked};
+
+mod cache;
+mod codes;
+mod handle;
+mod make;
+mod replace;
+mod room;
+mod search;
+mod span;
+mod text;
+
+pub use cache::BitesCache;
+use codes::{DONE, EMPTY_HANDLE, MATCH, NO_MATCH, NO_MEMORY};
+pub use handle::Bites;
+pub use span::BitesSpan;
+use std::alloc::Global;
+pub use text::BitesSize;
+
+/// Makes a regex of the pattern and puts it into `out`, in the place of the one that it held.
+///
+/// The bits 1, 2, 4, 8, 16 and 32 of `flags` set the flags i, m, s, R, U and x; under 64 searches answer the longest match,
+/// and under 128 groups that the tree drops are kept. Where the answer is not 0, `out` holds none.
+#[unsafe(no_mangle)]
+pub extern "C" fn bites_new(
+    alloc: Global,
+    pattern: &[u8],
+    flags: u32,
+    size_limit: usize,
+    nest_limit: u32,
+    out: &mut Bites,
+) -> u32
+    ensures made { result ≡ done → IsSomeAnd out.new.regex
+        (IsMadeBy (asked pattern.now flags size_limit nest_limit)) }
+    ensures refused { result ≢ done → out.new.regex ≡ None }
+    ensures known { result ≢ done → result ≢ not_utf8 → (e : Fault) × (result ≡ code_of e) }
+    ensures message { (e : Fault) → result ≡ code_of e → e ≢ Memory →
+        Refuses (asked pattern.now flags size_limit nest_limit) e }
+    ensures utf8 { result ≡ not_utf8 → IsUtf8 pattern.now → ⊥ }
+{
+    *out = Bites::empty(alloc);
+    match make::regex(alloc, pattern, flags, size_limit, nest_limit) {
+        Ok(made) => {
+            *out = made;
+            DONE
+        }
+        Err(code) => code,
+    }
+}
+
+/// Frees the regex, if there is one.
+#[unsafe(no_mangle)]
+pub extern "C" fn bites_free(alloc: Global, regex: &mut Bites)
+    ensures { regex.new.regex ≡ None }
+{
+    *regex = Bites::empty(alloc);
+}
+
+/// Makes `out` hold a regex that shares the program of `regex`, in the place of the one that it held.
+///
+/// The answer is 0, 58 for want of memory, or 103 where there is no regex; where it is not 0, `out` holds none.
+#[unsafe(no_mangle)]
+pub extern "C" fn bites_clone(alloc: Global, regex: &mut Bites, out: &mut Bites) -> u32
+    ensures same { regex.new.regex ≡ regex.old.regex }
+    ensures made { result ≡ done → (out.new.regex ≡ regex.old.regex) × (out.new.regex ≢ None) }
+    ensures refused { result ≢ done → out.new.regex ≡ None }
+    ensures empty { result ≡ empty_handle → regex.old.regex ≡ None }
+    ensures known { result ≢ done → result ≢ empty_handle → result ≡ code_of Memory }
+{
+    *out = Bites::empty(alloc);
+    let Some(held) = std::mem::replace(regex, Bites::empty(alloc)).into_box() else {
+        return EMPTY_HANDLE;
+    };
+    let copy = make::copy(alloc, &held);
+    *regex = Bites::of(held);
+    match copy {
+        Some(made) => {
+            *out = made;
+            DONE
+        }
+        None => NO_MEMORY,
+    }
+}
+
+/// Makes room for searches with the regex and puts it into `out`, in the place of that which it held.
+///
+/// The answer is 0, 58 for want of memory, or 103 where there is no regex; where it is not 0, `out` holds none.
+#[unsafe(no_mangle)]
+pub extern "C" fn bites_cache_new(alloc: Global, regex: &mut Bites, out: &mut BitesCache) -> u32
+    ensures same { regex.new.regex ≡ regex.old.regex }
+    ensures made { result ≡ done → IsSomeAnd regex.old.regex (λ r.
+        IsSomeAnd out.new.room (λ c. c.fits ≡ fit_of r.program)) }
+    ensures refused { result ≢ done → out.new.room ≡ None }
+    ensures empty { result ≡ empty_handle → regex.old.regex ≡ None }
+    ensures known { result ≢ done → result ≢ empty_handle → result ≡ code_of Memory }
+{
+    *out = BitesCache::empty(alloc);
+    let Some(held) = std::mem::replace(regex, Bites::empty(alloc)).into_box() else {
+        return EMPTY_HANDLE;
+    };
+    let made = make::room(alloc, &held);
+    *regex = Bites::of(held);
+    match made {
+        Some(room) => {
+            *out = room;
+            DONE
+        }
+        None => NO_MEMORY,
+    }
+}
+
+/// Frees the room, if there is some.
+#[unsafe(no_mangle)]
+pub extern "C" fn bites_cache_free(alloc: Global, cache: &mut BitesCache)
+    ensures { cache.new.room ≡ None }
+{
+    *cache = BitesCache::empty(alloc);
+}
+
+/// Whether the regex matches at some place from `start` on; past the end nothing matches. It takes no memory.
+#[unsafe(no_mangle)]
+pub extern "C" fn bites_is_match_at(
+    alloc: Global,
+    regex: &mut Bites,
+    cache: &mut BitesCache,
+    haystack: &[u8],
+    start: usize,
+) -> u32
+    ensures same { regex.new.regex ≡ regex.old.regex }
+    ensures fits { option_map (λ c. c.fits) cache.new.room ≡ option_map (λ c. c.fits) cache.old.room }
+    ensures answered { Searched regex.old.regex cache.old.room result ⊤ (λ r.
+        AnswersIf result (HasMatch r.tree haystack.now start)) }
+{
+    match search::begin(alloc, regex, cache) {
+        Ok(mut search) => {
+            let found = search.is_match(haystack, start);
+            search.end(regex, cache);
+            if found { MATCH } else { NO_MATCH }
+        }
+        Err(code) => code,
+    }
+}
+
+/// The least end of any match that begins at a place from `start` on goes into `end`, which stays where there is none. It
+/// takes no memory.
+#[unsafe(no_mangle)]
+pub extern "C" fn bites_shortest_match_at(
+    alloc: Global,
+    regex: &mut Bites,
+    cache: &mut BitesCache,
+    haystack: &[u8],
+    start: usize,
+    end: &mut usize,
+) -> u32
+    ensures same { regex.new.regex ≡ regex.old.regex }
+    ensures fits { option_map (λ c. c.fits) cache.new.room ≡ option_map (λ c. c.fits) cache.old.room }
+    ensures answered { Searched regex.old.regex cache.old.room result (end.new ≡ end.old) (λ r.
+        AnswersPlace result end.old end.new (IsLeastEnd r.tree haystack.now start)) }
+{
+    match search::begin(alloc, regex, cache) {
+        Ok(mut search) => {
+            let found = search.shortest(haystack, start);
+            search.end(regex, cache);
+            put_end(found, end)
+        }
+        Err(code) => code,
+    }
+}
+
+/// Where the first match from `start` on begins and ends goes into `out`, which stays where there is none. It takes no
+/// memory.
+#[unsafe(no_mangle)]
+pub extern "C" fn bites_find_at(
+    alloc: Global,
+    regex: &mut Bites,
+    cache: &mut BitesCache,
+    haystack: &[u8],
+    start: usize,
+    out: &mut BitesSpan,
+) -> u32
+    ensures same { regex.new.regex ≡ regex.old.regex }
+    ensures fits { option_map (λ c. c.fits) cache.new.room ≡ option_map (λ c. c.fits) cache.old.room }
+    ensures answered { Searched regex.old.regex cache.old.room result (out.new ≡ out.old) (λ r.
+        FindsSpan r haystack.now start (span_at r haystack.now start)
+        × PutsSpan (span_at r haystack.now start) result out.old out.new) }
+{
+    match search::begin(alloc, regex, cache) {
+        Ok(mut search) => {
+            let found = search.find(haystack, start);
+            search.end(regex, cache);
+            span::put(found, out)
+        }
+        Err(code) => code,
+    }
+}
+
+/// Where the match begins and ends that is due behind one that ends at `last`, or the first of all where `last` is the
+/// greatest number, goes into `out`, which stays where there is none. It takes no memory.
+///
+/// The search goes on at `last`; an empty match there is passed over, and it goes on one character later.
+#[unsafe(no_mangle)]
+pub extern "C" fn bites_find_next(
+    alloc: Global,
+    regex: &mut Bites,
+    cache: &mut BitesCache,
+    haystack: &[u8],
+    last: usize,
+    out: &mut BitesSpan,
+) -> u32
+    ensures same { regex.new.regex ≡ regex.old.regex }
+    ensures fits { option_map (λ c. c.fits) cache.new.room ≡ option_map (λ c. c.fits) cache.old.room }
+    ensures answered { Searched regex.old.regex cache.old.room result (out.new ≡ out.old) (λ r.
+        AnswersSpan result out.old out.new (FindsNext r haystack.now (last_for_c last))) }
+{
+    match search::begin(alloc, regex, cache) {
+        Ok(mut search) => {
+            let found = search.next(haystack, span::last(last));
+            search.end(regex, cache);
+            span::put(found, out)
+        }
+        Err(code) => code,
+    }
+}
+
+/// The groups of the first match from `start` on go to the front of `groups`, which stays where there is no match: for each
+/// group where it began and ended last, or the greatest number twice where it took no part. It takes no memory.
+///
+/// The size is the number of groups; where `groups` has fewer places, the code is 105 and all stays.
+#[unsafe(no_mangle)]
+pub extern "C" fn bites_captures_at(
+    alloc: Global,
+    regex: &mut Bites,
+    cache: &mut BitesCache,
+    haystack: &[u8],
+    start: usize,
+    groups: &mut [BitesSpan],
+) -> BitesSize
+    ensures same { regex.new.regex ≡ regex.old.regex }
+    ensures fits { option_map (λ c. c.fits) cache.new.room ≡ option_map (λ c. c.fits) cache.old.room }
+    ensures answered { Searched regex.old.regex cache.old.room result.code
+        ((result.size ≡ 0) × (groups.new ≡ groups.old)) (λ r. (result.size ≡ length r.names)
+        × PutsCaptures r haystack.now start result.code groups.old groups.new) }
+{
+    match search::begin(alloc, regex, cache) {
+        Ok(mut search) => {
+            let answer = search.captures(haystack, start, groups);
+            search.end(regex, cache);
+            answer
+        }
+        Err(code) => BitesSize::refused(code),
+    }
+}
+
+/// The groups of the match that [`bites_find_next`] answers go to the front of `groups`, as [`bites_captures_at`] puts them.
+/// It takes no memory.
+#[unsafe(no_mangle)]
+pub extern "C" fn bites_captures_next(
+    alloc: Global,
+    regex: &mut Bites,
+    cache: &mut BitesCache,
+    haystack: &[u8],
+    last: usize,
+    groups: &mut [BitesSpan],
+) -> BitesSize
+    ensures same { regex.new.regex ≡ regex.old.regex }
+    ensures fits { option_map (λ c. c.fits) cache.new.room ≡ option_map (λ c. c.fits) cache.old.room }
+    ensures answered { Searched regex.old.regex cache.old.room result.code
+        ((result.size ≡ 0) × (groups.new ≡ groups.old)) (λ r. (result.size ≡ length r.names)
+        × PutsNextCaptures r haystack.now (last_for_c last) result.code groups.old groups.new) }
+{
+    match search::begin(alloc, regex, cache) {
+        Ok(mut search) => {
+            let answer = search.captures_next(haystack, span::last(last), groups);
+            search.end(regex, cache);
+            answer
+        }
+        Err(code) => BitesSize::refused(code),
+    }
+}
+
+/// Puts the place into `end`, if there is one.
+fn put_end(found: Option<usize>, end: &mut usize) -> u32
+    ensures { Puts found result end.old end.new }
+{
+    match found {
+        Some(place) => {
+            *end = place;
+            MATCH
+        }
+        None => NO_MATCH,
+    }
+}
+
+/// The number of groups, group 0 counted, and 0 where there is no regex.
+#[unsafe(no_mangle)]
+pub extern "C" fn bites_captures_len(alloc: Global, regex: &mut Bites) -> usize
+    ensures same { regex.new.regex ≡ regex.old.regex }
+    ensures len { result ≡ unwrap_or (option_map (λ r. length r.names) regex.old.regex) 0 }
+{
+    let Some(held) = std::mem::replace(regex, Bites::empty(alloc)).into_box() else {
+        return 0;
+    };
+    let len = held.captures_len();
+    *regex = Bites::of(held);
+    len
+}
+
+/// How many groups take part in every match, group 0 counted, and 0 where the form of the pattern does not say so or there
+/// is no regex.
+#[unsafe(no_mangle)]
+pub extern "C" fn bites_static_captures_len(alloc: Global, regex: &mut Bites) -> usize
+    ensures same { regex.new.regex ≡ regex.old.regex }
+    ensures len { IfSome regex.old.regex (λ r. result ≡ unwrap_or (static_captures_len r.tree) 0) }
+    ensures none { regex.old.regex ≡ None → result ≡ 0 }
+{
+    let Some(held) = std::mem::replace(regex, Bites::empty(alloc)).into_box() else {
+        return 0;
+    };
+    let len = held.static_captures_len();
+    *regex = Bites::of(held);
+    len.unwrap_or(0)
+}
+
+/// The name of the group of this number goes to the front of `out`, in UTF-8. The code is 0; 105 where it does not fit, and
+/// the size is how many bytes it has; 106 where the group has no name or there is no such group; 103 where there is no
+/// regex. Where it is not 0, `out` stays.
+#[unsafe(no_mangle)]
+pub extern "C" fn bites_group_name(
+    alloc: Global,
+    regex: &mut Bites,
+    group: usize,
+    out: &mut [u8],
+) -> BitesSize
+    ensures same { regex.new.regex ≡ regex.old.regex }
+    ensures name { IfSome regex.old.regex (λ r.
+        PutsName (slice_index_or r.names group None) result out.old out.new) }
+    ensures empty { regex.old.regex ≡ None →
+        (result.code ≡ empty_handle) × (result.size ≡ 0) × (out.new ≡ out.old) }
+{
+    let Some(held) = std::mem::replace(regex, Bites::empty(alloc)).into_box() else {
+        return BitesSize::refused(EMPTY_HANDLE);
+    };
+    let answer = text::put_name(&held, group, out);
+    *regex = Bites::of(held);
+    answer
+}
+
+/// The size is the number of the group of this name, and the code 0; it is 106 where no group has the name, and 103 where
+/// there is no regex.
+#[unsafe(no_mangle)]
+pub extern "C" fn bites_group_index(alloc: Global, regex: &mut Bites, name: &[u8]) -> BitesSize
+    ensures same { regex.new.regex ≡ regex.old.regex }
+    ensures index { IfSome regex.old.regex (λ r. AnswersIndex (index_in r.names name.now) result) }
+    ensures empty { regex.old.regex ≡ None → (result.code ≡ empty_handle) × (result.size ≡ 0) }
+{
+    let Some(held) = std::mem::replace(regex, Bites::empty(alloc)).into_box() else {
+        return BitesSize::refused(EMPTY_HANDLE);
+    };
+    let answer = text::answer_index(&held, name);
+    *regex = Bites::of(held);
+    answer
+}
+
+/// The pattern in which each character of the text stands for itself goes to the front of `out`, in UTF-8. The code is 0;
+/// 105 where it does not fit, and the size is how many bytes it has; 102 where the text is no UTF-8, and 58 for want of
+/// memory. Where it is not 0, `out` stays.
+#[unsafe(no_mangle)]
+pub extern "C" fn bites_escape(alloc: Global, text: &[u8], out: &mut [u8]) -> BitesSize
+    ensures made { IsUtf8 text.now → PutsMade (escaped_text text.now) result out.old out.new }
+    ensures utf8 { (IsUtf8 text.now → ⊥) → PutsNone not_utf8 result out.old out.new }
+{
+    text::put_escaped(alloc, text, out)
+}
+
+/// The haystack goes to the front of `out`, at most `limit` of its matches, or all for 0, replaced by what the template stands
+/// for. The code is 0; 105 where it does not fit, and the size is how many bytes it has; 103 where there is no regex, and 58
+/// for want of memory. Where it is not 0, `out` stays.
+#[unsafe(no_mangle)]
+pub extern "C" fn bites_replace(
+    alloc: Global,
+    regex: &mut Bites,
+    haystack: &[u8],
+    limit: usize,
+    template: &[u8],
+    out: &mut [u8],
+) -> BitesSize
+    ensures same { regex.new.regex ≡ regex.old.regex }
+    ensures replaced { IfSome regex.old.regex (λ r.
+        PutsMade (with_template r haystack.now limit template.now) result out.old out.new) }
+    ensures empty { regex.old.regex ≡ None → PutsNone empty_handle result out.old out.new }
+{
+    let Some(held) = std::mem::replace(regex, Bites::empty(alloc)).into_box() else {
+        return BitesSize::refused(EMPTY_HANDLE);
+    };
+    let answer = replace::put_replaced(&held, haystack, limit, template, out);
+    *regex = Bites::of(held);
+    answer
+}
+
+/// [`bites_replace`] with a text in the place of the template, in which a `$` stands for itself.
+#[unsafe(no_mangle)]
+pub extern "C" fn bites_replace_literal(
+    alloc: Global,
+    regex: &mut Bites,
+    haystack: &[u8],
+    limit: usize,
+    text: &[u8],
+    out: &mut [u8],
+) -> BitesSize
+    ensures same { regex.new.regex ≡ regex.old.regex }
+    ensures replaced { IfSome regex.old.regex (λ r.
+        PutsMade (with_text r haystack.now limit text.now) result out.old out.new) }
+    ensures empty { regex.old.regex ≡ None → PutsNone empty_handle result out.old out.new }
+{
+    let Some(held) = std::mem::replace(regex, Bites::empty(alloc)).into_box() else {
+        return BitesSize::refused(EMPTY_HANDLE);
+    };
+    let answer = replace::put_replaced_literal(&held, haystack, limit, text, out);
+    *regex = Bites::of(held);
+    answer
+}
+
+/// What the template stands for by these groups goes to the front of `out`. The code is 0; 105 where it does not fit, and the
+/// size is how many bytes it has; 107 where a group does not lie in the haystack, 103 where there is no regex, and 58 for
+/// want of memory. Where it is not 0, `out` stays.
+///
+/// A group from the last of `groups` on took no part, as one has that is the greatest number twice.
+#[unsafe(no_mangle)]
+pub extern "C" fn bites_expand(
+    alloc: Global,
+    regex: &mut Bites,
+    haystack: &[u8],
+    groups: &[BitesSpan],
+    template: &[u8],
+    out: &mut [u8],
+) -> BitesSize
+    ensures same { regex.new.regex ≡ regex.old.regex }
+    ensures made { IfSome regex.old.regex (λ r. All (LiesWithin (length haystack.now)) groups.now →
+        PutsMade (expanded_by r.names groups.now haystack.now template.now) result out.old out.new) }
+    ensures bad { IfSome regex.old.regex (λ r. (All (LiesWithin (length haystack.now)) groups.now → ⊥) →
+        PutsNone bad_span result out.old out.new) }
+    ensures empty { regex.old.regex ≡ None → PutsNone empty_handle result out.old out.new }
+{
+    let Some(held) = std::mem::replace(regex, Bites::empty(alloc)).into_box() else {
+        return BitesSize::refused(EMPTY_HANDLE);
+    };
+    let answer = replace::put_expanded(alloc, &held, haystack, groups, template, out);
+    *regex = Bites::of(held);
+    answer
+}
+
+/// Puts as much of the text of an error's number, 1 to 58, into `buf` as fits, and answers the length of the text: 0 for
+/// any other number.
+#[unsafe(no_mangle)]
+pub extern "C" fn bites_error_text(code: u32, buf: &mut [u8]) -> usize
+    ensures len { (e : Fault) → code ≡ code_of e → result ≡ length (error_text e) }
+    ensures put { (e : Fault) → code ≡ code_of e →
+        buf.new ≡ take (length buf.old) (error_text e) ++ drop (length (error_text e)) buf.old }
+    ensures none { ((e : Fault) → code ≢ code_of e) → (result ≡ 0) × (buf.new ≡ buf.old) }
+{
+    codes::put(codes::text(code).as_bytes(), buf)
+}

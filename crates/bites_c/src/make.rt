@@ -1,0 +1,111 @@
+//! Making what C holds.
+
+ghost use Rattle.std.specs.Prelude.{◌≡◌, ◌≢◌, IfOk, IfErr, IfSome, IsSomeAnd, IsUtf8};
+ghost use Rattle.std.specs.declared.option.Option.TheVariants.{Some};
+ghost use Rattle.bites_spec.specs.Counts.{fit_of};
+ghost use Rattle.bites_text.specs.declared.error.Error.{Error as Fault};
+ghost use Rattle.bites_text.specs.declared.error.Error.TheVariants.{Memory};
+ghost use Rattle.bites_bytes.specs.Settings.{Refuses};
+ghost use Rattle.bites_c.specs.Codes.{code_of, done, not_utf8};
+ghost use Rattle.bites_c.specs.Made.{IsMadeBy};
+ghost use Rattle.bites_c.specs.Words.{asked};
+
+use crate::cache::BitesCache;
+use crate::codes::{NO_MEMORY, NOT_UTF8, number};
+use crate::handle::Bites;
+use crate::room::Room;
+use bites_bytes::bytes::{Regex, RegexBuilder};
+use bites_text::error::Error;
+use std::alloc::Global;
+
+/// A regex of the pattern, on the heap, or the number of the error.
+pub(crate) fn regex(
+    alloc: Global,
+    pattern: &[u8],
+    flags: u32,
+    size_limit: usize,
+    nest_limit: u32,
+) -> Result<Bites, u32>
+    ensures made { IfOk result (λ b. IsSomeAnd b.regex
+        (IsMadeBy (asked pattern.now flags size_limit nest_limit))) }
+    ensures refused { IfErr result (λ n. n ≢ done) }
+    ensures known { IfErr result (λ n. n ≢ not_utf8 → (e : Fault) × (n ≡ code_of e)) }
+    ensures message { IfErr result (λ n. (e : Fault) → n ≡ code_of e → e ≢ Memory →
+        Refuses (asked pattern.now flags size_limit nest_limit) e) }
+    ensures utf8 { IfErr result (λ n. n ≡ not_utf8 → IsUtf8 pattern.now → ⊥) }
+{
+    let Ok(text) = str::from_utf8(pattern) else {
+        return Err(NOT_UTF8);
+    };
+    match build(alloc, text, flags, size_limit, nest_limit) {
+        Ok(regex) => match Box::new(alloc, regex) {
+            Ok(boxed) => Ok(Bites::of(boxed)),
+            Err(_) => Err(NO_MEMORY),
+        },
+        Err(error) => Err(number(error)),
+    }
+}
+
+fn build(
+    alloc: Global,
+    pattern: &str,
+    flags: u32,
+    size_limit: usize,
+    nest_limit: u32,
+) -> Result<Regex, Error>
+    ensures made { IfOk result (IsMadeBy (asked pattern.now flags size_limit nest_limit)) }
+    ensures message { IfErr result (λ e. e ≢ Memory →
+        Refuses (asked pattern.now flags size_limit nest_limit) e) }
+{
+    configured(alloc, pattern, flags, size_limit, nest_limit)?.build()
+}
+
+fn configured(
+    alloc: Global,
+    pattern: &str,
+    flags: u32,
+    size_limit: usize,
+    nest_limit: u32,
+) -> Result<RegexBuilder, Error>
+    ensures made { IfOk result (λ b. b ≡ asked pattern.now flags size_limit nest_limit) }
+    ensures refused { IfErr result (λ e. e ≡ Memory) }
+{
+    let mut builder = RegexBuilder::new(alloc, pattern)?;
+    builder.case_insensitive(flags & 1 != 0);
+    builder.multi_line(flags & 2 != 0);
+    builder.dot_matches_new_line(flags & 4 != 0);
+    builder.crlf(flags & 8 != 0);
+    builder.swap_greed(flags & 16 != 0);
+    builder.ignore_whitespace(flags & 32 != 0);
+    builder.leftmost_longest(flags & 64 != 0);
+    builder.keep_dropped_groups(flags & 128 != 0);
+    builder.size_limit(size_limit);
+    builder.nest_limit(nest_limit);
+    Ok(builder)
+}
+
+/// A regex that shares the program of this one, on the heap, where memory suffices.
+pub(crate) fn copy(alloc: Global, regex: &Regex) -> Option<Bites>
+    ensures { IfSome result (λ b. b.regex ≡ Some regex.now) }
+{
+    match regex.clone() {
+        Ok(copy) => match Box::new(alloc, copy) {
+            Ok(boxed) => Some(Bites::of(boxed)),
+            Err(_) => None,
+        },
+        Err(_) => None,
+    }
+}
+
+/// Room for searches with this regex, on the heap, where memory suffices.
+pub(crate) fn room(alloc: Global, regex: &Regex) -> Option<BitesCache>
+    ensures { IfSome result (λ c. IsSomeAnd c.room (λ r. r.fits ≡ fit_of regex.now.program)) }
+{
+    match Room::new(regex) {
+        Ok(room) => match Box::new(alloc, room) {
+            Ok(boxed) => Some(BitesCache::of(boxed)),
+            Err(_) => None,
+        },
+        Err(_) => None,
+    }
+}

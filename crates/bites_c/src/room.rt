@@ -1,0 +1,267 @@
+//! The room for searches, which C holds.
+
+ghost use Rattle.std.specs.Prelude.{◌≡◌, ◌≤◌, ◌<◌, ◌+◌, ◌/◌, ◌^◌, ◌↔◌, if◌then◌else◌, IfOk, IfSome, IsSomeAnd, IsTrue, None, Some, length, option_map, unwrap_or};
+ghost use Rattle.bites_spec.specs.Counts.{fit_of};
+ghost use Rattle.bites_spec.specs.Captured.{FindsGroups, FindsSpan};
+ghost use Rattle.bites_spec.specs.Found.{HasMatch, IsLeastEnd};
+ghost use Rattle.bites_spec.specs.Match.{span};
+ghost use Rattle.bites_spec.specs.Regex.{slots_at, span_at};
+ghost use Rattle.bites_spec.specs.Spans.{is_empty_at};
+ghost use Rattle.bites_spec.specs.Utf8.{step_len};
+ghost use Rattle.bites_c.specs.Codes.{matched, not_matched};
+ghost use Rattle.bites_c.specs.Put.{HasFront, PutsGroups};
+ghost use Rattle.bites_c.specs.Searched.{FindsNext, FindsNextGroups, PutsFound};
+
+use crate::span::BitesSpan;
+use bites_bytes::bytes::{Cache, CaptureLocations, Regex};
+use bites_text::utf8::decode_lossy;
+use std::alloc::AllocError;
+use std::marker::Model;
+
+/// The room that a regex's searches and its groups take. A contract sees which regexes it fits, and what the last search
+/// did.
+#[derive(Drop)]
+pub struct Room {
+    cache: Cache,
+    locations: CaptureLocations,
+}
+
+impl Model for Room {
+    ghost use Rattle.std.specs.Prelude.{◌≡◌, length};
+    ghost use Rattle.bites_spec.specs.Counts as spec;
+
+    ghost Value = { spec.Room };
+
+    ghost view = { λ a. a.cache };
+
+    ghost invariant = { λ a. length a.locations ≡ a.cache.fits.slots };
+}
+
+impl Room {
+    /// The room for searches with this regex. The error is want of memory.
+    pub(crate) fn new(regex: &Regex) -> Result<Room, AllocError>
+        ensures { IfOk result (λ c. c.fits ≡ fit_of regex.now.program) }
+    {
+        Ok(Room {
+            cache: regex.cache()?,
+            locations: regex.capture_locations()?,
+        })
+    }
+
+    /// Whether it is room for searches with this regex.
+    pub(crate) fn fits(&self, regex: &Regex) -> bool
+        ensures { IsTrue result ↔ (self.now.fits ≡ fit_of regex.now.program) }
+    {
+        self.cache.fits(regex)
+    }
+
+    /// Whether the pattern matches at some place from `start` on.
+    pub(crate) fn is_match(&mut self, regex: &Regex, haystack: &[u8], start: usize) -> bool
+        requires { self.old.fits ≡ fit_of regex.now.program }
+        ensures found { IsTrue result ↔ HasMatch regex.now.tree haystack.now start }
+        ensures fits { self.new.fits ≡ self.old.fits }
+    {
+        regex.is_match_at_with(&mut self.cache, haystack, start)
+    }
+
+    /// The least end of any match that begins at a place from `start` on.
+    pub(crate) fn shortest(&mut self, regex: &Regex, haystack: &[u8], start: usize) -> Option<usize>
+        requires { self.old.fits ≡ fit_of regex.now.program }
+        ensures least { IsLeastEnd regex.now.tree haystack.now start result }
+        ensures fits { self.new.fits ≡ self.old.fits }
+    {
+        regex.shortest_match_at_with(&mut self.cache, haystack, start)
+    }
+
+    /// Where the first match from `start` on begins and ends.
+    pub(crate) fn find(
+        &mut self,
+        regex: &Regex,
+        haystack: &[u8],
+        start: usize,
+    ) -> Option<(usize, usize)>
+        requires { self.old.fits ≡ fit_of regex.now.program }
+        ensures found { option_map (λ s. span s.0 s.1) result ≡ span_at regex.now haystack.now start }
+        ensures on_tree { FindsSpan regex.now haystack.now start (span_at regex.now haystack.now start) }
+        ensures lies { IfSome result (λ s. s.1 ≤ length haystack.now) }
+        ensures fits { self.new.fits ≡ self.old.fits }
+    {
+        match regex.find_at_with(&mut self.cache, haystack, start) {
+            Some(found) => Some((found.start(), found.end())),
+            None => None,
+        }
+    }
+
+    /// Where the match begins and ends that is due behind one that ends at `last`, or the first of all.
+    pub(crate) fn next(
+        &mut self,
+        regex: &Regex,
+        haystack: &[u8],
+        last: Option<usize>,
+    ) -> Option<(usize, usize)>
+        requires { self.old.fits ≡ fit_of regex.now.program }
+        ensures next { FindsNext regex.now haystack.now last (option_map (λ s. span s.0 s.1) result) }
+        ensures fits { self.new.fits ≡ self.old.fits }
+    {
+        // What every regex is: what its program answers lies in the haystack.
+        let _pattern = regex.as_str();
+        match last {
+            Some(end) => self.next_behind(regex, haystack, end),
+            None => self.find(regex, haystack, 0),
+        }
+    }
+
+    // Where the match begins and ends that is due behind one that ends at `last`.
+    fn next_behind(&mut self, regex: &Regex, haystack: &[u8], last: usize) -> Option<(usize, usize)>
+        requires { self.old.fits ≡ fit_of regex.now.program }
+        ensures next { FindsNext regex.now haystack.now (Some last) (option_map (λ s. span s.0 s.1) result) }
+        ensures fits { self.new.fits ≡ self.old.fits }
+    {
+        let _pattern = regex.as_str();
+        let found = self.find(regex, haystack, last);
+        if !is_empty_at(found, last) {
+            return found;
+        }
+        let step = step_at(haystack, last);
+        self.find(regex, haystack, last + step)
+    }
+
+    /// Puts the groups of the first match from `start` on at the front of `groups`, if there is a match.
+    pub(crate) fn captures(
+        &mut self,
+        regex: &Regex,
+        haystack: &[u8],
+        start: usize,
+        groups: &mut [BitesSpan],
+    ) -> bool
+        requires fits { self.old.fits ≡ fit_of regex.now.program }
+        requires wide { length regex.now.names ≤ length groups.old }
+        ensures put { PutsGroups (slots_at regex.now haystack.now start) (length regex.now.names)
+            (if result then matched else not_matched) groups.old groups.new }
+        ensures on_tree { FindsGroups regex.now haystack.now start (slots_at regex.now haystack.now start) }
+        ensures len { length groups.new ≡ length groups.old }
+        ensures same { self.new.fits ≡ self.old.fits }
+    {
+        // What every regex is, and what then holds of the slots that its program answers: they are those of the groups, and
+        // its tree finds them.
+        let _pattern = regex.as_str();
+        bites_spec::slots_are_found();
+        bites_spec::slots_are_groups();
+        let Some(_) = regex.captures_read_at_with(
+            &mut self.cache,
+            &mut self.locations,
+            haystack,
+            start,
+        ) else {
+            return false;
+        };
+        put_groups(&self.locations, groups);
+        true
+    }
+
+    /// The same with the groups of the match that is due behind one that ends at `last`, or of the first of all.
+    pub(crate) fn captures_next(
+        &mut self,
+        regex: &Regex,
+        haystack: &[u8],
+        last: Option<usize>,
+        groups: &mut [BitesSpan],
+    ) -> bool
+        requires fits { self.old.fits ≡ fit_of regex.now.program }
+        requires wide { length regex.now.names ≤ length groups.old }
+        ensures put { PutsFound (FindsNextGroups regex.now haystack.now last) (length regex.now.names)
+            (if result then matched else not_matched) groups.old groups.new }
+        ensures len { length groups.new ≡ length groups.old }
+        ensures same { self.new.fits ≡ self.old.fits }
+    {
+        let _pattern = regex.as_str();
+        if !read_next(regex, &mut self.cache, &mut self.locations, haystack, last) {
+            return false;
+        }
+        put_groups(&self.locations, groups);
+        true
+    }
+}
+
+// Reads the groups of the first match from `start` on, and answers where it begins and ends.
+fn read(
+    regex: &Regex,
+    cache: &mut Cache,
+    locations: &mut CaptureLocations,
+    haystack: &[u8],
+    start: usize,
+) -> Option<(usize, usize)>
+    requires cache { cache.old.fits ≡ fit_of regex.now.program }
+    requires locations { length locations.old ≡ regex.now.program.slots }
+    ensures found { option_map (λ s. span s.0 s.1) result ≡ span_at regex.now haystack.now start }
+    ensures lies { IfSome result (λ s. s.1 ≤ length haystack.now) }
+    ensures groups { locations.new ≡ unwrap_or (slots_at regex.now haystack.now start) locations.old }
+    ensures len { length locations.new ≡ length locations.old }
+    ensures fits { cache.new.fits ≡ cache.old.fits }
+{
+    let _pattern = regex.as_str();
+    bites_spec::slots_are_groups();
+    match regex.captures_read_at_with(cache, locations, haystack, start) {
+        Some(found) => Some((found.start(), found.end())),
+        None => None,
+    }
+}
+
+// Reads the groups of the match that is due behind one that ends at `last`, or of the first of all, if there is one.
+fn read_next(
+    regex: &Regex,
+    cache: &mut Cache,
+    locations: &mut CaptureLocations,
+    haystack: &[u8],
+    last: Option<usize>,
+) -> bool
+    requires cache { cache.old.fits ≡ fit_of regex.now.program }
+    requires locations { length locations.old ≡ regex.now.program.slots }
+    ensures next { FindsNextGroups regex.now haystack.now last (if result then Some locations.new else None) }
+    ensures len { length locations.new ≡ length locations.old }
+    ensures fits { cache.new.fits ≡ cache.old.fits }
+{
+    let _pattern = regex.as_str();
+    let Some(end) = last else {
+        return read(regex, cache, locations, haystack, 0).is_some();
+    };
+    let found = read(regex, cache, locations, haystack, end);
+    if !is_empty_at(found, end) {
+        return found.is_some();
+    }
+    let step = step_at(haystack, end);
+    read(regex, cache, locations, haystack, end + step).is_some()
+}
+
+// Whether the two places are both this one.
+fn is_empty_at(found: Option<(usize, usize)>, place: usize) -> bool
+    ensures empty { result ≡ is_empty_at (λ s. s) place (option_map (λ s. span s.0 s.1) found) }
+    ensures ends { IsTrue result → IsSomeAnd found (λ s. s.1 ≡ place) }
+{
+    match found {
+        Some((start, end)) => start == place && end == place,
+        None => false,
+    }
+}
+
+// How far it is to the next place: over the piece that stands here, or one byte at the end of the haystack.
+#[tactic(auto, unfolding(bites_spec::specs::Utf8::piece))]
+fn step_at(haystack: &[u8], place: usize) -> usize
+    requires { place ≤ length haystack.now }
+    ensures step { result ≡ step_len haystack.now place }
+    ensures fits { place + result < 2 ^ 64 }
+{
+    let (_, len) = decode_lossy(&haystack[place..]);
+    len.max(1)
+}
+
+// Puts the groups at the front.
+fn put_groups(locations: &CaptureLocations, groups: &mut [BitesSpan])
+    requires { length locations.now / 2 ≤ length groups.old }
+    ensures put { HasFront locations.now (length locations.now / 2) groups.old groups.new }
+    ensures len { length groups.new ≡ length groups.old }
+{
+    for group in 0..locations.len() {
+        groups[group] = BitesSpan::of(locations.get(group));
+    }
+}

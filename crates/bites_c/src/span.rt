@@ -1,0 +1,73 @@
+//! Where a match or a group begins and ends, as C reads it.
+
+ghost use Rattle.std.specs.Prelude.{◌≡◌, ◌↔◌, IsTrue, length, option_map};
+ghost use Rattle.bites_spec.specs.Match.{span};
+ghost use Rattle.bites_c.specs.Put.{PutsSpan, span_for_c};
+ghost use Rattle.bites_c.specs.Replaced.{LiesWithin, span_from_c};
+ghost use Rattle.bites_c.specs.Searched.{last_for_c};
+
+use crate::codes::{MATCH, NO_MATCH};
+
+/// Two places, in bytes from the start of the haystack; both are the greatest number where a group took no part.
+#[repr(C)]
+#[derive(Clone, Copy)]
+pub struct BitesSpan {
+    pub start: usize,
+    pub end: usize,
+}
+
+impl BitesSpan {
+    /// These two places, or the greatest number twice.
+    pub(crate) fn of(ends: Option<(usize, usize)>) -> BitesSpan
+        ensures { result ≡ span_for_c (option_map (λ s. span s.0 s.1) ends) }
+    {
+        match ends {
+            Some((start, end)) => BitesSpan { start, end },
+            None => BitesSpan {
+                start: usize::MAX,
+                end: usize::MAX,
+            },
+        }
+    }
+
+    /// Where it begins and ends, but for the greatest number twice.
+    pub(crate) fn ends(self) -> Option<(usize, usize)>
+        ensures { option_map (λ s. span s.0 s.1) result ≡ span_from_c self }
+    {
+        if self.start == usize::MAX && self.end == usize::MAX {
+            None
+        } else {
+            Some((self.start, self.end))
+        }
+    }
+
+    /// Whether it lies in the haystack, or is the greatest number twice.
+    pub(crate) fn lies_within(self, haystack: &[u8]) -> bool
+        ensures { IsTrue result ↔ LiesWithin (length haystack.now) self }
+    {
+        match self.ends() {
+            Some((start, end)) => start <= end && end <= haystack.len(),
+            None => true,
+        }
+    }
+}
+
+/// Where the match before ended, if there was one.
+pub(crate) fn last(end: usize) -> Option<usize>
+    ensures { result ≡ last_for_c end }
+{
+    if end == usize::MAX { None } else { Some(end) }
+}
+
+/// Puts the span into `out`, if there is one.
+pub(crate) fn put(found: Option<(usize, usize)>, out: &mut BitesSpan) -> u32
+    ensures { PutsSpan (option_map (λ s. span s.0 s.1) found) result out.old out.new }
+{
+    match found {
+        Some(_) => {
+            *out = BitesSpan::of(found);
+            MATCH
+        }
+        None => NO_MATCH,
+    }
+}
