@@ -35,6 +35,16 @@ pub enum Search {
     ReplaceCount,
 }
 
+impl Search {
+    /// Whether it begins at a start that is given.
+    pub fn has_start(self) -> bool {
+        matches!(
+            self,
+            Search::Is | Search::Shortest | Search::FindAt | Search::CapturesAt
+        )
+    }
+}
+
 /// What a row asks.
 #[derive(Clone, Copy)]
 pub enum Call {
@@ -44,7 +54,7 @@ pub enum Call {
 }
 
 /// Each call by its word.
-const CALLS: [(&str, Call); 20] = [
+pub const CALLS: [(&str, Call); 20] = [
     ("message", Call::Pattern(Question::Message)),
     ("tree", Call::Pattern(Question::Tree)),
     ("build", Call::Pattern(Question::Build)),

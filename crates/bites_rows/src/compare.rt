@@ -7,17 +7,17 @@ use crate::pattern::{answer, push_refusal};
 use crate::report::Report;
 use crate::rooms::Rooms;
 use crate::row::row_of;
-use crate::subject::{Subject, subject_of};
+use crate::subject::{Subject, answer_of_texts, subject_of};
 use crate::sweep::sweep;
 use crate::told::push_answer;
-use crate::{bytes, plain, texts};
+use crate::unanswered::{Unanswered, compare_unanswered};
+use crate::{bytes, plain};
 use bites_text::error::Error;
 use std::alloc::Global;
-use std::str;
 
 /// The length of the longest haystack that is searched with the switch for longest matches turned: in a longer one the
 /// plain programs are slow.
-const LONGEST_SWITCHED: usize = 24;
+const LONGEST_SWITCHED: usize = 1000;
 
 /// A comparison of rows: the report of it, and the room that searches take, which is kept from row to row.
 #[derive(Drop)]
@@ -54,6 +54,26 @@ impl Comparison {
             Call::Program(count) => self.compare_count(place, &case, count),
             Call::Search(search) => self.compare_search(place, &case, search),
         }
+    }
+
+    /// Compares all that the engine answers to a question with the layers below it and with the plain programs, and its
+    /// answers with one another. The place says where the question comes from. The report has the question too where some
+    /// of this differs.
+    pub fn unanswered(&mut self, place: &str, question: Unanswered) -> Result<(), Fault> {
+        let mut told = String::new(self.alloc);
+        question.write(&mut told)?;
+        let before = self.report.different();
+        compare_unanswered(
+            self.alloc,
+            &mut self.rooms,
+            place,
+            question,
+            &mut self.report,
+        )?;
+        if self.report.different() > before {
+            self.report.tell(place, &told)?;
+        }
+        Ok(())
     }
 
     // Compares what is answered to a question on the pattern alone.
@@ -170,15 +190,9 @@ fn told_by_engine(
     search: Search,
 ) -> Result<(bool, String), Fault> {
     let mut told = String::new(alloc);
-    if let Some(texts) = &subject.texts {
-        let text = str::from_utf8(&case.haystack).map_err(|_| Fault::NoRow)?;
-        let template = str::from_utf8(&case.template).map_err(|_| Fault::NoRow)?;
-        let regex = texts.regex(leftmost_longest);
-        let asked = texts::search::answer(alloc, regex, text, template, case.argument, search)?;
-        if let Some(answer) = asked {
-            push_answer(&mut told, &answer)?;
-            return Ok((true, told));
-        }
+    if let Some(answer) = answer_of_texts(alloc, subject, leftmost_longest, case, search)? {
+        push_answer(&mut told, &answer)?;
+        return Ok((true, told));
     }
     let regex = subject.regex(leftmost_longest);
     push_answer(

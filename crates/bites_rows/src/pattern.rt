@@ -8,7 +8,8 @@ use crate::settings::Settings;
 use crate::told::push_new;
 use crate::words::write_words;
 use crate::{bytes, texts};
-use bites_bytes::bytes::CaptureNames;
+use bites_bytes::bytes::{CaptureNames, Regex};
+use bites_machine::program::Program;
 use bites_run::run;
 use bites_syntax::parse::parse;
 use bites_syntax::tree::escape;
@@ -61,17 +62,39 @@ fn push_escaped_pattern(alloc: Global, case: &Case<'_>, text: &mut String) -> Re
     Ok(push_new(text, escaped.as_bytes())?)
 }
 
-// Adds `ok`, how many groups there are, how many take part at least, and the names of all, parted by commas.
+// Adds what a build of the pattern answers.
 fn push_build(alloc: Global, case: &Case<'_>, text: &mut String) -> Result<(), Error> {
     if case.is_text {
         let regex = texts::build::regex_of(alloc, &case.pattern, case.settings)?;
-        push_lens(text, regex.captures_len(), regex.static_captures_len())?;
-        Ok(push_names(text, regex.capture_names())?)
+        Ok(push_text_regex(&regex, text)?)
     } else {
         let regex = bytes::build::regex_of(alloc, &case.pattern, case.settings)?;
-        push_lens(text, regex.captures_len(), regex.static_captures_len())?;
-        Ok(push_names(text, regex.capture_names())?)
+        Ok(push_regex(&regex, text)?)
     }
+}
+
+/// Adds `ok`, how many groups there are, how many take part at least, and the names of all, parted by commas.
+pub fn push_regex(regex: &Regex, text: &mut String) -> Result<(), AllocError> {
+    push_lens(text, regex.captures_len(), regex.static_captures_len())?;
+    push_names(text, regex.capture_names())
+}
+
+/// Adds the same of a regex over texts.
+pub fn push_text_regex(regex: &regex_bites::Regex, text: &mut String) -> Result<(), AllocError> {
+    push_lens(text, regex.captures_len(), regex.static_captures_len())?;
+    push_names(text, regex.capture_names())
+}
+
+/// Adds the same of a program.
+pub fn push_program(program: &Program, text: &mut String) -> Result<(), AllocError> {
+    push_lens(text, program.groups(), program.static_captures_len())?;
+    let mut parting = ' ';
+    for number in 0..program.groups() {
+        text.push(parting)?;
+        push_escaped(text, program.name(number).unwrap_or("-").as_bytes())?;
+        parting = ',';
+    }
+    Ok(())
 }
 
 fn push_lens(text: &mut String, groups: usize, least: Option<usize>) -> Result<(), AllocError> {

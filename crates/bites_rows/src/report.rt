@@ -17,6 +17,9 @@ struct Tally {
 pub struct Report {
     alloc: Global,
     tallies: Vec<Tally>,
+    /// The number of the tally that was counted last: the next one is mostly that behind it.
+    last: usize,
+    different: usize,
     lines: String,
 }
 
@@ -26,6 +29,8 @@ impl Report {
         Report {
             alloc,
             tallies: Vec::new(alloc),
+            last: 0,
+            different: 0,
             lines: String::new(alloc),
         }
     }
@@ -71,15 +76,30 @@ impl Report {
         self.add(asked, kind, !agrees)
     }
 
+    /// Counts whether a law of the engine's answers holds; a line that begins with the place tells of one that does not.
+    pub fn hold(
+        &mut self,
+        asked: &str,
+        law: &str,
+        place: &str,
+        holds: bool,
+    ) -> Result<(), AllocError> {
+        if !holds {
+            let text = &mut self.lines;
+            writeln!(text, "{place}: {asked}: {law}: does not hold")?;
+        }
+        self.add(asked, law, !holds)
+    }
+
     // Adds one to the tally of this kind.
     fn add(&mut self, asked: &str, kind: &str, differs: bool) -> Result<(), AllocError> {
         let more = usize::from(differs);
-        for tally in &mut self.tallies {
-            if tally.kind.as_str() == kind && tally.asked.as_str() == asked {
-                tally.compared = tally.compared.saturating_add(1);
-                tally.different = tally.different.saturating_add(more);
-                return Ok(());
-            }
+        self.different = self.different.saturating_add(more);
+        self.last = self.number_of(asked, kind);
+        if let Some(tally) = self.tallies.get_mut(self.last) {
+            tally.compared = tally.compared.saturating_add(1);
+            tally.different = tally.different.saturating_add(more);
+            return Ok(());
         }
         self.tallies.push(Tally {
             asked: String::from_str(self.alloc, asked)?,
@@ -88,6 +108,31 @@ impl Report {
             different: more,
         })?;
         Ok(())
+    }
+
+    // The number of the tally of this kind, or how many there are if it is not among them.
+    fn number_of(&self, asked: &str, kind: &str) -> usize {
+        let count = self.tallies.len();
+        for step in 1..count.saturating_add(1) {
+            let number = self.last.wrapping_add(step).checked_rem(count).unwrap_or(0);
+            if let Some(tally) = self.tallies.get(number)
+                && tally.kind.as_str() == kind
+                && tally.asked.as_str() == asked
+            {
+                return number;
+            }
+        }
+        count
+    }
+
+    /// Adds a line that begins with the place and tells what was asked there.
+    pub fn tell(&mut self, place: &str, question: &str) -> Result<(), AllocError> {
+        writeln!(&mut self.lines, "{place}: {question}")
+    }
+
+    /// How many answers differ.
+    pub fn different(&self) -> usize {
+        self.different
     }
 
     /// Adds the tallies, and the lines of the answers that differ.
@@ -102,6 +147,6 @@ impl Report {
 
     /// Whether no answer differs.
     pub fn agrees(&self) -> bool {
-        self.lines.is_empty()
+        self.different == 0
     }
 }

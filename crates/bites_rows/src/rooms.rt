@@ -5,6 +5,9 @@ use bites_machine::program::Program;
 use bites_machine::vm;
 use std::alloc::{AllocError, Global};
 
+/// How many of a kind are kept at most: to look through more would take long.
+const MOST: usize = 1000;
+
 /// Room that is kept for all regexes and programs of one size: what it served before is to change no answer.
 #[derive(Drop)]
 pub struct Rooms {
@@ -26,10 +29,11 @@ impl Rooms {
     /// A cache that fits the regex over bytes: one that served before, or a new one.
     pub fn cache(&mut self, regex: &Regex) -> Result<&mut Cache, AllocError> {
         let known = self.bytes.iter().position(|cache| cache.fits(regex));
-        let index = known.unwrap_or(self.bytes.len());
         if known.is_none() {
+            make_room(&mut self.bytes);
             self.bytes.push(regex.cache()?)?;
         }
+        let index = known.unwrap_or(self.bytes.len().saturating_sub(1));
         self.bytes.get_mut(index).ok_or(AllocError)
     }
 
@@ -39,10 +43,11 @@ impl Rooms {
         regex: &regex_bites::Regex,
     ) -> Result<&mut regex_bites::Cache, AllocError> {
         let known = self.texts.iter().position(|cache| cache.fits(regex));
-        let index = known.unwrap_or(self.texts.len());
         if known.is_none() {
+            make_room(&mut self.texts);
             self.texts.push(regex.cache()?)?;
         }
+        let index = known.unwrap_or(self.texts.len().saturating_sub(1));
         self.texts.get_mut(index).ok_or(AllocError)
     }
 
@@ -52,10 +57,18 @@ impl Rooms {
             .machine
             .iter()
             .position(|room| room.fits_program(program));
-        let index = known.unwrap_or(self.machine.len());
         if known.is_none() {
+            make_room(&mut self.machine);
             self.machine.push(vm::Cache::new(program)?)?;
         }
+        let index = known.unwrap_or(self.machine.len().saturating_sub(1));
         self.machine.get_mut(index).ok_or(AllocError)
+    }
+}
+
+// Lets all go where as many are kept as may be.
+fn make_room<T: Drop>(kept: &mut Vec<T>) {
+    if kept.len() >= MOST {
+        kept.clear();
     }
 }

@@ -2,13 +2,15 @@
 
 use crate::fault::Fault;
 use crate::row::{Row, number_or};
-use bites_syntax::parse::Flags;
+pub use bites_syntax::parse::Flags;
+use std::alloc::AllocError;
+use std::fmt::Write;
 
 /// The size limit where a row gives none: that of the builder.
-const SIZE_LIMIT: usize = 10485760;
+pub const SIZE_LIMIT: usize = 10485760;
 
 /// The nesting limit where a row gives none: that of the builder.
-const NEST_LIMIT: usize = 50;
+pub const NEST_LIMIT: u32 = 50;
 
 /// The letters that may stand in the column of flags.
 const LETTERS: &str = "-imsURxLK";
@@ -24,13 +26,13 @@ pub struct Settings {
 }
 
 /// What the row sets.
-pub fn settings_of(row: &Row<'_>) -> Result<Settings, Fault> {
+pub(crate) fn settings_of(row: &Row<'_>) -> Result<Settings, Fault> {
     let letters = row.flags;
     if !are_known(letters) {
         return Err(Fault::NoRow);
     }
     let size_limit = number_or(SIZE_LIMIT, row.size)?;
-    let nest_limit = number_or(NEST_LIMIT, row.nest)?;
+    let nest_limit = number_or(NEST_LIMIT as usize, row.nest)?;
     Ok(Settings {
         flags: flags_of(letters),
         leftmost_longest: letters.contains('L'),
@@ -68,5 +70,27 @@ impl Settings {
             leftmost_longest,
             ..self
         }
+    }
+
+    /// Adds the columns of flags and of limits, parted by tabs: each letter that is set behind a dash, and both limits.
+    pub fn write(&self, text: &mut String) -> Result<(), AllocError> {
+        let flags = self.flags;
+        text.push('-')?;
+        for (letter, is_set) in [
+            ('i', flags.case_insensitive),
+            ('m', flags.multi_line),
+            ('s', flags.dot_matches_new_line),
+            ('R', flags.crlf),
+            ('U', flags.swap_greed),
+            ('x', flags.ignore_whitespace),
+            ('L', self.leftmost_longest),
+            ('K', self.keep_dropped_groups),
+        ] {
+            if is_set {
+                text.push(letter)?;
+            }
+        }
+        let (size, nest) = (self.size_limit, self.nest_limit);
+        write!(text, "\t{size}\t{nest}")
     }
 }

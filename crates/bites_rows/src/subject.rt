@@ -3,7 +3,10 @@
 ghost use Rattle.bites_spec.specs.Built.{IsCompilable};
 ghost use Rattle.bites_spec.specs.Measure.{HasItsGroups};
 
+use crate::answer::Answer;
+use crate::call::Search;
 use crate::case::Case;
+use crate::fault::Fault;
 use crate::settings::Settings;
 use crate::{bytes, texts};
 use bites_bytes::bytes::Regex;
@@ -13,6 +16,7 @@ use bites_syntax::parse::parse_with_groups;
 use bites_syntax::tree::Tree;
 use bites_text::error::Error;
 use std::alloc::Global;
+use std::str;
 
 /// The regexes of a pattern that answer preferred and longest matches, its tree and its program.
 #[derive(Drop)]
@@ -73,14 +77,37 @@ pub fn subject_of(alloc: Global, case: &Case<'_>) -> Result<Subject, Error> {
     })
 }
 
+/// What the regex over texts answers to the case's search; None where the case is not of texts, or its start is no border
+/// of a character.
+pub fn answer_of_texts(
+    alloc: Global,
+    subject: &Subject,
+    leftmost_longest: bool,
+    case: &Case<'_>,
+    search: Search,
+) -> Result<Option<Answer>, Fault> {
+    let Some(texts) = &subject.texts else {
+        return Ok(None);
+    };
+    let text = str::from_utf8(&case.haystack).map_err(|_| Fault::NoRow)?;
+    let template = str::from_utf8(&case.template).map_err(|_| Fault::NoRow)?;
+    let regex = texts.regex(leftmost_longest);
+    let answer = texts::search::answer(alloc, regex, text, template, case.argument, search)?;
+    Ok(answer)
+}
+
 fn texts_of(alloc: Global, case: &Case<'_>) -> Result<Texts, Error> {
     let first = texts::build::regex_of(alloc, &case.pattern, case.settings.with(false))?;
     let longest = texts::build::regex_of(alloc, &case.pattern, case.settings.with(true))?;
     Ok(Texts { first, longest })
 }
 
-// The tree and the program of the pattern.
-fn parts_of(alloc: Global, pattern: &str, settings: Settings) -> Result<(Tree, Program), Error> {
+/// The tree and the program of the pattern.
+pub fn parts_of(
+    alloc: Global,
+    pattern: &str,
+    settings: Settings,
+) -> Result<(Tree, Program), Error> {
     let (flags, nest_limit) = (settings.flags, settings.nest_limit);
     let (tree, groups) = match parse_with_groups(alloc, pattern, flags, nest_limit) {
         Ok(read) => read,

@@ -3,6 +3,7 @@
 use crate::call::{Call, Search};
 use crate::case::Case;
 use crate::machine::{finds_first, finds_least, finds_longest};
+use crate::plain::most::most_parses;
 use crate::plain::parses::parsed_from;
 use crate::plain::start::{Start, start_at};
 use crate::report::Report;
@@ -19,7 +20,10 @@ use std::str;
 const LONGEST: usize = 12;
 
 /// The length of the longest haystack in which all parses are listed: their number may double with each byte.
-const LONGEST_PARSED: usize = 4;
+const LONGEST_PARSED: usize = 8;
+
+/// The greatest number of parses, by the form of the tree, of which all are listed.
+const MOST_PARSES: usize = 10000;
 
 /// Compares all single searches of the case's haystack: from each start, but where the case asks for groups from one start,
 /// or where the haystack is long, from the case's own.
@@ -39,12 +43,25 @@ pub fn sweep(
     };
     for from in from..to {
         let start = start_at(alloc, &subject.program, &case.haystack, from)?;
-        ask_program(alloc, &subject.program, rooms, &start, place, report)?;
-        ask_bytes(subject, rooms, &start, place, report)?;
-        ask_parses(alloc, subject, &start, place, report)?;
-        if let Some(texts) = &subject.texts {
-            ask_texts(texts, rooms, &start, place, report)?;
-        }
+        sweep_from(alloc, subject, rooms, &start, place, report)?;
+    }
+    Ok(())
+}
+
+/// Compares all single searches from a start.
+pub fn sweep_from(
+    alloc: Global,
+    subject: &Subject,
+    rooms: &mut Rooms,
+    start: &Start<'_>,
+    place: &str,
+    report: &mut Report,
+) -> Result<(), AllocError> {
+    ask_program(alloc, &subject.program, rooms, start, place, report)?;
+    ask_bytes(subject, rooms, start, place, report)?;
+    ask_parses(alloc, subject, start, place, report)?;
+    if let Some(texts) = &subject.texts {
+        ask_texts(texts, rooms, start, place, report)?;
     }
     Ok(())
 }
@@ -101,8 +118,8 @@ fn ask_texts(
     longest.report(report, "from starts: texts, longest", place, start.place)
 }
 
-// Asks the regexes over bytes for the groups of the first parse, and of the first longest one, of a plain tree in a short
-// haystack.
+// Asks the regexes over bytes for the groups of the first parse, and of the first longest one, of a plain tree with few
+// parses in a short haystack.
 fn ask_parses(
     alloc: Global,
     subject: &Subject,
@@ -110,7 +127,11 @@ fn ask_parses(
     place: &str,
     report: &mut Report,
 ) -> Result<(), AllocError> {
-    if start.haystack.len() > LONGEST_PARSED || !is_plain(&subject.tree) {
+    let len = start.haystack.len();
+    if len > LONGEST_PARSED
+        || !is_plain(&subject.tree)
+        || most_parses(&subject.tree, len) > MOST_PARSES
+    {
         return Ok(());
     }
     let groups = subject.first.captures_len();

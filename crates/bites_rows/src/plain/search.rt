@@ -55,8 +55,8 @@ fn run_at(
     Ok(runs)
 }
 
-// What these runs answer.
-fn answer_by(
+/// What these runs answer.
+pub fn answer_by(
     alloc: Global,
     program: &Program,
     runs: &[Run],

@@ -1,5 +1,7 @@
 //! What the plain programs answer from a start: the first run, the longest, and the least end.
 
+use crate::answer::{Answer, span};
+use crate::call::Search;
 use bites_machine::program::Program;
 use bites_plain::run::{chosen_run, first_run, first_run_to, places, slots};
 use bites_plain::slots::group_in;
@@ -52,6 +54,30 @@ impl<'s> Wanted<'s> {
             (None, None) => true,
             _ => false,
         }
+    }
+
+    /// What is answered to a search that has a start, from this one; none to any other search.
+    pub fn answer(&self, alloc: Global, search: Search) -> Result<Option<Answer>, AllocError> {
+        Ok(Some(match search {
+            Search::Is => Answer::Whether(self.least.is_some()),
+            Search::Shortest => Answer::End(self.least),
+            Search::FindAt => span(alloc, self.group(0))?,
+            Search::CapturesAt => self.captures(alloc)?,
+            _ => return Ok(None),
+        }))
+    }
+
+    // The groups of the run, if there is one.
+    fn captures(&self, alloc: Global) -> Result<Answer, AllocError> {
+        let mut matches = Vec::new(alloc);
+        if let Some(slots) = self.slots {
+            let mut groups = Vec::new(alloc);
+            for number in 0..slots.len() / 2 {
+                groups.push(group_in(slots, number))?;
+            }
+            matches.push(groups)?;
+        }
+        Ok(Answer::Groups(matches))
     }
 
     fn group(&self, number: usize) -> Option<Span> {
