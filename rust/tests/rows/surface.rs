@@ -114,7 +114,8 @@ macro_rules! surface {
 
             fn build(regex: &Regex) -> String {
                 let least = regex.static_captures_len().map_or("-".into(), |len| len.to_string());
-                let names: Vec<_> = regex.capture_names().map(|name| name.unwrap_or("-")).collect();
+                let names = regex.capture_names().map(|name| escaped(name.unwrap_or("-").as_bytes()));
+                let names: Vec<_> = names.collect();
                 assert_eq!(names.len(), regex.capture_names().len());
                 format!("ok {} {least} {}", regex.captures_len(), names.join(","))
             }
