@@ -12,8 +12,16 @@ fn main() {
     println!("cargo:rerun-if-env-changed=RATTLE_C_DIR");
     let engine = folder("BITES_C_DIR").unwrap_or_else(of_checkout);
     let toolchain = folder("RATTLE_C_DIR").or_else(of_toolchain);
-    link("bites_c", Some(&engine), "rt lib in crates/bites_c makes it, or set BITES_C_DIR");
-    link("libc_c", toolchain.as_deref(), "set RATTLE_C_DIR to the folder c of the toolchain");
+    link(
+        "bites_c",
+        Some(&engine),
+        "rt lib in crates/bites_c makes it, or set BITES_C_DIR",
+    );
+    link(
+        "libc_c",
+        toolchain.as_deref(),
+        "set RATTLE_C_DIR to the folder c of the toolchain",
+    );
 }
 
 fn folder(variable: &str) -> Option<PathBuf> {

@@ -45,7 +45,10 @@ impl Extractor {
     fn entry(&self, line: &str) -> Option<String> {
         let captures = self.line.captures(line)?;
         let mut text = String::new();
-        captures.expand("$date $time ${host}#$number: $method $path -> $status", &mut text);
+        captures.expand(
+            "$date $time ${host}#$number: $method $path -> $status",
+            &mut text,
+        );
         let took: u64 = captures["took"].parse().ok()?;
         let users: Vec<&str> = self
             .user
@@ -53,7 +56,10 @@ impl Extractor {
             .filter_map(|user| user.name("name").map(|name| name.as_str()))
             .collect();
         let level = captures.name("level").map_or(0..0, |level| level.range());
-        Some(format!("{:<5} {text}, {took} ms, {users:?}", line[level].to_uppercase()))
+        Some(format!(
+            "{:<5} {text}, {took} ms, {users:?}",
+            line[level].to_uppercase()
+        ))
     }
 
     /// The line with its users' names hidden, and its spaces made one.
@@ -61,7 +67,9 @@ impl Extractor {
         let mut seen = 0;
         let hidden = self.user.replace_all(line, |user: &Captures<'_>| {
             seen += 1;
-            let name = user.name("name").map_or(0, |name| name.as_str().chars().count());
+            let name = user
+                .name("name")
+                .map_or(0, |name| name.as_str().chars().count());
             format!("user={}{seen}", "*".repeat(name))
         });
         self.white.replace_all(&hidden, " ").into_owned()
@@ -72,7 +80,9 @@ fn count_of_words(log: &[u8]) -> Result<BTreeMap<String, usize>, Error> {
     let word = bytes::Regex::new(r"[a-z]{3,}|\xC3")?;
     let mut counts = BTreeMap::new();
     for found in word.find_iter(log) {
-        *counts.entry(String::from_utf8_lossy(found.as_bytes()).into_owned()).or_default() += 1;
+        *counts
+            .entry(String::from_utf8_lossy(found.as_bytes()).into_owned())
+            .or_default() += 1;
     }
     counts.retain(|_, count| *count > 2);
     Ok(counts)
@@ -98,7 +108,13 @@ fn main() -> Result<(), Box<dyn std::error::Error>> {
     println!("{:?}", count_of_words(log.as_bytes())?);
     let literal = Regex::new(&escape("/caf\u{e9}?q="))?;
     println!("{:?}", literal.find(&log));
-    println!("{:?}", extractor.line.capture_names().flatten().collect::<Vec<_>>());
-    println!("{}", Regex::new(r"(\d+").expect_err("the group is left open"));
+    println!(
+        "{:?}",
+        extractor.line.capture_names().flatten().collect::<Vec<_>>()
+    );
+    println!(
+        "{}",
+        Regex::new(r"(\d+").expect_err("the group is left open")
+    );
     Ok(())
 }

@@ -90,7 +90,11 @@ impl Regex {
     /// All matches that do not overlap, from left to right.
     #[inline]
     pub fn find_iter<'r, 'h>(&'r self, haystack: &'h [u8]) -> Matches<'r, 'h> {
-        Matches { regex: self, haystack, last: sys::NONE }
+        Matches {
+            regex: self,
+            haystack,
+            last: sys::NONE,
+        }
     }
 
     /// The groups of the first match.
@@ -102,19 +106,29 @@ impl Regex {
     /// The groups of each match that [`Regex::find_iter`] hands out.
     #[inline]
     pub fn captures_iter<'r, 'h>(&'r self, haystack: &'h [u8]) -> CaptureMatches<'r, 'h> {
-        CaptureMatches { regex: self, haystack, last: sys::NONE }
+        CaptureMatches {
+            regex: self,
+            haystack,
+            last: sys::NONE,
+        }
     }
 
     /// The pieces of the haystack before, between and behind its matches, empty ones too.
     #[inline]
     pub fn split<'r, 'h>(&'r self, haystack: &'h [u8]) -> Split<'r, 'h> {
-        Split { matches: self.find_iter(haystack), rest: Some(0) }
+        Split {
+            matches: self.find_iter(haystack),
+            rest: Some(0),
+        }
     }
 
     /// [`Regex::split`] into at most `limit` pieces; the last one is all that is left.
     #[inline]
     pub fn splitn<'r, 'h>(&'r self, haystack: &'h [u8], limit: usize) -> SplitN<'r, 'h> {
-        SplitN { pieces: self.split(haystack), left: limit }
+        SplitN {
+            pieces: self.split(haystack),
+            left: limit,
+        }
     }
 
     /// The haystack with its first match replaced. It is borrowed if nothing matches.
@@ -205,7 +219,11 @@ impl Regex {
     pub fn captures_at<'h>(&self, haystack: &'h [u8], start: usize) -> Option<Captures<'h>> {
         let mut locations = self.capture_locations();
         let found = self.engine.captures_at(haystack, start, &mut locations.0);
-        found.then(|| Captures { haystack, locations, engine: Rc::clone(&self.engine) })
+        found.then(|| Captures {
+            haystack,
+            locations,
+            engine: Rc::clone(&self.engine),
+        })
     }
 
     /// The first match, whose groups go into `locs`. They stay as they were if nothing matches.
@@ -234,7 +252,10 @@ impl Regex {
         haystack: &'h [u8],
         start: usize,
     ) -> Option<Match<'h>> {
-        assert!(locs.len() >= self.captures_len(), "the locations have fewer groups than the regex");
+        assert!(
+            locs.len() >= self.captures_len(),
+            "the locations have fewer groups than the regex"
+        );
         let found = self.engine.captures_at(haystack, start, &mut locs.0);
         found.then(|| Match::new(haystack, locs.0[0]))
     }
@@ -285,7 +306,11 @@ pub struct Match<'h> {
 impl<'h> Match<'h> {
     #[inline]
     fn new(haystack: &'h [u8], span: BitesSpan) -> Match<'h> {
-        Match { haystack, start: span.start, end: span.end }
+        Match {
+            haystack,
+            start: span.start,
+            end: span.end,
+        }
     }
 
     /// Where it begins.
@@ -378,7 +403,11 @@ impl<'h> Captures<'h> {
         let len = len.expect("number of capture groups can vary in a match") - 1;
         assert_eq!(N, len, "asked for {N} groups, but must ask for {len}");
         let mut parts = self.iter().flatten().map(|part| part.as_bytes());
-        let mut next = || parts.next().expect("as many groups take part as the pattern says");
+        let mut next = || {
+            parts
+                .next()
+                .expect("as many groups take part as the pattern says")
+        };
         (next(), std::array::from_fn(|_| next()))
     }
 
@@ -386,13 +415,17 @@ impl<'h> Captures<'h> {
     /// that there is not, or that took no part, is the empty text.
     #[inline]
     pub fn expand(&self, replacement: &[u8], dst: &mut Vec<u8>) {
-        self.engine.expand(self.haystack, &self.locations.0, replacement, dst);
+        self.engine
+            .expand(self.haystack, &self.locations.0, replacement, dst);
     }
 
     /// All groups from group 0 on, nothing for one that took no part.
     #[inline]
     pub fn iter<'c>(&'c self) -> SubCaptureMatches<'c, 'h> {
-        SubCaptureMatches { captures: self, groups: 0..self.len() }
+        SubCaptureMatches {
+            captures: self,
+            groups: 0..self.len(),
+        }
     }
 
     /// The number of groups, group 0 counted.
@@ -445,7 +478,13 @@ struct ShownGroup<'h>(Match<'h>);
 
 impl fmt::Debug for ShownGroup<'_> {
     fn fmt(&self, f: &mut fmt::Formatter<'_>) -> fmt::Result {
-        write!(f, "{}..{}/{:?}", self.0.start(), self.0.end(), self.0.as_bytes())
+        write!(
+            f,
+            "{}..{}/{:?}",
+            self.0.start(),
+            self.0.end(),
+            self.0.as_bytes()
+        )
     }
 }
 
@@ -536,7 +575,11 @@ impl<'h> Iterator for CaptureMatches<'_, 'h> {
         if !engine.captures_next(self.haystack, self.last, &mut locations.0) {
             return None;
         }
-        let captures = Captures { haystack: self.haystack, locations, engine: Rc::clone(engine) };
+        let captures = Captures {
+            haystack: self.haystack,
+            locations,
+            engine: Rc::clone(engine),
+        };
         self.last = captures.whole().end;
         Some(captures)
     }
@@ -800,13 +843,18 @@ pub struct RegexBuilder {
 impl RegexBuilder {
     /// The pattern with no flag set and with the default limits.
     pub fn new(pattern: &str) -> RegexBuilder {
-        RegexBuilder { pattern: pattern.to_string(), settings: Settings::default() }
+        RegexBuilder {
+            pattern: pattern.to_string(),
+            settings: Settings::default(),
+        }
     }
 
     /// Compiles the pattern. The error says why it is refused.
     pub fn build(&self) -> Result<Regex, Error> {
         let engine = Engine::new(&self.pattern, self.settings)?;
-        Ok(Regex { engine: Rc::new(engine) })
+        Ok(Regex {
+            engine: Rc::new(engine),
+        })
     }
 
     /// Sets the flag `i`: ASCII letters match in both cases.

@@ -1,8 +1,9 @@
 //! The engine's calls, in safe Rust. All `unsafe` of this crate stands here.
 //!
-//! Two reasons hold for every call and are not told again. Its handles are borrowed exclusively while it runs, and are of
-//! one thread, since a raw pointer is neither `Send` nor `Sync`. And each pointer with a length comes from one slice, or
-//! from the spare room of one vector, which lives until the call returns, and is not null, also for an empty one.
+//! What every call asks: its handles hold what the engine put there or nothing, and are used by one call at a time on one
+//! thread, since they are borrowed exclusively and a raw pointer is neither `Send` nor `Sync`; each pointer with a length is
+//! one slice, or the spare room of one vector, which lives until the call returns and is not null, also where it is empty;
+//! and what is written to is borrowed exclusively, so that it overlaps nothing that is read.
 #![allow(unsafe_code)]
 
 use crate::error::Error;
@@ -20,7 +21,11 @@ pub(crate) struct Settings {
 
 impl Settings {
     pub(crate) fn set(&mut self, flag: u32, yes: bool) {
-        self.flags = if yes { self.flags | flag } else { self.flags & !flag };
+        self.flags = if yes {
+            self.flags | flag
+        } else {
+            self.flags & !flag
+        };
     }
 
     pub(crate) fn set_size_limit(&mut self, limit: usize) {
@@ -34,7 +39,11 @@ impl Settings {
 
 impl Default for Settings {
     fn default() -> Settings {
-        Settings { flags: 0, size_limit: sys::SIZE_LIMIT, nest_limit: sys::NEST_LIMIT }
+        Settings {
+            flags: 0,
+            size_limit: sys::SIZE_LIMIT,
+            nest_limit: sys::NEST_LIMIT,
+        }
     }
 }
 
@@ -46,7 +55,7 @@ struct Handles {
 
 impl Handles {
     fn make_cache(&mut self) {
-        // SAFETY: both handles are this one's own.
+        // SAFETY: both handles are borrowed exclusively.
         let code = unsafe { sys::bites_cache_new(&mut self.regex, &mut self.cache) };
         if code != sys::DONE {
             give_up(code);
@@ -56,7 +65,7 @@ impl Handles {
 
 impl Drop for Handles {
     fn drop(&mut self) {
-        // SAFETY: nobody uses the handles any more, and each holds what the engine put there.
+        // SAFETY: both handles are borrowed exclusively, and nobody uses them after this.
         unsafe {
             sys::bites_cache_free(&mut self.cache);
             sys::bites_free(&mut self.regex);
@@ -80,17 +89,24 @@ impl RefUnwindSafe for Engine {}
 impl Engine {
     pub(crate) fn new(pattern: &str, settings: Settings) -> Result<Engine, Error> {
         let mut regex = Bites::EMPTY;
-        let Settings { flags, size_limit, nest_limit } = settings;
+        let Settings {
+            flags,
+            size_limit,
+            nest_limit,
+        } = settings;
         let (text, len) = (pattern.as_ptr(), pattern.len());
-        // SAFETY: the handle is empty.
+        // SAFETY: the pattern is a text, and the handle an empty local.
         let code = unsafe { sys::bites_new(text, len, flags, size_limit, nest_limit, &mut regex) };
         if code != sys::DONE {
             return Err(Error::new(message(code)));
         }
-        // SAFETY: the handle holds a regex.
+        // SAFETY: the handle is a local.
         let groups = unsafe { sys::bites_captures_len(&mut regex) };
         Ok(Engine {
-            handles: RefCell::new(Handles { regex, cache: BitesCache::EMPTY }),
+            handles: RefCell::new(Handles {
+                regex,
+                cache: BitesCache::EMPTY,
+            }),
             pattern: pattern.into(),
             groups,
             names: OnceCell::new(),
@@ -107,7 +123,7 @@ impl Engine {
 
     pub(crate) fn static_captures_len(&self) -> Option<usize> {
         let regex = &mut self.handles.borrow_mut().regex;
-        // SAFETY: as for every call.
+        // SAFETY: the regex is borrowed exclusively.
         match unsafe { sys::bites_static_captures_len(regex) } {
             0 => None,
             len => Some(len),
@@ -115,13 +131,14 @@ impl Engine {
     }
 
     pub(crate) fn names(&self) -> &[Option<Box<str>>] {
-        self.names.get_or_init(|| (0..self.groups).map(|group| self.name(group)).collect())
+        self.names
+            .get_or_init(|| (0..self.groups).map(|group| self.name(group)).collect())
     }
 
     fn name(&self, group: usize) -> Option<Box<str>> {
         let regex = &mut self.handles.borrow_mut().regex;
         let mut name = Vec::new();
-        // SAFETY: as for every call.
+        // SAFETY: the regex is borrowed exclusively, and `out` and `room` are spare room.
         let code = append(&mut name, 32, |out, room| unsafe {
             sys::bites_group_name(regex, group, out, room)
         });
@@ -135,7 +152,7 @@ impl Engine {
     /// The number of the group of this name.
     pub(crate) fn index_of(&self, name: &str) -> Option<usize> {
         let regex = &mut self.handles.borrow_mut().regex;
-        // SAFETY: as for every call.
+        // SAFETY: the regex is borrowed exclusively, and the name is a text.
         let answer = unsafe { sys::bites_group_index(regex, name.as_ptr(), name.len()) };
         match answer.code {
             sys::DONE => Some(answer.size),
@@ -145,7 +162,7 @@ impl Engine {
     }
 
     pub(crate) fn is_match_at(&self, haystack: &[u8], start: usize) -> bool {
-        // SAFETY: as for every call.
+        // SAFETY: both handles are borrowed exclusively, and the haystack is a slice.
         self.search(|regex, cache| unsafe {
             sys::bites_is_match_at(regex, cache, haystack.as_ptr(), haystack.len(), start)
         })
@@ -154,7 +171,7 @@ impl Engine {
     pub(crate) fn shortest_match_at(&self, haystack: &[u8], start: usize) -> Option<usize> {
         let (text, len) = (haystack.as_ptr(), haystack.len());
         let mut end = 0;
-        // SAFETY: as for every call, and `end` is a local.
+        // SAFETY: both handles are borrowed exclusively, the haystack is a slice, and `end` a local.
         let found = self.search(|regex, cache| unsafe {
             sys::bites_shortest_match_at(regex, cache, text, len, start, &mut end)
         });
@@ -164,7 +181,7 @@ impl Engine {
     pub(crate) fn find_at(&self, haystack: &[u8], start: usize) -> Option<BitesSpan> {
         let (text, len) = (haystack.as_ptr(), haystack.len());
         let mut span = ABSENT;
-        // SAFETY: as for every call, and `span` is a local.
+        // SAFETY: both handles are borrowed exclusively, the haystack is a slice, and `span` a local.
         let found = self.search(|regex, cache| unsafe {
             sys::bites_find_at(regex, cache, text, len, start, &mut span)
         });
@@ -175,7 +192,7 @@ impl Engine {
     pub(crate) fn find_next(&self, haystack: &[u8], last: usize) -> Option<BitesSpan> {
         let (text, len) = (haystack.as_ptr(), haystack.len());
         let mut span = ABSENT;
-        // SAFETY: as for every call, and `span` is a local.
+        // SAFETY: both handles are borrowed exclusively, the haystack is a slice, and `span` a local.
         let found = self.search(|regex, cache| unsafe {
             sys::bites_find_next(regex, cache, text, len, last, &mut span)
         });
@@ -183,20 +200,30 @@ impl Engine {
     }
 
     /// Puts the groups of the first match at the front of `groups`, which stays where there is none.
-    pub(crate) fn captures_at(&self, haystack: &[u8], start: usize, groups: &mut [BitesSpan]) -> bool {
+    pub(crate) fn captures_at(
+        &self,
+        haystack: &[u8],
+        start: usize,
+        groups: &mut [BitesSpan],
+    ) -> bool {
         let (text, len) = (haystack.as_ptr(), haystack.len());
         let (places, count) = (groups.as_mut_ptr(), groups.len());
-        // SAFETY: as for every call.
+        // SAFETY: both handles are borrowed exclusively, and both pointers are of slices.
         self.search(|regex, cache| unsafe {
             sys::bites_captures_at(regex, cache, text, len, start, places, count).code
         })
     }
 
     /// The same of the match that is due behind one that ends at `last`.
-    pub(crate) fn captures_next(&self, haystack: &[u8], last: usize, groups: &mut [BitesSpan]) -> bool {
+    pub(crate) fn captures_next(
+        &self,
+        haystack: &[u8],
+        last: usize,
+        groups: &mut [BitesSpan],
+    ) -> bool {
         let (text, len) = (haystack.as_ptr(), haystack.len());
         let (places, count) = (groups.as_mut_ptr(), groups.len());
-        // SAFETY: as for every call.
+        // SAFETY: both handles are borrowed exclusively, and both pointers are of slices.
         self.search(|regex, cache| unsafe {
             sys::bites_captures_next(regex, cache, text, len, last, places, count).code
         })
@@ -220,12 +247,22 @@ impl Engine {
 
     /// The haystack with its first `limit` matches replaced by what the template stands for, or all for 0; nothing where
     /// nothing matches.
-    pub(crate) fn replace(&self, haystack: &[u8], limit: usize, template: &[u8]) -> Option<Vec<u8>> {
+    pub(crate) fn replace(
+        &self,
+        haystack: &[u8],
+        limit: usize,
+        template: &[u8],
+    ) -> Option<Vec<u8>> {
         self.replace_by(sys::bites_replace, haystack, limit, template)
     }
 
     /// The same by a text that stands for itself.
-    pub(crate) fn replace_literal(&self, haystack: &[u8], limit: usize, text: &[u8]) -> Option<Vec<u8>> {
+    pub(crate) fn replace_literal(
+        &self,
+        haystack: &[u8],
+        limit: usize,
+        text: &[u8],
+    ) -> Option<Vec<u8>> {
         self.replace_by(sys::bites_replace_literal, haystack, limit, text)
     }
 
@@ -236,28 +273,36 @@ impl Engine {
         limit: usize,
         template: &[u8],
     ) -> Option<Vec<u8>> {
+        if !self.is_match_at(haystack, 0) {
+            return None;
+        }
         let regex = &mut self.handles.borrow_mut().regex;
         let (text, len) = (haystack.as_ptr(), haystack.len());
         let (by, by_len) = (template.as_ptr(), template.len());
         let mut new = Vec::new();
-        // SAFETY: as for every call.
+        // SAFETY: the regex is borrowed exclusively, two pointers are of slices, and the last of spare room.
         let code = append(&mut new, len + len / 2 + by_len, |out, room| unsafe {
             call(regex, text, len, limit, by, by_len, out, room)
         });
         match code {
-            sys::MATCH => Some(new),
-            sys::NO_MATCH => None,
+            sys::DONE => Some(new),
             code => give_up(code),
         }
     }
 
     /// Appends what the template stands for at a match with these groups.
-    pub(crate) fn expand(&self, haystack: &[u8], groups: &[BitesSpan], template: &[u8], to: &mut Vec<u8>) {
+    pub(crate) fn expand(
+        &self,
+        haystack: &[u8],
+        groups: &[BitesSpan],
+        template: &[u8],
+        to: &mut Vec<u8>,
+    ) {
         let regex = &mut self.handles.borrow_mut().regex;
         let (text, len) = (haystack.as_ptr(), haystack.len());
         let (places, count) = (groups.as_ptr(), groups.len());
         let (by, by_len) = (template.as_ptr(), template.len());
-        // SAFETY: as for every call.
+        // SAFETY: the regex is borrowed exclusively, three pointers are of slices, and the last of spare room.
         let code = append(to, by_len + 32, |out, room| unsafe {
             sys::bites_expand(regex, text, len, places, count, by, by_len, out, room)
         });
@@ -268,7 +313,10 @@ impl Engine {
 }
 
 /// A group that took no part.
-pub(crate) const ABSENT: BitesSpan = BitesSpan { start: sys::NONE, end: sys::NONE };
+pub(crate) const ABSENT: BitesSpan = BitesSpan {
+    start: sys::NONE,
+    end: sys::NONE,
+};
 
 type ReplaceCall = unsafe extern "C" fn(
     *mut Bites,
@@ -284,7 +332,7 @@ type ReplaceCall = unsafe extern "C" fn(
 /// The text with a backslash before each special character.
 pub(crate) fn escape(text: &str) -> String {
     let mut escaped = Vec::new();
-    // SAFETY: as for every call.
+    // SAFETY: the text is a slice, and `out` and `room` are spare room.
     let code = append(&mut escaped, 2 * text.len(), |out, room| unsafe {
         sys::bites_escape(text.as_ptr(), text.len(), out, room)
     });
@@ -304,7 +352,7 @@ fn append(to: &mut Vec<u8>, room: usize, mut ask: impl FnMut(*mut u8, usize) -> 
         match code {
             sys::TOO_SMALL => to.reserve(size),
             // SAFETY: the call filled so many bytes of the spare room.
-            sys::DONE | sys::MATCH => unsafe { to.set_len(to.len() + size) },
+            sys::DONE => unsafe { to.set_len(to.len() + size) },
             _ => {}
         }
         if code != sys::TOO_SMALL {
@@ -316,10 +364,10 @@ fn append(to: &mut Vec<u8>, room: usize, mut ask: impl FnMut(*mut u8, usize) -> 
 /// The text of an error's number.
 fn message(code: u32) -> String {
     let mut text = Vec::new();
-    // SAFETY: as for every call; it answers the length of the whole text.
+    // SAFETY: nothing is written where the length is 0.
     let len = unsafe { sys::bites_error_text(code, text.as_mut_ptr(), 0) };
     text.resize(len, 0);
-    // SAFETY: as for every call.
+    // SAFETY: the pointer is of a vector of this length.
     unsafe { sys::bites_error_text(code, text.as_mut_ptr(), len) };
     text_of(text)
 }

@@ -10,7 +10,9 @@ pub struct Error {
 
 impl Error {
     pub(crate) fn new(text: String) -> Error {
-        Error { msg: text.into_boxed_str() }
+        Error {
+            msg: text.into_boxed_str(),
+        }
     }
 }
 

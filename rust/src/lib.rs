@@ -1,4 +1,4 @@
-//! The Rust crate regex-bites over a proved engine.
+#![doc = include_str!("../README.md")]
 #![deny(missing_docs, unsafe_code, rustdoc::broken_intra_doc_links)]
 #![warn(missing_debug_implementations)]
 
@@ -11,7 +11,11 @@ mod sys;
 pub use error::Error;
 pub use string::*;
 
-/// The text with a backslash before each special character, so that the pattern matches the text itself.
+/// The pattern that matches this text and nothing else: a backslash stands before each special character.
+///
+/// ```
+/// assert_eq!(r"1\+1", regex_bites::escape("1+1"));
+/// ```
 pub fn escape(pattern: &str) -> String {
     engine::escape(pattern)
 }

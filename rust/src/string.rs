@@ -75,7 +75,11 @@ impl Regex {
     /// All matches that do not overlap, from left to right.
     #[inline]
     pub fn find_iter<'r, 'h>(&'r self, haystack: &'h str) -> Matches<'r, 'h> {
-        Matches { regex: self, haystack, last: sys::NONE }
+        Matches {
+            regex: self,
+            haystack,
+            last: sys::NONE,
+        }
     }
 
     /// The groups of the first match.
@@ -87,19 +91,29 @@ impl Regex {
     /// The groups of each match that [`Regex::find_iter`] hands out.
     #[inline]
     pub fn captures_iter<'r, 'h>(&'r self, haystack: &'h str) -> CaptureMatches<'r, 'h> {
-        CaptureMatches { regex: self, haystack, last: sys::NONE }
+        CaptureMatches {
+            regex: self,
+            haystack,
+            last: sys::NONE,
+        }
     }
 
     /// The pieces of the haystack before, between and behind its matches, empty ones too.
     #[inline]
     pub fn split<'r, 'h>(&'r self, haystack: &'h str) -> Split<'r, 'h> {
-        Split { matches: self.find_iter(haystack), rest: Some(0) }
+        Split {
+            matches: self.find_iter(haystack),
+            rest: Some(0),
+        }
     }
 
     /// [`Regex::split`] into at most `limit` pieces; the last one is all that is left.
     #[inline]
     pub fn splitn<'r, 'h>(&'r self, haystack: &'h str, limit: usize) -> SplitN<'r, 'h> {
-        SplitN { pieces: self.split(haystack), left: limit }
+        SplitN {
+            pieces: self.split(haystack),
+            left: limit,
+        }
     }
 
     /// The haystack with its first match replaced. It is borrowed if nothing matches.
@@ -123,11 +137,15 @@ impl Regex {
         mut rep: R,
     ) -> Cow<'h, str> {
         if let Some(literal) = rep.no_expansion() {
-            let new = self.engine.replace_literal(haystack.as_bytes(), limit, literal.as_bytes());
+            let new = self
+                .engine
+                .replace_literal(haystack.as_bytes(), limit, literal.as_bytes());
             return new.map_or(Cow::Borrowed(haystack), |new| Cow::Owned(text_of(new)));
         }
         if let Some(template) = rep.template() {
-            let new = self.engine.replace(haystack.as_bytes(), limit, template.as_bytes());
+            let new = self
+                .engine
+                .replace(haystack.as_bytes(), limit, template.as_bytes());
             return new.map_or(Cow::Borrowed(haystack), |new| Cow::Owned(text_of(new)));
         }
         self.replace_by(haystack, limit, &mut rep)
@@ -192,8 +210,14 @@ impl Regex {
     #[inline]
     pub fn captures_at<'h>(&self, haystack: &'h str, start: usize) -> Option<Captures<'h>> {
         let mut locations = self.capture_locations();
-        let found = self.engine.captures_at(haystack.as_bytes(), start, &mut locations.0);
-        found.then(|| Captures { haystack, locations, engine: Rc::clone(&self.engine) })
+        let found = self
+            .engine
+            .captures_at(haystack.as_bytes(), start, &mut locations.0);
+        found.then(|| Captures {
+            haystack,
+            locations,
+            engine: Rc::clone(&self.engine),
+        })
     }
 
     /// The first match, whose groups go into `locs`. They stay as they were if nothing matches.
@@ -222,8 +246,13 @@ impl Regex {
         haystack: &'h str,
         start: usize,
     ) -> Option<Match<'h>> {
-        assert!(locs.len() >= self.captures_len(), "the locations have fewer groups than the regex");
-        let found = self.engine.captures_at(haystack.as_bytes(), start, &mut locs.0);
+        assert!(
+            locs.len() >= self.captures_len(),
+            "the locations have fewer groups than the regex"
+        );
+        let found = self
+            .engine
+            .captures_at(haystack.as_bytes(), start, &mut locs.0);
         found.then(|| Match::new(haystack, locs.0[0]))
     }
 }
@@ -273,7 +302,11 @@ pub struct Match<'h> {
 impl<'h> Match<'h> {
     #[inline]
     fn new(haystack: &'h str, span: BitesSpan) -> Match<'h> {
-        Match { haystack, start: span.start, end: span.end }
+        Match {
+            haystack,
+            start: span.start,
+            end: span.end,
+        }
     }
 
     /// Where it begins.
@@ -370,7 +403,11 @@ impl<'h> Captures<'h> {
         let len = len.expect("number of capture groups can vary in a match") - 1;
         assert_eq!(N, len, "asked for {N} groups, but must ask for {len}");
         let mut parts = self.iter().flatten().map(|part| part.as_str());
-        let mut next = || parts.next().expect("as many groups take part as the pattern says");
+        let mut next = || {
+            parts
+                .next()
+                .expect("as many groups take part as the pattern says")
+        };
         (next(), std::array::from_fn(|_| next()))
     }
 
@@ -384,14 +421,18 @@ impl<'h> Captures<'h> {
     pub fn expand(&self, replacement: &str, dst: &mut String) {
         let (haystack, groups) = (self.haystack.as_bytes(), &self.locations.0);
         let mut new = Vec::new();
-        self.engine.expand(haystack, groups, replacement.as_bytes(), &mut new);
+        self.engine
+            .expand(haystack, groups, replacement.as_bytes(), &mut new);
         dst.push_str(&text_of(new));
     }
 
     /// All groups from group 0 on, nothing for one that took no part.
     #[inline]
     pub fn iter<'c>(&'c self) -> SubCaptureMatches<'c, 'h> {
-        SubCaptureMatches { captures: self, groups: 0..self.len() }
+        SubCaptureMatches {
+            captures: self,
+            groups: 0..self.len(),
+        }
     }
 
     /// The number of groups, group 0 counted.
@@ -444,7 +485,13 @@ struct ShownGroup<'h>(Match<'h>);
 
 impl fmt::Debug for ShownGroup<'_> {
     fn fmt(&self, f: &mut fmt::Formatter<'_>) -> fmt::Result {
-        write!(f, "{}..{}/{:?}", self.0.start(), self.0.end(), self.0.as_str())
+        write!(
+            f,
+            "{}..{}/{:?}",
+            self.0.start(),
+            self.0.end(),
+            self.0.as_str()
+        )
     }
 }
 
@@ -509,7 +556,10 @@ impl<'h> Iterator for Matches<'_, 'h> {
 
     #[inline]
     fn next(&mut self) -> Option<Match<'h>> {
-        let span = self.regex.engine.find_next(self.haystack.as_bytes(), self.last)?;
+        let span = self
+            .regex
+            .engine
+            .find_next(self.haystack.as_bytes(), self.last)?;
         self.last = span.end;
         Some(Match::new(self.haystack, span))
     }
@@ -535,7 +585,11 @@ impl<'h> Iterator for CaptureMatches<'_, 'h> {
         if !engine.captures_next(self.haystack.as_bytes(), self.last, &mut locations.0) {
             return None;
         }
-        let captures = Captures { haystack: self.haystack, locations, engine: Rc::clone(engine) };
+        let captures = Captures {
+            haystack: self.haystack,
+            locations,
+            engine: Rc::clone(engine),
+        };
         self.last = captures.whole().end;
         Some(captures)
     }
@@ -799,13 +853,18 @@ pub struct RegexBuilder {
 impl RegexBuilder {
     /// The pattern with no flag set and with the default limits.
     pub fn new(pattern: &str) -> RegexBuilder {
-        RegexBuilder { pattern: pattern.to_string(), settings: Settings::default() }
+        RegexBuilder {
+            pattern: pattern.to_string(),
+            settings: Settings::default(),
+        }
     }
 
     /// Compiles the pattern. The error says why it is refused.
     pub fn build(&self) -> Result<Regex, Error> {
         let engine = Engine::new(&self.pattern, self.settings)?;
-        Ok(Regex { engine: Rc::new(engine) })
+        Ok(Regex {
+            engine: Rc::new(engine),
+        })
     }
 
     /// Sets the flag `i`: ASCII letters match in both cases.

@@ -32,7 +32,9 @@ pub(crate) struct Bites {
 }
 
 impl Bites {
-    pub(crate) const EMPTY: Bites = Bites { at: ptr::null_mut() };
+    pub(crate) const EMPTY: Bites = Bites {
+        at: ptr::null_mut(),
+    };
 }
 
 /// `bites_cache`: the room that searches take, or nothing.
@@ -42,7 +44,9 @@ pub(crate) struct BitesCache {
 }
 
 impl BitesCache {
-    pub(crate) const EMPTY: BitesCache = BitesCache { at: ptr::null_mut() };
+    pub(crate) const EMPTY: BitesCache = BitesCache {
+        at: ptr::null_mut(),
+    };
 }
 
 /// `bites_span`: where a match or a group begins and ends.

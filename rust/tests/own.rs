@@ -32,7 +32,10 @@ fn groups_that_are_repeated_0_times_may_be_kept() {
         let names = regex.capture_names().map(|name| name.map(String::from));
         names.collect::<Vec<_>>()
     };
-    assert_eq!(names(builder.keep_dropped_groups(true)), [None, Some("a".into()), Some("b".into())]);
+    assert_eq!(
+        names(builder.keep_dropped_groups(true)),
+        [None, Some("a".into()), Some("b".into())]
+    );
 }
 
 /// Locations of another regex are the caller's fault, and do no harm.
@@ -48,10 +51,14 @@ fn locations_with_too_few_groups_are_refused() {
 #[test]
 fn a_start_within_a_character_hands_out_no_text() {
     let regex = Regex::new(".").expect("accepted");
-    let found = regex.find_at("☃", 1).expect("a match of what is no character");
+    let found = regex
+        .find_at("☃", 1)
+        .expect("a match of what is no character");
     assert_eq!(found.range(), 1..2);
     assert!(std::panic::catch_unwind(|| found.as_str()).is_err());
-    let captures = regex.captures_at("☃", 1).expect("a match of what is no character");
+    let captures = regex
+        .captures_at("☃", 1)
+        .expect("a match of what is no character");
     let expanded = std::panic::AssertUnwindSafe(|| captures.expand("$0", &mut String::new()));
     assert!(std::panic::catch_unwind(expanded).is_err());
 }

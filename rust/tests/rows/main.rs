@@ -40,7 +40,15 @@ impl Report {
             self.compare("bytes", row, surface::over_bytes(row, pattern));
         }
         if let Some(answers) = surface::over_texts(row, pattern) {
-            self.compare(if over_texts { "texts" } else { "texts, of bytes" }, row, answers);
+            self.compare(
+                if over_texts {
+                    "texts"
+                } else {
+                    "texts, of bytes"
+                },
+                row,
+                answers,
+            );
         }
     }
 
@@ -50,10 +58,16 @@ impl Report {
 
     /// Every way to ask a row must give the wanted answer.
     fn compare(&mut self, surface: &str, row: &Row, answers: Vec<String>) {
-        *self.asked.entry(format!("{surface}: {}", row.call)).or_default() += 1;
+        *self
+            .asked
+            .entry(format!("{surface}: {}", row.call))
+            .or_default() += 1;
         if let Some(other) = answers.iter().find(|answer| **answer != row.wanted) {
             self.wrong += 1;
-            println!("{}: over {surface}: wanted {}, but got {other}", row.place, row.wanted);
+            println!(
+                "{}: over {surface}: wanted {}, but got {other}",
+                row.place, row.wanted
+            );
         }
     }
 
@@ -70,14 +84,19 @@ impl Report {
 fn tables() -> Vec<PathBuf> {
     let folder = Path::new(env!("CARGO_MANIFEST_DIR")).join("../crates/bites_answers/data");
     let entries = fs::read_dir(&folder).expect("the folder of the tables can be read");
-    let mut paths: Vec<_> = entries.map(|entry| entry.expect("an entry").path()).collect();
+    let mut paths: Vec<_> = entries
+        .map(|entry| entry.expect("an entry").path())
+        .collect();
     paths.retain(|path| path.extension().is_some_and(|extension| extension == "tsv"));
     paths.sort();
     paths
 }
 
 fn main() -> ExitCode {
-    let every = env::args().skip(1).find_map(|word| word.parse().ok()).unwrap_or(1);
+    let every = env::args()
+        .skip(1)
+        .find_map(|word| word.parse().ok())
+        .unwrap_or(1);
     let mut report = Report::default();
     for path in tables() {
         for row in row::read(&path).iter().step_by(every) {
@@ -86,6 +105,10 @@ fn main() -> ExitCode {
     }
     report.print();
     let asked: usize = report.asked.values().sum();
-    println!("test result: {} passed; {} failed", asked - report.wrong, report.wrong);
+    println!(
+        "test result: {} passed; {} failed",
+        asked - report.wrong,
+        report.wrong
+    );
     ExitCode::from(u8::from(report.wrong > 0 || asked == 0))
 }

@@ -23,10 +23,15 @@ pub struct Row {
 /// All rows of a table.
 pub fn read(path: &Path) -> Vec<Row> {
     let table = fs::read_to_string(path).expect("a table can be read");
-    let name = path.file_name().expect("a table has a name").to_string_lossy().into_owned();
+    let name = path
+        .file_name()
+        .expect("a table has a name")
+        .to_string_lossy()
+        .into_owned();
     let lines = table.lines().enumerate();
     let rows = lines.filter(|(_, line)| !line.is_empty() && !line.starts_with('#'));
-    rows.map(|(number, line)| row(format!("{name}:{}", number + 1), line)).collect()
+    rows.map(|(number, line)| row(format!("{name}:{}", number + 1), line))
+        .collect()
 }
 
 fn row(place: String, line: &str) -> Row {
