@@ -139,9 +139,11 @@ impl Engine {
         let regex = &mut self.handles.borrow_mut().regex;
         let mut name = Vec::new();
         // SAFETY: the regex is borrowed exclusively, and `out` and `room` are spare room.
-        let code = append(&mut name, 32, |out, room| unsafe {
-            sys::bites_group_name(regex, group, out, room)
-        });
+        let code = unsafe {
+            append(&mut name, 32, |out, room| {
+                sys::bites_group_name(regex, group, out, room)
+            })
+        };
         match code {
             sys::DONE => Some(text_of(name).into_boxed_str()),
             sys::NO_NAME => None,
@@ -281,9 +283,11 @@ impl Engine {
         let (by, by_len) = (template.as_ptr(), template.len());
         let mut new = Vec::new();
         // SAFETY: the regex is borrowed exclusively, two pointers are of slices, and the last of spare room.
-        let code = append(&mut new, len + len / 2 + by_len, |out, room| unsafe {
-            call(regex, text, len, limit, by, by_len, out, room)
-        });
+        let code = unsafe {
+            append(&mut new, len + len / 2 + by_len, |out, room| {
+                call(regex, text, len, limit, by, by_len, out, room)
+            })
+        };
         match code {
             sys::DONE => Some(new),
             code => give_up(code),
@@ -303,9 +307,11 @@ impl Engine {
         let (places, count) = (groups.as_ptr(), groups.len());
         let (by, by_len) = (template.as_ptr(), template.len());
         // SAFETY: the regex is borrowed exclusively, three pointers are of slices, and the last of spare room.
-        let code = append(to, by_len + 32, |out, room| unsafe {
-            sys::bites_expand(regex, text, len, places, count, by, by_len, out, room)
-        });
+        let code = unsafe {
+            append(to, by_len + 32, |out, room| {
+                sys::bites_expand(regex, text, len, places, count, by, by_len, out, room)
+            })
+        };
         if code != sys::DONE {
             give_up(code);
         }
@@ -333,9 +339,11 @@ type ReplaceCall = unsafe extern "C" fn(
 pub(crate) fn escape(text: &str) -> String {
     let mut escaped = Vec::new();
     // SAFETY: the text is a slice, and `out` and `room` are spare room.
-    let code = append(&mut escaped, 2 * text.len(), |out, room| unsafe {
-        sys::bites_escape(text.as_ptr(), text.len(), out, room)
-    });
+    let code = unsafe {
+        append(&mut escaped, 2 * text.len(), |out, room| {
+            sys::bites_escape(text.as_ptr(), text.len(), out, room)
+        })
+    };
     if code != sys::DONE {
         give_up(code);
     }
@@ -343,20 +351,27 @@ pub(crate) fn escape(text: &str) -> String {
 }
 
 /// Appends what a call of the engine writes, into at least so much room, and once more where the call asks for more.
-/// What it answers for is how many bytes it wrote, where it neither asks for room nor refuses.
-fn append(to: &mut Vec<u8>, room: usize, mut ask: impl FnMut(*mut u8, usize) -> BitesSize) -> u32 {
+///
+/// # Safety
+///
+/// Where the call answers [`sys::DONE`], it wrote as many bytes as it says.
+unsafe fn append(
+    to: &mut Vec<u8>,
+    room: usize,
+    mut ask: impl FnMut(*mut u8, usize) -> BitesSize,
+) -> u32 {
     to.reserve(room);
     loop {
         let spare = to.spare_capacity_mut();
         let BitesSize { code, size } = ask(spare.as_mut_ptr().cast(), spare.len());
         match code {
             sys::TOO_SMALL => to.reserve(size),
-            // SAFETY: the call filled so many bytes of the spare room.
-            sys::DONE => unsafe { to.set_len(to.len() + size) },
-            _ => {}
-        }
-        if code != sys::TOO_SMALL {
-            return code;
+            sys::DONE => {
+                // SAFETY: so many bytes of the spare room are written.
+                unsafe { to.set_len(to.len() + size) };
+                return code;
+            }
+            code => return code,
         }
     }
 }
