@@ -22,11 +22,12 @@ enum {
     BITES_NO_MEMORY = 58,
     BITES_MATCH = 100,
     BITES_NO_MATCH = 101,
-    BITES_NOT_UTF8 = 102,     /* the pattern is no UTF-8 */
+    BITES_NOT_UTF8 = 102,     /* the pattern or the text is no UTF-8 */
     BITES_EMPTY_HANDLE = 103, /* a handle holds nothing */
     BITES_UNFIT_CACHE = 104,  /* the cache was made for a regex of another size */
     BITES_TOO_SMALL = 105,    /* what the caller gave has too few places; it stays as it was */
-    BITES_NO_NAME = 106       /* there is no such group, or it has no name */
+    BITES_NO_NAME = 106,      /* there is no such group, or it has no name; or no group has the name */
+    BITES_BAD_SPAN = 107      /* a span does not lie in the haystack */
 };
 
 /* Flags of bites_new, which may be added up. */
@@ -87,6 +88,9 @@ uint32_t bites_find_next(bites *regex, bites_cache *cache, const uint8_t *haysta
  * code is BITES_TOO_SMALL. Places behind the last group stay. */
 bites_size bites_captures_at(bites *regex, bites_cache *cache, const uint8_t *haystack, size_t len, size_t start, bites_span *groups, size_t count);
 
+/* The groups of the match that bites_find_next answers, as bites_captures_at puts them. */
+bites_size bites_captures_next(bites *regex, bites_cache *cache, const uint8_t *haystack, size_t len, size_t last, bites_span *groups, size_t count);
+
 /* The number of groups, group 0 counted; 0 for an empty handle. */
 size_t bites_captures_len(bites *regex);
 
@@ -96,6 +100,28 @@ size_t bites_static_captures_len(bites *regex);
 /* Puts the name of the group of this number into `name`, in UTF-8 with no NUL. `size` is how many bytes it has; where `len` is
  * less, the code is BITES_TOO_SMALL, so a call with `len` 0 asks for the size. */
 bites_size bites_group_name(bites *regex, size_t group, uint8_t *name, size_t len);
+
+/* `size` is the number of the group of this name, where the code is BITES_DONE; else the code is BITES_NO_NAME or
+ * BITES_EMPTY_HANDLE. */
+bites_size bites_group_index(bites *regex, const uint8_t *name, size_t len);
+
+/* The calls below put a text into `out`, with no NUL. `size` is how many bytes it has; where `room` is less, the code is
+ * BITES_TOO_SMALL and `out` stays, so a call with `room` 0 asks for the size. They take memory, and may answer
+ * BITES_NO_MEMORY. */
+
+/* The pattern in which each character of the text stands for itself; BITES_NOT_UTF8 where the text is no UTF-8. */
+bites_size bites_escape(const uint8_t *text, size_t len, uint8_t *out, size_t room);
+
+/* The haystack, at most `limit` of its matches, or all for 0, replaced by what the template stands for: $name and ${name} are
+ * what the group of that name or number matched, $$ is a $, and all else stands for itself. */
+bites_size bites_replace(bites *regex, const uint8_t *haystack, size_t len, size_t limit, const uint8_t *template_text, size_t template_len, uint8_t *out, size_t room);
+
+/* The same with a text in the place of the template. */
+bites_size bites_replace_literal(bites *regex, const uint8_t *haystack, size_t len, size_t limit, const uint8_t *text, size_t text_len, uint8_t *out, size_t room);
+
+/* What the template stands for by these groups of the regex in the haystack; a group from `count` on took no part. A span that
+ * is not BITES_NONE twice and does not lie in the haystack is BITES_BAD_SPAN. */
+bites_size bites_expand(bites *regex, const uint8_t *haystack, size_t len, const bites_span *groups, size_t count, const uint8_t *template_text, size_t template_len, uint8_t *out, size_t room);
 
 /* Puts as much of the text of an error's number, 1 to 58, into `text` as fits, with no NUL, and answers its length: 0 for
  * any other number. */

@@ -8,6 +8,11 @@
 #define LIMITS BITES_SIZE_LIMIT, BITES_NEST_LIMIT
 #define CHECK(holds) ((holds) ? (void)0 : wrong(#holds, __LINE__))
 
+/* what the archive takes these types to be */
+_Static_assert(sizeof(bites) == sizeof(void *) && sizeof(bites_cache) == sizeof(void *), "a handle is a pointer");
+_Static_assert(sizeof(bites_span) == 16 && offsetof(bites_span, end) == 8, "a span is two places");
+_Static_assert(sizeof(bites_size) == 16 && offsetof(bites_size, size) == 8, "a code, and a size behind it");
+
 static void wrong(const char *what, int line) {
     fprintf(stderr, "check.c:%d: not so: %s\n", line, what);
     exit(1);
@@ -77,6 +82,88 @@ static void names(void) {
     bites_free(&regex);
 }
 
+/* the groups of all matches of ([a-z])(x)? in "axb": a with x, then b without */
+static void groups_in_turn(void) {
+    bites regex = {0};
+    bites_cache cache = {0};
+    bites_span groups[3] = {{7, 7}, {7, 7}, {7, 7}};
+    CHECK(bites_captures_next(&regex, &cache, BYTES("axb"), BITES_NONE, groups, 3).code == BITES_EMPTY_HANDLE);
+    CHECK(bites_new(BYTES("([a-z])(x)?"), 0, LIMITS, &regex) == BITES_DONE && bites_cache_new(&regex, &cache) == BITES_DONE);
+    bites_size size = bites_captures_next(&regex, &cache, BYTES("axb"), BITES_NONE, groups, 2);
+    CHECK(size.code == BITES_TOO_SMALL && size.size == 3 && groups[0].end == 7);
+    size = bites_captures_next(&regex, &cache, BYTES("axb"), BITES_NONE, groups, 3);
+    CHECK(size.code == BITES_MATCH && size.size == 3 && groups[0].start == 0 && groups[0].end == 2);
+    CHECK(groups[1].end == 1 && groups[2].start == 1 && groups[2].end == 2);
+    size = bites_captures_next(&regex, &cache, BYTES("axb"), 2, groups, 3);
+    CHECK(size.code == BITES_MATCH && groups[0].start == 2 && groups[0].end == 3 && groups[2].start == BITES_NONE);
+    CHECK(bites_captures_next(&regex, &cache, BYTES("axb"), 3, groups, 3).code == BITES_NO_MATCH && groups[0].end == 3);
+    /* an empty match behind one that ended there is passed over */
+    CHECK(bites_new(BYTES("(x)*"), 0, LIMITS, &regex) == BITES_DONE && bites_cache_new(&regex, &cache) == BITES_DONE);
+    size = bites_captures_next(&regex, &cache, BYTES("axb"), 0, groups, 3);
+    CHECK(size.code == BITES_MATCH && groups[0].start == 1 && groups[0].end == 2 && groups[1].start == 1);
+    bites_cache_free(&cache);
+    bites_free(&regex);
+}
+
+static void numbers(void) {
+    bites regex = {0};
+    CHECK(bites_group_index(&regex, BYTES("year")).code == BITES_EMPTY_HANDLE);
+    CHECK(bites_new(BYTES("(?P<year>a)(b)(?P<day>c)"), 0, LIMITS, &regex) == BITES_DONE);
+    bites_size size = bites_group_index(&regex, BYTES("day"));
+    CHECK(size.code == BITES_DONE && size.size == 3);
+    size = bites_group_index(&regex, BYTES("year"));
+    CHECK(size.code == BITES_DONE && size.size == 1);
+    size = bites_group_index(&regex, BYTES("month"));
+    CHECK(size.code == BITES_NO_NAME && size.size == 0);
+    CHECK(bites_group_index(&regex, BYTES("\xff")).code == BITES_NO_NAME);
+    CHECK(bites_group_index(&regex, BYTES("")).code == BITES_NO_NAME);
+    bites_free(&regex);
+}
+
+/* whether the answer is this text */
+static int is_text(bites_size size, const uint8_t *out, const char *text) {
+    return size.code == BITES_DONE && size.size == strlen(text) && !memcmp(out, text, size.size);
+}
+
+static void texts(void) {
+    bites regex = {0};
+    uint8_t out[32];
+    bites_size size = bites_escape(BYTES("a.b"), out, 0);
+    CHECK(size.code == BITES_TOO_SMALL && size.size == 4);
+    CHECK(is_text(bites_escape(BYTES("a.b"), out, sizeof out), out, "a\\.b"));
+    CHECK(bites_escape(BYTES("\xff"), out, sizeof out).code == BITES_NOT_UTF8);
+    CHECK(bites_replace(&regex, BYTES("a"), 0, BYTES("b"), out, sizeof out).code == BITES_EMPTY_HANDLE);
+    CHECK(bites_replace_literal(&regex, BYTES("a"), 0, BYTES("b"), out, sizeof out).code == BITES_EMPTY_HANDLE);
+    CHECK(bites_new(BYTES("(?P<first>[a-z])([0-9])?"), 0, LIMITS, &regex) == BITES_DONE);
+    out[0] = '-';
+    size = bites_replace(&regex, BYTES("a1 b"), 0, BYTES("<$2$first>"), out, 7);
+    CHECK(size.code == BITES_TOO_SMALL && size.size == 8 && out[0] == '-');
+    CHECK(is_text(bites_replace(&regex, BYTES("a1 b"), 0, BYTES("<$2$first>"), out, sizeof out), out, "<1a> <b>"));
+    CHECK(is_text(bites_replace(&regex, BYTES("a1 b"), 1, BYTES("$$"), out, sizeof out), out, "$ b"));
+    CHECK(is_text(bites_replace_literal(&regex, BYTES("a1 b"), 0, BYTES("$2"), out, sizeof out), out, "$2 $2"));
+    CHECK(is_text(bites_replace_literal(&regex, BYTES("??"), 0, BYTES("x"), out, sizeof out), out, "??"));
+    size = bites_replace_literal(&regex, BYTES("a1 b"), 0, BYTES("$2"), out, 4);
+    CHECK(size.code == BITES_TOO_SMALL && size.size == 5 && out[0] == '?');
+    bites_free(&regex);
+}
+
+static void templates(void) {
+    bites regex = {0};
+    uint8_t out[32] = "-";
+    bites_span groups[3] = {{0, 2}, {0, 1}, {BITES_NONE, BITES_NONE}};
+    CHECK(bites_expand(&regex, BYTES("a1"), groups, 3, BYTES("$0"), out, sizeof out).code == BITES_EMPTY_HANDLE);
+    CHECK(bites_new(BYTES("(?P<first>[a-z])([0-9])?"), 0, LIMITS, &regex) == BITES_DONE);
+    bites_size size = bites_expand(&regex, BYTES("a1"), groups, 3, BYTES("$first-${0}-$2-$9"), out, 0);
+    CHECK(size.code == BITES_TOO_SMALL && size.size == 6 && out[0] == '-');
+    CHECK(is_text(bites_expand(&regex, BYTES("a1"), groups, 3, BYTES("$first-${0}-$2-$9"), out, sizeof out), out, "a-a1--"));
+    CHECK(is_text(bites_expand(&regex, BYTES("a1"), groups, 1, BYTES("[$first]"), out, sizeof out), out, "[]"));
+    groups[1].end = 3;
+    CHECK(bites_expand(&regex, BYTES("a1"), groups, 3, BYTES("$0"), out, sizeof out).code == BITES_BAD_SPAN);
+    groups[1].start = 2, groups[1].end = 1;
+    CHECK(bites_expand(&regex, BYTES("a1"), groups, 3, BYTES("$0"), out, sizeof out).code == BITES_BAD_SPAN && out[0] == '[');
+    bites_free(&regex);
+}
+
 static void handles(void) {
     bites regex = {0}, copy = {0}, other = {0};
     bites_cache cache = {0};
@@ -139,6 +226,10 @@ int main(void) {
     searches();
     successive();
     names();
+    groups_in_turn();
+    numbers();
+    texts();
+    templates();
     handles();
     refusals();
     flags();

@@ -29,13 +29,7 @@ use Rattle.std.specs.declared.option.Option.TheVariants.{None, Some}
 use Rattle.bites_bytes.specs.contracts.bytes.regex.Regex as regex
 use Rattle.bites_c.specs.Holding.{boxed, holds}
 use Rattle.bites_c.specs.contracts.handle.Bites as handle
-use Rattle.bites_c.proofs.Values.{both}
-
-abbrev pub Z : RattleType
-Z = heap.the_row
-
-abbrev pub al : Al
-al = record { row = Z; laws = heap_laws.the_row_laws; g = ghosts; d = impl [] tnil dnil; drops = impl [] tnil dnil }
+use Rattle.bites_c.proofs.Values.{Z, al, both}
 
 abbrev pub B : RattleType
 B = handle.the_row

@@ -2,7 +2,9 @@ pub mod CacheHandles
 pub mod CodesLemmas
 pub mod FrontLemmas
 pub mod Handles
+pub mod LetGo
 pub mod NameLemmas
 pub mod NextLemmas
+pub mod ReplacedLemmas
 pub mod SlotsLemmas
 pub mod Values

@@ -1,17 +1,17 @@
 -- The match that is due behind another.
-use Rattle.std.proofs.Common.{◌≡◌, ℕ, ◌+◌, true, false, cond, List, length, Option, Some, None, option_map, refl, sym, ap, subst, ◌∙◌}
+use Rattle.std.proofs.Common.{◌≡◌, ℕ, ◌+◌, Bool, true, false, cond, if◌then◌else◌, List, map, length, Option, Some, None, option_map, unwrap_or, is_some, refl, sym, ap, subst, ◌∙◌}
 use Rattle.bites_spec.specs.Utf8.{step_len}
-use Rattle.bites_spec.specs.Match.{Span}
-use Rattle.bites_spec.specs.Run.{Run}
-use Rattle.bites_spec.specs.Slots.{span_of_run}
+use Rattle.bites_spec.specs.Match.{Span, span}
+use Rattle.bites_spec.specs.Run.{Run, slots}
+use Rattle.bites_spec.specs.Slots.{span_of_run, group_in}
 use Rattle.bites_spec.specs.Spans.{is_empty_at, due_after, followed, successive_after, successive, AnswersLie, LiesFrom}
-use Rattle.bites_spec.specs.Regex.{Regex, IsCompiled, run_at, span_at}
-use Rattle.bites_spec.specs.Iteration.{spans_behind}
-use Rattle.bites_spec.proofs.RegexRuns.{run_at-lies}
+use Rattle.bites_spec.specs.Regex.{Regex, IsCompiled, run_at, span_at, slots_at}
+use Rattle.bites_spec.specs.Iteration.{spans_behind, captures_behind, captured_by}
+use Rattle.bites_spec.proofs.RegexRuns.{run_at-lies, run_at-whole}
 use Rattle.bites_spec.proofs.SuccessiveLemmas.{goes_on}
-use Rattle.bites_c.specs.Searched.{FindsNext}
+use Rattle.bites_c.specs.Searched.{FindsNext, FindsNextGroups}
 
-module _ (r : Regex) (is : IsCompiled r) (hay : List ℕ) where
+module _ (r : Regex) (compiled : IsCompiled r) (hay : List ℕ) where
   span_lies : AnswersLie (λ s. s) hay (span_at r hay)
   span_lies s x h = by_run (run_at r hay s) refl h
     where
@@ -20,7 +20,7 @@ module _ (r : Regex) (is : IsCompiled r) (hay : List ℕ) where
 
       by_run : (o : Option Run) → run_at r hay s ≡ o → option_map span_of_run o ≡ Some x → LiesFrom (length hay) s x
       by_run None e h = cc
-      by_run (Some q) e h = subst (LiesFrom (length hay) s) (some_same (span_of_run q) x h) (run_at-lies r is hay s q e)
+      by_run (Some q) e h = subst (LiesFrom (length hay) s) (some_same (span_of_run q) x h) (run_at-lies r compiled hay s q e)
 
   next_of :
       (last : Option ℕ) (o : Option Span) →
@@ -55,3 +55,86 @@ module _ (r : Regex) (is : IsCompiled r) (hay : List ℕ) where
   later_next e step o later h empty is_step again =
       due_next e later
       (again ∙ ap (λ k. span_at r hay (e + k)) is_step ∙ sym (due_by e o h ∙ ap (λ b. cond b (span_at r hay (e + step_len hay e)) o) empty))
+
+  -- what comes behind a run, if there is one, after the run
+  abbrev runs_from : Option Run → List Run
+  runs_from = followed span_of_run (successive_after span_of_run hay (run_at r hay))
+
+  same_empty : (e : ℕ) (o : Option Run) → is_empty_at span_of_run e o ≡ is_empty_at (λ s. s) e (option_map span_of_run o)
+  same_empty e None = refl
+  same_empty e (Some x) = refl
+
+  first_captures : captures_behind r hay None ≡ map (captured_by r hay) (runs_from (run_at r hay 0))
+  unfolding successive
+  first_captures = refl
+
+  due_captures : (e : ℕ) (o : Option Run) → due_after span_of_run hay (run_at r hay) e ≡ o →
+      captures_behind r hay (Some e) ≡ map (captured_by r hay) (runs_from o)
+  due_captures e o due =
+      ap (map (captured_by r hay)) (goes_on span_of_run hay (run_at r hay) (run_at-lies r compiled hay) e)
+      ∙ ap (λ q. map (captured_by r hay) (runs_from q)) due
+
+  run_now : (e : ℕ) → is_empty_at span_of_run e (run_at r hay e) ≡ false → due_after span_of_run hay (run_at r hay) e ≡ run_at r hay e
+  unfolding due_after
+  run_now e apart = ap (λ b. cond b (run_at r hay (e + step_len hay e)) (run_at r hay e)) apart
+
+  run_later : (e : ℕ) → is_empty_at span_of_run e (run_at r hay e) ≡ true →
+      due_after span_of_run hay (run_at r hay) e ≡ run_at r hay (e + step_len hay e)
+  unfolding due_after
+  run_later e empty = ap (λ b. cond b (run_at r hay (e + step_len hay e)) (run_at r hay e)) empty
+
+  groups_of :
+      (last : Option ℕ) (o : Option Run) → ((x : Run) → o ≡ Some x → group_in (slots r.program x) 0 ≡ Some (span_of_run x)) →
+      captures_behind r hay last ≡ map (captured_by r hay) (runs_from o) → FindsNext r hay last (option_map span_of_run o) →
+      FindsNextGroups r hay last (option_map (slots r.program) o)
+  groups_of last None whole e next = (next, e)
+  groups_of last (Some x) whole e next = (span_of_run x, next, whole x refl, e)
+
+  -- what was read is what was found
+  read_groups :
+      (last : Option ℕ) (o : Option Run) (found : Option (ℕ × ℕ)) (old new : List (Option ℕ)) (b : Bool) →
+      option_map (λ s. span s.0 s.1) found ≡ option_map span_of_run o → new ≡ unwrap_or (option_map (slots r.program) o) old → b ≡ is_some found →
+      FindsNextGroups r hay last (option_map (slots r.program) o) → FindsNextGroups r hay last (if b then Some new else None)
+  read_groups last None None old new b same is e h =
+      subst (λ (x : Bool). FindsNextGroups r hay last (if x then Some new else None)) (sym e) h
+  read_groups last None (Some p) old new b same is e h = let never : Some (span p.0 p.1) ≡ None = same in cc
+  read_groups last (Some x) None old new b same is e h = let never : None ≡ Some (span_of_run x) = same in cc
+  read_groups last (Some x) (Some p) old new b same is e h =
+      subst (λ (y : Bool). FindsNextGroups r hay last (if y then Some new else None)) (sym e)
+      (subst (λ (l : List (Option ℕ)). FindsNextGroups r hay last (Some l)) (sym is) h)
+
+  -- the groups of the first of all
+  pub first_groups :
+      (found : Option (ℕ × ℕ)) (old new : List (Option ℕ)) (b : Bool) →
+      option_map (λ s. span s.0 s.1) found ≡ span_at r hay 0 → new ≡ unwrap_or (slots_at r hay 0) old → b ≡ is_some found →
+      FindsNextGroups r hay None (if b then Some new else None)
+  first_groups found old new b same is e =
+      read_groups None (run_at r hay 0) found old new b same is e
+      (groups_of None (run_at r hay 0) (λ x h. run_at-whole r compiled hay 0 x h) first_captures (first_next (span_at r hay 0) refl))
+
+  -- those of what is found where the match before ended, if it is not empty there
+  pub found_groups :
+      (at : ℕ) (found : Option (ℕ × ℕ)) (old new : List (Option ℕ)) (b : Bool) →
+      option_map (λ s. span s.0 s.1) found ≡ span_at r hay at → is_empty_at (λ s. s) at (option_map (λ s. span s.0 s.1) found) ≡ false →
+      new ≡ unwrap_or (slots_at r hay at) old → b ≡ is_some found →
+      FindsNextGroups r hay (Some at) (if b then Some new else None)
+  found_groups at found old new b same apart is e =
+      let there : is_empty_at (λ s. s) at (span_at r hay at) ≡ false = ap (is_empty_at (λ s. s) at) (sym same) ∙ apart in
+      read_groups (Some at) (run_at r hay at) found old new b same is e
+      (groups_of (Some at) (run_at r hay at) (λ x h. run_at-whole r compiled hay at x h)
+      (due_captures at (run_at r hay at) (run_now at (same_empty at (run_at r hay at) ∙ there))) (found_next at (span_at r hay at) refl there))
+
+  -- else those of what is found one character later
+  pub later_groups :
+      (at step : ℕ) (found later : Option (ℕ × ℕ)) (old new : List (Option ℕ)) (b : Bool) →
+      option_map (λ s. span s.0 s.1) found ≡ span_at r hay at → is_empty_at (λ s. s) at (option_map (λ s. span s.0 s.1) found) ≡ true →
+      step ≡ step_len hay at → option_map (λ s. span s.0 s.1) later ≡ span_at r hay (at + step) →
+      new ≡ unwrap_or (slots_at r hay (at + step)) old → b ≡ is_some later →
+      FindsNextGroups r hay (Some at) (if b then Some new else None)
+  later_groups at step found later old new b same empty stepped again is e =
+      let there : is_empty_at (λ s. s) at (span_at r hay at) ≡ true = ap (is_empty_at (λ s. s) at) (sym same) ∙ empty in
+      let due = run_later at (same_empty at (run_at r hay at) ∙ there) ∙ ap (λ k. run_at r hay (at + k)) (sym stepped) in
+      read_groups (Some at) (run_at r hay (at + step)) later old new b again is e
+      (groups_of (Some at) (run_at r hay (at + step)) (λ x h. run_at-whole r compiled hay (at + step) x h)
+      (due_captures at (run_at r hay (at + step)) due)
+      (later_next at step (span_at r hay at) (span_at r hay (at + step)) refl there stepped refl))

@@ -1,60 +1,105 @@
--- The machine values of a box by its pointer. Assumes `Logic`.
-use Rattle.std.proofs.Common.{◌≡◌, ℕ, List, [], ◌∷◌, ◌++◌, refl, subst}
-use mathlib.Core.Bool.{Bool, true, false, ◌&&◌}
+-- The machine values of handles, and of a box by its pointer. Assumes `Logic`.
+use Rattle.std.proofs.Common.{◌≡◌, ℕ, List, [], ◌∷◌, ◌++◌, refl, sym, ap, ◌∙◌, subst}
+use mathlib.Core.Bool.{true, ◌&&◌}
 use lib.Dec.{T}
 use seplogic.Ra.Ura.{Ura}
-use mir.Syntax.{impl, tnil, dnil}
+use mir.Syntax.{Dict, impl, tnil, tcons, dnil}
 use mir.Raw.{raw as bare}
 use mir.Val.{Val, vptr, vstruct, vcons, vnil, of_list, has_ty, WT}
-use base.Logic.{never, fst∗}
+use base.Fraction.{full_share}
+use base.Fml.{Fml, ftrue, fsep, flft}
+use base.Logic.{ent, emp, never, fst∗}
 use types.Logic.{Logic, sem}
-use types.Kit.{Item, Goal, Seq, Step, step, ‵, ◌$◌, move, drop, fsplit, fjoin, fpick, fpack, feq_i, feq_l}
-use denote.RattleType.{RattleType, Valss}
+use types.Kit.{Item, Goal, Seq, Step, step, ‵, raw, ◌⊛◌, some, ◌$◌, ◌∵◌, !, qed, done, move, drop, split, split3, join, fsplit, fjoin, fpick, pick, use0, rewrite, feq_i, feq_l}
+use contract.Monad.{fact, fact_i}
+use contract.BorrowLft.{◌⊑◌}
+use denote.RattleType.{RattleType}
 use denote.Builtin.{RawPtr}
-use denote.Memory.{lone}
 use denote.RawPtr.{Ptr, block_ptr, null_ptr, ptr_val, in_a_block}
-use denote.Steps.{nothing}
-use denote.Param.{layout}
-use denote.Param.Laws.{Laws}
-use denote.Struct.Struct.{within}
-use denote.Struct.Owning.{shape}
-use Rattle.std.specs.declared.alloc.Allocator.{Ghosts}
+use denote.Steps.{nothing, only, heard}
+use denote.Exit.{no}
+use denote.Param.{layout, param, arg}
+use denote.Param.Laws.{Laws, arg_laws}
+use denote.Struct.Tuple.{Tuple}
+use denote.Triple.Spec.{triple_of}
+use Rattle.std.proofs.ResultValues.{and_tt}
 use Rattle.std.proofs.alloc.Calls.{Al, handle_tells}
 use Rattle.std.proofs.cell.Inside.{Good}
-use Rattle.std.specs.Box.Ownership.{box_owns}
-use Rattle.std.proofs.ResultValues.{and_tt}
-use Rattle.bites_c.specs.contracts.raw_box.RawBox as raw_box
+use Rattle.std.proofs.BoxSteps.Form as box
+use Rattle.std.proofs.BoxSteps.Steps.{box_out, box_in}
+use Rattle.std.specs.contracts.alloc.Global as heap
+use Rattle.std.proofs.alloc.Global.TheLaws as heap_laws
+use Rattle.std.specs.contracts.impls.GlobalAllocator.TheImpl as allocator
+use Rattle.std.specs.contracts.boxed.Box.into_raw_with_allocator as apart
+use Rattle.bites_c.specs.Holding.{boxed}
 
 abbrev pub both : Val → Val → Val
 both v w = vstruct (vcons v (vcons w vnil))
 
-pub both_tt : (x y : Bool) → T x → T y → T (x && (y && true))
-both_tt true true s t = tt
-both_tt true false s t = absurd t
-both_tt false y s t = absurd s
+-- a type as an argument of a call
+abbrev pub as_passed : RattleType → RattleType
+as_passed X = arg (bare (layout X)) no X
 
-module _ (R Z : RattleType) (L : Laws Z) (g : Ghosts Z.Denot) where
-  abbrev pub RawBox : RattleType
-  RawBox = raw_box.the_row R Z g
+abbrev pub Z : RattleType
+Z = as_passed heap.the_row
 
-  abbrev al : Al
-  al = record { row = Z; laws = L; g = g; d = impl [] tnil dnil; drops = impl [] tnil dnil }
+abbrev pub Z_laws : Laws Z
+Z_laws = arg_laws (bare (layout heap.the_row)) no heap.the_row heap_laws.the_row_laws refl
 
-  pub raw_good : (b o : ℕ) (h : Val) → Good (layout Z) h → T (has_ty (layout Z) h && true) × WT (both (vptr b o) h)
-  raw_good b o h fits = (and_tt (has_ty (layout Z) h) fits.0, (tt, (fits.1, tt)))
+-- the drop of a `Global`, which does nothing
+abbrev pub no_drop : Dict
+no_drop = impl ("bites_c::Destruct++none::drop" ∷ []) (tcons (layout Z) tnil) dnil
+
+abbrev pub al : Al
+al = record { row = Z; laws = Z_laws; g = allocator.ghosts; d = allocator.dict; drops = no_drop }
+
+pub pair_good : (b o : ℕ) (h : Val) → Good (layout Z) h → T (has_ty (layout Z) h && true) × WT (both (vptr b o) h)
+pair_good b o h fits = (and_tt (has_ty (layout Z) h) fits.0, (tt, (fits.1, tt)))
+
+-- the tokens of two lifetimes that do not end
+module _ {M : Type 1} {𝓤 : Ura M} (𝓛 : Logic 𝓤) where
+  abbrev pub tokens : Item 𝓤
+  tokens = ‵ (flft [] full_share) ⊛ ‵ (flft [] full_share) ⊛ ‵ ftrue
+
+-- a box of this type
+module _ (row : RattleType) (L : Laws row) where
+  abbrev R : RattleType
+  R = param 0 row
+
+  abbrev pub E : box.Bx
+  E = record { row = row; laws = L; al = al }
 
   module _ {M : Type 1} {𝓤 : Ura M} {𝓛 : Logic 𝓤} {K : Type 0} {Γ : List (Item 𝓤)} {G : Goal 𝓤 𝓛.H} where
-    pub raw_out : K → (d : RawBox.Denot) (vs : List Val)
-        → ((b o : ℕ) (h : Val) → d.at ≡ block_ptr b o → vs ≡ both (vptr b o) h ∷ [] → Good (layout Z) h → Seq K 𝓛 (‵ (box_owns (g.dealloc_token d.alloc) R (block_ptr b o) d.value) ∷ ‵ (Z.own_val d.alloc (h ∷ [])) ∷ Γ) G)
-        → Seq K 𝓛 (‵ (RawBox.own_val d vs) ∷ Γ) G
-    raw_out t d vs k =
-        fsplit t $ fpick t (λ vss. fsplit t $ feq_l t (λ ev. fsplit t $ feq_l t (λ ep. fsplit t $ handle_tells al t d.alloc vss.1.0 (λ h ea fits. move t (1 ∷ []) $ drop t $ move t (1 ∷ []) $
-        in_a_block t d.at (λ p. box_owns (g.dealloc_token d.alloc) R p d.value) (fst∗ 𝓤 (never 𝓤) (sem 𝓛 (g.dealloc_token d.alloc (bare (lone R.mir)) null_ptr))) (λ b o e. k b o h e
-        (subst (λ (p : Ptr). vs ≡ vstruct (of_list (ptr_val p ∷ h ∷ [])) ∷ []) e
-        (subst (λ (ws : List Val). vs ≡ vstruct (of_list (ptr_val d.at ∷ (ws ++ []))) ∷ []) ea (subst (λ (ps : List Val). vs ≡ vstruct (of_list (ps ++ (vss.1.0 ++ []))) ∷ []) ep ev))) fits)))))
+    -- what is had of a box that was taken apart
+    pub parts_out : K → (a : Z.Denot) (x : R.Denot) (u : Val) (Lasts : Type 0) (F : Lasts → Fml)
+        → ((b o : ℕ) (h : Val) → u ≡ both (vptr b o) h → Good (layout Z) h → Seq K 𝓛 (‵ (boxed R a (block_ptr b o) x) ∷ ‵ (Z.own_val a (h ∷ [])) ∷ Γ) G)
+        → Seq K 𝓛 (some (λ (r : Ptr × Z.Denot). (tokens 𝓛 ⊛ ‵ ((Tuple (RawPtr ∷ Z ∷ [])).own_val r (u ∷ [])))
+        ⊛ some (λ (ls : Lasts). ‵ (F ls) ⊛ (raw (fact 𝓤 (r.1 ≡ a)) ⊛ ‵ (boxed R a r.0 x)))) ∷ Γ) G
+    parts_out t a x u Lasts F k =
+        pick t (λ r. split t $ split t $ drop t $ move t (1 ∷ []) $ pick t (λ _. split3 t $ drop t $ heard t (r.1 ≡ a) (λ same.
+        in_a_block t r.0 (λ p. boxed R a p x) (fst∗ 𝓤 (never 𝓤) (sem 𝓛 (allocator.ghosts.dealloc_token a (bare (layout row)) null_ptr))) (λ b o is.
+        move t (1 ∷ []) $ fpick t (λ vss. fsplit t $ feq_l t (λ laid. fsplit t $ feq_l t (λ first. fsplit t $
+        rewrite t 0 (λ (s : Z.Denot). ‵ (Z.own_val s vss.1.0)) same refl $ handle_tells al t a vss.1.0 (λ h second fits.
+        move t (1 ∷ []) $ drop t $ move t (1 ∷ []) $
+        k b o h (ap only (laid ∙ (λ i. vstruct (of_list ((first ∙ ap (λ (p : Ptr). ptr_val p ∷ []) is) i ++ (second i ++ []))) ∷ []))) fits))))))))
 
-    pub raw_in : K → (b o : ℕ) (h : Val) (a : Z.Denot) (x : R.Denot)
-        → Step K 𝓛 (‵ (RawBox.own_val (record { at = block_ptr b o; alloc = a; value = x }) (both (vptr b o) h ∷ [])) ∷ Γ) G (‵ (box_owns (g.dealloc_token a) R (block_ptr b o) x) ∷ ‵ (Z.own_val a (h ∷ [])) ∷ Γ) G
-    raw_in t b o h a x = step (λ s. let v : Val = both (vptr b o) h in
-        nothing t $ move t (2 ∷ 0 ∷ []) $ fjoin t $ feq_i t (List Val) (vptr b o ∷ []) (vptr b o ∷ []) refl $ fjoin t $ feq_i t (List Val) (v ∷ []) (v ∷ []) refl $ fjoin t $
-        fpack t (Valss (RawPtr ∷ Z ∷ [])) (within (shape (raw_box.the_type R Z g)) (block_ptr b o, (a, tt)) (v ∷ [])) (vptr b o ∷ [], (h ∷ [], tt)) $ fjoin t $ s)
+    -- and of one that was put together
+    pub whole_out : K → (a : Z.Denot) (x : row.Denot) (u : Val) (Lasts : Type 0) (F : Lasts → Fml)
+        → ((r : box.D E) → r.value ≡ x → Good (layout (box.B E)) u → Seq K 𝓛 (‵ ((box.B E).own_val r (u ∷ [])) ∷ Γ) G)
+        → Seq K 𝓛 (some (λ (r : box.D E). (tokens 𝓛 ⊛ ‵ ((box.B E).own_val r (u ∷ [])))
+        ⊛ some (λ (ls : Lasts). ‵ (F ls) ⊛ (raw (fact 𝓤 (r.value ≡ x)) ⊛ raw (fact 𝓤 (r.alloc ≡ a))))) ∷ Γ) G
+    whole_out t a x u Lasts F k =
+        pick t (λ r. split t $ split t $ drop t $ move t (1 ∷ []) $ pick t (λ _. split3 t $ drop t $ heard t (r.value ≡ x) (λ same. drop t $
+        box_out E t r (u ∷ []) (λ b o h at laid fits. box_in E t r b o r.value at refl $
+        rewrite t 0 (λ (vs : List Val). ‵ ((box.B E).own_val r vs)) (sym laid) refl $
+        k r same (subst (Good (layout (box.B E))) (sym (ap only laid)) (pair_good b o h fits))))))
+
+    -- what a call with a type and the allocator for its parameters asks beside its arguments
+    pub with_types : K → [] ⊑ row.lives → {A B : Item 𝓤}
+        → Step K 𝓛 (((tokens 𝓛 ⊛ A) ⊛ raw (fact 𝓤 ([] ⊑ row.lives)) ⊛ raw (fact 𝓤 ([] ⊑ Z.lives)) ⊛ B) ∷ Γ) G (A ∷ B ∷ Γ) G
+    with_types t lives = step (λ s.
+        nothing t $ use0 𝓛 (‵ (flft [] full_share)) (𝓛.lfts.lft-nil full_share) $ join t $
+        use0 𝓛 (‵ (flft [] full_share)) (𝓛.lfts.lft-nil full_share) $ join t $ join t $ move t (1 ∷ 0 ∷ []) $
+        use0 𝓛 (raw (fact 𝓤 ([] ⊑ Z.lives))) (fact_i 𝓤 ([] ⊑ Z.lives) (emp 𝓤) (heap_laws.the_within [])) $ join t $
+        use0 𝓛 (raw (fact 𝓤 ([] ⊑ row.lives))) (fact_i 𝓤 ([] ⊑ row.lives) (emp 𝓤) lives) $ join t $
+        move t (1 ∷ 0 ∷ []) $ join t $ s)

@@ -34,6 +34,10 @@ too_small = 105
 abbrev pub no_name : ℕ
 no_name = 106
 
+-- a span does not lie in the haystack
+abbrev pub bad_span : ℕ
+bad_span = 107
+
 -- the number of an error, from 1 on; want of memory is 58
 abbrev pub code_of : Error → ℕ
 code_of TooMuchNesting = 1

@@ -2,5 +2,6 @@ pub mod Codes
 pub mod Holding
 pub mod Made
 pub mod Put
+pub mod Replaced
 pub mod Searched
 pub mod Words

@@ -1,9 +1,10 @@
 -- What is put where C can read it.
-use Rattle.std.specs.Prelude.{◌≡◌, ◌<◌, ◌≤◌, ◌++◌, ℕ, List, length, map, take, drop, Option, Some, None}
+use Rattle.std.specs.Prelude.{◌≡◌, ◌≢◌, ◌<◌, ◌≤◌, ◌++◌, ℕ, List, length, map, take, drop, Option, Some, None}
 use Rattle.std.specs.List.{range_with_len}
 use Rattle.bites_spec.specs.Match.{Span}
 use Rattle.bites_spec.specs.Slots.{group_in}
-use Rattle.bites_c.specs.Codes.{matched, not_matched, done, too_small, no_name}
+use Rattle.bites_text.specs.declared.error.Error.TheVariants.{Memory}
+use Rattle.bites_c.specs.Codes.{matched, not_matched, done, too_small, no_name, code_of}
 use Rattle.bites_c.specs.declared.text.BitesSize.{BitesSize}
 use Rattle.bites_c.specs.declared.span.BitesSpan.{BitesSpan}
 
@@ -47,7 +48,17 @@ abbrev pub PutsName : Option (List ℕ) → BitesSize → List ℕ → List ℕ 
 PutsName None answer old new = (answer.code ≡ no_name) × (answer.size ≡ 0) × (new ≡ old)
 PutsName (Some text) answer old new = PutsText text answer old new
 
--- the number of a group is put where the old one stood, if there is one
-abbrev pub PutsIndex : Option ℕ → ℕ → ℕ → ℕ → Type 0
-PutsIndex None number old new = (number ≡ no_name) × (new ≡ old)
-PutsIndex (Some index) number old new = (number ≡ done) × (new ≡ index)
+-- nothing is put, for the reason of this number
+abbrev pub PutsNone : ℕ → BitesSize → List ℕ → List ℕ → Type 0
+PutsNone number answer old new = (answer.code ≡ number) × (answer.size ≡ 0) × (new ≡ old)
+
+-- the text is put where there is room for it, unless memory was refused
+abbrev pub PutsMade : List ℕ → BitesSize → List ℕ → List ℕ → Type 0
+PutsMade text answer old new =
+    (answer.code ≡ code_of Memory → PutsNone (code_of Memory) answer old new)
+    × (answer.code ≢ code_of Memory → PutsText text answer old new)
+
+-- the number of a group is answered, if there is one
+abbrev pub AnswersIndex : Option ℕ → BitesSize → Type 0
+AnswersIndex None answer = (answer.code ≡ no_name) × (answer.size ≡ 0)
+AnswersIndex (Some index) answer = (answer.code ≡ done) × (answer.size ≡ index)

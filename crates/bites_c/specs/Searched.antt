@@ -2,9 +2,10 @@
 use Rattle.std.specs.Prelude.{◌≡◌, ◌≢◌, ◌↔◌, ◌<◌, ◌≤◌, ℕ, cond, nat_eq, List, [], ◌∷◌, length, Option, Some, None}
 use Rattle.bites_spec.specs.Counts.{Room, fit_of}
 use Rattle.bites_spec.specs.Regex.{Regex, slots_at}
-use Rattle.bites_spec.specs.Captured.{FindsGroups}
+use Rattle.bites_spec.specs.Captured.{FindsGroups, captured}
+use Rattle.bites_spec.specs.Slots.{group_in}
 use Rattle.bites_spec.specs.Match.{Span}
-use Rattle.bites_spec.specs.Iteration.{spans_behind}
+use Rattle.bites_spec.specs.Iteration.{spans_behind, captures_behind}
 use Rattle.bites_c.specs.Put.{Puts, PutsGroups, PutsSpan}
 use Rattle.bites_c.specs.Codes.{matched, not_matched, empty_handle, unfit_cache, too_small}
 use Rattle.bites_c.specs.declared.span.BitesSpan.{BitesSpan}
@@ -50,3 +51,21 @@ last_for_c n = cond (nat_eq n 0xFFFF_FFFF_FFFF_FFFF) None (Some n)
 abbrev pub FindsNext : Regex → List ℕ → Option ℕ → Option Span → Type 0
 FindsNext r hay last None = spans_behind r hay last ≡ []
 FindsNext r hay last (Some s) = spans_behind r hay last ≡ s ∷ spans_behind r hay (Some s.end)
+
+-- the groups that are found are those of the match that is due behind another, or of the first of all: their match is the first
+-- that is left, and what is left behind it are the groups of the others
+abbrev pub FindsNextGroups : Regex → List ℕ → Option ℕ → Option (List (Option ℕ)) → Type 0
+FindsNextGroups r hay last None = FindsNext r hay last None × (captures_behind r hay last ≡ [])
+FindsNextGroups r hay last (Some slots) =
+    (s : Span) × FindsNext r hay last (Some s) × (group_in slots 0 ≡ Some s)
+    × (captures_behind r hay last ≡ captured r hay slots ∷ captures_behind r hay (Some s.end))
+
+-- the groups that are found are put at the front
+abbrev pub PutsFound : (Option (List (Option ℕ)) → Type 0) → ℕ → ℕ → List BitesSpan → List BitesSpan → Type 0
+PutsFound Finds n number old new = (found : Option (List (Option ℕ))) × Finds found × PutsGroups found n number old new
+
+-- a slice with too few places stays, and none is searched for; else the groups of the next match are put at its front
+abbrev pub PutsNextCaptures : Regex → List ℕ → Option ℕ → ℕ → List BitesSpan → List BitesSpan → Type 0
+PutsNextCaptures r hay last number old new =
+    (length old < length r.names → (number ≡ too_small) × (new ≡ old))
+    × (length r.names ≤ length old → PutsFound (FindsNextGroups r hay last) (length r.names) number old new)

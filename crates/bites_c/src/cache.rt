@@ -8,7 +8,6 @@ ghost use Rattle.bites_spec.specs.Counts.{Room as SearchRoom};
 ghost use Rattle.bites_c.specs.contracts.room.Room.{the_row};
 ghost use Rattle.bites_c.specs.Holding.{holds};
 
-use crate::raw_box::RawBox;
 use crate::room::Room;
 use std::alloc::Global;
 use std::marker::Model;
@@ -37,44 +36,25 @@ impl BitesCache {
     }
 
     /// A handle of this room.
-    pub(crate) fn of(value: Box<Room, Global>) -> BitesCache
-        ensures { result.room ≡ Some value.value }
+    pub(crate) fn of(held: Box<Room, Global>) -> BitesCache
+        ensures { result.room ≡ Some held.value }
     {
-        BitesCache::close(RawBox::of(value))
-    }
-
-    fn close(value: RawBox<Room, Global>) -> BitesCache
-        ensures { result.room ≡ Some value.value }
-    {
-        let RawBox { at, alloc } = value;
+        let (at, alloc) = Box::into_raw_with_allocator(held);
         BitesCache {
             at: at as *mut (),
             alloc,
         }
     }
 
-    fn open(self) -> Option<RawBox<Room, Global>>
-        ensures { MatchOption result (self.room ≡ None) (λ l. self.room ≡ Some l.value) }
-    {
-        let BitesCache { at, alloc } = self;
-        if at.is_null() {
-            None
-        } else {
-            Some(RawBox {
-                at: at as *mut Room,
-                alloc,
-            })
-        }
-    }
-
-    /// The room that it holds, if there is one.
+    /// The room that it holds, if there is some.
     pub(crate) fn into_box(self) -> Option<Box<Room, Global>>
         ensures { MatchOption result (self.room ≡ None) (λ b. self.room ≡ Some b.value) }
     {
-        match self.open() {
-            Some(raw) => Some(raw.into_box()),
-            None => None,
+        let BitesCache { at, alloc } = self;
+        if at.is_null() {
+            return None;
         }
+        Some(unsafe { Box::from_raw(alloc, at as *mut Room) })
     }
 }
 

@@ -34,6 +34,9 @@ pub(crate) const TOO_SMALL: u32 = 105;
 /// No group has the name, or the group has none.
 pub(crate) const NO_NAME: u32 = 106;
 
+/// A span does not lie in the haystack.
+pub(crate) const BAD_SPAN: u32 = 107;
+
 /// The number of an error, which is not 0.
 pub(crate) fn number(error: Error) -> u32
     ensures { result ≡ code_of error }

@@ -9,7 +9,6 @@ ghost use Rattle.bites_spec.specs.Regex.{Regex as Compiled};
 ghost use Rattle.bites_bytes.specs.contracts.bytes.regex.Regex.{the_row};
 ghost use Rattle.bites_c.specs.Holding.{holds};
 
-use crate::raw_box::RawBox;
 use bites_bytes::bytes::Regex;
 use std::alloc::Global;
 use std::marker::Model;
@@ -38,33 +37,13 @@ impl Bites {
     }
 
     /// A handle of this regex.
-    pub(crate) fn of(value: Box<Regex, Global>) -> Bites
-        ensures { result.regex ≡ Some value.value }
+    pub(crate) fn of(held: Box<Regex, Global>) -> Bites
+        ensures { result.regex ≡ Some held.value }
     {
-        Bites::close(RawBox::of(value))
-    }
-
-    fn close(value: RawBox<Regex, Global>) -> Bites
-        ensures { result.regex ≡ Some value.value }
-    {
-        let RawBox { at, alloc } = value;
+        let (at, alloc) = Box::into_raw_with_allocator(held);
         Bites {
             at: at as *mut (),
             alloc,
-        }
-    }
-
-    fn open(self) -> Option<RawBox<Regex, Global>>
-        ensures { MatchOption result (self.regex ≡ None) (λ l. self.regex ≡ Some l.value) }
-    {
-        let Bites { at, alloc } = self;
-        if at.is_null() {
-            None
-        } else {
-            Some(RawBox {
-                at: at as *mut Regex,
-                alloc,
-            })
         }
     }
 
@@ -72,10 +51,11 @@ impl Bites {
     pub(crate) fn into_box(self) -> Option<Box<Regex, Global>>
         ensures { MatchOption result (self.regex ≡ None) (λ b. self.regex ≡ Some b.value) }
     {
-        match self.open() {
-            Some(raw) => Some(raw.into_box()),
-            None => None,
+        let Bites { at, alloc } = self;
+        if at.is_null() {
+            return None;
         }
+        Some(unsafe { Box::from_raw(alloc, at as *mut Regex) })
     }
 }
 

@@ -5,7 +5,7 @@
 //! wrong with the call.
 #![tactic(auto)]
 
-ghost use Rattle.std.specs.Prelude.{◌≡◌, ◌≢◌, IsSomeAnd, IfSome, IsUtf8, ◌++◌, drop, length, option_map, slice_index_or, take, unwrap_or, ⊤};
+ghost use Rattle.std.specs.Prelude.{All, ◌≡◌, ◌≢◌, IsSomeAnd, IfSome, IsUtf8, ◌++◌, drop, length, option_map, slice_index_or, take, unwrap_or, ⊤};
 ghost use Rattle.std.specs.declared.option.Option.TheVariants.{None};
 ghost use Rattle.bites_spec.specs.Counts.{fit_of};
 ghost use Rattle.bites_spec.specs.Captured.{FindsSpan};
@@ -16,17 +16,19 @@ ghost use Rattle.bites_text.specs.Texts.{error_text};
 ghost use Rattle.bites_text.specs.declared.error.Error.{Error as Fault};
 ghost use Rattle.bites_text.specs.declared.error.Error.TheVariants.{Memory};
 ghost use Rattle.bites_bytes.specs.Settings.{Refuses};
-ghost use Rattle.bites_c.specs.Codes.{code_of, done, not_utf8, empty_handle};
+ghost use Rattle.bites_spec.specs.Expansion.{index_in};
+ghost use Rattle.bites_c.specs.Codes.{bad_span, code_of, done, not_utf8, empty_handle};
 ghost use Rattle.bites_c.specs.Made.{IsMadeBy};
-ghost use Rattle.bites_c.specs.Put.{Puts, PutsName, PutsSpan};
-ghost use Rattle.bites_c.specs.Searched.{AnswersIf, AnswersPlace, AnswersSpan, FindsNext, PutsCaptures, Searched, last_for_c};
+ghost use Rattle.bites_c.specs.Put.{AnswersIndex, Puts, PutsMade, PutsName, PutsNone, PutsSpan};
+ghost use Rattle.bites_c.specs.Searched.{AnswersIf, AnswersPlace, AnswersSpan, FindsNext, PutsCaptures, PutsNextCaptures, Searched, last_for_c};
+ghost use Rattle.bites_c.specs.Replaced.{LiesWithin, escaped_text, expanded_by, with_template, with_text};
 ghost use Rattle.bites_c.specs.Words.{asked};
 
 mod cache;
 mod codes;
 mod handle;
 mod make;
-mod raw_box;
+mod replace;
 mod room;
 mod search;
 mod span;
@@ -269,7 +271,34 @@ pub extern "C" fn bites_captures_at(
             search.end(regex, cache);
             answer
         }
-        Err(code) => BitesSize { code, size: 0 },
+        Err(code) => BitesSize::refused(code),
+    }
+}
+
+/// The groups of the match that [`bites_find_next`] answers go to the front of `groups`, as [`bites_captures_at`] puts them.
+/// It takes no memory.
+#[unsafe(no_mangle)]
+pub extern "C" fn bites_captures_next(
+    alloc: Global,
+    regex: &mut Bites,
+    cache: &mut BitesCache,
+    haystack: &[u8],
+    last: usize,
+    groups: &mut [BitesSpan],
+) -> BitesSize
+    ensures same { regex.new.regex ≡ regex.old.regex }
+    ensures fits { option_map (λ c. c.fits) cache.new.room ≡ option_map (λ c. c.fits) cache.old.room }
+    ensures answered { Searched regex.old.regex cache.old.room result.code
+        ((result.size ≡ 0) × (groups.new ≡ groups.old)) (λ r. (result.size ≡ length r.names)
+        × PutsNextCaptures r haystack.now (last_for_c last) result.code groups.old groups.new) }
+{
+    match search::begin(alloc, regex, cache) {
+        Ok(mut search) => {
+            let answer = search.captures_next(haystack, span::last(last), groups);
+            search.end(regex, cache);
+            answer
+        }
+        Err(code) => BitesSize::refused(code),
     }
 }
 
@@ -333,12 +362,113 @@ pub extern "C" fn bites_group_name(
         (result.code ≡ empty_handle) × (result.size ≡ 0) × (out.new ≡ out.old) }
 {
     let Some(held) = std::mem::replace(regex, Bites::empty(alloc)).into_box() else {
-        return BitesSize {
-            code: EMPTY_HANDLE,
-            size: 0,
-        };
+        return BitesSize::refused(EMPTY_HANDLE);
     };
     let answer = text::put_name(&held, group, out);
+    *regex = Bites::of(held);
+    answer
+}
+
+/// The size is the number of the group of this name, and the code 0; it is 106 where no group has the name, and 103 where
+/// there is no regex.
+#[unsafe(no_mangle)]
+pub extern "C" fn bites_group_index(alloc: Global, regex: &mut Bites, name: &[u8]) -> BitesSize
+    ensures same { regex.new.regex ≡ regex.old.regex }
+    ensures index { IfSome regex.old.regex (λ r. AnswersIndex (index_in r.names name.now) result) }
+    ensures empty { regex.old.regex ≡ None → (result.code ≡ empty_handle) × (result.size ≡ 0) }
+{
+    let Some(held) = std::mem::replace(regex, Bites::empty(alloc)).into_box() else {
+        return BitesSize::refused(EMPTY_HANDLE);
+    };
+    let answer = text::answer_index(&held, name);
+    *regex = Bites::of(held);
+    answer
+}
+
+/// The pattern in which each character of the text stands for itself goes to the front of `out`, in UTF-8. The code is 0;
+/// 105 where it does not fit, and the size is how many bytes it has; 102 where the text is no UTF-8, and 58 for want of
+/// memory. Where it is not 0, `out` stays.
+#[unsafe(no_mangle)]
+pub extern "C" fn bites_escape(alloc: Global, text: &[u8], out: &mut [u8]) -> BitesSize
+    ensures made { IsUtf8 text.now → PutsMade (escaped_text text.now) result out.old out.new }
+    ensures utf8 { (IsUtf8 text.now → ⊥) → PutsNone not_utf8 result out.old out.new }
+{
+    text::put_escaped(alloc, text, out)
+}
+
+/// The haystack goes to the front of `out`, at most `limit` of its matches, or all for 0, replaced by what the template stands
+/// for. The code is 0; 105 where it does not fit, and the size is how many bytes it has; 103 where there is no regex, and 58
+/// for want of memory. Where it is not 0, `out` stays.
+#[unsafe(no_mangle)]
+pub extern "C" fn bites_replace(
+    alloc: Global,
+    regex: &mut Bites,
+    haystack: &[u8],
+    limit: usize,
+    template: &[u8],
+    out: &mut [u8],
+) -> BitesSize
+    ensures same { regex.new.regex ≡ regex.old.regex }
+    ensures replaced { IfSome regex.old.regex (λ r.
+        PutsMade (with_template r haystack.now limit template.now) result out.old out.new) }
+    ensures empty { regex.old.regex ≡ None → PutsNone empty_handle result out.old out.new }
+{
+    let Some(held) = std::mem::replace(regex, Bites::empty(alloc)).into_box() else {
+        return BitesSize::refused(EMPTY_HANDLE);
+    };
+    let answer = replace::put_replaced(&held, haystack, limit, template, out);
+    *regex = Bites::of(held);
+    answer
+}
+
+/// [`bites_replace`] with a text in the place of the template, in which a `$` stands for itself.
+#[unsafe(no_mangle)]
+pub extern "C" fn bites_replace_literal(
+    alloc: Global,
+    regex: &mut Bites,
+    haystack: &[u8],
+    limit: usize,
+    text: &[u8],
+    out: &mut [u8],
+) -> BitesSize
+    ensures same { regex.new.regex ≡ regex.old.regex }
+    ensures replaced { IfSome regex.old.regex (λ r.
+        PutsMade (with_text r haystack.now limit text.now) result out.old out.new) }
+    ensures empty { regex.old.regex ≡ None → PutsNone empty_handle result out.old out.new }
+{
+    let Some(held) = std::mem::replace(regex, Bites::empty(alloc)).into_box() else {
+        return BitesSize::refused(EMPTY_HANDLE);
+    };
+    let answer = replace::put_replaced_literal(&held, haystack, limit, text, out);
+    *regex = Bites::of(held);
+    answer
+}
+
+/// What the template stands for by these groups goes to the front of `out`. The code is 0; 105 where it does not fit, and the
+/// size is how many bytes it has; 107 where a group does not lie in the haystack, 103 where there is no regex, and 58 for
+/// want of memory. Where it is not 0, `out` stays.
+///
+/// A group from the last of `groups` on took no part, as one has that is the greatest number twice.
+#[unsafe(no_mangle)]
+pub extern "C" fn bites_expand(
+    alloc: Global,
+    regex: &mut Bites,
+    haystack: &[u8],
+    groups: &[BitesSpan],
+    template: &[u8],
+    out: &mut [u8],
+) -> BitesSize
+    ensures same { regex.new.regex ≡ regex.old.regex }
+    ensures made { IfSome regex.old.regex (λ r. All (LiesWithin (length haystack.now)) groups.now →
+        PutsMade (expanded_by r.names groups.now haystack.now template.now) result out.old out.new) }
+    ensures bad { IfSome regex.old.regex (λ r. (All (LiesWithin (length haystack.now)) groups.now → ⊥) →
+        PutsNone bad_span result out.old out.new) }
+    ensures empty { regex.old.regex ≡ None → PutsNone empty_handle result out.old out.new }
+{
+    let Some(held) = std::mem::replace(regex, Bites::empty(alloc)).into_box() else {
+        return BitesSize::refused(EMPTY_HANDLE);
+    };
+    let answer = replace::put_expanded(alloc, &held, haystack, groups, template, out);
     *regex = Bites::of(held);
     answer
 }

@@ -1,6 +1,6 @@
 //! The room for searches, which C holds.
 
-ghost use Rattle.std.specs.Prelude.{◌≡◌, ◌≤◌, ◌<◌, ◌+◌, ◌/◌, ◌^◌, ◌↔◌, if◌then◌else◌, IfOk, IfSome, IsSomeAnd, IsTrue, Some, length, option_map};
+ghost use Rattle.std.specs.Prelude.{◌≡◌, ◌≤◌, ◌<◌, ◌+◌, ◌/◌, ◌^◌, ◌↔◌, if◌then◌else◌, IfOk, IfSome, IsSomeAnd, IsTrue, None, Some, length, option_map, unwrap_or};
 ghost use Rattle.bites_spec.specs.Counts.{fit_of};
 ghost use Rattle.bites_spec.specs.Captured.{FindsGroups, FindsSpan};
 ghost use Rattle.bites_spec.specs.Found.{HasMatch, IsLeastEnd};
@@ -10,7 +10,7 @@ ghost use Rattle.bites_spec.specs.Spans.{is_empty_at};
 ghost use Rattle.bites_spec.specs.Utf8.{step_len};
 ghost use Rattle.bites_c.specs.Codes.{matched, not_matched};
 ghost use Rattle.bites_c.specs.Put.{HasFront, PutsGroups};
-ghost use Rattle.bites_c.specs.Searched.{FindsNext};
+ghost use Rattle.bites_c.specs.Searched.{FindsNext, FindsNextGroups, PutsFound};
 
 use crate::span::BitesSpan;
 use bites_bytes::bytes::{Cache, CaptureLocations, Regex};
@@ -158,6 +158,79 @@ impl Room {
         put_groups(&self.locations, groups);
         true
     }
+
+    /// The same with the groups of the match that is due behind one that ends at `last`, or of the first of all.
+    pub(crate) fn captures_next(
+        &mut self,
+        regex: &Regex,
+        haystack: &[u8],
+        last: Option<usize>,
+        groups: &mut [BitesSpan],
+    ) -> bool
+        requires fits { self.old.fits ≡ fit_of regex.now.program }
+        requires wide { length regex.now.names ≤ length groups.old }
+        ensures put { PutsFound (FindsNextGroups regex.now haystack.now last) (length regex.now.names)
+            (if result then matched else not_matched) groups.old groups.new }
+        ensures len { length groups.new ≡ length groups.old }
+        ensures same { self.new.fits ≡ self.old.fits }
+    {
+        let _pattern = regex.as_str();
+        if !read_next(regex, &mut self.cache, &mut self.locations, haystack, last) {
+            return false;
+        }
+        put_groups(&self.locations, groups);
+        true
+    }
+}
+
+// Reads the groups of the first match from `start` on, and answers where it begins and ends.
+fn read(
+    regex: &Regex,
+    cache: &mut Cache,
+    locations: &mut CaptureLocations,
+    haystack: &[u8],
+    start: usize,
+) -> Option<(usize, usize)>
+    requires cache { cache.old.fits ≡ fit_of regex.now.program }
+    requires locations { length locations.old ≡ regex.now.program.slots }
+    ensures found { option_map (λ s. span s.0 s.1) result ≡ span_at regex.now haystack.now start }
+    ensures lies { IfSome result (λ s. s.1 ≤ length haystack.now) }
+    ensures groups { locations.new ≡ unwrap_or (slots_at regex.now haystack.now start) locations.old }
+    ensures len { length locations.new ≡ length locations.old }
+    ensures fits { cache.new.fits ≡ cache.old.fits }
+{
+    let _pattern = regex.as_str();
+    bites_spec::slots_are_groups();
+    match regex.captures_read_at_with(cache, locations, haystack, start) {
+        Some(found) => Some((found.start(), found.end())),
+        None => None,
+    }
+}
+
+// Reads the groups of the match that is due behind one that ends at `last`, or of the first of all, if there is one.
+fn read_next(
+    regex: &Regex,
+    cache: &mut Cache,
+    locations: &mut CaptureLocations,
+    haystack: &[u8],
+    last: Option<usize>,
+) -> bool
+    requires cache { cache.old.fits ≡ fit_of regex.now.program }
+    requires locations { length locations.old ≡ regex.now.program.slots }
+    ensures next { FindsNextGroups regex.now haystack.now last (if result then Some locations.new else None) }
+    ensures len { length locations.new ≡ length locations.old }
+    ensures fits { cache.new.fits ≡ cache.old.fits }
+{
+    let _pattern = regex.as_str();
+    let Some(end) = last else {
+        return read(regex, cache, locations, haystack, 0).is_some();
+    };
+    let found = read(regex, cache, locations, haystack, end);
+    if !is_empty_at(found, end) {
+        return found.is_some();
+    }
+    let step = step_at(haystack, end);
+    read(regex, cache, locations, haystack, end + step).is_some()
 }
 
 // Whether the two places are both this one.

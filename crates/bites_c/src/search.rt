@@ -7,7 +7,7 @@ ghost use Rattle.bites_spec.specs.Captured.{FindsSpan};
 ghost use Rattle.bites_spec.specs.Found.{HasMatch, IsLeastEnd};
 ghost use Rattle.bites_spec.specs.Match.{span};
 ghost use Rattle.bites_spec.specs.Regex.{span_at};
-ghost use Rattle.bites_c.specs.Searched.{FindsNext, Lacks, PutsCaptures};
+ghost use Rattle.bites_c.specs.Searched.{FindsNext, Lacks, PutsCaptures, PutsNextCaptures};
 
 use crate::cache::BitesCache;
 use crate::codes::{EMPTY_HANDLE, MATCH, NO_MATCH, TOO_SMALL, UNFIT_CACHE};
@@ -110,6 +110,32 @@ impl Search {
             };
         }
         let found = self.room.captures(&self.regex, haystack, start, groups);
+        BitesSize {
+            code: if found { MATCH } else { NO_MATCH },
+            size,
+        }
+    }
+
+    /// The same with the groups of the match that is due behind one that ends at `last`, or of the first of all.
+    pub(crate) fn captures_next(
+        &mut self,
+        haystack: &[u8],
+        last: Option<usize>,
+        groups: &mut [BitesSpan],
+    ) -> BitesSize
+        ensures size { result.size ≡ length self.old.regex.value.names }
+        ensures put { PutsNextCaptures self.old.regex.value haystack.now last result.code groups.old groups.new }
+        ensures regex { self.new.regex.value ≡ self.old.regex.value }
+        ensures fits { self.new.room.value.fits ≡ self.old.room.value.fits }
+    {
+        let size = self.regex.captures_len();
+        if groups.len() < size {
+            return BitesSize {
+                code: TOO_SMALL,
+                size,
+            };
+        }
+        let found = self.room.captures_next(&self.regex, haystack, last, groups);
         BitesSize {
             code: if found { MATCH } else { NO_MATCH },
             size,

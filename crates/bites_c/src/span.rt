@@ -1,8 +1,9 @@
 //! Where a match or a group begins and ends, as C reads it.
 
-ghost use Rattle.std.specs.Prelude.{◌≡◌, option_map};
+ghost use Rattle.std.specs.Prelude.{◌≡◌, ◌↔◌, IsTrue, length, option_map};
 ghost use Rattle.bites_spec.specs.Match.{span};
 ghost use Rattle.bites_c.specs.Put.{PutsSpan, span_for_c};
+ghost use Rattle.bites_c.specs.Replaced.{LiesWithin, span_from_c};
 ghost use Rattle.bites_c.specs.Searched.{last_for_c};
 
 use crate::codes::{MATCH, NO_MATCH};
@@ -26,6 +27,27 @@ impl BitesSpan {
                 start: usize::MAX,
                 end: usize::MAX,
             },
+        }
+    }
+
+    /// Where it begins and ends, but for the greatest number twice.
+    pub(crate) fn ends(self) -> Option<(usize, usize)>
+        ensures { option_map (λ s. span s.0 s.1) result ≡ span_from_c self }
+    {
+        if self.start == usize::MAX && self.end == usize::MAX {
+            None
+        } else {
+            Some((self.start, self.end))
+        }
+    }
+
+    /// Whether it lies in the haystack, or is the greatest number twice.
+    pub(crate) fn lies_within(self, haystack: &[u8]) -> bool
+        ensures { IsTrue result ↔ LiesWithin (length haystack.now) self }
+    {
+        match self.ends() {
+            Some((start, end)) => start <= end && end <= haystack.len(),
+            None => true,
         }
     }
 }

@@ -1,11 +1,17 @@
 //! Texts that are written into what the caller gave.
 
-ghost use Rattle.std.specs.Prelude.{◌≡◌, option_map, slice_index_or};
+ghost use Rattle.std.specs.Prelude.{◌≡◌, IsUtf8, option_map, slice_index_or};
 ghost use Rattle.std.specs.declared.option.Option.TheVariants.{None};
-ghost use Rattle.bites_c.specs.Put.{PutsName, PutsText};
+ghost use Rattle.bites_spec.specs.Expansion.{has_name, index_in};
+ghost use Rattle.bites_bytes.specs.Names.{bytes_of};
+ghost use Rattle.bites_c.specs.Codes.{not_utf8};
+ghost use Rattle.bites_c.specs.Put.{AnswersIndex, PutsMade, PutsName, PutsNone, PutsText};
+ghost use Rattle.bites_c.specs.Replaced.{escaped_text};
 
-use crate::codes::{DONE, NO_NAME, TOO_SMALL};
+use crate::codes::{DONE, NO_MEMORY, NO_NAME, NOT_UTF8, TOO_SMALL};
 use bites_bytes::bytes::Regex;
+use bites_syntax::tree::escape;
+use std::alloc::Global;
 
 /// How a call went that writes into a slice, and how many places its whole answer takes.
 #[repr(C)]
@@ -13,6 +19,15 @@ use bites_bytes::bytes::Regex;
 pub struct BitesSize {
     pub code: u32,
     pub size: usize,
+}
+
+impl BitesSize {
+    /// Nothing was written, for the reason of this number.
+    pub(crate) fn refused(code: u32) -> BitesSize
+        ensures { (result.code ≡ code) × (result.size ≡ 0) }
+    {
+        BitesSize { code, size: 0 }
+    }
 }
 
 /// Puts the text at the front, if there is room for it.
@@ -37,10 +52,7 @@ pub(crate) fn put_name(regex: &Regex, group: usize, out: &mut [u8]) -> BitesSize
 {
     match name_of(regex, group) {
         Some(name) => put(name.as_bytes(), out),
-        None => BitesSize {
-            code: NO_NAME,
-            size: 0,
-        },
+        None => BitesSize::refused(NO_NAME),
     }
 }
 
@@ -51,5 +63,54 @@ fn name_of(regex: &Regex, group: usize) -> Option<&str>
     match regex.capture_names().nth(group) {
         Some(own) => own,
         None => None,
+    }
+}
+
+/// Answers the number of the group of this name, if there is one.
+pub(crate) fn answer_index(regex: &Regex, name: &[u8]) -> BitesSize
+    ensures { AnswersIndex (index_in regex.now.names name.now) result }
+{
+    match index_of(regex, name) {
+        Some(size) => BitesSize { code: DONE, size },
+        None => BitesSize::refused(NO_NAME),
+    }
+}
+
+/// The number of the first group of this name, if there is one.
+pub(crate) fn index_of(regex: &Regex, name: &[u8]) -> Option<usize>
+    ensures { result ≡ index_in regex.now.names name.now }
+{
+    let mut names = regex.capture_names();
+    let mut number = 0;
+    while let Some(own) = names.next() {
+        if is_named(own, name) {
+            return Some(number);
+        }
+        number += 1;
+    }
+    None
+}
+
+// Whether it is this name.
+fn is_named(own: Option<&str>, name: &[u8]) -> bool
+    ensures { result ≡ has_name name.now (bytes_of own.entry) }
+{
+    match own {
+        Some(text) => text.as_bytes() == name,
+        None => false,
+    }
+}
+
+/// Puts the pattern at the front in which each character of the text stands for itself, if there is room for it.
+pub(crate) fn put_escaped(alloc: Global, text: &[u8], out: &mut [u8]) -> BitesSize
+    ensures made { IsUtf8 text.now → PutsMade (escaped_text text.now) result out.old out.new }
+    ensures utf8 { (IsUtf8 text.now → ⊥) → PutsNone not_utf8 result out.old out.new }
+{
+    let Ok(text) = str::from_utf8(text) else {
+        return BitesSize::refused(NOT_UTF8);
+    };
+    match escape(alloc, text) {
+        Ok(pattern) => put(pattern.as_bytes(), out),
+        Err(_) => BitesSize::refused(NO_MEMORY),
     }
 }

@@ -22,8 +22,9 @@ use Rattle.std.proofs.alloc.Calls.{Goes-blank, handle_tells}
 use Rattle.std.proofs.ResultValues.{and_tt}
 use Rattle.std.proofs.raw_atomic.Walks.{proved_at, leaves}
 use Rattle.std.specs.declared.option.Option.TheVariants.{None}
-use Rattle.bites_c.proofs.Values.{both}
-use Rattle.bites_c.proofs.CacheHandles.{Z, al, cache_in}
+use Rattle.std.specs.contracts.alloc.Global.{the_row as Z}
+use Rattle.bites_c.proofs.Values.{al, both}
+use Rattle.bites_c.proofs.CacheHandles.{cache_in}
 use Rattle.bites_c.specs.contracts.cache.BitesCache.empty.{ended, clauses}
 use Rattle.bites_c.specs.contracts.cache.BitesCache.empty.Key.{name as #self}
 use Rattle.bites_c.proofs.cache.BitesCache.empty.Statement.{statement}
