@@ -1,0 +1,194 @@
+//! What `c/bites.h` declares, in its order. That page says what each call answers, and what its caller owes.
+
+use std::ffi::c_void;
+use std::ptr;
+
+pub(crate) const DONE: u32 = 0;
+pub(crate) const MATCH: u32 = 100;
+pub(crate) const NO_MATCH: u32 = 101;
+pub(crate) const EMPTY_HANDLE: u32 = 103;
+pub(crate) const TOO_SMALL: u32 = 105;
+pub(crate) const NO_NAME: u32 = 106;
+
+pub(crate) const CASE_INSENSITIVE: u32 = 1;
+pub(crate) const MULTI_LINE: u32 = 2;
+pub(crate) const DOT_MATCHES_NEW_LINE: u32 = 4;
+pub(crate) const CRLF: u32 = 8;
+pub(crate) const SWAP_GREED: u32 = 16;
+pub(crate) const IGNORE_WHITESPACE: u32 = 32;
+pub(crate) const LEFTMOST_LONGEST: u32 = 64;
+pub(crate) const KEEP_DROPPED_GROUPS: u32 = 128;
+
+pub(crate) const SIZE_LIMIT: usize = 10_485_760;
+pub(crate) const NEST_LIMIT: u32 = 50;
+
+/// Both places of a group that took no part, and the end of the match before where there is none.
+pub(crate) const NONE: usize = usize::MAX;
+
+/// `bites`: a compiled regex, or nothing.
+#[repr(C)]
+pub(crate) struct Bites {
+    at: *mut c_void,
+}
+
+impl Bites {
+    pub(crate) const EMPTY: Bites = Bites {
+        at: ptr::null_mut(),
+    };
+}
+
+/// `bites_cache`: the room that searches take, or nothing.
+#[repr(C)]
+pub(crate) struct BitesCache {
+    at: *mut c_void,
+}
+
+impl BitesCache {
+    pub(crate) const EMPTY: BitesCache = BitesCache {
+        at: ptr::null_mut(),
+    };
+}
+
+/// `bites_span`: where a match or a group begins and ends.
+#[repr(C)]
+#[derive(Clone, Copy, Debug)]
+pub(crate) struct BitesSpan {
+    pub(crate) start: usize,
+    pub(crate) end: usize,
+}
+
+/// `bites_size`: a number of the answers, and a size.
+#[repr(C)]
+#[derive(Clone, Copy)]
+pub(crate) struct BitesSize {
+    pub(crate) code: u32,
+    pub(crate) size: usize,
+}
+
+extern "C" {
+    pub(crate) fn bites_new(
+        pattern: *const u8,
+        len: usize,
+        flags: u32,
+        size_limit: usize,
+        nest_limit: u32,
+        out: *mut Bites,
+    ) -> u32;
+
+    /// Clones of a `Regex` share one handle, so nothing asks for this.
+    #[allow(dead_code)]
+    pub(crate) fn bites_clone(regex: *mut Bites, out: *mut Bites) -> u32;
+
+    pub(crate) fn bites_free(regex: *mut Bites);
+
+    pub(crate) fn bites_cache_new(regex: *mut Bites, out: *mut BitesCache) -> u32;
+
+    pub(crate) fn bites_cache_free(cache: *mut BitesCache);
+
+    pub(crate) fn bites_is_match_at(
+        regex: *mut Bites,
+        cache: *mut BitesCache,
+        haystack: *const u8,
+        len: usize,
+        start: usize,
+    ) -> u32;
+
+    pub(crate) fn bites_shortest_match_at(
+        regex: *mut Bites,
+        cache: *mut BitesCache,
+        haystack: *const u8,
+        len: usize,
+        start: usize,
+        end: *mut usize,
+    ) -> u32;
+
+    pub(crate) fn bites_find_at(
+        regex: *mut Bites,
+        cache: *mut BitesCache,
+        haystack: *const u8,
+        len: usize,
+        start: usize,
+        out: *mut BitesSpan,
+    ) -> u32;
+
+    pub(crate) fn bites_find_next(
+        regex: *mut Bites,
+        cache: *mut BitesCache,
+        haystack: *const u8,
+        len: usize,
+        last: usize,
+        out: *mut BitesSpan,
+    ) -> u32;
+
+    pub(crate) fn bites_captures_at(
+        regex: *mut Bites,
+        cache: *mut BitesCache,
+        haystack: *const u8,
+        len: usize,
+        start: usize,
+        groups: *mut BitesSpan,
+        count: usize,
+    ) -> BitesSize;
+
+    pub(crate) fn bites_captures_next(
+        regex: *mut Bites,
+        cache: *mut BitesCache,
+        haystack: *const u8,
+        len: usize,
+        last: usize,
+        groups: *mut BitesSpan,
+        count: usize,
+    ) -> BitesSize;
+
+    pub(crate) fn bites_captures_len(regex: *mut Bites) -> usize;
+
+    pub(crate) fn bites_static_captures_len(regex: *mut Bites) -> usize;
+
+    pub(crate) fn bites_group_name(
+        regex: *mut Bites,
+        group: usize,
+        name: *mut u8,
+        len: usize,
+    ) -> BitesSize;
+
+    pub(crate) fn bites_group_index(regex: *mut Bites, name: *const u8, len: usize) -> BitesSize;
+
+    pub(crate) fn bites_escape(text: *const u8, len: usize, out: *mut u8, room: usize)
+        -> BitesSize;
+
+    pub(crate) fn bites_replace(
+        regex: *mut Bites,
+        haystack: *const u8,
+        len: usize,
+        limit: usize,
+        template: *const u8,
+        template_len: usize,
+        out: *mut u8,
+        room: usize,
+    ) -> BitesSize;
+
+    pub(crate) fn bites_replace_literal(
+        regex: *mut Bites,
+        haystack: *const u8,
+        len: usize,
+        limit: usize,
+        text: *const u8,
+        text_len: usize,
+        out: *mut u8,
+        room: usize,
+    ) -> BitesSize;
+
+    pub(crate) fn bites_expand(
+        regex: *mut Bites,
+        haystack: *const u8,
+        len: usize,
+        groups: *const BitesSpan,
+        count: usize,
+        template: *const u8,
+        template_len: usize,
+        out: *mut u8,
+        room: usize,
+    ) -> BitesSize;
+
+    pub(crate) fn bites_error_text(code: u32, text: *mut u8, len: usize) -> usize;
+}

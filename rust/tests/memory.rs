@@ -1,0 +1,57 @@
+//! Want of memory: each test runs itself once more with so little memory that the engine is refused some.
+#![cfg(unix)]
+
+use regex_bites::RegexBuilder;
+use std::env;
+use std::process::{Command, Output};
+
+/// A pattern of so many states.
+fn builder(states: usize) -> RegexBuilder {
+    let mut builder = RegexBuilder::new(&format!("a{{{states}}}"));
+    builder.size_limit(usize::MAX);
+    builder
+}
+
+/// Runs the test of this name with so many KiB of address space, and a variable that tells it so.
+fn run_again(test: &str, room: usize) -> Output {
+    let this = env::current_exe().expect("the path of this program");
+    Command::new("sh")
+        .args(["-c", &format!("ulimit -v {room}; exec \"$0\" \"$@\"")])
+        .arg(this)
+        .args(["--exact", test, "--nocapture", "--test-threads=1"])
+        .env("SMALL", "")
+        .env("RUST_BACKTRACE", "0")
+        .output()
+        .expect("the test runs")
+}
+
+fn is_small() -> bool {
+    env::var_os("SMALL").is_some()
+}
+
+#[test]
+fn a_build_answers_an_error() {
+    if !is_small() {
+        let output = run_again("a_build_answers_an_error", 200_000);
+        assert!(output.status.success(), "{output:?}");
+        return;
+    }
+    let refused = builder(20_000_000).build().expect_err("no memory");
+    assert_eq!(refused.to_string(), "out of memory");
+    assert!(builder(10).build().is_ok());
+}
+
+#[test]
+fn a_search_ends_the_program() {
+    if !is_small() {
+        let output = run_again("a_search_ends_the_program", 200_000);
+        let told = String::from_utf8_lossy(&output.stderr);
+        assert!(!output.status.success());
+        assert!(told.contains("regex-bites: out of memory"), "{output:?}");
+        return;
+    }
+    let regex = builder(1_500_000)
+        .build()
+        .expect("a regex takes less than its searches do");
+    regex.is_match("a");
+}

@@ -1,0 +1,114 @@
+//! Asks the rows of the repository's tables, `crates/bites_answers/data`, of this crate, over bytes or over texts as each
+//! row says, and over texts too where a row of bytes has a haystack that is one. The heads of the tables say what a row is.
+//!
+//! With a number as argument only each row of so many is asked: `cargo test --test rows -- 40`.
+
+use std::collections::BTreeMap;
+use std::path::{Path, PathBuf};
+use std::process::ExitCode;
+use std::{env, fs};
+
+mod row;
+mod surface;
+
+use row::Row;
+
+/// What a table asks that no call of the crate answers.
+const LEFT_OUT: [(&str, &str); 3] = [
+    ("tree", "the crate hands out no tree"),
+    ("program", "the crate hands out no compiled program"),
+    ("visits", "the crate tells no number of visits"),
+];
+
+#[derive(Default)]
+struct Report {
+    asked: BTreeMap<String, usize>,
+    left_out: BTreeMap<&'static str, usize>,
+    wrong: usize,
+}
+
+impl Report {
+    fn ask(&mut self, row: &Row) {
+        if let Some((_, reason)) = LEFT_OUT.iter().find(|(call, _)| row.call == *call) {
+            return self.leave_out(reason);
+        }
+        let Ok(pattern) = std::str::from_utf8(&row.pattern) else {
+            return self.leave_out("the pattern is no UTF-8, and a pattern of the crate is a text");
+        };
+        let over_texts = row.kind == "text";
+        if !over_texts {
+            self.compare("bytes", row, surface::over_bytes(row, pattern));
+        }
+        if let Some(answers) = surface::over_texts(row, pattern) {
+            self.compare(
+                if over_texts {
+                    "texts"
+                } else {
+                    "texts, of bytes"
+                },
+                row,
+                answers,
+            );
+        }
+    }
+
+    fn leave_out(&mut self, reason: &'static str) {
+        *self.left_out.entry(reason).or_default() += 1;
+    }
+
+    /// Every way to ask a row must give the wanted answer.
+    fn compare(&mut self, surface: &str, row: &Row, answers: Vec<String>) {
+        *self
+            .asked
+            .entry(format!("{surface}: {}", row.call))
+            .or_default() += 1;
+        if let Some(other) = answers.iter().find(|answer| **answer != row.wanted) {
+            self.wrong += 1;
+            println!(
+                "{}: over {surface}: wanted {}, but got {other}",
+                row.place, row.wanted
+            );
+        }
+    }
+
+    fn print(&self) {
+        for (call, count) in &self.asked {
+            println!("{call}: {count} asked");
+        }
+        for (reason, count) in &self.left_out {
+            println!("left out: {count}, since {reason}");
+        }
+    }
+}
+
+fn tables() -> Vec<PathBuf> {
+    let folder = Path::new(env!("CARGO_MANIFEST_DIR")).join("../crates/bites_answers/data");
+    let entries = fs::read_dir(&folder).expect("the folder of the tables can be read");
+    let mut paths: Vec<_> = entries
+        .map(|entry| entry.expect("an entry").path())
+        .collect();
+    paths.retain(|path| path.extension().is_some_and(|extension| extension == "tsv"));
+    paths.sort();
+    paths
+}
+
+fn main() -> ExitCode {
+    let every = env::args()
+        .skip(1)
+        .find_map(|word| word.parse().ok())
+        .unwrap_or(1);
+    let mut report = Report::default();
+    for path in tables() {
+        for row in row::read(&path).iter().step_by(every) {
+            report.ask(row);
+        }
+    }
+    report.print();
+    let asked: usize = report.asked.values().sum();
+    println!(
+        "test result: {} passed; {} failed",
+        asked - report.wrong,
+        report.wrong
+    );
+    ExitCode::from(u8::from(report.wrong > 0 || asked == 0))
+}
