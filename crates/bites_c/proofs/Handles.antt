@@ -1,7 +1,6 @@
 -- The machine values of a handle of a regex. Assumes `Logic`.
 use Rattle.std.proofs.Common.{◌≡◌, ℕ, List, [], ◌∷◌, ◌++◌, refl, subst}
 use seplogic.Ra.Ura.{Ura}
-use mir.Syntax.{impl, tnil, dnil}
 use mir.Val.{Val, vstruct, of_list}
 use base.Fraction.{full_share}
 use base.Logic.{ent, via, guard, guard_i, never, fst∗, snd∗}
@@ -17,11 +16,9 @@ use denote.Steps.{nothing}
 use denote.Param.{layout}
 use denote.Struct.Struct.{within}
 use denote.Struct.Owning.{shape}
-use Rattle.std.proofs.alloc.Calls.{Al, handle_tells}
+use Rattle.std.proofs.alloc.Calls.{handle_tells}
 use Rattle.std.proofs.cell.Inside.{Good}
-use Rattle.std.specs.contracts.alloc.Global as heap
 use Rattle.std.proofs.GlobalToken.{dealloc_token-Testable}
-use Rattle.std.proofs.alloc.Global.TheLaws as heap_laws
 use Rattle.std.specs.contracts.impls.GlobalAllocator.TheImpl.{ghosts}
 use Rattle.std.specs.declared.option.Option.{Option}
 use Rattle.bites_spec.specs.Regex.{Regex}

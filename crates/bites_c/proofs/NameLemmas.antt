@@ -1,5 +1,5 @@
 -- What an iterator over names has passed over.
-use Rattle.std.proofs.Common.{◌≡◌, ℕ, ◌+◌, ◌≤◌, Bool, true, false, not, cond, List, [], ◌∷◌, ◌++◌, length, map, Option, Some, None, slice_index_or, sym, ap, ap₂, ◌∙◌, subst, arith, lt-ltb, le-ltb}
+use Rattle.std.proofs.Common.{◌≡◌, ℕ, ◌+◌, ◌≤◌, Bool, true, false, not, cond, List, [], ◌∷◌, ◌++◌, length, map, Option, Some, None, slice_index_or, sym, ap, ◌∙◌, subst, arith, lt-ltb, le-ltb}
 use Rattle.std.specs.Prelude.{nat_lt}
 use Rattle.std.specs.List.{prefix_len}
 use Rattle.bites_spec.specs.Expansion.{has_name, index_in}

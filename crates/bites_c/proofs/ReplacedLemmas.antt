@@ -1,7 +1,6 @@
 -- What a template gives for the matches of a haystack.
-use Rattle.std.proofs.Common.{◌≡◌, ◌≢◌, ℕ, zero, suc, ◌⊎◌, inl, inr, ◌≤◌, ◌<◌, Bool, true, false, cond, List, [], ◌∷◌, ◌++◌, map, length, Option, Some, None, refl, sym, ap, ap₂, subst, ◌∙◌, ⊎_elim, true≢false, arith}
-use Rattle.std.specs.Prelude.{not, ◌==◌, ◌&&◌}
-use Rattle.std.specs.List.{list_all}
+use Rattle.std.proofs.Common.{◌≡◌, ℕ, zero, suc, ◌⊎◌, inl, inr, ◌≤◌, ◌<◌, Bool, true, false, cond, List, [], ◌∷◌, map, length, Option, Some, None, refl, sym, ap, ap₂, ◌∙◌, ⊎_elim, arith}
+use Rattle.std.specs.Prelude.{not, ◌==◌}
 use Rattle.std.specs.Borrow.{Bor}
 use Rattle.std.proofs.lemmas.Bool.{and_parts, eq-eqb}
 use Rattle.bites_spec.specs.Code.{code}
@@ -9,12 +8,11 @@ use Rattle.bites_spec.specs.Pieces.{limited, replaced}
 use Rattle.bites_spec.specs.Regex.{Regex}
 use Rattle.bites_spec.specs.Captured.{Captured}
 use Rattle.bites_spec.specs.Iteration.{captures_in}
-use Rattle.bites_spec.specs.Template.{byte, parts_behind, Cuts, ends, plain, expansion, Expands, stands_for}
+use Rattle.bites_spec.specs.Template.{byte, plain, expansion}
 use Rattle.bites_spec.specs.Replace.{Gave, Served}
 use Rattle.bites_spec.specs.Replaced.{span_in, ReplacesIn}
-use Rattle.bites_spec.specs.Replacer.{expanded, is_plain, plain_text, GivesExpansion, AnswersPlain}
+use Rattle.bites_spec.specs.Replacer.{expanded, is_plain, GivesExpansion, AnswersPlain}
 use Rattle.bites_spec.proofs.TemplateLemmas.{expansion_front, expansion_end}
-use Rattle.bites_spec.proofs.SpanLemmas.{bool_cases}
 use Rattle.bites_c.specs.Put.{PutsText, PutsMade}
 use Rattle.bites_c.specs.Replaced.{with_template, with_text}
 use Rattle.bites_c.specs.declared.text.BitesSize.{BitesSize}

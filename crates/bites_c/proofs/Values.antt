@@ -7,10 +7,10 @@ use mir.Syntax.{Dict, impl, tnil, tcons, dnil}
 use mir.Raw.{raw as bare}
 use mir.Val.{Val, vptr, vstruct, vcons, vnil, of_list, has_ty, WT}
 use base.Fraction.{full_share}
-use base.Fml.{Fml, ftrue, fsep, flft}
-use base.Logic.{ent, emp, never, fst∗}
+use base.Fml.{Fml, ftrue, flft}
+use base.Logic.{emp, never, fst∗}
 use types.Logic.{Logic, sem}
-use types.Kit.{Item, Goal, Seq, Step, step, ‵, raw, ◌⊛◌, some, ◌$◌, ◌∵◌, !, qed, done, move, drop, split, split3, join, fsplit, fjoin, fpick, pick, use0, rewrite, feq_i, feq_l}
+use types.Kit.{Item, Goal, Seq, Step, step, ‵, raw, ◌⊛◌, some, ◌$◌, move, drop, split, split3, join, fsplit, fpick, pick, use0, rewrite, feq_l}
 use contract.Monad.{fact, fact_i}
 use contract.BorrowLft.{◌⊑◌}
 use denote.RattleType.{RattleType}
@@ -21,7 +21,6 @@ use denote.Exit.{no}
 use denote.Param.{layout, param, arg}
 use denote.Param.Laws.{Laws, arg_laws}
 use denote.Struct.Tuple.{Tuple}
-use denote.Triple.Spec.{triple_of}
 use Rattle.std.proofs.ResultValues.{and_tt}
 use Rattle.std.proofs.alloc.Calls.{Al, handle_tells}
 use Rattle.std.proofs.cell.Inside.{Good}
@@ -30,7 +29,6 @@ use Rattle.std.proofs.BoxSteps.Steps.{box_out, box_in}
 use Rattle.std.specs.contracts.alloc.Global as heap
 use Rattle.std.proofs.alloc.Global.TheLaws as heap_laws
 use Rattle.std.specs.contracts.impls.GlobalAllocator.TheImpl as allocator
-use Rattle.std.specs.contracts.boxed.Box.into_raw_with_allocator as apart
 use Rattle.bites_c.specs.Holding.{boxed}
 
 abbrev pub both : Val → Val → Val

@@ -5,7 +5,7 @@ use lib.Dec.{T}
 use mir.Raw.{raw as bare}
 use mir.Val.{Val, vptr, vcons, vnil, has_ty, WT}
 use base.Fraction.{full_share}
-use base.Logic.{SProp, ent, emp, id⊢}
+use base.Logic.{ent, emp, id⊢}
 use prog.Wp.{WpFn}
 use types.Kit.{‵, raw, ◌⊛◌, some, later, at_ret, ◌$◌, ◌∵◌, !, qed, by, move, keep, split, fsplit, fjoin, feq_i, suffices, use0, use1, await}
 use types.Match.{live}
