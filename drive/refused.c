@@ -392,10 +392,8 @@ static void try_rows(const struct row *some, size_t count, bool are_quiet) {
     for (size_t index = 0; index < count; index++) {
         const struct row *row = &some[index];
         size_t needed = 0;
-        if (are_quiet)
-            report_row(row, is_quiet(row, &needed), needed, "each refused in turn, and none by the calls");
-        else
-            report_row(row, try_row(row, text_of(row->haystack), &needed), needed, "each refused in turn");
+        bool is_right = are_quiet ? is_quiet(row, &needed) : try_row(row, text_of(row->haystack), &needed);
+        report_row(row, is_right, needed, are_quiet ? "each refused in turn, and none by the calls" : "each refused in turn");
     }
 }
 
