@@ -106,7 +106,7 @@ fn compare_all(
     let part = take_part(&answers, subject.first.static_captures_len());
     report.hold(
         asked,
-        "so many groups take part as the form says",
+        "at least so many groups take part as the form says",
         place,
         part,
     )?;
@@ -205,13 +205,13 @@ fn lies_within(span: Span, whole: Span) -> bool {
     whole.start() <= span.start() && span.start() <= span.end() && span.end() <= whole.end()
 }
 
-// Whether so many groups take part in each match, if their number is known.
+// Whether at least so many groups take part in each match, if a number is known.
 fn take_part(answers: &Answers, known: Option<usize>) -> bool {
     let Some(known) = known else {
         return true;
     };
     for groups in answers.groups() {
-        if groups.iter().flatten().count() != known {
+        if groups.iter().flatten().count() < known {
             return false;
         }
     }
