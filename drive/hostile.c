@@ -5,6 +5,8 @@
  *
  * hostile PROGRAM: the path of the program bites.
  */
+#include "bites_drive.h"
+
 #include <errno.h>
 #include <stdbool.h>
 #include <stddef.h>
@@ -15,10 +17,6 @@
 #include <sys/resource.h>
 #include <sys/wait.h>
 #include <unistd.h>
-
-size_t bites_job(const uint8_t *job, size_t job_len, const uint8_t *pattern, size_t pattern_len,
-                 const uint8_t *haystack, size_t haystack_len, const uint8_t *template, size_t template_len,
-                 uint8_t *room, size_t room_len);
 
 /* The allocator of the C library. */
 

@@ -6,16 +6,14 @@
  *
  * Each row is run twice over: once so that the requests behind the refused one are granted, once so that they are refused too.
  */
+#include "bites_drive.h"
+
 #include <stdbool.h>
 #include <stddef.h>
 #include <stdint.h>
 #include <stdio.h>
 #include <stdlib.h>
 #include <string.h>
-
-size_t bites_job(const uint8_t *job, size_t job_len, const uint8_t *pattern, size_t pattern_len,
-                 const uint8_t *haystack, size_t haystack_len, const uint8_t *template, size_t template_len,
-                 uint8_t *room, size_t room_len);
 
 /* The allocator. */
 

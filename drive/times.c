@@ -2,14 +2,13 @@
  * Times searches against the length of the haystack and against the number of states, and prints nanoseconds per byte, and per
  * byte and state. The growth is linear where a column stays level. The answers are printed too, so that nothing is left out.
  */
+#include "bites_drive.h"
+
 #include <stdint.h>
 #include <stdio.h>
 #include <stdlib.h>
 #include <string.h>
 #include <time.h>
-
-size_t bites_bench(uint32_t job, const uint8_t *pattern, size_t pattern_len, const uint8_t *haystack,
-                   size_t haystack_len, const uint8_t *template, size_t template_len, size_t times);
 
 enum { FIND_ITER = 0, IS_MATCH = 4 };
 

@@ -2,6 +2,7 @@
 #![deny(missing_docs, unsafe_code, rustdoc::broken_intra_doc_links)]
 #![warn(missing_debug_implementations)]
 
+mod builder;
 pub mod bytes;
 mod engine;
 mod error;

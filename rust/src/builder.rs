@@ -1,0 +1,90 @@
+//! The builder, which is the same for texts and for bytes but for the regex that it builds.
+
+/// Defines `RegexBuilder`, where `Regex` is the type of the module.
+macro_rules! regex_builder {
+    () => {
+        /// A pattern with the flags and limits that it is to be built with.
+        #[derive(Debug)]
+        pub struct RegexBuilder {
+            pattern: String,
+            settings: Settings,
+        }
+
+        impl RegexBuilder {
+            /// The pattern with no flag set and with the default limits.
+            pub fn new(pattern: &str) -> RegexBuilder {
+                RegexBuilder {
+                    pattern: pattern.to_string(),
+                    settings: Settings::default(),
+                }
+            }
+
+            /// Compiles the pattern. The error says why it is refused.
+            pub fn build(&self) -> Result<Regex, Error> {
+                let engine = Engine::new(&self.pattern, self.settings)?;
+                Ok(Regex {
+                    engine: Rc::new(engine),
+                })
+            }
+
+            /// Sets the flag `i`: ASCII letters match in both cases.
+            pub fn case_insensitive(&mut self, yes: bool) -> &mut RegexBuilder {
+                self.set(sys::CASE_INSENSITIVE, yes)
+            }
+
+            /// Sets the flag `m`: `^` and `$` hold at the ends of lines too.
+            pub fn multi_line(&mut self, yes: bool) -> &mut RegexBuilder {
+                self.set(sys::MULTI_LINE, yes)
+            }
+
+            /// Sets the flag `s`: `.` matches the ends of lines too.
+            pub fn dot_matches_new_line(&mut self, yes: bool) -> &mut RegexBuilder {
+                self.set(sys::DOT_MATCHES_NEW_LINE, yes)
+            }
+
+            /// Sets the flag `R`: CR, LF and CR LF end a line.
+            pub fn crlf(&mut self, yes: bool) -> &mut RegexBuilder {
+                self.set(sys::CRLF, yes)
+            }
+
+            /// Sets the flag `U`: `x*` prefers few and `x*?` many.
+            pub fn swap_greed(&mut self, yes: bool) -> &mut RegexBuilder {
+                self.set(sys::SWAP_GREED, yes)
+            }
+
+            /// Sets the flag `x`: white space and comments in the pattern are passed over.
+            pub fn ignore_whitespace(&mut self, yes: bool) -> &mut RegexBuilder {
+                self.set(sys::IGNORE_WHITESPACE, yes)
+            }
+
+            /// How large the compiled pattern may be, by a measure that is near to bytes; 10485760 by default.
+            pub fn size_limit(&mut self, limit: usize) -> &mut RegexBuilder {
+                self.settings.set_size_limit(limit);
+                self
+            }
+
+            /// How deep the pattern may be nested; 50 by default.
+            pub fn nest_limit(&mut self, limit: u32) -> &mut RegexBuilder {
+                self.settings.set_nest_limit(limit);
+                self
+            }
+
+            /// Whether searches answer the longest match in the place of the preferred one. The Rust crate has no such switch.
+            pub fn leftmost_longest(&mut self, yes: bool) -> &mut RegexBuilder {
+                self.set(sys::LEFTMOST_LONGEST, yes)
+            }
+
+            /// Whether groups that the pattern repeats 0 times keep their numbers and names. The Rust crate has no such switch.
+            pub fn keep_dropped_groups(&mut self, yes: bool) -> &mut RegexBuilder {
+                self.set(sys::KEEP_DROPPED_GROUPS, yes)
+            }
+
+            fn set(&mut self, flag: u32, yes: bool) -> &mut RegexBuilder {
+                self.settings.set(flag, yes);
+                self
+            }
+        }
+    };
+}
+
+pub(crate) use regex_builder;
