@@ -143,7 +143,7 @@ static bool try_call(const struct call *call, size_t *count) {
     for (int turn = 0; turn < 2; turn++)
         for (size_t number = 1;; number++) {
             if (!run(call, number, turn == 1, &needed)) return false;
-            if (needed < number || refusals == 0) break;
+            if (refusals == 0) break;
         }
     return *count > 0;
 }

@@ -1,6 +1,6 @@
 //! What a regex over texts asks of what it is given.
 
-ghost use Rattle.std.specs.Prelude.{◌≡◌, ◌↔◌, IfSome, IsTrue, IsUtf8, MatchBool, MatchOption, ⊤};
+ghost use Rattle.std.specs.Prelude.{◌≡◌, ◌↔◌, IsTrue, IsUtf8, MatchBool, MatchOption, ⊤};
 ghost use Rattle.bites_c.specs.Codes.{not_border};
 ghost use Rattle.bites_c.specs.Texts.{AreUtf8, AsksBehind, AsksFrom, IsBorder};
 
@@ -22,7 +22,7 @@ pub(crate) fn fault_from(is_text: bool, haystack: &[u8], start: usize) -> Option
 }
 
 /// Why a search is refused that goes on behind a match that ends at `last`, or begins at the first of all, if it is. Behind a
-/// match the haystack is not read again, so that all matches together take one look at it.
+/// match the haystack is not read from end to end again, so all matches together take one check of it.
 pub(crate) fn fault_behind(is_text: bool, haystack: &[u8], last: Option<usize>) -> Option<u32>
     ensures { MatchOption result
         (IsTrue is_text → MatchOption last (IsUtf8 haystack.now) (IsBorder haystack.now))
