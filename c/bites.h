@@ -11,10 +11,10 @@
  *
  * Texts. A regex that was made with BITES_TEXT, and its clones, ask that haystacks are texts: each call with a haystack answers
  * BITES_NOT_UTF8 where it, or a template or a text beside it, is no UTF-8, and BITES_NOT_BORDER where the place to start from
- * lies within one of its characters, which reads the haystack once from end to end. What they find begins and ends between
+ * lies within one of its characters. That reads the haystack from end to end. What such a call finds begins and ends between
  * characters. A call that goes on behind a match, bites_find_next or bites_captures_next with a `last` that is not BITES_NONE,
- * checks that place alone: its caller goes on in the haystack that was checked for the first match. So all matches together
- * take one such check. Without the flag nothing is checked.
+ * checks that place alone: its caller goes on in the haystack that was checked for the first match. So all matches of a
+ * haystack together take one check of it. Without the flag nothing is checked.
  *
  * Answers. Each call answers one of the numbers below. Want of memory is one of them, and loses nothing: what a call was
  * given is then as it was, but that `out` of a call that makes something holds nothing. No search takes memory. */
