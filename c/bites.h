@@ -9,6 +9,13 @@
  * What a call writes never overlaps what it reads. A haystack is any bytes; places are numbers of bytes from its start, and
  * assertions look at the bytes before `start` too. A start past the end finds nothing.
  *
+ * Texts. A regex that was made with BITES_TEXT, and its clones, ask that haystacks are texts: each call with a haystack answers
+ * BITES_NOT_UTF8 where it, or a template or a text beside it, is no UTF-8, and BITES_NOT_BORDER where the place to start from
+ * lies within one of its characters. That reads the haystack from end to end. What such a call finds begins and ends between
+ * characters. A call that goes on behind a match, bites_find_next or bites_captures_next with a `last` that is not BITES_NONE,
+ * checks that place alone: its caller goes on in the haystack that was checked for the first match. So all matches of a
+ * haystack together take one check of it. Without the flag nothing is checked.
+ *
  * Answers. Each call answers one of the numbers below. Want of memory is one of them, and loses nothing: what a call was
  * given is then as it was, but that `out` of a call that makes something holds nothing. No search takes memory. */
 #ifndef BITES_H
@@ -22,15 +29,16 @@ enum {
     BITES_NO_MEMORY = 58,
     BITES_MATCH = 100,
     BITES_NO_MATCH = 101,
-    BITES_NOT_UTF8 = 102,     /* the pattern or the text is no UTF-8 */
+    BITES_NOT_UTF8 = 102,     /* the pattern or the text is no UTF-8; or, over texts, the haystack or the template */
     BITES_EMPTY_HANDLE = 103, /* a handle holds nothing */
     BITES_UNFIT_CACHE = 104,  /* the cache was made for a regex of another size */
     BITES_TOO_SMALL = 105,    /* what the caller gave has too few places; it stays as it was */
     BITES_NO_NAME = 106,      /* there is no such group, or it has no name; or no group has the name */
-    BITES_BAD_SPAN = 107      /* a span does not lie in the haystack */
+    BITES_BAD_SPAN = 107,     /* a span does not lie in the haystack */
+    BITES_NOT_BORDER = 108    /* over texts: a place to start from, or an end of a span, lies within a character */
 };
 
-/* Flags of bites_new, which may be added up. */
+/* Flags of bites_new, which may be added up. Bits that have no name here change nothing. */
 enum {
     BITES_CASE_INSENSITIVE = 1,      /* i */
     BITES_MULTI_LINE = 2,            /* m */
@@ -39,7 +47,8 @@ enum {
     BITES_SWAP_GREED = 16,           /* U */
     BITES_IGNORE_WHITESPACE = 32,    /* x */
     BITES_LEFTMOST_LONGEST = 64,     /* searches answer the longest match in place of the preferred one */
-    BITES_KEEP_DROPPED_GROUPS = 128  /* groups that the pattern repeats 0 times keep their numbers and names */
+    BITES_KEEP_DROPPED_GROUPS = 128, /* groups that the pattern repeats 0 times keep their numbers and names */
+    BITES_TEXT = 256                 /* haystacks are texts, and are checked to be */
 };
 
 /* The limits that are taken where nothing else is wanted. */
@@ -68,7 +77,8 @@ uint32_t bites_cache_new(bites *regex, bites_cache *out);
 void bites_cache_free(bites_cache *cache);
 
 /* A search answers BITES_MATCH or BITES_NO_MATCH, or what is wrong with its handles: BITES_EMPTY_HANDLE or
- * BITES_UNFIT_CACHE. What it writes to stays as it was but for BITES_MATCH. */
+ * BITES_UNFIT_CACHE; then, over texts, BITES_NOT_UTF8 or BITES_NOT_BORDER. What it writes to stays as it was but for
+ * BITES_MATCH. */
 
 /* Whether the regex matches at some place from `start` on. */
 uint32_t bites_is_match_at(bites *regex, bites_cache *cache, const uint8_t *haystack, size_t len, size_t start);
@@ -120,7 +130,8 @@ bites_size bites_replace(bites *regex, const uint8_t *haystack, size_t len, size
 bites_size bites_replace_literal(bites *regex, const uint8_t *haystack, size_t len, size_t limit, const uint8_t *text, size_t text_len, uint8_t *out, size_t room);
 
 /* What the template stands for by these groups of the regex in the haystack; a group from `count` on took no part. A span that
- * is not BITES_NONE twice and does not lie in the haystack is BITES_BAD_SPAN. */
+ * is not BITES_NONE twice and does not lie in the haystack is BITES_BAD_SPAN. Over texts BITES_NOT_UTF8 comes before that, and
+ * BITES_NOT_BORDER behind it, where a span begins or ends within a character. */
 bites_size bites_expand(bites *regex, const uint8_t *haystack, size_t len, const bites_span *groups, size_t count, const uint8_t *template_text, size_t template_len, uint8_t *out, size_t room);
 
 /* Puts as much of the text of an error's number, 1 to 58, into `text` as fits, with no NUL, and answers its length: 0 for

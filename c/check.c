@@ -222,6 +222,130 @@ static void flags(void) {
     bites_free(&regex);
 }
 
+/* a letter of two bytes between an a and a b, and the same without its second byte */
+#define TEXT BYTES("a\xc3\xa9" "b")
+#define NO_TEXT BYTES("a\xc3" "b")
+#define PATTERN BYTES("[^a](b)?")
+
+static void searches_of_texts(void) {
+    bites regex = {0}, copy = {0}, other = {0};
+    bites_cache cache = {0};
+    bites_span m = {7, 7};
+    size_t end = 7;
+    CHECK(bites_new(PATTERN, BITES_TEXT, LIMITS, &regex) == BITES_DONE && bites_clone(&regex, &copy) == BITES_DONE);
+    CHECK(bites_is_match_at(&regex, &cache, NO_TEXT, 0) == BITES_EMPTY_HANDLE);
+    CHECK(bites_new(BYTES("(a)(b)(c)"), BITES_TEXT, LIMITS, &other) == BITES_DONE && bites_cache_new(&other, &cache) == BITES_DONE);
+    CHECK(bites_is_match_at(&regex, &cache, NO_TEXT, 0) == BITES_UNFIT_CACHE);
+    CHECK(bites_cache_new(&regex, &cache) == BITES_DONE);
+    CHECK(bites_is_match_at(&regex, &cache, NO_TEXT, 2) == BITES_NOT_UTF8);
+    CHECK(bites_is_match_at(&regex, &cache, NO_TEXT, 9) == BITES_NOT_UTF8);
+    CHECK(bites_is_match_at(&regex, &cache, TEXT, 2) == BITES_NOT_BORDER);
+    CHECK(bites_is_match_at(&regex, &cache, TEXT, 1) == BITES_MATCH && bites_is_match_at(&regex, &cache, TEXT, 3) == BITES_MATCH);
+    CHECK(bites_is_match_at(&regex, &cache, TEXT, 4) == BITES_NO_MATCH && bites_is_match_at(&regex, &cache, TEXT, 5) == BITES_NO_MATCH);
+    CHECK(bites_is_match_at(&regex, &cache, BYTES(""), 0) == BITES_NO_MATCH);
+    CHECK(bites_is_match_at(&copy, &cache, NO_TEXT, 0) == BITES_NOT_UTF8 && bites_is_match_at(&copy, &cache, TEXT, 2) == BITES_NOT_BORDER);
+    CHECK(bites_shortest_match_at(&regex, &cache, NO_TEXT, 0, &end) == BITES_NOT_UTF8 && end == 7);
+    CHECK(bites_shortest_match_at(&regex, &cache, TEXT, 2, &end) == BITES_NOT_BORDER && end == 7);
+    CHECK(bites_shortest_match_at(&regex, &cache, TEXT, 0, &end) == BITES_MATCH && end == 3);
+    CHECK(bites_find_at(&regex, &cache, NO_TEXT, 0, &m) == BITES_NOT_UTF8 && m.start == 7 && m.end == 7);
+    CHECK(bites_find_at(&regex, &cache, TEXT, 2, &m) == BITES_NOT_BORDER && m.start == 7 && m.end == 7);
+    CHECK(bites_find_at(&regex, &cache, TEXT, 0, &m) == BITES_MATCH && m.start == 1 && m.end == 4);
+    /* without the flag, and with a bit that has no name, nothing is checked */
+    CHECK(bites_new(PATTERN, 1u << 31 | 512, LIMITS, &regex) == BITES_DONE && bites_cache_new(&regex, &cache) == BITES_DONE);
+    CHECK(bites_find_at(&regex, &cache, NO_TEXT, 2, &m) == BITES_MATCH && m.start == 2 && m.end == 3);
+    CHECK(bites_find_at(&regex, &cache, TEXT, 3, &m) == BITES_MATCH && m.start == 3);
+    CHECK(bites_is_match_at(&regex, &cache, TEXT, 2) == BITES_MATCH);
+    bites_cache_free(&cache);
+    bites_free(&other);
+    bites_free(&copy);
+    bites_free(&regex);
+}
+
+/* behind a match the place alone is checked */
+static void successive_in_texts(void) {
+    bites regex = {0};
+    bites_cache cache = {0};
+    bites_span m = {7, 7};
+    CHECK(bites_new(PATTERN, BITES_TEXT, LIMITS, &regex) == BITES_DONE && bites_cache_new(&regex, &cache) == BITES_DONE);
+    CHECK(bites_find_next(&regex, &cache, NO_TEXT, BITES_NONE, &m) == BITES_NOT_UTF8 && m.start == 7);
+    CHECK(bites_find_next(&regex, &cache, TEXT, 2, &m) == BITES_NOT_BORDER && m.start == 7);
+    CHECK(bites_find_next(&regex, &cache, TEXT, BITES_NONE, &m) == BITES_MATCH && m.start == 1 && m.end == 4);
+    CHECK(bites_find_next(&regex, &cache, TEXT, 4, &m) == BITES_NO_MATCH && bites_find_next(&regex, &cache, TEXT, 5, &m) == BITES_NO_MATCH);
+    CHECK(bites_find_next(&regex, &cache, NO_TEXT, 2, &m) == BITES_MATCH && m.start == 2 && m.end == 3);
+    /* empty matches stand between characters */
+    CHECK(bites_new(BYTES("x*"), BITES_TEXT, LIMITS, &regex) == BITES_DONE && bites_cache_new(&regex, &cache) == BITES_DONE);
+    const size_t wanted[] = {0, 1, 3, 4};
+    size_t count = 0;
+    for (size_t last = BITES_NONE; bites_find_next(&regex, &cache, TEXT, last, &m) == BITES_MATCH; last = m.end, count++)
+        CHECK(count < 4 && m.start == wanted[count] && m.end == wanted[count]);
+    CHECK(count == 4);
+    bites_cache_free(&cache);
+    bites_free(&regex);
+}
+
+/* whether no size was answered, for this reason, and the place stayed */
+static int is_refused(bites_size size, uint32_t code, bites_span place) {
+    return size.code == code && size.size == 0 && place.start == 7 && place.end == 7;
+}
+
+static void groups_in_texts(void) {
+    bites regex = {0};
+    bites_cache cache = {0};
+    bites_span groups[2] = {{7, 7}, {7, 7}};
+    CHECK(bites_new(PATTERN, BITES_TEXT, LIMITS, &regex) == BITES_DONE && bites_cache_new(&regex, &cache) == BITES_DONE);
+    /* what is wrong with the haystack or the place comes before places that are too few */
+    CHECK(is_refused(bites_captures_at(&regex, &cache, NO_TEXT, 2, groups, 1), BITES_NOT_UTF8, groups[0]));
+    CHECK(is_refused(bites_captures_at(&regex, &cache, TEXT, 2, groups, 1), BITES_NOT_BORDER, groups[0]));
+    CHECK(bites_captures_at(&regex, &cache, TEXT, 1, groups, 1).code == BITES_TOO_SMALL && groups[0].end == 7);
+    CHECK(is_refused(bites_captures_next(&regex, &cache, NO_TEXT, BITES_NONE, groups, 1), BITES_NOT_UTF8, groups[0]));
+    CHECK(is_refused(bites_captures_next(&regex, &cache, TEXT, 2, groups, 1), BITES_NOT_BORDER, groups[0]));
+    CHECK(bites_captures_next(&regex, &cache, TEXT, 4, groups, 1).code == BITES_TOO_SMALL && groups[0].end == 7);
+    CHECK(bites_captures_at(&regex, &cache, TEXT, 1, groups, 2).code == BITES_MATCH && groups[0].start == 1 && groups[0].end == 4);
+    CHECK(groups[1].start == 3 && groups[1].end == 4);
+    CHECK(bites_captures_next(&regex, &cache, TEXT, BITES_NONE, groups, 2).code == BITES_MATCH && groups[0].start == 1);
+    CHECK(bites_captures_next(&regex, &cache, NO_TEXT, 2, groups, 2).code == BITES_MATCH && groups[0].start == 2);
+    CHECK(bites_captures_next(&regex, &cache, TEXT, 4, groups, 2).code == BITES_NO_MATCH && groups[0].start == 2);
+    bites_cache_free(&cache);
+    bites_free(&regex);
+}
+
+/* whether nothing was put, for this reason */
+static int is_unput(bites_size size, uint32_t code, const uint8_t *out) {
+    return size.code == code && size.size == 0 && out[0] == '-';
+}
+
+static void replaced_texts(void) {
+    bites regex = {0};
+    uint8_t out[32] = "-";
+    bites_span groups[3] = {{1, 3}, {3, 4}, {BITES_NONE, BITES_NONE}};
+    CHECK(bites_replace(&regex, NO_TEXT, 0, NO_TEXT, out, 9).code == BITES_EMPTY_HANDLE);
+    CHECK(bites_new(PATTERN, BITES_TEXT, LIMITS, &regex) == BITES_DONE);
+    CHECK(is_unput(bites_replace(&regex, NO_TEXT, 0, TEXT, out, 0), BITES_NOT_UTF8, out));
+    CHECK(is_unput(bites_replace(&regex, TEXT, 0, NO_TEXT, out, 9), BITES_NOT_UTF8, out));
+    CHECK(is_unput(bites_replace_literal(&regex, NO_TEXT, 0, TEXT, out, 0), BITES_NOT_UTF8, out));
+    CHECK(is_unput(bites_replace_literal(&regex, TEXT, 0, NO_TEXT, out, 9), BITES_NOT_UTF8, out));
+    CHECK(is_unput(bites_expand(&regex, NO_TEXT, groups, 3, BYTES("$1"), out, 9), BITES_NOT_UTF8, out));
+    CHECK(is_unput(bites_expand(&regex, TEXT, groups, 3, NO_TEXT, out, 9), BITES_NOT_UTF8, out));
+    groups[0].end = 2;
+    CHECK(is_unput(bites_expand(&regex, TEXT, groups, 3, BYTES("$1"), out, 9), BITES_NOT_BORDER, out));
+    groups[0].start = 2, groups[0].end = 3;
+    CHECK(is_unput(bites_expand(&regex, TEXT, groups, 3, BYTES("$1"), out, 9), BITES_NOT_BORDER, out));
+    /* a span that does not lie in the haystack comes before one with no borders, and behind what is no UTF-8 */
+    groups[1].end = 5;
+    CHECK(is_unput(bites_expand(&regex, TEXT, groups, 3, BYTES("$1"), out, 9), BITES_BAD_SPAN, out));
+    CHECK(is_unput(bites_expand(&regex, TEXT, groups, 3, NO_TEXT, out, 9), BITES_NOT_UTF8, out));
+    groups[0].start = 1, groups[1].end = 4;
+    CHECK(is_text(bites_expand(&regex, TEXT, groups, 3, BYTES("$1$0$2"), out, 9), out, "b\xc3\xa9"));
+    CHECK(is_text(bites_replace(&regex, TEXT, 0, BYTES("<$1>"), out, 9), out, "a<b>"));
+    CHECK(is_text(bites_replace_literal(&regex, TEXT, 0, BYTES("<$1>"), out, 9), out, "a<$1>"));
+    /* without the flag all are answered */
+    groups[0].start = 2;
+    CHECK(bites_new(PATTERN, 0, LIMITS, &regex) == BITES_DONE);
+    CHECK(is_text(bites_expand(&regex, TEXT, groups, 3, BYTES("$0"), out, 9), out, "\xa9"));
+    CHECK(is_text(bites_replace_literal(&regex, BYTES("a\xff"), 1, BYTES("\xfe"), out, 9), out, "a\xfe"));
+    bites_free(&regex);
+}
+
 int main(void) {
     searches();
     successive();
@@ -233,6 +357,10 @@ int main(void) {
     handles();
     refusals();
     flags();
+    searches_of_texts();
+    successive_in_texts();
+    groups_in_texts();
+    replaced_texts();
     puts("all answers are as they should be");
     return 0;
 }

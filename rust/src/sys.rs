@@ -9,6 +9,9 @@ pub(crate) const NO_MATCH: u32 = 101;
 pub(crate) const EMPTY_HANDLE: u32 = 103;
 pub(crate) const TOO_SMALL: u32 = 105;
 pub(crate) const NO_NAME: u32 = 106;
+/// Searches over texts alone answer this.
+#[allow(dead_code)]
+pub(crate) const NOT_BORDER: u32 = 108;
 
 pub(crate) const CASE_INSENSITIVE: u32 = 1;
 pub(crate) const MULTI_LINE: u32 = 2;
@@ -18,6 +21,9 @@ pub(crate) const SWAP_GREED: u32 = 16;
 pub(crate) const IGNORE_WHITESPACE: u32 = 32;
 pub(crate) const LEFTMOST_LONGEST: u32 = 64;
 pub(crate) const KEEP_DROPPED_GROUPS: u32 = 128;
+/// The texts of this crate are UTF-8 already, so nothing asks for this.
+#[allow(dead_code)]
+pub(crate) const TEXT: u32 = 256;
 
 pub(crate) const SIZE_LIMIT: usize = 10_485_760;
 pub(crate) const NEST_LIMIT: u32 = 50;

@@ -131,5 +131,5 @@ fn the_numbers_are_those_of_the_header() {
         assert_eq!(wanted[name].replace('_', ""), value, "{name}");
         count += 1;
     }
-    assert_eq!(count, 17);
+    assert_eq!(count, 19);
 }

@@ -7,4 +7,5 @@ pub mod NameLemmas
 pub mod NextLemmas
 pub mod ReplacedLemmas
 pub mod SlotsLemmas
+pub mod TextLemmas
 pub mod Values

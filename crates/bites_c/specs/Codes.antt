@@ -38,6 +38,10 @@ no_name = 106
 abbrev pub bad_span : ℕ
 bad_span = 107
 
+-- a place lies within a character
+abbrev pub not_border : ℕ
+not_border = 108
+
 -- the number of an error, from 1 on; want of memory is 58
 abbrev pub code_of : Error → ℕ
 code_of TooMuchNesting = 1

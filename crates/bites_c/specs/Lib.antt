@@ -4,4 +4,5 @@ pub mod Made
 pub mod Put
 pub mod Replaced
 pub mod Searched
+pub mod Texts
 pub mod Words

@@ -8,25 +8,38 @@ use Rattle.bites_spec.specs.Match.{Span}
 use Rattle.bites_spec.specs.Iteration.{spans_behind, captures_behind}
 use Rattle.bites_c.specs.Put.{Puts, PutsGroups, PutsSpan}
 use Rattle.bites_c.specs.Codes.{matched, not_matched, empty_handle, unfit_cache, too_small}
+use Rattle.bites_c.specs.Texts.{AsksFrom, AsksBehind}
+use Rattle.bites_c.specs.declared.held.Held.{Held}
 use Rattle.bites_c.specs.declared.span.BitesSpan.{BitesSpan}
 
--- a search is made if there is a regex and room that fits it, and P then says of the regex what it answered; else the number
--- says what is missing, and S holds
-abbrev pub Searched : Option Regex → Option Room → ℕ → Type 0 → (Regex → Type 0) → Type 0
+-- a search is made if there is a regex and room that fits it, and P then says of what the handle holds what was answered; else
+-- the number says what is missing, and S holds
+abbrev pub Searched : Option Held → Option Room → ℕ → Type 0 → (Held → Type 0) → Type 0
 Searched None room number S P = (number ≡ empty_handle) × S
-Searched (Some regex) None number S P = (number ≡ empty_handle) × S
-Searched (Some regex) (Some room) number S P =
-    (room.fits ≡ fit_of regex.program → P regex) × (room.fits ≢ fit_of regex.program → (number ≡ unfit_cache) × S)
+Searched (Some held) None number S P = (number ≡ empty_handle) × S
+Searched (Some held) (Some room) number S P =
+    (room.fits ≡ fit_of held.regex.program → P held) × (room.fits ≢ fit_of held.regex.program → (number ≡ unfit_cache) × S)
+
+-- the same of a search from a place on: over texts the number also says what the haystack and the place lack, and P speaks of
+-- the regex
+abbrev pub SearchedFrom : List ℕ → ℕ → Option Held → Option Room → ℕ → Type 0 → (Regex → Type 0) → Type 0
+SearchedFrom hay start held room number S P =
+    Searched held room number S (λ h. AsksFrom h.is_text hay start number S (P h.regex))
+
+-- and of one that goes on behind a match, or of the first of all
+abbrev pub SearchedBehind : List ℕ → Option ℕ → Option Held → Option Room → ℕ → Type 0 → (Regex → Type 0) → Type 0
+SearchedBehind hay last held room number S P =
+    Searched held room number S (λ h. AsksBehind h.is_text hay last number S (P h.regex))
 
 -- a match is answered exactly if Q holds, and none exactly if it does not
 abbrev pub AnswersIf : ℕ → Type 0 → Type 0
 AnswersIf number Q = (number ≡ matched ↔ Q) × (number ≡ not_matched ↔ (Q → ⊥))
 
 -- what a number says of handles by which no search can be made
-abbrev pub Lacks : Option Regex → Option Room → ℕ → Type 0
+abbrev pub Lacks : Option Held → Option Room → ℕ → Type 0
 Lacks None room number = number ≡ empty_handle
-Lacks (Some regex) None number = number ≡ empty_handle
-Lacks (Some regex) (Some room) number = (room.fits ≢ fit_of regex.program) × (number ≡ unfit_cache)
+Lacks (Some held) None number = number ≡ empty_handle
+Lacks (Some held) (Some room) number = (room.fits ≢ fit_of held.regex.program) × (number ≡ unfit_cache)
 
 -- of what was found P holds
 abbrev pub AnswersPlace : ℕ → ℕ → ℕ → (Option ℕ → Type 0) → Type 0

@@ -25,6 +25,10 @@ longest_in word = has_bit word 64
 abbrev pub keeps_in : ℕ → Bool
 keeps_in word = has_bit word 128
 
+-- whether searches are to be over texts
+abbrev pub text_in : ℕ → Bool
+text_in word = has_bit word 256
+
 -- the settings that a pattern, a word and two limits ask for
 abbrev pub asked : List ℕ → ℕ → ℕ → ℕ → Settings
 asked pattern word size_limit nest_limit = settings pattern (flags_in word) size_limit nest_limit (keeps_in word) (longest_in word)

@@ -37,6 +37,9 @@ pub(crate) const NO_NAME: u32 = 106;
 /// A span does not lie in the haystack.
 pub(crate) const BAD_SPAN: u32 = 107;
 
+/// A place lies within a character.
+pub(crate) const NOT_BORDER: u32 = 108;
+
 /// The number of an error, which is not 0.
 pub(crate) fn number(error: Error) -> u32
     ensures { result ≡ code_of error }

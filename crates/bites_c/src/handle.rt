@@ -5,11 +5,11 @@ ghost use Rattle.std.specs.declared.option.Option.{Option as Maybe};
 ghost use Rattle.std.specs.declared.option.Option.TheVariants.{None, Some};
 ghost use Rattle.std.specs.Coded.{codes, coded_option};
 ghost use Rattle.bites_syntax.specs.TreeCode.{tree_code};
-ghost use Rattle.bites_spec.specs.Regex.{Regex as Compiled};
-ghost use Rattle.bites_bytes.specs.contracts.bytes.regex.Regex.{the_row};
+ghost use Rattle.bites_c.specs.declared.held.Held.{Held as Content};
+ghost use Rattle.bites_c.specs.contracts.held.Held.{the_row};
 ghost use Rattle.bites_c.specs.Holding.{holds};
 
-use bites_bytes::bytes::Regex;
+use crate::held::Held;
 use std::alloc::Global;
 use std::marker::Model;
 
@@ -18,17 +18,17 @@ use std::marker::Model;
 pub struct Bites {
     at: *mut (),
     alloc: Global,
-    pub ghost regex: { Maybe Compiled } by { coded_option (Prim.hlevel (codes, tree_code)) },
+    pub ghost held: { Maybe Content } by { coded_option (Prim.hlevel (codes, tree_code)) },
 }
 
 impl Model for Bites {
-    ghost also_owns = { λ h. holds the_row h.alloc h.at h.regex };
+    ghost also_owns = { λ h. holds the_row h.alloc h.at h.held };
 }
 
 impl Bites {
     /// A handle that holds none.
     pub(crate) fn empty(alloc: Global) -> Bites
-        ensures { result.regex ≡ None }
+        ensures { result.held ≡ None }
     {
         Bites {
             at: std::ptr::null_mut(),
@@ -37,8 +37,8 @@ impl Bites {
     }
 
     /// A handle of this regex.
-    pub(crate) fn of(held: Box<Regex, Global>) -> Bites
-        ensures { result.regex ≡ Some held.value }
+    pub(crate) fn of(held: Box<Held, Global>) -> Bites
+        ensures { result.held ≡ Some held.value }
     {
         let (at, alloc) = Box::into_raw_with_allocator(held);
         Bites {
@@ -48,21 +48,21 @@ impl Bites {
     }
 
     /// The regex that it holds, if there is one.
-    pub(crate) fn into_box(self) -> Option<Box<Regex, Global>>
-        ensures { MatchOption result (self.regex ≡ None) (λ b. self.regex ≡ Some b.value) }
+    pub(crate) fn into_box(self) -> Option<Box<Held, Global>>
+        ensures { MatchOption result (self.held ≡ None) (λ b. self.held ≡ Some b.value) }
     {
         let Bites { at, alloc } = self;
         if at.is_null() {
             return None;
         }
-        Some(unsafe { Box::from_raw(alloc, at as *mut Regex) })
+        Some(unsafe { Box::from_raw(alloc, at as *mut Held) })
     }
 }
 
 impl Drop for Bites {
     fn drop(self) {
         match self.into_box() {
-            Some(regex) => drop(regex),
+            Some(held) => drop(held),
             None => {}
         }
     }

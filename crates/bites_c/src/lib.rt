@@ -3,9 +3,13 @@
 //! A function that answers a `u32` answers one of the numbers of `c/bites.h`: 0 where what was asked is done, 100 and 101
 //! for a match and none, 1 to 57 for the messages of refused patterns, 58 for want of memory, and from 102 on what was
 //! wrong with the call.
+//!
+//! Over texts, which the bit 256 of the flags asks for, each call that takes a haystack asks that it is UTF-8 and that the place
+//! where it starts is no place within a character, and answers 102 or 108 where that is not so. What a search of a text from
+//! such a place finds begins and ends at such places too, by the laws of `bites_spec` on texts.
 #![tactic(auto)]
 
-ghost use Rattle.std.specs.Prelude.{All, ◌≡◌, ◌≢◌, IsSomeAnd, IfSome, IsUtf8, ◌++◌, drop, length, option_map, slice_index_or, take, unwrap_or, ⊤};
+ghost use Rattle.std.specs.Prelude.{◌≡◌, ◌≢◌, IsSomeAnd, IfSome, IsUtf8, ◌++◌, drop, length, option_map, slice_index_or, take, unwrap_or, ⊤};
 ghost use Rattle.std.specs.declared.option.Option.TheVariants.{None};
 ghost use Rattle.bites_spec.specs.Counts.{fit_of};
 ghost use Rattle.bites_spec.specs.Captured.{FindsSpan};
@@ -17,22 +21,25 @@ ghost use Rattle.bites_text.specs.declared.error.Error.{Error as Fault};
 ghost use Rattle.bites_text.specs.declared.error.Error.TheVariants.{Memory};
 ghost use Rattle.bites_bytes.specs.Settings.{Refuses};
 ghost use Rattle.bites_spec.specs.Expansion.{index_in};
-ghost use Rattle.bites_c.specs.Codes.{bad_span, code_of, done, not_utf8, empty_handle};
+ghost use Rattle.bites_c.specs.Codes.{code_of, done, not_utf8, empty_handle};
 ghost use Rattle.bites_c.specs.Made.{IsMadeBy};
 ghost use Rattle.bites_c.specs.Put.{AnswersIndex, Puts, PutsMade, PutsName, PutsNone, PutsSpan};
-ghost use Rattle.bites_c.specs.Searched.{AnswersIf, AnswersPlace, AnswersSpan, FindsNext, PutsCaptures, PutsNextCaptures, Searched, last_for_c};
-ghost use Rattle.bites_c.specs.Replaced.{LiesWithin, escaped_text, expanded_by, with_template, with_text};
-ghost use Rattle.bites_c.specs.Words.{asked};
+ghost use Rattle.bites_c.specs.Searched.{AnswersIf, AnswersPlace, AnswersSpan, FindsNext, PutsCaptures, PutsNextCaptures, SearchedBehind, SearchedFrom, last_for_c};
+ghost use Rattle.bites_c.specs.Replaced.{escaped_text, expanded_by, with_template, with_text};
+ghost use Rattle.bites_c.specs.Texts.{AreUtf8, Asks, AsksGroups};
+ghost use Rattle.bites_c.specs.Words.{asked, text_in};
 
 mod cache;
 mod codes;
 mod handle;
+mod held;
 mod make;
 mod replace;
 mod room;
 mod search;
 mod span;
 mod text;
+mod texts;
 
 pub use cache::BitesCache;
 use codes::{DONE, EMPTY_HANDLE, MATCH, NO_MATCH, NO_MEMORY};
@@ -44,7 +51,8 @@ pub use text::BitesSize;
 /// Makes a regex of the pattern and puts it into `out`, in the place of the one that it held.
 ///
 /// The bits 1, 2, 4, 8, 16 and 32 of `flags` set the flags i, m, s, R, U and x; under 64 searches answer the longest match,
-/// and under 128 groups that the tree drops are kept. Where the answer is not 0, `out` holds none.
+/// under 128 groups that the tree drops are kept, and under 256 its searches are over texts. Other bits say nothing. Where the
+/// answer is not 0, `out` holds none.
 #[unsafe(no_mangle)]
 pub extern "C" fn bites_new(
     alloc: Global,
@@ -54,9 +62,9 @@ pub extern "C" fn bites_new(
     nest_limit: u32,
     out: &mut Bites,
 ) -> u32
-    ensures made { result ≡ done → IsSomeAnd out.new.regex
-        (IsMadeBy (asked pattern.now flags size_limit nest_limit)) }
-    ensures refused { result ≢ done → out.new.regex ≡ None }
+    ensures made { result ≡ done → IsSomeAnd out.new.held (λ h.
+        IsMadeBy (asked pattern.now flags size_limit nest_limit) h.regex × (h.is_text ≡ text_in flags)) }
+    ensures refused { result ≢ done → out.new.held ≡ None }
     ensures known { result ≢ done → result ≢ not_utf8 → (e : Fault) × (result ≡ code_of e) }
     ensures message { (e : Fault) → result ≡ code_of e → e ≢ Memory →
         Refuses (asked pattern.now flags size_limit nest_limit) e }
@@ -75,7 +83,7 @@ pub extern "C" fn bites_new(
 /// Frees the regex, if there is one.
 #[unsafe(no_mangle)]
 pub extern "C" fn bites_free(alloc: Global, regex: &mut Bites)
-    ensures { regex.new.regex ≡ None }
+    ensures { regex.new.held ≡ None }
 {
     *regex = Bites::empty(alloc);
 }
@@ -85,10 +93,10 @@ pub extern "C" fn bites_free(alloc: Global, regex: &mut Bites)
 /// The answer is 0, 58 for want of memory, or 103 where there is no regex; where it is not 0, `out` holds none.
 #[unsafe(no_mangle)]
 pub extern "C" fn bites_clone(alloc: Global, regex: &mut Bites, out: &mut Bites) -> u32
-    ensures same { regex.new.regex ≡ regex.old.regex }
-    ensures made { result ≡ done → (out.new.regex ≡ regex.old.regex) × (out.new.regex ≢ None) }
-    ensures refused { result ≢ done → out.new.regex ≡ None }
-    ensures empty { result ≡ empty_handle → regex.old.regex ≡ None }
+    ensures same { regex.new.held ≡ regex.old.held }
+    ensures made { result ≡ done → (out.new.held ≡ regex.old.held) × (out.new.held ≢ None) }
+    ensures refused { result ≢ done → out.new.held ≡ None }
+    ensures empty { result ≡ empty_handle → regex.old.held ≡ None }
     ensures known { result ≢ done → result ≢ empty_handle → result ≡ code_of Memory }
 {
     *out = Bites::empty(alloc);
@@ -111,18 +119,18 @@ pub extern "C" fn bites_clone(alloc: Global, regex: &mut Bites, out: &mut Bites)
 /// The answer is 0, 58 for want of memory, or 103 where there is no regex; where it is not 0, `out` holds none.
 #[unsafe(no_mangle)]
 pub extern "C" fn bites_cache_new(alloc: Global, regex: &mut Bites, out: &mut BitesCache) -> u32
-    ensures same { regex.new.regex ≡ regex.old.regex }
-    ensures made { result ≡ done → IsSomeAnd regex.old.regex (λ r.
-        IsSomeAnd out.new.room (λ c. c.fits ≡ fit_of r.program)) }
+    ensures same { regex.new.held ≡ regex.old.held }
+    ensures made { result ≡ done → IsSomeAnd regex.old.held (λ h.
+        IsSomeAnd out.new.room (λ c. c.fits ≡ fit_of h.regex.program)) }
     ensures refused { result ≢ done → out.new.room ≡ None }
-    ensures empty { result ≡ empty_handle → regex.old.regex ≡ None }
+    ensures empty { result ≡ empty_handle → regex.old.held ≡ None }
     ensures known { result ≢ done → result ≢ empty_handle → result ≡ code_of Memory }
 {
     *out = BitesCache::empty(alloc);
     let Some(held) = std::mem::replace(regex, Bites::empty(alloc)).into_box() else {
         return EMPTY_HANDLE;
     };
-    let made = make::room(alloc, &held);
+    let made = make::room(alloc, &held.regex);
     *regex = Bites::of(held);
     match made {
         Some(room) => {
@@ -150,12 +158,12 @@ pub extern "C" fn bites_is_match_at(
     haystack: &[u8],
     start: usize,
 ) -> u32
-    ensures same { regex.new.regex ≡ regex.old.regex }
+    ensures same { regex.new.held ≡ regex.old.held }
     ensures fits { option_map (λ c. c.fits) cache.new.room ≡ option_map (λ c. c.fits) cache.old.room }
-    ensures answered { Searched regex.old.regex cache.old.room result ⊤ (λ r.
+    ensures answered { SearchedFrom haystack.now start regex.old.held cache.old.room result ⊤ (λ r.
         AnswersIf result (HasMatch r.tree haystack.now start)) }
 {
-    match search::begin(alloc, regex, cache) {
+    match search::begin_from(alloc, regex, cache, haystack, start) {
         Ok(mut search) => {
             let found = search.is_match(haystack, start);
             search.end(regex, cache);
@@ -176,12 +184,12 @@ pub extern "C" fn bites_shortest_match_at(
     start: usize,
     end: &mut usize,
 ) -> u32
-    ensures same { regex.new.regex ≡ regex.old.regex }
+    ensures same { regex.new.held ≡ regex.old.held }
     ensures fits { option_map (λ c. c.fits) cache.new.room ≡ option_map (λ c. c.fits) cache.old.room }
-    ensures answered { Searched regex.old.regex cache.old.room result (end.new ≡ end.old) (λ r.
+    ensures answered { SearchedFrom haystack.now start regex.old.held cache.old.room result (end.new ≡ end.old) (λ r.
         AnswersPlace result end.old end.new (IsLeastEnd r.tree haystack.now start)) }
 {
-    match search::begin(alloc, regex, cache) {
+    match search::begin_from(alloc, regex, cache, haystack, start) {
         Ok(mut search) => {
             let found = search.shortest(haystack, start);
             search.end(regex, cache);
@@ -202,13 +210,13 @@ pub extern "C" fn bites_find_at(
     start: usize,
     out: &mut BitesSpan,
 ) -> u32
-    ensures same { regex.new.regex ≡ regex.old.regex }
+    ensures same { regex.new.held ≡ regex.old.held }
     ensures fits { option_map (λ c. c.fits) cache.new.room ≡ option_map (λ c. c.fits) cache.old.room }
-    ensures answered { Searched regex.old.regex cache.old.room result (out.new ≡ out.old) (λ r.
+    ensures answered { SearchedFrom haystack.now start regex.old.held cache.old.room result (out.new ≡ out.old) (λ r.
         FindsSpan r haystack.now start (span_at r haystack.now start)
         × PutsSpan (span_at r haystack.now start) result out.old out.new) }
 {
-    match search::begin(alloc, regex, cache) {
+    match search::begin_from(alloc, regex, cache, haystack, start) {
         Ok(mut search) => {
             let found = search.find(haystack, start);
             search.end(regex, cache);
@@ -221,7 +229,8 @@ pub extern "C" fn bites_find_at(
 /// Where the match begins and ends that is due behind one that ends at `last`, or the first of all where `last` is the
 /// greatest number, goes into `out`, which stays where there is none. It takes no memory.
 ///
-/// The search goes on at `last`; an empty match there is passed over, and it goes on one character later.
+/// The search goes on at `last`; an empty match there is passed over, and it goes on one character later. Over texts the haystack
+/// is checked for the first match alone: behind a match only `last` is, and the caller had the haystack checked before.
 #[unsafe(no_mangle)]
 pub extern "C" fn bites_find_next(
     alloc: Global,
@@ -231,14 +240,15 @@ pub extern "C" fn bites_find_next(
     last: usize,
     out: &mut BitesSpan,
 ) -> u32
-    ensures same { regex.new.regex ≡ regex.old.regex }
+    ensures same { regex.new.held ≡ regex.old.held }
     ensures fits { option_map (λ c. c.fits) cache.new.room ≡ option_map (λ c. c.fits) cache.old.room }
-    ensures answered { Searched regex.old.regex cache.old.room result (out.new ≡ out.old) (λ r.
+    ensures answered { SearchedBehind haystack.now (last_for_c last) regex.old.held cache.old.room result (out.new ≡ out.old) (λ r.
         AnswersSpan result out.old out.new (FindsNext r haystack.now (last_for_c last))) }
 {
-    match search::begin(alloc, regex, cache) {
+    let last = span::last(last);
+    match search::begin_behind(alloc, regex, cache, haystack, last) {
         Ok(mut search) => {
-            let found = search.next(haystack, span::last(last));
+            let found = search.next(haystack, last);
             search.end(regex, cache);
             span::put(found, out)
         }
@@ -259,13 +269,13 @@ pub extern "C" fn bites_captures_at(
     start: usize,
     groups: &mut [BitesSpan],
 ) -> BitesSize
-    ensures same { regex.new.regex ≡ regex.old.regex }
+    ensures same { regex.new.held ≡ regex.old.held }
     ensures fits { option_map (λ c. c.fits) cache.new.room ≡ option_map (λ c. c.fits) cache.old.room }
-    ensures answered { Searched regex.old.regex cache.old.room result.code
+    ensures answered { SearchedFrom haystack.now start regex.old.held cache.old.room result.code
         ((result.size ≡ 0) × (groups.new ≡ groups.old)) (λ r. (result.size ≡ length r.names)
         × PutsCaptures r haystack.now start result.code groups.old groups.new) }
 {
-    match search::begin(alloc, regex, cache) {
+    match search::begin_from(alloc, regex, cache, haystack, start) {
         Ok(mut search) => {
             let answer = search.captures(haystack, start, groups);
             search.end(regex, cache);
@@ -286,15 +296,16 @@ pub extern "C" fn bites_captures_next(
     last: usize,
     groups: &mut [BitesSpan],
 ) -> BitesSize
-    ensures same { regex.new.regex ≡ regex.old.regex }
+    ensures same { regex.new.held ≡ regex.old.held }
     ensures fits { option_map (λ c. c.fits) cache.new.room ≡ option_map (λ c. c.fits) cache.old.room }
-    ensures answered { Searched regex.old.regex cache.old.room result.code
+    ensures answered { SearchedBehind haystack.now (last_for_c last) regex.old.held cache.old.room result.code
         ((result.size ≡ 0) × (groups.new ≡ groups.old)) (λ r. (result.size ≡ length r.names)
         × PutsNextCaptures r haystack.now (last_for_c last) result.code groups.old groups.new) }
 {
-    match search::begin(alloc, regex, cache) {
+    let last = span::last(last);
+    match search::begin_behind(alloc, regex, cache, haystack, last) {
         Ok(mut search) => {
-            let answer = search.captures_next(haystack, span::last(last), groups);
+            let answer = search.captures_next(haystack, last, groups);
             search.end(regex, cache);
             answer
         }
@@ -318,13 +329,13 @@ fn put_end(found: Option<usize>, end: &mut usize) -> u32
 /// The number of groups, group 0 counted, and 0 where there is no regex.
 #[unsafe(no_mangle)]
 pub extern "C" fn bites_captures_len(alloc: Global, regex: &mut Bites) -> usize
-    ensures same { regex.new.regex ≡ regex.old.regex }
-    ensures len { result ≡ unwrap_or (option_map (λ r. length r.names) regex.old.regex) 0 }
+    ensures same { regex.new.held ≡ regex.old.held }
+    ensures len { result ≡ unwrap_or (option_map (λ h. length h.regex.names) regex.old.held) 0 }
 {
     let Some(held) = std::mem::replace(regex, Bites::empty(alloc)).into_box() else {
         return 0;
     };
-    let len = held.captures_len();
+    let len = held.regex.captures_len();
     *regex = Bites::of(held);
     len
 }
@@ -333,14 +344,14 @@ pub extern "C" fn bites_captures_len(alloc: Global, regex: &mut Bites) -> usize
 /// is no regex.
 #[unsafe(no_mangle)]
 pub extern "C" fn bites_static_captures_len(alloc: Global, regex: &mut Bites) -> usize
-    ensures same { regex.new.regex ≡ regex.old.regex }
-    ensures len { IfSome regex.old.regex (λ r. result ≡ unwrap_or (static_captures_len r.tree) 0) }
-    ensures none { regex.old.regex ≡ None → result ≡ 0 }
+    ensures same { regex.new.held ≡ regex.old.held }
+    ensures len { IfSome regex.old.held (λ h. result ≡ unwrap_or (static_captures_len h.regex.tree) 0) }
+    ensures none { regex.old.held ≡ None → result ≡ 0 }
 {
     let Some(held) = std::mem::replace(regex, Bites::empty(alloc)).into_box() else {
         return 0;
     };
-    let len = held.static_captures_len();
+    let len = held.regex.static_captures_len();
     *regex = Bites::of(held);
     len.unwrap_or(0)
 }
@@ -355,16 +366,16 @@ pub extern "C" fn bites_group_name(
     group: usize,
     out: &mut [u8],
 ) -> BitesSize
-    ensures same { regex.new.regex ≡ regex.old.regex }
-    ensures name { IfSome regex.old.regex (λ r.
-        PutsName (slice_index_or r.names group None) result out.old out.new) }
-    ensures empty { regex.old.regex ≡ None →
+    ensures same { regex.new.held ≡ regex.old.held }
+    ensures name { IfSome regex.old.held (λ h.
+        PutsName (slice_index_or h.regex.names group None) result out.old out.new) }
+    ensures empty { regex.old.held ≡ None →
         (result.code ≡ empty_handle) × (result.size ≡ 0) × (out.new ≡ out.old) }
 {
     let Some(held) = std::mem::replace(regex, Bites::empty(alloc)).into_box() else {
         return BitesSize::refused(EMPTY_HANDLE);
     };
-    let answer = text::put_name(&held, group, out);
+    let answer = text::put_name(&held.regex, group, out);
     *regex = Bites::of(held);
     answer
 }
@@ -373,14 +384,14 @@ pub extern "C" fn bites_group_name(
 /// there is no regex.
 #[unsafe(no_mangle)]
 pub extern "C" fn bites_group_index(alloc: Global, regex: &mut Bites, name: &[u8]) -> BitesSize
-    ensures same { regex.new.regex ≡ regex.old.regex }
-    ensures index { IfSome regex.old.regex (λ r. AnswersIndex (index_in r.names name.now) result) }
-    ensures empty { regex.old.regex ≡ None → (result.code ≡ empty_handle) × (result.size ≡ 0) }
+    ensures same { regex.new.held ≡ regex.old.held }
+    ensures index { IfSome regex.old.held (λ h. AnswersIndex (index_in h.regex.names name.now) result) }
+    ensures empty { regex.old.held ≡ None → (result.code ≡ empty_handle) × (result.size ≡ 0) }
 {
     let Some(held) = std::mem::replace(regex, Bites::empty(alloc)).into_box() else {
         return BitesSize::refused(EMPTY_HANDLE);
     };
-    let answer = text::answer_index(&held, name);
+    let answer = text::answer_index(&held.regex, name);
     *regex = Bites::of(held);
     answer
 }
@@ -398,7 +409,7 @@ pub extern "C" fn bites_escape(alloc: Global, text: &[u8], out: &mut [u8]) -> Bi
 
 /// The haystack goes to the front of `out`, at most `limit` of its matches, or all for 0, replaced by what the template stands
 /// for. The code is 0; 105 where it does not fit, and the size is how many bytes it has; 103 where there is no regex, and 58
-/// for want of memory. Where it is not 0, `out` stays.
+/// for want of memory. Where it is not 0, `out` stays. Over texts the haystack and the template are to be UTF-8, else it is 102.
 #[unsafe(no_mangle)]
 pub extern "C" fn bites_replace(
     alloc: Global,
@@ -408,15 +419,16 @@ pub extern "C" fn bites_replace(
     template: &[u8],
     out: &mut [u8],
 ) -> BitesSize
-    ensures same { regex.new.regex ≡ regex.old.regex }
-    ensures replaced { IfSome regex.old.regex (λ r.
-        PutsMade (with_template r haystack.now limit template.now) result out.old out.new) }
-    ensures empty { regex.old.regex ≡ None → PutsNone empty_handle result out.old out.new }
+    ensures same { regex.new.held ≡ regex.old.held }
+    ensures replaced { IfSome regex.old.held (λ h.
+        Asks h.is_text (AreUtf8 haystack.now template.now) (PutsNone not_utf8 result out.old out.new)
+        (PutsMade (with_template h.regex haystack.now limit template.now) result out.old out.new)) }
+    ensures empty { regex.old.held ≡ None → PutsNone empty_handle result out.old out.new }
 {
     let Some(held) = std::mem::replace(regex, Bites::empty(alloc)).into_box() else {
         return BitesSize::refused(EMPTY_HANDLE);
     };
-    let answer = replace::put_replaced(&held, haystack, limit, template, out);
+    let answer = replace::replace_by_template(&held, haystack, limit, template, out);
     *regex = Bites::of(held);
     answer
 }
@@ -431,22 +443,24 @@ pub extern "C" fn bites_replace_literal(
     text: &[u8],
     out: &mut [u8],
 ) -> BitesSize
-    ensures same { regex.new.regex ≡ regex.old.regex }
-    ensures replaced { IfSome regex.old.regex (λ r.
-        PutsMade (with_text r haystack.now limit text.now) result out.old out.new) }
-    ensures empty { regex.old.regex ≡ None → PutsNone empty_handle result out.old out.new }
+    ensures same { regex.new.held ≡ regex.old.held }
+    ensures replaced { IfSome regex.old.held (λ h.
+        Asks h.is_text (AreUtf8 haystack.now text.now) (PutsNone not_utf8 result out.old out.new)
+        (PutsMade (with_text h.regex haystack.now limit text.now) result out.old out.new)) }
+    ensures empty { regex.old.held ≡ None → PutsNone empty_handle result out.old out.new }
 {
     let Some(held) = std::mem::replace(regex, Bites::empty(alloc)).into_box() else {
         return BitesSize::refused(EMPTY_HANDLE);
     };
-    let answer = replace::put_replaced_literal(&held, haystack, limit, text, out);
+    let answer = replace::replace_by_text(&held, haystack, limit, text, out);
     *regex = Bites::of(held);
     answer
 }
 
 /// What the template stands for by these groups goes to the front of `out`. The code is 0; 105 where it does not fit, and the
 /// size is how many bytes it has; 107 where a group does not lie in the haystack, 103 where there is no regex, and 58 for
-/// want of memory. Where it is not 0, `out` stays.
+/// want of memory. Where it is not 0, `out` stays. Over texts the template is to be UTF-8 too, else the code is 102, and no group
+/// that lies in the haystack may begin or end within a character, else it is 108.
 ///
 /// A group from the last of `groups` on took no part, as one has that is the greatest number twice.
 #[unsafe(no_mangle)]
@@ -458,12 +472,11 @@ pub extern "C" fn bites_expand(
     template: &[u8],
     out: &mut [u8],
 ) -> BitesSize
-    ensures same { regex.new.regex ≡ regex.old.regex }
-    ensures made { IfSome regex.old.regex (λ r. All (LiesWithin (length haystack.now)) groups.now →
-        PutsMade (expanded_by r.names groups.now haystack.now template.now) result out.old out.new) }
-    ensures bad { IfSome regex.old.regex (λ r. (All (LiesWithin (length haystack.now)) groups.now → ⊥) →
-        PutsNone bad_span result out.old out.new) }
-    ensures empty { regex.old.regex ≡ None → PutsNone empty_handle result out.old out.new }
+    ensures same { regex.new.held ≡ regex.old.held }
+    ensures made { IfSome regex.old.held (λ h. AsksGroups h.is_text haystack.now groups.now template.now
+        (λ number. PutsNone number result out.old out.new)
+        (PutsMade (expanded_by h.regex.names groups.now haystack.now template.now) result out.old out.new)) }
+    ensures empty { regex.old.held ≡ None → PutsNone empty_handle result out.old out.new }
 {
     let Some(held) = std::mem::replace(regex, Bites::empty(alloc)).into_box() else {
         return BitesSize::refused(EMPTY_HANDLE);

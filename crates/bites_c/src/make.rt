@@ -8,11 +8,12 @@ ghost use Rattle.bites_text.specs.declared.error.Error.TheVariants.{Memory};
 ghost use Rattle.bites_bytes.specs.Settings.{Refuses};
 ghost use Rattle.bites_c.specs.Codes.{code_of, done, not_utf8};
 ghost use Rattle.bites_c.specs.Made.{IsMadeBy};
-ghost use Rattle.bites_c.specs.Words.{asked};
+ghost use Rattle.bites_c.specs.Words.{asked, text_in};
 
 use crate::cache::BitesCache;
 use crate::codes::{NO_MEMORY, NOT_UTF8, number};
 use crate::handle::Bites;
+use crate::held::Held;
 use crate::room::Room;
 use bites_bytes::bytes::{Regex, RegexBuilder};
 use bites_text::error::Error;
@@ -26,8 +27,8 @@ pub(crate) fn regex(
     size_limit: usize,
     nest_limit: u32,
 ) -> Result<Bites, u32>
-    ensures made { IfOk result (λ b. IsSomeAnd b.regex
-        (IsMadeBy (asked pattern.now flags size_limit nest_limit))) }
+    ensures made { IfOk result (λ b. IsSomeAnd b.held (λ h.
+        IsMadeBy (asked pattern.now flags size_limit nest_limit) h.regex × (h.is_text ≡ text_in flags))) }
     ensures refused { IfErr result (λ n. n ≢ done) }
     ensures known { IfErr result (λ n. n ≢ not_utf8 → (e : Fault) × (n ≡ code_of e)) }
     ensures message { IfErr result (λ n. (e : Fault) → n ≡ code_of e → e ≢ Memory →
@@ -38,10 +39,13 @@ pub(crate) fn regex(
         return Err(NOT_UTF8);
     };
     match build(alloc, text, flags, size_limit, nest_limit) {
-        Ok(regex) => match Box::new(alloc, regex) {
-            Ok(boxed) => Ok(Bites::of(boxed)),
-            Err(_) => Err(NO_MEMORY),
-        },
+        Ok(regex) => {
+            let is_text = flags & 256 != 0;
+            match Box::new(alloc, Held { regex, is_text }) {
+                Ok(boxed) => Ok(Bites::of(boxed)),
+                Err(_) => Err(NO_MEMORY),
+            }
+        }
         Err(error) => Err(number(error)),
     }
 }
@@ -85,11 +89,12 @@ fn configured(
 }
 
 /// A regex that shares the program of this one, on the heap, where memory suffices.
-pub(crate) fn copy(alloc: Global, regex: &Regex) -> Option<Bites>
-    ensures { IfSome result (λ b. b.regex ≡ Some regex.now) }
+pub(crate) fn copy(alloc: Global, held: &Held) -> Option<Bites>
+    ensures { IfSome result (λ b. b.held ≡ Some held.now) }
 {
-    match regex.clone() {
-        Ok(copy) => match Box::new(alloc, copy) {
+    let is_text = held.is_text;
+    match held.regex.clone() {
+        Ok(regex) => match Box::new(alloc, Held { regex, is_text }) {
             Ok(boxed) => Some(Bites::of(boxed)),
             Err(_) => None,
         },

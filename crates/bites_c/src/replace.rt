@@ -1,23 +1,61 @@
 //! Haystacks with their matches replaced, and templates, written into what the caller gave.
 
-ghost use Rattle.std.specs.Prelude.{◌≡◌, ◌≤◌, All, IfSome, length, option_map};
+ghost use Rattle.std.specs.Prelude.{◌≡◌, ◌≤◌, All, IfNone, IfSome, IsTrue, MatchBool, length, option_map};
 ghost use Rattle.bites_spec.specs.Match.{span};
 ghost use Rattle.bites_spec.specs.Pieces.{text_at};
 ghost use Rattle.bites_spec.specs.Refused.{AppendsUntilRefused};
 ghost use Rattle.bites_spec.specs.Replacer.{answer_text};
-ghost use Rattle.bites_c.specs.Codes.{bad_span};
+ghost use Rattle.bites_c.specs.Codes.{not_utf8};
 ghost use Rattle.bites_c.specs.Put.{PutsMade, PutsNone};
 ghost use Rattle.bites_c.specs.Replaced.{LiesWithin, expanded_by, group_from_c, with_template, with_text};
+ghost use Rattle.bites_c.specs.Texts.{AreUtf8, Asks, AsksGroups, LiesAtBorders};
 
-use crate::codes::{BAD_SPAN, NO_MEMORY};
+use crate::codes::{BAD_SPAN, NO_MEMORY, NOT_BORDER, NOT_UTF8};
+use crate::held::Held;
 use crate::span::BitesSpan;
 use crate::text::{BitesSize, index_of, put};
+use crate::texts::refuses;
 use bites_bytes::bytes::{NoExpand, Regex};
 use bites_machine::interpolate;
 use std::alloc::{AllocError, Global};
 
-/// Puts the haystack at the front, at most `limit` of its matches, or all for 0, replaced by what the template stands for.
-pub(crate) fn put_replaced(
+/// Puts the haystack at the front, at most `limit` of its matches, or all for 0, replaced by what the template stands for. Over
+/// texts both must be UTF-8.
+pub(crate) fn replace_by_template(
+    held: &Held,
+    haystack: &[u8],
+    limit: usize,
+    template: &[u8],
+    out: &mut [u8],
+) -> BitesSize
+    ensures { Asks held.now.is_text (AreUtf8 haystack.now template.now) (PutsNone not_utf8 result out.old out.new)
+        (PutsMade (with_template held.now.regex haystack.now limit template.now) result out.old out.new) }
+{
+    if refuses(held.is_text, haystack, template) {
+        return BitesSize::refused(NOT_UTF8);
+    }
+    put_replaced(&held.regex, haystack, limit, template, out)
+}
+
+/// The same with a text in the place of the template.
+pub(crate) fn replace_by_text(
+    held: &Held,
+    haystack: &[u8],
+    limit: usize,
+    text: &[u8],
+    out: &mut [u8],
+) -> BitesSize
+    ensures { Asks held.now.is_text (AreUtf8 haystack.now text.now) (PutsNone not_utf8 result out.old out.new)
+        (PutsMade (with_text held.now.regex haystack.now limit text.now) result out.old out.new) }
+{
+    if refuses(held.is_text, haystack, text) {
+        return BitesSize::refused(NOT_UTF8);
+    }
+    put_replaced_literal(&held.regex, haystack, limit, text, out)
+}
+
+// Puts the haystack with its matches replaced by what the template stands for.
+fn put_replaced(
     regex: &Regex,
     haystack: &[u8],
     limit: usize,
@@ -33,8 +71,8 @@ pub(crate) fn put_replaced(
     }
 }
 
-/// The same with a text in the place of the template.
-pub(crate) fn put_replaced_literal(
+// The same with a text in the place of the template.
+fn put_replaced_literal(
     regex: &Regex,
     haystack: &[u8],
     limit: usize,
@@ -50,28 +88,62 @@ pub(crate) fn put_replaced_literal(
     }
 }
 
-/// Puts at the front what the template stands for by these groups, if each of them lies in the haystack.
+/// Puts at the front what the template stands for by these groups, if nothing is wrong with them.
 pub(crate) fn put_expanded(
     alloc: Global,
-    regex: &Regex,
+    held: &Held,
     haystack: &[u8],
     groups: &[BitesSpan],
     template: &[u8],
     out: &mut [u8],
 ) -> BitesSize
-    ensures made { All (LiesWithin (length haystack.now)) groups.now →
-        PutsMade (expanded_by regex.now.names groups.now haystack.now template.now) result out.old out.new }
-    ensures bad { (All (LiesWithin (length haystack.now)) groups.now → ⊥) →
-        PutsNone bad_span result out.old out.new }
+    ensures { AsksGroups held.now.is_text haystack.now groups.now template.now
+        (λ number. PutsNone number result out.old out.new)
+        (PutsMade (expanded_by held.now.regex.names groups.now haystack.now template.now) result out.old out.new) }
 {
-    if !groups.iter().all(|group| group.lies_within(haystack)) {
-        return BitesSize::refused(BAD_SPAN);
+    if let Some(code) = fault_of(held.is_text, haystack, groups, template) {
+        return BitesSize::refused(code);
     }
     let mut text = Vec::new(alloc);
-    match expand(regex, haystack, groups, template, &mut text) {
+    match expand(&held.regex, haystack, groups, template, &mut text) {
         Ok(()) => put(text.as_slice(), out),
         Err(_) => BitesSize::refused(NO_MEMORY),
     }
+}
+
+// What is wrong with the groups, or over texts with the haystack or the template, if something is.
+fn fault_of(is_text: bool, haystack: &[u8], groups: &[BitesSpan], template: &[u8]) -> Option<u32>
+    ensures fine { IfNone result ((IsTrue is_text → AreUtf8 haystack.now template.now × All (LiesAtBorders haystack.now) groups.now)
+        × All (LiesWithin (length haystack.now)) groups.now) }
+    ensures wrong { IfSome result (λ n.
+        AsksGroups is_text haystack.now groups.now template.now (λ number. n ≡ number) ⊥) }
+{
+    if refuses(is_text, haystack, template) {
+        return Some(NOT_UTF8);
+    }
+    if !lie_within(haystack, groups) {
+        return Some(BAD_SPAN);
+    }
+    if is_text && !have_borders(haystack, groups) {
+        return Some(NOT_BORDER);
+    }
+    None
+}
+
+// Whether each group lies in the haystack.
+fn lie_within(haystack: &[u8], groups: &[BitesSpan]) -> bool
+    ensures { MatchBool result (All (LiesWithin (length haystack.now)) groups.now)
+        (All (LiesWithin (length haystack.now)) groups.now → ⊥) }
+{
+    groups.iter().all(|group| group.lies_within(haystack))
+}
+
+// Whether each group has borders.
+fn have_borders(haystack: &[u8], groups: &[BitesSpan]) -> bool
+    ensures { MatchBool result (All (LiesAtBorders haystack.now) groups.now)
+        (All (LiesAtBorders haystack.now) groups.now → ⊥) }
+{
+    groups.iter().all(|group| group.has_borders(haystack))
 }
 
 // Appends what the template stands for.

@@ -5,8 +5,10 @@ ghost use Rattle.bites_spec.specs.Match.{span};
 ghost use Rattle.bites_c.specs.Put.{PutsSpan, span_for_c};
 ghost use Rattle.bites_c.specs.Replaced.{LiesWithin, span_from_c};
 ghost use Rattle.bites_c.specs.Searched.{last_for_c};
+ghost use Rattle.bites_c.specs.Texts.{LiesAtBorders};
 
 use crate::codes::{MATCH, NO_MATCH};
+use crate::texts::is_border;
 
 /// Two places, in bytes from the start of the haystack; both are the greatest number where a group took no part.
 #[repr(C)]
@@ -47,6 +49,16 @@ impl BitesSpan {
     {
         match self.ends() {
             Some((start, end)) => start <= end && end <= haystack.len(),
+            None => true,
+        }
+    }
+
+    /// Whether no character goes on where it begins or ends, or it is the greatest number twice.
+    pub(crate) fn has_borders(self, haystack: &[u8]) -> bool
+        ensures { IsTrue result ↔ LiesAtBorders haystack.now self }
+    {
+        match self.ends() {
+            Some((start, end)) => is_border(haystack, start) && is_border(haystack, end),
             None => true,
         }
     }

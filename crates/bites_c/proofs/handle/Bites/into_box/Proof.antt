@@ -40,8 +40,8 @@ use Rattle.std.specs.contracts.impls.GlobalAllocator.TheImpl.{ghosts, dict}
 use Rattle.std.specs.contracts.boxed.Box.from_raw as callee
 use Rattle.std.proofs.boxed.Box.from_raw.Met.{met}
 use Rattle.std.specs.declared.option.Option.TheVariants.{None, Some}
-use Rattle.bites_bytes.specs.contracts.bytes.regex.Regex as regex
-use Rattle.bites_bytes.proofs.bytes.regex.Regex.TheLaws as regex_laws
+use Rattle.bites_c.specs.contracts.held.Held as held
+use Rattle.bites_c.proofs.held.Held.TheLaws as held_laws
 use Rattle.bites_c.proofs.Destruct++none.drop.Code as none
 use Rattle.bites_c.proofs.Values.{as_passed, Z, Z_laws, E, both, pair_good, no_drop, tokens, whole_out, with_types}
 use Rattle.bites_c.proofs.Handles.{B, bites_out, either_out}
@@ -57,7 +57,7 @@ pub into_box_spec : {M : Type 1} → statement M
 unfolding none.code tables_of
 into_box_spec 𝓤 𝓛 𝓜 𝓡 wired =
     let 𝓣 = tables 𝓤 𝓛.H 𝓜 𝓡 𝓡.env in let c = clauses 𝓛 𝓜.mem 𝓡.returns in let fn = code.function in
-    let R : RattleType = as_passed regex.the_row in let L = arg_laws (bare (layout regex.the_row)) no regex.the_row regex_laws.the_row_laws refl in
+    let R : RattleType = as_passed held.the_row in let L = arg_laws (bare (layout held.the_row)) no held.the_row held_laws.the_row_laws refl in
     let Held : RattleType = box.B (E R L) in let Out : RattleType = type_at ended.signature.result tt in
     let hs : Stays ended.signature.params ended.kept = (stay_dropped taken ended.kept.0, tt) in
     let W = walk_of 𝓛 ended hs c in
@@ -68,7 +68,7 @@ into_box_spec 𝓤 𝓛 𝓜 𝓡 wired =
     proved_at 𝓛 ended hs c 𝓜 𝓡 (Goes-blank 𝓛 0 taken ended.kept.0 (λ κs x f. tt), tt) #self fn (code.unfolded 𝓤 𝓛.H 𝓜 𝓡 wired) (λ z are.
     let κs = z.0.0 in let d = z.0.3.0 in let a = d.alloc in
     qed 𝓛 ((raw (alive 𝓛 ended.signature κs z.0.1) ⊛ ‵ (owns (types_at ended.signature.params κs) z.0.3 z.0.4)) ∷ raw ((c κs z.0.3).requires z.1) ∷ []) ∵
-    split ! $ move ! (1 ∷ []) $ fsplit ! $ bites_out ! d z.0.4.0 (λ h ws fits. either_out ! a d.at d.regex
+    split ! $ move ! (1 ∷ []) $ fsplit ! $ bites_out ! d z.0.4.0 (λ h ws fits. either_out ! a d.at d.held
     (λ is at_null.
     let w : Val = both (ptr_val null_ptr) h in
     let typed : T (has_ty (layout Z) h && true) × WT w = (and_tt (has_ty (layout Z) h) fits.0, (record { fits = lit< tt }, (fits.1, tt))) in
@@ -82,7 +82,7 @@ into_box_spec 𝓤 𝓛 𝓜 𝓡 wired =
     sets ! (bin ! (get ! refl) (lit ! tt) tt) refl (tt, tt) $ first ! $ branches ! (get ! refl)
     (λ _. sets ! (agg ! (and_then ! (lit ! tt) (no_more !))) refl (tt, (record { fits = lit< tt }, tt)) $
     use0 𝓛 (‵ (Out.own_val None (live 0 vnil ∷ []))) (none_of 𝓛 Held) $
-    use0 𝓛 (raw (fact 𝓤 (d.regex ≡ None))) (fact_i 𝓤 (d.regex ≡ None) (emp 𝓤) is) $ nothing ! $ nothing ! $ fjoin ! $
+    use0 𝓛 (raw (fact 𝓤 (d.held ≡ None))) (fact_i 𝓤 (d.held ≡ None) (emp 𝓤) is) $ nothing ! $ nothing ! $ fjoin ! $
     returns_within ! (W.post z) refl (look_at ! 0 refl) $ free_all ! refl $ keep ! (5 ∷ 0 ∷ 2 ∷ 1 ∷ []) $
     by ! (leaves 𝓛 ended hs c z (live 0 vnil) None (tt, tt) (tt, tt)))
     (λ wrong. absurd wrong)))
@@ -90,7 +90,7 @@ into_box_spec 𝓤 𝓛 𝓜 𝓡 wired =
     let w : Val = both (vptr b o) h in let laid = ws ∙ ap (λ p. both (ptr_val p) h ∷ []) at_block in
     let y : k.Ghost = ((([], ([], tt)), (full_share, (full_share, tt)), tt, (a, (block_ptr b o, tt)), (h ∷ [], (vptr b o ∷ [], tt))), m) in
     nothing ! $ feq_i ! (List Val) (vptr b o ∷ []) (vptr b o ∷ []) refl $ fjoin ! $ move ! (2 ∷ 0 ∷ []) $ fjoin ! $
-    with_types R L ! (regex_laws.the_within []) $ use1 𝓛 (raw (k.pre y)) (id⊢ 𝓤 _) $
+    with_types R L ! (held_laws.the_within []) $ use1 𝓛 (raw (k.pre y)) (id⊢ 𝓤 _) $
     suffices ! (WpFn 𝓤 𝓛.H 𝓣.C 𝓣.Λ fn (w ∷ []) (W.post z))
     (subst (λ (us : List Val). ent 𝓤 (WpFn 𝓤 𝓛.H 𝓣.C 𝓣.Λ fn (w ∷ []) (W.post z)) (WpFn 𝓤 𝓛.H 𝓣.C 𝓣.Λ fn us (W.post z))) (sym (λ i. laid i ++ [])) (id⊢ 𝓤 _)) $
     enter ! 𝓣.C 𝓣.Λ fn (w ∷ []) (W.post z) $ alloc_all ! (λ l. pass_all ! refl (pair_good b o h fits, tt) $ let Ev = env fn.locals l in
@@ -113,6 +113,6 @@ into_box_spec 𝓤 𝓛 𝓜 𝓡 wired =
     sets ! (of_opd ! (get ! refl)) refl typed $
     sets ! (agg ! (and_then ! (lit ! tt) (and_then ! (get ! refl) (no_more !)))) refl good $
     use1 𝓛 (‵ (Out.own_val (Some r) (live 1 (vcons u vnil) ∷ []))) (Some-of 𝓛 Held r u) $
-    use0 𝓛 (raw (fact 𝓤 (d.regex ≡ Some r.value))) (fact_i 𝓤 (d.regex ≡ Some r.value) (emp 𝓤) told) $ nothing ! $ nothing ! $ fjoin ! $
+    use0 𝓛 (raw (fact 𝓤 (d.held ≡ Some r.value))) (fact_i 𝓤 (d.held ≡ Some r.value) (emp 𝓤) told) $ nothing ! $ nothing ! $ fjoin ! $
     returns ! (look_at ! 0 refl) $ free_all ! refl $ keep ! (4 ∷ 0 ∷ 2 ∷ 1 ∷ []) $
     by ! (leaves 𝓛 ended hs c z (live 1 (vcons u vnil)) (Some r) (tt, tt) (tt, tt)))))))))

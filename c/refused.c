@@ -1,0 +1,160 @@
+/* Refuses each request for memory of each call of bites.h that takes some: the first, the second and each further one, until a
+ * run has none refused; and all of that again with the requests behind the refused one refused too. A refused call must answer
+ * BITES_NO_MEMORY and leave what it was given: handles go on, `out` of a call that makes something holds nothing, what is
+ * written to stays, and all that was taken is freed. Searches must take no memory at all. */
+#include "bites.h"
+#include "refusing.h"
+
+#define BYTES(text) (const uint8_t *)(text), sizeof(text) - 1
+#define LIMITS BITES_SIZE_LIMIT, BITES_NEST_LIMIT
+#define PATTERN BYTES("(?<word>[a-z]+)(?: ([0-9]{2,3}))?")
+#define HAYSTACK BYTES("-- some 42 words, and 137 others")
+#define LONG_TEMPLATE BYTES("<$word: ${2}> $$ and a text that is longer than all that stands before it, twice: $word $word")
+#define ROOM 1024
+
+/* What the calls are asked of, made with ample memory for each run. */
+struct given {
+    bites regex;
+    bites_cache cache;
+    bites made;             /* what a call makes; it holds something before */
+    bites_cache made_cache; /* the same */
+    bites_span groups[3];   /* of the first match */
+    uint8_t out[ROOM];
+};
+
+/* A call, what it writes or NULL, and its code. */
+struct call {
+    const char *name;
+    const char *text;
+    bites_size (*ask)(struct given *given);
+};
+
+static bites_size only(uint32_t code) { return (bites_size){code, 0}; }
+
+static bites_size new(struct given *given) { return only(bites_new(PATTERN, BITES_TEXT, LIMITS, &given->made)); }
+
+static bites_size clone(struct given *given) { return only(bites_clone(&given->regex, &given->made)); }
+
+static bites_size cache_new(struct given *given) { return only(bites_cache_new(&given->regex, &given->made_cache)); }
+
+static bites_size escape(struct given *given) { return bites_escape(BYTES("a.b*c[d] and more, to grow: (((((((((())))))))))"), given->out, ROOM); }
+
+static bites_size replace(struct given *given) {
+    return bites_replace(&given->regex, HAYSTACK, 2, BYTES("<$word$2>"), given->out, ROOM);
+}
+
+static bites_size replace_literal(struct given *given) {
+    return bites_replace_literal(&given->regex, HAYSTACK, 0, BYTES("$word"), given->out, ROOM);
+}
+
+static bites_size expand(struct given *given) {
+    return bites_expand(&given->regex, HAYSTACK, given->groups, 3, LONG_TEMPLATE, given->out, ROOM);
+}
+
+static const struct call calls[] = {
+    {"bites_new", NULL, new},
+    {"bites_clone", NULL, clone},
+    {"bites_cache_new", NULL, cache_new},
+    {"bites_escape", "a\\.b\\*c\\[d\\] and more, to grow: \\(\\(\\(\\(\\(\\(\\(\\(\\(\\(\\)\\)\\)\\)\\)\\)\\)\\)\\)\\)", escape},
+    {"bites_replace", "-- <some42> <words>, and 137 others", replace},
+    {"bites_replace_literal", "-- $word $word, $word $word", replace_literal},
+    {"bites_expand", "<some: 42> $ and a text that is longer than all that stands before it, twice: some some", expand},
+};
+
+static bool complain(const char *name, size_t number, const char *what) {
+    printf("%s: request %zu refused: %s\n", name, number, what);
+    return false;
+}
+
+/* Whether the searches of these handles answer as they should, and take no memory. */
+static bool search_well(bites *regex, bites_cache *cache) {
+    bites_span m = {0, 0}, groups[3];
+    size_t end = 0, before = requests, count = 0;
+    bool right = bites_is_match_at(regex, cache, HAYSTACK, 0) == BITES_MATCH;
+    right = right && bites_shortest_match_at(regex, cache, HAYSTACK, 0, &end) == BITES_MATCH && end == 4;
+    right = right && bites_find_at(regex, cache, HAYSTACK, 0, &m) == BITES_MATCH && m.start == 3 && m.end == 10;
+    right = right && bites_captures_at(regex, cache, HAYSTACK, 0, groups, 3).code == BITES_MATCH && groups[2].start == 8;
+    right = right && bites_captures_next(regex, cache, HAYSTACK, 10, groups, 3).code == BITES_MATCH && groups[0].start == 11;
+    for (size_t last = BITES_NONE; right && bites_find_next(regex, cache, HAYSTACK, last, &m) == BITES_MATCH; last = m.end)
+        count++;
+    return right && count == 4 && bites_captures_len(regex) == 3 && requests == before;
+}
+
+static bool set_up(struct given *given) {
+    *given = (struct given){0};
+    memset(given->out, '-', ROOM);
+    return bites_new(PATTERN, BITES_TEXT, LIMITS, &given->regex) == BITES_DONE
+        && bites_cache_new(&given->regex, &given->cache) == BITES_DONE
+        && bites_new(BYTES("old"), 0, LIMITS, &given->made) == BITES_DONE
+        && bites_cache_new(&given->made, &given->made_cache) == BITES_DONE
+        && bites_captures_at(&given->regex, &given->cache, HAYSTACK, 0, given->groups, 3).code == BITES_MATCH;
+}
+
+static bool is_untouched(const struct given *given) {
+    for (size_t place = 0; place < ROOM; place++)
+        if (given->out[place] != '-') return false;
+    return true;
+}
+
+/* Whether the call did what it is for: it put its text, or what it made serves searches. */
+static bool is_done(const struct call *call, struct given *given, bites_size answer) {
+    if (answer.code != BITES_DONE) return false;
+    if (call->text != NULL)
+        return answer.size == strlen(call->text) && memcmp(given->out, call->text, answer.size) == 0 && given->out[answer.size] == '-';
+    if (call->ask == cache_new) return search_well(&given->regex, &given->made_cache);
+    return search_well(&given->made, &given->cache);
+}
+
+/* Whether a refused call answers want of memory, keeps what it was given, and is done when it is asked again. */
+static bool is_kept(const struct call *call, struct given *given, bites_size answer, size_t number) {
+    if (answer.code != BITES_NO_MEMORY || answer.size != 0) return complain(call->name, number, "another answer");
+    if (!is_untouched(given)) return complain(call->name, number, "something is written");
+    if (call->ask == cache_new ? given->made_cache.at != NULL : call->text == NULL && given->made.at != NULL)
+        return complain(call->name, number, "`out` holds something");
+    if (!search_well(&given->regex, &given->cache)) return complain(call->name, number, "the handles do not go on");
+    return is_done(call, given, call->ask(given)) || complain(call->name, number, "asked again, it answers otherwise");
+}
+
+/* A run with the request of this number refused; whether all is right. `needed` is how many requests the call made. */
+static bool run(const struct call *call, size_t number, bool rest, size_t *needed) {
+    struct given given;
+    blocks = 0, misused = false;
+    refuse_at = 0;
+    if (!set_up(&given)) return complain(call->name, 0, "no answer to begin with");
+    requests = refusals = 0;
+    refuse_at = number, refuse_rest = rest;
+    bites_size answer = call->ask(&given);
+    refuse_at = 0;
+    *needed = requests;
+    bool right = refusals > 0 ? is_kept(call, &given, answer, number)
+                              : is_done(call, &given, answer) || complain(call->name, number, "a wrong answer");
+    bites_free(&given.made);
+    bites_cache_free(&given.made_cache);
+    bites_cache_free(&given.cache);
+    bites_free(&given.regex);
+    if (blocks != 0 || misused) return complain(call->name, number, "blocks are not freed, or twice");
+    return right;
+}
+
+/* Refuses each request of the call in turn; whether all runs are right. `count` is how many requests it makes. */
+static bool try_call(const struct call *call, size_t *count) {
+    size_t needed;
+    if (!run(call, 0, false, count)) return false;
+    for (int turn = 0; turn < 2; turn++)
+        for (size_t number = 1;; number++) {
+            if (!run(call, number, turn == 1, &needed)) return false;
+            if (refusals == 0) break;
+        }
+    return *count > 0;
+}
+
+int main(void) {
+    size_t failed = 0;
+    for (size_t index = 0; index < sizeof calls / sizeof *calls; index++) {
+        size_t count = 0;
+        bool right = try_call(&calls[index], &count);
+        printf("%-22s %3zu requests, %s\n", calls[index].name, count, right ? "each refused in turn" : "FAILED");
+        failed += !right;
+    }
+    return failed != 0;
+}

@@ -1,0 +1,46 @@
+-- What is asked over texts.
+use Rattle.std.proofs.Common.{◌≡◌, ℕ, Bool, true, false, List, Option, Some, None, sym, ap, subst, ◌∙◌}
+use Rattle.std.specs.Prelude.{⊤, IfSome}
+use Rattle.bites_spec.specs.Counts.{Room}
+use Rattle.bites_spec.specs.Regex.{Regex}
+use Rattle.bites_c.specs.Searched.{SearchedFrom}
+use Rattle.bites_c.specs.Texts.{AsksFrom, AsksGroups}
+use Rattle.bites_c.specs.declared.handle.Bites.{Bites}
+use Rattle.bites_c.specs.declared.held.Held.{Held}
+use Rattle.bites_c.specs.declared.span.BitesSpan.{BitesSpan}
+
+-- what holds of what was taken out of a handle
+pub of_held :
+    (P : Held → Type 0) (was taken : Bites) (value here : Held) → taken ≡ was → taken.held ≡ Some value → here ≡ value → P here →
+    IfSome was.held P
+of_held P was taken value here same held is p =
+    subst (λ q. IfSome q P) (sym (ap (λ (b : Bites). b.held) (sym same) ∙ held)) (subst P is p)
+
+still_refused :
+    (b : Bool) (hay : List ℕ) (start number : ℕ) (S A : Type 0) → S → AsksFrom b hay start number ⊤ ⊥ → AsksFrom b hay start number S A
+still_refused false hay start number S A s h = absurd h
+still_refused true hay start number S A s h =
+    ((λ no. ((h.0 no).0, s)), λ utf8. let k = h.1 utf8 in ((λ no. ((k.0 no).0, s)), λ border. absurd (k.1 border)))
+
+-- a search that is refused answers nothing
+pub refused_from :
+    (hay : List ℕ) (start : ℕ) (held : Option Held) (room : Option Room) (number : ℕ) (S : Type 0) (P : Regex → Type 0) →
+    S → SearchedFrom hay start held room number ⊤ (λ r. ⊥) → SearchedFrom hay start held room number S P
+refused_from hay start None room number S P s h = (h.0, s)
+refused_from hay start (Some x) None number S P s h = (h.0, s)
+refused_from hay start (Some x) (Some m) number S P s h =
+    ((λ fits. still_refused x.is_text hay start number S (P x.regex) s (h.0 fits)), λ other. ((h.1 other).0, s))
+
+module _ (b : Bool) (hay : List ℕ) (groups : List BitesSpan) (template : List ℕ) (R : ℕ → Type 0) where
+  -- a number of what is wrong is the one that is answered
+  pub wrong :
+      (A : Type 0) (n : ℕ) → AsksGroups b hay groups template (λ number. n ≡ number) ⊥ → R n → AsksGroups b hay groups template R A
+  wrong A n told r = by b told
+    where
+      by : (b : Bool) → AsksGroups b hay groups template (λ number. n ≡ number) ⊥ → AsksGroups b hay groups template R A
+      by false h = ((λ no. subst R (h.0 no) r), λ lie. absurd (h.1 lie))
+      by true h = (
+        (λ no. subst R (h.0 no) r),
+        λ utf8. let k = h.1 utf8 in
+            ((λ no. subst R (k.0 no) r), λ lie. let m = k.1 lie in ((λ no. subst R (m.0 no) r), λ borders. absurd (m.1 borders))),
+      )
