@@ -1,12 +1,15 @@
 //! Trees, programs and room for searches.
 
+ghost use Rattle.std.specs.Prelude.{IfOk};
+ghost use Rattle.bites_spec.specs.Built.{IsCompilable};
+
 use crate::told::{Told, is_want};
 use crate::work::{Refused, Work};
 use bites_machine::program::{Program, compile, compile_with_groups};
 use bites_machine::vm;
 use bites_syntax::measure::captures_len;
 use bites_syntax::parse::{Flags, parse, parse_with_groups};
-use bites_syntax::tree::escape;
+use bites_syntax::tree::{Tree, escape};
 use std::io::{self, Write};
 
 /// The limits that the jobs set.
@@ -26,20 +29,36 @@ pub fn run(call: &str, work: Work<'_>, told: &mut Told<'_>) -> Result<(), Refuse
 
 fn ask(call: &str, work: Work<'_>, told: &mut Told<'_>) -> Result<(), Refused> {
     match call {
-        "escape" => {
-            let escaped = escape(work.alloc, work.pattern)?;
-            Ok(told.line(escaped.as_bytes())?)
-        }
-        "parse" => {
-            let tree = parse(work.alloc, work.pattern, Flags::default(), NEST_LIMIT)?;
-            Ok(told.end(Some(captures_len(&tree)))?)
-        }
+        "escape" => escaped(work, told),
+        "parse" => Ok(told.end(Some(captures_len(&tree_of(work)?)))?),
         "parse_with_groups" => with_groups(work, told),
-        "compile" => compiled(work, told),
-        "compile_with_groups" => compiled_with_groups(work, told),
+        "compile" => Ok(describe(&program_of(work)?, told)?),
+        "compile_with_groups" => Ok(describe(&program_with_groups(work)?, told)?),
         "room" => room(work, told),
         _ => Err(Refused::NoJob),
     }
+}
+
+fn escaped(work: Work<'_>, told: &mut Told<'_>) -> Result<(), Refused> {
+    let escaped = escape(work.alloc, work.pattern)?;
+    Ok(told.line(escaped.as_bytes())?)
+}
+
+fn tree_of(work: Work<'_>) -> Result<Tree, Refused>
+    ensures { IfOk result IsCompilable }
+{
+    Ok(parse(work.alloc, work.pattern, Flags::default(), NEST_LIMIT)?)
+}
+
+/// The program of the pattern.
+pub fn program_of(work: Work<'_>) -> Result<Program, Refused> {
+    let tree = tree_of(work)?;
+    Ok(compile(work.alloc, &tree, work.pattern, SIZE_LIMIT)?)
+}
+
+fn program_with_groups(work: Work<'_>) -> Result<Program, Refused> {
+    let (tree, groups) = parse_with_groups(work.alloc, work.pattern, Flags::default(), NEST_LIMIT)?;
+    Ok(compile_with_groups(work.alloc, &tree, &groups, work.pattern, SIZE_LIMIT)?)
 }
 
 // Tells the name of each group, or `-`, with a space behind it.
@@ -56,30 +75,25 @@ fn with_groups(work: Work<'_>, told: &mut Told<'_>) -> Result<(), Refused> {
     Ok(told.line(b"")?)
 }
 
-fn compiled(work: Work<'_>, told: &mut Told<'_>) -> Result<(), Refused> {
-    let tree = parse(work.alloc, work.pattern, Flags::default(), NEST_LIMIT)?;
-    let program = compile(work.alloc, &tree, work.pattern, SIZE_LIMIT)?;
-    Ok(describe(&program, told)?)
-}
-
-fn compiled_with_groups(work: Work<'_>, told: &mut Told<'_>) -> Result<(), Refused> {
-    let (tree, groups) = parse_with_groups(work.alloc, work.pattern, Flags::default(), NEST_LIMIT)?;
-    let program = compile_with_groups(work.alloc, &tree, &groups, work.pattern, SIZE_LIMIT)?;
-    Ok(describe(&program, told)?)
-}
-
 // Tells what a search in new room leaves in two slots.
 fn room(work: Work<'_>, told: &mut Told<'_>) -> Result<(), Refused> {
-    let tree = parse(work.alloc, work.pattern, Flags::default(), NEST_LIMIT)?;
-    let program = compile(work.alloc, &tree, work.pattern, SIZE_LIMIT)?;
-    let mut room = vm::Cache::new(&program)?;
+    let program = program_of(work)?;
     let mut slots = [None; 2];
-    if !room.fits_program(&program) {
-        return Err(Refused::NoJob);
-    }
-    vm::search(&program, &mut room, work.haystack, 0, false, &mut slots);
+    search(&program, work.haystack, &mut slots)?;
     told.end(slots[0])?;
     Ok(told.end(slots[1])?)
+}
+
+fn search(
+    program: &Program,
+    haystack: &[u8],
+    slots: &mut [Option<usize>; 2],
+) -> Result<(), Refused> {
+    let mut room = vm::Cache::new(program)?;
+    if room.fits_program(program) {
+        vm::search(program, &mut room, haystack, 0, false, slots);
+    }
+    Ok(())
 }
 
 // Tells the numbers of states, slots and edges, and the pattern.

@@ -2,12 +2,24 @@
 
 use bites_bytes::bytes::Regex;
 use bites_text::error::Error;
+use regex_bites::string;
 use std::alloc::{AllocError, Global};
 use std::str::Utf8Error;
 
 /// What is timed.
 #[derive(Clone, Copy)]
 pub enum Job {
+    /// Making the regex.
+    New,
+    /// The number of successive matches of a regex over texts.
+    FindIterInText,
+    /// A job with a regex over bytes that is made before.
+    Search(Search),
+}
+
+/// What is timed with a regex over bytes.
+#[derive(Clone, Copy)]
+pub enum Search {
     /// The number of successive matches.
     FindIter,
     /// The sum of the ends of group 3 over the groups of the successive matches.
@@ -22,8 +34,6 @@ pub enum Job {
     Split,
     /// The sum of the bytes of the haystack with each match replaced.
     ReplaceAll,
-    /// Making the regex.
-    New,
     /// The sum of the ends of the successive matches, whose groups are read into locations.
     CapturesRead,
 }
@@ -61,15 +71,16 @@ impl Job {
     /// The job with this number.
     pub fn of(number: u32) -> Option<Job> {
         match number {
-            0 | 8 => Some(Job::FindIter),
-            1 => Some(Job::CapturesIter),
-            2 => Some(Job::FindLines),
-            3 => Some(Job::Find),
-            4 => Some(Job::IsMatch),
-            5 => Some(Job::Split),
-            6 => Some(Job::ReplaceAll),
+            0 => Some(Job::Search(Search::FindIter)),
+            1 => Some(Job::Search(Search::CapturesIter)),
+            2 => Some(Job::Search(Search::FindLines)),
+            3 => Some(Job::Search(Search::Find)),
+            4 => Some(Job::Search(Search::IsMatch)),
+            5 => Some(Job::Search(Search::Split)),
+            6 => Some(Job::Search(Search::ReplaceAll)),
             7 => Some(Job::New),
-            9 => Some(Job::CapturesRead),
+            8 => Some(Job::FindIterInText),
+            9 => Some(Job::Search(Search::CapturesRead)),
             _ => None,
         }
     }
@@ -84,29 +95,39 @@ impl Job {
         times: usize,
     ) -> Result<usize, Refused> {
         let pattern = std::str::from_utf8(pattern)?;
-        if let Job::New = self {
-            return new(alloc, pattern, times);
+        match self {
+            Job::New => new(alloc, pattern, times),
+            Job::FindIterInText => find_iter_in_text(alloc, pattern, hay, times),
+            Job::Search(search) => search.run(&Regex::new(alloc, pattern)?, hay, template, times),
         }
-        let regex = Regex::new(alloc, pattern)?;
+    }
+}
+
+impl Search {
+    fn run(
+        self,
+        regex: &Regex,
+        hay: &[u8],
+        template: &[u8],
+        times: usize,
+    ) -> Result<usize, Refused> {
         let mut answer = 0;
         for _ in 0..times {
-            answer = self.search(&regex, hay, template)?;
+            answer = self.once(regex, hay, template)?;
         }
         Ok(answer)
     }
 
-    // The job once, with a regex that was made before.
-    fn search(self, regex: &Regex, hay: &[u8], template: &[u8]) -> Result<usize, AllocError> {
+    fn once(self, regex: &Regex, hay: &[u8], template: &[u8]) -> Result<usize, AllocError> {
         match self {
-            Job::FindIter => find_iter(regex, hay),
-            Job::CapturesIter => captures_iter(regex, hay),
-            Job::FindLines => find_lines(regex, hay),
-            Job::Find => Ok(regex.find(hay)?.map_or(0, |found| found.end())),
-            Job::IsMatch => Ok(regex.is_match(hay)? as usize),
-            Job::Split => split(regex, hay),
-            Job::ReplaceAll => replace_all(regex, hay, template),
-            Job::New => Ok(regex.captures_len()),
-            Job::CapturesRead => captures_read(regex, hay),
+            Search::FindIter => find_iter(regex, hay),
+            Search::CapturesIter => captures_iter(regex, hay),
+            Search::FindLines => find_lines(regex, hay),
+            Search::Find => Ok(regex.find(hay)?.map_or(0, |found| found.end())),
+            Search::IsMatch => Ok(regex.is_match(hay)? as usize),
+            Search::Split => split(regex, hay),
+            Search::ReplaceAll => replace_all(regex, hay, template),
+            Search::CapturesRead => captures_read(regex, hay),
         }
     }
 }
@@ -120,6 +141,29 @@ fn new(alloc: Global, pattern: &str, times: usize) -> Result<usize, Refused> {
 }
 
 fn find_iter(regex: &Regex, hay: &[u8]) -> Result<usize, AllocError> {
+    let mut count = 0usize;
+    for _ in regex.find_iter(hay)? {
+        count = count.wrapping_add(1);
+    }
+    Ok(count)
+}
+
+fn find_iter_in_text(
+    alloc: Global,
+    pattern: &str,
+    hay: &[u8],
+    times: usize,
+) -> Result<usize, Refused> {
+    let hay = std::str::from_utf8(hay)?;
+    let regex = string::Regex::new(alloc, pattern)?;
+    let mut answer = 0;
+    for _ in 0..times {
+        answer = matches_in_text(&regex, hay)?;
+    }
+    Ok(answer)
+}
+
+fn matches_in_text(regex: &string::Regex, hay: &str) -> Result<usize, AllocError> {
     let mut count = 0usize;
     for _ in regex.find_iter(hay)? {
         count = count.wrapping_add(1);

@@ -25,14 +25,15 @@ use told::Told;
 use work::{Refused, Work};
 
 /// Does a job with one regex so often, and answers the checksum of the last time; the greatest number where the job is
-/// unknown, or where the pattern or memory was refused.
+/// unknown, or where the pattern, the haystack as a text, or memory was refused.
 ///
 /// `pattern` is UTF-8. The jobs: 0 counts the successive matches; 1 sums the ends of group 3 over their groups; 2 sums the
 /// lengths of the first match of each line; 3 is the end of the first match, 0 for none; 4 is `is_match` of the haystack, 1
 /// or 0; 5 counts the pieces between the matches; 6 sums the bytes of the haystack with each match replaced by `template`;
-/// 7 makes the regex, each time, and answers how many groups it has; 8 counts as 0 does; 9 sums the ends of the successive
-/// matches, whose groups are read into locations. Sums are modulo 1000000007. Iterators and job 9 make the room for searches
-/// once, single searches each time.
+/// 7 makes the regex, each time, and answers how many groups it has; 8 counts as 0 does, with a regex over texts; 9 sums the
+/// ends of the successive matches, whose groups are read into locations. Sums are modulo 1000000007. Iterators and job 9 make
+/// the room for searches once, single searches each time. The haystack of job 8 is UTF-8, which is checked once, however often
+/// the job is done.
 #[unsafe(no_mangle)]
 pub extern "C" fn bites_bench(
     alloc: Global,
@@ -69,10 +70,8 @@ pub extern "C" fn bites_job(
     let mut told = Told::new(room);
     let outcome = match (std::str::from_utf8(job), std::str::from_utf8(pattern)) {
         (Ok(job), Ok(pattern)) => {
-            let (surface, job) = jobs::surface_of(job);
             let work = Work {
                 alloc,
-                surface,
                 pattern,
                 haystack,
                 template,

@@ -1,17 +1,16 @@
 //! Reading the groups of a match into locations.
 
-use crate::surface::{Haystack, Locations, Regex, over_fitting};
+use crate::surface::Surface;
 use crate::told::{Told, is_want};
 use crate::work::{Refused, Work};
-use std::ops::Range;
 
 /// Where the call from a place begins.
 const START: usize = 1;
 
 /// Reads the groups in the template, and then asks with the locations that hold these. Where memory is refused, it asks once
 /// more with the same locations, so that it tells whether they stayed.
-pub fn run(call: &str, work: Work<'_>, told: &mut Told<'_>) -> Result<(), Refused> {
-    let regex = work.regex()?;
+pub fn run<R: Surface>(call: &str, work: Work<'_>, told: &mut Told<'_>) -> Result<(), Refused> {
+    let regex: R = work.regex()?;
     let mut locations = read_before(&regex, work.template)?;
     let outcome = ask(call, &regex, &mut locations, work.haystack, told);
     if is_want(&outcome) {
@@ -22,9 +21,9 @@ pub fn run(call: &str, work: Work<'_>, told: &mut Told<'_>) -> Result<(), Refuse
 }
 
 // Locations that hold the groups of the first match in the haystack.
-fn read_before(regex: &Regex, haystack: &[u8]) -> Result<Locations, Refused> {
+fn read_before<R: Surface>(regex: &R, haystack: &[u8]) -> Result<R::Locations, Refused> {
     let mut locations = regex.locations()?;
-    let found = read(regex, &mut locations, haystack)?;
+    let found = regex.captures_read(&mut locations, haystack)?;
     if found.is_none() {
         return Err(Refused::NoJob);
     }
@@ -32,45 +31,19 @@ fn read_before(regex: &Regex, haystack: &[u8]) -> Result<Locations, Refused> {
 }
 
 // Tells what the locations hold, asks, and tells what they hold then.
-fn ask(
+fn ask<R: Surface>(
     call: &str,
-    regex: &Regex,
-    locations: &mut Locations,
+    regex: &R,
+    locations: &mut R::Locations,
     haystack: &[u8],
     told: &mut Told<'_>,
 ) -> Result<(), Refused> {
     told.groups(locations)?;
     match call {
-        "captures_read" => told.found(read(regex, locations, haystack)?)?,
-        "captures_read_at" => told.found(read_at(regex, locations, haystack, START)?)?,
-        "clone" => told.groups(&locations.copied()?)?,
+        "captures_read" => told.found(regex.captures_read(locations, haystack)?)?,
+        "captures_read_at" => told.found(regex.captures_read_at(locations, haystack, START)?)?,
+        "clone" => told.groups(&R::copied_locations(locations)?)?,
         _ => return Err(Refused::NoJob),
     }
     Ok(told.groups(locations)?)
-}
-
-fn read(
-    regex: &Regex,
-    locations: &mut Locations,
-    haystack: &[u8],
-) -> Result<Option<Range<usize>>, Refused> {
-    over_fitting!(regex, locations, haystack => {
-        let found = regex.captures_read(locations, haystack)?;
-        Ok(found.map(|found| found.range()))
-    })
-}
-
-fn read_at(
-    regex: &Regex,
-    locations: &mut Locations,
-    haystack: &[u8],
-    start: usize,
-) -> Result<Option<Range<usize>>, Refused> {
-    over_fitting!(regex, locations, haystack => {
-        if !haystack.is_char_boundary(start) {
-            return Err(Refused::NoJob);
-        }
-        let found = regex.captures_read_at(locations, haystack, start)?;
-        Ok(found.map(|found| found.range()))
-    })
 }

@@ -1,10 +1,10 @@
 //! Haystacks with matches replaced, by each kind of replacer.
 
-mod bytes;
+pub mod bytes;
 mod served;
-mod texts;
+pub mod texts;
 
-use crate::surface::Regex;
+use crate::surface::Surface;
 use crate::told::{Told, is_want};
 use crate::work::{Refused, Work};
 
@@ -30,25 +30,17 @@ impl Call {
 }
 
 /// Replaces by a replacer of this kind; where memory is refused, the same regex is asked once more.
-pub fn run(call: Call, kind: &str, work: Work<'_>, told: &mut Told<'_>) -> Result<(), Refused> {
-    let regex = work.regex()?;
-    let outcome = ask(call, kind, &regex, work, told);
-    if is_want(&outcome) {
-        told.want()?;
-        return ask(call, kind, &regex, work, told);
-    }
-    outcome
-}
-
-fn ask(
+pub fn run<R: Surface>(
     call: Call,
     kind: &str,
-    regex: &Regex,
     work: Work<'_>,
     told: &mut Told<'_>,
 ) -> Result<(), Refused> {
-    match regex {
-        Regex::Bytes(regex) => bytes::ask(call, kind, regex, work, told),
-        Regex::Texts(regex) => texts::ask(call, kind, regex, work, told),
+    let regex: R = work.regex()?;
+    let outcome = regex.replace(call, kind, work, told);
+    if is_want(&outcome) {
+        told.want()?;
+        return regex.replace(call, kind, work, told);
     }
+    outcome
 }

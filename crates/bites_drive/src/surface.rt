@@ -1,83 +1,128 @@
-//! Regexes over bytes and over texts. What is asked of both is written once, by the macros of this module.
+//! Regexes over bytes and over texts, so that a job is said once for both.
 
-use crate::work::Refused;
-use regex_bites::{Error, bytes, string};
-use std::alloc::{AllocError, Global};
+mod bytes;
+pub mod texts;
+
+use crate::replace::Call;
+use crate::told::Told;
+use crate::work::{Refused, Work};
+use regex_bites::bytes::CaptureNames;
+use std::alloc::Global;
 use std::ops::Range;
 
-/// What a job searches: a haystack is bytes either way, and over texts must be UTF-8.
-#[derive(Clone, Copy)]
-pub enum Surface {
-    Bytes,
-    Texts,
+/// A regex of one surface, and what is made of it.
+///
+/// A haystack is bytes. Over texts there is no job where it is not UTF-8, or where a search would begin inside a character.
+pub trait Surface: Drop + Sized {
+    type Builder: Drop;
+
+    type Locations: Groups + Drop;
+
+    type Cache: Drop;
+
+    /// A regex of the pattern.
+    fn of_pattern(alloc: Global, pattern: &str) -> Result<Self, Refused>;
+
+    /// A builder of the pattern.
+    fn builder(alloc: Global, pattern: &str) -> Result<Self::Builder, Refused>;
+
+    /// Calls every setter.
+    fn set(builder: &mut Self::Builder);
+
+    /// Raises both limits to the greatest.
+    fn raise_limits(builder: &mut Self::Builder);
+
+    /// Builds a regex.
+    fn build(builder: &Self::Builder) -> Result<Self, Refused>;
+
+    /// A clone of the regex.
+    fn copied(&self) -> Result<Self, Refused>;
+
+    fn as_str(&self) -> &str;
+
+    fn captures_len(&self) -> usize;
+
+    fn static_captures_len(&self) -> Option<usize>;
+
+    fn capture_names(&self) -> CaptureNames<'_>;
+
+    fn is_match(&self, haystack: &[u8]) -> Result<bool, Refused>;
+
+    fn is_match_at(&self, haystack: &[u8], start: usize) -> Result<bool, Refused>;
+
+    fn shortest_match(&self, haystack: &[u8]) -> Result<Option<usize>, Refused>;
+
+    fn shortest_match_at(&self, haystack: &[u8], start: usize) -> Result<Option<usize>, Refused>;
+
+    fn find(&self, haystack: &[u8]) -> Result<Option<Range<usize>>, Refused>;
+
+    fn find_at(&self, haystack: &[u8], start: usize) -> Result<Option<Range<usize>>, Refused>;
+
+    /// The room for searches.
+    fn cache(&self) -> Result<Self::Cache, Refused>;
+
+    fn find_with(
+        &self,
+        cache: &mut Self::Cache,
+        haystack: &[u8],
+    ) -> Result<Option<Range<usize>>, Refused>;
+
+    /// Tells the groups of the first match, or `none`.
+    fn captures(&self, haystack: &[u8], told: &mut Told<'_>) -> Result<(), Refused>;
+
+    /// The same from a place on.
+    fn captures_at(
+        &self,
+        haystack: &[u8],
+        start: usize,
+        told: &mut Told<'_>,
+    ) -> Result<(), Refused>;
+
+    /// Places for the groups.
+    fn locations(&self) -> Result<Self::Locations, Refused>;
+
+    /// A clone of the places.
+    fn copied_locations(locations: &Self::Locations) -> Result<Self::Locations, Refused>;
+
+    fn captures_read(
+        &self,
+        locations: &mut Self::Locations,
+        haystack: &[u8],
+    ) -> Result<Option<Range<usize>>, Refused>;
+
+    fn captures_read_at(
+        &self,
+        locations: &mut Self::Locations,
+        haystack: &[u8],
+        start: usize,
+    ) -> Result<Option<Range<usize>>, Refused>;
+
+    /// Replaces by a replacer of this kind.
+    fn replace(
+        &self,
+        call: Call,
+        kind: &str,
+        work: Work<'_>,
+        told: &mut Told<'_>,
+    ) -> Result<(), Refused>;
+
+    /// Appends what the template stands for at the first match.
+    fn expand(&self, work: Work<'_>, told: &mut Told<'_>) -> Result<(), Refused>;
+
+    /// Appends what the template stands for where only group 1 has a text, `one`, and only `first` is a name, of group 1.
+    fn interpolate(work: Work<'_>, told: &mut Told<'_>) -> Result<(), Refused>;
 }
 
-/// A builder of either surface.
-#[derive(Drop)]
-pub enum Builder {
-    Bytes(bytes::RegexBuilder),
-    Texts(string::RegexBuilder),
+/// Places of groups, by their numbers.
+pub trait Groups {
+    /// The number of groups.
+    fn count(&self) -> usize;
+
+    /// Where a group took part.
+    fn place(&self, group: usize) -> Option<Range<usize>>;
 }
 
-/// A regex of either surface.
-#[derive(Drop)]
-pub enum Regex {
-    Bytes(bytes::Regex),
-    Texts(string::Regex),
-}
-
-/// Places of groups, of either surface.
-#[derive(Drop)]
-pub enum Locations {
-    Bytes(bytes::CaptureLocations),
-    Texts(string::CaptureLocations),
-}
-
-/// Asks the regex about the haystack, which is a text where the regex is over texts.
-macro_rules! over {
-    ($regex:ident, $haystack:ident => $ask:expr) => {
-        match $regex {
-            $crate::surface::Regex::Bytes($regex) => $ask,
-            $crate::surface::Regex::Texts($regex) => {
-                let $haystack = std::str::from_utf8($haystack)?;
-                $ask
-            }
-        }
-    };
-}
-
-/// The same with locations, which must fit the regex.
-macro_rules! over_fitting {
-    ($regex:ident, $locations:ident, $haystack:ident => $ask:expr) => {
-        match ($regex, $locations) {
-            (
-                $crate::surface::Regex::Bytes($regex),
-                $crate::surface::Locations::Bytes($locations),
-            ) => {
-                if !$locations.fits($regex) {
-                    return Err($crate::work::Refused::NoJob);
-                }
-                $ask
-            }
-            (
-                $crate::surface::Regex::Texts($regex),
-                $crate::surface::Locations::Texts($locations),
-            ) => {
-                let $haystack = std::str::from_utf8($haystack)?;
-                if !$locations.fits($regex) {
-                    return Err($crate::work::Refused::NoJob);
-                }
-                $ask
-            }
-            _ => return Err($crate::work::Refused::NoJob),
-        }
-    };
-}
-
-pub(crate) use over;
-pub(crate) use over_fitting;
-
-/// Calls every setter.
+/// Calls every setter of a builder.
 macro_rules! set {
     ($builder:ident) => {{
         $builder
@@ -94,134 +139,4 @@ macro_rules! set {
     }};
 }
 
-impl Builder {
-    /// A builder of the pattern.
-    pub fn new(surface: Surface, alloc: Global, pattern: &str) -> Result<Builder, Error> {
-        match surface {
-            Surface::Bytes => Ok(Builder::Bytes(bytes::RegexBuilder::new(alloc, pattern)?)),
-            Surface::Texts => Ok(Builder::Texts(string::RegexBuilder::new(alloc, pattern)?)),
-        }
-    }
-
-    /// Calls every setter.
-    pub fn set(&mut self) {
-        match self {
-            Builder::Bytes(builder) => set!(builder),
-            Builder::Texts(builder) => set!(builder),
-        }
-    }
-
-    /// Raises both limits to the greatest.
-    pub fn raise_limits(&mut self) {
-        match self {
-            Builder::Bytes(builder) => {
-                builder.size_limit(usize::MAX).nest_limit(u32::MAX);
-            }
-            Builder::Texts(builder) => {
-                builder.size_limit(usize::MAX).nest_limit(u32::MAX);
-            }
-        }
-    }
-
-    /// Builds a regex.
-    pub fn build(&self) -> Result<Regex, Error> {
-        match self {
-            Builder::Bytes(builder) => Ok(Regex::Bytes(builder.build()?)),
-            Builder::Texts(builder) => Ok(Regex::Texts(builder.build()?)),
-        }
-    }
-}
-
-impl Regex {
-    /// A regex of the pattern.
-    pub fn new(surface: Surface, alloc: Global, pattern: &str) -> Result<Regex, Error> {
-        match surface {
-            Surface::Bytes => Ok(Regex::Bytes(bytes::Regex::new(alloc, pattern)?)),
-            Surface::Texts => Ok(Regex::Texts(string::Regex::new(alloc, pattern)?)),
-        }
-    }
-
-    /// A clone of the regex.
-    pub fn copied(&self) -> Result<Regex, AllocError> {
-        match self {
-            Regex::Bytes(regex) => Ok(Regex::Bytes(regex.clone()?)),
-            Regex::Texts(regex) => Ok(Regex::Texts(regex.clone()?)),
-        }
-    }
-
-    /// Places for the groups.
-    pub fn locations(&self) -> Result<Locations, AllocError> {
-        match self {
-            Regex::Bytes(regex) => Ok(Locations::Bytes(regex.capture_locations()?)),
-            Regex::Texts(regex) => Ok(Locations::Texts(regex.capture_locations()?)),
-        }
-    }
-}
-
-impl Locations {
-    /// A clone of the places.
-    pub fn copied(&self) -> Result<Locations, AllocError> {
-        match self {
-            Locations::Bytes(locations) => Ok(Locations::Bytes(locations.clone()?)),
-            Locations::Texts(locations) => Ok(Locations::Texts(locations.clone()?)),
-        }
-    }
-}
-
-/// Places of groups, by their numbers.
-pub trait Groups {
-    /// The number of groups.
-    fn count(&self) -> usize;
-
-    /// Where a group took part.
-    fn place(&self, group: usize) -> Option<Range<usize>>;
-}
-
-impl<'h> Groups for bytes::Captures<'h> {
-    fn count(&self) -> usize {
-        self.len()
-    }
-
-    fn place(&self, group: usize) -> Option<Range<usize>> {
-        self.get(group).map(|found| found.range())
-    }
-}
-
-impl<'h> Groups for string::Captures<'h> {
-    fn count(&self) -> usize {
-        self.len()
-    }
-
-    fn place(&self, group: usize) -> Option<Range<usize>> {
-        self.get(group).map(|found| found.range())
-    }
-}
-
-impl Groups for Locations {
-    fn count(&self) -> usize {
-        match self {
-            Locations::Bytes(locations) => locations.len(),
-            Locations::Texts(locations) => locations.len(),
-        }
-    }
-
-    fn place(&self, group: usize) -> Option<Range<usize>> {
-        let ends = match self {
-            Locations::Bytes(locations) => locations.get(group),
-            Locations::Texts(locations) => locations.get(group),
-        };
-        ends.map(|(start, end)| start..end)
-    }
-}
-
-/// A call that byte strings lack and texts have, so that both are asked alike.
-pub trait Haystack {
-    /// Whether a search may begin at this place: it may at each.
-    fn is_char_boundary(&self, place: usize) -> bool;
-}
-
-impl<'h> Haystack for &'h [u8] {
-    fn is_char_boundary(&self, _place: usize) -> bool {
-        true
-    }
-}
+use set;

@@ -70,9 +70,9 @@ impl<'a> Told<'a> {
     }
 
     /// The same of what a search found, or `none`.
-    pub fn captures<G: Groups>(&mut self, captures: Option<&G>) -> io::Result<()> {
+    pub fn captures<G: Groups + Drop>(&mut self, captures: Option<G>) -> io::Result<()> {
         match captures {
-            Some(captures) => self.groups(captures),
+            Some(captures) => self.groups(&captures),
             None => self.line(b"none"),
         }
     }

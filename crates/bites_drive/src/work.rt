@@ -1,16 +1,15 @@
 //! What jobs are done with.
 
-use crate::surface::{Builder, Regex, Surface};
+use crate::surface::Surface;
 use regex_bites::Error;
 use std::alloc::{AllocError, Global};
 use std::io;
 use std::str::Utf8Error;
 
-/// A surface, a pattern, a haystack and a template, of which a job uses those that it needs.
+/// A pattern, a haystack and a template, of which a job uses those that it needs.
 #[derive(Clone, Copy)]
 pub struct Work<'a> {
     pub alloc: Global,
-    pub surface: Surface,
     pub pattern: &'a str,
     pub haystack: &'a [u8],
     pub template: &'a [u8],
@@ -18,13 +17,8 @@ pub struct Work<'a> {
 
 impl<'a> Work<'a> {
     /// A regex of the pattern.
-    pub fn regex(&self) -> Result<Regex, Refused> {
-        Ok(Regex::new(self.surface, self.alloc, self.pattern)?)
-    }
-
-    /// A builder of the pattern.
-    pub fn builder(&self) -> Result<Builder, Refused> {
-        Ok(Builder::new(self.surface, self.alloc, self.pattern)?)
+    pub fn regex<R: Surface>(&self) -> Result<R, Refused> {
+        R::of_pattern(self.alloc, self.pattern)
     }
 }
 

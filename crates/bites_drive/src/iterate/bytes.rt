@@ -1,62 +1,71 @@
 //! Iterators over bytes.
 
-use super::end;
+use super::{Item, Items, Iterate, tell_all, tell_item};
 use crate::told::Told;
 use crate::work::Refused;
-use regex_bites::bytes::{CaptureMatches, Regex};
+use regex_bites::bytes::{CaptureMatches, Captures, Match, Matches, Regex, Split, SplitN};
+use std::alloc::AllocError;
 use std::io;
 
-/// Goes through all items of the call.
-pub fn ask(call: &str, regex: &Regex, haystack: &[u8], told: &mut Told<'_>) -> Result<(), Refused> {
-    match call {
-        "find_iter" => find_iter(regex, haystack, told),
-        "captures_iter" => captures_iter(regex, haystack, told),
-        "split" => split(regex, haystack, told),
-        "splitn" => splitn(regex, haystack, told),
-        _ => Err(Refused::NoJob),
+impl Iterate for Regex {
+    fn find_iter(&self, haystack: &[u8], told: &mut Told<'_>) -> Result<(), Refused> {
+        tell_all(Regex::find_iter(self, haystack)?, haystack, told)
+    }
+
+    fn captures_iter(&self, haystack: &[u8], told: &mut Told<'_>) -> Result<(), Refused> {
+        tell_all(Regex::captures_iter(self, haystack)?, haystack, told)
+    }
+
+    fn split(&self, haystack: &[u8], told: &mut Told<'_>) -> Result<(), Refused> {
+        tell_all(Regex::split(self, haystack)?, haystack, told)
+    }
+
+    fn splitn(&self, haystack: &[u8], told: &mut Told<'_>) -> Result<(), Refused> {
+        tell_all(Regex::splitn(self, haystack, 2)?, haystack, told)
     }
 }
 
-fn find_iter(regex: &Regex, haystack: &[u8], told: &mut Told<'_>) -> Result<(), Refused> {
-    let mut items = regex.find_iter(haystack)?;
-    while let Some(found) = items.next() {
-        told.found(Some(found.range()))?;
+impl<'r, 'h> Items for Matches<'r, 'h> {
+    fn tell_next(&mut self, told: &mut Told<'_>) -> io::Result<bool> {
+        tell_item(self.next(), told)
     }
-    Ok(told.line(end(items.next().is_none()))?)
 }
 
-// A refusal is told as the item that it is, and what comes behind it.
-fn captures_iter(regex: &Regex, haystack: &[u8], told: &mut Told<'_>) -> Result<(), Refused> {
-    let mut items = regex.captures_iter(haystack)?;
-    tell_captures(&mut items, told)?;
-    let ended = items.next().is_none() && items.next().is_none();
-    Ok(told.line(end(ended))?)
+impl<'r, 'h> Items for CaptureMatches<'r, 'h> {
+    fn tell_next(&mut self, told: &mut Told<'_>) -> io::Result<bool> {
+        tell_item(self.next(), told)
+    }
 }
 
-// Tells each item, up to the first refusal.
-fn tell_captures(items: &mut CaptureMatches<'_, '_>, told: &mut Told<'_>) -> io::Result<()> {
-    while let Some(item) = items.next() {
-        match item {
-            Ok(captures) => told.groups(&captures)?,
-            Err(_) => return told.want(),
+impl<'r, 'h> Items for Split<'r, 'h> {
+    fn tell_next(&mut self, told: &mut Told<'_>) -> io::Result<bool> {
+        tell_item(self.next(), told)
+    }
+}
+
+impl<'r, 'h> Items for SplitN<'r, 'h> {
+    fn tell_next(&mut self, told: &mut Told<'_>) -> io::Result<bool> {
+        tell_item(self.next(), told)
+    }
+}
+
+impl<'h> Item for Match<'h> {
+    fn tell(&self, told: &mut Told<'_>) -> io::Result<()> {
+        told.found(Some(self.range()))
+    }
+}
+
+impl<'h> Item for Result<Captures<'h>, AllocError> {
+    fn tell(&self, told: &mut Told<'_>) -> io::Result<()> {
+        match self {
+            Ok(captures) => told.groups(captures),
+            Err(_) => told.want(),
         }
     }
-    Ok(())
 }
 
-fn split(regex: &Regex, haystack: &[u8], told: &mut Told<'_>) -> Result<(), Refused> {
-    let mut items = regex.split(haystack)?;
-    while let Some(piece) = items.next() {
-        told.line(piece)?;
+impl<'h> Item for &'h [u8] {
+    fn tell(&self, told: &mut Told<'_>) -> io::Result<()> {
+        told.line(self)
     }
-    Ok(told.line(end(items.next().is_none()))?)
-}
-
-// At most 2 pieces.
-fn splitn(regex: &Regex, haystack: &[u8], told: &mut Told<'_>) -> Result<(), Refused> {
-    let mut items = regex.splitn(haystack, 2)?;
-    while let Some(piece) = items.next() {
-        told.line(piece)?;
-    }
-    Ok(told.line(end(items.next().is_none()))?)
 }

@@ -3,57 +3,165 @@
 ghost use Rattle.std.specs.Prelude.{◌≡◌, Some};
 ghost use Rattle.bites_spec.specs.Measure.{static_captures_len};
 
-use super::{named, trues};
+use super::{GroupReads, Items, Quiet, count_in, items_in, reads};
 use crate::work::Refused;
-use regex_bites::bytes::{Cache, CaptureLocations, Captures, Match, NoExpand, Regex, Replacer};
+use regex_bites::bytes::{
+    Cache, CaptureLocations, CaptureMatches, Captures, Match, Matches, NoExpand, Regex, Replacer,
+    Split, SplitN,
+};
 
-/// Asks the call so often as the haystack is long, or once for each of its places.
-pub fn ask(call: &str, regex: &Regex, haystack: &[u8], template: &[u8]) -> Result<usize, Refused> {
-    match call {
-        "regex" => Ok(regex_reads(regex, haystack.len())),
-        "captures" => captures_reads(regex, template, haystack.len()),
-        "extract" => extract(regex, template, haystack.len()),
-        "clones" => clones(regex, haystack.len()),
-        "searches" => searches(regex, haystack),
-        "read" => read(regex, haystack),
-        "iterators" => iterators(regex, haystack),
-        "counts" => counts(regex, haystack),
-        _ => Err(Refused::NoJob),
+impl Quiet for Regex {
+    fn is_match_with(&self, cache: &mut Cache, haystack: &[u8]) -> bool {
+        cache.fits(self) && Regex::is_match_with(self, cache, haystack)
+    }
+
+    fn is_match_at_with(&self, cache: &mut Cache, haystack: &[u8], start: usize) -> bool {
+        cache.fits(self) && Regex::is_match_at_with(self, cache, haystack, start)
+    }
+
+    fn shortest_match_with(&self, cache: &mut Cache, haystack: &[u8]) -> bool {
+        cache.fits(self) && Regex::shortest_match_with(self, cache, haystack).is_some()
+    }
+
+    fn shortest_match_at_with(&self, cache: &mut Cache, haystack: &[u8], start: usize) -> bool {
+        cache.fits(self) && Regex::shortest_match_at_with(self, cache, haystack, start).is_some()
+    }
+
+    fn find_at_with(&self, cache: &mut Cache, haystack: &[u8], start: usize) -> bool {
+        cache.fits(self) && Regex::find_at_with(self, cache, haystack, start).is_some()
+    }
+
+    fn captures_read_with(
+        &self,
+        cache: &mut Cache,
+        locations: &mut CaptureLocations,
+        haystack: &[u8],
+    ) -> bool {
+        cache.fits(self)
+            && locations.fits(self)
+            && Regex::captures_read_with(self, cache, locations, haystack).is_some()
+    }
+
+    fn captures_read_at_with(
+        &self,
+        cache: &mut Cache,
+        locations: &mut CaptureLocations,
+        haystack: &[u8],
+        start: usize,
+    ) -> bool {
+        cache.fits(self)
+            && locations.fits(self)
+            && Regex::captures_read_at_with(self, cache, locations, haystack, start).is_some()
+    }
+
+    fn captures_reads(&self, haystack: &[u8], times: usize) -> Result<usize, Refused> {
+        match Regex::captures(self, haystack)? {
+            Some(captures) => Ok(reads(&captures, times)),
+            None => Err(Refused::NoJob),
+        }
+    }
+
+    fn extracts(&self, haystack: &[u8], times: usize) -> Result<usize, Refused> {
+        extract(self, haystack, times)
+    }
+
+    fn next_matches(&self, haystack: &[u8]) -> Result<usize, Refused> {
+        let items = self.find_iter(haystack)?;
+        Ok(items_in(items, haystack.len()))
+    }
+
+    fn next_pieces(&self, haystack: &[u8]) -> Result<usize, Refused> {
+        let items = self.split(haystack)?;
+        Ok(items_in(items, haystack.len()))
+    }
+
+    fn next_limited(&self, haystack: &[u8]) -> Result<usize, Refused> {
+        let items = self.splitn(haystack, haystack.len())?;
+        Ok(items_in(items, haystack.len()))
+    }
+
+    fn count_matches(&self, haystack: &[u8]) -> Result<usize, Refused> {
+        let items = self.find_iter(haystack)?;
+        Ok(count_in(items, haystack))
+    }
+
+    fn count_captures(&self, haystack: &[u8]) -> Result<usize, Refused> {
+        let items = self.captures_iter(haystack)?;
+        Ok(count_in(items, haystack))
+    }
+
+    fn count_pieces(&self, haystack: &[u8]) -> Result<usize, Refused> {
+        let items = self.split(haystack)?;
+        Ok(count_in(items, haystack))
+    }
+
+    fn count_limited(&self, haystack: &[u8]) -> Result<usize, Refused> {
+        let items = self.splitn(haystack, haystack.len())?;
+        Ok(count_in(items, haystack))
+    }
+
+    fn has_no_expansion(template: &[u8]) -> Result<bool, Refused> {
+        Ok(NoExpand(template).no_expansion().is_some())
     }
 }
 
-/// Whether a replacer says that it always gives the same.
-pub fn has_no_expansion(template: &[u8]) -> bool {
-    NoExpand(template).no_expansion().is_some()
-}
-
-fn regex_reads(regex: &Regex, times: usize) -> usize {
-    let mut count = 0usize;
-    for _ in 0..times {
-        count = count.wrapping_add(regex.as_str().len());
-        count = count.wrapping_add(regex.captures_len());
-        count = count.wrapping_add(regex.static_captures_len().is_some() as usize);
-        count = count.wrapping_add(named(regex.capture_names()));
+impl<'r, 'h> Items for Matches<'r, 'h> {
+    fn has_next(&mut self) -> bool {
+        self.next().is_some()
     }
-    count
-}
 
-fn captures_reads(regex: &Regex, haystack: &[u8], times: usize) -> Result<usize, Refused> {
-    let Some(captures) = regex.captures(haystack)? else {
-        return Err(Refused::NoJob);
-    };
-    let mut count = 0usize;
-    for _ in 0..times {
-        count = count.wrapping_add(group_reads(&captures));
+    fn counted(self) -> usize {
+        self.count()
     }
-    Ok(count)
 }
 
-fn group_reads(captures: &Captures<'_>) -> usize {
+impl<'r, 'h> Items for CaptureMatches<'r, 'h> {
+    fn has_next(&mut self) -> bool {
+        self.next().is_some()
+    }
+
+    fn counted(self) -> usize {
+        self.count()
+    }
+}
+
+impl<'r, 'h> Items for Split<'r, 'h> {
+    fn has_next(&mut self) -> bool {
+        self.next().is_some()
+    }
+
+    fn counted(self) -> usize {
+        self.count()
+    }
+}
+
+impl<'r, 'h> Items for SplitN<'r, 'h> {
+    fn has_next(&mut self) -> bool {
+        self.next().is_some()
+    }
+
+    fn counted(self) -> usize {
+        self.count()
+    }
+}
+
+impl<'h> GroupReads for Captures<'h> {
+    fn reads(&self) -> usize {
+        let count = parts_read(self);
+        count.wrapping_add(matches_read(self))
+    }
+}
+
+fn matches_read(captures: &Captures<'_>) -> usize {
     let mut count = captures.len();
     for group in captures.iter() {
         count = count.wrapping_add(group.map_or(0, |found| match_reads(found)));
     }
+    count
+}
+
+fn parts_read(captures: &Captures<'_>) -> usize {
+    let mut count = 0usize;
     if captures.get(0).is_some() {
         count = count.wrapping_add(captures.part(0).len());
     }
@@ -92,104 +200,4 @@ fn extracted<'h>(captures: &Captures<'h>, haystack: &'h [u8], times: usize) -> u
         count = count.wrapping_add(captures.extract(&mut parts).len());
     }
     count
-}
-
-fn clones(regex: &Regex, times: usize) -> Result<usize, Refused> {
-    let mut count = 0usize;
-    for _ in 0..times {
-        count = count.wrapping_add(regex.clone()?.captures_len());
-        count = count.wrapping_add(regex.capture_names().clone()?.len());
-    }
-    Ok(count)
-}
-
-// The calls that answer one match, from each place.
-fn searches(regex: &Regex, haystack: &[u8]) -> Result<usize, Refused> {
-    let mut cache = regex.cache()?;
-    let mut count = 0usize;
-    for start in 0..haystack.len() {
-        count = count.wrapping_add(ends_from(regex, &mut cache, haystack, start));
-    }
-    Ok(count)
-}
-
-fn ends_from(regex: &Regex, cache: &mut Cache, haystack: &[u8], start: usize) -> usize {
-    if !cache.fits(regex) {
-        return 0;
-    }
-    let found = [
-        regex.is_match_with(cache, haystack),
-        regex.is_match_at_with(cache, haystack, start),
-        regex.shortest_match_with(cache, haystack).is_some(),
-        regex
-            .shortest_match_at_with(cache, haystack, start)
-            .is_some(),
-        regex.find_with(cache, haystack).is_some(),
-        regex.find_at_with(cache, haystack, start).is_some(),
-    ];
-    trues(&found)
-}
-
-// The calls that read groups into locations, from each place.
-fn read(regex: &Regex, haystack: &[u8]) -> Result<usize, Refused> {
-    let mut cache = regex.cache()?;
-    let mut locations = regex.capture_locations()?;
-    let mut count = 0usize;
-    for start in 0..haystack.len() {
-        let (cache, locations) = (&mut cache, &mut locations);
-        count = count.wrapping_add(groups_from(regex, cache, locations, haystack, start));
-        count = count.wrapping_add(locations.get(0).is_some() as usize);
-    }
-    Ok(count)
-}
-
-fn groups_from(
-    regex: &Regex,
-    cache: &mut Cache,
-    locations: &mut CaptureLocations,
-    haystack: &[u8],
-    start: usize,
-) -> usize {
-    if !cache.fits(regex) || !locations.fits(regex) {
-        return 0;
-    }
-    let first = regex
-        .captures_read_with(cache, locations, haystack)
-        .is_some();
-    if !cache.fits(regex) || !locations.fits(regex) {
-        return 0;
-    }
-    let other = regex
-        .captures_read_at_with(cache, locations, haystack, start)
-        .is_some();
-    trues(&[first, other])
-}
-
-// Each `next` of the iterators whose items take no memory.
-fn iterators(regex: &Regex, haystack: &[u8]) -> Result<usize, Refused> {
-    let mut matches = regex.find_iter(haystack)?;
-    let mut pieces = regex.split(haystack)?;
-    let mut limited = regex.splitn(haystack, haystack.len())?;
-    let mut count = 0usize;
-    for _ in 0..haystack.len() {
-        count = count.wrapping_add(matches.next().is_some() as usize);
-        count = count.wrapping_add(pieces.next().is_some() as usize);
-        count = count.wrapping_add(limited.next().is_some() as usize);
-    }
-    Ok(count)
-}
-
-// Each `count`, where the haystack is not empty.
-fn counts(regex: &Regex, haystack: &[u8]) -> Result<usize, Refused> {
-    let matches = regex.find_iter(haystack)?;
-    let captures = regex.captures_iter(haystack)?;
-    let pieces = regex.split(haystack)?;
-    let limited = regex.splitn(haystack, haystack.len())?;
-    if haystack.is_empty() {
-        return Ok(0);
-    }
-    let mut count = matches.count();
-    count = count.wrapping_add(captures.count());
-    count = count.wrapping_add(pieces.count());
-    Ok(count.wrapping_add(limited.count()))
 }

@@ -36,15 +36,15 @@ pub fn ask(
 ) -> Result<(), Refused> {
     let haystack = work.haystack;
     let replaced = match kind {
-        "template" => replace(call, regex, haystack, work.template)?,
-        "no_expand" => replace(call, regex, haystack, NoExpand(work.template))?,
-        "owned" | "owned_ref" => by_owned(call, kind, regex, work)?,
-        "cow" | "cow_ref" => by_cow(call, kind, regex, work)?,
-        "function" => by_count(call, regex, work)?,
+        "template" => replace(call, regex, haystack, work.template),
+        "no_expand" => replace(call, regex, haystack, NoExpand(work.template)),
+        "owned" | "owned_ref" => by_owned(call, kind, regex, work),
+        "cow" | "cow_ref" => by_cow(call, kind, regex, work),
+        "function" => by_count(call, regex, work),
         "by_ref" => return by_ref(call, regex, work, told),
         _ => return Err(Refused::NoJob),
     };
-    Ok(told.line(replaced.as_slice())?)
+    Ok(told.line(replaced?.as_slice())?)
 }
 
 fn by_owned<'h>(

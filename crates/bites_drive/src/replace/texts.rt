@@ -50,15 +50,15 @@ pub fn ask(
     };
     let haystack = texts.haystack;
     let replaced = match kind {
-        "template" => replace(call, regex, haystack, texts.template)?,
-        "no_expand" => replace(call, regex, haystack, NoExpand(texts.template))?,
-        "owned" | "owned_ref" => by_owned(call, kind, regex, texts)?,
-        "cow" | "cow_ref" => by_cow(call, kind, regex, texts)?,
-        "function" => by_count(call, regex, texts)?,
+        "template" => replace(call, regex, haystack, texts.template),
+        "no_expand" => replace(call, regex, haystack, NoExpand(texts.template)),
+        "owned" | "owned_ref" => by_owned(call, kind, regex, texts),
+        "cow" | "cow_ref" => by_cow(call, kind, regex, texts),
+        "function" => by_count(call, regex, texts),
         "by_ref" => return by_ref(call, regex, texts, told),
         _ => return Err(Refused::NoJob),
     };
-    Ok(told.line(replaced.as_str().as_bytes())?)
+    Ok(told.line(replaced?.as_str().as_bytes())?)
 }
 
 fn by_owned<'h>(

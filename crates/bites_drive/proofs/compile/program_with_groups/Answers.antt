@@ -1,7 +1,7 @@
 use Rattle.std.proofs.Common.{sym, subst}
 use Rattle.bites_spec.specs.Measure.{HasItsGroups}
 use Rattle.bites_spec.proofs.KeptLemmas.{opened_has_groups}
-use Rattle.bites_drive.proofs.compile.compiled_with_groups.Goals as goal
+use Rattle.bites_drive.proofs.compile.program_with_groups.Goals as goal
 
 pub compile_with_groups-requires-clause-groups : goal.compile_with_groups-requires-clause-groups
 compile_with_groups-requires-clause-groups c =
