@@ -84,8 +84,3 @@ pub fn search_longest(
     };
     cache.search(counted, &request, slots)
 }
-
-#[cfg(test)]
-mod search_tests;
-#[cfg(test)]
-mod tests;

@@ -4,8 +4,6 @@
 mod answer;
 mod fault;
 mod request;
-#[cfg(test)]
-mod tests;
 
 use answer::{Outcome, write_answer};
 use bites_bytes::bytes::Regex;

@@ -1,71 +1,69 @@
 //! Caches that are kept, and locations that are read into more than once.
 
-use bites_bytes::bytes::{Cache, CaptureLocations, Regex};
-use std::process::Abort;
-use std::test::Fail;
+use bites_bytes::bytes::{Cache, CaptureLocations, Error, Regex};
+use std::alloc::{AllocError, Global};
 
-// Compares where the regex matches first, with a cache that fits it.
-fn expect_span(
-    rt: &impl Abort,
-    regex: &Regex,
+// Whether the cache fits the regex of the pattern, and then where that matches first.
+fn found(
+    alloc: Global,
     cache: &mut Cache,
-    haystack: &[u8],
-    wanted: Option<(usize, usize)>,
-) {
-    assert!(rt; cache.fits(regex));
-    if cache.fits(regex) {
-        let found = regex.find_with(cache, haystack);
-        assert_eq!(rt; found.map(|found| (found.start(), found.end())), wanted);
+    pattern: &str,
+    haystack: &str,
+) -> Result<(bool, Option<(usize, usize)>), Error> {
+    let regex = Regex::new(alloc, pattern)?;
+    if !cache.fits(&regex) {
+        return Ok((false, None));
+    }
+    match regex.find_with(cache, haystack.as_bytes()) {
+        Some(found) => Ok((true, Some((found.start(), found.end())))),
+        None => Ok((true, None)),
     }
 }
 
-#[test]
-fn one_cache_for_many_haystacks(rt: HostRuntime) -> Result<(), Fail> {
-    let regex = Regex::new(rt.alloc(), "a+")?;
-    let mut cache = regex.cache()?;
-    expect_span(&rt, &regex, &mut cache, b"aaa", Some((0, 3)));
-    expect_span(&rt, &regex, &mut cache, b"", None);
-    expect_span(&rt, &regex, &mut cache, b"aaa", Some((0, 3)));
-    Ok(())
+// A cache of the regex of a pattern, which is gone then.
+fn cache_of(alloc: Global, pattern: &str) -> Result<Cache, Error> {
+    Ok(Regex::new(alloc, pattern)?.cache()?)
 }
 
 #[test]
-fn one_cache_for_regexes_of_one_size(rt: HostRuntime) -> Result<(), Fail> {
-    let one = Regex::new(rt.alloc(), "a")?;
-    let other = Regex::new(rt.alloc(), "b")?;
-    let longer = Regex::new(rt.alloc(), "ab")?;
-    let mut cache = one.cache()?;
-    assert!(rt; !cache.fits(&longer));
-    expect_span(&rt, &one, &mut cache, b"xa", Some((1, 2)));
-    expect_span(&rt, &other, &mut cache, b"ab", Some((1, 2)));
-    expect_span(&rt, &one, &mut cache, b"xa", Some((1, 2)));
+fn one_cache_for_haystacks_and_regexes(rt: HostRuntime) -> Result<(), Error> {
+    let mut cache = cache_of(rt.alloc(), "a+")?;
+    for (pattern, haystack, wanted) in &[
+        ("a+", "aaa", (true, Some((0, 3)))),
+        ("a+", "", (true, None)),
+        ("a+", "aaa", (true, Some((0, 3)))),
+        ("b+", "ab", (true, Some((1, 2)))),
+        ("a+", "xa", (true, Some((1, 2)))),
+        ("ab+", "ab", (false, None)),
+    ] {
+        let found = found(rt.alloc(), &mut cache, pattern, haystack);
+        assert_eq!(rt; found, Ok(*wanted));
+    }
     Ok(())
 }
 
-// Reads groups into the locations, which fit, and compares whether something matched and where two groups lie then.
-fn expect_read(
-    rt: &(impl Abort + AllocGlobal),
+// Whether the regex matches, and where two groups lie then, read into locations that may not fit it.
+fn read(
     regex: &Regex,
     locations: &mut CaptureLocations,
     haystack: &[u8],
-    wanted: (bool, [Option<(usize, usize)>; 2]),
-) -> Result<(), Fail> {
-    assert!(rt; locations.fits(regex));
-    if locations.fits(regex) {
-        let found = regex.captures_read(locations, haystack)?;
-        assert_eq!(rt; found.is_some(), wanted.0);
-    }
-    assert_eq!(rt; locations.get(0), wanted.1[0]);
-    assert_eq!(rt; locations.get(1), wanted.1[1]);
-    Ok(())
+) -> Result<(bool, [Option<(usize, usize)>; 2]), AllocError> {
+    let is_found = locations.fits(regex) && regex.captures_read(locations, haystack)?.is_some();
+    Ok((is_found, [locations.get(0), locations.get(1)]))
 }
 
 #[test]
-fn locations_stay_where_nothing_matches(rt: HostRuntime) -> Result<(), Fail> {
+fn locations_stay_where_nothing_matches(rt: HostRuntime) -> Result<(), Error> {
     let regex = Regex::new(rt.alloc(), "(a)|b")?;
     let mut locations = regex.capture_locations()?;
     let whole = Some((0, 1));
-    expect_read(&rt, &regex, &mut locations, b"a", (true, [whole, whole]))?;
-    expect_read(&rt, &regex, &mut locations, b"x", (false, [whole, whole]))?;
-    expect_read(&rt, &regex, &mut locations, b"b", (true, [whole, None]))
+    for (haystack, wanted) in &[
+        ("a", (true, [whole, whole])),
+        ("x", (false, [whole, whole])),
+        ("b", (true, [whole, None])),
+    ] {
+        let read = read(&regex, &mut locations, haystack.as_bytes())?;
+        assert_eq!(rt; read, *wanted);
+    }
+    Ok(())
 }

@@ -1,30 +1,57 @@
-//! Iterators that end, and that are let go before they end.
+//! Iterators that end, that are let go before they end, and that count what is left.
 
-use bites_bytes::bytes::Regex;
-use std::test::Fail;
+use bites_bytes::bytes;
+use regex_bites::{Error, Regex};
+use std::alloc::AllocError;
 
 #[test]
-fn nothing_comes_behind_the_end(rt: HostRuntime) -> Result<(), Fail> {
-    let regex = Regex::new(rt.alloc(), "a")?;
+fn nothing_comes_behind_the_end(rt: HostRuntime) -> Result<(), Error> {
+    let regex = bytes::Regex::new(rt.alloc(), "a")?;
     let mut matches = regex.find_iter(b"ba")?;
-    assert_eq!(rt; matches.next().map(|found| found.range()), Some(1..2));
-    assert!(rt; matches.next().is_none());
-    assert!(rt; matches.next().is_none());
+    let first = matches.next().map(|found| found.range());
+    let behind = (matches.next().is_none(), matches.next().is_none());
+    assert_eq!(rt; (first, behind), (Some(1..2), (true, true)));
     let mut pieces = regex.split(b"ba")?;
-    assert_eq!(rt; pieces.next(), Some(b"b".as_slice()));
-    assert_eq!(rt; pieces.next(), Some(b"".as_slice()));
-    assert_eq!(rt; pieces.next(), None);
-    assert_eq!(rt; pieces.next(), None);
+    let told = [pieces.next(), pieces.next(), pieces.next(), pieces.next()];
+    let wanted = [Some(b"b".as_slice()), Some(b""), None, None];
+    assert_eq!(rt; told, wanted);
+    Ok(())
+}
+
+// How many matches, matches with groups, pieces, and pieces up to two there are.
+fn counts_of_bytes(regex: &bytes::Regex, haystack: &[u8]) -> Result<[usize; 4], AllocError> {
+    Ok([
+        regex.find_iter(haystack)?.count(),
+        regex.captures_iter(haystack)?.count(),
+        regex.split(haystack)?.count(),
+        regex.splitn(haystack, 2)?.count(),
+    ])
+}
+
+fn counts_of_texts(regex: &Regex, haystack: &str) -> Result<[usize; 4], AllocError> {
+    Ok([
+        regex.find_iter(haystack)?.count(),
+        regex.captures_iter(haystack)?.count(),
+        regex.split(haystack)?.count(),
+        regex.splitn(haystack, 2)?.count(),
+    ])
+}
+
+#[test]
+fn iterators_count_what_is_left(rt: HostRuntime) -> Result<(), Error> {
+    let of_bytes = bytes::Regex::new(rt.alloc(), "a")?;
+    assert_eq!(rt; counts_of_bytes(&of_bytes, b"aba"), Ok([2, 2, 3, 2]));
+    let of_texts = Regex::new(rt.alloc(), "a")?;
+    assert_eq!(rt; counts_of_texts(&of_texts, "aba"), Ok([2, 2, 3, 2]));
     Ok(())
 }
 
 #[test]
-fn an_iterator_let_go_leaves_the_regex(rt: HostRuntime) -> Result<(), Fail> {
-    let regex = Regex::new(rt.alloc(), "a")?;
-    let mut matches = regex.find_iter(b"aa")?;
+fn an_iterator_let_go_leaves_the_regex(rt: HostRuntime) -> Result<(), Error> {
+    let regex = bytes::Regex::new(rt.alloc(), "a")?;
+    let mut matches = regex.find_iter(b"aba")?;
     assert!(rt; matches.next().is_some());
     drop(matches);
-    assert_eq!(rt; regex.find_iter(b"aa")?.count(), 2);
-    assert_eq!(rt; regex.captures_iter(b"aa")?.count(), 2);
+    assert_eq!(rt; counts_of_bytes(&regex, b"aba"), Ok([2, 2, 3, 2]));
     Ok(())
 }

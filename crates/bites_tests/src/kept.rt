@@ -1,28 +1,22 @@
 //! Groups that the tree of a pattern drops, with the switch that keeps them and without.
 
-use crate::refused::Refused;
-use bites_bytes::bytes::{Regex, RegexBuilder};
-use std::process::Abort;
+use bites_bytes::bytes::{Error, RegexBuilder};
 use std::test::Fail;
 
-/// Compares the names of a regex's groups, and their number.
-fn expect_groups(rt: &impl Abort, regex: &Regex, wanted: &[Option<&str>]) {
-    assert_eq!(rt; regex.captures_len(), wanted.len());
-    let mut names = regex.capture_names();
-    for name in wanted {
-        assert_eq!(rt; names.next(), Some(*name));
-    }
-    assert_eq!(rt; names.next(), None);
+// The number of groups of a build, and the name of the last.
+fn groups(builder: &RegexBuilder) -> Result<(usize, bool), Error> {
+    let regex = builder.build()?;
+    let is_named = matches!(regex.capture_names().last(), Some(Some("y")));
+    Ok((regex.captures_len(), is_named))
 }
 
 #[test]
-fn a_builder_keeps_groups_or_drops_them(rt: HostRuntime) -> Result<(), Refused> {
+fn a_builder_keeps_groups_or_drops_them(rt: HostRuntime) -> Result<(), Error> {
     let mut builder = RegexBuilder::new(rt.alloc(), "(?P<y>a){0}")?;
-    expect_groups(&rt, &builder.build()?, &[None]);
-    builder.keep_dropped_groups(true);
-    expect_groups(&rt, &builder.build()?, &[None, Some("y")]);
-    builder.keep_dropped_groups(false);
-    expect_groups(&rt, &builder.build()?, &[None]);
+    assert_eq!(rt; groups(&builder), Ok((1, false)));
+    for (yes, wanted) in &[(true, (2, true)), (false, (1, false))] {
+        assert_eq!(rt; groups(builder.keep_dropped_groups(*yes)), Ok(*wanted));
+    }
     Ok(())
 }
 
@@ -30,12 +24,14 @@ fn a_builder_keeps_groups_or_drops_them(rt: HostRuntime) -> Result<(), Refused> 
 fn matches_are_the_same_with_dropped_groups(rt: HostRuntime) -> Result<(), Fail> {
     let mut builder = RegexBuilder::new(rt.alloc(), "(?<x>a){0}(b)")?;
     let kept = builder.keep_dropped_groups(true).build()?;
-    assert_eq!(rt; kept.shortest_match(b"ab")?, Some(2));
-    assert_eq!(rt; kept.shortest_match(b"a")?, None);
-    assert_eq!(rt; kept.static_captures_len(), Some(2));
     let captures = kept.captures(b"ab")?.ok_or("no match")?;
-    assert_eq!(rt; captures.len(), 3);
+    let range = captures.get(2).map(|group| group.range());
+    assert_eq!(rt; (captures.len(), range), (3, Some(1..2)));
     assert!(rt; captures.get(1).is_none() && captures.name("x").is_none());
-    assert_eq!(rt; captures.get(2).map(|group| group.range()), Some(1..2));
+    let ends = (kept.shortest_match(b"ab")?, kept.shortest_match(b"a")?);
+    assert_eq!(rt;
+        (ends, kept.static_captures_len()),
+        ((Some(2), None), Some(2))
+    );
     Ok(())
 }

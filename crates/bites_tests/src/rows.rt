@@ -1,24 +1,23 @@
 //! The comparison of rows: that it tells answers that differ, and lines that are no rows.
 
 use bites_rows::compare::Comparison;
-use std::process::Abort;
+use std::alloc::Global;
 use std::test::Fail;
 
-// Compares what is told of a line: the end of the report, or the fault.
-fn expect(rt: &(impl Abort + AllocGlobal), line: &str, wanted: &str) -> Result<(), Fail> {
-    let mut comparison = Comparison::new(rt.alloc());
-    let mut told = String::new(rt.alloc());
-    match comparison.line("line 1", line) {
-        Ok(()) => comparison.report().write(&mut told)?,
-        Err(fault) => told.push_str(fault.to_string(rt.alloc())?.as_str())?,
+// What is told of a line: the report, or the fault.
+fn told(alloc: Global, line: &str) -> Result<String, Fail> {
+    let mut comparison = Comparison::new(alloc);
+    if let Err(fault) = comparison.line("line 1", line) {
+        return Ok(fault.to_string(alloc)?);
     }
-    assert!(rt; told.ends_with(wanted), "{line}: {told}");
-    Ok(())
+    let mut told = String::new(alloc);
+    comparison.report().write(&mut told)?;
+    Ok(told)
 }
 
 #[test]
 fn lines_are_told(rt: HostRuntime) -> Result<(), Fail> {
-    for (line, wanted) in [
+    for (line, wanted) in &[
         ("", ""),
         ("# a comment", ""),
         (
@@ -75,7 +74,8 @@ fn lines_are_told(rt: HostRuntime) -> Result<(), Fail> {
             "this is no row",
         ),
     ] {
-        expect(&rt, line, wanted)?;
+        let told = told(rt.alloc(), line)?;
+        assert!(rt; told.ends_with(wanted), "{line}: {told}");
     }
     Ok(())
 }

@@ -4,24 +4,7 @@ use bites_machine::program::{BadProgram, Program, State};
 use bites_machine::vm;
 use bites_plain::run::{chosen_run, slots};
 use std::alloc::{AllocError, Global};
-use std::process::Abort;
 use std::test::Fail;
-
-// Compares the fault of one state, which starts a program of so many slots.
-fn expect_fault(
-    rt: &(impl Abort + AllocGlobal),
-    state: State,
-    slots: u32,
-    fault: Option<BadProgram>,
-) -> Result<(), AllocError> {
-    let mut states = Vec::new(rt.alloc());
-    states.push(state)?;
-    assert_eq!(rt;
-        Program::from_states(rt.alloc(), states, 0, slots).err(),
-        fault
-    );
-    Ok(())
-}
 
 fn ranges(alloc: Global, ranges: &[(char, char)]) -> Result<State, AllocError> {
     Ok(State::Ranges {
@@ -41,93 +24,127 @@ fn goto(target: u32) -> State {
     State::Goto { target, look: None }
 }
 
+// The fault of one state, which starts a program of so many slots.
+fn fault(alloc: Global, state: State, slots: u32) -> Result<Option<BadProgram>, AllocError> {
+    let states = vec![in alloc; state]?;
+    Ok(Program::from_states(alloc, states, 0, slots).err())
+}
+
 #[test]
-fn faults(rt: HostRuntime) -> Result<(), Fail> {
+fn faults(rt: HostRuntime) {
     let alloc = rt.alloc();
     let none = Program::from_states(alloc, Vec::new(alloc), 0, 2).err();
     assert_eq!(rt; none, Some(BadProgram::BadStart));
-    expect_fault(&rt, goto(1), 2, Some(BadProgram::BadTarget))?;
-    expect_fault(&rt, State::Match, 3, Some(BadProgram::BadSlot))?;
-    expect_fault(&rt, State::Match, 0, Some(BadProgram::BadSlot))?;
+    assert_eq!(rt; fault(alloc, goto(1), 2), Ok(Some(BadProgram::BadTarget)));
     let writes = State::Capture { target: 0, slot: 2 };
-    expect_fault(&rt, writes, 2, Some(BadProgram::BadSlot))?;
-    let turned = ranges(alloc, &[('b', 'a')])?;
-    expect_fault(&rt, turned, 2, Some(BadProgram::BadRanges))?;
-    let touching = ranges(alloc, &[('a', 'c'), ('c', 'd')])?;
-    expect_fault(&rt, touching, 2, Some(BadProgram::BadRanges))?;
-    expect_fault(&rt, ranges(alloc, &[('a', 'c'), ('d', 'd')])?, 2, None)?;
+    assert_eq!(rt; fault(alloc, writes, 2), Ok(Some(BadProgram::BadSlot)));
+    for (slots, wanted) in &[
+        (0, Some(BadProgram::BadSlot)),
+        (2, None),
+        (3, Some(BadProgram::BadSlot)),
+    ] {
+        assert_eq!(rt; fault(alloc, State::Match, *slots), Ok(*wanted));
+    }
+}
+
+#[test]
+fn faults_of_ranges(rt: HostRuntime) -> Result<(), AllocError> {
+    let bad = Some(BadProgram::BadRanges);
+    for (listed, wanted) in &[
+        ([('b', 'a'), ('c', 'd')], bad),
+        ([('a', 'c'), ('c', 'd')], bad),
+        ([('a', 'c'), ('d', 'd')], None),
+    ] {
+        let state = ranges(rt.alloc(), listed)?;
+        assert_eq!(rt; fault(rt.alloc(), state, 2), Ok(*wanted));
+    }
     Ok(())
 }
 
-// The slots of the first run, or of the longest, by the plain program.
-fn plain_slots(
+type Slots = [Option<usize>; 2];
+
+// The slots of the first run, or of the longest, by the machine.
+fn by_machine(
+    program: &Program,
+    haystack: &[u8],
+    is_longest: bool,
+) -> Result<Option<Slots>, AllocError> {
+    let mut room = vm::Cache::new(program)?;
+    let mut slots = [None; 2];
+    let found = if is_longest {
+        vm::search_longest(program, &mut room, haystack, 0, &mut slots)
+    } else {
+        vm::search(program, &mut room, haystack, 0, false, &mut slots)
+    };
+    Ok(if found { Some(slots) } else { None })
+}
+
+// The same by the plain program.
+fn by_plain(
     alloc: Global,
     program: &Program,
     haystack: &[u8],
     is_longest: bool,
-) -> Result<Option<Vec<Option<usize>>>, AllocError> {
-    match chosen_run(alloc, is_longest, program, haystack, 0)? {
-        Some(run) => Ok(Some(slots(alloc, program, &run)?)),
-        None => Ok(None),
-    }
+) -> Result<Option<Slots>, AllocError> {
+    let Some(run) = chosen_run(alloc, is_longest, program, haystack, 0)? else {
+        return Ok(None);
+    };
+    let slots = slots(alloc, program, &run)?;
+    Ok(slots.as_slice().try_into().ok())
 }
 
-// Compares the slots of the first run of these states with two slots, or of the longest, by the machine and by the plain
-// program.
-fn expect_run(
-    rt: &(impl Abort + AllocGlobal),
+// What both answer of these states, which must be the same.
+fn slots_of(
+    alloc: Global,
     states: Vec<State>,
     haystack: &[u8],
     is_longest: bool,
-    wanted: Option<[Option<usize>; 2]>,
-) -> Result<(), Fail> {
-    let program = Program::from_states(rt.alloc(), states, 0, 2)?;
-    let mut room = vm::Cache::new(&program)?;
-    let mut left = [None; 2];
-    assert!(rt; room.fits_program(&program));
-    let found = if !room.fits_program(&program) {
-        false
-    } else if is_longest {
-        vm::search_longest(&program, &mut room, haystack, 0, &mut left)
-    } else {
-        vm::search(&program, &mut room, haystack, 0, false, &mut left)
-    };
-    assert_eq!(rt; found, wanted.is_some());
-    assert_eq!(rt; left, wanted.unwrap_or([None; 2]));
-    let plain = plain_slots(rt.alloc(), &program, haystack, is_longest)?;
-    assert_eq!(rt; plain.is_some(), wanted.is_some());
-    if let Some(plain) = plain {
-        assert_eq!(rt; plain.as_slice(), left.as_slice());
+) -> Result<Option<Slots>, Fail> {
+    let program = Program::from_states(alloc, states, 0, 2)?;
+    let slots = by_machine(&program, haystack, is_longest)?;
+    if by_plain(alloc, &program, haystack, is_longest)? != slots {
+        Err("the plain program answers otherwise")?;
     }
+    Ok(slots)
+}
+
+#[test]
+fn a_run_that_goes_round(rt: HostRuntime) -> Result<(), Fail> {
+    let choice = splits(rt.alloc(), &[0, 1])?;
+    let states = vec![in rt.alloc(); choice, goto(0)]?;
+    assert_eq!(rt; slots_of(rt.alloc(), states, b"aa", false)?, None);
     Ok(())
 }
 
 #[test]
-fn runs_that_go_round(rt: HostRuntime) -> Result<(), Fail> {
-    let alloc = rt.alloc();
-    let round = vec![in alloc; splits(alloc, &[0, 1])?, goto(0)]?;
-    expect_run(&rt, round, b"", false, None)?;
-    let nowhere = vec![in alloc; splits(alloc, &[])?]?;
-    expect_run(&rt, nowhere, b"a", false, None)
+fn a_run_that_ends_nowhere(rt: HostRuntime) -> Result<(), Fail> {
+    let nowhere = splits(rt.alloc(), &[])?;
+    let states = vec![in rt.alloc(); nowhere]?;
+    assert_eq!(rt; slots_of(rt.alloc(), states, b"aa", false)?, None);
+    Ok(())
 }
 
 #[test]
-fn runs_that_write_slots(rt: HostRuntime) -> Result<(), Fail> {
+fn a_run_that_writes_slots(rt: HostRuntime) -> Result<(), Fail> {
+    let choice = splits(rt.alloc(), &[1, 2, 3])?;
     let states = vec![in rt.alloc();
         State::Capture { target: 1, slot: 0 },
-        splits(rt.alloc(), &[1, 2, 3])?,
+        choice,
         State::Char { target: 1, ch: 'a' },
         State::Capture { target: 4, slot: 1 },
         State::Match,
     ]?;
-    expect_run(&rt, states, b"aab", false, Some([Some(0), Some(2)]))
+    let slots = slots_of(rt.alloc(), states, b"aab", false)?;
+    assert_eq!(rt; slots, Some([Some(0), Some(2)]));
+    Ok(())
 }
 
 /// The longest run goes the way that writes no slot.
 #[test]
 fn the_longest_run(rt: HostRuntime) -> Result<(), Fail> {
+    let choice = splits(rt.alloc(), &[1, 4])?;
     let states = vec![in rt.alloc();
-        splits(rt.alloc(), &[1, 4])?,
+        choice,
         State::Char { target: 2, ch: 'a' },
         State::Char { target: 3, ch: 'b' },
         State::Char { target: 6, ch: 'c' },
@@ -135,5 +152,7 @@ fn the_longest_run(rt: HostRuntime) -> Result<(), Fail> {
         State::Capture { target: 6, slot: 1 },
         State::Match,
     ]?;
-    expect_run(&rt, states, b"abc", true, Some([None, None]))
+    let slots = slots_of(rt.alloc(), states, b"abc", true)?;
+    assert_eq!(rt; slots, Some([None, None]));
+    Ok(())
 }

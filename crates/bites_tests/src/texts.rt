@@ -1,12 +1,11 @@
-//! Templates, replacement, parts and what `Debug` shows, over texts.
+//! Templates and replacement over texts.
 
-use regex_bites::{Captures, NoExpand, Regex, Replacer, With};
+use regex_bites::{Captures, Error, NoExpand, Regex, Replacer, With};
 use std::alloc::Global;
 use std::borrow::CowStr;
-use std::test::Fail;
 
-// The first match by the template.
-fn expanded(alloc: Global, pattern: &str, haystack: &str, template: &str) -> Result<String, Fail> {
+// The first match by the template, behind a text.
+fn expanded(alloc: Global, pattern: &str, haystack: &str, template: &str) -> Result<String, Error> {
     let regex = Regex::new(alloc, pattern)?;
     let mut text = String::from_str(alloc, "☃")?;
     if let Some(captures) = regex.captures(haystack)? {
@@ -15,113 +14,98 @@ fn expanded(alloc: Global, pattern: &str, haystack: &str, template: &str) -> Res
     Ok(text)
 }
 
+#[test]
+fn expansions(rt: HostRuntime) -> Result<(), Error> {
+    let names = r"(?<first>\w+) (?<last>\w+)";
+    for (pattern, haystack, template, wanted) in &[
+        (names, "Ada Lovelace", "$last, ${first}", "☃Lovelace, Ada"),
+        ("(a)(b)?", "a", "$1|$2|$9|$$|${1}b|$1b", "☃a|||$|ab|"),
+    ] {
+        let text = expanded(rt.alloc(), pattern, haystack, template)?;
+        assert_eq!(rt; text.as_str(), *wanted);
+    }
+    Ok(())
+}
+
 // All matches by the replacer.
 fn replaced<R: Replacer + Drop>(
     alloc: Global,
     pattern: &str,
     haystack: &str,
     replacer: R,
-) -> Result<String, Fail>
+) -> Result<String, Error>
     requires { (state : R) → R.can_replace state }
 {
     let regex = Regex::new(alloc, pattern)?;
     Ok(regex.replace_all(haystack, replacer)?.into_owned(alloc)?)
 }
 
+// The same haystack by a template of each type that a replacer may have.
+fn by_each_type(alloc: Global, template: &str) -> Result<[String; 5], Error> {
+    let owned = String::from_str(alloc, template)?;
+    let cow = CowStr::Borrowed(template);
+    Ok([
+        replaced(alloc, "ä", "bänä", template)?,
+        replaced(alloc, "ä", "bänä", &owned)?,
+        replaced(alloc, "ä", "bänä", owned)?,
+        replaced(alloc, "ä", "bänä", &cow)?,
+        replaced(alloc, "ä", "bänä", cow)?,
+    ])
+}
+
 #[test]
-fn expansions(rt: HostRuntime) -> Result<(), Fail> {
-    let alloc = rt.alloc();
-    let names = "(?<first>\\w+) (?<last>\\w+)";
-    let text = expanded(alloc, names, "Ada Lovelace", "$last, ${first}")?;
-    assert_eq!(rt; text.as_str(), "☃Lovelace, Ada");
-    let text = expanded(alloc, "(a)(b)?", "a", "$1|$2|$9|$$|${1}b|$1b")?;
-    assert_eq!(rt; text.as_str(), "☃a|||$|ab|");
+fn templates_of_each_type(rt: HostRuntime) -> Result<(), Error> {
+    for text in &by_each_type(rt.alloc(), "<$0>")? {
+        assert_eq!(rt; text.as_str(), "b<ä>n<ä>");
+    }
     Ok(())
 }
 
 #[test]
-fn templates_of_each_type(rt: HostRuntime) -> Result<(), Fail> {
+fn functions_keep_a_count(rt: HostRuntime) -> Result<(), Error> {
     let alloc = rt.alloc();
-    let owned = String::from_str(alloc, "<$0>")?;
-    let cow = CowStr::Borrowed("<$0>");
-    let wanted = "b<ä>n<ä>";
-    assert_eq!(rt; replaced(alloc, "ä", "bänä", "<$0>")?.as_str(), wanted);
-    assert_eq!(rt; replaced(alloc, "ä", "bänä", &owned)?.as_str(), wanted);
-    assert_eq!(rt; replaced(alloc, "ä", "bänä", owned)?.as_str(), wanted);
-    assert_eq!(rt; replaced(alloc, "ä", "bänä", &cow)?.as_str(), wanted);
-    assert_eq!(rt; replaced(alloc, "ä", "bänä", cow)?.as_str(), wanted);
-    Ok(())
-}
-
-#[test]
-fn texts_and_functions(rt: HostRuntime) -> Result<(), Fail> {
-    let alloc = rt.alloc();
-    let text = replaced(alloc, ",", "a,b", NoExpand("$0"))?;
-    assert_eq!(rt; text.as_str(), "a$0b");
     let mut count = 0u32;
-    let counted = replaced(
-        alloc,
-        "a",
-        "banana",
-        With(|_captures: &Captures<'_>| {
-            count = count.wrapping_add(1);
-            format!(in alloc; "{count}")
-        }),
-    )?;
+    let counting = With(|_captures: &Captures<'_>| {
+        count = count.wrapping_add(1);
+        format!(in alloc; "{count}")
+    });
+    let counted = replaced(alloc, "a", "banana", counting)?;
     assert_eq!(rt; counted.as_str(), "b1n2n3");
     Ok(())
 }
 
 #[test]
-fn limits(rt: HostRuntime) -> Result<(), Fail> {
-    let alloc = rt.alloc();
-    let regex = Regex::new(alloc, "a")?;
-    let two = regex.replacen("banana", 2, "<$0>")?;
-    assert_eq!(rt; two.as_str(), "b<a>n<a>na");
-    let mut snowman = NoExpand("☃");
-    let first = regex.replace("banana", snowman.by_ref())?;
-    assert_eq!(rt; first.as_str(), "b☃nana");
-    let all = regex.replace_all("banana", snowman)?;
-    assert_eq!(rt; all.as_str(), "b☃n☃n☃");
-    let none = Regex::new(alloc, "x")?.replace_all("banana", "y")?;
-    assert!(rt; matches!(&none, CowStr::Borrowed("banana")));
+fn texts_stay_as_they_are(rt: HostRuntime) -> Result<(), Error> {
+    for (pattern, haystack, wanted) in &[(",", "a,b", "a$0b"), ("", "☃ä", "$0☃$0ä$0")] {
+        let text = replaced(rt.alloc(), pattern, haystack, NoExpand("$0"))?;
+        assert_eq!(rt; text.as_str(), *wanted);
+    }
     Ok(())
 }
 
 #[test]
-fn empty_matches_stand_between_characters(rt: HostRuntime) -> Result<(), Fail> {
-    let text = replaced(rt.alloc(), "", "☃ä", "-")?;
-    assert_eq!(rt; text.as_str(), "-☃-ä-");
-    Ok(())
-}
-
-#[test]
-fn counts(rt: HostRuntime) -> Result<(), Fail> {
+fn limits(rt: HostRuntime) -> Result<(), Error> {
     let regex = Regex::new(rt.alloc(), "a")?;
-    assert_eq!(rt; regex.find_iter("aba")?.count(), 2);
-    assert_eq!(rt; regex.captures_iter("aba")?.count(), 2);
-    assert_eq!(rt; regex.split("aba")?.count(), 3);
-    assert_eq!(rt; regex.splitn("aba", 2)?.count(), 2);
+    let mut snowman = NoExpand("☃");
+    for (limit, wanted) in &[(1, "b☃nana"), (2, "b☃n☃na"), (0, "b☃n☃n☃")] {
+        let replaced = regex.replacen("banana", *limit, snowman.by_ref())?;
+        assert_eq!(rt; replaced.as_str(), *wanted);
+    }
     Ok(())
 }
 
 #[test]
-fn debug_shows_pattern_places_and_groups(rt: HostRuntime) -> Result<(), Fail> {
-    let alloc = rt.alloc();
-    let regex = Regex::new(alloc, "(?<x>a)|b")?;
-    let shown = format!(in alloc; "{:?}", regex)?;
-    assert_eq!(rt; shown.as_str(), "Regex(\"(?<x>a)|b\")");
-    let found = regex.find("b")?;
-    let shown = format!(in alloc; "{:?}", found)?;
-    assert_eq!(rt;
-        shown.as_str(),
-        "Some(Match { start: 0, end: 1, string: \"b\" })"
-    );
-    let captures = regex.captures("b")?;
-    let shown = format!(in alloc; "{:?}", captures)?;
-    assert_eq!(rt;
-        shown.as_str(),
-        "Some(Captures({0: 0..1/\"b\", 1/\"x\": None}))"
-    );
+fn the_first_alone(rt: HostRuntime) -> Result<(), Error> {
+    let regex = Regex::new(rt.alloc(), "a")?;
+    let first = regex.replace("banana", "<$0>")?;
+    assert_eq!(rt; first.as_str(), "b<a>nana");
+    Ok(())
+}
+
+#[test]
+fn nothing_replaced_is_borrowed(rt: HostRuntime) -> Result<(), Error> {
+    let regex = Regex::new(rt.alloc(), "x")?;
+    let same = regex.replace_all("banana", "y")?;
+    assert!(rt; matches!(&same, CowStr::Borrowed("banana")));
     Ok(())
 }

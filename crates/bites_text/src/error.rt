@@ -250,6 +250,3 @@ impl<T: Drop> From<AllocFailed<T>> for Error {
 pub fn texts_are_the_messages()
     ensures { TextsAgree }
 {}
-
-#[cfg(test)]
-mod tests;

@@ -128,6 +128,3 @@ const fn is_continuation(byte: u8) -> bool
 {
     matches!(byte, 0x80..=0xBF)
 }
-
-#[cfg(test)]
-mod tests;

@@ -16,8 +16,6 @@ use super::threads::Threads;
 use super::walk::Desk;
 use crate::program::Program;
 use std::alloc::AllocError;
-#[cfg(test)]
-use std::alloc::Global;
 use std::marker::Model;
 
 /// The room for searches of a program and of those with as many states, slots and targets: the threads of
@@ -127,14 +125,5 @@ impl Cache {
         };
         self.walked = counted.into_walked();
         found
-    }
-
-    /// Goes on as in the last round but one that 64 bits count.
-    #[cfg(test)]
-    pub(super) fn near_the_end(&mut self, alloc: Global) -> Result<(), AllocError>
-        ensures { self.new.fits ≡ self.old.fits }
-    {
-        self.desk.marks = Marks::near_the_end(alloc, self.states)?;
-        Ok(())
     }
 }

@@ -59,14 +59,4 @@ impl Marks {
         self.rounds[state as usize] = self.round;
         true
     }
-
-    /// No mark, for so many states, in the last round but one that 64 bits count.
-    #[cfg(test)]
-    pub(super) fn near_the_end(alloc: Global, states: usize) -> Result<Marks, AllocError>
-        ensures { IfOk result (λ m. length m ≡ states) }
-    {
-        let rounds = vec![in alloc; 0; states]?;
-        let round = u64::MAX - 1;
-        Ok(Marks { rounds, round })
-    }
 }

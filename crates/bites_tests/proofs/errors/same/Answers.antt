@@ -1,6 +1,6 @@
 -- By the lemma on what `==` of two errors answers.
 use Rattle.bites_text.proofs.ErrorLemmas.{same_errors}
-use Rattle.bites_text.proofs.error.tests.same.Goals as goal
+use Rattle.bites_tests.proofs.errors.same.Goals as goal
 
 pub returns : goal.returns
 returns c = same_errors c.args.a.now c.args.b.now c.eq.result c.eq.ensures

@@ -1,7 +1,6 @@
 //! Characters in bytes, against the published table and against std.
 
-use super::*;
-use std::process::Abort;
+use bites_text::utf8::{decode, decode_lossy, is_word_byte};
 
 /// The table of well-formed byte sequences, a range for each byte.
 const ROWS: [&[(u8, u8)]; 9] = [
@@ -58,29 +57,33 @@ fn by_std(bytes: &[u8]) -> (Option<char>, usize) {
     }
 }
 
-fn check(rt: &impl Abort, bytes: &[u8]) {
-    let found = decode(bytes);
-    assert_eq!(rt; found, by_std(bytes), "at {bytes:?}");
-    assert_eq!(rt;
-        (found.0.is_some(), found.1),
-        by_table(bytes),
-        "at {bytes:?}"
-    );
-    let lossy = (found.0.unwrap_or('\u{FFFD}'), found.1);
-    assert_eq!(rt; decode_lossy(bytes), lossy, "at {bytes:?}");
+/// Whether both readers of characters answer what the table and std say.
+fn agree(bytes: &[u8]) -> bool {
+    let (decoded, len) = decode(bytes);
+    let lossy = (decoded.unwrap_or('\u{FFFD}'), len);
+    decode_lossy(bytes) == lossy
+        && (decoded, len) == by_std(bytes)
+        && (decoded.is_some(), len) == by_table(bytes)
+}
+
+/// The same for each front of the bytes.
+fn agree_on_fronts(bytes: &[u8]) -> bool {
+    for len in 0..=bytes.len() {
+        if !agree(bytes.get(..len).unwrap_or(bytes)) {
+            return false;
+        }
+    }
+    true
 }
 
 #[test]
 fn boundary_bytes(rt: HostRuntime) {
-    check(&rt, &[]);
-    for a in BYTES {
-        check(&rt, &[a]);
-        for b in BYTES {
-            check(&rt, &[a, b]);
-            for c in BYTES {
-                check(&rt, &[a, b, c]);
-                for d in BYTES {
-                    check(&rt, &[a, b, c, d]);
+    for a in &BYTES {
+        for b in &BYTES {
+            for c in &BYTES {
+                for d in &BYTES {
+                    let bytes = &[*a, *b, *c, *d];
+                    assert!(rt; agree(bytes), "at {bytes:?}");
                 }
             }
         }
@@ -88,16 +91,31 @@ fn boundary_bytes(rt: HostRuntime) {
 }
 
 #[test]
+fn short_boundary_bytes(rt: HostRuntime) {
+    for a in &BYTES {
+        for b in &BYTES {
+            for c in &BYTES {
+                let bytes = &[*a, *b, *c];
+                assert!(rt; agree_on_fronts(bytes), "at {bytes:?}");
+            }
+        }
+    }
+}
+
+#[test]
 fn worked_pieces(rt: HostRuntime) {
-    assert_eq!(rt; decode(b""), (None, 0));
-    assert_eq!(rt; decode(b"\xF0\x82\x82\xAC"), (None, 1));
-    assert_eq!(rt; decode(b"\xF0\x9D\x9D"), (None, 3));
-    assert_eq!(rt; decode(b"\xE2\x98\xF0"), (None, 2));
-    assert_eq!(rt; decode(b"\xFF"), (None, 1));
-    assert_eq!(rt; decode(b"\xE2\x98\x83!"), (Some('\u{2603}'), 3));
-    assert_eq!(rt; decode(b"\xF4\x8F\xBF\xBF"), (Some('\u{10FFFF}'), 4));
-    assert_eq!(rt; decode_lossy(b""), ('\u{FFFD}', 0));
-    assert_eq!(rt; decode_lossy(b"\xED\xA0\x80"), ('\u{FFFD}', 1));
+    for (bytes, piece) in &[
+        (b"".as_slice(), (None, 0)),
+        (b"\xF0\x82\x82\xAC", (None, 1)),
+        (b"\xF0\x9D\x9D", (None, 3)),
+        (b"\xE2\x98\xF0", (None, 2)),
+        (b"\xED\xA0\x80", (None, 1)),
+        (b"\xFF", (None, 1)),
+        (b"\xE2\x98\x83!", (Some('\u{2603}'), 3)),
+        (b"\xF4\x8F\xBF\xBF", (Some('\u{10FFFF}'), 4)),
+    ] {
+        assert_eq!(rt; decode(bytes), *piece, "at {bytes:?}");
+    }
 }
 
 #[test]
