@@ -11,6 +11,7 @@ pub mod FaultLemmas
 pub mod SizeLemmas
 pub mod EmittedLemmas
 pub mod GroupLemmas
+pub mod GrouplessLemmas
 pub mod BadLemmas
 pub mod InterpolateLemmas
 pub mod InterpolateTexts

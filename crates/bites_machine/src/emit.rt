@@ -35,14 +35,14 @@ impl States {
     ghost use Rattle.std.specs.Prelude.{[]};
     ghost use Rattle.bites_machine.specs.States.{states_of};
 
-    /// No state yet.
-    pub fn new(alloc: Global) -> States
-        ensures { result ≡ [] }
+    /// No state yet, with room for so many.
+    pub fn with_capacity(alloc: Global, room: usize) -> Result<States, AllocError>
+        ensures { IfOk result (λ states. states ≡ []) }
     {
-        States {
+        Ok(States {
             alloc,
-            list: Vec::new(alloc),
-        }
+            list: Vec::with_capacity(alloc, room)?,
+        })
     }
 
     /// The states as a list.
