@@ -13,9 +13,11 @@ ghost use Rattle.bites_machine.specs.Desk.{users_of, row_of};
 ghost use Rattle.bites_machine.specs.declared.vm.threads.Thread as thread;
 ghost use Rattle.bites_machine.specs.Looks.{AreSound};
 ghost use Rattle.bites_machine.specs.Cuts.{cuts};
-ghost use Rattle.bites_machine.specs.Sweep.{IsAmid, WalksPast, WalksSome, WalksAll, IsBetween, PlaceSearched, PlacesSearched, IsOfProgram, HasRoom, IsIdle, IsProgramOf, Sought};
+ghost use Rattle.bites_machine.specs.Lead.{back_of, front_of, Leads};
+ghost use Rattle.bites_machine.specs.Sweep.{IsAmid, WalksPast, WalksSome, WalksAll, IsBetween, Passes, PlaceSearched, PlacesSearched, IsOfProgram, HasRoom, IsIdle, IsProgramOf, Sought};
 
 use super::counted::Counted;
+use super::lead::Lead;
 use super::rows::Rows;
 use super::threads::{Thread, Threads};
 use super::walk::{Desk, Here, Hit, walk};
@@ -286,6 +288,69 @@ fn hunt<'h>(
     here
 }
 
+// Visits the front of the program at a place where its last state does not take the character.
+#[inline(always)]
+fn pass(counted: &mut Counted<'_>, first: u32, lead: &Lead<'_>, place: usize)
+    requires leads { Leads (states_of counted.old.states.now)
+        (front_of first lead.now.second lead.now.last) }
+    requires before { (v : program.Spot) → Among counted.old.walked.visits v → v.place < place }
+    ensures states { counted.new.states ≡ counted.old.states }
+    ensures visits { counted.new.walked.visits
+        ≡ map (λ q. program.at q place) (back_of first lead.now.second lead.now.last)
+        ++ counted.old.walked.visits }
+    ensures looks { counted.new.walked.looks ≡ counted.old.walked.looks
+        + length (front_of first lead.now.second lead.now.last) }
+{
+    match lead.second {
+        None => {
+            counted.pass(first, place);
+            counted.pass(lead.last, place);
+        }
+        Some(second) => {
+            counted.pass(first, place);
+            counted.pass(second, place);
+            counted.pass(lead.last, place);
+        }
+    }
+}
+
+// Passes the places from this one on where the start has a front that does not take the character: a walk there
+// visits that front and leaves nothing. Answers the first place where it may leave something.
+#[inline(always)]
+fn pass_places<'h>(counted: &mut Counted<'_>, from: Here<'h>, first: u32) -> Here<'h>
+    requires place { from.place ≤ length from.haystack.now }
+    requires within { from.place + from.len ≤ length from.haystack.now }
+    requires taken { from.taken ≡ next_character from.haystack.now from.place }
+    requires len { from.len ≡ (piece from.haystack.now from.place).len }
+    requires program { IsOfProgram (states_of counted.old.states.now) (Some first) }
+    requires before { (v : program.Spot) → Among counted.old.walked.visits v
+        → v.place < from.place }
+    ensures states { counted.new.states ≡ counted.old.states }
+    ensures haystack { result.haystack.now ≡ from.entry.haystack.now }
+    ensures longest { result.longest ≡ from.entry.longest }
+    ensures onward { from.entry.place ≤ result.place }
+    ensures within { result.place + result.len ≤ length from.entry.haystack.now }
+    ensures taken { result.taken ≡ next_character from.entry.haystack.now result.place }
+    ensures len { result.len ≡ (piece from.entry.haystack.now result.place).len }
+    ensures before { (v : program.Spot) → Among counted.new.walked.visits v
+        → v.place < result.place }
+    ensures passes { Passes from.entry.haystack.now from.entry.longest from.entry.place result.place
+        (states_of counted.old.states.now) first counted.old.walked counted.new.walked }
+{
+    let Some(lead) = counted.lead(first) else {
+        return from;
+    };
+    let mut here = from;
+    'places: loop {
+        if here.len == 0 || lead.takes(here.taken) {
+            break;
+        }
+        pass(counted, first, &lead, here.place);
+        here = piece_at(here.haystack, here.place + here.len, here.longest);
+    }
+    here
+}
+
 // Searches this place, or while no thread is alive and nothing is found also those behind it. Answers the
 // place that was searched last. The threads are then those of the next place.
 #[inline(always)]
@@ -321,7 +386,8 @@ fn search_on<'h>(
         Some(first) if threads.len() == 0 => {
             desk.next.clear();
             desk.hit = None;
-            let last = hunt(counted, desk, here, first, slots);
+            let from = pass_places(counted, here, first);
+            let last = hunt(counted, desk, from, first, slots);
             threads.swap(&mut desk.next);
             last
         }
