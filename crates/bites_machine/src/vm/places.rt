@@ -316,7 +316,9 @@ fn pass(counted: &mut Counted<'_>, first: u32, lead: &Lead<'_>, place: usize)
 
 // Passes the places from this one on where the start has a front that does not take the character: a walk there
 // visits that front and leaves nothing. Answers the first place where it may leave something.
-#[inline(always)]
+//
+// It is not inlined, so that its loop has all registers.
+#[inline(never)]
 fn pass_places<'h>(counted: &mut Counted<'_>, from: Here<'h>, first: u32) -> Here<'h>
     requires place { from.place ≤ length from.haystack.now }
     requires within { from.place + from.len ≤ length from.haystack.now }
