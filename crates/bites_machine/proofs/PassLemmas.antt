@@ -1,21 +1,17 @@
 -- A place where a walk from the start visits the front of the program alone.
-use Rattle.std.proofs.Common.{◌≡◌, ◌≢◌, ℕ, zero, suc, ◌+◌, ◌<◌, Bool, true, false, cond, ◌||◌, List, [], ◌∷◌, ◌++◌, map, length, Option, Some, None, refl, sym, ap, ap₂, ◌∙◌, subst, inl, inr, ⊎_elim, arith, ne_eqb}
+use Rattle.std.proofs.Common.{◌≡◌, ◌≢◌, ℕ, zero, suc, ◌+◌, ◌<◌, Bool, true, false, cond, ◌||◌, List, [], ◌∷◌, ◌++◌, map, length, Option, Some, None, refl, sym, ap, ap₂, ◌∙◌, subst, ⊎_elim, arith, ne_eqb}
 use Rattle.std.specs.Prelude.{◌==◌, is_some, if◌then◌else◌}
 use Rattle.std.specs.List.{list_any}
-use Rattle.std.specs.Fn.{iterate}
 use Rattle.bites_spec.specs.Utf8.{piece}
 use Rattle.bites_spec.specs.Range.{in_ranges}
-use Rattle.bites_spec.specs.Walks.{Among, IsNew}
-use Rattle.bites_spec.specs.Program as program
+use Rattle.bites_spec.specs.Walks.{Among}
 use Rattle.bites_spec.specs.Program.{Program, Spot, State, at, state_at, char, ranges, splits, goto, capture, fail, match}
 use Rattle.bites_spec.specs.Counts.{Record}
 use Rattle.bites_machine.specs.Ends.{next_character}
 use Rattle.bites_machine.specs.Machine as machine
 use Rattle.bites_machine.specs.Machine.{Walking, Searching, WalksTo, Searches, started, begun, after, visited, step, thread_on, with_write}
-use Rattle.bites_machine.specs.Visits.{takes_by}
-use Rattle.bites_machine.specs.Rows.{Pool}
 use Rattle.bites_machine.specs.Lead.{IsTaker, StaysOut, Leads, front_of, back_of}
-use Rattle.bites_machine.specs.Sweep.{IsProgramOf, PlaceSearched, StandsFor, GoneTo, Passes}
+use Rattle.bites_machine.specs.Sweep.{PlaceSearched, StandsFor, Passes}
 use Rattle.bites_machine.specs.declared.vm.walk.Desk.{Desk}
 use Rattle.bites_machine.specs.declared.vm.walk.Hit.{Hit}
 use Rattle.bites_machine.proofs.LookSteps.{stepped_new}

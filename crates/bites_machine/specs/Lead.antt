@@ -1,5 +1,5 @@
 -- The front of a program: states that each lead to the next alone, up to one that takes a character.
-use Rattle.std.specs.Prelude.{◌≡◌, ℕ, ◌<◌, Bool, false, List, [], ◌∷◌, length, Option, Some, None, ◌==◌}
+use Rattle.std.specs.Prelude.{◌≡◌, ℕ, ◌<◌, false, List, [], ◌∷◌, length, Option, Some, None, ◌==◌}
 use Rattle.bites_spec.specs.Range.{in_ranges}
 use Rattle.bites_spec.specs.Program.{State, char, ranges, capture, state_at}
 use Rattle.bites_machine.specs.Visits.{takes_by}

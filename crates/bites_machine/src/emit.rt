@@ -35,14 +35,14 @@ impl States {
     ghost use Rattle.std.specs.Prelude.{[]};
     ghost use Rattle.bites_machine.specs.States.{states_of};
 
-    /// No state yet, with room for so many.
-    pub fn with_capacity(alloc: Global, room: usize) -> Result<States, AllocError>
-        ensures { IfOk result (λ states. states ≡ []) }
+    /// No state yet.
+    pub fn new(alloc: Global) -> States
+        ensures { result ≡ [] }
     {
-        Ok(States {
+        States {
             alloc,
-            list: Vec::with_capacity(alloc, room)?,
-        })
+            list: Vec::new(alloc),
+        }
     }
 
     /// The states as a list.

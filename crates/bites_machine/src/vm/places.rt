@@ -7,7 +7,7 @@ ghost use Rattle.bites_spec.specs.Program as program;
 ghost use Rattle.bites_spec.specs.Program.{IsWellFormed};
 ghost use Rattle.bites_spec.specs.Counts.{Record, fit_of};
 ghost use Rattle.bites_machine.specs.Ends.{next_character};
-ghost use Rattle.bites_machine.specs.States.{states_of};
+ghost use Rattle.bites_machine.specs.States.{state_of, states_of};
 ghost use Rattle.bites_machine.specs.Used.{IsUsed, slots_at};
 ghost use Rattle.bites_machine.specs.Desk.{users_of, row_of};
 ghost use Rattle.bites_machine.specs.declared.vm.threads.Thread as thread;
@@ -314,11 +314,47 @@ fn pass(counted: &mut Counted<'_>, first: u32, lead: &Lead<'_>, place: usize)
     }
 }
 
-// Passes the places from this one on where the start has a front that does not take the character: a walk there
+// Passes the places from this one on where the front of the program does not take the character: a walk there
 // visits that front and leaves nothing. Answers the first place where it may leave something.
 //
 // It is not inlined, so that its loop has all registers.
 #[inline(never)]
+fn pass_on(
+    counted: &mut Counted<'_>,
+    haystack: &[u8],
+    from: usize,
+    first: u32,
+    lead: &Lead<'_>,
+) -> usize
+    requires place { from ≤ length haystack.now }
+    requires leads { Leads (states_of counted.old.states.now)
+        (front_of first lead.now.second lead.now.last) }
+    requires taker { state_of lead.now.taker.now
+        ≡ program.state_at (states_of counted.old.states.now) lead.now.last }
+    requires sound { AreSound (states_of counted.old.states.now) }
+    requires before { (v : program.Spot) → Among counted.old.walked.visits v → v.place < from }
+    ensures states { counted.new.states ≡ counted.old.states }
+    ensures onward { from ≤ result }
+    ensures within { result ≤ length haystack.now }
+    ensures before { (v : program.Spot) → Among counted.new.walked.visits v → v.place < result }
+    ensures passes { (longest : Bool) → Passes haystack.now longest from result
+        (states_of counted.old.states.now) first counted.old.walked counted.new.walked }
+{
+    let mut place = from;
+    'places: loop {
+        let here = piece_at(haystack, place, false);
+        if here.len == 0 || lead.takes(here.taken) {
+            break;
+        }
+        pass(counted, first, lead, place);
+        place += here.len;
+    }
+    place
+}
+
+// Passes the places from this one on where the start has a front that does not take the character. Answers the
+// first place where a walk may leave something.
+#[inline(always)]
 fn pass_places<'h>(counted: &mut Counted<'_>, from: Here<'h>, first: u32) -> Here<'h>
     requires place { from.place ≤ length from.haystack.now }
     requires within { from.place + from.len ≤ length from.haystack.now }
@@ -342,15 +378,8 @@ fn pass_places<'h>(counted: &mut Counted<'_>, from: Here<'h>, first: u32) -> Her
     let Some(lead) = counted.lead(first) else {
         return from;
     };
-    let mut here = from;
-    'places: loop {
-        if here.len == 0 || lead.takes(here.taken) {
-            break;
-        }
-        pass(counted, first, &lead, here.place);
-        here = piece_at(here.haystack, here.place + here.len, here.longest);
-    }
-    here
+    let place = pass_on(counted, from.haystack, from.place, first, &lead);
+    piece_at(from.haystack, place, from.longest)
 }
 
 // Searches this place, or while no thread is alive and nothing is found also those behind it. Answers the

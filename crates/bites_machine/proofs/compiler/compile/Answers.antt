@@ -4,8 +4,8 @@ use Rattle.bites_spec.specs.Tree.{captures_len}
 use Rattle.bites_spec.proofs.LeftLemmas.{length-left}
 use Rattle.bites_machine.proofs.compiler.compile.Goals as goal
 
-pub with_names-requires-clause-groups : goal.with_names-requires-clause-groups
-with_names-requires-clause-groups c =
+pub with_names-requires-clause-room : goal.with_names-requires-clause-room
+with_names-requires-clause-room c =
     let names = c.in_ok-names.names.items in
     omega (arith, length-map names (option_map string_bytes), ap length c.in_ok-names.ensures, length-left c.args.tree.now)
 

@@ -11,14 +11,14 @@ new-requires c =
     let t = c.args.tree.now in
     let n = c.len-slots.result in
     ap first_fault (c.in_ok-states.ensures n)
-    ∙ first_fault-compiled n t (omega (arith, c.requires.groups)) c.requires.classes (omega (arith, length-compiled n t c.requires.compilable.reduced, c.requires.few_states))
+    ∙ first_fault-compiled n t (omega (arith, c.requires.room)) c.requires.classes (omega (arith, length-compiled n t c.requires.compilable.reduced, c.requires.few_states))
 
 pub returns-clause-built : goal.returns-clause-built
 returns-clause-built c =
     let t = c.args.tree.now in
     let n = c.len-slots.result in
     ok_or_program c.new.result c.ok_or.result _ _ c.ok_or.ensures.value c.new.ensures.made (λ p. Built t p.program)
-    (subst (λ (p : Program). Built t p) (sym (c.in_ok-states.ensures n)) (Built-compiled n t (omega (arith, c.requires.groups))))
+    (subst (λ (p : Program). Built t p) (sym (c.in_ok-states.ensures n)) (Built-compiled n t (omega (arith, c.requires.room))))
 
 pub returns-clause-well_formed : goal.returns-clause-well_formed
 returns-clause-well_formed c =
@@ -26,4 +26,4 @@ returns-clause-well_formed c =
     let n = c.len-slots.result in
     ok_or_program c.new.result c.ok_or.result _ _ c.ok_or.ensures.value c.new.ensures.made (λ p. IsWellFormed p.program)
     (subst IsWellFormed (sym (c.in_ok-states.ensures n))
-    (IsWellFormed-compiled n t (omega (arith, c.requires.groups)) c.requires.classes (omega (arith, length-compiled n t c.requires.compilable.reduced, c.requires.few_states))))
+    (IsWellFormed-compiled n t (omega (arith, c.requires.room)) c.requires.classes (omega (arith, length-compiled n t c.requires.compilable.reduced, c.requires.few_states))))

@@ -1,4 +1,3 @@
-use Rattle.bites_spec.specs.Program.{state_at}
 use Rattle.bites_machine.specs.States.{state_of, states_of}
 use Rattle.bites_machine.specs.declared.vm.lead.Lead.{Lead}
 use Rattle.bites_machine.proofs.LeadLemmas.{next_known, leads_one, leads_two, taker_at}
