@@ -1,10 +1,11 @@
 //! The ranges of a state.
 
-ghost use Rattle.std.specs.Prelude.{◌≡◌, ℕ, ◌<◌, ◌≤◌, ◌^◌};
+ghost use Rattle.std.specs.Prelude.{◌≡◌, ℕ, ◌<◌, ◌≤◌, ◌^◌, IfOk};
 ghost use Rattle.bites_spec.specs.Range.{in_range, in_ranges};
 ghost use Rattle.bites_spec.specs.Program.{AreRanges};
 ghost use Rattle.bites_machine.specs.Bits.{has_bit};
 
+use std::alloc::{AllocError, Global};
 use std::marker::Model;
 
 /// Ranges of characters, whose ends belong to them. A contract sees their list.
@@ -41,6 +42,17 @@ impl Ranges {
         ensures { result.items ≡ self }
     {
         self.list
+    }
+
+    /// The same ranges in memory of their own.
+    pub(crate) fn copy(&self, alloc: Global) -> Result<Ranges, AllocError>
+        ensures { IfOk result (λ copy. copy ≡ self.now) }
+    {
+        let list = Vec::from_slice(alloc, &self.list)?;
+        Ok(Ranges {
+            list,
+            ascii: self.ascii,
+        })
     }
 
     /// Whether the character lies in one of the ranges, each of which begins above the one before.
