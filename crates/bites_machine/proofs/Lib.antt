@@ -11,6 +11,8 @@ pub mod FaultLemmas
 pub mod SizeLemmas
 pub mod EmittedLemmas
 pub mod GroupLemmas
+pub mod GrouplessLemmas
+pub mod LeadLemmas
 pub mod BadLemmas
 pub mod InterpolateLemmas
 pub mod InterpolateTexts
@@ -50,3 +52,4 @@ pub mod PlaceLemmas
 pub mod BetweenLemmas
 pub mod PlaceSearches
 pub mod HuntSteps
+pub mod PassLemmas

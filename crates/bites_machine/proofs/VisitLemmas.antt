@@ -65,12 +65,12 @@ module _ (hay : List ℕ) (longest : Bool) (place : ℕ) where
   unfolding visited
   visited_fail t rest w = refl
 
-  visited_char : (q c : ℕ) (t : machine.Thread) (rest : List machine.Thread) (w : Walking) →
+  pub visited_char : (q c : ℕ) (t : machine.Thread) (rest : List machine.Thread) (w : Walking) →
       visited hay longest place (program.char q c) t rest w ≡ taken hay longest place (program.char q c) t rest w
   unfolding visited
   visited_char q c t rest w = refl
 
-  visited_ranges : (q : ℕ) (rs : List (ℕ × ℕ)) (t : machine.Thread) (rest : List machine.Thread) (w : Walking) →
+  pub visited_ranges : (q : ℕ) (rs : List (ℕ × ℕ)) (t : machine.Thread) (rest : List machine.Thread) (w : Walking) →
       visited hay longest place (program.ranges q rs) t rest w ≡ taken hay longest place (program.ranges q rs) t rest w
   unfolding visited
   visited_ranges q rs t rest w = refl

@@ -23,4 +23,5 @@ pub mod Framed
 pub mod Visits
 pub mod Looks
 pub mod Sweep
+pub mod Lead
 pub mod Cuts

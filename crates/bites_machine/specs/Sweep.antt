@@ -184,6 +184,11 @@ pub record PlacesSearched (hay : List ℕ) (longest : Bool) (place last : ℕ) (
       GoneTo p hay longest earliest start first place found was old.rows threads slots →
       HasSearched p hay longest earliest start first last (found || is_some new.hit) now new.rows later left
 
+-- Places from one on and before another were passed: no thread is alive there, nothing is found, and nothing is written.
+pub record Passes (hay : List ℕ) (longest : Bool) (place here : ℕ) (states : List program.State) (q : ℕ) (was now : Record) : Type 0 where
+  pub gone : (p : Program) → IsProgramOf p states q → (earliest : Bool) (start : ℕ) (first slots : List (Option ℕ)) (pool : Pool) → length slots ≡ length first →
+      GoneTo p hay longest earliest start first place false was pool [] slots → GoneTo p hay longest earliest start first here false now pool [] slots
+
 -- The machine on lists searched from the start on, and this is what it found and did.
 pub record Sought (p : Program) (hay : List ℕ) (longest earliest : Bool) (start : ℕ) (answer : Bool) (old new : List (Option ℕ)) (walked : Record) : Type 0 where
   pub last : Searching

@@ -167,7 +167,7 @@ fn with_names(
     let (states, start) = whole_states(alloc, tree)?;
     let slots = 2 * names.len();
     let pattern = String::from_str(alloc, pattern)?;
-    let at_least = static_captures_len(tree);
+    let at_least = static_captures_len(tree, names.len());
     Program::new(alloc, states, start, slots, pattern, names, at_least).ok_or(Error::Memory)
 }
 

@@ -7,6 +7,7 @@ ghost use Rattle.bites_spec.specs.Measure.{size_of, repeated_size};
 ghost use Rattle.bites_machine.specs.States.{state_of};
 ghost use Rattle.bites_machine.specs.Emitted.{emitted, pushed, class_state, choice, with_choice, again, bounded, loop, star, optional_loop, repeated, grouped, split, emit, emit_all, emit_each};
 
+use crate::ranges::Ranges;
 use crate::state::State;
 use bites_syntax::measure::is_empty_by_form;
 use bites_syntax::tree::{Class, Kind, Tree};
@@ -85,6 +86,34 @@ impl States {
             target: to,
             ranges: ranges.into(),
         })
+    }
+
+    /// Writes so many states of a class, one in front of the other. Each has a copy of what was found of the ranges
+    /// once.
+    fn classes(&mut self, count: u32, class: &Class, to: u32) -> Result<u32, AllocError>
+        requires { length self.old + count ≤ 4294967295 }
+        ensures { IfOk result (λ from. emitted self.new from
+            ≡ again count (emit (spec.class class.now)) to self.old) }
+    {
+        let ranges = Ranges::from(Vec::from_slice(self.alloc, class.ranges())?);
+        let mut from = to;
+        for _ in 0..count {
+            from = self.ranges(&ranges, from)?;
+        }
+        Ok(from)
+    }
+
+    /// Writes the state of a class of these ranges.
+    fn ranges(&mut self, ranges: &Ranges, to: u32) -> Result<u32, AllocError>
+        requires { length self.old < 4294967295 }
+        ensures { IfOk result (λ from. emitted self.new from
+            ≡ pushed self.old (class_state ranges.now to)) }
+    {
+        if ranges.as_slice().is_empty() {
+            return self.push(State::Fail);
+        }
+        let ranges = ranges.copy(self.alloc)?;
+        self.push(State::Ranges { target: to, ranges })
     }
 
     /// Writes a choice between two states, the first preferred if it is greedy, else the second.
@@ -227,6 +256,9 @@ impl States {
         ensures { IfOk result (λ from. emitted self.new from
             ≡ again count (emit sub.now) to self.old) }
     {
+        if let Kind::Class(class) = sub.kind() {
+            return self.classes(count, class, to);
+        }
         let mut from = to;
         for _ in 0..count {
             from = self.emit(sub, from)?;

@@ -54,12 +54,17 @@ fn weight_of_text(text: &str) -> usize
     text.len().saturating_add(4)
 }
 
-/// How many groups take part in every match, with group 0, if the form of the tree says so.
-pub fn static_captures_len(tree: &Tree) -> Option<usize>
+/// How many groups take part in every match, with group 0, if the form of the tree says so. The tree has groups
+/// below this number; where group 0 alone is, no walk is needed.
+pub fn static_captures_len(tree: &Tree, captures: usize) -> Option<usize>
     requires reduced { IsReduced tree.now }
     requires room { (size_of tree.now).states ≤ 4294967295 }
+    requires captures { captures_len tree.now ≤ captures }
     ensures { result ≡ static_captures_len tree.now }
 {
+    if captures == 1 {
+        return Some(1);
+    }
     Some(1 + static_count(tree)?)
 }
 
@@ -127,21 +132,28 @@ pub fn names_left(
     tree: &Tree,
     captures: usize,
 ) -> Result<Vec<Option<String>>, AllocError>
+    requires reduced { IsReduced tree.now }
     requires apart { AllApart (groups_in tree.now) }
     requires captures { captures ≡ captures_len tree.now }
     ensures { IfOk result (λ names. bytes_of names.items ≡ groups_left tree.now) }
 {
     let mut names = no_names(alloc, captures)?;
-    write_names(alloc, tree, &mut names)?;
+    if captures > 1 {
+        write_names(alloc, tree, &mut names)?;
+    }
     Ok(names)
 }
 
 /// What the groups that are left in the tree weigh. A weight that is too large for a `usize` is held as the greatest.
 pub fn weight_left(tree: &Tree, captures: usize) -> usize
+    requires reduced { IsReduced tree.now }
     requires apart { AllApart (groups_in tree.now) }
     requires captures { captures ≡ captures_len tree.now }
     ensures { result ≡ held (sum_by group_weight (groups_left tree.now)) }
 {
+    if captures == 1 {
+        return 16;
+    }
     captures
         .saturating_mul(16)
         .saturating_add(names_weight(tree))

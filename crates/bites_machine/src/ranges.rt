@@ -1,10 +1,11 @@
 //! The ranges of a state.
 
-ghost use Rattle.std.specs.Prelude.{◌≡◌, ℕ, ◌<◌};
+ghost use Rattle.std.specs.Prelude.{◌≡◌, ℕ, ◌<◌, ◌≤◌, ◌^◌, IfOk};
 ghost use Rattle.bites_spec.specs.Range.{in_range, in_ranges};
 ghost use Rattle.bites_spec.specs.Program.{AreRanges};
 ghost use Rattle.bites_machine.specs.Bits.{has_bit};
 
+use std::alloc::{AllocError, Global};
 use std::marker::Model;
 
 /// Ranges of characters, whose ends belong to them. A contract sees their list.
@@ -41,6 +42,17 @@ impl Ranges {
         ensures { result.items ≡ self }
     {
         self.list
+    }
+
+    /// The same ranges in memory of their own.
+    pub(crate) fn copy(&self, alloc: Global) -> Result<Ranges, AllocError>
+        ensures { IfOk result (λ copy. copy ≡ self.now) }
+    {
+        let list = Vec::from_slice(alloc, &self.list)?;
+        Ok(Ranges {
+            list,
+            ascii: self.ascii,
+        })
     }
 
     /// Whether the character lies in one of the ranges, each of which begins above the one before.
@@ -90,8 +102,26 @@ fn ascii_within(first: char, last: char) -> u128
     if first > last || first > 127 {
         return 0;
     }
-    let left_out = 127 - last.min(127);
-    (u128::MAX << first) & (u128::MAX >> left_out)
+    let last = last.min(127);
+    // Most ranges lie in one word, whose bits take fewer steps.
+    if last < 64 {
+        u128::from(bits_within(first, last))
+    } else if first >= 64 {
+        u128::from(bits_within(first - 64, last - 64)) << 64
+    } else {
+        (u128::MAX << first) & (u128::MAX >> (127 - last))
+    }
+}
+
+// The bits of a word from one up to another.
+#[inline(always)]
+fn bits_within(first: u32, last: u32) -> u64
+    requires order { first ≤ last }
+    requires word { last < 64 }
+    ensures bits { (c : ℕ) → has_bit result c ≡ in_range (first, last) c }
+    ensures fits { result < 2 ^ 64 }
+{
+    (u64::MAX << first) & (u64::MAX >> (63 - last))
 }
 
 // Whether the character lies in one of the ranges, each of which begins above the one before.

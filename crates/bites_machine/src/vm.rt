@@ -6,6 +6,7 @@ ghost use Rattle.std.specs.Prelude.{◌⊎◌, Option, true, false, ◌≡◌, l
 
 mod cache;
 mod counted;
+mod lead;
 mod marks;
 mod places;
 mod rows;

@@ -70,6 +70,10 @@ struct Parser<'a> {
     front: Front,
 }
 
+/// How many nodes there is room for before a branch behind a bar is read. Most branches have no more, so that
+/// their list never moves into more room.
+const BRANCH_ROOM: usize = 8;
+
 impl Rows {
     fn new(alloc: Global) -> Rows
         ensures branches { result.branches.items ≡ [] }
@@ -88,7 +92,8 @@ impl Rows {
             IfOk result (λ _. AreNodes limit self.new.branches.items (bs ++ sequence_of ts ∷ [])
             × (self.new.nodes.items ≡ [])) }
     {
-        let nodes = mem::replace(&mut self.nodes, Vec::new(alloc));
+        let next = Vec::with_capacity(alloc, BRANCH_ROOM)?;
+        let nodes = mem::replace(&mut self.nodes, next);
         let branch = sequence_of(alloc, nodes, limit)?;
         self.branches.push(branch)?;
         Ok(())

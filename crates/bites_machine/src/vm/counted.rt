@@ -1,10 +1,13 @@
 //! The states of a program as a walk reads them: once at most at each place, and each reading is counted.
 
-ghost use Rattle.std.specs.Prelude.{◌≡◌, ◌<◌, ◌+◌, [], ◌∷◌, length};
+ghost use Rattle.std.specs.Prelude.{◌≡◌, ◌<◌, ◌+◌, [], ◌∷◌, IfSome, length};
 ghost use Rattle.bites_spec.specs.Walks.{IsNew};
 ghost use Rattle.bites_spec.specs.Program.{state_at, at};
 ghost use Rattle.bites_machine.specs.States.{state_of, states_of};
+ghost use Rattle.bites_machine.specs.Lead.{front_of, Leads};
+ghost use Rattle.bites_machine.specs.Looks.{AreSound};
 
+use super::lead::Lead;
 use crate::state::State;
 use std::marker::Model;
 use std::mem;
@@ -101,6 +104,18 @@ impl<'p> Counted<'p> {
         }
     }
 
+    /// The front of a program that starts in this state, if it has one.
+    pub(super) fn lead(&self, first: u32) -> Option<Lead<'p>>
+        requires known { first < length self.now.states.now }
+        requires sound { AreSound (states_of self.now.states.now) }
+        ensures leads { IfSome result (λ l. Leads (states_of self.now.states.now)
+            (front_of first l.second l.last)) }
+        ensures taker { IfSome result (λ l. state_of l.taker.now
+            ≡ state_at (states_of self.now.states.now) l.last) }
+    {
+        Lead::of(self.states, first)
+    }
+
     /// Counts a look: a try to visit a state.
     pub(super) fn look(&mut self)
         ensures states { self.new.states ≡ self.old.states }
@@ -119,6 +134,19 @@ impl<'p> Counted<'p> {
     {
         self.walked.visit(state, place);
         &self.states[state as usize]
+    }
+
+    /// Looks at a state and visits it, at a place where it was not visited before.
+    #[inline(always)]
+    pub(super) fn pass(&mut self, state: u32, place: usize)
+        requires known { state < length self.old.states.now }
+        requires fresh { IsNew (at state place) self.old.walked.visits }
+        ensures states { self.new.states ≡ self.old.states }
+        ensures visits { self.new.walked.visits ≡ at state place ∷ self.old.walked.visits }
+        ensures looks { self.new.walked.looks ≡ self.old.walked.looks + 1 }
+    {
+        self.look();
+        self.visit(state, place);
     }
 
     /// What was visited.

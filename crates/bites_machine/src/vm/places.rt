@@ -7,15 +7,17 @@ ghost use Rattle.bites_spec.specs.Program as program;
 ghost use Rattle.bites_spec.specs.Program.{IsWellFormed};
 ghost use Rattle.bites_spec.specs.Counts.{Record, fit_of};
 ghost use Rattle.bites_machine.specs.Ends.{next_character};
-ghost use Rattle.bites_machine.specs.States.{states_of};
+ghost use Rattle.bites_machine.specs.States.{state_of, states_of};
 ghost use Rattle.bites_machine.specs.Used.{IsUsed, slots_at};
 ghost use Rattle.bites_machine.specs.Desk.{users_of, row_of};
 ghost use Rattle.bites_machine.specs.declared.vm.threads.Thread as thread;
 ghost use Rattle.bites_machine.specs.Looks.{AreSound};
 ghost use Rattle.bites_machine.specs.Cuts.{cuts};
-ghost use Rattle.bites_machine.specs.Sweep.{IsAmid, WalksPast, WalksSome, WalksAll, IsBetween, PlaceSearched, PlacesSearched, IsOfProgram, HasRoom, IsIdle, IsProgramOf, Sought};
+ghost use Rattle.bites_machine.specs.Lead.{back_of, front_of, Leads};
+ghost use Rattle.bites_machine.specs.Sweep.{IsAmid, WalksPast, WalksSome, WalksAll, IsBetween, Passes, PlaceSearched, PlacesSearched, IsOfProgram, HasRoom, IsIdle, IsProgramOf, Sought};
 
 use super::counted::Counted;
+use super::lead::Lead;
 use super::rows::Rows;
 use super::threads::{Thread, Threads};
 use super::walk::{Desk, Here, Hit, walk};
@@ -286,6 +288,100 @@ fn hunt<'h>(
     here
 }
 
+// Visits the front of the program at a place where its last state does not take the character.
+#[inline(always)]
+fn pass(counted: &mut Counted<'_>, first: u32, lead: &Lead<'_>, place: usize)
+    requires leads { Leads (states_of counted.old.states.now)
+        (front_of first lead.now.second lead.now.last) }
+    requires before { (v : program.Spot) → Among counted.old.walked.visits v → v.place < place }
+    ensures states { counted.new.states ≡ counted.old.states }
+    ensures visits { counted.new.walked.visits
+        ≡ map (λ q. program.at q place) (back_of first lead.now.second lead.now.last)
+        ++ counted.old.walked.visits }
+    ensures looks { counted.new.walked.looks ≡ counted.old.walked.looks
+        + length (front_of first lead.now.second lead.now.last) }
+{
+    match lead.second {
+        None => {
+            counted.pass(first, place);
+            counted.pass(lead.last, place);
+        }
+        Some(second) => {
+            counted.pass(first, place);
+            counted.pass(second, place);
+            counted.pass(lead.last, place);
+        }
+    }
+}
+
+// Passes the places from this one on where the front of the program does not take the character: a walk there
+// visits that front and leaves nothing. Answers the first place where it may leave something.
+//
+// It is not inlined, so that its loop has all registers.
+#[inline(never)]
+fn pass_on(
+    counted: &mut Counted<'_>,
+    haystack: &[u8],
+    from: usize,
+    first: u32,
+    lead: &Lead<'_>,
+) -> usize
+    requires place { from ≤ length haystack.now }
+    requires leads { Leads (states_of counted.old.states.now)
+        (front_of first lead.now.second lead.now.last) }
+    requires taker { state_of lead.now.taker.now
+        ≡ program.state_at (states_of counted.old.states.now) lead.now.last }
+    requires sound { AreSound (states_of counted.old.states.now) }
+    requires before { (v : program.Spot) → Among counted.old.walked.visits v → v.place < from }
+    ensures states { counted.new.states ≡ counted.old.states }
+    ensures onward { from ≤ result }
+    ensures within { result ≤ length haystack.now }
+    ensures before { (v : program.Spot) → Among counted.new.walked.visits v → v.place < result }
+    ensures passes { (longest : Bool) → Passes haystack.now longest from result
+        (states_of counted.old.states.now) first counted.old.walked counted.new.walked }
+{
+    let mut place = from;
+    'places: loop {
+        let here = piece_at(haystack, place, false);
+        if here.len == 0 || lead.takes(here.taken) {
+            break;
+        }
+        pass(counted, first, lead, place);
+        place += here.len;
+    }
+    place
+}
+
+// Passes the places from this one on where the start has a front that does not take the character. Answers the
+// first place where a walk may leave something.
+#[inline(always)]
+fn pass_places<'h>(counted: &mut Counted<'_>, from: Here<'h>, first: u32) -> Here<'h>
+    requires place { from.place ≤ length from.haystack.now }
+    requires within { from.place + from.len ≤ length from.haystack.now }
+    requires taken { from.taken ≡ next_character from.haystack.now from.place }
+    requires len { from.len ≡ (piece from.haystack.now from.place).len }
+    requires program { IsOfProgram (states_of counted.old.states.now) (Some first) }
+    requires before { (v : program.Spot) → Among counted.old.walked.visits v
+        → v.place < from.place }
+    ensures states { counted.new.states ≡ counted.old.states }
+    ensures haystack { result.haystack.now ≡ from.entry.haystack.now }
+    ensures longest { result.longest ≡ from.entry.longest }
+    ensures onward { from.entry.place ≤ result.place }
+    ensures within { result.place + result.len ≤ length from.entry.haystack.now }
+    ensures taken { result.taken ≡ next_character from.entry.haystack.now result.place }
+    ensures len { result.len ≡ (piece from.entry.haystack.now result.place).len }
+    ensures before { (v : program.Spot) → Among counted.new.walked.visits v
+        → v.place < result.place }
+    ensures passes { Passes from.entry.haystack.now from.entry.longest from.entry.place result.place
+        (states_of counted.old.states.now) first counted.old.walked counted.new.walked }
+{
+    let Some(lead) = counted.lead(first) else {
+        return from;
+    };
+    let place = pass_on(counted, from.haystack, from.place, first, &lead);
+    piece_at(from.haystack, place, from.longest)
+}
+
 // Searches this place, or while no thread is alive and nothing is found also those behind it. Answers the
 // place that was searched last. The threads are then those of the next place.
 #[inline(always)]
@@ -321,7 +417,8 @@ fn search_on<'h>(
         Some(first) if threads.len() == 0 => {
             desk.next.clear();
             desk.hit = None;
-            let last = hunt(counted, desk, here, first, slots);
+            let from = pass_places(counted, here, first);
+            let last = hunt(counted, desk, from, first, slots);
             threads.swap(&mut desk.next);
             last
         }

@@ -2,6 +2,7 @@ use Rattle.std.proofs.Common.{length, sym, subst, arith}
 use Rattle.bites_spec.specs.Tree.{groups_in}
 use Rattle.bites_syntax.proofs.TreeParts.{Within, count_within}
 use Rattle.bites_machine.proofs.GroupLemmas.{groups_fit}
+use Rattle.bites_machine.proofs.GrouplessLemmas.{groupless-count}
 use Rattle.bites_machine.proofs.groups.static_captures_len.Goals as goal
 
 pub static_count-requires : goal.static_count-requires
@@ -11,3 +12,6 @@ pub overflow_add-result : goal.overflow_add-result
 overflow_add-result c =
     let few = subst (λ o. Within o (length (groups_in c.args.tree.now))) (sym c.in_ok-static_count.ensures) (count_within c.args.tree.now) in
     omega (arith, few, groups_fit c.args.tree.now c.requires.reduced, c.requires.room)
+
+pub returns-then-captures-eq1 : goal.returns-then-captures-eq1
+returns-then-captures-eq1 c = sym (groupless-count c.args.tree.now c.requires.reduced (omega (arith, c.requires.captures, c.if-captures-eq1.true)))

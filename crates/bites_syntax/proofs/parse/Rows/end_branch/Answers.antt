@@ -7,5 +7,5 @@ pub returns : goal.returns
 returns c = λ bs ts bs_are ts_are. (
   rw c.in_ok-push.ensures.items
       (nodes_push c.args.limit c.args.self.now.branches.items c.in_ok-branch.branch bs (sequence_of ts) bs_are (c.in_ok-branch.ensures ts (rw c.replace-nodes.ensures.value ts_are))),
-  rw c.replace-nodes.ensures.after c.new.ensures.items,
+  rw c.replace-nodes.ensures.after c.in_ok-next.ensures.items,
 )

@@ -1,0 +1,24 @@
+use Rattle.std.proofs.Common.{◌≡◌, ℕ, suc, List, ap, ◌∙◌, add-one, arith}
+use Rattle.bites_spec.specs.Range.{Range}
+use Rattle.bites_spec.specs.Tree as spec
+use Rattle.bites_spec.specs.Program.{State}
+use Rattle.bites_machine.specs.Emitted.{Emitted, emitted, pushed, class_state, in_front, again, emit}
+use Rattle.bites_machine.proofs.EmittedLemmas.{again-length}
+use Rattle.bites_machine.proofs.emit.States.classes.Goals as goal
+
+-- one more state of a class, whose ranges are these
+class_again : (rs qs : List Range) (n to from : ℕ) (old so_far : List State) (new : Emitted) → qs ≡ rs → emitted so_far from ≡ again n (emit (spec.class rs)) to old →
+    new ≡ pushed so_far (class_state qs from) → new ≡ again (suc n) (emit (spec.class rs)) to old
+unfolding emit
+class_again rs qs n to from old so_far new same is e =
+    e ∙ ap (λ (q : List Range). pushed so_far (class_state q from)) same ∙ ap (in_front (emit (spec.class rs))) is
+
+pub ranges-requires-in-loop : goal.ranges-requires-in-loop
+ranges-requires-in-loop c =
+    omega (arith, again-length (spec.class c.args.class.now) tt c.args.to c.args.self.now c.loop.self c.loop.from c.loop.counter c.loop.invariant, c.requires, c.loop-test.true)
+
+pub loop-preserved : goal.loop-preserved
+loop-preserved c =
+    rw add-one
+    (class_again c.args.class.now _ c.loop.counter c.args.to c.loop.from c.args.self.now c.loop.self _
+    (c.from-ranges.ensures ∙ c.in_ok-from_slice.ensures.items ∙ c.ranges-2.ensures.ranges) c.loop.invariant c.in_ok-from.ensures)
