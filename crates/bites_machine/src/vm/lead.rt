@@ -12,11 +12,14 @@ use crate::state::State;
 /// The states behind the start, where the start writes a slot: one more that does, if there is one, and behind
 /// them one that takes a character. A walk from the start visits these alone where the character that stands there
 /// is not taken.
+///
+/// It is found once, when a search begins. Of the states themselves it tells only whether the last one takes a
+/// character.
 #[derive(Clone, Copy, Drop)]
 pub struct Lead<'p> {
     pub second: Option<u32>,
     pub last: u32,
-    pub taker: &'p State,
+    taker: &'p State,
 }
 
 impl<'p> Lead<'p> {

@@ -355,12 +355,21 @@ fn pass_on(
 // Passes the places from this one on where the start has a front that does not take the character. Answers the
 // first place where a walk may leave something.
 #[inline(always)]
-fn pass_places<'h>(counted: &mut Counted<'_>, from: Here<'h>, first: u32) -> Here<'h>
+fn pass_places<'h>(
+    counted: &mut Counted<'_>,
+    from: Here<'h>,
+    first: u32,
+    lead: &Option<Lead<'_>>,
+) -> Here<'h>
     requires place { from.place ≤ length from.haystack.now }
     requires within { from.place + from.len ≤ length from.haystack.now }
     requires taken { from.taken ≡ next_character from.haystack.now from.place }
     requires len { from.len ≡ (piece from.haystack.now from.place).len }
     requires program { IsOfProgram (states_of counted.old.states.now) (Some first) }
+    requires leads { IfSome lead.now (λ l. Leads (states_of counted.old.states.now)
+        (front_of first l.second l.last)) }
+    requires taker { IfSome lead.now (λ l. state_of l.taker.now
+        ≡ program.state_at (states_of counted.old.states.now) l.last) }
     requires before { (v : program.Spot) → Among counted.old.walked.visits v
         → v.place < from.place }
     ensures states { counted.new.states ≡ counted.old.states }
@@ -375,10 +384,10 @@ fn pass_places<'h>(counted: &mut Counted<'_>, from: Here<'h>, first: u32) -> Her
     ensures passes { Passes from.entry.haystack.now from.entry.longest from.entry.place result.place
         (states_of counted.old.states.now) first counted.old.walked counted.new.walked }
 {
-    let Some(lead) = counted.lead(first) else {
+    let Some(lead) = lead else {
         return from;
     };
-    let place = pass_on(counted, from.haystack, from.place, first, &lead);
+    let place = pass_on(counted, from.haystack, from.place, first, lead);
     piece_at(from.haystack, place, from.longest)
 }
 
@@ -391,6 +400,7 @@ fn search_on<'h>(
     threads: &mut Threads,
     here: Here<'h>,
     first: Option<u32>,
+    lead: &Option<Lead<'_>>,
     slots: &mut [Option<usize>],
 ) -> Here<'h>
     requires place { here.place ≤ length here.haystack.now }
@@ -398,6 +408,10 @@ fn search_on<'h>(
     requires taken { here.taken ≡ next_character here.haystack.now here.place }
     requires len { here.len ≡ (piece here.haystack.now here.place).len }
     requires program { IsOfProgram (states_of counted.old.states.now) first }
+    requires leads { IfSome first (λ q. IfSome lead.now (λ l.
+        Leads (states_of counted.old.states.now) (front_of q l.second l.last))) }
+    requires taker { IfSome lead.now (λ l. state_of l.taker.now
+        ≡ program.state_at (states_of counted.old.states.now) l.last) }
     requires between { IsBetween (states_of counted.old.states.now) here.place
         counted.old.walked desk.old threads.old (length slots.old) }
     ensures states { counted.new.states ≡ counted.old.states }
@@ -417,7 +431,7 @@ fn search_on<'h>(
         Some(first) if threads.len() == 0 => {
             desk.next.clear();
             desk.hit = None;
-            let from = pass_places(counted, here, first);
+            let from = pass_places(counted, here, first, lead);
             let last = hunt(counted, desk, from, first, slots);
             threads.swap(&mut desk.next);
             last
@@ -487,12 +501,13 @@ pub(super) fn search(
         first,
         asked,
     } = *request;
+    let lead = counted.lead(first);
     let mut is_found = false;
     let mut place = start;
     'places: loop {
         let here = piece_at(haystack, place, asked.longest);
         let begins = first_of(is_found, first);
-        let last = search_on(counted, desk, threads, here, begins, slots);
+        let last = search_on(counted, desk, threads, here, begins, &lead, slots);
         is_found = is_found_with(is_found, &desk.hit);
         if is_over(last.len, is_found, asked.earliest, threads.len()) {
             break;

@@ -4,8 +4,5 @@ use Rattle.bites_machine.specs.Looks.{AreSound}
 use Rattle.bites_machine.proofs.BetweenLemmas.{sound_states}
 use Rattle.bites_machine.proofs.vm.places.pass_places.Goals as goal
 
-pub lead-requires-clause-sound : goal.lead-requires-clause-sound
-lead-requires-clause-sound c = subst (λ (l : List program.State). AreSound l) c.requires.program.1 (sound_states c.requires.program.0 c.requires.program.2)
-
 pub pass_on-place-requires-clause-sound : goal.pass_on-place-requires-clause-sound
 pass_on-place-requires-clause-sound c = subst (λ (l : List program.State). AreSound l) c.requires.program.1 (sound_states c.requires.program.0 c.requires.program.2)
