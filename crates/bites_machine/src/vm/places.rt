@@ -288,7 +288,8 @@ fn hunt<'h>(
     here
 }
 
-// Visits the front of the program at a place where its last state does not take the character.
+// Visits the front of the program at a place where its last state does not take the character. The states are lent
+// and not read, so that nothing of this is left in the built code.
 #[inline(always)]
 fn pass(counted: &mut Counted<'_>, first: u32, lead: &Lead<'_>, place: usize)
     requires leads { Leads (states_of counted.old.states.now)
