@@ -26,15 +26,14 @@ pub some_piece : (earliest : Bool) (len : ℕ) (is_found : Bool) (threads : ℕ)
 some_piece earliest zero is_found threads on = absurd (true≢false on)
 some_piece earliest (suc n) is_found threads on = omega arith
 
--- where a search begins at a place, a run of the program starts
-pub start_of : (is_found : Bool) (begins : Option ℕ) (first start : ℕ) → begins ≡ cond is_found None (Some first) → start ≡ first →
-    IfSome begins (λ q. q ≡ start)
-start_of is_found begins first start is same =
-    subst (λ (o : Option ℕ). IfSome o (λ q. q ≡ start)) (sym is) (by_found is_found)
+-- what holds of the state where runs start holds of the one that is walked from, if one is
+pub of_first : (P : ℕ → Type 0) (is_found : Bool) (begins : Option ℕ) (first : ℕ) → begins ≡ cond is_found None (Some first) → P first →
+    IfSome begins P
+of_first P is_found begins first is holds = subst (λ (o : Option ℕ). IfSome o P) (sym is) (by_found is_found)
   where
-    by_found : (b : Bool) → IfSome (cond b None (Some first)) (λ q. q ≡ start)
+    by_found : (b : Bool) → IfSome (cond b None (Some first)) P
     by_found true = tt
-    by_found false = sym same
+    by_found false = holds
 
 -- a program with room for its searches leaves a desk between two places
 pub between_first : (p : Program) (states : List program.State) (place : ℕ) (walked : Record) (desk : Desk) (list : Listed) (width : ℕ) →

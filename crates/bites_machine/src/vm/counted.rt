@@ -82,8 +82,7 @@ impl Walked {
 /// The states of a program during one walk, with the record of what was read of them.
 ///
 /// It alone has the states, and lends one for a spot that was not visited before. [`Counted::lead`] reads up to three
-/// more as a hunt begins, and lends the one that takes a character, so that where it takes none the walk is known:
-/// its visits are then recorded with no work.
+/// more, once, when a search begins: where the last of them takes no character the walk is known without its stack.
 #[derive(Drop)]
 pub struct Counted<'p> {
     states: &'p [State],
@@ -106,8 +105,7 @@ impl<'p> Counted<'p> {
         }
     }
 
-    /// The front of a program that starts in this state, if it has one. It reads up to three states, which counts as
-    /// no visit.
+    /// The front of a program that starts in this state, if it has one. Reading it at no place is no visit.
     pub(super) fn lead(&self, first: u32) -> Option<Lead<'p>>
         requires known { first < length self.now.states.now }
         requires sound { AreSound (states_of self.now.states.now) }
