@@ -1,11 +1,5 @@
-use Rattle.std.proofs.Common.{◌≡◌, Result, Ok, Err, IfErr, subst, sym}
-use Rattle.std.specs.Prelude.{IsErrAnd}
+use Rattle.bites_bytes.proofs.SettingsLemmas.{handed_on}
 use Rattle.regex_bites.proofs.string.builder.RegexBuilder.build.Goals as goal
-
--- what holds of an error holds of the result that hands it on
-handed_on : {B E : Type 0} (r : Result B E) (e : E) (P : E → Type 0) → IsErrAnd r (λ f. f ≡ e) → P e → IfErr r P
-handed_on (Err f) e P same holds = subst P (sym same) holds
-handed_on (Ok b) e P same holds = absurd same
 
 pub returns-in_err-regex-clause-refused : goal.returns-in_err-regex-clause-refused
 returns-in_err-regex-clause-refused c =
