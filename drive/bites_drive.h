@@ -1,4 +1,4 @@
-/* The exports of the library bites_drive; what they do is said in crates/bites_drive/src/lib.rt. */
+/* The exports of the library bites_drive; what they do is said in crates/bites_jobs/src/lib.rt. */
 #ifndef BITES_DRIVE_H
 #define BITES_DRIVE_H
 #include <stddef.h>

@@ -16,8 +16,6 @@ mod caches;
 #[cfg(test)]
 mod calls;
 #[cfg(test)]
-mod ends;
-#[cfg(test)]
 mod errors;
 #[cfg(test)]
 mod examples;
