@@ -256,8 +256,10 @@ impl States {
         ensures { IfOk result (λ from. emitted self.new from
             ≡ again count (emit sub.now) to self.old) }
     {
-        if let Kind::Class(class) = sub.kind() {
-            return self.classes(count, class, to);
+        if count > 1 {
+            if let Kind::Class(class) = sub.kind() {
+                return self.classes(count, class, to);
+            }
         }
         let mut from = to;
         for _ in 0..count {
