@@ -256,6 +256,7 @@ impl States {
         ensures { IfOk result (λ from. emitted self.new from
             ≡ again count (emit sub.now) to self.old) }
     {
+        // One copy alone has nothing to share.
         if count > 1 {
             if let Kind::Class(class) = sub.kind() {
                 return self.classes(count, class, to);
