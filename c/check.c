@@ -26,6 +26,8 @@ static void searches(void) {
     CHECK(bites_new(BYTES("(?P<year>[0-9]{4})(-[0-9]+)?|x"), 0, LIMITS, &regex) == BITES_DONE);
     CHECK(bites_cache_new(&regex, &cache) == BITES_DONE);
     CHECK(bites_captures_len(&regex) == 3 && bites_static_captures_len(&regex) == 0);
+    CHECK(bites_is_match(&regex, &cache, BYTES("in 2024-05")) == BITES_MATCH);
+    CHECK(bites_is_match(&regex, &cache, BYTES("in 202")) == BITES_NO_MATCH);
     CHECK(bites_is_match_at(&regex, &cache, BYTES("in 2024-05"), 0) == BITES_MATCH);
     CHECK(bites_is_match_at(&regex, &cache, BYTES("in 2024-05"), 4) == BITES_NO_MATCH);
     CHECK(bites_shortest_match_at(&regex, &cache, BYTES("in 2024-05"), 0, &end) == BITES_MATCH && end == 7);
@@ -49,6 +51,34 @@ static void searches(void) {
     bites_free(&regex);
 }
 
+/* a match that begins at a place, and one of the whole haystack */
+static void anchored(void) {
+    bites regex = {0};
+    bites_cache cache = {0};
+    bites_span span = {7, 7}, groups[2] = {{7, 7}, {7, 7}};
+    CHECK(bites_find_anchored_at(&regex, &cache, BYTES("ab"), 0, &span) == BITES_EMPTY_HANDLE && bites_is_full_match(&regex, &cache, BYTES("ab")) == BITES_EMPTY_HANDLE);
+    CHECK(bites_captures_anchored_at(&regex, &cache, BYTES("ab"), 0, groups, 2).code == BITES_EMPTY_HANDLE && span.start == 7);
+    CHECK(bites_new(BYTES("a|a(b)"), 0, LIMITS, &regex) == BITES_DONE && bites_cache_new(&regex, &cache) == BITES_DONE);
+    CHECK(bites_find_anchored_at(&regex, &cache, BYTES("xab"), 0, &span) == BITES_NO_MATCH && span.start == 7);
+    CHECK(bites_find_anchored_at(&regex, &cache, BYTES("xab"), 1, &span) == BITES_MATCH && span.start == 1 && span.end == 2);
+    CHECK(bites_find_anchored_at(&regex, &cache, BYTES("xab"), 4, &span) == BITES_NO_MATCH);
+    CHECK(bites_is_full_match(&regex, &cache, BYTES("ab")) == BITES_MATCH && bites_is_full_match(&regex, &cache, BYTES("abb")) == BITES_NO_MATCH);
+    bites_size size = bites_captures_anchored_at(&regex, &cache, BYTES("xab"), 1, groups, 1);
+    CHECK(size.code == BITES_TOO_SMALL && size.size == 2 && groups[0].start == 7);
+    size = bites_captures_anchored_at(&regex, &cache, BYTES("xab"), 1, groups, 2);
+    CHECK(size.code == BITES_MATCH && size.size == 2 && groups[0].start == 1 && groups[0].end == 2 && groups[1].start == BITES_NONE);
+    CHECK(bites_captures_anchored_at(&regex, &cache, BYTES("xab"), 0, groups, 2).code == BITES_NO_MATCH && groups[0].start == 1);
+    CHECK(bites_new(BYTES("a|a(b)"), BITES_LEFTMOST_LONGEST | BITES_TEXT, LIMITS, &regex) == BITES_DONE && bites_cache_new(&regex, &cache) == BITES_DONE);
+    CHECK(bites_captures_anchored_at(&regex, &cache, BYTES("xab"), 1, groups, 2).code == BITES_MATCH && groups[0].end == 3 && groups[1].start == 2);
+    CHECK(bites_find_anchored_at(&regex, &cache, BYTES("\xff"), 0, &span) == BITES_NOT_UTF8 && bites_is_full_match(&regex, &cache, BYTES("\xff")) == BITES_NOT_UTF8);
+    CHECK(bites_find_anchored_at(&regex, &cache, BYTES("\xc3\xa9"), 1, &span) == BITES_NOT_BORDER && bites_captures_anchored_at(&regex, &cache, BYTES("\xc3\xa9"), 1, groups, 2).code == BITES_NOT_BORDER);
+    CHECK(bites_find_anchored_at(NULL, &cache, BYTES("a"), 0, &span) == BITES_EMPTY_HANDLE && bites_find_anchored_at(&regex, NULL, BYTES("a"), 0, &span) == BITES_EMPTY_HANDLE);
+    CHECK(bites_is_full_match(NULL, &cache, BYTES("a")) == BITES_EMPTY_HANDLE && bites_is_full_match(&regex, NULL, BYTES("a")) == BITES_EMPTY_HANDLE);
+    CHECK(bites_captures_anchored_at(NULL, &cache, BYTES("a"), 0, groups, 2).code == BITES_EMPTY_HANDLE && bites_captures_anchored_at(&regex, NULL, NULL, 0, 0, NULL, 0).code == BITES_EMPTY_HANDLE);
+    bites_cache_free(&cache);
+    bites_free(&regex);
+}
+
 /* the matches of x* in "axb" with a letter of two bytes behind: empty, x, empty, empty */
 static void successive(void) {
     bites regex = {0};
@@ -63,6 +93,39 @@ static void successive(void) {
     }
     CHECK(count == 4 && m.end == 5);
     CHECK(bites_find_next(&regex, &cache, BYTES("a"), 9, &m) == BITES_NO_MATCH);
+    bites_cache_free(&cache);
+    bites_free(&regex);
+}
+
+/* whether the call put this piece, and left `last` at this place */
+static int is_piece(uint32_t code, uint32_t wanted, bites_span piece, size_t start, size_t end, size_t last, size_t place) {
+    return code == wanted && piece.start == start && piece.end == end && last == place;
+}
+
+/* a, b and c between commas and spaces; and the pieces between the empty matches of x* in "axb" and its x */
+static void pieces(void) {
+    bites regex = {0};
+    bites_cache cache = {0};
+    bites_span p = {7, 7};
+    size_t last = BITES_NONE;
+    uint32_t code = bites_split_next(&regex, &cache, BYTES("a"), &last, &p);
+    CHECK(is_piece(code, BITES_EMPTY_HANDLE, p, 7, 7, last, BITES_NONE));
+    CHECK(bites_new(BYTES(", *"), 0, LIMITS, &regex) == BITES_DONE && bites_cache_new(&regex, &cache) == BITES_DONE);
+    code = bites_split_next(&regex, &cache, BYTES("a, b,c"), &last, &p);
+    CHECK(is_piece(code, BITES_MATCH, p, 0, 1, last, 3));
+    code = bites_split_next(&regex, &cache, BYTES("a, b,c"), &last, &p);
+    CHECK(is_piece(code, BITES_MATCH, p, 3, 4, last, 5));
+    code = bites_split_next(&regex, &cache, BYTES("a, b,c"), &last, &p);
+    CHECK(is_piece(code, BITES_NO_MATCH, p, 5, 6, last, 5));
+    last = 9;
+    code = bites_split_next(&regex, &cache, BYTES("a,"), &last, &p);
+    CHECK(is_piece(code, BITES_NO_MATCH, p, 2, 2, last, 9));
+    CHECK(bites_new(BYTES("x*"), 0, LIMITS, &regex) == BITES_DONE && bites_cache_new(&regex, &cache) == BITES_DONE);
+    const size_t wanted[] = {0, 0, 0, 0, 1, 2, 2, 3, 3};
+    size_t count = 0;
+    for (last = BITES_NONE; bites_split_next(&regex, &cache, BYTES("axb"), &last, &p) == BITES_MATCH; count++)
+        CHECK(count < 3 && is_piece(BITES_MATCH, BITES_MATCH, p, wanted[3 * count], wanted[3 * count + 1], last, wanted[3 * count + 2]));
+    CHECK(count == 3 && p.start == 3 && p.end == 3 && last == 3);
     bites_cache_free(&cache);
     bites_free(&regex);
 }
@@ -125,25 +188,48 @@ static int is_text(bites_size size, const uint8_t *out, const char *text) {
     return size.code == BITES_DONE && size.size == strlen(text) && !memcmp(out, text, size.size);
 }
 
+/* whether a match was replaced, and the answer is this text */
+static int is_replaced(bites_size size, const uint8_t *out, const char *text) {
+    return size.code == BITES_MATCH && size.size == strlen(text) && !memcmp(out, text, size.size);
+}
+
 static void texts(void) {
-    bites regex = {0};
+    bites regex = {0}, other = {0};
+    bites_cache cache = {0};
     uint8_t out[32];
     bites_size size = bites_escape(BYTES("a.b"), out, 0);
     CHECK(size.code == BITES_TOO_SMALL && size.size == 4);
     CHECK(is_text(bites_escape(BYTES("a.b"), out, sizeof out), out, "a\\.b"));
     CHECK(bites_escape(BYTES("\xff"), out, sizeof out).code == BITES_NOT_UTF8);
-    CHECK(bites_replace(&regex, BYTES("a"), 0, BYTES("b"), out, sizeof out).code == BITES_EMPTY_HANDLE);
-    CHECK(bites_replace_literal(&regex, BYTES("a"), 0, BYTES("b"), out, sizeof out).code == BITES_EMPTY_HANDLE);
+    CHECK(bites_replace(&regex, &cache, BYTES("a"), 0, BYTES("b"), out, sizeof out).code == BITES_EMPTY_HANDLE);
+    CHECK(bites_replace_literal(&regex, &cache, BYTES("a"), 0, BYTES("b"), out, sizeof out).code == BITES_EMPTY_HANDLE);
     CHECK(bites_new(BYTES("(?P<first>[a-z])([0-9])?"), 0, LIMITS, &regex) == BITES_DONE);
+    CHECK(bites_replace(&regex, &cache, BYTES("a"), 0, BYTES("b"), out, sizeof out).code == BITES_EMPTY_HANDLE);
+    CHECK(bites_new(BYTES("a"), 0, LIMITS, &other) == BITES_DONE && bites_cache_new(&other, &cache) == BITES_DONE);
+    size = bites_replace(&regex, &cache, BYTES("a"), 0, BYTES("b"), out, sizeof out);
+    CHECK(size.code == BITES_UNFIT_CACHE && size.size == 0);
+    CHECK(bites_replace_literal(&regex, &cache, BYTES("a"), 0, BYTES("b"), out, sizeof out).code == BITES_UNFIT_CACHE);
+    CHECK(bites_cache_new(&regex, &cache) == BITES_DONE);
     out[0] = '-';
-    size = bites_replace(&regex, BYTES("a1 b"), 0, BYTES("<$2$first>"), out, 7);
+    size = bites_replace(&regex, &cache, BYTES("a1 b"), 0, BYTES("<$2$first>"), out, 7);
     CHECK(size.code == BITES_TOO_SMALL && size.size == 8 && out[0] == '-');
-    CHECK(is_text(bites_replace(&regex, BYTES("a1 b"), 0, BYTES("<$2$first>"), out, sizeof out), out, "<1a> <b>"));
-    CHECK(is_text(bites_replace(&regex, BYTES("a1 b"), 1, BYTES("$$"), out, sizeof out), out, "$ b"));
-    CHECK(is_text(bites_replace_literal(&regex, BYTES("a1 b"), 0, BYTES("$2"), out, sizeof out), out, "$2 $2"));
-    CHECK(is_text(bites_replace_literal(&regex, BYTES("??"), 0, BYTES("x"), out, sizeof out), out, "??"));
-    size = bites_replace_literal(&regex, BYTES("a1 b"), 0, BYTES("$2"), out, 4);
-    CHECK(size.code == BITES_TOO_SMALL && size.size == 5 && out[0] == '?');
+    CHECK(is_replaced(bites_replace(&regex, &cache, BYTES("a1 b"), 0, BYTES("<$2$first>"), out, sizeof out), out, "<1a> <b>"));
+    CHECK(is_replaced(bites_replace(&regex, &cache, BYTES("-a1 b!"), 0, BYTES("${0}$9"), out, sizeof out), out, "-a1 b!"));
+    CHECK(is_replaced(bites_replace(&regex, &cache, BYTES("a1 b"), 1, BYTES("$$"), out, sizeof out), out, "$ b"));
+    CHECK(is_replaced(bites_replace(&regex, &cache, BYTES("a1 b c"), 2, BYTES("."), out, sizeof out), out, ". . c"));
+    CHECK(is_replaced(bites_replace(&regex, &cache, BYTES("a"), 0, BYTES(""), out, sizeof out), out, ""));
+    CHECK(is_replaced(bites_replace_literal(&regex, &cache, BYTES("a1 b"), 0, BYTES("$2"), out, sizeof out), out, "$2 $2"));
+    CHECK(is_replaced(bites_replace_literal(&regex, &cache, BYTES("a1 b c"), 1, BYTES("$2"), out, sizeof out), out, "$2 b c"));
+    size = bites_replace_literal(&regex, &cache, BYTES("a1 b"), 0, BYTES("$2"), out, 4);
+    CHECK(size.code == BITES_TOO_SMALL && size.size == 5 && out[0] == '$');
+    /* where nothing matches the haystack is the answer, and too little room is no matter */
+    out[0] = '-';
+    size = bites_replace(&regex, &cache, BYTES("??"), 0, BYTES("$0"), out, 1);
+    CHECK(size.code == BITES_NO_MATCH && size.size == 2 && out[0] == '-');
+    size = bites_replace_literal(&regex, &cache, BYTES("??"), 0, BYTES("x"), out, sizeof out);
+    CHECK(size.code == BITES_NO_MATCH && size.size == 2 && out[0] == '-');
+    bites_cache_free(&cache);
+    bites_free(&other);
     bites_free(&regex);
 }
 
@@ -314,41 +400,119 @@ static int is_unput(bites_size size, uint32_t code, const uint8_t *out) {
     return size.code == code && size.size == 0 && out[0] == '-';
 }
 
-static void replaced_texts(void) {
+static void expanded_texts(void) {
     bites regex = {0};
     uint8_t out[32] = "-";
     bites_span groups[3] = {{1, 3}, {3, 4}, {BITES_NONE, BITES_NONE}};
-    CHECK(bites_replace(&regex, NO_TEXT, 0, NO_TEXT, out, 9).code == BITES_EMPTY_HANDLE);
     CHECK(bites_new(PATTERN, BITES_TEXT, LIMITS, &regex) == BITES_DONE);
-    CHECK(is_unput(bites_replace(&regex, NO_TEXT, 0, TEXT, out, 0), BITES_NOT_UTF8, out));
-    CHECK(is_unput(bites_replace(&regex, TEXT, 0, NO_TEXT, out, 9), BITES_NOT_UTF8, out));
-    CHECK(is_unput(bites_replace_literal(&regex, NO_TEXT, 0, TEXT, out, 0), BITES_NOT_UTF8, out));
-    CHECK(is_unput(bites_replace_literal(&regex, TEXT, 0, NO_TEXT, out, 9), BITES_NOT_UTF8, out));
     CHECK(is_unput(bites_expand(&regex, NO_TEXT, groups, 3, BYTES("$1"), out, 9), BITES_NOT_UTF8, out));
     CHECK(is_unput(bites_expand(&regex, TEXT, groups, 3, NO_TEXT, out, 9), BITES_NOT_UTF8, out));
     groups[0].end = 2;
     CHECK(is_unput(bites_expand(&regex, TEXT, groups, 3, BYTES("$1"), out, 9), BITES_NOT_BORDER, out));
     groups[0].start = 2, groups[0].end = 3;
     CHECK(is_unput(bites_expand(&regex, TEXT, groups, 3, BYTES("$1"), out, 9), BITES_NOT_BORDER, out));
-    /* a span that does not lie in the haystack comes before one with no borders, and behind what is no UTF-8 */
+    /* a span that does not lie in the haystack comes before one with no borders, and after what is not UTF-8 */
     groups[1].end = 5;
     CHECK(is_unput(bites_expand(&regex, TEXT, groups, 3, BYTES("$1"), out, 9), BITES_BAD_SPAN, out));
     CHECK(is_unput(bites_expand(&regex, TEXT, groups, 3, NO_TEXT, out, 9), BITES_NOT_UTF8, out));
     groups[0].start = 1, groups[1].end = 4;
     CHECK(is_text(bites_expand(&regex, TEXT, groups, 3, BYTES("$1$0$2"), out, 9), out, "b\xc3\xa9"));
-    CHECK(is_text(bites_replace(&regex, TEXT, 0, BYTES("<$1>"), out, 9), out, "a<b>"));
-    CHECK(is_text(bites_replace_literal(&regex, TEXT, 0, BYTES("<$1>"), out, 9), out, "a<$1>"));
-    /* without the flag all are answered */
+    /* without the flag it is done */
     groups[0].start = 2;
     CHECK(bites_new(PATTERN, 0, LIMITS, &regex) == BITES_DONE);
     CHECK(is_text(bites_expand(&regex, TEXT, groups, 3, BYTES("$0"), out, 9), out, "\xa9"));
-    CHECK(is_text(bites_replace_literal(&regex, BYTES("a\xff"), 1, BYTES("\xfe"), out, 9), out, "a\xfe"));
+    bites_free(&regex);
+}
+
+static void replaced_texts(void) {
+    bites regex = {0}, bytes = {0};
+    bites_cache cache = {0};
+    uint8_t out[32] = "-";
+    bites_span p = {7, 7};
+    size_t last = BITES_NONE;
+    CHECK(bites_replace(&regex, &cache, NO_TEXT, 0, NO_TEXT, out, 9).code == BITES_EMPTY_HANDLE);
+    CHECK(bites_new(PATTERN, BITES_TEXT, LIMITS, &regex) == BITES_DONE && bites_cache_new(&regex, &cache) == BITES_DONE);
+    CHECK(is_unput(bites_replace(&regex, &cache, NO_TEXT, 0, TEXT, out, 0), BITES_NOT_UTF8, out));
+    CHECK(is_unput(bites_replace(&regex, &cache, TEXT, 0, NO_TEXT, out, 9), BITES_NOT_UTF8, out));
+    CHECK(is_unput(bites_replace_literal(&regex, &cache, NO_TEXT, 0, TEXT, out, 0), BITES_NOT_UTF8, out));
+    CHECK(is_unput(bites_replace_literal(&regex, &cache, TEXT, 0, NO_TEXT, out, 9), BITES_NOT_UTF8, out));
+    CHECK(is_replaced(bites_replace(&regex, &cache, TEXT, 0, BYTES("<$1>"), out, 9), out, "a<b>"));
+    CHECK(is_replaced(bites_replace_literal(&regex, &cache, TEXT, 0, BYTES("<$1>"), out, 9), out, "a<$1>"));
+    /* pieces: the haystack is checked for the first, and the place alone after a match */
+    CHECK(is_piece(bites_split_next(&regex, &cache, NO_TEXT, &last, &p), BITES_NOT_UTF8, p, 7, 7, last, BITES_NONE));
+    last = 2;
+    CHECK(is_piece(bites_split_next(&regex, &cache, TEXT, &last, &p), BITES_NOT_BORDER, p, 7, 7, last, 2));
+    CHECK(bites_split_next(&regex, &cache, NO_TEXT, &last, &p) == BITES_MATCH && p.start == 2 && p.end == 2 && last == 3);
+    CHECK(bites_is_match(&regex, &cache, NO_TEXT) == BITES_NOT_UTF8 && bites_is_match(&regex, &cache, TEXT) == BITES_MATCH);
+    /* without the flag all are answered */
+    CHECK(bites_new(PATTERN, 0, LIMITS, &bytes) == BITES_DONE && bites_cache_new(&bytes, &cache) == BITES_DONE);
+    CHECK(is_replaced(bites_replace_literal(&bytes, &cache, BYTES("a\xff"), 1, BYTES("\xfe"), out, 9), out, "a\xfe"));
+    bites_cache_free(&cache);
+    bites_free(&bytes);
+    bites_free(&regex);
+}
+
+/* NULL is no handle, and with length, room or count 0 it is an empty text and no room */
+static void nulls(void) {
+    bites regex = {0};
+    bites_cache cache = {0};
+    bites_span m = {7, 7};
+    size_t place = 7;
+    CHECK(bites_new(NULL, 0, 0, LIMITS, NULL) == BITES_EMPTY_HANDLE);
+    CHECK(bites_new(NULL, 0, 0, LIMITS, &regex) == BITES_DONE && bites_cache_new(&regex, &cache) == BITES_DONE);
+    CHECK(bites_find_at(&regex, &cache, NULL, 0, 0, &m) == BITES_MATCH && m.start == 0 && m.end == 0);
+    CHECK(bites_is_match(&regex, &cache, NULL, 0) == BITES_MATCH && bites_is_match_at(&regex, &cache, NULL, 0, 1) == BITES_NO_MATCH);
+    CHECK(bites_shortest_match_at(&regex, &cache, NULL, 0, 0, &place) == BITES_MATCH && place == 0);
+    place = BITES_NONE;
+    CHECK(bites_find_next(&regex, &cache, NULL, 0, BITES_NONE, &m) == BITES_MATCH && bites_find_next(&regex, &cache, NULL, 0, 0, &m) == BITES_NO_MATCH);
+    CHECK(bites_split_next(&regex, &cache, NULL, 0, &place, &m) == BITES_MATCH && place == 0);
+    CHECK(bites_captures_at(&regex, &cache, NULL, 0, 0, NULL, 0).size == 1 && bites_captures_next(&regex, &cache, NULL, 0, 0, NULL, 0).size == 1);
+    CHECK(bites_group_name(&regex, 0, NULL, 0).code == BITES_NO_NAME && bites_group_index(&regex, NULL, 0).code == BITES_NO_NAME);
+    CHECK(bites_escape(NULL, 0, NULL, 0).code == BITES_DONE && bites_escape(BYTES("."), NULL, 0).size == 2);
+    CHECK(bites_replace(&regex, &cache, NULL, 0, 0, NULL, 0, NULL, 0).code == BITES_MATCH);
+    CHECK(bites_replace_literal(&regex, &cache, NULL, 0, 0, BYTES("ab"), NULL, 0).size == 2);
+    CHECK(bites_expand(&regex, NULL, 0, NULL, 0, NULL, 0, NULL, 0).code == BITES_DONE);
+    CHECK(bites_error_text(BITES_NO_MEMORY, NULL, 0) > 0);
+    bites_cache_free(&cache);
+    bites_free(&regex);
+}
+
+static void no_handles(void) {
+    bites regex = {0}, copy = {0};
+    bites_cache cache = {0};
+    bites_span m = {7, 7};
+    size_t place = 7;
+    CHECK(bites_new(BYTES("a"), 0, LIMITS, &regex) == BITES_DONE && bites_cache_new(&regex, &cache) == BITES_DONE);
+    CHECK(bites_clone(NULL, &copy) == BITES_EMPTY_HANDLE && bites_clone(&regex, NULL) == BITES_EMPTY_HANDLE);
+    CHECK(bites_cache_new(NULL, &cache) == BITES_EMPTY_HANDLE && bites_cache_new(&regex, NULL) == BITES_EMPTY_HANDLE);
+    bites_free(NULL);
+    bites_cache_free(NULL);
+    CHECK(bites_is_match(NULL, &cache, BYTES("a")) == BITES_EMPTY_HANDLE && bites_is_match(&regex, NULL, BYTES("a")) == BITES_EMPTY_HANDLE);
+    CHECK(bites_is_match_at(NULL, &cache, BYTES("a"), 0) == BITES_EMPTY_HANDLE && bites_is_match_at(&regex, NULL, BYTES("a"), 0) == BITES_EMPTY_HANDLE);
+    CHECK(bites_shortest_match_at(NULL, &cache, BYTES("a"), 0, &place) == BITES_EMPTY_HANDLE && bites_shortest_match_at(&regex, NULL, BYTES("a"), 0, &place) == BITES_EMPTY_HANDLE);
+    CHECK(bites_find_at(NULL, &cache, BYTES("a"), 0, &m) == BITES_EMPTY_HANDLE && bites_find_at(&regex, NULL, BYTES("a"), 0, &m) == BITES_EMPTY_HANDLE);
+    CHECK(bites_find_next(NULL, &cache, BYTES("a"), 0, &m) == BITES_EMPTY_HANDLE && bites_find_next(&regex, NULL, BYTES("a"), 0, &m) == BITES_EMPTY_HANDLE);
+    CHECK(bites_split_next(NULL, &cache, BYTES("a"), &place, &m) == BITES_EMPTY_HANDLE && bites_split_next(&regex, NULL, BYTES("a"), &place, &m) == BITES_EMPTY_HANDLE);
+    CHECK(bites_captures_at(NULL, &cache, BYTES("a"), 0, &m, 1).code == BITES_EMPTY_HANDLE && bites_captures_at(&regex, NULL, BYTES("a"), 0, &m, 1).code == BITES_EMPTY_HANDLE);
+    CHECK(bites_captures_next(NULL, &cache, BYTES("a"), 0, &m, 1).code == BITES_EMPTY_HANDLE && bites_captures_next(&regex, NULL, BYTES("a"), 0, &m, 1).code == BITES_EMPTY_HANDLE);
+    CHECK(bites_captures_len(NULL) == 0 && bites_static_captures_len(NULL) == 0);
+    CHECK(bites_group_name(NULL, 0, NULL, 0).code == BITES_EMPTY_HANDLE && bites_group_index(NULL, BYTES("a")).code == BITES_EMPTY_HANDLE);
+    CHECK(bites_replace(NULL, &cache, BYTES("a"), 0, BYTES("b"), NULL, 0).code == BITES_EMPTY_HANDLE && bites_replace(&regex, NULL, BYTES("a"), 0, BYTES("b"), NULL, 0).code == BITES_EMPTY_HANDLE);
+    CHECK(bites_replace_literal(NULL, &cache, BYTES("a"), 0, BYTES("b"), NULL, 0).code == BITES_EMPTY_HANDLE && bites_replace_literal(&regex, NULL, BYTES("a"), 0, BYTES("b"), NULL, 0).code == BITES_EMPTY_HANDLE);
+    CHECK(bites_expand(NULL, BYTES("a"), &m, 1, BYTES("b"), NULL, 0).code == BITES_EMPTY_HANDLE);
+    CHECK(m.start == 7 && m.end == 7 && place == 7 && bites_is_match(&regex, &cache, BYTES("a")) == BITES_MATCH);
+    /* a clone into itself */
+    CHECK(bites_clone(&regex, &regex) == BITES_DONE && bites_is_match(&regex, &cache, BYTES("a")) == BITES_MATCH);
+    CHECK(bites_clone(&copy, &copy) == BITES_EMPTY_HANDLE && !copy.at);
+    bites_cache_free(&cache);
     bites_free(&regex);
 }
 
 int main(void) {
     searches();
+    anchored();
     successive();
+    pieces();
     names();
     groups_in_turn();
     numbers();
@@ -360,7 +524,11 @@ int main(void) {
     searches_of_texts();
     successive_in_texts();
     groups_in_texts();
+    expanded_texts();
     replaced_texts();
+    nulls();
+    no_handles();
+    CHECK(bites_version() == 0x000106);
     puts("all answers are as they should be");
     return 0;
 }

@@ -28,7 +28,7 @@ int main(int argc, char **argv) {
     char line[65536];
     while (fgets(line, sizeof line, stdin)) {
         size_t len = strcspn(line, "\n");
-        if (bites_is_match_at(&regex, &cache, (const uint8_t *)line, len, 0) == BITES_MATCH) {
+        if (bites_is_match(&regex, &cache, (const uint8_t *)line, len) == BITES_MATCH) {
             fwrite(line, 1, len, stdout);
             putchar('\n');
             status = 0;

@@ -42,7 +42,7 @@ function header_line(text,    head, inside, name, parts, count, i, type, line) {
     inside = text; sub(/^[^(]*\(/, "", inside); sub(/\).*$/, "", inside)
     count = split(inside, parts, ",")
     for (i = 1; i <= count; i++) {
-        type = trim(parts[i]); sub(/[A-Za-z_0-9]+$/, "", type); type = trim(type)
+        type = trim(parts[i]); if (type == "void") continue; sub(/[A-Za-z_0-9]+$/, "", type); type = trim(type)
         gsub(/ \*/, "*", type); gsub(/ /, "_", type); line = line " " type
     }
     print line

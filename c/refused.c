@@ -22,10 +22,11 @@ struct given {
     uint8_t out[ROOM];
 };
 
-/* A call, what it writes or NULL, and its code. */
+/* A call, what it writes or NULL, and the code that it answers where memory suffices. */
 struct call {
     const char *name;
     const char *text;
+    uint32_t code;
     bites_size (*ask)(struct given *given);
 };
 
@@ -40,11 +41,11 @@ static bites_size cache_new(struct given *given) { return only(bites_cache_new(&
 static bites_size escape(struct given *given) { return bites_escape(BYTES("a.b*c[d] and more, to grow: (((((((((())))))))))"), given->out, ROOM); }
 
 static bites_size replace(struct given *given) {
-    return bites_replace(&given->regex, HAYSTACK, 2, BYTES("<$word$2>"), given->out, ROOM);
+    return bites_replace(&given->regex, &given->cache, HAYSTACK, 2, BYTES("<$word$2>"), given->out, ROOM);
 }
 
 static bites_size replace_literal(struct given *given) {
-    return bites_replace_literal(&given->regex, HAYSTACK, 0, BYTES("$word"), given->out, ROOM);
+    return bites_replace_literal(&given->regex, &given->cache, HAYSTACK, 0, BYTES("$word"), given->out, ROOM);
 }
 
 static bites_size expand(struct given *given) {
@@ -52,13 +53,13 @@ static bites_size expand(struct given *given) {
 }
 
 static const struct call calls[] = {
-    {"bites_new", NULL, new},
-    {"bites_clone", NULL, clone},
-    {"bites_cache_new", NULL, cache_new},
-    {"bites_escape", "a\\.b\\*c\\[d\\] and more, to grow: \\(\\(\\(\\(\\(\\(\\(\\(\\(\\(\\)\\)\\)\\)\\)\\)\\)\\)\\)\\)", escape},
-    {"bites_replace", "-- <some42> <words>, and 137 others", replace},
-    {"bites_replace_literal", "-- $word $word, $word $word", replace_literal},
-    {"bites_expand", "<some: 42> $ and a text that is longer than all that stands before it, twice: some some", expand},
+    {"bites_new", NULL, BITES_DONE, new},
+    {"bites_clone", NULL, BITES_DONE, clone},
+    {"bites_cache_new", NULL, BITES_DONE, cache_new},
+    {"bites_escape", "a\\.b\\*c\\[d\\] and more, to grow: \\(\\(\\(\\(\\(\\(\\(\\(\\(\\(\\)\\)\\)\\)\\)\\)\\)\\)\\)\\)", BITES_DONE, escape},
+    {"bites_replace", "-- <some42> <words>, and 137 others", BITES_MATCH, replace},
+    {"bites_replace_literal", "-- $word $word, $word $word", BITES_MATCH, replace_literal},
+    {"bites_expand", "<some: 42> $ and a text that is longer than all that stands before it, twice: some some", BITES_DONE, expand},
 };
 
 static bool complain(const char *name, size_t number, const char *what) {
@@ -69,14 +70,23 @@ static bool complain(const char *name, size_t number, const char *what) {
 /* Whether the searches of these handles answer as they should, and take no memory. */
 static bool search_well(bites *regex, bites_cache *cache) {
     bites_span m = {0, 0}, groups[3];
+    uint8_t out[4];
     size_t end = 0, before = requests, count = 0;
-    bool right = bites_is_match_at(regex, cache, HAYSTACK, 0) == BITES_MATCH;
+    bool right = bites_is_match(regex, cache, HAYSTACK) == BITES_MATCH;
+    right = right && bites_is_match_at(regex, cache, HAYSTACK, 0) == BITES_MATCH;
     right = right && bites_shortest_match_at(regex, cache, HAYSTACK, 0, &end) == BITES_MATCH && end == 4;
     right = right && bites_find_at(regex, cache, HAYSTACK, 0, &m) == BITES_MATCH && m.start == 3 && m.end == 10;
     right = right && bites_captures_at(regex, cache, HAYSTACK, 0, groups, 3).code == BITES_MATCH && groups[2].start == 8;
+    right = right && bites_find_anchored_at(regex, cache, HAYSTACK, 3, &m) == BITES_MATCH && m.end == 10;
+    right = right && bites_captures_anchored_at(regex, cache, HAYSTACK, 3, groups, 3).code == BITES_MATCH && groups[2].end == 10;
+    right = right && bites_is_full_match(regex, cache, HAYSTACK) == BITES_NO_MATCH;
     right = right && bites_captures_next(regex, cache, HAYSTACK, 10, groups, 3).code == BITES_MATCH && groups[0].start == 11;
     for (size_t last = BITES_NONE; right && bites_find_next(regex, cache, HAYSTACK, last, &m) == BITES_MATCH; last = m.end)
         count++;
+    size_t last = BITES_NONE, pieces = 1;
+    while (right && bites_split_next(regex, cache, HAYSTACK, &last, &m) == BITES_MATCH) pieces++;
+    right = right && pieces == 5 && last == 32 && m.start == 32 && m.end == 32;
+    right = right && bites_replace(regex, cache, BYTES("-- 42"), 0, BYTES("$word"), out, sizeof out).code == BITES_NO_MATCH;
     return right && count == 4 && bites_captures_len(regex) == 3 && requests == before;
 }
 
@@ -98,7 +108,7 @@ static bool is_untouched(const struct given *given) {
 
 /* Whether the call did what it is for: it put its text, or what it made serves searches. */
 static bool is_done(const struct call *call, struct given *given, bites_size answer) {
-    if (answer.code != BITES_DONE) return false;
+    if (answer.code != call->code) return false;
     if (call->text != NULL)
         return answer.size == strlen(call->text) && memcmp(given->out, call->text, answer.size) == 0 && given->out[answer.size] == '-';
     if (call->ask == cache_new) return search_well(&given->regex, &given->made_cache);

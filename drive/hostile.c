@@ -1,16 +1,14 @@
 /*
- * Patterns and haystacks that are made to take long: each is asked of the library bites_drive or of the program bites, in a
- * process of its own, once as it is and once ten times as long. The answer must be right, the time must grow by a factor
- * below 20, and time and memory must stay below the bounds of the row. Times are processor time.
+ * Patterns and haystacks that are made to take long: each is asked of the library bites_c or of the program bites, in a process
+ * of its own, once as it is and once ten times as long. The answer must be right, the time must grow by a factor below 20, and
+ * time and memory must stay below the bounds of the row. Times are processor time.
  *
  * hostile PROGRAM: the path of the program bites.
  */
-#include "bites_drive.h"
+#include "../c/bites.h"
 
 #include <errno.h>
 #include <stdbool.h>
-#include <stddef.h>
-#include <stdint.h>
 #include <stdio.h>
 #include <stdlib.h>
 #include <string.h>
@@ -18,31 +16,9 @@
 #include <sys/wait.h>
 #include <unistd.h>
 
-/* The allocator of the C library. */
-
-struct tried {
-    bool ok;
-    void *block;
-};
-
-struct tried rattle_alloc(size_t size, size_t align) {
-    (void)align;
-    void *block = malloc(size);
-    return (struct tried){block != NULL, block};
-}
-
-struct tried rattle_realloc(void *block, size_t old_size, size_t size, size_t align) {
-    (void)old_size;
-    (void)align;
-    void *moved = realloc(block, size);
-    return (struct tried){moved != NULL, moved != NULL ? moved : block};
-}
-
-void rattle_dealloc(void *block) { free(block); }
-
 /* The rows. */
 
-/* A text whose middle stands there so many times. */
+/* A text whose middle stands there so many times; each `#` in the middle is a digit of the number of the time. */
 struct long_text {
     const char *front, *middle, *back;
     size_t count;
@@ -53,9 +29,9 @@ enum long_part { PATTERN, HAYSTACK };
 
 struct row {
     enum long_part long_part;
-    const char *job; /* of the library, or a word of the program behind `bites ` */
+    const char *job; /* of the library, or a word of the program after `bites ` */
     struct long_text pattern, haystack;
-    const char *answer; /* what is told, or the front of it */
+    const char *answer; /* the answer, or a prefix of it */
     double seconds;     /* that the longer one takes at most */
     size_t megabytes;   /* that the longer one takes at most */
 };
@@ -65,10 +41,11 @@ struct row {
 #define SOME(front, middle, back) {front, middle, back, 100 * 1000}
 #define LINES(text) {"", text, "", 1000 * 1000}
 
-#define NESTING "pattern has too much nesting\n"
-#define TOO_BIG "compiled regex exceeded size limit\n"
-#define TOO_MANY "exhausted state IDs, too many states\n"
-#define NO_CLASS "nested character classes are not supported\n"
+#define NESTING "pattern has too much nesting"
+#define TOO_BIG "compiled regex exceeded size limit"
+#define TOO_MANY "exhausted state IDs, too many states"
+#define NO_CLASS "nested character classes are not supported"
+#define GROUPS {"(?:(?<g", "####>b)|(?<g", "1999>a))+", 1999}
 #define ENDLESS "(?:(?:a{4294967295}){4294967295}){4294967295}"
 
 static const struct row rows[] = {
@@ -79,31 +56,44 @@ static const struct row rows[] = {
     {PATTERN, "new", MANY("a", "*", ""), ONE(""), NESTING, 20, 1000},
     {PATTERN, "new", MANY("a", "+?", ""), ONE(""), NESTING, 20, 1000},
     {PATTERN, "new", MANY("a", "{2}", ""), ONE(""), NESTING, 20, 1000},
-    {PATTERN, "new", MANY("a", "*", "{0}"), ONE("a"), "0..0\n", 20, 1000},
+    {PATTERN, "new", MANY("a", "*", "{0}"), ONE("a"), "0..0", 20, 1000},
     {PATTERN, "new", MANY("", "|", ""), ONE(""), TOO_BIG, 30, 2500},
     {PATTERN, "new", SOME("", "()", ""), ONE(""), TOO_BIG, 20, 300},
     {PATTERN, "new", MANY("", "a*", ""), ONE(""), TOO_BIG, 30, 2500},
     {PATTERN, "new", MANY("", "(?:)", ""), ONE(""), TOO_BIG, 30, 2500},
-    {PATTERN, "new", MANY("[", "a-c", "]"), ONE("dc"), "1..2\n", 20, 2000},
-    {PATTERN, "limits", SOME("", "|", ""), ONE(""), "0..0\n", 20, 2000},
-    {PATTERN, "limits", {"", "a*", "$", 10 * 1000}, ONE("aab"), "3..3\n", 20, 1000},
+    {PATTERN, "new", MANY("[", "a-c", "]"), ONE("dc"), "1..2", 20, 2000},
+    {PATTERN, "limits", SOME("", "|", ""), ONE(""), "0..0", 20, 2000},
+    {PATTERN, "limits", {"", "a*", "$", 10 * 1000}, ONE("aab"), "3..3", 20, 1000},
     {HAYSTACK, "new", ONE("(?:a{1000}){1000}"), LINES("a"), TOO_BIG, 20, 100},
     {HAYSTACK, "new", ONE("(?:a{1000000}){1000000}"), LINES("a"), TOO_BIG, 20, 100},
     {HAYSTACK, "new", ONE("(?:){4294967295}"), LINES("a"), TOO_BIG, 20, 100},
     {HAYSTACK, "limits", ONE("a{4294967295}"), LINES("a"), TOO_MANY, 20, 100},
     {HAYSTACK, "limits", ONE(ENDLESS), LINES("a"), TOO_BIG, 20, 100},
     /* Haystacks. */
-    {HAYSTACK, "search.is_match", ONE("(?:|a)*b"), LINES("a"), "0\n", 60, 100},
-    {HAYSTACK, "search.is_match", ONE("(?:a|)+b"), LINES("a"), "0\n", 60, 100},
-    {HAYSTACK, "search.is_match", ONE("(a*)*b"), LINES("a"), "0\n", 60, 100},
-    {HAYSTACK, "search.is_match", ONE("(?:)*b"), LINES("a"), "0\n", 60, 100},
-    {HAYSTACK, "search.is_match", ONE("(?:a?)*?b"), LINES("a"), "0\n", 60, 100},
-    {HAYSTACK, "search.is_match", ONE("(?:a|a)*b"), LINES("a"), "0\n", 60, 100},
-    {HAYSTACK, "search.is_match", ONE("(?:(?:a{1,3}){1,3}){1,3}b"), LINES("a"), "0\n", 60, 100},
-    {HAYSTACK, "search.captures", ONE("((?:a|b)*)*c"), LINES("a"), "none\n", 60, 100},
-    {HAYSTACK, "search.captures", ONE("(?:(a)|b)*"), LINES("a"), "0..", 60, 100},
-    {HAYSTACK, "texts.search.is_match", ONE("(?:|a)*b"), LINES("a"), "0\n", 60, 100},
-    {HAYSTACK, "search.is_match", ONE("(?:a?){10000}b"), {"", "c", "", 10 * 1000}, "0\n", 120, 100},
+    {HAYSTACK, "is", ONE("(?:|a)*b"), LINES("a"), "none", 60, 100},
+    {HAYSTACK, "is", ONE("(?:a|)+b"), LINES("a"), "none", 60, 100},
+    {HAYSTACK, "is", ONE("(a*)*b"), LINES("a"), "none", 60, 100},
+    {HAYSTACK, "is", ONE("(?:)*b"), LINES("a"), "none", 60, 100},
+    {HAYSTACK, "is", ONE("(?:a?)*?b"), LINES("a"), "none", 60, 100},
+    {HAYSTACK, "is", ONE("(?:a|a)*b"), LINES("a"), "none", 60, 100},
+    {HAYSTACK, "is", ONE("(?:(?:a{1,3}){1,3}){1,3}b"), LINES("a"), "none", 60, 100},
+    {HAYSTACK, "captures", ONE("((?:a|b)*)*c"), LINES("a"), "none", 60, 100},
+    {HAYSTACK, "captures", ONE("(?:(a)|b)*"), LINES("a"), "0..", 60, 100},
+    {HAYSTACK, "is, text", ONE("(?:|a)*b"), LINES("a"), "none", 60, 100},
+    {HAYSTACK, "is", ONE("(?:a?){10000}b"), {"", "c", "", 10 * 1000}, "none", 120, 100},
+    /* Two thousand named groups. The memory of a cache grows with states times groups. */
+    {HAYSTACK, "is", GROUPS, {"", "a", "", 1000}, "match", 20, 1400},
+    {HAYSTACK, "find", GROUPS, {"", "a", "", 1000}, "0..1000", 20, 1400},
+    {HAYSTACK, "captures", GROUPS, {"", "a", "", 1000}, "0..1000", 20, 1400},
+    {HAYSTACK, "replace", GROUPS, {"", "a", "", 1000}, "2 bytes", 20, 1400},
+    /* Anchored patterns: a search that can begin at the start alone stops there, whatever the haystack's length. The time that
+     * is left is that of making the haystack. */
+    {HAYSTACK, "is", ONE("^a"), LINES("b"), "none", 1, 100},
+    {HAYSTACK, "is", ONE("\\Aa|\\Ab"), LINES("c"), "none", 1, 100},
+    {HAYSTACK, "captures", ONE("^(a)"), LINES("b"), "none", 1, 100},
+    {HAYSTACK, "is", ONE("(?:^a|^b)*c"), LINES("d"), "none", 3, 100},
+    {HAYSTACK, "is", ONE("(?m)^a"), LINES("b\n"), "none", 60, 100},
+    {HAYSTACK, "lex", ONE(""), {"", "x = y1 + 42;\n", "", 8 * 1000}, "12 tokens a line", 10, 100},
     /* The program. */
     {HAYSTACK, "bites is", ONE("(?:a|b)*c"), {"", "a", "", 10 * 1000 * 1000}, "none\n", 60, 150},
     {HAYSTACK, "bites find", ONE("a*"), {"", "a", "", 10 * 1000 * 1000}, "0..1000000", 60, 150},
@@ -121,6 +111,12 @@ struct seen {
     size_t megabytes;
 };
 
+/* Puts the digits of a number into the places of `#`, the lowest one last. */
+static void number(char *chars, size_t len, size_t turn) {
+    for (size_t at = len; at-- > 0;)
+        if (chars[at] == '#') chars[at] = (char)('0' + turn % 10), turn /= 10;
+}
+
 /* The text with its middle so many times as often; the caller frees it. */
 static char *made(const struct long_text *text, size_t times, size_t *len) {
     size_t front = strlen(text->front), middle = strlen(text->middle), back = strlen(text->back);
@@ -128,22 +124,90 @@ static char *made(const struct long_text *text, size_t times, size_t *len) {
     char *chars = malloc(*len + 1);
     if (chars == NULL) exit(2);
     memcpy(chars, text->front, front);
-    for (size_t turn = 0; turn < text->count * times; turn++) memcpy(chars + front + turn * middle, text->middle, middle);
+    for (size_t turn = 0; turn < text->count * times; turn++) {
+        memcpy(chars + front + turn * middle, text->middle, middle);
+        number(chars + front + turn * middle, middle, turn);
+    }
     memcpy(chars + *len - back, text->back, back + 1);
     return chars;
 }
 
-/* In the process of a run: does the job of the library, and ends with status 0 if the answer is right. */
+/* Ends the process of a run, with status 0 if the answer begins as it should. */
+static _Noreturn void end(const struct row *row, const char *answer) {
+    exit(strncmp(answer, row->answer, strlen(row->answer)) != 0);
+}
+
+static _Noreturn void end_with_span(const struct row *row, uint32_t code, bites_span span) {
+    char answer[64] = "none";
+    if (code == BITES_MATCH) snprintf(answer, sizeof answer, "%zu..%zu", span.start, span.end);
+    end(row, code == BITES_MATCH || code == BITES_NO_MATCH ? answer : "a fault");
+}
+
+/* Makes a regex and a cache for it. Where the pattern is refused, the message is the answer. */
+static void make(const struct row *row, const char *pattern, size_t len, bites *regex, bites_cache *cache) {
+    bool has_limits = strcmp(row->job, "limits") != 0;
+    uint32_t flags = strstr(row->job, ", text") != NULL ? BITES_TEXT : 0;
+    uint32_t code = bites_new((const uint8_t *)pattern, len, flags, has_limits ? BITES_SIZE_LIMIT : SIZE_MAX,
+                              has_limits ? BITES_NEST_LIMIT : UINT32_MAX, regex);
+    char message[200] = "";
+    if (code != BITES_DONE) bites_error_text(code, (uint8_t *)message, sizeof message - 1);
+    if (code != BITES_DONE) end(row, message);
+    if (bites_cache_new(regex, cache) != BITES_DONE) exit(2);
+}
+
+static _Noreturn void find_captures(const struct row *row, bites *regex, bites_cache *cache, const uint8_t *haystack, size_t len) {
+    size_t count = bites_captures_len(regex);
+    bites_span *groups = malloc(count * sizeof *groups);
+    if (groups == NULL) exit(2);
+    bites_size found = bites_captures_at(regex, cache, haystack, len, 0, groups, count);
+    end_with_span(row, found.code, groups[0]);
+}
+
+static _Noreturn void replace(const struct row *row, bites *regex, bites_cache *cache, const uint8_t *haystack, size_t len) {
+    char answer[100] = "";
+    bites_size size = bites_replace(regex, cache, haystack, len, 1, (const uint8_t *)"<$1>", 4, (uint8_t *)answer, 0);
+    snprintf(answer, sizeof answer, "%zu bytes", size.size);
+    end(row, size.code == BITES_TOO_SMALL ? answer : "a fault");
+}
+
+/* The rules of a small language, each of which must match at the start of what is left. */
+static const char *const rules[] = {"^[a-z]+", "^[0-9]+", "^[ \n]+", "^\"[^\"]*\"", "^[-+*/=]", "^[(){};]"};
+enum { RULES = sizeof rules / sizeof *rules };
+
+/* Cuts the haystack into tokens, by the first rule that matches each rest, and counts them. */
+static _Noreturn void lex(const struct row *row, const uint8_t *haystack, size_t len) {
+    bites regexes[RULES] = {0};
+    bites_cache caches[RULES] = {0};
+    size_t tokens = 0;
+    for (size_t at = 0; at < RULES; at++) make(row, rules[at], strlen(rules[at]), &regexes[at], &caches[at]);
+    for (size_t from = 0; from < len; tokens++) {
+        bites_span token = {0, 0};
+        for (size_t at = 0; at < RULES && token.end == 0; at++)
+            bites_find_at(&regexes[at], &caches[at], haystack + from, len - from, 0, &token);
+        if (token.end == 0) exit(1);
+        from += token.end;
+    }
+    size_t lines = row->haystack.count > 0 ? len / strlen(row->haystack.middle) : 1;
+    char answer[64];
+    snprintf(answer, sizeof answer, tokens % lines == 0 ? "%zu tokens a line" : "%zu tokens", tokens % lines == 0 ? tokens / lines : tokens);
+    end(row, answer);
+}
+
+/* In the process of a run: does the job of the library. */
 static _Noreturn void do_job(const struct row *row, size_t pattern_times, size_t haystack_times) {
-    size_t pattern_len, haystack_len, room_len = 64 << 20;
+    size_t pattern_len, len;
     char *pattern = made(&row->pattern, pattern_times, &pattern_len);
-    char *haystack = made(&row->haystack, haystack_times, &haystack_len);
-    char *room = malloc(room_len);
-    if (room == NULL) exit(2);
-    size_t told = bites_job((const uint8_t *)row->job, strlen(row->job), (const uint8_t *)pattern, pattern_len,
-                            (const uint8_t *)haystack, haystack_len, NULL, 0, (uint8_t *)room, room_len);
-    size_t len = strlen(row->answer);
-    exit(told > room_len || told < len || memcmp(room, row->answer, len) != 0);
+    const uint8_t *haystack = (const uint8_t *)made(&row->haystack, haystack_times, &len);
+    bites regex = {0};
+    bites_cache cache = {0};
+    bites_span found = {0, 0};
+    if (strcmp(row->job, "lex") == 0) lex(row, haystack, len);
+    make(row, pattern, pattern_len, &regex, &cache);
+    if (strncmp(row->job, "is", 2) == 0) end(row, bites_is_match_at(&regex, &cache, haystack, len, 0) == BITES_MATCH ? "match" : "none");
+    if (strcmp(row->job, "captures") == 0) find_captures(row, &regex, &cache, haystack, len);
+    if (strcmp(row->job, "replace") == 0) replace(row, &regex, &cache, haystack, len);
+    uint32_t code = bites_find_at(&regex, &cache, haystack, len, 0, &found);
+    end_with_span(row, code, found);
 }
 
 /* A file with the text, open at its start. */

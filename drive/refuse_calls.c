@@ -1,7 +1,7 @@
 /*
  * For LD_PRELOAD: refuses the call of the number that a variable names, and writes a byte to file 9 when it does. The
  * variables: REFUSE counts requests for memory, REFUSE_READ reads from standard input, and REFUSE_WRITE writes to standard
- * output.
+ * output. With REFUSE_REST the requests for memory after the refused one are refused too.
  */
 #include <errno.h>
 #include <stdbool.h>
@@ -21,7 +21,11 @@ static bool is_refused(const char *variable, unsigned long *calls) {
 
 static bool is_request_refused(void) {
     static unsigned long requests;
-    return is_refused("REFUSE", &requests);
+    static bool was_refused;
+    if (was_refused && getenv("REFUSE_REST") != NULL) return true;
+    bool refused = is_refused("REFUSE", &requests);
+    was_refused = was_refused || refused;
+    return refused;
 }
 
 void *malloc(size_t size) { return is_request_refused() ? NULL : __libc_malloc(size); }

@@ -2,7 +2,7 @@
  * Times searches against the length of the haystack and against the number of states, and prints nanoseconds per byte, and per
  * byte and state. The growth is linear where a column stays level. The answers are printed too, so that nothing is left out.
  */
-#include "bites_drive.h"
+#include "bench.h"
 
 #include <stdint.h>
 #include <stdio.h>

@@ -3,15 +3,22 @@
 /// Defines `RegexBuilder`, where `Regex` is the type of the module.
 macro_rules! regex_builder {
     () => {
-        /// A pattern with the flags and limits that it is to be built with.
+        /// Builds a regex of a pattern with flags and limits.
         #[derive(Debug)]
         pub struct RegexBuilder {
             pattern: String,
             settings: Settings,
         }
 
+        impl Regex {
+            fn of(pattern: &str, settings: Settings) -> Result<Regex, Error> {
+                let engine = Engine::new(pattern, settings)?;
+                Ok(Regex { engine })
+            }
+        }
+
         impl RegexBuilder {
-            /// The pattern with no flag set and with the default limits.
+            /// Returns a builder for the pattern with no flag set and with the default limits.
             pub fn new(pattern: &str) -> RegexBuilder {
                 RegexBuilder {
                     pattern: pattern.to_string(),
@@ -21,10 +28,7 @@ macro_rules! regex_builder {
 
             /// Compiles the pattern. The error says why it is refused.
             pub fn build(&self) -> Result<Regex, Error> {
-                let engine = Engine::new(&self.pattern, self.settings)?;
-                Ok(Regex {
-                    engine: Rc::new(engine),
-                })
+                Regex::of(&self.pattern, self.settings)
             }
 
             /// Sets the flag `i`: ASCII letters match in both cases.
@@ -52,29 +56,29 @@ macro_rules! regex_builder {
                 self.set(sys::SWAP_GREED, yes)
             }
 
-            /// Sets the flag `x`: white space and comments in the pattern are passed over.
+            /// Sets the flag `x`: white space and comments in the pattern are skipped.
             pub fn ignore_whitespace(&mut self, yes: bool) -> &mut RegexBuilder {
                 self.set(sys::IGNORE_WHITESPACE, yes)
             }
 
-            /// How large the compiled pattern may be, by a measure that is near to bytes; 10485760 by default.
+            /// Sets the limit on the size of the compiled pattern, roughly in bytes; 10485760 by default.
             pub fn size_limit(&mut self, limit: usize) -> &mut RegexBuilder {
                 self.settings.set_size_limit(limit);
                 self
             }
 
-            /// How deep the pattern may be nested; 50 by default.
+            /// Sets the limit on how deep the pattern is nested; 50 by default.
             pub fn nest_limit(&mut self, limit: u32) -> &mut RegexBuilder {
                 self.settings.set_nest_limit(limit);
                 self
             }
 
-            /// Whether searches answer the longest match in the place of the preferred one. The Rust crate has no such switch.
+            /// Sets whether searches return the longest match instead of the preferred one. The Rust crate has no such switch.
             pub fn leftmost_longest(&mut self, yes: bool) -> &mut RegexBuilder {
                 self.set(sys::LEFTMOST_LONGEST, yes)
             }
 
-            /// Whether groups that the pattern repeats 0 times keep their numbers and names. The Rust crate has no such switch.
+            /// Sets whether groups that the pattern repeats 0 times keep their numbers and names. The Rust crate has no such switch.
             pub fn keep_dropped_groups(&mut self, yes: bool) -> &mut RegexBuilder {
                 self.set(sys::KEEP_DROPPED_GROUPS, yes)
             }

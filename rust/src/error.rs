@@ -1,24 +1,32 @@
+use crate::engine;
 use std::fmt;
 
 /// Why a pattern was refused.
 ///
-/// Its text, in words of the engine, is what [`Display`](fmt::Display) writes.
-#[derive(Clone, Debug, Eq, PartialEq)]
+/// [`Display`](fmt::Display) writes the engine's text of it.
+#[derive(Clone, Eq, PartialEq)]
 pub struct Error {
-    msg: Box<str>,
+    // The engine's number of the message.
+    code: u32,
 }
 
 impl Error {
-    pub(crate) fn new(text: String) -> Error {
-        Error {
-            msg: text.into_boxed_str(),
-        }
+    pub(crate) fn new(code: u32) -> Error {
+        Error { code }
     }
 }
 
 impl fmt::Display for Error {
     fn fmt(&self, f: &mut fmt::Formatter<'_>) -> fmt::Result {
-        f.write_str(&self.msg)
+        f.write_str(engine::message(self.code))
+    }
+}
+
+impl fmt::Debug for Error {
+    fn fmt(&self, f: &mut fmt::Formatter<'_>) -> fmt::Result {
+        f.debug_struct("Error")
+            .field("msg", &engine::message(self.code))
+            .finish()
     }
 }
 

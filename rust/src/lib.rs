@@ -6,17 +6,13 @@ mod builder;
 pub mod bytes;
 mod engine;
 mod error;
+mod escape;
+mod pattern;
+mod pool;
+mod race;
 mod string;
 mod sys;
 
 pub use error::Error;
+pub use escape::escape;
 pub use string::*;
-
-/// The pattern that matches this text and nothing else: a backslash stands before each special character.
-///
-/// ```
-/// assert_eq!(r"1\+1", regex_bites::escape("1+1"));
-/// ```
-pub fn escape(pattern: &str) -> String {
-    engine::escape(pattern)
-}

@@ -1,15 +1,18 @@
-//! What `c/bites.h` declares, in its order. That page says what each call answers, and what its caller owes.
+//! What `c/bites.h` declares, in its order. That page says what each call returns, and what its caller owes.
 
 use std::ffi::c_void;
 use std::ptr;
 
 pub(crate) const DONE: u32 = 0;
+pub(crate) const NO_MEMORY: u32 = 58;
 pub(crate) const MATCH: u32 = 100;
 pub(crate) const NO_MATCH: u32 = 101;
+/// No handle of this crate is empty when it is used.
+#[allow(dead_code)]
 pub(crate) const EMPTY_HANDLE: u32 = 103;
 pub(crate) const TOO_SMALL: u32 = 105;
 pub(crate) const NO_NAME: u32 = 106;
-/// Searches over texts alone answer this.
+/// Only searches of a regex over texts return this.
 #[allow(dead_code)]
 pub(crate) const NOT_BORDER: u32 = 108;
 
@@ -21,14 +24,14 @@ pub(crate) const SWAP_GREED: u32 = 16;
 pub(crate) const IGNORE_WHITESPACE: u32 = 32;
 pub(crate) const LEFTMOST_LONGEST: u32 = 64;
 pub(crate) const KEEP_DROPPED_GROUPS: u32 = 128;
-/// The texts of this crate are UTF-8 already, so nothing asks for this.
+/// The texts of this crate are UTF-8 already, so no regex is made with this.
 #[allow(dead_code)]
 pub(crate) const TEXT: u32 = 256;
 
 pub(crate) const SIZE_LIMIT: usize = 10_485_760;
 pub(crate) const NEST_LIMIT: u32 = 50;
 
-/// Both places of a group that took no part, and the end of the match before where there is none.
+/// Both ends of a group that did not participate, and the end of the match before where there is none.
 pub(crate) const NONE: usize = usize::MAX;
 
 /// `bites`: a compiled regex, or nothing.
@@ -43,7 +46,7 @@ impl Bites {
     };
 }
 
-/// `bites_cache`: the room that searches take, or nothing.
+/// `bites_cache`: the memory that searches need, or nothing.
 #[repr(C)]
 pub(crate) struct BitesCache {
     at: *mut c_void,
@@ -63,7 +66,7 @@ pub(crate) struct BitesSpan {
     pub(crate) end: usize,
 }
 
-/// `bites_size`: a number of the answers, and a size.
+/// `bites_size`: a code and a size.
 #[repr(C)]
 #[derive(Clone, Copy)]
 pub(crate) struct BitesSize {
@@ -72,6 +75,10 @@ pub(crate) struct BitesSize {
 }
 
 extern "C" {
+    /// Only a test asks for this.
+    #[allow(dead_code)]
+    pub(crate) fn bites_version() -> u32;
+
     pub(crate) fn bites_new(
         pattern: *const u8,
         len: usize,
@@ -81,8 +88,6 @@ extern "C" {
         out: *mut Bites,
     ) -> u32;
 
-    /// Clones of a `Regex` share one handle, so nothing asks for this.
-    #[allow(dead_code)]
     pub(crate) fn bites_clone(regex: *mut Bites, out: *mut Bites) -> u32;
 
     pub(crate) fn bites_free(regex: *mut Bites);
@@ -90,6 +95,15 @@ extern "C" {
     pub(crate) fn bites_cache_new(regex: *mut Bites, out: *mut BitesCache) -> u32;
 
     pub(crate) fn bites_cache_free(cache: *mut BitesCache);
+
+    /// A search from the start is a search from an offset.
+    #[allow(dead_code)]
+    pub(crate) fn bites_is_match(
+        regex: *mut Bites,
+        cache: *mut BitesCache,
+        haystack: *const u8,
+        len: usize,
+    ) -> u32;
 
     pub(crate) fn bites_is_match_at(
         regex: *mut Bites,
@@ -117,6 +131,22 @@ extern "C" {
         out: *mut BitesSpan,
     ) -> u32;
 
+    pub(crate) fn bites_find_anchored_at(
+        regex: *mut Bites,
+        cache: *mut BitesCache,
+        haystack: *const u8,
+        len: usize,
+        start: usize,
+        out: *mut BitesSpan,
+    ) -> u32;
+
+    pub(crate) fn bites_is_full_match(
+        regex: *mut Bites,
+        cache: *mut BitesCache,
+        haystack: *const u8,
+        len: usize,
+    ) -> u32;
+
     pub(crate) fn bites_find_next(
         regex: *mut Bites,
         cache: *mut BitesCache,
@@ -126,7 +156,26 @@ extern "C" {
         out: *mut BitesSpan,
     ) -> u32;
 
+    pub(crate) fn bites_split_next(
+        regex: *mut Bites,
+        cache: *mut BitesCache,
+        haystack: *const u8,
+        len: usize,
+        last: *mut usize,
+        piece: *mut BitesSpan,
+    ) -> u32;
+
     pub(crate) fn bites_captures_at(
+        regex: *mut Bites,
+        cache: *mut BitesCache,
+        haystack: *const u8,
+        len: usize,
+        start: usize,
+        groups: *mut BitesSpan,
+        count: usize,
+    ) -> BitesSize;
+
+    pub(crate) fn bites_captures_anchored_at(
         regex: *mut Bites,
         cache: *mut BitesCache,
         haystack: *const u8,
@@ -157,6 +206,8 @@ extern "C" {
         len: usize,
     ) -> BitesSize;
 
+    /// Names are looked up in the list of all, so nothing calls this.
+    #[allow(dead_code)]
     pub(crate) fn bites_group_index(regex: *mut Bites, name: *const u8, len: usize) -> BitesSize;
 
     pub(crate) fn bites_escape(text: *const u8, len: usize, out: *mut u8, room: usize)
@@ -164,6 +215,7 @@ extern "C" {
 
     pub(crate) fn bites_replace(
         regex: *mut Bites,
+        cache: *mut BitesCache,
         haystack: *const u8,
         len: usize,
         limit: usize,
@@ -175,6 +227,7 @@ extern "C" {
 
     pub(crate) fn bites_replace_literal(
         regex: *mut Bites,
+        cache: *mut BitesCache,
         haystack: *const u8,
         len: usize,
         limit: usize,

@@ -342,7 +342,7 @@ fn replacers_over_bytes() {
     );
 }
 
-/// A replacer of the caller's own, borrowed for each call, keeps its state.
+/// A replacer of the caller's own keeps its state when it is borrowed for each call.
 #[test]
 fn replacers_may_be_written() {
     struct Numbered(usize);

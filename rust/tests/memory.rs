@@ -1,4 +1,4 @@
-//! Want of memory: each test runs itself once more with so little memory that the engine is refused some.
+//! Out of memory: each test runs itself once more with so little memory that the engine is refused some.
 #![cfg(unix)]
 
 use regex_bites::RegexBuilder;
@@ -14,9 +14,15 @@ fn builder(states: usize) -> RegexBuilder {
 
 /// Runs the test of this name with so many KiB of address space, and a variable that tells it so.
 fn run_again(test: &str, room: usize) -> Output {
+    run_again_with(test, room, "")
+}
+
+/// Does so with this redirection of the shell.
+fn run_again_with(test: &str, room: usize, redirection: &str) -> Output {
     let this = env::current_exe().expect("the path of this program");
+    let line = format!("ulimit -v {room}; exec \"$0\" \"$@\" {redirection}");
     Command::new("sh")
-        .args(["-c", &format!("ulimit -v {room}; exec \"$0\" \"$@\"")])
+        .args(["-c", &line])
         .arg(this)
         .args(["--exact", test, "--nocapture", "--test-threads=1"])
         .env("SMALL", "")
@@ -39,6 +45,16 @@ fn a_build_answers_an_error() {
     let refused = builder(20_000_000).build().expect_err("no memory");
     assert_eq!(refused.to_string(), "out of memory");
     assert!(builder(10).build().is_ok());
+}
+
+/// Nothing can be written to `/dev/full`, and the program ends all the same, without a panic.
+#[test]
+#[cfg(target_os = "linux")]
+fn a_search_ends_the_program_without_standard_error() {
+    let test = "a_search_ends_the_program";
+    let output = run_again_with(test, 200_000, "2> /dev/full");
+    let aborted = std::os::unix::process::ExitStatusExt::signal(&output.status);
+    assert_eq!(aborted, Some(6), "{output:?}");
 }
 
 #[test]

@@ -1,6 +1,8 @@
 //! What differs from the Rust crate.
 
-use regex_bites::{Regex, RegexBuilder};
+use regex_bites::{bytes, Regex, RegexBuilder};
+use std::ops::Range;
+use std::time::{Duration, Instant};
 
 #[test]
 fn the_names_tell_how_many_they_are() {
@@ -38,16 +40,32 @@ fn groups_that_are_repeated_0_times_may_be_kept() {
     );
 }
 
-/// Locations of another regex are the caller's fault, and do no harm.
+/// The expected groups are those that the Rust crate writes, which has room for the first ones alone.
 #[test]
-#[should_panic(expected = "the locations have fewer groups than the regex")]
-fn locations_with_too_few_groups_are_refused() {
+fn locations_with_fewer_groups_take_the_first_ones() {
     let mut locations = Regex::new("a").expect("accepted").capture_locations();
-    let regex = Regex::new("(a)(b)").expect("accepted");
-    regex.captures_read(&mut locations, "ab");
+    let regex = Regex::new("(b)(c)").expect("accepted");
+    assert!(regex.captures_read(&mut locations, "x").is_none());
+    assert_eq!((locations.len(), locations.get(0)), (1, None));
+    let found = regex.captures_read(&mut locations, "abc").expect("a match");
+    assert_eq!((found.start(), found.end()), (1, 3));
+    assert_eq!((locations.get(0), locations.get(1)), (Some((1, 3)), None));
 }
 
-/// A start within a character: the rest of it is no UTF-8, so it is no text that could be handed out.
+#[test]
+fn locations_with_more_groups_keep_no_old_ones() {
+    let pair = Regex::new("(b)(c)").expect("accepted");
+    let mut locations = pair.capture_locations();
+    assert!(pair.captures_read(&mut locations, "bc").is_some());
+    let single = Regex::new("(d)").expect("accepted");
+    assert!(single.captures_read(&mut locations, "x").is_none());
+    assert_eq!(locations.get(2), Some((1, 2)));
+    assert!(single.captures_read(&mut locations, "ad").is_some());
+    let groups = [locations.get(0), locations.get(1), locations.get(2)];
+    assert_eq!(groups, [Some((1, 2)), Some((1, 2)), None]);
+}
+
+/// From an offset within a character, the rest of it is not UTF-8, so it is no text that could be returned.
 #[test]
 fn a_start_within_a_character_hands_out_no_text() {
     let regex = Regex::new(".").expect("accepted");
@@ -61,4 +79,171 @@ fn a_start_within_a_character_hands_out_no_text() {
         .expect("a match of what is no character");
     let expanded = std::panic::AssertUnwindSafe(|| captures.expand("$0", &mut String::new()));
     assert!(std::panic::catch_unwind(expanded).is_err());
+}
+
+/// The three searches that the Rust crate does not have, with their types.
+mod added {
+    type Finds<R, T, M> = fn(&R, T, usize) -> Option<M>;
+    type Asks<R, T> = fn(&R, T) -> bool;
+
+    macro_rules! added {
+        ($name:ident = $($path:ident)::+, $text:ty) => {
+            #[test]
+            fn $name() {
+                use $($path)::+::{Captures, Match, Regex};
+                let _: Finds<Regex, &'static $text, Match<'static>> = Regex::find_anchored_at;
+                let _: Finds<Regex, &'static $text, Captures<'static>> = Regex::captures_anchored_at;
+                let _: Asks<Regex, &$text> = Regex::is_full_match;
+            }
+        };
+    }
+
+    added!(over_texts = regex_bites, str);
+    added!(over_bytes = regex_bites::bytes, [u8]);
+}
+
+fn regex(pattern: &str) -> Regex {
+    Regex::new(pattern).expect("the pattern is accepted")
+}
+
+fn anchored(pattern: &str, haystack: &str, start: usize) -> Option<Range<usize>> {
+    let found = regex(pattern).find_anchored_at(haystack, start);
+    found.map(|found| found.range())
+}
+
+#[test]
+fn a_match_begins_at_its_offset_or_there_is_none() {
+    assert_eq!(anchored("b+", "abbc", 1), Some(1..3));
+    assert_eq!(anchored("b+", "abbc", 0), None);
+    assert_eq!(anchored("b+", "abbc", 3), None);
+    assert_eq!(anchored("a|ab", "ab", 0), Some(0..1));
+    assert_eq!(anchored("ab??", "ab", 0), Some(0..1));
+    assert_eq!(anchored("b*", "ab", 2), Some(2..2));
+    assert_eq!(anchored("b*", "ab", 3), None);
+    assert_eq!(anchored("b*", "ab", usize::MAX), None);
+    assert_eq!(anchored("é", "aé", 1), Some(1..3));
+    let mut builder = RegexBuilder::new("a|ab");
+    let longest = builder.leftmost_longest(true).build().expect("accepted");
+    let found = longest.find_anchored_at("xab", 1);
+    assert_eq!(found.map(|found| found.range()), Some(1..3));
+}
+
+#[test]
+fn assertions_see_the_byte_before_the_offset() {
+    assert_eq!(anchored(r"\bb", "ab", 1), None);
+    assert_eq!(anchored(r"\bb", " b", 1), Some(1..2));
+    assert_eq!(anchored(r"\Bb", "ab", 1), Some(1..2));
+    assert_eq!(anchored("^b", "ab", 1), None);
+    assert_eq!(anchored("(?m)^b", "\nb", 1), Some(1..2));
+    assert!(regex(r"\bb").captures_anchored_at("ab", 1).is_none());
+    assert!(regex(r"\bb").captures_anchored_at(" b", 1).is_some());
+}
+
+#[test]
+fn the_groups_are_those_of_the_match_from_the_offset() {
+    let pair = regex(r"(?<key>\w+)=(\w+)?(;)?");
+    assert!(pair.captures_anchored_at("?k=v", 0).is_none());
+    assert!(pair.captures_anchored_at("?k=v", 5).is_none());
+    let captures = pair.captures_anchored_at("?k=v", 1).expect("a match");
+    let ranges = captures
+        .iter()
+        .map(|group| group.map(|group| group.range()));
+    assert_eq!(
+        ranges.collect::<Vec<_>>(),
+        [Some(1..4), Some(1..2), Some(3..4), None]
+    );
+    assert_eq!(&captures["key"], "k");
+    let captures = pair.captures_anchored_at("?key=", 2).expect("a match");
+    assert_eq!((&captures[0], &captures["key"]), ("ey=", "ey"));
+    assert!(captures.get(2).is_none());
+}
+
+#[test]
+fn a_path_is_matched_as_a_whole() {
+    let route = regex(r"/items|/items/(\d+)(/edit)?");
+    for path in ["/items", "/items/42", "/items/42/edit"] {
+        assert!(route.is_full_match(path), "{path}");
+    }
+    for path in ["", "/", "/items/", "/items/42/", "//items", "/items\n"] {
+        assert!(!route.is_full_match(path), "{path}");
+    }
+    assert!(regex("a*?").is_full_match("aaa"));
+    assert!(regex("").is_full_match("") && !regex("").is_full_match("a"));
+    assert!(regex(".").is_full_match("☃"));
+}
+
+#[test]
+fn byte_strings_have_the_same_searches() {
+    let regex = bytes::Regex::new(r".(\w)").expect("accepted");
+    let found = regex.find_anchored_at(b"a\xffb\xffc", 3).expect("a match");
+    assert_eq!((found.range(), found.as_bytes()), (3..5, &b"\xffc"[..]));
+    assert!(regex.find_anchored_at(b"a\xffb\xffc", 2).is_none());
+    assert!(regex.find_anchored_at(b"a\xffb\xffc", 6).is_none());
+    let captures = regex.captures_anchored_at(b"a\xffb", 1).expect("a match");
+    assert_eq!(&captures[1], b"b");
+    assert!(regex.captures_anchored_at(b"a\xffb", 0).is_none());
+    assert!(regex.is_full_match(b"\xffb") && !regex.is_full_match(b"\xffbc"));
+}
+
+/// From an offset within a character, a search is one of bytes that are not UTF-8, as it is for `find_at`.
+#[test]
+fn an_offset_within_a_character_gives_no_text() {
+    let regex = regex(".");
+    let found = regex.find_anchored_at("☃", 1).expect("a match");
+    assert_eq!(
+        Some(found.range()),
+        regex.find_at("☃", 1).map(|m| m.range())
+    );
+    assert!(std::panic::catch_unwind(|| found.as_str()).is_err());
+    assert!(regex.captures_anchored_at("☃", 1).is_some());
+}
+
+/// Cuts the text into tokens by the first rule that matches, each with the number of its rule.
+fn tokens<'h>(rules: &[Regex], text: &'h str) -> Vec<(usize, &'h str)> {
+    let mut tokens = Vec::new();
+    let mut start = 0;
+    while start < text.len() {
+        let mut all = rules.iter().enumerate();
+        let token =
+            all.find_map(|(rule, regex)| Some((rule, regex.find_anchored_at(text, start)?)));
+        let (rule, token) = token.expect("a rule that matches");
+        tokens.push((rule, token.as_str()));
+        start = token.end();
+    }
+    tokens
+}
+
+fn rules() -> [Regex; 3] {
+    [r"\d+", r"[a-z]\w*", r"[^\w]"].map(regex)
+}
+
+#[test]
+fn rules_cut_a_text_into_tokens() {
+    let (number, name, sign) = (0, 1, 2);
+    assert_eq!(
+        tokens(&rules(), "x1=42+"),
+        [(name, "x1"), (sign, "="), (number, "42"), (sign, "+")]
+    );
+}
+
+/// The least time of some runs, for a text of so many tokens.
+fn time_of_tokens(rules: &[Regex], count: usize) -> Duration {
+    let text = "a ".repeat(count / 2);
+    let runs = (0..5).map(|_| {
+        let begin = Instant::now();
+        assert_eq!(tokens(rules, &text).len(), count);
+        begin.elapsed()
+    });
+    runs.min().expect("a run")
+}
+
+/// No token is a number. A search that read on until it found one would take 64 times as long for a text of 8 times the length.
+#[test]
+fn the_time_to_cut_a_text_is_linear_in_its_length() {
+    let rules = rules();
+    let (short, long) = (
+        time_of_tokens(&rules, 4_000),
+        time_of_tokens(&rules, 32_000),
+    );
+    assert!(long < short * 24, "{short:?} and {long:?}");
 }

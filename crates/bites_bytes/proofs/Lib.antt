@@ -2,6 +2,7 @@ pub mod SearchLemmas
 pub mod SettingsLemmas
 pub mod SlotLemmas
 pub mod DueLemmas
+pub mod AnchoredLemmas
 pub mod MatchLemmas
 pub mod SplitLemmas
 pub mod ReplacingLemmas

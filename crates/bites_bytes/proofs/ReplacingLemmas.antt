@@ -5,12 +5,11 @@ use Rattle.bites_spec.specs.Match.{Span}
 use Rattle.bites_spec.specs.Pieces.{replaced_from, limited}
 use Rattle.bites_spec.specs.Captured.{Captured, Excerpt}
 use Rattle.bites_spec.specs.Replace.{Gave}
-use Rattle.bites_spec.specs.Refused.{GaveFront}
 use Rattle.bites_bytes.specs.Matched.{excerpt_of}
 use Rattle.bites_bytes.specs.Matches.{IsSameSearch, matches_left, spans_left}
 use Rattle.bites_spec.specs.Replaced.{span_in}
 use Rattle.bites_bytes.specs.Limit.{taken, bound, Spends}
-use Rattle.bites_bytes.specs.Replacing.{spans_to_replace, captures_to_replace, replaces_none, with_texts, Writes, Rests, StepsByText, OnByText, StepsBy, GoesOn, GoesOnRefused}
+use Rattle.bites_bytes.specs.Replacing.{spans_to_replace, captures_to_replace, replaces_none, with_texts, Writes, Rests, StepsByText, OnByText, StepsBy, GoesOn}
 use Rattle.bites_bytes.specs.declared.bytes.matched.Match.{Match}
 use Rattle.bites_bytes.specs.declared.bytes.matches.Matches.{Matches}
 use Rattle.bites_bytes.specs.declared.bytes.replace.Replacing.{Replacing}
@@ -142,13 +141,3 @@ module _ {S : Type 0} (gives : S → Captured → List ℕ → S → Type 0) (an
     nothing = g.nothing ∙ f.nothing;
     same = same_still s.matches t.matches u.matches f.same g.same;
   }
-
-  module _ (refuses : S → Captured → S → Type 0) where
-    pub step_refused : (s : Replacing) (r : S) (t : Replacing) (q : S) → StepsBy gives answers s r true t q → GoesOnRefused gives answers refuses s r t q
-    step_refused s r t q h end front =
-        subst (λ l. GaveFront gives answers refuses r l end) (sym h.2) (inr (inr (h.1, q, h.3, front)))
-
-    pub rest_refused : (s : Replacing) (r : S) (t : Replacing) (q : S) → StepsBy gives answers s r false t q → GoesOnRefused gives answers refuses s r t q
-    rest_refused s r t q h end front =
-        let e = h.0.still ∙ sym h.0.none in
-        subst (λ l. GaveFront gives answers refuses r l end) e (subst (λ z. GaveFront gives answers refuses z (captures_to_replace t) end) h.1 front)

@@ -6,7 +6,6 @@ use Rattle.bites_spec.specs.Run.{slots}
 use Rattle.bites_spec.specs.Slots.{group_in}
 use Rattle.bites_spec.specs.Regex.{IsCompiled}
 use Rattle.bites_spec.specs.Captured.{Captured, captured, Excerpt}
-use Rattle.bites_spec.specs.Refused.{GaveFront}
 use Rattle.bites_spec.proofs.RegexRuns.{run_at-whole}
 use Rattle.bites_bytes.specs.Matched.{excerpt_of}
 use Rattle.bites_bytes.specs.Matches.{IsSameSearch, Moves, Advances, matches_left, captures_to_come}
@@ -109,19 +108,3 @@ module _ (s t : Replacing) (there : Bool) (spends : Spends s.left there t.left) 
         last = advances.1;
         same = same;
       }
-
-module _ {S C : Type 0} (gives : S → C → List ℕ → S → Type 0) (answers : S → Option (List ℕ) → S → Type 0)
-    (refuses : S → C → S → Type 0) where
-  -- no call
-  pub front_none : (s : S) (cs : List C) → GaveFront gives answers refuses s cs s
-  front_none s [] = refl
-  front_none s (c ∷ cs) = inl refl
-
-  -- a call that was refused
-  pub front_refused : (s t : S) (c : C) (rest cs : List C) → cs ≡ c ∷ rest → refuses s c t → GaveFront gives answers refuses s cs t
-  front_refused s t c rest cs e h = subst (λ l. GaveFront gives answers refuses s l t) (sym e) (inr (inl h))
-
--- what holds anyhow holds of an error
-pub on_err : {A E : Type 0} (r : Result A E) (P : Type 0) → P → OnErr r P
-on_err (Ok x) P p = tt
-on_err (Err e) P p = p

@@ -1,6 +1,6 @@
 -- What a search leaves in slots.
 use Rattle.std.proofs.Common.{◌≡◌, ℕ, zero, suc, ◌≤◌, Bool, true, false, List, [], ◌∷◌, ◌++◌, length, take, drop, Option, Some, None, option_map, refl, sym, ap, ◌∙◌, subst, true≢false, arith}
-use Rattle.std.specs.Prelude.{unwrap_or, is_some, IfSome, Result, Ok, Err, IfOk}
+use Rattle.std.specs.Prelude.{unwrap_or, is_some, IfSome, MatchOption, Result, Ok, Err, IfOk}
 use Rattle.std.specs.List.{range_with_len}
 use Rattle.std.proofs.lemmas.List.{take_all, append-nil, length-map}
 use Rattle.std.proofs.lemmas.List.FromFn.{length-range_with_len}
@@ -9,7 +9,8 @@ use Rattle.bites_spec.specs.Program.{Program}
 use Rattle.bites_spec.specs.Run.{Run, Answered, slots, written}
 use Rattle.bites_spec.specs.Slots.{group_in, span_of_run}
 use Rattle.bites_spec.specs.Regex.{Regex, IsCompiled, run_at, span_at, slots_at}
-use Rattle.bites_spec.specs.Captured.{Excerpt, excerpt, FindsSpan, FindsGroups, Captured, captured}
+use Rattle.bites_spec.specs.Captured.{Excerpt, excerpt, FindsSpan, FindsGroups, AreGroupsFrom, Captured, captured}
+use Rattle.bites_spec.specs.Found.{NoMatch}
 use Rattle.bites_spec.proofs.RegexRuns.{run_at-whole, span_at-lies, found_span, found_groups}
 
 pub length-slots : (p : Program) (r : Run) → length (slots p r) ≡ p.slots
@@ -143,3 +144,32 @@ module _ (r : Regex) (is : IsCompiled r) (hay : List ℕ) (s : ℕ) where
       same : (o : Option (List (Option ℕ))) → o ≡ option_map (λ y. y.slots) (option_map (captured r hay) o)
       same None = refl
       same (Some l) = refl
+
+  captured_by : (o : Option (List (Option ℕ))) (c : Option Captured) → c ≡ option_map (captured r hay) o →
+      IfSome c (λ x. x.regex ≡ r) × IfSome c (λ x. x.haystack ≡ hay)
+  captured_by o None e = (tt, tt)
+  captured_by None (Some c) e = let never : Some c ≡ None = e in absurd (cc)
+  captured_by (Some l) (Some c) e =
+      let some : Some c ≡ Some (captured r hay l) = e in
+      let same : c ≡ captured r hay l = cc in
+      (ap (λ (x : Captured). x.regex) same, ap (λ (x : Captured). x.haystack) same)
+
+  -- captures are of the regex that found them, in the haystack that was searched
+  pub captures_by : {E : Type 0} (x : Result (Option Captured) E) → IfOk x (λ c. c ≡ option_map (captured r hay) (slots_at r hay s)) →
+      IfOk x (λ c. IfSome c (λ y. y.regex ≡ r)) × IfOk x (λ c. IfSome c (λ y. y.haystack ≡ hay))
+  captures_by (Err e) h = (tt, tt)
+  captures_by (Ok c) h = captured_by (slots_at r hay s) c h
+
+  read_by : {M : Type 0} (f : M → Excerpt) (x : Option Run) → run_at r hay s ≡ x → (o : Option M) →
+      option_map f o ≡ option_map (excerpt hay) (option_map span_of_run x) →
+      (old new : List (Option ℕ)) → new ≡ unwrap_or (option_map (slots r.program) x) old → MatchOption o (NoMatch r.tree hay s) (λ m. AreGroupsFrom r hay s new)
+  read_by f None e None same old new w = subst (λ q. FindsGroups r hay s (option_map (slots r.program) q)) e (found_groups r is hay s)
+  read_by f None e (Some m) same old new w = let never : Some (f m) ≡ None = same in absurd (cc)
+  read_by f (Some x) e None same old new w = let never : None ≡ Some (excerpt hay (span_of_run x)) = same in absurd (cc)
+  read_by f (Some x) e (Some m) same old new w =
+      subst (AreGroupsFrom r hay s) (sym w) (subst (λ q. FindsGroups r hay s (option_map (slots r.program) q)) e (found_groups r is hay s))
+
+  -- what a search of the tree finds, for locations that it wrote
+  pub read_on_tree : {M : Type 0} (f : M → Excerpt) (o : Option M) → option_map f o ≡ option_map (excerpt hay) (span_at r hay s) →
+      (old new : List (Option ℕ)) → new ≡ unwrap_or (slots_at r hay s) old → MatchOption o (NoMatch r.tree hay s) (λ m. AreGroupsFrom r hay s new)
+  read_on_tree f o = read_by f (run_at r hay s) refl o

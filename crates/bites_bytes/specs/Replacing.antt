@@ -4,7 +4,6 @@ use Rattle.bites_spec.specs.Match.{Span}
 use Rattle.bites_spec.specs.Pieces.{replaced_from}
 use Rattle.bites_spec.specs.Captured.{Captured}
 use Rattle.bites_spec.specs.Replace.{Gave}
-use Rattle.bites_spec.specs.Refused.{GaveFront}
 use Rattle.bites_bytes.specs.Matches.{IsSameSearch, spans_left, captures_to_come}
 use Rattle.bites_spec.specs.Replaced.{span_in}
 use Rattle.bites_bytes.specs.Limit.{taken}
@@ -85,11 +84,6 @@ module _ {S : Type 0} (gives : S → Captured → List ℕ → S → Type 0) (an
         × (with_texts t (map span_in (captures_to_replace t)) texts ≡ with_texts s (map span_in (captures_to_replace s)) all)
     pub nothing : replaces_none t.matches.last (captures_to_replace t) ≡ replaces_none s.matches.last (captures_to_replace s)
     pub same : IsSameSearch s.matches t.matches
-
-  -- where the replacer has served a front of the rest, it has served a front of all
-  abbrev pub GoesOnRefused : (S → Captured → S → Type 0) → Replacing → S → Replacing → S → Type 0
-  GoesOnRefused refuses s r t q =
-      (end : S) → GaveFront gives answers refuses q (captures_to_replace t) end → GaveFront gives answers refuses r (captures_to_replace s) end
 
   -- all are replaced
   abbrev pub EndsBy : Replacing → S → Replacing → S → Type 0

@@ -3,14 +3,14 @@
 ghost use Rattle.std.specs.Prelude.{◌≡◌};
 ghost use Rattle.bites_bytes.specs.Limit.{Spends, bound};
 
-/// At first as many as the limit says: all for 0.
+/// Returns how many matches a limit of replacements allows, or `None` for all of them, which is the limit 0.
 pub fn bound(limit: usize) -> Option<usize>
     ensures { result ≡ bound limit }
 {
     if limit == 0 { None } else { Some(limit) }
 }
 
-/// Takes one from what is left. It answers whether there was one.
+/// Takes one from what is left, and returns whether there was one.
 pub fn spend(left: &mut Option<usize>) -> bool
     ensures { Spends left.old result left.new }
 {

@@ -19,7 +19,7 @@ impl<'n> fmt::Debug for Key<'n> {
     }
 }
 
-/// Where a group begins and ends, and what it matched, if it took part.
+/// Where a group begins and ends, and what it matched, if it participates.
 #[derive(Clone, Copy)]
 pub struct Part<T>(pub Option<(usize, usize, T)>);
 

@@ -1,11 +1,14 @@
 pub mod CacheHandles
 pub mod CodesLemmas
+pub mod Crosses
 pub mod FrontLemmas
 pub mod Handles
 pub mod LetGo
 pub mod NameLemmas
 pub mod NextLemmas
 pub mod ReplacedLemmas
+pub mod ReplacingLemmas
+pub mod Sent
 pub mod SlotsLemmas
 pub mod TextLemmas
 pub mod Values

@@ -6,13 +6,14 @@ use Rattle.bites_spec.specs.Run.{Run, slots}
 use Rattle.bites_spec.specs.Slots.{span_of_run, group_in}
 use Rattle.bites_spec.specs.Spans.{is_empty_at, due_after, followed, successive_after, successive, AnswersLie, LiesFrom}
 use Rattle.bites_spec.specs.Regex.{Regex, IsCompiled, run_at, span_at, slots_at}
+use Rattle.bites_spec.specs.Captured.{Excerpt, excerpt}
 use Rattle.bites_spec.specs.Iteration.{spans_behind, captures_behind, captured_by}
 use Rattle.bites_spec.proofs.RegexRuns.{run_at-lies, run_at-whole}
 use Rattle.bites_spec.proofs.SuccessiveLemmas.{goes_on}
 use Rattle.bites_c.specs.Searched.{FindsNext, FindsNextGroups}
 
 module _ (r : Regex) (compiled : IsCompiled r) (hay : List ℕ) where
-  span_lies : AnswersLie (λ s. s) hay (span_at r hay)
+  pub span_lies : AnswersLie (λ s. s) hay (span_at r hay)
   span_lies s x h = by_run (run_at r hay s) refl h
     where
       some_same : (a b : Span) → Some a ≡ Some b → a ≡ b
@@ -21,6 +22,20 @@ module _ (r : Regex) (compiled : IsCompiled r) (hay : List ℕ) where
       by_run : (o : Option Run) → run_at r hay s ≡ o → option_map span_of_run o ≡ Some x → LiesFrom (length hay) s x
       by_run None e h = cc
       by_run (Some q) e h = subst (LiesFrom (length hay) s) (some_same (span_of_run q) x h) (run_at-lies r compiled hay s q e)
+
+  -- what is found lies in the haystack, from the start of the search on
+  pub found_lies :
+      {M : Type 0} (e : M → Excerpt) (m : M) (o : Option M) (s : ℕ) → o ≡ Some m → option_map e o ≡ option_map (excerpt hay) (span_at r hay s) →
+      LiesFrom (length hay) s (e m).span
+  found_lies e m o s is found = by_span (span_at r hay s) refl (sym (ap (option_map e) is) ∙ found)
+    where
+      same : (x y : Excerpt) → Some x ≡ Some y → x ≡ y
+      same x y h = cc
+
+      by_span : (q : Option Span) → span_at r hay s ≡ q → Some (e m) ≡ option_map (excerpt hay) q → LiesFrom (length hay) s (e m).span
+      by_span None h found = cc
+      by_span (Some g) h found =
+          subst (LiesFrom (length hay) s) (sym (ap (λ (x : Excerpt). x.span) (same (e m) (excerpt hay g) found))) (span_lies s g h)
 
   next_of :
       (last : Option ℕ) (o : Option Span) →

@@ -3,6 +3,7 @@ pub mod Holding
 pub mod Made
 pub mod Put
 pub mod Replaced
+pub mod Replacing
 pub mod Searched
 pub mod Texts
 pub mod Words

@@ -1,7 +1,8 @@
 -- What is put where C can read it.
-use Rattle.std.specs.Prelude.{◌≡◌, ◌≢◌, ◌<◌, ◌≤◌, ◌++◌, ℕ, List, length, map, take, drop, Option, Some, None}
+use Rattle.std.specs.Prelude.{◌≡◌, ◌≢◌, ◌<◌, ◌≤◌, ◌++◌, ℕ, min, cond, nat_eq, List, [], ◌∷◌, length, map, take, drop, Option, Some, None, unwrap_or}
 use Rattle.std.specs.List.{range_with_len}
 use Rattle.bites_spec.specs.Match.{Span}
+use Rattle.bites_spec.specs.Captured.{Captured}
 use Rattle.bites_spec.specs.Slots.{group_in}
 use Rattle.bites_text.specs.declared.error.Error.TheVariants.{Memory}
 use Rattle.bites_c.specs.Codes.{matched, not_matched, done, too_small, no_name, code_of}
@@ -13,6 +14,10 @@ abbrev pub span_for_c : Option Span → BitesSpan
 span_for_c None = record { start = 0xFFFF_FFFF_FFFF_FFFF; end = 0xFFFF_FFFF_FFFF_FFFF }
 span_for_c (Some s) = record { start = s.start; end = s.end }
 
+-- what C says of the match before: the greatest number where there is none, else its end
+abbrev pub last_for_c : ℕ → Option ℕ
+last_for_c n = cond (nat_eq n 0xFFFF_FFFF_FFFF_FFFF) None (Some n)
+
 -- the place that was found is put where the old one stood, which stays where there is none
 abbrev pub Puts : Option ℕ → ℕ → ℕ → ℕ → Type 0
 Puts None number old new = (number ≡ not_matched) × (new ≡ old)
@@ -22,6 +27,17 @@ Puts (Some place) number old new = (number ≡ matched) × (new ≡ place)
 abbrev pub PutsSpan : Option Span → ℕ → BitesSpan → BitesSpan → Type 0
 PutsSpan None number old new = (number ≡ not_matched) × (new ≡ old)
 PutsSpan (Some s) number old new = (number ≡ matched) × (new ≡ span_for_c (Some s))
+
+-- where a piece begins that comes behind a match: at its end, or at the start of a haystack of so many bytes where there was none
+abbrev pub piece_start : ℕ → ℕ → ℕ
+piece_start len last = min (unwrap_or (last_for_c last) 0) len
+
+-- the piece up to the span that was found is put, and the end of that span; the piece up to the end where there is none
+abbrev pub PutsPiece : Option Span → ℕ → ℕ → ℕ → ℕ → BitesSpan → Type 0
+PutsPiece None len number last next piece =
+    (number ≡ not_matched) × (next ≡ last) × (piece ≡ record { start = piece_start len last; end = len })
+PutsPiece (Some s) len number last next piece =
+    (number ≡ matched) × (next ≡ s.end) × (piece ≡ record { start = piece_start len last; end = s.start })
 
 -- the first n groups in the slots
 abbrev pub groups_for_c : List (Option ℕ) → ℕ → List BitesSpan
@@ -37,11 +53,15 @@ abbrev pub PutsGroups : Option (List (Option ℕ)) → ℕ → ℕ → List Bite
 PutsGroups None n number old new = (number ≡ not_matched) × (new ≡ old)
 PutsGroups (Some slots) n number old new = (number ≡ matched) × HasFront slots n old new
 
--- the text is put at the front where there is room for it, and else all stays; the size is that of the text
-pub record PutsText (text : List ℕ) (answer : BitesSize) (old new : List ℕ) : Type 0 where
+-- the text is put at the front where there is room for it, which this number says, and else all stays; the size is that of the text
+pub record PutsTextAs (number : ℕ) (text : List ℕ) (answer : BitesSize) (old new : List ℕ) : Type 0 where
   pub size : answer.size ≡ length text
-  pub fits : length text ≤ length old → (answer.code ≡ done) × (new ≡ text ++ drop (length text) old)
+  pub fits : length text ≤ length old → (answer.code ≡ number) × (new ≡ text ++ drop (length text) old)
   pub small : length old < length text → (answer.code ≡ too_small) × (new ≡ old)
+
+-- the same, where that is what was asked
+abbrev pub PutsText : List ℕ → BitesSize → List ℕ → List ℕ → Type 0
+PutsText = PutsTextAs done
 
 -- the same of a name, if there is one
 abbrev pub PutsName : Option (List ℕ) → BitesSize → List ℕ → List ℕ → Type 0
@@ -57,6 +77,17 @@ abbrev pub PutsMade : List ℕ → BitesSize → List ℕ → List ℕ → Type 
 PutsMade text answer old new =
     (answer.code ≡ code_of Memory → PutsNone (code_of Memory) answer old new)
     × (answer.code ≢ code_of Memory → PutsText text answer old new)
+
+-- where there are matches, the text with them replaced is put; where there are none, all stays, and the size is that of the haystack
+abbrev pub PutsIfMatched : List Captured → ℕ → List ℕ → BitesSize → List ℕ → List ℕ → Type 0
+PutsIfMatched [] len text answer old new = (answer.code ≡ not_matched) × (answer.size ≡ len) × (new ≡ old)
+PutsIfMatched (c ∷ cs) len text answer old new = PutsTextAs matched text answer old new
+
+-- the same, unless memory was refused
+abbrev pub PutsReplaced : List Captured → ℕ → List ℕ → BitesSize → List ℕ → List ℕ → Type 0
+PutsReplaced cs len text answer old new =
+    (answer.code ≡ code_of Memory → PutsNone (code_of Memory) answer old new)
+    × (answer.code ≢ code_of Memory → PutsIfMatched cs len text answer old new)
 
 -- the number of a group is answered, if there is one
 abbrev pub AnswersIndex : Option ℕ → BitesSize → Type 0

@@ -1,8 +1,9 @@
 -- Texts that are made of haystacks, templates and groups.
-use Rattle.std.specs.Prelude.{◌≤◌, ℕ, ◌&&◌, cond, nat_eq, false, List, map, Option, Some, None, IfSome, option_map, slice_index_or, chars, encode_utf8_all}
+use Rattle.std.specs.Prelude.{◌≡◌, ◌≢◌, ◌≤◌, ℕ, ◌&&◌, cond, nat_eq, false, List, [], map, Option, Some, None, IfSome, MatchOption, option_map, slice_index_or, chars, encode_utf8_all}
 use Rattle.bites_spec.specs.Match.{Span, span}
 use Rattle.bites_spec.specs.Pieces.{limited, replaced, text_at}
 use Rattle.bites_spec.specs.Regex.{Regex}
+use Rattle.bites_spec.specs.Captured.{Captured}
 use Rattle.bites_spec.specs.Iteration.{captures_in}
 use Rattle.bites_spec.specs.Replaced.{span_in}
 use Rattle.bites_spec.specs.Replacer.{expanded}
@@ -23,6 +24,10 @@ with_template r hay n template =
 
 unfoldable pub with_text : Regex → List ℕ → ℕ → List ℕ → List ℕ
 with_text r hay n text = replaced hay n (map span_in (captures_in r hay)) (map (λ c. text) (limited n (captures_in r hay)))
+
+-- the text, as its items, where there are matches, and else none
+abbrev pub IsReplaced : {V : Type 0} → (V → List ℕ) → List Captured → List ℕ → Option V → Type 0
+IsReplaced items cs text o = MatchOption o (cs ≡ []) (λ v. (cs ≢ []) × (items v ≡ text))
 
 -- the span that C means: none for the greatest number twice
 abbrev pub span_from_c : BitesSpan → Option Span

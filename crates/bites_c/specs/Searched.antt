@@ -1,14 +1,15 @@
 -- What a search by two handles answers.
-use Rattle.std.specs.Prelude.{◌≡◌, ◌≢◌, ◌↔◌, ◌<◌, ◌≤◌, ℕ, cond, nat_eq, List, [], ◌∷◌, length, Option, Some, None}
+use Rattle.std.specs.Prelude.{◌≡◌, ◌≢◌, ◌↔◌, ◌<◌, ◌≤◌, ℕ, List, [], ◌∷◌, length, Option, Some, None}
 use Rattle.bites_spec.specs.Counts.{Room, fit_of}
+use Rattle.bites_spec.specs.Anchored.{FindsGroupsFrom, anchored_slots_at}
 use Rattle.bites_spec.specs.Regex.{Regex, slots_at}
 use Rattle.bites_spec.specs.Captured.{FindsGroups, captured}
 use Rattle.bites_spec.specs.Slots.{group_in}
 use Rattle.bites_spec.specs.Match.{Span}
 use Rattle.bites_spec.specs.Iteration.{spans_behind, captures_behind}
-use Rattle.bites_c.specs.Put.{Puts, PutsGroups, PutsSpan}
-use Rattle.bites_c.specs.Codes.{matched, not_matched, empty_handle, unfit_cache, too_small}
-use Rattle.bites_c.specs.Texts.{AsksFrom, AsksBehind}
+use Rattle.bites_c.specs.Put.{Puts, PutsGroups, PutsPiece, PutsSpan}
+use Rattle.bites_c.specs.Codes.{matched, not_matched, not_utf8, empty_handle, unfit_cache, too_small}
+use Rattle.bites_c.specs.Texts.{AreUtf8, Asks, AsksFrom, AsksBehind}
 use Rattle.bites_c.specs.declared.held.Held.{Held}
 use Rattle.bites_c.specs.declared.span.BitesSpan.{BitesSpan}
 
@@ -31,6 +32,11 @@ abbrev pub SearchedBehind : List ℕ → Option ℕ → Option Held → Option R
 SearchedBehind hay last held room number S P =
     Searched held room number S (λ h. AsksBehind h.is_text hay last number S (P h.regex))
 
+-- and of all matches in a haystack, with another text beside it
+abbrev pub SearchedOver : List ℕ → List ℕ → Option Held → Option Room → ℕ → Type 0 → (Regex → Type 0) → Type 0
+SearchedOver hay other held room number S P =
+    Searched held room number S (λ h. Asks h.is_text (AreUtf8 hay other) ((number ≡ not_utf8) × S) (P h.regex))
+
 -- a match is answered exactly if Q holds, and none exactly if it does not
 abbrev pub AnswersIf : ℕ → Type 0 → Type 0
 AnswersIf number Q = (number ≡ matched ↔ Q) × (number ≡ not_matched ↔ (Q → ⊥))
@@ -49,15 +55,22 @@ AnswersPlace number old new P = (found : Option ℕ) × P found × Puts found nu
 abbrev pub AnswersSpan : ℕ → BitesSpan → BitesSpan → (Option Span → Type 0) → Type 0
 AnswersSpan number old new P = (found : Option Span) × P found × PutsSpan found number old new
 
+-- the same of the piece before a span, in a haystack of so many bytes
+abbrev pub AnswersPiece : ℕ → ℕ → ℕ → ℕ → BitesSpan → (Option Span → Type 0) → Type 0
+AnswersPiece len number last next piece P = (found : Option Span) × P found × PutsPiece found len number last next piece
+
 -- a slice with too few places stays, and none is searched for; else the groups that are found are put at its front
 abbrev pub PutsCaptures : Regex → List ℕ → ℕ → ℕ → List BitesSpan → List BitesSpan → Type 0
 PutsCaptures r hay s number old new =
     (length old < length r.names → (number ≡ too_small) × (new ≡ old))
     × (length r.names ≤ length old → FindsGroups r hay s (slots_at r hay s) × PutsGroups (slots_at r hay s) (length r.names) number old new)
 
--- what C says of the match before: the greatest number where there is none, else its end
-abbrev pub last_for_c : ℕ → Option ℕ
-last_for_c n = cond (nat_eq n 0xFFFF_FFFF_FFFF_FFFF) None (Some n)
+-- the same of a search from a place alone
+abbrev pub PutsAnchoredCaptures : Regex → List ℕ → ℕ → ℕ → List BitesSpan → List BitesSpan → Type 0
+PutsAnchoredCaptures r hay s number old new =
+    (length old < length r.names → (number ≡ too_small) × (new ≡ old))
+    × (length r.names ≤ length old →
+    FindsGroupsFrom r hay s (anchored_slots_at r hay s) × PutsGroups (anchored_slots_at r hay s) (length r.names) number old new)
 
 -- what is found is the first of the spans that are left behind a match that ends at a place, or of all; the others are left
 -- behind it

@@ -10,7 +10,7 @@ ghost use Rattle.bites_c.specs.Holding.{holds};
 
 use crate::room::Room;
 use std::alloc::Global;
-use std::marker::Model;
+use std::marker::{Model, Send};
 
 /// What C holds between calls: the pointer of room for searches, or null. C begins with null and never copies it.
 #[repr(C)]
@@ -23,6 +23,8 @@ pub struct BitesCache {
 impl Model for BitesCache {
     ghost also_owns = { λ h. holds the_row h.alloc h.at h.room };
 }
+
+unsafe impl Send for BitesCache {}
 
 impl BitesCache {
     /// A handle that holds none.

@@ -11,7 +11,7 @@ ghost use Rattle.bites_c.specs.Holding.{holds};
 
 use crate::held::Held;
 use std::alloc::Global;
-use std::marker::Model;
+use std::marker::{Model, Send};
 
 /// What C holds between calls: the pointer of a regex, or null. C begins with null and never copies it.
 #[repr(C)]
@@ -24,6 +24,9 @@ pub struct Bites {
 impl Model for Bites {
     ghost also_owns = { λ h. holds the_row h.alloc h.at h.held };
 }
+
+// What it holds shares a program with its clones by a count that any thread may change.
+unsafe impl Send for Bites {}
 
 impl Bites {
     /// A handle that holds none.

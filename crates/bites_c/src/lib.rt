@@ -9,24 +9,21 @@
 //! such a place finds begins and ends at such places too, by the laws of `bites_spec` on texts.
 #![tactic(auto)]
 
-ghost use Rattle.std.specs.Prelude.{◌≡◌, ◌≢◌, IsSomeAnd, IfSome, IsUtf8, ◌++◌, drop, length, option_map, slice_index_or, take, unwrap_or, ⊤};
+ghost use Rattle.std.specs.Prelude.{◌≡◌, ◌≢◌, ◌↔◌, IsSomeAnd, IfSome, IsUtf8, length, option_map, unwrap_or, ⊤};
 ghost use Rattle.std.specs.declared.option.Option.TheVariants.{None};
 ghost use Rattle.bites_spec.specs.Counts.{fit_of};
 ghost use Rattle.bites_spec.specs.Captured.{FindsSpan};
+ghost use Rattle.bites_spec.specs.Anchored.{FindsSpanFrom, IsFullMatch, anchored_span_at};
 ghost use Rattle.bites_spec.specs.Found.{HasMatch, IsLeastEnd};
 ghost use Rattle.bites_spec.specs.Measure.{static_captures_len};
 ghost use Rattle.bites_spec.specs.Regex.{span_at};
-ghost use Rattle.bites_text.specs.Texts.{error_text};
 ghost use Rattle.bites_text.specs.declared.error.Error.{Error as Fault};
 ghost use Rattle.bites_text.specs.declared.error.Error.TheVariants.{Memory};
 ghost use Rattle.bites_bytes.specs.Settings.{Refuses};
-ghost use Rattle.bites_spec.specs.Expansion.{index_in};
 ghost use Rattle.bites_c.specs.Codes.{code_of, done, not_utf8, empty_handle};
 ghost use Rattle.bites_c.specs.Made.{IsMadeBy};
-ghost use Rattle.bites_c.specs.Put.{AnswersIndex, Puts, PutsMade, PutsName, PutsNone, PutsSpan};
-ghost use Rattle.bites_c.specs.Searched.{AnswersIf, AnswersPlace, AnswersSpan, FindsNext, PutsCaptures, PutsNextCaptures, SearchedBehind, SearchedFrom, last_for_c};
-ghost use Rattle.bites_c.specs.Replaced.{escaped_text, expanded_by, with_template, with_text};
-ghost use Rattle.bites_c.specs.Texts.{AreUtf8, Asks, AsksGroups};
+ghost use Rattle.bites_c.specs.Put.{Puts, PutsSpan, last_for_c};
+ghost use Rattle.bites_c.specs.Searched.{AnswersIf, AnswersPiece, AnswersPlace, AnswersSpan, FindsNext, PutsAnchoredCaptures, PutsCaptures, PutsNextCaptures, SearchedBehind, SearchedFrom};
 ghost use Rattle.bites_c.specs.Words.{asked, text_in};
 
 mod cache;
@@ -35,10 +32,12 @@ mod handle;
 mod held;
 mod make;
 mod replace;
+mod replacing;
 mod room;
 mod search;
 mod span;
 mod text;
+mod text_calls;
 mod texts;
 
 pub use cache::BitesCache;
@@ -68,7 +67,7 @@ pub extern "C" fn bites_new(
     ensures known { result ≢ done → result ≢ not_utf8 → (e : Fault) × (result ≡ code_of e) }
     ensures message { (e : Fault) → result ≡ code_of e → e ≢ Memory →
         Refuses (asked pattern.now flags size_limit nest_limit) e }
-    ensures utf8 { result ≡ not_utf8 → IsUtf8 pattern.now → ⊥ }
+    ensures utf8 { result ≡ not_utf8 ↔ (IsUtf8 pattern.now → ⊥) }
 {
     *out = Bites::empty(alloc);
     match make::regex(alloc, pattern, flags, size_limit, nest_limit) {
@@ -96,7 +95,7 @@ pub extern "C" fn bites_clone(alloc: Global, regex: &mut Bites, out: &mut Bites)
     ensures same { regex.new.held ≡ regex.old.held }
     ensures made { result ≡ done → (out.new.held ≡ regex.old.held) × (out.new.held ≢ None) }
     ensures refused { result ≢ done → out.new.held ≡ None }
-    ensures empty { result ≡ empty_handle → regex.old.held ≡ None }
+    ensures empty { result ≡ empty_handle ↔ regex.old.held ≡ None }
     ensures known { result ≢ done → result ≢ empty_handle → result ≡ code_of Memory }
 {
     *out = Bites::empty(alloc);
@@ -123,7 +122,7 @@ pub extern "C" fn bites_cache_new(alloc: Global, regex: &mut Bites, out: &mut Bi
     ensures made { result ≡ done → IsSomeAnd regex.old.held (λ h.
         IsSomeAnd out.new.room (λ c. c.fits ≡ fit_of h.regex.program)) }
     ensures refused { result ≢ done → out.new.room ≡ None }
-    ensures empty { result ≡ empty_handle → regex.old.held ≡ None }
+    ensures empty { result ≡ empty_handle ↔ regex.old.held ≡ None }
     ensures known { result ≢ done → result ≢ empty_handle → result ≡ code_of Memory }
 {
     *out = BitesCache::empty(alloc);
@@ -147,6 +146,22 @@ pub extern "C" fn bites_cache_free(alloc: Global, cache: &mut BitesCache)
     ensures { cache.new.room ≡ None }
 {
     *cache = BitesCache::empty(alloc);
+}
+
+/// Whether the regex matches anywhere in the haystack. It takes no memory.
+#[unsafe(no_mangle)]
+pub extern "C" fn bites_is_match(
+    alloc: Global,
+    regex: &mut Bites,
+    cache: &mut BitesCache,
+    haystack: &[u8],
+) -> u32
+    ensures same { regex.new.held ≡ regex.old.held }
+    ensures fits { option_map (λ c. c.fits) cache.new.room ≡ option_map (λ c. c.fits) cache.old.room }
+    ensures answered { SearchedFrom haystack.now 0 regex.old.held cache.old.room result ⊤ (λ r.
+        AnswersIf result (HasMatch r.tree haystack.now 0)) }
+{
+    bites_is_match_at(alloc, regex, cache, haystack, 0)
 }
 
 /// Whether the regex matches at some place from `start` on; past the end nothing matches. It takes no memory.
@@ -226,6 +241,56 @@ pub extern "C" fn bites_find_at(
     }
 }
 
+/// Puts where the match that begins at `start` begins and ends into `out`, which is unchanged where there is none: the
+/// preferred one of these matches, or the longest. It takes no memory.
+#[unsafe(no_mangle)]
+pub extern "C" fn bites_find_anchored_at(
+    alloc: Global,
+    regex: &mut Bites,
+    cache: &mut BitesCache,
+    haystack: &[u8],
+    start: usize,
+    out: &mut BitesSpan,
+) -> u32
+    ensures same { regex.new.held ≡ regex.old.held }
+    ensures fits { option_map (λ c. c.fits) cache.new.room ≡ option_map (λ c. c.fits) cache.old.room }
+    ensures answered { SearchedFrom haystack.now start regex.old.held cache.old.room result (out.new ≡ out.old) (λ r.
+        FindsSpanFrom r haystack.now start (anchored_span_at r haystack.now start)
+        × PutsSpan (anchored_span_at r haystack.now start) result out.old out.new) }
+{
+    match search::begin_from(alloc, regex, cache, haystack, start) {
+        Ok(mut search) => {
+            let found = search.find_anchored(haystack, start);
+            search.end(regex, cache);
+            span::put(found, out)
+        }
+        Err(code) => code,
+    }
+}
+
+/// Whether the regex matches the whole haystack, by any of its matches. It takes no memory.
+#[unsafe(no_mangle)]
+pub extern "C" fn bites_is_full_match(
+    alloc: Global,
+    regex: &mut Bites,
+    cache: &mut BitesCache,
+    haystack: &[u8],
+) -> u32
+    ensures same { regex.new.held ≡ regex.old.held }
+    ensures fits { option_map (λ c. c.fits) cache.new.room ≡ option_map (λ c. c.fits) cache.old.room }
+    ensures answered { SearchedFrom haystack.now 0 regex.old.held cache.old.room result ⊤ (λ r.
+        AnswersIf result (IsFullMatch r.tree haystack.now)) }
+{
+    match search::begin_from(alloc, regex, cache, haystack, 0) {
+        Ok(mut search) => {
+            let found = search.is_full_match(haystack);
+            search.end(regex, cache);
+            if found { MATCH } else { NO_MATCH }
+        }
+        Err(code) => code,
+    }
+}
+
 /// Where the match begins and ends that is due behind one that ends at `last`, or the first of all where `last` is the
 /// greatest number, goes into `out`, which stays where there is none. It takes no memory.
 ///
@@ -256,6 +321,38 @@ pub extern "C" fn bites_find_next(
     }
 }
 
+/// Puts the next piece of the haystack, as its matches split it, into `piece`.
+///
+/// The piece begins at `last`, where the match before ended, or at the start of the haystack where `last` is the greatest
+/// number. The answer is 100 where the next match, the one that [`bites_find_next`] finds, ends the piece: `last` is then
+/// the end of that match. It is 101 where there is no next match: the piece is the last one, and `last` stays. It takes no
+/// memory.
+#[unsafe(no_mangle)]
+pub extern "C" fn bites_split_next(
+    alloc: Global,
+    regex: &mut Bites,
+    cache: &mut BitesCache,
+    haystack: &[u8],
+    last: &mut usize,
+    piece: &mut BitesSpan,
+) -> u32
+    ensures same { regex.new.held ≡ regex.old.held }
+    ensures fits { option_map (λ c. c.fits) cache.new.room ≡ option_map (λ c. c.fits) cache.old.room }
+    ensures answered { SearchedBehind haystack.now (last_for_c last.old) regex.old.held cache.old.room result
+        ((last.new ≡ last.old) × (piece.new ≡ piece.old)) (λ r.
+        AnswersPiece (length haystack.now) result last.old last.new piece.new (FindsNext r haystack.now (last_for_c last.old))) }
+{
+    let before = span::last(*last);
+    match search::begin_behind(alloc, regex, cache, haystack, before) {
+        Ok(mut search) => {
+            let found = search.next(haystack, before);
+            search.end(regex, cache);
+            span::put_piece(found, haystack.len(), last, piece)
+        }
+        Err(code) => code,
+    }
+}
+
 /// The groups of the first match from `start` on go to the front of `groups`, which stays where there is no match: for each
 /// group where it began and ended last, or the greatest number twice where it took no part. It takes no memory.
 ///
@@ -278,6 +375,33 @@ pub extern "C" fn bites_captures_at(
     match search::begin_from(alloc, regex, cache, haystack, start) {
         Ok(mut search) => {
             let answer = search.captures(haystack, start, groups);
+            search.end(regex, cache);
+            answer
+        }
+        Err(code) => BitesSize::refused(code),
+    }
+}
+
+/// Puts the groups of the match that [`bites_find_anchored_at`] finds at the front of `groups`, as [`bites_captures_at`] puts
+/// them. It takes no memory.
+#[unsafe(no_mangle)]
+pub extern "C" fn bites_captures_anchored_at(
+    alloc: Global,
+    regex: &mut Bites,
+    cache: &mut BitesCache,
+    haystack: &[u8],
+    start: usize,
+    groups: &mut [BitesSpan],
+) -> BitesSize
+    ensures same { regex.new.held ≡ regex.old.held }
+    ensures fits { option_map (λ c. c.fits) cache.new.room ≡ option_map (λ c. c.fits) cache.old.room }
+    ensures answered { SearchedFrom haystack.now start regex.old.held cache.old.room result.code
+        ((result.size ≡ 0) × (groups.new ≡ groups.old)) (λ r. (result.size ≡ length r.names)
+        × PutsAnchoredCaptures r haystack.now start result.code groups.old groups.new) }
+{
+    match search::begin_from(alloc, regex, cache, haystack, start) {
+        Ok(mut search) => {
+            let answer = search.captures_anchored(haystack, start, groups);
             search.end(regex, cache);
             answer
         }
@@ -356,144 +480,10 @@ pub extern "C" fn bites_static_captures_len(alloc: Global, regex: &mut Bites) ->
     len.unwrap_or(0)
 }
 
-/// The name of the group of this number goes to the front of `out`, in UTF-8. The code is 0; 105 where it does not fit, and
-/// the size is how many bytes it has; 106 where the group has no name or there is no such group; 103 where there is no
-/// regex. Where it is not 0, `out` stays.
+/// The version of this library: 65536 times the major number, 256 times the minor one, and the patch number, added up.
 #[unsafe(no_mangle)]
-pub extern "C" fn bites_group_name(
-    alloc: Global,
-    regex: &mut Bites,
-    group: usize,
-    out: &mut [u8],
-) -> BitesSize
-    ensures same { regex.new.held ≡ regex.old.held }
-    ensures name { IfSome regex.old.held (λ h.
-        PutsName (slice_index_or h.regex.names group None) result out.old out.new) }
-    ensures empty { regex.old.held ≡ None →
-        (result.code ≡ empty_handle) × (result.size ≡ 0) × (out.new ≡ out.old) }
+pub extern "C" fn bites_version() -> u32
+    ensures { result ≡ 0x00_0106 }
 {
-    let Some(held) = std::mem::replace(regex, Bites::empty(alloc)).into_box() else {
-        return BitesSize::refused(EMPTY_HANDLE);
-    };
-    let answer = text::put_name(&held.regex, group, out);
-    *regex = Bites::of(held);
-    answer
-}
-
-/// The size is the number of the group of this name, and the code 0; it is 106 where no group has the name, and 103 where
-/// there is no regex.
-#[unsafe(no_mangle)]
-pub extern "C" fn bites_group_index(alloc: Global, regex: &mut Bites, name: &[u8]) -> BitesSize
-    ensures same { regex.new.held ≡ regex.old.held }
-    ensures index { IfSome regex.old.held (λ h. AnswersIndex (index_in h.regex.names name.now) result) }
-    ensures empty { regex.old.held ≡ None → (result.code ≡ empty_handle) × (result.size ≡ 0) }
-{
-    let Some(held) = std::mem::replace(regex, Bites::empty(alloc)).into_box() else {
-        return BitesSize::refused(EMPTY_HANDLE);
-    };
-    let answer = text::answer_index(&held.regex, name);
-    *regex = Bites::of(held);
-    answer
-}
-
-/// The pattern in which each character of the text stands for itself goes to the front of `out`, in UTF-8. The code is 0;
-/// 105 where it does not fit, and the size is how many bytes it has; 102 where the text is no UTF-8, and 58 for want of
-/// memory. Where it is not 0, `out` stays.
-#[unsafe(no_mangle)]
-pub extern "C" fn bites_escape(alloc: Global, text: &[u8], out: &mut [u8]) -> BitesSize
-    ensures made { IsUtf8 text.now → PutsMade (escaped_text text.now) result out.old out.new }
-    ensures utf8 { (IsUtf8 text.now → ⊥) → PutsNone not_utf8 result out.old out.new }
-{
-    text::put_escaped(alloc, text, out)
-}
-
-/// The haystack goes to the front of `out`, at most `limit` of its matches, or all for 0, replaced by what the template stands
-/// for. The code is 0; 105 where it does not fit, and the size is how many bytes it has; 103 where there is no regex, and 58
-/// for want of memory. Where it is not 0, `out` stays. Over texts the haystack and the template are to be UTF-8, else it is 102.
-#[unsafe(no_mangle)]
-pub extern "C" fn bites_replace(
-    alloc: Global,
-    regex: &mut Bites,
-    haystack: &[u8],
-    limit: usize,
-    template: &[u8],
-    out: &mut [u8],
-) -> BitesSize
-    ensures same { regex.new.held ≡ regex.old.held }
-    ensures replaced { IfSome regex.old.held (λ h.
-        Asks h.is_text (AreUtf8 haystack.now template.now) (PutsNone not_utf8 result out.old out.new)
-        (PutsMade (with_template h.regex haystack.now limit template.now) result out.old out.new)) }
-    ensures empty { regex.old.held ≡ None → PutsNone empty_handle result out.old out.new }
-{
-    let Some(held) = std::mem::replace(regex, Bites::empty(alloc)).into_box() else {
-        return BitesSize::refused(EMPTY_HANDLE);
-    };
-    let answer = replace::replace_by_template(&held, haystack, limit, template, out);
-    *regex = Bites::of(held);
-    answer
-}
-
-/// [`bites_replace`] with a text in the place of the template, in which a `$` stands for itself.
-#[unsafe(no_mangle)]
-pub extern "C" fn bites_replace_literal(
-    alloc: Global,
-    regex: &mut Bites,
-    haystack: &[u8],
-    limit: usize,
-    text: &[u8],
-    out: &mut [u8],
-) -> BitesSize
-    ensures same { regex.new.held ≡ regex.old.held }
-    ensures replaced { IfSome regex.old.held (λ h.
-        Asks h.is_text (AreUtf8 haystack.now text.now) (PutsNone not_utf8 result out.old out.new)
-        (PutsMade (with_text h.regex haystack.now limit text.now) result out.old out.new)) }
-    ensures empty { regex.old.held ≡ None → PutsNone empty_handle result out.old out.new }
-{
-    let Some(held) = std::mem::replace(regex, Bites::empty(alloc)).into_box() else {
-        return BitesSize::refused(EMPTY_HANDLE);
-    };
-    let answer = replace::replace_by_text(&held, haystack, limit, text, out);
-    *regex = Bites::of(held);
-    answer
-}
-
-/// What the template stands for by these groups goes to the front of `out`. The code is 0; 105 where it does not fit, and the
-/// size is how many bytes it has; 107 where a group does not lie in the haystack, 103 where there is no regex, and 58 for
-/// want of memory. Where it is not 0, `out` stays. Over texts the template is to be UTF-8 too, else the code is 102, and no group
-/// that lies in the haystack may begin or end within a character, else it is 108.
-///
-/// A group from the last of `groups` on took no part, as one has that is the greatest number twice.
-#[unsafe(no_mangle)]
-pub extern "C" fn bites_expand(
-    alloc: Global,
-    regex: &mut Bites,
-    haystack: &[u8],
-    groups: &[BitesSpan],
-    template: &[u8],
-    out: &mut [u8],
-) -> BitesSize
-    ensures same { regex.new.held ≡ regex.old.held }
-    ensures made { IfSome regex.old.held (λ h. AsksGroups h.is_text haystack.now groups.now template.now
-        (λ number. PutsNone number result out.old out.new)
-        (PutsMade (expanded_by h.regex.names groups.now haystack.now template.now) result out.old out.new)) }
-    ensures empty { regex.old.held ≡ None → PutsNone empty_handle result out.old out.new }
-{
-    let Some(held) = std::mem::replace(regex, Bites::empty(alloc)).into_box() else {
-        return BitesSize::refused(EMPTY_HANDLE);
-    };
-    let answer = replace::put_expanded(alloc, &held, haystack, groups, template, out);
-    *regex = Bites::of(held);
-    answer
-}
-
-/// Puts as much of the text of an error's number, 1 to 58, into `buf` as fits, and answers the length of the text: 0 for
-/// any other number.
-#[unsafe(no_mangle)]
-pub extern "C" fn bites_error_text(code: u32, buf: &mut [u8]) -> usize
-    ensures len { (e : Fault) → code ≡ code_of e → result ≡ length (error_text e) }
-    ensures put { (e : Fault) → code ≡ code_of e →
-        buf.new ≡ take (length buf.old) (error_text e) ++ drop (length (error_text e)) buf.old }
-    ensures none { ((e : Fault) → code ≢ code_of e) → (result ≡ 0) × (buf.new ≡ buf.old) }
-{
-    codes::put(codes::text(code).as_bytes(), buf)
+    0x00_0106
 }

@@ -1,6 +1,6 @@
 //! Making what C holds.
 
-ghost use Rattle.std.specs.Prelude.{◌≡◌, ◌≢◌, IfOk, IfErr, IfSome, IsSomeAnd, IsUtf8};
+ghost use Rattle.std.specs.Prelude.{◌≡◌, ◌≢◌, ◌↔◌, IfOk, IfErr, IfSome, IsSomeAnd, IsUtf8};
 ghost use Rattle.std.specs.declared.option.Option.TheVariants.{Some};
 ghost use Rattle.bites_spec.specs.Counts.{fit_of};
 ghost use Rattle.bites_text.specs.declared.error.Error.{Error as Fault};
@@ -33,7 +33,8 @@ pub(crate) fn regex(
     ensures known { IfErr result (λ n. n ≢ not_utf8 → (e : Fault) × (n ≡ code_of e)) }
     ensures message { IfErr result (λ n. (e : Fault) → n ≡ code_of e → e ≢ Memory →
         Refuses (asked pattern.now flags size_limit nest_limit) e) }
-    ensures utf8 { IfErr result (λ n. n ≡ not_utf8 → IsUtf8 pattern.now → ⊥) }
+    ensures text { IfOk result (λ _. IsUtf8 pattern.now) }
+    ensures utf8 { IfErr result (λ n. n ≡ not_utf8 ↔ (IsUtf8 pattern.now → ⊥)) }
 {
     let Ok(text) = str::from_utf8(pattern) else {
         return Err(NOT_UTF8);

@@ -1,89 +1,39 @@
-//! Haystacks with their matches replaced, and templates, written into what the caller gave.
+//! Haystacks with their matches replaced, and what templates stand for, written into what the caller gave.
 
-ghost use Rattle.std.specs.Prelude.{◌≡◌, ◌≤◌, All, IfNone, IfSome, IsTrue, MatchBool, length, option_map};
+ghost use Rattle.std.specs.Prelude.{◌≡◌, ◌≤◌, ℕ, All, IfNone, IfOk, IfSome, IsTrue, List, MatchBool, length, option_map};
+ghost use Rattle.bites_spec.specs.Captured.{Captured};
 ghost use Rattle.bites_spec.specs.Match.{span};
 ghost use Rattle.bites_spec.specs.Pieces.{text_at};
 ghost use Rattle.bites_spec.specs.Refused.{AppendsUntilRefused};
 ghost use Rattle.bites_spec.specs.Replacer.{answer_text};
-ghost use Rattle.bites_c.specs.Codes.{not_utf8};
-ghost use Rattle.bites_c.specs.Put.{PutsMade, PutsNone};
-ghost use Rattle.bites_c.specs.Replaced.{LiesWithin, expanded_by, group_from_c, with_template, with_text};
-ghost use Rattle.bites_c.specs.Texts.{AreUtf8, Asks, AsksGroups, LiesAtBorders};
+ghost use Rattle.bites_c.specs.Put.{PutsMade, PutsNone, PutsReplaced};
+ghost use Rattle.bites_c.specs.Replaced.{IsReplaced, LiesWithin, expanded_by, group_from_c};
+ghost use Rattle.bites_c.specs.Texts.{AreUtf8, AsksGroups, LiesAtBorders};
 
-use crate::codes::{BAD_SPAN, NO_MEMORY, NOT_BORDER, NOT_UTF8};
+use crate::codes::{BAD_SPAN, MATCH, NO_MATCH, NO_MEMORY, NOT_BORDER, NOT_UTF8};
 use crate::held::Held;
 use crate::span::BitesSpan;
-use crate::text::{BitesSize, index_of, put};
+use crate::text::{BitesSize, index_of, put, put_as};
 use crate::texts::refuses;
-use bites_bytes::bytes::{NoExpand, Regex};
+use bites_bytes::bytes::Regex;
 use bites_machine::interpolate;
 use std::alloc::{AllocError, Global};
 
-/// Puts the haystack at the front, at most `limit` of its matches, or all for 0, replaced by what the template stands for. Over
-/// texts both must be UTF-8.
-pub(crate) fn replace_by_template(
-    held: &Held,
-    haystack: &[u8],
-    limit: usize,
-    template: &[u8],
+/// Puts the haystack with its matches replaced at the front, if something was replaced.
+pub(crate) fn put_replaced(
+    replaced: Result<Option<Vec<u8>>, AllocError>,
+    len: usize,
     out: &mut [u8],
 ) -> BitesSize
-    ensures { Asks held.now.is_text (AreUtf8 haystack.now template.now) (PutsNone not_utf8 result out.old out.new)
-        (PutsMade (with_template held.now.regex haystack.now limit template.now) result out.old out.new) }
+    ensures { (cs : List Captured) → (text : List ℕ) → IfOk replaced (IsReplaced (λ v. v.items) cs text) →
+        PutsReplaced cs len text result out.old out.new }
 {
-    if refuses(held.is_text, haystack, template) {
-        return BitesSize::refused(NOT_UTF8);
-    }
-    put_replaced(&held.regex, haystack, limit, template, out)
-}
-
-/// The same with a text in the place of the template.
-pub(crate) fn replace_by_text(
-    held: &Held,
-    haystack: &[u8],
-    limit: usize,
-    text: &[u8],
-    out: &mut [u8],
-) -> BitesSize
-    ensures { Asks held.now.is_text (AreUtf8 haystack.now text.now) (PutsNone not_utf8 result out.old out.new)
-        (PutsMade (with_text held.now.regex haystack.now limit text.now) result out.old out.new) }
-{
-    if refuses(held.is_text, haystack, text) {
-        return BitesSize::refused(NOT_UTF8);
-    }
-    put_replaced_literal(&held.regex, haystack, limit, text, out)
-}
-
-// Puts the haystack with its matches replaced by what the template stands for.
-fn put_replaced(
-    regex: &Regex,
-    haystack: &[u8],
-    limit: usize,
-    template: &[u8],
-    out: &mut [u8],
-) -> BitesSize
-    ensures { PutsMade (with_template regex.now haystack.now limit template.now)
-        result out.old out.new }
-{
-    match regex.replacen(haystack, limit, template) {
-        Ok(replaced) => put(replaced.as_slice(), out),
-        Err(_) => BitesSize::refused(NO_MEMORY),
-    }
-}
-
-// The same with a text in the place of the template.
-fn put_replaced_literal(
-    regex: &Regex,
-    haystack: &[u8],
-    limit: usize,
-    text: &[u8],
-    out: &mut [u8],
-) -> BitesSize
-    ensures { PutsMade (with_text regex.now haystack.now limit text.now)
-        result out.old out.new }
-{
-    match regex.replacen(haystack, limit, NoExpand(text)) {
-        Ok(replaced) => put(replaced.as_slice(), out),
+    match replaced {
+        Ok(Some(text)) => put_as(MATCH, text.as_slice(), out),
+        Ok(None) => BitesSize {
+            code: NO_MATCH,
+            size: len,
+        },
         Err(_) => BitesSize::refused(NO_MEMORY),
     }
 }

@@ -1,17 +1,22 @@
 //! The room for searches, which C holds.
 
-ghost use Rattle.std.specs.Prelude.{◌≡◌, ◌≤◌, ◌<◌, ◌+◌, ◌/◌, ◌^◌, ◌↔◌, if◌then◌else◌, IfOk, IfSome, IsSomeAnd, IsTrue, None, Some, length, option_map, unwrap_or};
+ghost use Rattle.std.specs.Prelude.{◌≡◌, ◌≤◌, ◌<◌, ◌+◌, ◌/◌, ◌^◌, ◌↔◌, if◌then◌else◌, IfOk, IfSome, IsSome, IsSomeAnd, IsTrue, None, OnOk, Some, is_some, length, option_map, unwrap_or};
 ghost use Rattle.bites_spec.specs.Counts.{fit_of};
-ghost use Rattle.bites_spec.specs.Captured.{FindsGroups, FindsSpan};
+ghost use Rattle.bites_spec.specs.Captured.{AreGroups, FindsGroups, FindsSpan};
+ghost use Rattle.bites_spec.specs.Anchored.{FindsGroupsFrom, FindsSpanFrom, IsFullMatch, anchored_slots_at, anchored_span_at};
 ghost use Rattle.bites_spec.specs.Found.{HasMatch, IsLeastEnd};
 ghost use Rattle.bites_spec.specs.Match.{span};
 ghost use Rattle.bites_spec.specs.Regex.{slots_at, span_at};
-ghost use Rattle.bites_spec.specs.Spans.{is_empty_at};
+ghost use Rattle.bites_spec.specs.Replaced.{span_in};
+ghost use Rattle.bites_spec.specs.Replacer.{expanded};
+ghost use Rattle.bites_spec.specs.Spans.{LiesFrom, is_empty_at};
 ghost use Rattle.bites_spec.specs.Utf8.{step_len};
 ghost use Rattle.bites_c.specs.Codes.{matched, not_matched};
 ghost use Rattle.bites_c.specs.Put.{HasFront, PutsGroups};
+ghost use Rattle.bites_c.specs.Replacing.{Ends, captures_left};
 ghost use Rattle.bites_c.specs.Searched.{FindsNext, FindsNextGroups, PutsFound};
 
+use crate::replacing::Replacing;
 use crate::span::BitesSpan;
 use bites_bytes::bytes::{Cache, CaptureLocations, Regex};
 use bites_text::utf8::decode_lossy;
@@ -83,13 +88,41 @@ impl Room {
         requires { self.old.fits ≡ fit_of regex.now.program }
         ensures found { option_map (λ s. span s.0 s.1) result ≡ span_at regex.now haystack.now start }
         ensures on_tree { FindsSpan regex.now haystack.now start (span_at regex.now haystack.now start) }
-        ensures lies { IfSome result (λ s. s.1 ≤ length haystack.now) }
+        ensures lies { IfSome result (λ s. LiesFrom (length haystack.now) start (span s.0 s.1)) }
         ensures fits { self.new.fits ≡ self.old.fits }
     {
+        let _pattern = regex.as_str();
         match regex.find_at_with(&mut self.cache, haystack, start) {
             Some(found) => Some((found.start(), found.end())),
             None => None,
         }
+    }
+
+    /// Where the match that begins at `start` begins and ends.
+    pub(crate) fn find_anchored(
+        &mut self,
+        regex: &Regex,
+        haystack: &[u8],
+        start: usize,
+    ) -> Option<(usize, usize)>
+        requires { self.old.fits ≡ fit_of regex.now.program }
+        ensures found { option_map (λ s. span s.0 s.1) result ≡ anchored_span_at regex.now haystack.now start }
+        ensures on_tree { FindsSpanFrom regex.now haystack.now start (anchored_span_at regex.now haystack.now start) }
+        ensures fits { self.new.fits ≡ self.old.fits }
+    {
+        match regex.find_anchored_at_with(&mut self.cache, haystack, start) {
+            Some(found) => Some((found.start(), found.end())),
+            None => None,
+        }
+    }
+
+    /// Whether the pattern matches the whole haystack.
+    pub(crate) fn is_full_match(&mut self, regex: &Regex, haystack: &[u8]) -> bool
+        requires { self.old.fits ≡ fit_of regex.now.program }
+        ensures found { IsTrue result ↔ IsFullMatch regex.now.tree haystack.now }
+        ensures fits { self.new.fits ≡ self.old.fits }
+    {
+        regex.is_full_match_with(&mut self.cache, haystack)
     }
 
     /// Where the match begins and ends that is due behind one that ends at `last`, or the first of all.
@@ -101,6 +134,7 @@ impl Room {
     ) -> Option<(usize, usize)>
         requires { self.old.fits ≡ fit_of regex.now.program }
         ensures next { FindsNext regex.now haystack.now last (option_map (λ s. span s.0 s.1) result) }
+        ensures lies { IfSome result (λ s. LiesFrom (length haystack.now) (unwrap_or last 0) (span s.0 s.1)) }
         ensures fits { self.new.fits ≡ self.old.fits }
     {
         // What every regex is: what its program answers lies in the haystack.
@@ -115,6 +149,7 @@ impl Room {
     fn next_behind(&mut self, regex: &Regex, haystack: &[u8], last: usize) -> Option<(usize, usize)>
         requires { self.old.fits ≡ fit_of regex.now.program }
         ensures next { FindsNext regex.now haystack.now (Some last) (option_map (λ s. span s.0 s.1) result) }
+        ensures lies { IfSome result (λ s. LiesFrom (length haystack.now) last (span s.0 s.1)) }
         ensures fits { self.new.fits ≡ self.old.fits }
     {
         let _pattern = regex.as_str();
@@ -159,6 +194,37 @@ impl Room {
         true
     }
 
+    /// The same with the groups of the match that begins at `start`.
+    pub(crate) fn captures_anchored(
+        &mut self,
+        regex: &Regex,
+        haystack: &[u8],
+        start: usize,
+        groups: &mut [BitesSpan],
+    ) -> bool
+        requires fits { self.old.fits ≡ fit_of regex.now.program }
+        requires wide { length regex.now.names ≤ length groups.old }
+        ensures put { PutsGroups (anchored_slots_at regex.now haystack.now start) (length regex.now.names)
+            (if result then matched else not_matched) groups.old groups.new }
+        ensures on_tree { FindsGroupsFrom regex.now haystack.now start (anchored_slots_at regex.now haystack.now start) }
+        ensures len { length groups.new ≡ length groups.old }
+        ensures same { self.new.fits ≡ self.old.fits }
+    {
+        let _pattern = regex.as_str();
+        bites_spec::anchored_slots_are_found();
+        bites_spec::anchored_slots_are_groups();
+        let Some(_) = regex.captures_read_anchored_at_with(
+            &mut self.cache,
+            &mut self.locations,
+            haystack,
+            start,
+        ) else {
+            return false;
+        };
+        put_groups(&self.locations, groups);
+        true
+    }
+
     /// The same with the groups of the match that is due behind one that ends at `last`, or of the first of all.
     pub(crate) fn captures_next(
         &mut self,
@@ -175,11 +241,27 @@ impl Room {
         ensures same { self.new.fits ≡ self.old.fits }
     {
         let _pattern = regex.as_str();
-        if !read_next(regex, &mut self.cache, &mut self.locations, haystack, last) {
+        let found = read_next(regex, &mut self.cache, &mut self.locations, haystack, last);
+        if found.is_none() {
             return false;
         }
         put_groups(&self.locations, groups);
         true
+    }
+
+    /// Replaces each match that is left by what the template stands for.
+    pub(crate) fn replace(
+        &mut self,
+        regex: &Regex,
+        replacing: &mut Replacing<'_>,
+        template: &[u8],
+    ) -> Result<(), AllocError>
+        requires { self.old.fits ≡ fit_of regex.now.program }
+        ensures ends { OnOk result (Ends (captures_left regex.now) span_in (λ c. expanded c template.now)
+            replacing.old replacing.new) }
+        ensures fits { self.new.fits ≡ self.old.fits }
+    {
+        replacing.by_template(regex, &mut self.cache, &mut self.locations, template)
     }
 }
 
@@ -194,7 +276,8 @@ fn read(
     requires cache { cache.old.fits ≡ fit_of regex.now.program }
     requires locations { length locations.old ≡ regex.now.program.slots }
     ensures found { option_map (λ s. span s.0 s.1) result ≡ span_at regex.now haystack.now start }
-    ensures lies { IfSome result (λ s. s.1 ≤ length haystack.now) }
+    ensures lies { IfSome result (λ s. LiesFrom (length haystack.now) start (span s.0 s.1)) }
+    ensures are { IsSome result → AreGroups regex.now haystack.now locations.new }
     ensures groups { locations.new ≡ unwrap_or (slots_at regex.now haystack.now start) locations.old }
     ensures len { length locations.new ≡ length locations.old }
     ensures fits { cache.new.fits ≡ cache.old.fits }
@@ -207,30 +290,34 @@ fn read(
     }
 }
 
-// Reads the groups of the match that is due behind one that ends at `last`, or of the first of all, if there is one.
-fn read_next(
+/// Reads the groups of the match that is due behind one that ends at `last`, or of the first of all, and answers where it begins
+/// and ends, if there is one.
+pub(crate) fn read_next(
     regex: &Regex,
     cache: &mut Cache,
     locations: &mut CaptureLocations,
     haystack: &[u8],
     last: Option<usize>,
-) -> bool
+) -> Option<(usize, usize)>
     requires cache { cache.old.fits ≡ fit_of regex.now.program }
     requires locations { length locations.old ≡ regex.now.program.slots }
-    ensures next { FindsNextGroups regex.now haystack.now last (if result then Some locations.new else None) }
+    ensures next { FindsNextGroups regex.now haystack.now last (if is_some result then Some locations.new else None) }
+    ensures span { FindsNext regex.now haystack.now last (option_map (λ s. span s.0 s.1) result) }
+    ensures lies { IfSome result (λ s. LiesFrom (length haystack.now) (unwrap_or last 0) (span s.0 s.1)) }
+    ensures are { IsSome result → AreGroups regex.now haystack.now locations.new }
     ensures len { length locations.new ≡ length locations.old }
     ensures fits { cache.new.fits ≡ cache.old.fits }
 {
     let _pattern = regex.as_str();
     let Some(end) = last else {
-        return read(regex, cache, locations, haystack, 0).is_some();
+        return read(regex, cache, locations, haystack, 0);
     };
     let found = read(regex, cache, locations, haystack, end);
     if !is_empty_at(found, end) {
-        return found.is_some();
+        return found;
     }
     let step = step_at(haystack, end);
-    read(regex, cache, locations, haystack, end + step).is_some()
+    read(regex, cache, locations, haystack, end + step)
 }
 
 // Whether the two places are both this one.

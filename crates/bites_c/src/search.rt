@@ -4,20 +4,26 @@ ghost use Rattle.std.specs.Prelude.{◌≡◌, ◌↔◌, IsTrue, IsUtf8, IfOk, 
 ghost use Rattle.std.specs.declared.option.Option.TheVariants.{Some};
 ghost use Rattle.bites_spec.specs.Counts.{fit_of};
 ghost use Rattle.bites_spec.specs.Captured.{FindsSpan};
+ghost use Rattle.bites_spec.specs.Anchored.{FindsSpanFrom, IsFullMatch, anchored_span_at};
 ghost use Rattle.bites_spec.specs.Found.{HasMatch, IsLeastEnd};
+ghost use Rattle.bites_spec.specs.Iteration.{captures_in};
 ghost use Rattle.bites_spec.specs.Match.{span};
 ghost use Rattle.bites_spec.specs.Regex.{span_at};
-ghost use Rattle.bites_c.specs.Searched.{FindsNext, Lacks, PutsCaptures, PutsNextCaptures, SearchedBehind, SearchedFrom};
-ghost use Rattle.bites_c.specs.Texts.{IsBorder};
+ghost use Rattle.bites_c.specs.Put.{PutsReplaced};
+ghost use Rattle.bites_c.specs.Replaced.{with_template, with_text};
+ghost use Rattle.bites_c.specs.Searched.{FindsNext, Lacks, PutsAnchoredCaptures, PutsCaptures, PutsNextCaptures, SearchedBehind, SearchedFrom, SearchedOver};
+ghost use Rattle.bites_c.specs.Texts.{AreUtf8, IsBorder};
 
 use crate::cache::BitesCache;
-use crate::codes::{EMPTY_HANDLE, MATCH, NO_MATCH, TOO_SMALL, UNFIT_CACHE};
+use crate::codes::{EMPTY_HANDLE, MATCH, NO_MATCH, NOT_UTF8, TOO_SMALL, UNFIT_CACHE};
 use crate::handle::Bites;
 use crate::held::Held;
+use crate::replace::put_replaced;
+use crate::replacing;
 use crate::room::Room;
 use crate::span::BitesSpan;
 use crate::text::BitesSize;
-use crate::texts::{fault_behind, fault_from};
+use crate::texts::{fault_behind, fault_from, refuses};
 use std::alloc::Global;
 
 /// A regex and room that fits it, while a search runs.
@@ -106,6 +112,31 @@ pub(crate) fn begin_behind(
     }
 }
 
+/// [`begin`] for all matches in the haystack, with another text beside it. Where the regex refuses one of them, both handles
+/// stay too.
+pub(crate) fn begin_over(
+    alloc: Global,
+    regex: &mut Bites,
+    cache: &mut BitesCache,
+    haystack: &[u8],
+    other: &[u8],
+) -> Result<Search, u32>
+    ensures taken { IfOk result (λ s. (regex.old.held ≡ Some s.held.value)
+        × (cache.old.room ≡ Some s.room.value)) }
+    ensures asked { IfOk result (λ s. IsTrue s.held.value.is_text → AreUtf8 haystack.now other.now) }
+    ensures refused { IfErr result (λ n.
+        SearchedOver haystack.now other.now regex.old.held cache.old.room n ⊤ (λ _. ⊥)) }
+    ensures regex { OnErr result (regex.new.held ≡ regex.old.held) }
+    ensures room { OnErr result (cache.new.room ≡ cache.old.room) }
+{
+    let search = begin(alloc, regex, cache)?;
+    if refuses(search.held.is_text, haystack, other) {
+        search.end(regex, cache);
+        return Err(NOT_UTF8);
+    }
+    Ok(search)
+}
+
 impl Search {
     /// Whether the pattern matches at some place from `start` on.
     pub(crate) fn is_match(&mut self, haystack: &[u8], start: usize) -> bool
@@ -135,6 +166,27 @@ impl Search {
         ensures fits { self.new.room.value.fits ≡ self.old.room.value.fits }
     {
         self.room.find(&self.held.regex, haystack, start)
+    }
+
+    /// Where the match that begins at `start` begins and ends.
+    pub(crate) fn find_anchored(&mut self, haystack: &[u8], start: usize) -> Option<(usize, usize)>
+        ensures found { option_map (λ s. span s.0 s.1) result
+            ≡ anchored_span_at self.old.held.value.regex haystack.now start }
+        ensures on_tree { FindsSpanFrom self.old.held.value.regex haystack.now start
+            (anchored_span_at self.old.held.value.regex haystack.now start) }
+        ensures held { self.new.held.value ≡ self.old.held.value }
+        ensures fits { self.new.room.value.fits ≡ self.old.room.value.fits }
+    {
+        self.room.find_anchored(&self.held.regex, haystack, start)
+    }
+
+    /// Whether the pattern matches the whole haystack.
+    pub(crate) fn is_full_match(&mut self, haystack: &[u8]) -> bool
+        ensures found { IsTrue result ↔ IsFullMatch self.old.held.value.regex.tree haystack.now }
+        ensures held { self.new.held.value ≡ self.old.held.value }
+        ensures fits { self.new.room.value.fits ≡ self.old.room.value.fits }
+    {
+        self.room.is_full_match(&self.held.regex, haystack)
     }
 
     /// Where the match begins and ends that is due behind one that ends at `last`, or the first of all.
@@ -175,6 +227,34 @@ impl Search {
         }
     }
 
+    /// The same with the groups of the match that begins at `start`.
+    pub(crate) fn captures_anchored(
+        &mut self,
+        haystack: &[u8],
+        start: usize,
+        groups: &mut [BitesSpan],
+    ) -> BitesSize
+        ensures size { result.size ≡ length self.old.held.value.regex.names }
+        ensures put { PutsAnchoredCaptures self.old.held.value.regex haystack.now start result.code groups.old groups.new }
+        ensures held { self.new.held.value ≡ self.old.held.value }
+        ensures fits { self.new.room.value.fits ≡ self.old.room.value.fits }
+    {
+        let size = self.held.regex.captures_len();
+        if groups.len() < size {
+            return BitesSize {
+                code: TOO_SMALL,
+                size,
+            };
+        }
+        let found = self
+            .room
+            .captures_anchored(&self.held.regex, haystack, start, groups);
+        BitesSize {
+            code: if found { MATCH } else { NO_MATCH },
+            size,
+        }
+    }
+
     /// The same with the groups of the match that is due behind one that ends at `last`, or of the first of all.
     pub(crate) fn captures_next(
         &mut self,
@@ -201,6 +281,52 @@ impl Search {
             code: if found { MATCH } else { NO_MATCH },
             size,
         }
+    }
+
+    /// Puts the haystack with at most `limit` of its matches, or all for 0, replaced by what the template stands for at the front
+    /// of `out`, if there is a match.
+    pub(crate) fn replace(
+        &mut self,
+        alloc: Global,
+        haystack: &[u8],
+        limit: usize,
+        template: &[u8],
+        out: &mut [u8],
+    ) -> BitesSize
+        ensures put { PutsReplaced (captures_in self.old.held.value.regex haystack.now) (length haystack.now)
+            (with_template self.old.held.value.regex haystack.now limit template.now) result out.old out.new }
+        ensures held { self.new.held.value ≡ self.old.held.value }
+        ensures fits { self.new.room.value.fits ≡ self.old.room.value.fits }
+    {
+        let regex = &self.held.regex;
+        let made = replacing::with_template(
+            alloc,
+            regex,
+            &mut self.room,
+            haystack,
+            limit,
+            template,
+        );
+        put_replaced(made, haystack.len(), out)
+    }
+
+    /// The same with a text in the place of the template.
+    pub(crate) fn replace_literal(
+        &mut self,
+        alloc: Global,
+        haystack: &[u8],
+        limit: usize,
+        text: &[u8],
+        out: &mut [u8],
+    ) -> BitesSize
+        ensures put { PutsReplaced (captures_in self.old.held.value.regex haystack.now) (length haystack.now)
+            (with_text self.old.held.value.regex haystack.now limit text.now) result out.old out.new }
+        ensures held { self.new.held.value ≡ self.old.held.value }
+        ensures fits { self.new.room.value.fits ≡ self.old.room.value.fits }
+    {
+        let regex = &self.held.regex;
+        let made = replacing::with_text(alloc, regex, &mut self.room, haystack, limit, text);
+        put_replaced(made, haystack.len(), out)
     }
 
     /// Puts back what was taken.

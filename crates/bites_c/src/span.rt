@@ -2,9 +2,8 @@
 
 ghost use Rattle.std.specs.Prelude.{◌≡◌, ◌↔◌, IsTrue, length, option_map};
 ghost use Rattle.bites_spec.specs.Match.{span};
-ghost use Rattle.bites_c.specs.Put.{PutsSpan, span_for_c};
+ghost use Rattle.bites_c.specs.Put.{PutsPiece, PutsSpan, last_for_c, span_for_c};
 ghost use Rattle.bites_c.specs.Replaced.{LiesWithin, span_from_c};
-ghost use Rattle.bites_c.specs.Searched.{last_for_c};
 ghost use Rattle.bites_c.specs.Texts.{LiesAtBorders};
 
 use crate::codes::{MATCH, NO_MATCH};
@@ -81,5 +80,30 @@ pub(crate) fn put(found: Option<(usize, usize)>, out: &mut BitesSpan) -> u32
             MATCH
         }
         None => NO_MATCH,
+    }
+}
+
+/// Puts the piece up to the span into `piece`, and where the span ends into `last`; where there is none, the piece goes to the
+/// end of the haystack, and `last` stays. The piece begins where the match before ended, if there was one, and no later than
+/// at the end of the haystack.
+pub(crate) fn put_piece(
+    found: Option<(usize, usize)>,
+    len: usize,
+    last: &mut usize,
+    piece: &mut BitesSpan,
+) -> u32
+    ensures { PutsPiece (option_map (λ s. span s.0 s.1) found) len result last.old last.new piece.new }
+{
+    let start = self::last(*last).unwrap_or(0).min(len);
+    match found {
+        Some((begin, end)) => {
+            *piece = BitesSpan { start, end: begin };
+            *last = end;
+            MATCH
+        }
+        None => {
+            *piece = BitesSpan { start, end: len };
+            NO_MATCH
+        }
     }
 }

@@ -5,7 +5,7 @@ ghost use Rattle.std.specs.declared.option.Option.TheVariants.{None};
 ghost use Rattle.bites_spec.specs.Expansion.{has_name, index_in};
 ghost use Rattle.bites_bytes.specs.Names.{bytes_of};
 ghost use Rattle.bites_c.specs.Codes.{not_utf8};
-ghost use Rattle.bites_c.specs.Put.{AnswersIndex, PutsMade, PutsName, PutsNone, PutsText};
+ghost use Rattle.bites_c.specs.Put.{AnswersIndex, PutsMade, PutsName, PutsNone, PutsText, PutsTextAs};
 ghost use Rattle.bites_c.specs.Replaced.{escaped_text};
 
 use crate::codes::{DONE, NO_MEMORY, NO_NAME, NOT_UTF8, TOO_SMALL};
@@ -34,6 +34,13 @@ impl BitesSize {
 pub(crate) fn put(text: &[u8], out: &mut [u8]) -> BitesSize
     ensures { PutsText text.now result out.old out.new }
 {
+    put_as(DONE, text, out)
+}
+
+/// The same with this code where there is room.
+pub(crate) fn put_as(code: u32, text: &[u8], out: &mut [u8]) -> BitesSize
+    ensures { PutsTextAs code text.now result out.old out.new }
+{
     let size = text.len();
     if out.len() < size {
         return BitesSize {
@@ -43,7 +50,7 @@ pub(crate) fn put(text: &[u8], out: &mut [u8]) -> BitesSize
     }
     let (front, _) = out.split_at_mut(size);
     front.copy_from_slice(text);
-    BitesSize { code: DONE, size }
+    BitesSize { code, size }
 }
 
 /// Puts the name of the group of this number at the front, if it has one and there is room for it.

@@ -17,7 +17,7 @@ use Rattle.bites_machine.specs.Threads.{Listed}
 use Rattle.bites_machine.specs.Used.{IsUsed, slots_at}
 use Rattle.bites_machine.specs.Desk.{thread_of, hit_of, row_of}
 use Rattle.bites_machine.specs.Looks.{AreSound, seen_here, visited_before}
-use Rattle.bites_machine.specs.Sweep.{IsAmid, WalksPast, WalksSome, WalksAll, IsBetween, walking_at}
+use Rattle.bites_machine.specs.Sweep.{IsAmid, HasWalked, WalksPast, WalksSome, WalksAll, IsBetween, walking_at}
 use Rattle.bites_machine.specs.declared.vm.threads.Thread.{Thread}
 use Rattle.bites_machine.specs.declared.vm.walk.Desk.{Desk}
 use Rattle.bites_machine.proofs.UsedLemmas.{same_or_not, users_same, user_counted}
@@ -155,12 +155,26 @@ kept_nothing hay false None = refl
 kept_nothing hay true (Some h) = refl
 kept_nothing hay false (Some h) = refl
 
+-- what held amid the walks of a place holds behind them
+all_walked : (states : List program.State) (place : ℕ) (walked : Record) (desk : Desk) (width : ℕ) → IsAmid states place walked desk width → HasWalked states place walked desk width
+all_walked states place walked desk width amid = record {
+  marks = amid.marks;
+  before = amid.before;
+  noted = amid.noted;
+  stack = amid.stack;
+  empty = amid.empty;
+  next = amid.next;
+  more = amid.more;
+  rows = amid.rows;
+  wide = amid.wide;
+}
+
 module _ (hay : List ℕ) (longest : Bool) (place : ℕ) (states : List program.State) (threads : List Thread) where
   -- the threads alone
   pub all_without : (was now : Record) (old new : Desk) (slots left : List (Option ℕ)) →
       WalksSome hay longest place states threads [] was now old new slots left → WalksAll hay longest place states None threads was now old new slots left
   all_without was now old new slots left w = record {
-    amid = w.amid;
+    amid = all_walked states place now new (length left) w.amid;
     users = w.users;
     before = w.before;
     most = w.most;
@@ -185,7 +199,7 @@ module _ (hay : List ℕ) (longest : Bool) (place : ℕ) (states : List program.
   all_with q start was mid now old new last slots left more begins w past =
       let used = start_used was mid old new slots left w in
       record {
-        amid = past.amid;
+        amid = all_walked states place now last (length more) past.amid;
         users = past.users [] used;
         before = past.before ∙ w.before;
         most = past.most ∙ w.most;

@@ -6,7 +6,7 @@ use Rattle.bites_spec.specs.Program as program
 use Rattle.bites_spec.specs.Program.{Program}
 use Rattle.bites_spec.specs.Counts.{Record}
 use Rattle.bites_machine.specs.Rows.{Pool}
-use Rattle.bites_machine.specs.Sweep.{IsProgramOf, PlaceSearched, PlacesSearched, GoneTo, HasSearched}
+use Rattle.bites_machine.specs.Sweep.{IsProgramOf, Passes, PlaceSearched, PlacesSearched, GoneTo, HasSearched}
 use Rattle.bites_machine.specs.declared.vm.threads.Thread.{Thread}
 use Rattle.bites_machine.specs.declared.vm.walk.Hit.{Hit}
 use Rattle.bites_machine.specs.declared.vm.walk.Desk.{Desk}
@@ -51,6 +51,18 @@ module _ (hay : List ℕ) (longest : Bool) (place : ℕ) (states : List program.
     -- none was searched yet
     pub hunts_first : Hunts place was old slots
     hunts_first = record { gone = λ p is earliest start first same gone. gone }
+
+    -- some places more were skipped
+    pub hunts_skip : (here later : ℕ) (text : List ℕ) (deep : Bool) (all : List program.State) (mid now : Record) (pool : Pool) (left : List (Option ℕ)) →
+        text ≡ hay → deep ≡ longest → all ≡ states → length left ≡ length slots → Hunts here mid pool left → Passes text deep here later all q mid now → Hunts later now pool left
+    hunts_skip here later text deep all mid now pool left texts deeps alls same hunts passes =
+        let there : Passes hay longest here later states q mid now =
+        subst (λ (h : List ℕ). Passes h longest here later states q mid now) texts
+        (subst (λ (b : Bool). Passes text b here later states q mid now) deeps
+        (subst (λ (l : List program.State). Passes text deep here later l q mid now) alls passes)) in
+        record {
+          gone = λ p is earliest start first width gone. there.gone p is earliest start first left pool (same ∙ width) (hunts.gone p is earliest start first width gone);
+        }
 
     -- one place more is searched
     pub hunted : (here len : ℕ) (text : List ℕ) (deep : Bool) (all : List program.State) (mid now : Record) (desk last new : Desk) (later : List Thread) (left more : List (Option ℕ)) →

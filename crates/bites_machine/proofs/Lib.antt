@@ -12,7 +12,11 @@ pub mod SizeLemmas
 pub mod EmittedLemmas
 pub mod GroupLemmas
 pub mod GrouplessLemmas
-pub mod LeadLemmas
+pub mod PrefixSets
+pub mod PrefixLemmas
+pub mod PrefixWalks
+pub mod ShutWalks
+pub mod PrefixRest
 pub mod BadLemmas
 pub mod InterpolateLemmas
 pub mod InterpolateTexts
@@ -40,6 +44,12 @@ pub mod MachineLongest
 pub mod MachineWalks
 pub mod MachineRoom
 pub mod MachineAnswers
+pub mod AnchoredRoots
+pub mod AnchoredFirst
+pub mod AnchoredCounts
+pub mod AnchoredClosed
+pub mod AnchoredLongest
+pub mod AnchoredAnswers
 pub mod LookLemmas
 pub mod LookSteps
 pub mod SoughtLemmas
@@ -52,4 +62,6 @@ pub mod PlaceLemmas
 pub mod BetweenLemmas
 pub mod PlaceSearches
 pub mod HuntSteps
-pub mod PassLemmas
+pub mod AnchoredSteps
+pub mod SkipLemmas
+pub mod RestSteps

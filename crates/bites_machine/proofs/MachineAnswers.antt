@@ -23,7 +23,7 @@ same_some x y e = cc
 abbrev pub record_of : Searching → Record
 record_of t = record { visits = t.visits; looks = t.looks }
 
-answered : (p : Program) (width : ℕ) (o : Option Run) (best : Option Thread) (old : List (Option ℕ)) → length old ≡ width →
+pub answered : (p : Program) (width : ℕ) (o : Option Run) (best : Option Thread) (old : List (Option ℕ)) → length old ≡ width →
     option_map (λ (b : Thread). b.slots) best ≡ option_map (λ (r : Run). take width (slots p r)) o → Answered p o (is_some best) old (left_in best old)
 answered p width None None old len e = (refl, refl)
 answered p width None (Some b) old len e = absurd (none_some b.slots (sym e))

@@ -29,7 +29,7 @@ none_some x e = cc
 abbrev pub Waits : List Thread → ℕ → Spot → Type 0
 Waits ts i v = (u : Thread) × Among ts u × (at u.state i ≡ v)
 
-seen_among : (hay : List ℕ) (longest : Bool) (p : Program) (i : ℕ) (seen : List ℕ) (q : ℕ) → was_seen hay longest i p seen q ≡ true →
+pub seen_among : (hay : List ℕ) (longest : Bool) (p : Program) (i : ℕ) (seen : List ℕ) (q : ℕ) → was_seen hay longest i p seen q ≡ true →
     Among (map (λ x. at x i) seen) (at q i)
 seen_among hay longest p i [] q was = absurd (true≢false (sym was))
 seen_among hay longest p i (x ∷ seen) q was =
@@ -65,7 +65,7 @@ module _ (p : Program) (hay : List ℕ) (longest : Bool) (width : ℕ) (start : 
     module _ (t : Thread) (rest : List Thread) (w x : Walking) (is : w.stack ≡ t ∷ rest) (here : Among (spots_of i old x.seen) (at t.state i))
         (visits : (u : Spot) → Among (spots_of i old w.seen) u → Among (spots_of i old x.seen) u) (stack : (u : Thread) → Among rest u → Among x.stack u)
         (next : (u : Thread) → Among w.next u → Among x.next u) where
-      here_on : (v : Spot) → IsHere w v → IsHere x v
+      pub here_on : (v : Spot) → IsHere w v → IsHere x v
       here_on v met =
           ⊎_elim (λ a. inl (visits v a))
           (λ on_stack. ⊎_elim
@@ -94,11 +94,11 @@ module _ (p : Program) (hay : List ℕ) (longest : Bool) (width : ℕ) (start : 
       ap (λ (n : ℕ). at v.state n) (sym is),
     )
 
-    never : (o : Option Thread) (t : Thread) → option_or o (Some t) ≡ None → ⊥
+    pub never : (o : Option Thread) (t : Thread) → option_or o (Some t) ≡ None → ⊥
     never None t e = none_some t (sym e)
     never (Some u) t e = none_some u (sym e)
 
-    abbrev IsClosingYet : Walking → Type 0
+    abbrev pub IsClosingYet : Walking → Type 0
     IsClosingYet w = w.hit ≡ None → IsClosing w
 
     on_dropped : (t : Thread) (rest : List Thread) (w : Walking) → w.stack ≡ t ∷ rest → was_seen hay longest i p w.seen t.state ≡ true →
@@ -109,7 +109,7 @@ module _ (p : Program) (hay : List ℕ) (longest : Bool) (width : ℕ) (start : 
         (λ v edge. met_on t rest w (dropped hay longest rest w) is here (λ u h. h) (λ u h. h) (λ u h. h) v (before.closed (at t.state i) here v edge))
         (before.no_match (at t.state i) here) before
 
-    closing_keeps : Keeps hay longest i p IsClosingYet
+    pub closing_keeps : Keeps hay longest i p IsClosingYet
     closing_keeps = record {
       on_seen = λ t rest w is was now none. on_dropped t rest w is was (now none);
       on_match = λ t rest w is new found now none. absurd (never w.hit t none);

@@ -49,7 +49,7 @@ unseen_here hay longest p i (x ∷ seen) q new h =
     both false b e = (refl, e)
 
 module _ (p : Program) (hay : List ℕ) (well : IsWellFormed p) (longest : Bool) (width : ℕ) (fits : width ≤ p.slots) (start : ℕ) where
-  abbrev led : List Spot → ℕ
+  abbrev pub led : List Spot → ℕ
   led visits = sum_by (λ u. length (leads p hay u)) visits
 
   module _ (i : ℕ) (among : Among (places hay start) i) (old : List Spot) (before : (u : Spot) → Among old u → u.place < i) (to_come : ℕ) where
@@ -189,6 +189,23 @@ module _ (p : Program) (hay : List ℕ) (well : IsWellFormed p) (longest : Bool)
   here_and_on s among now =
       subst (λ (n : ℕ). HasCounted s n) (ap length (places-here hay s.place (Among-places hay start s.place among).1)) now.counted
 
+  -- what was counted keeps to the bounds
+  pub counted_bounded : (t : Searching) (to_come : ℕ) → HasCounted t to_come → IsBounded p hay start (record { visits = t.visits; looks = t.looks })
+  counted_bounded t to_come done =
+      let ones = sum_of_spots (λ (u : Spot). 1) (λ (st : State). 1) p.states (places hay start) t.visits (λ q i. omega arith) done.apart done.inside in
+      let edges = sum_of_spots (λ (u : Spot). length (leads p hay u)) (λ (st : State). length (targets_of st)) p.states (places hay start) t.visits
+      (λ q i. edges_within hay (state_at p.states q) i) done.apart done.inside in record {
+        apart = done.apart;
+        visits = let a = sum_of_ones t.visits in
+            let b : length t.visits ≤ sum_by (λ (st : State). 1) p.states * length (places hay start) = omega arith in
+            subst (λ (n : ℕ). length t.visits ≤ n * length (places hay start)) (sum_of_ones p.states) b;
+        looks = let a = done.looks in omega (arith, one_more (targets p) (length (places hay start)));
+        looked = done.looked;
+      }
+    where
+      one_more : (m n : ℕ) → (m + 1) * n ≡ m * n + n
+      one_more m n = grind arith
+
   module _ (earliest : Bool) (within : start ≤ length hay) where
     counting : (n : ℕ) (s : Searching) → SearchedTo hay longest p width earliest start n s → IsCounting s
     counting n s to =
@@ -206,17 +223,5 @@ module _ (p : Program) (hay : List ℕ) (well : IsWellFormed p) (longest : Bool)
     search_bounded t end =
         let now = counting end.places end.before end.searched in
         let among = searched_place p hay longest width earliest start within end.places end.before end.searched in
-        let done = counted_behind end.before t among end.last (length (places hay (end.before.place + step_len hay end.before.place))) (here_and_on end.before among now) now.before in
-        let ones = sum_of_spots (λ (u : Spot). 1) (λ (st : State). 1) p.states (places hay start) t.visits (λ q i. omega arith) done.apart done.inside in
-        let edges = sum_of_spots (λ (u : Spot). length (leads p hay u)) (λ (st : State). length (targets_of st)) p.states (places hay start) t.visits
-        (λ q i. edges_within hay (state_at p.states q) i) done.apart done.inside in record {
-          apart = done.apart;
-          visits = let a = sum_of_ones t.visits in
-              let b : length t.visits ≤ sum_by (λ (st : State). 1) p.states * length (places hay start) = omega arith in
-              subst (λ (n : ℕ). length t.visits ≤ n * length (places hay start)) (sum_of_ones p.states) b;
-          looks = let a = done.looks in omega (arith, one_more (targets p) (length (places hay start)));
-          looked = done.looked;
-        }
-      where
-        one_more : (m n : ℕ) → (m + 1) * n ≡ m * n + n
-        one_more m n = grind arith
+        counted_bounded t (length (places hay (end.before.place + step_len hay end.before.place)))
+        (counted_behind end.before t among end.last (length (places hay (end.before.place + step_len hay end.before.place))) (here_and_on end.before among now) now.before)

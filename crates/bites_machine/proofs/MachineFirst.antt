@@ -23,19 +23,19 @@ bool_cases : (b : Bool) → (b ≡ true) ⊎ (b ≡ false)
 bool_cases true = inl refl
 bool_cases false = inr refl
 
-or_assoc : {A : Type 0} (o p q : Option A) → option_or (option_or o p) q ≡ option_or o (option_or p q)
+pub or_assoc : {A : Type 0} (o p q : Option A) → option_or (option_or o p) q ≡ option_or o (option_or p q)
 or_assoc None p q = refl
 or_assoc (Some x) p q = refl
 
-or_none : {A : Type 0} (o : Option A) → option_or o None ≡ o
+pub or_none : {A : Type 0} (o : Option A) → option_or o None ≡ o
 or_none None = refl
 or_none (Some x) = refl
 
-or_map : {A B : Type 0} (f : A → B) (o q : Option A) → option_map f (option_or o q) ≡ option_or (option_map f o) (option_map f q)
+pub or_map : {A B : Type 0} (f : A → B) (o q : Option A) → option_map f (option_or o q) ≡ option_or (option_map f o) (option_map f q)
 or_map f None q = refl
 or_map f (Some x) q = refl
 
-or_true : (a b : Bool) → (a || b) ≡ true → (a ≡ true) ⊎ (b ≡ true)
+pub or_true : (a b : Bool) → (a || b) ≡ true → (a ≡ true) ⊎ (b ≡ true)
 or_true true b e = inl refl
 or_true false b e = inr e
 
@@ -47,7 +47,7 @@ pub nothing_among : {A : Type 0} (xs : List A) → ((x : A) → Among xs x → �
 nothing_among [] none = refl
 nothing_among (x ∷ xs) none = absurd (none x (inl refl))
 
-empty_is : (ts : List Thread) → is_empty ts ≡ true → ts ≡ []
+pub empty_is : (ts : List Thread) → is_empty ts ≡ true → ts ≡ []
 empty_is [] e = refl
 empty_is (t ∷ ts) e = absurd (true≢false (sym e))
 
@@ -68,7 +68,7 @@ places_end hay i le none =
     (bool_cases (nat_le (length hay) i))
 
 module _ (p : Program) (hay : List ℕ) (well : IsWellFormed p) (width : ℕ) (fits : width ≤ p.slots) (start : ℕ) (within : start ≤ length hay) where
-  abbrev pended : (Spot → Bool) → List (Spot × (List Spot → Outcome)) → Option Outcome
+  abbrev pub pended : (Spot → Bool) → List (Spot × (List Spot → Outcome)) → Option Outcome
   pended seen ws = pend p hay (matches p) (λ s e. e) seen ws
 
   abbrev TracedAt : ℕ → List Spot → Walking → Type 0
@@ -78,17 +78,17 @@ module _ (p : Program) (hay : List ℕ) (well : IsWellFormed p) (width : ℕ) (f
   AllTraced s = AreTraced p hay false width start fits s
 
   -- the outcome of the first run from a place
-  abbrev answer_from : ℕ → Option Outcome
+  abbrev pub answer_from : ℕ → Option Outcome
   answer_from k = option_map (worth p hay 0 (replicate width None)) (run p hay (matches p) (λ s e. e) (λ q. false) (at p.start k))
 
-  abbrev total : Option Outcome
+  abbrev pub total : Option Outcome
   total = first_among answer_from (places hay start)
 
   module _ (i : ℕ) (here : i ≤ length hay) (old : List Spot) (rest : Option Outcome) where
     abbrev there : ℕ
     there = i + (piece hay i).len
 
-    abbrev value : List ℕ → List Thread → List Thread → Option Thread → Option Outcome
+    abbrev pub value : List ℕ → List Thread → List Thread → Option Thread → Option Outcome
     value seen next stack hit =
         option_or (pended (marks p hay i seen) (wait_all p hay there next ++ wait_all p hay i stack)) (option_or (option_map outcome hit) rest)
 
@@ -177,11 +177,11 @@ module _ (p : Program) (hay : List ℕ) (well : IsWellFormed p) (width : ℕ) (f
   abbrev value_at : ℕ → List Thread → Option Thread → ℕ → Option Outcome
   value_at i threads best k = option_or (pended (λ q. false) (wait_all p hay i threads)) (rest_of best k)
 
-  pend_none : pended (λ q. false) [] ≡ None
+  pub pend_none : pended (λ q. false) [] ≡ None
   unfolding pending
   pend_none = refl
 
-  pend_one : (i : ℕ) (t : Thread) → pended (λ q. false) (wait_all p hay i (t ∷ []))
+  pub pend_one : (i : ℕ) (t : Thread) → pended (λ q. false) (wait_all p hay i (t ∷ []))
       ≡ option_map (worth p hay t.start t.slots) (run p hay (matches p) (λ s e. e) (λ q. false) (at t.state i))
   unfolding pending
   pend_one i t = or_none (option_map (worth p hay t.start t.slots) (run p hay (matches p) (λ s e. e) (λ q. false) (at t.state i)))
@@ -316,7 +316,7 @@ module _ (p : Program) (hay : List ℕ) (well : IsWellFormed p) (width : ℕ) (f
       (ap (λ (x : List (Option ℕ)). Some x)
       (run_writes p width (record { start = k; spots = h.0; end = (last_of (at p.start k) h.0).place }) fits (walk_to_match (at p.start k) h.0 h.2)))
 
-  answer_is : (k : ℕ) → option_map (λ (x : Outcome). x.slots) (answer_from k) ≡ option_map front_of (first_run_from p hay k)
+  pub answer_is : (k : ℕ) → option_map (λ (x : Outcome). x.slots) (answer_from k) ≡ option_map front_of (first_run_from p hay k)
   unfolding first_run_from
   answer_is k = from_is k (run p hay (matches p) (λ s e. e) (λ q. false) (at p.start k)) refl
 

@@ -54,7 +54,7 @@ none_or_some : {A : Type 0} (o : Option A) → (o ≡ None) ⊎ ((x : A) × (o �
 none_or_some None = inl refl
 none_or_some (Some x) = inr (x, refl)
 
-below_or_not : (a b : ℕ) → (a < b) ⊎ (b ≤ a)
+pub below_or_not : (a b : ℕ) → (a < b) ⊎ (b ≤ a)
 below_or_not a b =
     ⊎_elim (λ (e : nat_le b a ≡ true). inr (leb-true b a e))
     (λ (e : nat_le b a ≡ false). let never : b ≤ a → ⊥ = (λ le. true≢false (sym (le-leb b a le) ∙ e)) in inl (less never))
@@ -77,10 +77,10 @@ module _ (p : Program) (hay : List ℕ) (well : IsWellFormed p) (width : ℕ) (f
     forward : r.start ≤ r.end
     forward = Runs-forward p hay (at p.start r.start) r.spots r.end first.runs
 
-    abbrev is_end : Spot → Bool
+    abbrev pub is_end : Spot → Bool
     is_end = is_end_at p r.end
 
-    end_matches : (s : Spot) → is_end s ≡ true → matches p s ≡ true
+    pub end_matches : (s : Spot) → is_end s ≡ true → matches p s ≡ true
     end_matches s e = (and_both (matches p s) (s.place == r.end) e).0
 
     end_place : (s : Spot) → is_end s ≡ true → s.place ≡ r.end
@@ -93,10 +93,10 @@ module _ (p : Program) (hay : List ℕ) (well : IsWellFormed p) (width : ℕ) (f
     to_runs s [] walk = (end_matches s walk, end_place s walk)
     to_runs s (t ∷ o) walk = (walk.0, to_runs t o walk.1)
 
-    abbrev run_to_end : Spot → Option (List Spot)
+    abbrev pub run_to_end : Spot → Option (List Spot)
     run_to_end s = run p hay is_end end_matches (λ q. false) s
 
-    abbrev pended : (Spot → Bool) → List (Spot × (List Spot → Outcome)) → Option Outcome
+    abbrev pub pended : (Spot → Bool) → List (Spot × (List Spot → Outcome)) → Option Outcome
     pended seen ws = pend p hay is_end end_matches seen ws
 
     -- what is found is a run to the end
@@ -105,7 +105,7 @@ module _ (p : Program) (hay : List ℕ) (well : IsWellFormed p) (width : ℕ) (f
         let h = sound is_same_spot (leads p hay) is_end same_is same_refl ends_nowhere (enough p hay) seen s l e in (h.0, h.1, to_runs s h.0 h.2)
 
     -- the longest run is what is found
-    longest_found : run_to_end (at p.start r.start) ≡ Some (at p.start r.start ∷ r.spots)
+    pub longest_found : run_to_end (at p.start r.start) ≡ Some (at p.start r.start ∷ r.spots)
     longest_found = by_answer (run_to_end (at p.start r.start)) refl
       where
         by_answer : (o : Option (List Spot)) → run_to_end (at p.start r.start) ≡ o → o ≡ Some (at p.start r.start ∷ r.spots)
@@ -124,7 +124,7 @@ module _ (p : Program) (hay : List ℕ) (well : IsWellFormed p) (width : ℕ) (f
             ap (λ (x : List Spot). Some x) (f.1 ∙ ap (λ (x : Run). at p.start r.start ∷ x.spots) (sym (same_some r other same)))
 
     -- what the longest run leaves
-    abbrev the_outcome : Outcome
+    abbrev pub the_outcome : Outcome
     the_outcome = worth p hay r.start base (at p.start r.start ∷ r.spots)
 
     -- the outcome of the first run from a place to the end
@@ -179,7 +179,7 @@ module _ (p : Program) (hay : List ℕ) (well : IsWellFormed p) (width : ℕ) (f
             (or_cases (answer_from k) (first_among answer_from ks) the_outcome e)
 
     -- from behind the end there is no run to it
-    pend_past : (seen : Spot → Bool) (j : ℕ) (ts : List Thread) → r.end < j → pended seen (wait_all p hay j ts) ≡ None
+    pub pend_past : (seen : Spot → Bool) (j : ℕ) (ts : List Thread) → r.end < j → pended seen (wait_all p hay j ts) ≡ None
     unfolding pending
     pend_past seen j [] lt = refl
     pend_past seen j (t ∷ ts) lt =
@@ -190,7 +190,7 @@ module _ (p : Program) (hay : List ℕ) (well : IsWellFormed p) (width : ℕ) (f
         by_answer (Some l) e =
             let f = found_run seen (at t.state j) l e in let on = Runs-forward p hay (at t.state j) f.0 r.end f.2 in absurd (omega arith)
 
-    pend_after : (seen : Spot → Bool) (j : ℕ) (ts : List Thread) → ((t : Thread) → Among ts t → r.end < j) → pended seen (wait_all p hay j ts) ≡ None
+    pub pend_after : (seen : Spot → Bool) (j : ℕ) (ts : List Thread) → ((t : Thread) → Among ts t → r.end < j) → pended seen (wait_all p hay j ts) ≡ None
     unfolding pending
     pend_after seen j [] behind = refl
     pend_after seen j (t ∷ ts) behind = pend_past seen j (t ∷ ts) (behind t (inl refl))
@@ -221,21 +221,21 @@ module _ (p : Program) (hay : List ℕ) (well : IsWellFormed p) (width : ℕ) (f
         kept_or_not false none some = some
 
     -- what the later starts are worth, while nothing was found
-    abbrev later_at : Option Thread → ℕ → Option Outcome
+    abbrev pub later_at : Option Thread → ℕ → Option Outcome
     later_at None k = first_among answer_from (places hay k)
     later_at (Some b) k = None
 
     module _ (i : ℕ) (here : i ≤ length hay) (old : List Spot) (best : Option Thread) where
-      abbrev there : ℕ
+      abbrev pub there : ℕ
       there = i + (piece hay i).len
 
       abbrev next_step : ℕ
       next_step = i + step_len hay i
 
-      abbrev later : Option Thread → Option Outcome
+      abbrev pub later : Option Thread → Option Outcome
       later o = later_at o (i + step_len hay i)
 
-      abbrev waiting : List ℕ → List Thread → List Thread → Option Outcome
+      abbrev pub waiting : List ℕ → List Thread → List Thread → Option Outcome
       waiting seen next stack = pended (marks p hay i seen) (wait_all p hay there next ++ wait_all p hay i stack)
 
       not_later : (o : Option Thread) → r.start ≤ i → later o ≡ Some the_outcome → ⊥
@@ -281,9 +281,9 @@ module _ (p : Program) (hay : List ℕ) (well : IsWellFormed p) (width : ℕ) (f
             sym (pend_gone p hay is_end end_matches well true i there here w.seen w.next t rest behind new inside none beside) ∙ now_waiting
 
       -- before the end: what waits has the success
-      record IsAhead (w : Walking) : Type 0 where
-        traced : IsTraced p hay true width start fits i old w
-        ahead : option_or (waiting w.seen w.next w.stack) (later (option_or w.hit best)) ≡ Some the_outcome
+      pub record IsAhead (w : Walking) : Type 0 where
+        pub traced : IsTraced p hay true width start fits i old w
+        pub ahead : option_or (waiting w.seen w.next w.stack) (later (option_or w.hit best)) ≡ Some the_outcome
 
       module _ (early : i < r.end) (t : Thread) (rest : List Thread) (w : Walking) (is : w.stack ≡ t ∷ rest) (now : IsAhead w)
           (new : was_seen hay true i p w.seen t.state ≡ false) (found : is_match (state_at p.states t.state) ≡ true) where
@@ -326,7 +326,7 @@ module _ (p : Program) (hay : List ℕ) (well : IsWellFormed p) (width : ℕ) (f
       never_none None t e = none_some t (sym e)
       never_none (Some u) t e = none_some u (sym e)
 
-      ahead_keeps : i < r.end → Keeps hay true i p IsAhead
+      pub ahead_keeps : i < r.end → Keeps hay true i p IsAhead
       ahead_keeps early =
           let traces = traced_keeps p hay true width start fits i old in record {
             on_seen = λ t rest w is was now. record {
@@ -351,13 +351,13 @@ module _ (p : Program) (hay : List ℕ) (well : IsWellFormed p) (width : ℕ) (f
           }
 
       -- at the end: the first thread that comes to a match is the success
-      abbrev AtEnd : Option Thread → Option Outcome → Type 0
+      abbrev pub AtEnd : Option Thread → Option Outcome → Type 0
       AtEnd None o = option_or o (later best) ≡ Some the_outcome
       AtEnd (Some h) o = outcome h ≡ the_outcome
 
-      record IsAtEnd (w : Walking) : Type 0 where
-        traced : IsTraced p hay true width start fits i old w
-        at_end : AtEnd w.hit (waiting w.seen w.next w.stack)
+      pub record IsAtEnd (w : Walking) : Type 0 where
+        pub traced : IsTraced p hay true width start fits i old w
+        pub at_end : AtEnd w.hit (waiting w.seen w.next w.stack)
 
       same_end : (w : Walking) → IsAtEnd w → (o : Option Outcome) → o ≡ waiting w.seen w.next w.stack → AtEnd w.hit o
       same_end w now o e = subst (λ (x : Option Outcome). AtEnd w.hit x) (sym e) now.at_end
@@ -377,7 +377,7 @@ module _ (p : Program) (hay : List ℕ) (well : IsWellFormed p) (width : ℕ) (f
           late_next : (u : Thread) → Among w.next u → r.end < there
           late_next u h = let some = (traced.next u h).0 in omega arith
 
-      at_end_keeps : i ≡ r.end → Keeps hay true i p IsAtEnd
+      pub at_end_keeps : i ≡ r.end → Keeps hay true i p IsAtEnd
       at_end_keeps late =
           let traces = traced_keeps p hay true width start fits i old in record {
             on_seen = λ t rest w is was now. record {
@@ -434,7 +434,7 @@ module _ (p : Program) (hay : List ℕ) (well : IsWellFormed p) (width : ℕ) (f
         no_later None lt e = let a = answer_behind s.place e in omega (arith, forward)
         no_later (Some b) lt e = none_some the_outcome e
 
-    pend_one : (i : ℕ) (t : Thread) → pended (λ q. false) (wait_all p hay i (t ∷ [])) ≡ option_map (worth p hay t.start t.slots) (run_to_end (at t.state i))
+    pub pend_one : (i : ℕ) (t : Thread) → pended (λ q. false) (wait_all p hay i (t ∷ [])) ≡ option_map (worth p hay t.start t.slots) (run_to_end (at t.state i))
     unfolding pending
     pend_one i t = or_none (option_map (worth p hay t.start t.slots) (run_to_end (at t.state i)))
       where
@@ -610,7 +610,7 @@ module _ (p : Program) (hay : List ℕ) (well : IsWellFormed p) (width : ℕ) (f
   abbrev pub front_of : Run → List (Option ℕ)
   front_of r = take width (slots p r)
 
-  runs_to_match : (s : Spot) (o : List Spot) (j : ℕ) → Runs p hay s o j → matches p (last_of s o) ≡ true
+  pub runs_to_match : (s : Spot) (o : List Spot) (j : ℕ) → Runs p hay s o j → matches p (last_of s o) ≡ true
   runs_to_match s [] j runs = runs.0
   runs_to_match s (t ∷ o) j runs = runs_to_match t o j runs.1
 

@@ -66,7 +66,7 @@ module _ (p : Program) (hay : List ℕ) (longest : Bool) (width : ℕ) (start : 
     pub started : t.start ≡ start_of run.start
     pub end_is : run.end ≡ end
 
-  pub trace_more : (visits more : List Spot) (i : ℕ) (t : Thread) → ((u : Spot) → Among visits u → Among more u) → Trace visits i t → Trace more i t
+  unfoldable pub trace_more : (visits more : List Spot) (i : ℕ) (t : Thread) → ((u : Spot) → Among visits u → Among more u) → Trace visits i t → Trace more i t
   trace_more visits more i t grow tr = record {
     from = tr.from;
     among = tr.among;
@@ -77,7 +77,7 @@ module _ (p : Program) (hay : List ℕ) (longest : Bool) (width : ℕ) (start : 
     started = tr.started;
   }
 
-  pub found_more : (visits more : List Spot) (end : ℕ) (t : Thread) → ((u : Spot) → Among visits u → Among more u) → Found visits end t → Found more end t
+  unfoldable pub found_more : (visits more : List Spot) (end : ℕ) (t : Thread) → ((u : Spot) → Among visits u → Among more u) → Found visits end t → Found more end t
   found_more visits more end t grow f = record {
     run = f.run;
     runs = f.runs;
@@ -89,7 +89,7 @@ module _ (p : Program) (hay : List ℕ) (longest : Bool) (width : ℕ) (start : 
   }
 
   -- a thread at the start
-  pub trace_start : (visits : List Spot) (i : ℕ) → Among (places hay start) i → Trace visits i (started hay longest p width i)
+  unfoldable pub trace_start : (visits : List Spot) (i : ℕ) → Among (places hay start) i → Trace visits i (started hay longest p width i)
   trace_start visits i among = record {
     from = i;
     among = among;
@@ -100,13 +100,13 @@ module _ (p : Program) (hay : List ℕ) (longest : Bool) (width : ℕ) (start : 
     started = refl;
   }
 
-  all_written-push : (slots : List (Option ℕ)) (r : List Spot) (v : Spot) →
+  pub all_written-push : (slots : List (Option ℕ)) (r : List Spot) (v : Spot) →
       all_written p slots (r ++ v ∷ []) ≡ with_write (state_at p.states v.state) v.place (all_written p slots r)
   all_written-push slots [] v = refl
   all_written-push slots (s ∷ r) v = all_written-push (with_write (state_at p.states s.state) s.place slots) r v
 
   -- a thread goes on along an edge
-  pub trace_on : (visits : List Spot) (i : ℕ) (t : Thread) (v : Spot) → Among visits (at t.state i) → Among (leads p hay (at t.state i)) v → Trace visits i t →
+  unfoldable pub trace_on : (visits : List Spot) (i : ℕ) (t : Thread) (v : Spot) → Among visits (at t.state i) → Among (leads p hay (at t.state i)) v → Trace visits i t →
       Trace visits v.place (thread_on t.start (with_write (state_at p.states t.state) i t.slots) v)
   trace_on visits i t v here edge tr = record {
     from = tr.from;
@@ -121,17 +121,17 @@ module _ (p : Program) (hay : List ℕ) (longest : Bool) (width : ℕ) (start : 
     started = tr.started;
   }
 
-  walk_runs : (s : Spot) (r : List Spot) (q i : ℕ) → Walk (leads p hay) (λ u. u ≡ at q i) s r → is_match (state_at p.states q) ≡ true → Runs p hay s r i
+  pub walk_runs : (s : Spot) (r : List Spot) (q i : ℕ) → Walk (leads p hay) (λ u. u ≡ at q i) s r → is_match (state_at p.states q) ≡ true → Runs p hay s r i
   walk_runs s [] q i walk found =
       (ap (λ (u : Spot). matches p u) walk ∙ found, ap (λ (u : Spot). u.place) walk)
   walk_runs s (t ∷ r) q i walk found = (walk.0, walk_runs t r q i walk.1 found)
 
-  walk_ends : (s : Spot) (r : List Spot) (u : Spot) → Walk (leads p hay) (λ v. v ≡ u) s r → last_of s r ≡ u
+  pub walk_ends : (s : Spot) (r : List Spot) (u : Spot) → Walk (leads p hay) (λ v. v ≡ u) s r → last_of s r ≡ u
   walk_ends s [] u walk = walk
   walk_ends s (t ∷ r) u walk = walk_ends t r u walk.1
 
   -- a thread at a match that was visited has found a run
-  pub found_here : width ≤ p.slots → (visits : List Spot) (i : ℕ) (t : Thread) → is_match (state_at p.states t.state) ≡ true → Among visits (at t.state i) →
+  unfoldable pub found_here : width ≤ p.slots → (visits : List Spot) (i : ℕ) (t : Thread) → is_match (state_at p.states t.state) ≡ true → Among visits (at t.state i) →
       Trace visits i t → Found visits i t
   found_here fits visits i t found here tr = record {
     run = the_run;

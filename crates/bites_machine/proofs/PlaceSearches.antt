@@ -24,10 +24,10 @@ use Rattle.bites_machine.proofs.MachineTrace.{Among-mapped}
 use Rattle.bites_machine.proofs.MachineRoom.{HasRoom, walk_room}
 use Rattle.bites_machine.proofs.BetweenLemmas.{none_here, all_before, here_and_before, none_behind}
 
-abbrev walking_on : List machine.Thread → List ℕ → List machine.Thread → Option machine.Thread → ℕ → machine.Walking
+abbrev pub walking_on : List machine.Thread → List ℕ → List machine.Thread → Option machine.Thread → ℕ → machine.Walking
 walking_on stack seen next hit looks = record { stack = stack; seen = seen; next = next; hit = hit; looks = looks }
 
-abbrev searching_at : ℕ → List machine.Thread → Option machine.Thread → List Spot → ℕ → Searching
+abbrev pub searching_at : ℕ → List machine.Thread → Option machine.Thread → List Spot → ℕ → Searching
 searching_at place threads best visits looks = record { place = place; threads = threads; best = best; visits = visits; looks = looks }
 
 -- a thread of a list, with its row
@@ -45,14 +45,14 @@ starts_inside longest place width n first (Some q) is lt u h =
     (λ none. absurd none) h
 
 -- whether anything was found so far
-found_or : (hit : Option Hit) (left : List (Option ℕ)) (best : Option machine.Thread) (found : Bool) → is_some best ≡ found → is_some (option_or (hit_of hit left) best) ≡ (found || is_some hit)
+pub found_or : (hit : Option Hit) (left : List (Option ℕ)) (best : Option machine.Thread) (found : Bool) → is_some best ≡ found → is_some (option_or (hit_of hit left) best) ≡ (found || is_some hit)
 found_or None left best true is = is
 found_or None left best false is = is
 found_or (Some h) left best true is = refl
 found_or (Some h) left best false is = refl
 
 -- what the slice has now
-left_or : (hit : Option Hit) (slots left : List (Option ℕ)) (best : Option machine.Thread) (first : List (Option ℕ)) → left_in best first ≡ slots → (hit ≡ None → left ≡ slots) →
+pub left_or : (hit : Option Hit) (slots left : List (Option ℕ)) (best : Option machine.Thread) (first : List (Option ℕ)) → left_in best first ≡ slots → (hit ≡ None → left ≡ slots) →
     left_in (option_or (hit_of hit left) best) first ≡ left
 left_or None slots left best first is none = is ∙ sym (none refl)
 left_or (Some h) slots left best first is none = refl
@@ -75,7 +75,7 @@ module _ (hay : List ℕ) (longest : Bool) (place : ℕ) (states : List program.
         ∙ ap (λ (l : List ℕ). walking_on stack l (map (thread_of old.rows) old.next.threads) None was.looks) (none_here place was.visits before)
         ∙ ap (λ (l : List Thread). walking_on stack [] (map (thread_of old.rows) l) None was.looks) next
 
-    walk_begun : (p : Program) → p.states ≡ states → WalksTo hay longest p place (walking_on stack [] [] None was.looks) (walking_at place new left [] now)
+    pub walk_begun : (p : Program) → p.states ≡ states → WalksTo hay longest p place (walking_on stack [] [] None was.looks) (walking_at place new left [] now)
     walk_begun p is = subst (λ (v : machine.Walking). WalksTo hay longest p place v (walking_at place new left [] now)) begun_is (w.walks p is)
 
     -- the threads that took the piece lead to states
@@ -117,7 +117,7 @@ module _ (hay : List ℕ) (longest : Bool) (place : ℕ) (states : List program.
       wide = w.amid.wide;
     }
 
-    all_visits : map (λ q. at q place) (seen_here place now.visits) ++ was.visits ≡ now.visits
+    pub all_visits : map (λ q. at q place) (seen_here place now.visits) ++ was.visits ≡ now.visits
     all_visits =
         ap (λ (l : List Spot). map (λ q. at q place) (seen_here place now.visits) ++ l) (sym (w.before ∙ all_before place was.visits before))
         ∙ here_and_before place now.visits

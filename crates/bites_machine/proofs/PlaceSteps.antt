@@ -132,7 +132,7 @@ module _ (p : Program) (hay : List ℕ) (longest earliest : Bool) (start : ℕ) 
         stands = subst (λ b. StandsFor on.0 (place + (piece hay place).len) new.rows later now old left b) (sym founds) on.2;
       }
 
-  empty_by : (pool : Pool) (ts : List Thread) → is_empty (map (thread_of pool) ts) ≡ (length ts == 0)
+  pub empty_by : (pool : Pool) (ts : List Thread) → is_empty (map (thread_of pool) ts) ≡ (length ts == 0)
   empty_by pool [] = refl
   empty_by pool (t ∷ ts) = grind arith
 

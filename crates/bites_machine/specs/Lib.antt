@@ -23,5 +23,7 @@ pub mod Framed
 pub mod Visits
 pub mod Looks
 pub mod Sweep
-pub mod Lead
+pub mod Anchored
 pub mod Cuts
+pub mod Prefix
+pub mod Skipped

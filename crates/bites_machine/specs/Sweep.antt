@@ -90,9 +90,21 @@ abbrev pub starts_of : Bool → ℕ → ℕ → Option ℕ → List machine.Thre
 starts_of longest place width None = []
 starts_of longest place width (Some q) = record { state = q; start = if longest then place else 0; slots = replicate width None } ∷ []
 
+-- What holds when all of a place was walked.
+pub record HasWalked (states : List program.State) (place : ℕ) (walked : Record) (desk : Desk) (width : ℕ) : Type 0 where
+  pub marks : length desk.marks ≡ length states
+  pub before : (v : Spot) → Among (visited_before place walked.visits) v → v.place < place
+  pub noted : length desk.rows.notes ≡ length states
+  pub stack : sum_by (λ s. length (targets_of s)) states + 1 ≤ desk.stack.room
+  pub empty : desk.stack.frames ≡ []
+  pub next : length desk.next.threads ≤ marked desk.marks
+  pub more : desk.next.room ≡ length states
+  pub rows : 2 * length states + 1 < length desk.rows.counts
+  pub wide : width ≡ desk.rows.width
+
 -- All threads of a place were walked, or let go, and behind them the start, if one is given.
 pub record WalksAll (hay : List ℕ) (longest : Bool) (place : ℕ) (states : List program.State) (begins : Option ℕ) (threads : List Thread) (was now : Record) (old new : Desk) (slots left : List (Option ℕ)) : Type 0 where
-  pub amid : IsAmid states place now new (length left)
+  pub amid : HasWalked states place now new (length left)
   pub users : IsUsed new.rows (map row_of new.next.threads ++ [])
   pub before : visited_before place now.visits ≡ visited_before place was.visits
   pub most : new.rows.most ≡ old.rows.most

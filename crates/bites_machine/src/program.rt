@@ -11,6 +11,7 @@ ghost use Rattle.bites_machine.specs.Bad.{IsBad};
 pub use crate::compiler::{compile, compile_with_groups};
 pub use crate::fault::BadProgram;
 use crate::fault::first_fault_of;
+use crate::prefix::StartPrefix;
 pub use crate::ranges::Ranges;
 pub use crate::state::State;
 pub use crate::targets::Targets;
@@ -28,6 +29,7 @@ pub struct Program {
     pattern: String,
     names: Vec<Option<String>>,
     static_captures_len: Option<usize>,
+    prefix: Option<StartPrefix>,
 }
 
 impl Model for Program {
@@ -43,6 +45,8 @@ impl Model for Program {
 }
 
 impl Program {
+    ghost use Rattle.bites_machine.specs.Prefix.{IsPrefix};
+
     /// A program of these states, of the empty pattern and without names.
     ///
     /// It answers the first fault of the number of states, of the number of slots, of the start, and then
@@ -94,6 +98,7 @@ impl Program {
         ensures none { IfNone result (2 ^ 64 ≤ targets (program_of states.items start slots)) }
     {
         let targets = edges(&states)?;
+        let prefix = StartPrefix::of(&states, start);
         Some(Program {
             alloc,
             states,
@@ -103,6 +108,7 @@ impl Program {
             pattern,
             names,
             static_captures_len,
+            prefix,
         })
     }
 
@@ -133,6 +139,16 @@ impl Program {
     {
         let _ = &self.states;
         self.start
+    }
+
+    /// The states that a search visits at an offset where no match begins, if they are known.
+    pub(crate) fn prefix(&self) -> Option<&StartPrefix>
+        ensures { IfSome result (λ x.
+            IsPrefix self.now.program.states self.now.program.start x.now) }
+    {
+        let _ = &self.states;
+        let _ = self.start;
+        self.prefix.as_ref()
     }
 
     /// The number of states.

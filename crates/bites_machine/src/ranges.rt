@@ -1,9 +1,9 @@
 //! The ranges of a state.
 
-ghost use Rattle.std.specs.Prelude.{◌≡◌, ℕ, ◌<◌, ◌≤◌, ◌^◌, IfOk};
+ghost use Rattle.std.specs.Prelude.{◌≡◌, ℕ, ◌<◌, ◌≤◌, ◌^◌, IfOk, true};
 ghost use Rattle.bites_spec.specs.Range.{in_range, in_ranges};
 ghost use Rattle.bites_spec.specs.Program.{AreRanges};
-ghost use Rattle.bites_machine.specs.Bits.{has_bit};
+ghost use Rattle.bites_machine.specs.Bits.{has_bit, HasAscii};
 
 use std::alloc::{AllocError, Global};
 use std::marker::Model;
@@ -35,6 +35,14 @@ impl Ranges {
         ensures { result.now ≡ self.now }
     {
         &self.list
+    }
+
+    /// Of each ASCII character, whether it lies in one of the ranges: a bit for each, 64 a word.
+    pub(crate) fn ascii(&self) -> [u64; 2]
+        ensures { HasAscii result self.now }
+    {
+        let _ = &self.list;
+        self.ascii
     }
 
     /// The list of the ranges, in its memory.
@@ -77,10 +85,29 @@ impl From<Vec<(char, char)>> for Ranges {
 
     /// The ranges of this list; it takes no memory.
     fn from(list: Vec<(char, char)>) -> Ranges {
-        let bits = ascii_of(&list);
-        let ascii = [(bits & 0xFFFF_FFFF_FFFF_FFFF) as u64, (bits >> 64) as u64];
+        let ascii = words_of(&list);
         Ranges { list, ascii }
     }
+}
+
+/// Of each ASCII character, whether it lies in one of the ranges: a bit for each, 64 a word.
+pub(crate) fn words_of(ranges: &[(char, char)]) -> [u64; 2]
+    ensures { HasAscii result ranges.now }
+{
+    let bits = ascii_of(ranges);
+    [(bits & 0xFFFF_FFFF_FFFF_FFFF) as u64, (bits >> 64) as u64]
+}
+
+/// Whether one of the ranges ends above the ASCII characters.
+pub(crate) fn reaches_past_ascii(ranges: &[(char, char)]) -> bool
+    ensures { (c : ℕ) → 128 ≤ c → in_ranges ranges.now c ≡ true → result ≡ true }
+{
+    for (_, last) in ranges {
+        if *last > '\u{7F}' {
+            return true;
+        }
+    }
+    false
 }
 
 // Of each ASCII character, whether it lies in one of the ranges, as the bit of its number.

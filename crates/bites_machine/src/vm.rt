@@ -2,13 +2,17 @@
 
 ghost use Rattle.bites_spec.specs.Counts.{fit_of, IsBounded, VisitedBy};
 ghost use Rattle.bites_spec.specs.Run.{Run, Answered, LeastEnd, first_run, longest_run};
+ghost use Rattle.bites_spec.specs.Anchored.{anchored_run, LeastEndFrom, VisitedFrom};
+ghost use Rattle.bites_machine.specs.declared.vm.MatchKind.TheVariants.{First, Earliest, Longest};
 ghost use Rattle.std.specs.Prelude.{◌⊎◌, Option, true, false, ◌≡◌, length};
 
+mod anchored;
 mod cache;
 mod counted;
-mod lead;
+mod idle;
 mod marks;
 mod places;
+mod recorded_bytes;
 mod rows;
 mod stack;
 mod threads;
@@ -47,6 +51,7 @@ pub fn search(
         haystack,
         start,
         first: program.start(),
+        prefix: program.prefix(),
         asked: places::Asked {
             earliest,
             longest: false,
@@ -78,10 +83,59 @@ pub fn search_longest(
         haystack,
         start,
         first: program.start(),
+        prefix: program.prefix(),
         asked: places::Asked {
             earliest: false,
             longest: true,
         },
     };
     cache.search(counted, &request, slots)
+}
+
+/// Which of the matches from one place is asked for.
+#[derive(Clone, Copy, Drop)]
+pub enum MatchKind {
+    /// The preferred one.
+    First,
+    /// One with the least end. The search stops there.
+    Earliest,
+    /// The preferred one of those with the greatest end.
+    Longest,
+}
+
+/// Finds a match that begins at `start` and writes its first `slots.len()` slots. Returns whether there is one;
+/// `slots` is unchanged if not. A start past the end of the haystack returns false.
+///
+/// The search stops when no thread is left. It visits each state at most once at each offset, and allocates nothing.
+pub fn search_anchored(
+    program: &Program,
+    cache: &mut Cache,
+    haystack: &[u8],
+    start: usize,
+    kind: MatchKind,
+    slots: &mut [Option<usize>],
+) -> bool
+    requires fits { cache.old.fits ≡ fit_of program.now.program }
+    requires slots { (length slots.old ≡ 0) ⊎ (length slots.old ≡ 2)
+        ⊎ (length slots.old ≡ program.now.program.slots) }
+    ensures first { kind ≡ First → Answered program.now.program
+        (anchored_run program.now.program haystack.now false start) result slots.old slots.new }
+    ensures least { kind ≡ Earliest → (o : Option Run)
+        × LeastEndFrom program.now.program haystack.now start o
+        × Answered program.now.program o result slots.old slots.new }
+    ensures longest { kind ≡ Longest → Answered program.now.program
+        (anchored_run program.now.program haystack.now true start) result slots.old slots.new }
+    ensures fits { cache.new.fits ≡ cache.old.fits }
+    ensures bounded { IsBounded program.now.program haystack.now start cache.new.walked }
+    ensures visited { VisitedFrom program.now.program haystack.now start result cache.new.walked }
+{
+    let counted = counted::Counted::new(program.states());
+    let request = places::Request {
+        haystack,
+        start,
+        first: program.start(),
+        prefix: None,
+        asked: anchored::asked_of(kind),
+    };
+    cache.search_anchored(counted, &request, slots)
 }

@@ -8,32 +8,23 @@ use Rattle.bites_spec.specs.Run.{Run, slots}
 use Rattle.bites_spec.specs.Slots.{group_in, taking_part, span_of_run}
 use Rattle.bites_spec.specs.Regex.{Regex, IsCompiled, run_at, span_at, slots_at}
 use Rattle.bites_spec.specs.Captured.{Captured, excerpt, captured, FindsSpan, AreGroups}
-use Rattle.bites_spec.proofs.AlikeLemmas.{least_end_is_at_most}
-use Rattle.bites_spec.proofs.FoundSomeLemmas.{finds_some}
-use Rattle.bites_spec.proofs.RegexRuns.{run_at-whole, slots_are_groups}
+use Rattle.bites_spec.proofs.Laws as laws
 use Rattle.bites_promises.specs.Promises.{IsNoLater}
 
 module _ (r : Regex) (hay : List ℕ) (s : ℕ) where
-  no_later : (a : Option Answer) (e : Option ℕ) → FoundSome r.tree hay s a → IsLeastEnd r.tree hay s e →
-      IsNoLater e (option_map (λ b. b.end) a)
-  no_later None None h least = tt
-  no_later None (Some j) h least = absurd (true≢false (least_end_is_at_most r.tree hay s None (Some j) h least).0)
-  no_later (Some a) None h least = absurd (true≢false (sym (least_end_is_at_most r.tree hay s (Some a) None h least).0))
-  no_later (Some a) (Some j) h least = (least_end_is_at_most r.tree hay s (Some a) (Some j) h least).1 a j refl refl
-
   module _ {M : Type 0} (at : M → Span) where
-    end_of : (o : Option M) (a : Option Answer) → option_map at o ≡ option_map (λ b. span b.start b.end) a →
-        option_map (λ b. b.end) a ≡ option_map (λ m. (at m).end) o
-    end_of None None e = refl
-    end_of None (Some a) e = let never : None ≡ Some (span a.start a.end) = e in absurd (cc)
-    end_of (Some m) None e = let never : Some (at m) ≡ None = e in absurd (cc)
-    end_of (Some m) (Some a) e = sym (ap (option_map (λ (g : Span). g.end)) e)
-
     -- the soonest end is at most that of the first match, and there is one exactly if there is the other
     pub soonest_is_no_later : (o : Option M) → FindsSpan r hay s (option_map at o) → (e : Option ℕ) → IsLeastEnd r.tree hay s e →
         IsNoLater e (option_map (λ m. (at m).end) o)
-    soonest_is_no_later o f e least =
-        subst (IsNoLater e) (end_of o f.0 f.2) (no_later f.0 e (finds_some r.leftmost_longest r.tree hay s f.0 f.1) least)
+    soonest_is_no_later None none None least = tt
+    soonest_is_no_later None none (Some j) least = absurd (none least.0.0 least.0.1 j least.0.2)
+    soonest_is_no_later (Some m) found None least =
+        let a = found.answer in let f = laws.finds_some r.leftmost_longest r.tree hay s (Some a) found.found in
+        absurd (least a.start f.first.place a.end (laws.match_is_parse.1 hay r.tree a.start a.end f.marks f.parse))
+    soonest_is_no_later (Some m) found (Some j) least =
+        let a = found.answer in let f = laws.finds_some r.leftmost_longest r.tree hay s (Some a) found.found in
+        subst (λ (g : Span). j ≤ g.end) (sym found.is_span)
+        (least.1 a.start f.first.place a.end (laws.match_is_parse.1 hay r.tree a.start a.end f.marks f.parse))
 
   no_run : (o : Option Run) → None ≡ option_map (captured r hay) (option_map (slots r.program) o) →
       option_map (excerpt hay) (option_map span_of_run o) ≡ None
@@ -53,7 +44,7 @@ module _ (r : Regex) (hay : List ℕ) (s : ℕ) where
         let groups : Some c ≡ Some (captured r hay (slots r.program x)) = same in
         let at : c ≡ captured r hay (slots r.program x) = cc in
         ap (λ (d : Captured). option_map (excerpt d.haystack) (group_in d.slots 0)) at
-        ∙ ap (option_map (excerpt hay)) (run_at-whole r is hay s x e)
+        ∙ ap (option_map (excerpt hay)) (laws.answers_have_group_0 r is hay s x e)
 
     -- group 0 of the captures is where the search finds a match
     pub whole_is_span : (c : Captured) → Some c ≡ option_map (captured r hay) (slots_at r hay s) →
@@ -65,7 +56,7 @@ module _ (r : Regex) (hay : List ℕ) (s : ℕ) where
     groups_of (Some l) e c same =
         let groups : Some c ≡ Some (captured r hay l) = same in
         let at : c ≡ captured r hay l = cc in
-        subst (λ (d : Captured). AreGroups r hay d.slots) (sym at) (slots_are_groups r is hay s l e)
+        subst (λ (d : Captured). AreGroups r hay d.slots) (sym at) (laws.slots_are_groups r is hay s l e)
 
     -- group 0 took part
     pub whole_takes_part : (o : Option Captured) → o ≡ option_map (captured r hay) (slots_at r hay s) → IfSome o (λ c. IsSome (group_in c.slots 0))

@@ -1,24 +1,18 @@
 -- The regex of an escaped text.
-use Rattle.std.proofs.Common.{◌≡◌, ◌≢◌, ℕ, ◌<◌, ◌≤◌, List, Option, option_map, refl, sym, subst, arith, IsUtf8}
+use Rattle.std.proofs.Common.{◌≡◌, ◌≢◌, ℕ, ◌<◌, ◌≤◌, List, Option, Some, None, option_map, refl, sym, subst, arith, IsUtf8}
 use Rattle.std.specs.Prelude.{chars, encode_utf8_all, Result, Ok, Err, IfErr}
 use Rattle.std.proofs.lemmas.Str.{IsCharBoundary-start}
 use Rattle.bites_spec.specs.Pattern.{Text}
 use Rattle.bites_spec.specs.Tree.{Tree}
 use Rattle.bites_spec.specs.Measure.{Limits, weight, groups_left}
-use Rattle.bites_spec.specs.RangesOf.{ranges_of}
-use Rattle.bites_spec.specs.Match.{Span}
-use Rattle.bites_spec.specs.Found.{FoundSome}
+use Rattle.bites_spec.specs.Match.{Span, span}
+use Rattle.bites_spec.specs.Found.{Answer, FoundSome}
 use Rattle.bites_spec.specs.Regex.{Regex}
 use Rattle.bites_spec.specs.Captured.{FindsSpan}
 use Rattle.bites_spec.specs.Settings.{no_flags, by_default, Accepts}
 use Rattle.bites_spec.specs.Escaped.{escaped, text_tree}
 use Rattle.bites_spec.specs.Occurrence.{IsLeftmost}
-use Rattle.bites_spec.proofs.ClassLemmas.{ranges_of_list}
-use Rattle.bites_spec.proofs.WholeOnce.{reads_once}
-use Rattle.bites_spec.proofs.WholeLaws.{refused_has_no_tree}
-use Rattle.bites_spec.proofs.EscapedReading.{escaped_is_flat, escaped_is_read, escaped_chars, escaped_is_accepted}
-use Rattle.bites_spec.proofs.EscapedMatches.{escaped_finds}
-use Rattle.bites_spec.proofs.FoundSomeLemmas.{finds_some}
+use Rattle.bites_spec.proofs.Laws as laws
 use Rattle.bites_text.specs.declared.error.Error.{Error}
 use Rattle.bites_text.specs.declared.error.Error.TheVariants.{TooBig, TooManyStates, TooManySlots, Memory}
 use Rattle.bites_machine.specs.Compiled.{RefusesTree}
@@ -39,20 +33,20 @@ module _ (text pattern : List ℕ) (utf8 : IsUtf8 text) (is : pattern ≡ encode
   is_read : Limits (chars pattern) no_flags 50 (text_tree (chars text))
   is_read =
       subst (λ (p : List ℕ). Limits (chars p) no_flags 50 (text_tree (chars text))) (sym is)
-      (subst (λ (l : Text). Limits l no_flags 50 (text_tree (chars text))) (sym (escaped_chars text utf8))
-      (escaped_is_read (chars text) 50 (omega (arith, (escaped_is_flat (chars text)).1))))
+      (subst (λ (l : Text). Limits l no_flags 50 (text_tree (chars text))) (sym (laws.escaped_texts_are_texts text utf8))
+      (laws.escaped_texts_are_read (chars text) 50 (omega (arith, (laws.escaped_texts_are_flat (chars text)).1))))
 
   -- the only tree of the pattern is that of the text
   pub tree_of_text : (t : Tree) → Limits (chars pattern) no_flags 50 t → t ≡ text_tree (chars text)
-  tree_of_text t read = reads_once (chars pattern) no_flags t (text_tree (chars text)) read.reading is_read.reading
+  tree_of_text t read = laws.patterns_have_one_tree (chars pattern) no_flags t (text_tree (chars text)) read.reading is_read.reading
 
   module _ (refused : (t : Tree) → Accepts (by_default pattern) t → ⊥) where
     heavy : weight (text_tree (chars text)) ≤ 10485760 → ⊥
-    heavy light = refused (text_tree (chars text)) (subst (λ p. Accepts (by_default p) (text_tree (chars text))) (sym is) (escaped_is_accepted text utf8 light))
+    heavy light = refused (text_tree (chars text)) (subst (λ p. Accepts (by_default p) (text_tree (chars text))) (sym is) (laws.escaped_texts_are_accepted text utf8 light))
 
     too_big : (e : Error) → e ≢ Memory → Refuses (by_default pattern) e → e ≡ TooBig
     too_big e known (fault m f same) =
-        absurd (refused_has_no_tree ranges_of ranges_of_list 50 (chars pattern) no_flags m (text_tree (chars text)) f is_read)
+        absurd (laws.refused_patterns_have_no_tree (chars pattern) no_flags 50 m (text_tree (chars text)) f is_read)
     too_big e known (limit t read h) =
         by_weight t (λ light. heavy (subst (λ u. weight u ≤ 10485760) (tree_of_text t read) light)) e known h
 
@@ -67,10 +61,15 @@ pub refused_by_size : {R : Type 0} (text pattern : List ℕ) → IsUtf8 text →
 refused_by_size text pattern utf8 is (Ok x) refused message = tt
 refused_by_size text pattern utf8 is (Err e) refused message = λ known. only_too_big text pattern utf8 is (refused known) e known (message known)
 
--- what its search finds is where the text stands first
-pub text_is_found : {M : Type 0} (at : M → Span) (r : Regex) (hay text : List ℕ) → IsUtf8 hay → IsUtf8 text → r.tree ≡ text_tree (chars text) →
-    (o : Option M) → FindsSpan r hay 0 (option_map at o) → IsLeftmost hay text 0 (option_map at o)
-text_is_found at r hay text hay_utf8 text_utf8 is o f =
-    subst (IsLeftmost hay text 0) (sym f.2)
-    (escaped_finds hay text 0 hay_utf8 text_utf8 (IsCharBoundary-start hay hay_utf8) f.0
-    (subst (λ t. FoundSome t hay 0 f.0) is (finds_some r.leftmost_longest r.tree hay 0 f.0 f.1)))
+module _ (hay text : List ℕ) (hay_utf8 : IsUtf8 hay) (text_utf8 : IsUtf8 text) (r : Regex) (is : r.tree ≡ text_tree (chars text)) where
+  leftmost_by : (a : Option Answer) → FoundSome r.tree hay 0 a → IsLeftmost hay text 0 (option_map (λ b. span b.start b.end) a)
+  leftmost_by a f =
+      laws.escaped_texts_find_their_text hay text 0 hay_utf8 text_utf8 (IsCharBoundary-start hay hay_utf8) a (subst (λ t. FoundSome t hay 0 a) is f)
+
+  -- what its search finds is where the text stands first
+  pub text_is_found : {M : Type 0} (at : M → Span) (o : Option M) → FindsSpan r hay 0 (option_map at o) → IsLeftmost hay text 0 (option_map at o)
+  text_is_found at None none = leftmost_by None none
+  text_is_found at (Some m) found =
+      let a = found.answer in
+      subst (λ g. IsLeftmost hay text 0 (Some g)) (sym found.is_span)
+      (leftmost_by (Some a) (laws.finds_some r.leftmost_longest r.tree hay 0 (Some a) found.found))

@@ -3,201 +3,114 @@ use Rattle.std.proofs.Common.{◌≡◌, ◌↔◌, ℕ, ◌≤◌, true, false,
 use Rattle.std.specs.Prelude.{IsSome, IfSome, unwrap_or}
 use Rattle.bites_spec.specs.Tree.{Tree, IsPlain}
 use Rattle.bites_spec.specs.Match.{Span, span, Mark, Matches}
-use Rattle.bites_spec.specs.Found.{Answer, FoundBy, FoundSome, Finds, HasMatch, IsFirstPlace}
+use Rattle.bites_spec.specs.Found.{Answer, FoundBy, FoundSome, Finds, NoMatch, HasMatch, IsFirstPlace}
 use Rattle.bites_spec.specs.Run.{Run, slots}
 use Rattle.bites_spec.specs.Slots.{group_in, span_of_run}
 use Rattle.bites_spec.specs.Regex.{Regex, IsCompiled, run_at, span_at, slots_at}
-use Rattle.bites_spec.specs.Captured.{Captured, Excerpt, excerpt, FindsSpan, FindsGroups, IsInSlots}
-use Rattle.bites_spec.proofs.EventLemmas.{Parse-Matches}
-use Rattle.bites_spec.proofs.FoundSomeLemmas.{finds_some}
-use Rattle.bites_spec.proofs.PieceLemmas.{Among-places}
-use Rattle.bites_spec.proofs.TextMatches.{found_borders}
-use Rattle.bites_spec.proofs.RegexRuns.{found_groups, found_span, run_at-whole}
+use Rattle.bites_spec.specs.Captured.{Captured, captured, Excerpt, excerpt, FindsSpan, FindsGroups, IsMatchFrom, IsInSlots}
+use Rattle.bites_spec.proofs.Laws as laws
 use Rattle.bites_spec.specs.TextLaws.{HasBorders}
 use Rattle.regex_bites.specs.Borders.{GroupsAtBorders}
-use Rattle.bites_promises.specs.Headline.{EndsAsPreferred, EndsLast, AreOfParse, AreOfOneParse, AreOfPreferredParse, AreOfLongestParse, AreOfPreferredLongestParse}
+use Rattle.bites_promises.specs.Headline.{MatchesOver, IsFirstMatch, EndsAsPreferred, EndsLast, MatchHeadline, Headline, AreFirstGroups, AreOfParse, AreOfOneParse, AreOfPreferredParse, AreOfLongestParse, AreOfPreferredLongestParse}
 
 -- over texts, from a border on, an answer begins and ends at borders, and so do its groups
 answer_borders : (t : Tree) (hay : List ℕ) (s : ℕ) → IsUtf8 hay → (s ≤ length hay → IsCharBoundary hay s) → (a : Answer) →
     FoundSome t hay s (Some a) → HasBorders hay (span a.start a.end) × ((k : ℕ) (g : Span) → a.group k ≡ Some g → HasBorders hay g)
 answer_borders t hay s utf8 border a f =
-    let lies = Among-places hay s a.start f.first.place in let one = lies.0 in let two = lies.1 in
-    found_borders t hay s a utf8 (border (omega (arith, one, two))) f
+    let lies = (laws.found_lies t hay s a f).0 in let one = lies.0 in let two = lies.1 in let three = lies.2 in
+    laws.what_is_found_in_texts_has_borders t hay s a utf8 (border (omega (arith, one, two, three))) f
 
--- an answer, by what is read off it: there is one exactly if the tree matches
+-- what a search finds, read off its clauses on the tree
 module _ (r : Regex) (hay : List ℕ) (s : ℕ) where
-  Some_has : (a : Answer) → FoundSome r.tree hay s (Some a) → HasMatch r.tree hay s
-  Some_has a f = (a.start, a.end, f.first.place, Parse-Matches hay r.tree a.start a.end f.marks f.parse)
+  some_parse : (a : Answer) → Finds r.leftmost_longest r.tree hay s (Some a) → FoundSome r.tree hay s (Some a)
+  some_parse a = laws.finds_some r.leftmost_longest r.tree hay s (Some a)
 
-  exactly_if : {B : Type 0} (o : Option B) (a : Option Answer) → FoundSome r.tree hay s a → (IsSome o → IsSome a) → (IsSome a → IsSome o) →
-      IsSome o ↔ HasMatch r.tree hay s
-  exactly_if o None none to from = (λ h. absurd (true≢false (sym (to h))), λ has. absurd (none has.0 has.2 has.1 has.3))
-  exactly_if o (Some a) f to from = (λ h. Some_has a f, λ has. from refl)
+  matches_from : (a : Answer) → FoundSome r.tree hay s (Some a) → Matches hay r.tree a.start a.end
+  matches_from a f = laws.match_is_parse.1 hay r.tree a.start a.end f.marks f.parse
+
+  preferred_end : (a : Answer) → Finds false r.tree hay s (Some a) → IsPlain r.tree → EndsAsPreferred r.tree hay (span a.start a.end)
+  preferred_end a f plain = (f.marks, f.chosen plain)
+
+  longest_end : (a : Answer) → Finds true r.tree hay s (Some a) → EndsLast r.tree hay (span a.start a.end)
+  longest_end a f = f.chosen.0
+
+  first_match : (g : Span) → IsMatchFrom r hay s g → IsFirstMatch r hay s g
+  first_match g m =
+      let a = m.answer in let f = some_parse a m.found in let same = sym m.is_span in
+      record {
+        first = subst (λ (x : Span). IsFirstPlace r.tree hay s x.start) same f.first;
+        matches = subst (MatchesOver r.tree hay) same (matches_from a f);
+        preferred = λ off plain.
+            subst (EndsAsPreferred r.tree hay) same (preferred_end a (subst (λ b. Finds b r.tree hay s (Some a)) off m.found) plain);
+        longest = λ on. subst (EndsLast r.tree hay) same (longest_end a (subst (λ b. Finds b r.tree hay s (Some a)) on m.found));
+      }
 
   -- where a match is read as a span
   module _ {M : Type 0} (at : M → Span) where
-    found_is : (o : Option M) (a : Option Answer) → option_map at o ≡ option_map (λ b. span b.start b.end) a →
-        (IsSome o → IsSome a) × (IsSome a → IsSome o)
-    found_is None None e = (λ h. h, λ h. h)
-    found_is None (Some a) e = let never : None ≡ Some (span a.start a.end) = e in absurd (cc)
-    found_is (Some m) None e = let never : Some (at m) ≡ None = e in absurd (cc)
-    found_is (Some m) (Some a) e = (λ h. refl, λ h. refl)
-
     pub found_exactly : (o : Option M) → FindsSpan r hay s (option_map at o) → IsSome o ↔ HasMatch r.tree hay s
-    found_exactly o f =
-        let same = found_is o f.0 f.2 in
-        exactly_if o f.0 (finds_some r.leftmost_longest r.tree hay s f.0 f.1) same.0 same.1
+    found_exactly None none = (λ h. absurd (true≢false (sym h)), λ has. absurd (none has.0 has.2 has.1 has.3))
+    found_exactly (Some m) found =
+        let a = found.answer in let f = some_parse a found.found in
+        (λ h. (a.start, a.end, f.first.place, matches_from a f), λ has. refl)
 
-    first_of_answer : (m : M) (a : Option Answer) → FoundSome r.tree hay s a → Some (at m) ≡ option_map (λ b. span b.start b.end) a →
-        IsFirstPlace r.tree hay s (at m).start × Matches hay r.tree (at m).start (at m).end
-    first_of_answer m None f e = let never : Some (at m) ≡ None = e in absurd (cc)
-    first_of_answer m (Some a) f e =
-        let some : Some (at m) ≡ Some (span a.start a.end) = e in
-        let same : span a.start a.end ≡ at m = cc in
-        subst (λ (g : Span). IsFirstPlace r.tree hay s g.start × Matches hay r.tree g.start g.end) same
-        (f.first, Parse-Matches hay r.tree a.start a.end f.marks f.parse)
-
-    both_of_match : (m : M) → FindsSpan r hay s (Some (at m)) → IsFirstPlace r.tree hay s (at m).start × Matches hay r.tree (at m).start (at m).end
-    both_of_match m f = first_of_answer m f.0 (finds_some r.leftmost_longest r.tree hay s f.0 f.1) f.2
-
-    -- a match begins at the first place
-    pub found_first : (o : Option M) → FindsSpan r hay s (option_map at o) → IfSome o (λ x. IsFirstPlace r.tree hay s (at x).start)
-    found_first None f = tt
-    found_first (Some m) f = (both_of_match m f).0
-
-    -- and is what the tree matches there
-    pub found_matches : (o : Option M) → FindsSpan r hay s (option_map at o) → IfSome o (λ x. Matches hay r.tree (at x).start (at x).end)
-    found_matches None f = tt
-    found_matches (Some m) f = (both_of_match m f).1
-
-    preferred_of_answer : IsPlain r.tree → (m : M) (a : Option Answer) → Finds false r.tree hay s a →
-        Some (at m) ≡ option_map (λ b. span b.start b.end) a → EndsAsPreferred r.tree hay (at m)
-    preferred_of_answer plain m None f e = let never : Some (at m) ≡ None = e in absurd (cc)
-    preferred_of_answer plain m (Some a) f e =
-        let some : Some (at m) ≡ Some (span a.start a.end) = e in
-        let same : span a.start a.end ≡ at m = cc in
-        subst (EndsAsPreferred r.tree hay) same (f.marks, f.chosen plain)
-
-    -- it ends where the preferred parse does
-    pub found_preferred : (o : Option M) → FindsSpan r hay s (option_map at o) → r.leftmost_longest ≡ false → IsPlain r.tree →
-        IfSome o (λ x. EndsAsPreferred r.tree hay (at x))
-    found_preferred None f off plain = tt
-    found_preferred (Some m) f off plain = preferred_of_answer plain m f.0 (subst (λ b. Finds b r.tree hay s f.0) off f.1) f.2
-
-    longest_of_answer : (m : M) (a : Option Answer) → Finds true r.tree hay s a →
-        Some (at m) ≡ option_map (λ b. span b.start b.end) a → EndsLast r.tree hay (at m)
-    longest_of_answer m None f e = let never : Some (at m) ≡ None = e in absurd (cc)
-    longest_of_answer m (Some a) f e =
-        let some : Some (at m) ≡ Some (span a.start a.end) = e in
-        let same : span a.start a.end ≡ at m = cc in
-        subst (EndsLast r.tree hay) same f.chosen.0
-
-    -- or behind all others
-    pub found_last : (o : Option M) → FindsSpan r hay s (option_map at o) → r.leftmost_longest ≡ true →
-        IfSome o (λ x. EndsLast r.tree hay (at x))
-    found_last None f on = tt
-    found_last (Some m) f on = longest_of_answer m f.0 (subst (λ b. Finds b r.tree hay s f.0) on f.1) f.2
+    pub match_headline : (o : Option M) → FindsSpan r hay s (option_map at o) → MatchHeadline r hay s (option_map at o)
+    match_headline None none = none
+    match_headline (Some m) found = first_match (at m) found
 
     -- over texts it begins and ends at borders
-    module _ (utf8 : IsUtf8 hay) (border : s ≤ length hay → IsCharBoundary hay s) where
-      borders_of_answer : (m : M) (a : Option Answer) → FoundSome r.tree hay s a → Some (at m) ≡ option_map (λ b. span b.start b.end) a →
-          HasBorders hay (at m)
-      borders_of_answer m None f e = let never : Some (at m) ≡ None = e in absurd (cc)
-      borders_of_answer m (Some a) f e =
-          let some : Some (at m) ≡ Some (span a.start a.end) = e in
-          let same : span a.start a.end ≡ at m = cc in
-          subst (HasBorders hay) same (answer_borders r.tree hay s utf8 border a f).0
-
-      pub found_at_borders : (o : Option M) → FindsSpan r hay s (option_map at o) → IfSome o (λ x. HasBorders hay (at x))
-      found_at_borders None f = tt
-      found_at_borders (Some m) f = borders_of_answer m f.0 (finds_some r.leftmost_longest r.tree hay s f.0 f.1) f.2
+    pub found_at_borders : IsUtf8 hay → (s ≤ length hay → IsCharBoundary hay s) → (o : Option M) → FindsSpan r hay s (option_map at o) →
+        IfSome o (λ x. HasBorders hay (at x))
+    found_at_borders utf8 border None none = tt
+    found_at_borders utf8 border (Some m) found =
+        let a = found.answer in
+        subst (HasBorders hay) (sym found.is_span) (answer_borders r.tree hay s utf8 border a (some_parse a found.found)).0
 
   -- the groups in slots
   module _ (l : List (Option ℕ)) where
     -- over texts each begins and ends at borders
-    borders_of : IsUtf8 hay → (s ≤ length hay → IsCharBoundary hay s) → (a : Option Answer) → FoundSome r.tree hay s a → IsInSlots a (Some l) →
-        GroupsAtBorders hay l
-    borders_of utf8 border None f is = absurd is
-    borders_of utf8 border (Some a) f is = λ k g e. (answer_borders r.tree hay s utf8 border a f).1 k g (sym (is.1 k) ∙ e)
-
     pub of_borders : IsUtf8 hay → (s ≤ length hay → IsCharBoundary hay s) → FindsGroups r hay s (Some l) → GroupsAtBorders hay l
-    of_borders utf8 border f = borders_of utf8 border f.0 (finds_some r.leftmost_longest r.tree hay s f.0 f.1) f.2
+    of_borders utf8 border found = λ k g e.
+        (answer_borders r.tree hay s utf8 border found.answer (some_parse found.answer found.found)).1 k g (sym (found.in_slots.1 k) ∙ e)
 
-    of_parse : (Q : (i j : ℕ) → List Mark → Type 0) (a : Answer) → FoundBy r.tree hay Q s (Some a) → IsInSlots (Some a) (Some l) →
-        AreOfParse r.tree hay s Q l
-    of_parse Q a f is = record {
+    of_parse : (Q R : (i j : ℕ) → List Mark → Type 0) (a : Answer) → ((i j : ℕ) (ms : List Mark) → Q i j ms → R i j ms) →
+        FoundBy r.tree hay Q s (Some a) → IsInSlots (Some a) (Some l) → AreOfParse r.tree hay s R l
+    of_parse Q R a weaker f is = record {
       start = a.start;
       end = a.end;
       marks = f.marks;
       first = f.first;
       parse = f.parse;
       groups = λ k. is.1 k ∙ f.groups k;
-      chosen = f.chosen;
+      chosen = weaker a.start a.end f.marks f.chosen;
     }
 
-    one_parse_of : (a : Option Answer) → FoundSome r.tree hay s a → IsInSlots a (Some l) → AreOfOneParse r.tree hay s l
-    one_parse_of None f is = absurd is
-    one_parse_of (Some a) f is = of_parse _ a f is
+    -- the groups are the headline's
+    pub first_groups : FindsGroups r hay s (Some l) → AreFirstGroups r hay s l
+    first_groups found =
+        let a = found.answer in
+        record {
+          one_parse = of_parse _ _ a (λ i j ms h. tt) (some_parse a found.found) found.in_slots;
+          preferred = λ off plain.
+              of_parse _ _ a (λ i j ms h. h plain) (subst (λ b. Finds b r.tree hay s (Some a)) off found.found) found.in_slots;
+          longest = λ on. of_parse _ _ a (λ i j ms h. h.0) (subst (λ b. Finds b r.tree hay s (Some a)) on found.found) found.in_slots;
+          preferred_longest = λ on plain.
+              of_parse _ _ a (λ i j ms h. (h.0, h.1 plain)) (subst (λ b. Finds b r.tree hay s (Some a)) on found.found) found.in_slots;
+        }
 
-    pub of_one_parse : FindsGroups r hay s (Some l) → AreOfOneParse r.tree hay s l
-    of_one_parse f = one_parse_of f.0 (finds_some r.leftmost_longest r.tree hay s f.0 f.1) f.2
+  captured_by : (o : Option (List (Option ℕ))) (c : Captured) → Some c ≡ option_map (captured r hay) o → (c.regex ≡ r) × (c.haystack ≡ hay)
+  captured_by None c e = let never : Some c ≡ None = e in absurd (cc)
+  captured_by (Some l) c e =
+      let some : Some c ≡ Some (captured r hay l) = e in
+      let same : c ≡ captured r hay l = cc in
+      (ap (λ (d : Captured). d.regex) same, ap (λ (d : Captured). d.haystack) same)
 
-    preferred_of : IsPlain r.tree → (a : Option Answer) → Finds false r.tree hay s a → IsInSlots a (Some l) → AreOfPreferredParse r.tree hay s l
-    preferred_of plain None f is = absurd is
-    preferred_of plain (Some a) f is = record {
-      start = a.start;
-      end = a.end;
-      marks = f.marks;
-      first = f.first;
-      parse = f.parse;
-      groups = λ k. is.1 k ∙ f.groups k;
-      chosen = f.chosen plain;
-    }
-
-    pub of_preferred_parse : r.leftmost_longest ≡ false → IsPlain r.tree → FindsGroups r hay s (Some l) → AreOfPreferredParse r.tree hay s l
-    of_preferred_parse e plain f = preferred_of plain f.0 (subst (λ b. Finds b r.tree hay s f.0) e f.1) f.2
-
-    longest_of : (a : Option Answer) → Finds true r.tree hay s a → IsInSlots a (Some l) → AreOfLongestParse r.tree hay s l
-    longest_of None f is = absurd is
-    longest_of (Some a) f is = record {
-      start = a.start;
-      end = a.end;
-      marks = f.marks;
-      first = f.first;
-      parse = f.parse;
-      groups = λ k. is.1 k ∙ f.groups k;
-      chosen = f.chosen.0;
-    }
-
-    pub of_longest_parse : r.leftmost_longest ≡ true → FindsGroups r hay s (Some l) → AreOfLongestParse r.tree hay s l
-    of_longest_parse e f = longest_of f.0 (subst (λ b. Finds b r.tree hay s f.0) e f.1) f.2
-
-    preferred_longest_of : IsPlain r.tree → (a : Option Answer) → Finds true r.tree hay s a → IsInSlots a (Some l) → AreOfPreferredLongestParse r.tree hay s l
-    preferred_longest_of plain None f is = absurd is
-    preferred_longest_of plain (Some a) f is = record {
-      start = a.start;
-      end = a.end;
-      marks = f.marks;
-      first = f.first;
-      parse = f.parse;
-      groups = λ k. is.1 k ∙ f.groups k;
-      chosen = (f.chosen.0, f.chosen.1 plain);
-    }
-
-    pub of_preferred_longest_parse : r.leftmost_longest ≡ true → IsPlain r.tree → FindsGroups r hay s (Some l) → AreOfPreferredLongestParse r.tree hay s l
-    of_preferred_longest_parse e plain f = preferred_longest_of plain f.0 (subst (λ b. Finds b r.tree hay s f.0) e f.1) f.2
-
-  groups_are : (o : Option Captured) (a : Option Answer) → IsInSlots a (option_map (λ c. c.slots) o) → (IsSome o → IsSome a) × (IsSome a → IsSome o)
-  groups_are None None is = (λ h. h, λ h. h)
-  groups_are None (Some a) is = absurd is
-  groups_are (Some c) None is = absurd is
-  groups_are (Some c) (Some a) is = (λ h. refl, λ h. refl)
-
-  -- there are groups exactly if the tree matches
-  pub groups_exactly : (o : Option Captured) → FindsGroups r hay s (option_map (λ c. c.slots) o) → IsSome o ↔ HasMatch r.tree hay s
-  groups_exactly o f =
-      let same = groups_are o f.0 f.2 in
-      exactly_if o f.0 (finds_some r.leftmost_longest r.tree hay s f.0 f.1) same.0 same.1
+  -- captures are the headline's
+  pub headline : (o : Option Captured) → o ≡ option_map (captured r hay) (slots_at r hay s) → FindsGroups r hay s (option_map (λ c. c.slots) o) →
+      Headline r hay s o
+  headline None e none = none
+  headline (Some c) e found =
+      let by = captured_by (slots_at r hay s) c e in
+      record { regex_is = by.0; haystack_is = by.1; groups = first_groups c.slots found }
 
   -- what holds of slots with the groups that a search finds holds of captures
   pub on_captures : (P : List (Option ℕ) → Type 0) → ((l : List (Option ℕ)) → FindsGroups r hay s (Some l) → P l) →
@@ -214,14 +127,14 @@ module _ (r : Regex) (hay : List ℕ) (s : ℕ) where
     written_by P of None e (Some m) same old new w = let never : Some (f m) ≡ None = same in absurd (cc)
     written_by P of (Some x) e (Some m) same old new w =
         subst P (sym w)
-        (of (slots r.program x) (subst (λ q. FindsGroups r hay s (option_map (slots r.program) q)) e (found_groups r is hay s)))
+        (of (slots r.program x) (subst (λ q. FindsGroups r hay s (option_map (slots r.program) q)) e (laws.slots_are_found r is hay s).0))
 
     written_whole_by : (x : Option Run) → run_at r hay s ≡ x → (o : Option M) → option_map f o ≡ option_map (excerpt hay) (option_map span_of_run x) →
         (old new : List (Option ℕ)) → new ≡ unwrap_or (option_map (slots r.program) x) old → IfSome o (λ m. group_in new 0 ≡ Some (f m).span)
     written_whole_by x e None same old new w = tt
     written_whole_by None e (Some m) same old new w = let never : Some (f m) ≡ None = same in absurd (cc)
     written_whole_by (Some x) e (Some m) same old new w =
-        ap (λ l. group_in l 0) w ∙ run_at-whole r is hay s x e ∙ sym (ap (option_map (λ (y : Excerpt). y.span)) same)
+        ap (λ l. group_in l 0) w ∙ laws.answers_have_group_0 r is hay s x e ∙ sym (ap (option_map (λ (y : Excerpt). y.span)) same)
 
     -- the match is group 0 in the locations
     pub written_whole : (o : Option M) → option_map f o ≡ option_map (excerpt hay) (span_at r hay s) →
@@ -236,7 +149,7 @@ module _ (r : Regex) (hay : List ℕ) (s : ℕ) where
     written_is (Some x) (Some m) e = ap (option_map (λ (y : Excerpt). y.span)) e
 
     written_span : (o : Option M) → option_map f o ≡ option_map (excerpt hay) (span_at r hay s) → FindsSpan r hay s (option_map (λ m. (f m).span) o)
-    written_span o e = subst (FindsSpan r hay s) (sym (written_is (run_at r hay s) o e)) (found_span r is hay s)
+    written_span o e = subst (FindsSpan r hay s) (sym (written_is (run_at r hay s) o e)) (laws.slots_are_found r is hay s).1
 
     -- a search that writes locations finds something exactly if the tree matches
     pub written_exactly : (o : Option M) → option_map f o ≡ option_map (excerpt hay) (span_at r hay s) → IsSome o ↔ HasMatch r.tree hay s

@@ -4,3 +4,4 @@ pub mod GroupLemmas
 pub mod HeadlineLemmas
 pub mod PieceLemmas
 pub mod SuccessiveLemmas
+mod RefutationLemmas

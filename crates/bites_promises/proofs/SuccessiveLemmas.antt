@@ -1,26 +1,28 @@
 -- The successive matches of a compiled regex, and the haystack with all of them replaced.
-use Rattle.std.proofs.Common.{◌≡◌, ℕ, List, [], ◌∷◌, ◌++◌, map, length, Option, Some, None, option_map, refl, sym, ap, ◌∙◌, subst}
+use Rattle.std.proofs.Common.{◌≡◌, ℕ, List, [], ◌∷◌, ◌++◌, map, length, Option, Some, None, option_map, refl, sym, ap, ◌∙◌}
 use Rattle.std.specs.Prelude.{unwrap_or}
 use Rattle.std.proofs.lemmas.List.{map-append, append_assoc, append-nil}
 use Rattle.bites_spec.specs.Match.{Span, span}
 use Rattle.bites_spec.specs.Run.{Run, slots}
 use Rattle.bites_spec.specs.Slots.{group_in, span_of_run}
-use Rattle.bites_spec.specs.Spans.{Successive, successive, EndsGrow}
-use Rattle.bites_spec.specs.Pieces.{AreInOrder, text_at, replaced, joined_by}
-use Rattle.bites_spec.specs.Regex.{Regex, IsCompiled, run_at, span_at}
+use Rattle.bites_spec.specs.Spans.{successive, EndsGrow}
+use Rattle.bites_spec.specs.Pieces.{text_at, replaced, joined_by}
+use Rattle.bites_spec.specs.Regex.{Regex, IsCompiled, run_at}
 use Rattle.bites_spec.specs.Captured.{Captured, Excerpt, excerpt, text_of}
 use Rattle.bites_spec.specs.Iteration.{spans_in, captured_by, captures_in, pieces_in}
 use Rattle.bites_spec.specs.Replace.{Served}
 use Rattle.bites_spec.specs.Replaced.{span_in}
-use Rattle.bites_spec.proofs.PieceTextLemmas.{replaced_from-joined}
-use Rattle.bites_spec.proofs.RegexRuns.{captures_have_spans, span_at-lies}
-use Rattle.bites_spec.proofs.SpanLemmas.{Successive-in_order, Successive-ends_grow}
-use Rattle.bites_spec.proofs.SuccessiveLemmas.{successive_follow}
+use Rattle.bites_spec.specs.AllMatches.{AreMatches}
+use Rattle.bites_spec.proofs.Laws as laws
 use Rattle.bites_promises.specs.Promises.{StandApart, GrowBehindFirst}
 
-same_list : {A : Type 0} (xs : List A) → map (λ x. x) xs ≡ xs
-same_list [] = refl
-same_list (x ∷ xs) = ap (λ ys. x ∷ ys) (same_list xs)
+-- all matches of a tree stand apart
+pub stand_apart : (r : Regex) (hay : List ℕ) (ss : List Span) → AreMatches r hay ss → StandApart (length hay) ss
+stand_apart r hay ss all = let apart = laws.matches_stand_apart r hay ss all in (apart.0, behind_first ss apart.1)
+  where
+    behind_first : (ss : List Span) → ((x : Span) (xs : List Span) → ss ≡ x ∷ xs → EndsGrow x.end xs) → GrowBehindFirst ss
+    behind_first [] grow = tt
+    behind_first (x ∷ xs) grow = grow x xs refl
 
 known : Option Span → Span
 known o = unwrap_or o (span 0 0)
@@ -40,23 +42,9 @@ same_texts u [] = refl
 same_texts u (c ∷ cs) = ap (λ ts. u ∷ ts) (same_texts u cs)
 
 module _ (r : Regex) (is : IsCompiled r) (hay : List ℕ) where
-  grow : (ss : List Span) → Successive (λ s. s) hay (λ s o. span_at r hay s ≡ o) ss → GrowBehindFirst ss
-  grow [] due = tt
-  grow (s ∷ ss) due =
-      subst (EndsGrow s.end) (same_list ss)
-      (Successive-ends_grow (λ s. s) hay (λ s o. span_at r hay s ≡ o) (span_at-lies r is hay) s ss due)
-
-  pub spans_stand_apart : StandApart (length hay) (spans_in r hay)
-  spans_stand_apart =
-      let all = successive_follow (λ s. s) hay (span_at r hay) (span_at-lies r is hay) in (
-        subst (AreInOrder (length hay) 0) (same_list (spans_in r hay))
-            (Successive-in_order (λ s. s) hay (λ s o. span_at r hay s ≡ o) (span_at-lies r is hay) (spans_in r hay) all),
-        grow (spans_in r hay) all,
-      )
-
   spans_of_captures : map span_in (captures_in r hay) ≡ spans_in r hay
   spans_of_captures =
-      sym (known_groups (captures_in r hay)) ∙ ap (map known) (captures_have_spans r is hay) ∙ known_spans (spans_in r hay)
+      sym (known_groups (captures_in r hay)) ∙ ap (map known) (laws.captures_have_spans r is hay) ∙ known_spans (spans_in r hay)
 
   -- the haystack with a text in the place of each match
   pub replaced_is_joined : (u bytes : List ℕ) (texts : List (List ℕ)) → texts ≡ map (λ c. u) (captures_in r hay) →
@@ -65,7 +53,7 @@ module _ (r : Regex) (is : IsCompiled r) (hay : List ℕ) where
       is_replaced
       ∙ ap (replaced hay 0 (map span_in (captures_in r hay))) (same ∙ same_texts u (captures_in r hay))
       ∙ ap (λ ss. replaced hay 0 ss (map (λ s. u) ss)) spans_of_captures
-      ∙ replaced_from-joined hay u 0 (spans_in r hay)
+      ∙ laws.replaced_is_joined hay u (spans_in r hay)
 
 -- the texts where the replacer answered one for all matches
 pub text_served : {S : Type 0} (gives : S → Captured → List ℕ → S → Type 0) (answers : S → Option (List ℕ) → S → Type 0)
@@ -143,7 +131,7 @@ module _ {M : Type 0} (f : M → Excerpt) where
         ∙ ap (λ l. map (option_map f) wholes ++ map whole_of l) (sym none)
         ∙ all
         ∙ wholes_by (successive span_of_run hay (run_at r hay))
-        ∙ ap (map (option_map (excerpt hay))) (captures_have_spans r is hay)
+        ∙ ap (map (option_map (excerpt hay))) (laws.captures_have_spans r is hay)
         ∙ some_spans (spans_in r hay)
         ∙ ap (map (λ x. Some x)) (sym found)
         ∙ sym (some_parts f hay ms)

@@ -1,10 +1,12 @@
 -- What the headline says of what a search answers.
-use Rattle.std.specs.Prelude.{◌≡◌, ℕ, ◌≤◌, List, Option, Some}
-use Rattle.bites_spec.specs.Tree.{Tree}
+use Rattle.std.specs.Prelude.{◌≡◌, ℕ, ◌≤◌, true, false, List, Option, Some, None}
+use Rattle.bites_spec.specs.Tree.{Tree, IsPlain}
 use Rattle.bites_spec.specs.Match.{Span, Mark, Matches, Parse, groups}
 use Rattle.bites_spec.specs.Preference.{parses}
-use Rattle.bites_spec.specs.Found.{IsFirstPlace, head_of, first_ending, way}
+use Rattle.bites_spec.specs.Found.{NoMatch, IsFirstPlace, head_of, first_ending, way}
 use Rattle.bites_spec.specs.Slots.{group_in}
+use Rattle.bites_spec.specs.Regex.{Regex}
+use Rattle.bites_spec.specs.Captured.{Captured}
 
 module _ (t : Tree) (hay : List ℕ) (g : Span) where
   -- the tree matches from its start to its end
@@ -15,7 +17,7 @@ module _ (t : Tree) (hay : List ℕ) (g : Span) where
   abbrev pub EndsAsPreferred : Type 0
   EndsAsPreferred = (ms : List Mark) × (head_of (parses hay t g.start) ≡ Some (way g.end ms))
 
-  -- no match from its start ends behind it
+  -- no match from its start ends after it
   abbrev pub EndsLast : Type 0
   EndsLast = (l : ℕ) → Matches hay t g.start l → l ≤ g.end
 
@@ -46,3 +48,36 @@ module _ (t : Tree) (hay : List ℕ) (s : ℕ) where
   abbrev pub AreOfPreferredLongestParse : List (Option ℕ) → Type 0
   AreOfPreferredLongestParse =
       AreOfParse (λ i j ms. ((l : ℕ) → Matches hay t i l → l ≤ j) × (first_ending j (parses hay t i) ≡ Some (way j ms)))
+
+module _ (regex : Regex) (hay : List ℕ) (start : ℕ) where
+  -- A match that begins at the first place from the start on at which the tree matches. Where the tree is plain it ends as the
+  -- pattern prefers; where the longest match is asked for, it ends last.
+  pub record IsFirstMatch (g : Span) : Type 0 where
+    pub first : IsFirstPlace regex.tree hay start g.start
+    pub matches : MatchesOver regex.tree hay g
+    pub preferred : regex.leftmost_longest ≡ false → IsPlain regex.tree → EndsAsPreferred regex.tree hay g
+    pub longest : regex.leftmost_longest ≡ true → EndsLast regex.tree hay g
+
+  -- the search answers such a match, or that the tree matches nowhere
+  abbrev pub MatchHeadline : Option Span → Type 0
+  MatchHeadline None = NoMatch regex.tree hay start
+  MatchHeadline (Some g) = IsFirstMatch g
+
+  -- In the slots stand the groups of one parse from the first place from the start on at which the tree matches. Where the
+  -- tree is plain it is the preferred parse; where the longest match is asked for, a longest one, and the preferred of those.
+  pub record AreFirstGroups (slots : List (Option ℕ)) : Type 0 where
+    pub one_parse : AreOfOneParse regex.tree hay start slots
+    pub preferred : regex.leftmost_longest ≡ false → IsPlain regex.tree → AreOfPreferredParse regex.tree hay start slots
+    pub longest : regex.leftmost_longest ≡ true → AreOfLongestParse regex.tree hay start slots
+    pub preferred_longest : regex.leftmost_longest ≡ true → IsPlain regex.tree → AreOfPreferredLongestParse regex.tree hay start slots
+
+  -- captures that this regex found in this haystack, with such groups
+  pub record AreFirstCaptures (c : Captured) : Type 0 where
+    pub regex_is : c.regex ≡ regex
+    pub haystack_is : c.haystack ≡ hay
+    pub groups : AreFirstGroups c.slots
+
+  -- the search answers such captures, or that the tree matches nowhere
+  abbrev pub Headline : Option Captured → Type 0
+  Headline None = NoMatch regex.tree hay start
+  Headline (Some c) = AreFirstCaptures c

@@ -1,2 +1,4 @@
 pub mod Headline
 pub mod Promises
+pub mod OnTree
+pub mod Refutations

@@ -7,4 +7,5 @@
 pub mod agreement;
 pub mod escaped;
 pub mod headline;
+pub mod refuted;
 pub mod successive;

@@ -2,33 +2,18 @@
 //!
 //! `as_str` is called for its contract: it says that the regex is compiled, which the laws of its answers ask.
 
-ghost use Rattle.std.specs.Prelude.{◌≡◌, ◌+◌, Some, length, map, option_map, IfOk, vec_len};
+ghost use Rattle.std.specs.Prelude.{◌≡◌, ◌+◌, Some, map, option_map, IfOk, vec_len};
 ghost use Rattle.std.specs.Cow.{cow_slice_items, cow_str_bytes};
 ghost use Rattle.bites_spec.specs.Pieces.{joined_by, alternate};
 ghost use Rattle.bites_spec.specs.Captured.{text_of};
 ghost use Rattle.bites_bytes.specs.Matched as bytes;
 ghost use Rattle.regex_bites.specs.Matched as texts;
-ghost use Rattle.bites_promises.specs.Promises.{StandApart};
 
 /// Over byte strings.
 pub mod over_bytes {
     use regex_bites::bytes::{Match, NoExpand, Regex};
     use std::alloc::{AllocError, Global};
     use std::borrow::CowSlice;
-
-    /// All matches: they stand in order, none overlaps another, and each ends behind the one before.
-    pub fn all_matches<'h>(
-        alloc: Global,
-        regex: &Regex,
-        haystack: &'h [u8],
-    ) -> Result<Vec<Match<'h>>, AllocError>
-        ensures { IfOk result (λ v. StandApart (length haystack.now)
-            (map (λ m. (bytes.excerpt_of m).span) v.items)) }
-    {
-        regex.as_str();
-        let matches = regex.find_iter(haystack)?.collect(alloc)?;
-        Ok(matches)
-    }
 
     /// All matches, and group 0 of the groups of all matches: they are the same.
     pub fn matches_and_groups_0<'h>(
@@ -88,20 +73,6 @@ pub mod over_texts {
     use regex_bites::{Match, NoExpand, Regex};
     use std::alloc::{AllocError, Global};
     use std::borrow::CowStr;
-
-    /// All matches: they stand in order, none overlaps another, and each ends behind the one before.
-    pub fn all_matches<'h>(
-        alloc: Global,
-        regex: &Regex,
-        haystack: &'h str,
-    ) -> Result<Vec<Match<'h>>, AllocError>
-        ensures { IfOk result (λ v. StandApart (length haystack.now)
-            (map (λ m. (texts.excerpt_of m).span) v.items)) }
-    {
-        regex.as_str();
-        let matches = regex.find_iter(haystack)?.collect(alloc)?;
-        Ok(matches)
-    }
 
     /// All matches, and group 0 of the groups of all matches: they are the same.
     pub fn matches_and_groups_0<'h>(

@@ -1,6 +1,251 @@
-//! What the engine over bytes answers.
+//! What a regex over bytes answers to searches.
 
-pub mod build;
-pub mod replace;
-pub mod search;
-pub mod single;
+ghost use Rattle.std.specs.Prelude.{◌≡◌, ◌+◌, Some};
+ghost use Rattle.bites_spec.specs.Measure.{static_captures_len};
+
+use crate::call::Search;
+use crate::question::Asked;
+use crate::told::{push_new, push_next, push_none, push_pieces, push_quoted, push_span};
+use bites_bytes::bytes::{Captures, Match, NoExpand, Regex, With};
+use std::alloc::{AllocError, Global};
+use std::borrow::CowSlice;
+use std::fmt::Write;
+
+/// Adds the answer to a search.
+pub fn push_answer(
+    alloc: Global,
+    regex: &Regex,
+    asked: &Asked,
+    search: Search,
+    text: &mut String,
+) -> Result<(), AllocError> {
+    let (haystack, argument) = (asked.haystack.as_slice(), asked.argument);
+    match search {
+        Search::Is => is_match(regex, haystack, argument, text),
+        Search::Shortest => shortest(regex, haystack, argument, text),
+        Search::FindAt => find_at(regex, haystack, argument, text),
+        Search::CapturesAt => captures_at(regex, haystack, argument, text),
+        Search::FindIter => find_iter(regex, haystack, text),
+        Search::CapturesIter => captures_iter(regex, haystack, text),
+        Search::Split => split(alloc, regex, haystack, text),
+        Search::SplitN => splitn(alloc, regex, haystack, argument, text),
+        Search::Extract => extract(alloc, regex, haystack, text),
+        Search::Expand => expand(alloc, regex, haystack, &asked.template, text),
+        Search::Replace => by_template(regex, haystack, &asked.template, argument, text),
+        Search::ReplaceLiteral => by_literal(regex, haystack, &asked.template, argument, text),
+        Search::ReplaceCount => by_count(alloc, regex, haystack, argument, text),
+    }
+}
+
+fn is_match(
+    regex: &Regex,
+    haystack: &[u8],
+    start: usize,
+    text: &mut String,
+) -> Result<(), AllocError> {
+    let is_match = regex.is_match_at(haystack, start)?;
+    write!(text, "{is_match}")
+}
+
+fn shortest(
+    regex: &Regex,
+    haystack: &[u8],
+    start: usize,
+    text: &mut String,
+) -> Result<(), AllocError> {
+    if let Some(end) = regex.shortest_match_at(haystack, start)? {
+        write!(text, "{end}")?;
+    }
+    push_none(text)
+}
+
+// Where a match lies.
+fn span_of(found: Option<Match<'_>>) -> Option<(usize, usize)> {
+    match found {
+        Some(found) => Some((found.start(), found.end())),
+        None => None,
+    }
+}
+
+fn find_at(
+    regex: &Regex,
+    haystack: &[u8],
+    start: usize,
+    text: &mut String,
+) -> Result<(), AllocError> {
+    if let Some(found) = regex.find_at(haystack, start)? {
+        push_span(text, Some((found.start(), found.end())))?;
+    }
+    push_none(text)
+}
+
+fn find_iter(regex: &Regex, haystack: &[u8], text: &mut String) -> Result<(), AllocError> {
+    for found in regex.find_iter(haystack)? {
+        push_span(text, Some((found.start(), found.end())))?;
+    }
+    push_none(text)
+}
+
+fn captures_at(
+    regex: &Regex,
+    haystack: &[u8],
+    start: usize,
+    text: &mut String,
+) -> Result<(), AllocError> {
+    if let Some(captures) = regex.captures_at(haystack, start)? {
+        push_groups(&captures, text)?;
+    }
+    push_none(text)
+}
+
+fn captures_iter(regex: &Regex, haystack: &[u8], text: &mut String) -> Result<(), AllocError> {
+    for captures in regex.captures_iter(haystack)? {
+        push_next(text)?;
+        push_groups(&captures?, text)?;
+    }
+    push_none(text)
+}
+
+fn push_groups(captures: &Captures<'_>, text: &mut String) -> Result<(), AllocError> {
+    for group in captures.iter() {
+        push_span(text, span_of(group))?;
+    }
+    Ok(())
+}
+
+// Where the matches end.
+fn ends(alloc: Global, regex: &Regex, haystack: &[u8]) -> Result<Vec<usize>, AllocError> {
+    let mut ends = Vec::new(alloc);
+    for found in regex.find_iter(haystack)? {
+        ends.push(found.end())?;
+    }
+    Ok(ends)
+}
+
+fn split(
+    alloc: Global,
+    regex: &Regex,
+    haystack: &[u8],
+    text: &mut String,
+) -> Result<(), AllocError> {
+    let ends = ends(alloc, regex, haystack)?;
+    let pieces: Vec<&[u8]> = regex.split(haystack)?.collect(alloc)?;
+    push_pieces(text, haystack, &ends, &pieces)
+}
+
+fn splitn(
+    alloc: Global,
+    regex: &Regex,
+    haystack: &[u8],
+    limit: usize,
+    text: &mut String,
+) -> Result<(), AllocError> {
+    let ends = ends(alloc, regex, haystack)?;
+    let pieces: Vec<&[u8]> = regex.splitn(haystack, limit)?.collect(alloc)?;
+    push_pieces(text, haystack, &ends, &pieces)
+}
+
+// Adds the first match and as many groups as participate in each match, where the pattern's form says how many.
+fn extract(
+    alloc: Global,
+    regex: &Regex,
+    haystack: &[u8],
+    text: &mut String,
+) -> Result<(), AllocError> {
+    match regex.static_captures_len() {
+        Some(least) if least > 0 => extract_groups(alloc, regex, haystack, least - 1, text)?,
+        _ => {}
+    }
+    push_none(text)
+}
+
+fn extract_groups(
+    alloc: Global,
+    regex: &Regex,
+    haystack: &[u8],
+    count: usize,
+    text: &mut String,
+) -> Result<(), AllocError>
+    requires { static_captures_len regex.now.tree ≡ Some (count + 1) }
+{
+    let Some(captures) = regex.captures(haystack)? else {
+        return Ok(());
+    };
+    let mut groups = vec![in alloc; haystack; count]?;
+    push_quoted(text, captures.extract(&mut groups))?;
+    for group in &groups {
+        push_quoted(text, group)?;
+    }
+    Ok(())
+}
+
+// Adds what the template stands for at the first match.
+fn expand(
+    alloc: Global,
+    regex: &Regex,
+    haystack: &[u8],
+    template: &[u8],
+    text: &mut String,
+) -> Result<(), AllocError> {
+    let Some(captures) = regex.captures(haystack)? else {
+        return push_new(text, None);
+    };
+    let mut expanded = Vec::new(alloc);
+    captures.expand(template, &mut expanded)?;
+    push_new(text, Some(expanded.as_slice()))
+}
+
+fn push_replaced(text: &mut String, replaced: &CowSlice<'_, u8>) -> Result<(), AllocError> {
+    match replaced {
+        CowSlice::Borrowed(_) => push_new(text, None),
+        CowSlice::Owned(new) => push_new(text, Some(new.as_slice())),
+    }
+}
+
+fn by_template(
+    regex: &Regex,
+    haystack: &[u8],
+    template: &[u8],
+    limit: usize,
+    text: &mut String,
+) -> Result<(), AllocError> {
+    let replaced = match limit {
+        0 => regex.replace_all(haystack, template)?,
+        1 => regex.replace(haystack, template)?,
+        limit => regex.replacen(haystack, limit, template)?,
+    };
+    push_replaced(text, &replaced)
+}
+
+fn by_literal(
+    regex: &Regex,
+    haystack: &[u8],
+    literal: &[u8],
+    limit: usize,
+    text: &mut String,
+) -> Result<(), AllocError> {
+    let literal = NoExpand(literal);
+    let replaced = match limit {
+        0 => regex.replace_all(haystack, literal)?,
+        1 => regex.replace(haystack, literal)?,
+        limit => regex.replacen(haystack, limit, literal)?,
+    };
+    push_replaced(text, &replaced)
+}
+
+// Each match is replaced by its number, from 1 on.
+fn by_count(
+    alloc: Global,
+    regex: &Regex,
+    haystack: &[u8],
+    limit: usize,
+    text: &mut String,
+) -> Result<(), AllocError> {
+    let mut count = 0u32;
+    let counting = With(|_captures: &Captures<'_>| {
+        count = count.wrapping_add(1);
+        format!(in alloc; "{count}")
+    });
+    let replaced = regex.replacen(haystack, limit, counting)?;
+    push_replaced(text, &replaced)
+}

@@ -1,6 +1,6 @@
 //! What a row may ask.
 
-/// A question on the pattern alone.
+/// A question about the pattern alone.
 #[derive(Clone, Copy)]
 pub enum Question {
     Message,
@@ -8,13 +8,7 @@ pub enum Question {
     Build,
     Weight,
     Escape,
-}
-
-/// A count that only the program of the pattern and the plain programs answer.
-#[derive(Clone, Copy)]
-pub enum Count {
-    States,
-    Visits,
+    Program,
 }
 
 /// A search of a haystack.
@@ -36,11 +30,23 @@ pub enum Search {
 }
 
 impl Search {
-    /// Whether it begins at a start that is given.
+    /// Whether it starts at an offset that is given.
     pub fn has_start(self) -> bool {
         matches!(
             self,
             Search::Is | Search::Shortest | Search::FindAt | Search::CapturesAt
+        )
+    }
+
+    /// Whether the answer speaks of groups by their numbers or names.
+    pub fn has_groups(self) -> bool {
+        matches!(
+            self,
+            Search::CapturesAt
+                | Search::CapturesIter
+                | Search::Extract
+                | Search::Expand
+                | Search::Replace
         )
     }
 }
@@ -49,19 +55,17 @@ impl Search {
 #[derive(Clone, Copy)]
 pub enum Call {
     Pattern(Question),
-    Program(Count),
     Search(Search),
 }
 
 /// Each call by its word.
-pub const CALLS: [(&str, Call); 20] = [
+const CALLS: [(&str, Call); 19] = [
     ("message", Call::Pattern(Question::Message)),
     ("tree", Call::Pattern(Question::Tree)),
     ("build", Call::Pattern(Question::Build)),
     ("weight", Call::Pattern(Question::Weight)),
     ("escape", Call::Pattern(Question::Escape)),
-    ("program", Call::Program(Count::States)),
-    ("visits", Call::Program(Count::Visits)),
+    ("program", Call::Pattern(Question::Program)),
     ("is", Call::Search(Search::Is)),
     ("shortest", Call::Search(Search::Shortest)),
     ("find_at", Call::Search(Search::FindAt)),

@@ -1,4 +1,4 @@
-//! Texts as tables write them: a byte of printable ASCII is itself, `\\` is a backslash, and `\xHH` any other byte.
+//! Texts in the columns of a row: a byte of printable ASCII is itself, `\\` is a backslash, and `\xHH` any other byte.
 
 ghost use Rattle.std.specs.Prelude.{◌≤◌, length, IfSome};
 

@@ -1,16 +1,15 @@
 //! Flags, switches and limits of a build.
 
 use crate::fault::Fault;
-use crate::row::{Row, number_or};
-pub use bites_syntax::parse::Flags;
-use std::alloc::AllocError;
-use std::fmt::Write;
+use bites_bytes::bytes;
+use bites_syntax::parse::Flags;
+use regex_bites::{Error, Regex, RegexBuilder};
+use std::alloc::Global;
 
-/// The size limit where a row gives none: that of the builder.
-pub const SIZE_LIMIT: usize = 10485760;
+/// The limits where a row gives none: those of the builder.
+const SIZE_LIMIT: usize = 10485760;
 
-/// The nesting limit where a row gives none: that of the builder.
-pub const NEST_LIMIT: u32 = 50;
+const NEST_LIMIT: usize = 50;
 
 /// The letters that may stand in the column of flags.
 const LETTERS: &str = "-imsURxLK";
@@ -25,14 +24,13 @@ pub struct Settings {
     pub nest_limit: u32,
 }
 
-/// What the row sets.
-pub(crate) fn settings_of(row: &Row<'_>) -> Result<Settings, Fault> {
-    let letters = row.flags;
+/// The settings that the three columns of a row give.
+pub fn settings_of(letters: &str, size: &str, nest: &str) -> Result<Settings, Fault> {
     if !are_known(letters) {
         return Err(Fault::NoRow);
     }
-    let size_limit = number_or(SIZE_LIMIT, row.size)?;
-    let nest_limit = number_or(NEST_LIMIT as usize, row.nest)?;
+    let size_limit = number_or(SIZE_LIMIT, size)?;
+    let nest_limit = number_or(NEST_LIMIT, nest)?;
     Ok(Settings {
         flags: flags_of(letters),
         leftmost_longest: letters.contains('L'),
@@ -51,7 +49,15 @@ fn are_known(letters: &str) -> bool {
     true
 }
 
-/// The flags whose letters stand here.
+/// The number in a column, or another one for a dash.
+pub fn number_or(other: usize, column: &str) -> Result<usize, Fault> {
+    if column == "-" {
+        return Ok(other);
+    }
+    column.parse().map_err(|_| Fault::NoRow)
+}
+
+// The flags whose letters stand here.
 fn flags_of(letters: &str) -> Flags {
     Flags {
         case_insensitive: letters.contains('i'),
@@ -64,33 +70,50 @@ fn flags_of(letters: &str) -> Flags {
 }
 
 impl Settings {
-    /// The same but for the switch for longest matches.
-    pub fn with(self, leftmost_longest: bool) -> Settings {
+    /// The same with `keep_dropped_groups`.
+    pub fn keeping(self) -> Settings {
         Settings {
-            leftmost_longest,
+            keep_dropped_groups: true,
             ..self
         }
     }
 
-    /// Adds the columns of flags and of limits, parted by tabs: each letter that is set behind a dash, and both limits.
-    pub fn write(&self, text: &mut String) -> Result<(), AllocError> {
+    /// The same with another size limit.
+    pub fn limited(self, size_limit: usize) -> Settings {
+        Settings { size_limit, ..self }
+    }
+
+    /// A regex over bytes with these settings.
+    pub fn bytes(self, alloc: Global, pattern: &str) -> Result<bytes::Regex, Error> {
         let flags = self.flags;
-        text.push('-')?;
-        for (letter, is_set) in [
-            ('i', flags.case_insensitive),
-            ('m', flags.multi_line),
-            ('s', flags.dot_matches_new_line),
-            ('R', flags.crlf),
-            ('U', flags.swap_greed),
-            ('x', flags.ignore_whitespace),
-            ('L', self.leftmost_longest),
-            ('K', self.keep_dropped_groups),
-        ] {
-            if is_set {
-                text.push(letter)?;
-            }
-        }
-        let (size, nest) = (self.size_limit, self.nest_limit);
-        write!(text, "\t{size}\t{nest}")
+        let mut builder = bytes::RegexBuilder::new(alloc, pattern)?;
+        builder.case_insensitive(flags.case_insensitive);
+        builder.multi_line(flags.multi_line);
+        builder.dot_matches_new_line(flags.dot_matches_new_line);
+        builder.crlf(flags.crlf);
+        builder.swap_greed(flags.swap_greed);
+        builder.ignore_whitespace(flags.ignore_whitespace);
+        builder.leftmost_longest(self.leftmost_longest);
+        builder.keep_dropped_groups(self.keep_dropped_groups);
+        builder.size_limit(self.size_limit);
+        builder.nest_limit(self.nest_limit);
+        builder.build()
+    }
+
+    /// A regex over texts with these settings.
+    pub fn texts(self, alloc: Global, pattern: &str) -> Result<Regex, Error> {
+        let flags = self.flags;
+        let mut builder = RegexBuilder::new(alloc, pattern)?;
+        builder.case_insensitive(flags.case_insensitive);
+        builder.multi_line(flags.multi_line);
+        builder.dot_matches_new_line(flags.dot_matches_new_line);
+        builder.crlf(flags.crlf);
+        builder.swap_greed(flags.swap_greed);
+        builder.ignore_whitespace(flags.ignore_whitespace);
+        builder.leftmost_longest(self.leftmost_longest);
+        builder.keep_dropped_groups(self.keep_dropped_groups);
+        builder.size_limit(self.size_limit);
+        builder.nest_limit(self.nest_limit);
+        builder.build()
     }
 }

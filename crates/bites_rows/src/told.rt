@@ -1,96 +1,84 @@
-//! Answers as tables write them.
+//! Answers as rows write them. The text is empty before the first part of an answer.
 
-use crate::answer::{Answer, Groups};
 use crate::escaped::push_escaped;
-use bites_plain::span::Span;
+use bites_text::error::Error;
 use std::alloc::AllocError;
 use std::fmt::Write;
 
-/// Adds the answer.
-pub fn push_answer(text: &mut String, answer: &Answer) -> Result<(), AllocError> {
-    match answer {
-        Answer::Whether(true) => text.push_str("true"),
-        Answer::Whether(false) => text.push_str("false"),
-        Answer::End(end) => push_end(text, *end),
-        Answer::Spans(spans) => push_spans(text, spans),
-        Answer::NoPiece => text.push_str("no piece"),
-        Answer::Groups(matches) => push_matches(text, matches),
-        Answer::Parts(parts) => push_parts(text, parts),
-        Answer::Text(Some(new)) => push_new(text, new),
-        Answer::Text(None) => text.push_str("same"),
+/// Adds a span, or `-` for none, after a space where it is not the first part.
+pub fn push_span(text: &mut String, span: Option<(usize, usize)>) -> Result<(), AllocError> {
+    push_space(text)?;
+    match span {
+        Some((start, end)) => write!(text, "{start}..{end}"),
+        None => text.push('-'),
     }
 }
 
-fn push_end(text: &mut String, end: Option<usize>) -> Result<(), AllocError> {
-    match end {
-        Some(end) => write!(text, "{end}"),
-        None => text.push_str("none"),
-    }
+/// Adds a text in quotes, after a space where it is not the first part.
+pub fn push_quoted(text: &mut String, bytes: &[u8]) -> Result<(), AllocError> {
+    push_space(text)?;
+    text.push('"')?;
+    push_escaped(text, bytes)?;
+    text.push('"')
 }
 
-// Adds spans, parted by spaces.
-fn push_spans(text: &mut String, spans: &[Span]) -> Result<(), AllocError> {
-    if spans.is_empty() {
+fn push_space(text: &mut String) -> Result<(), AllocError> {
+    if text.is_empty() {
+        return Ok(());
+    }
+    text.push(' ')
+}
+
+/// Adds what stands between two matches, where there is a match before.
+pub fn push_next(text: &mut String) -> Result<(), AllocError> {
+    if text.is_empty() {
+        return Ok(());
+    }
+    text.push(';')
+}
+
+/// Adds `none` where the answer has no part.
+pub fn push_none(text: &mut String) -> Result<(), AllocError> {
+    if text.is_empty() {
         return text.push_str("none");
     }
-    for (number, span) in spans.iter().enumerate() {
-        if number > 0 {
-            text.push(' ')?;
-        }
-        push_span(text, *span)?;
-    }
     Ok(())
 }
 
-// Adds where it begins and ends.
-fn push_span(text: &mut String, span: Span) -> Result<(), AllocError> {
-    let (start, end) = (span.start(), span.end());
-    write!(text, "{start}..{end}")
-}
-
-// Adds the groups of each match, parted by `; `.
-fn push_matches(text: &mut String, matches: &[Groups]) -> Result<(), AllocError> {
-    if matches.is_empty() {
-        return text.push_str("none");
-    }
-    for (number, groups) in matches.iter().enumerate() {
-        if number > 0 {
-            text.push_str("; ")?;
+/// Adds the pieces of a haystack, each of which begins where the match before it ends.
+pub fn push_pieces(
+    text: &mut String,
+    haystack: &[u8],
+    ends: &[usize],
+    pieces: &[&[u8]],
+) -> Result<(), AllocError> {
+    let mut from = 0usize;
+    for (number, piece) in pieces.iter().enumerate() {
+        let to = from.saturating_add(piece.len());
+        if haystack.get(from..to) != Some(*piece) {
+            return text.push_str(" no piece");
         }
-        push_groups(text, groups)?;
+        push_span(text, Some((from, to)))?;
+        from = ends.get(number).copied().unwrap_or(usize::MAX);
     }
-    Ok(())
+    push_none(text)
 }
 
-// Adds groups, parted by spaces; `-` is one that took no part.
-fn push_groups(text: &mut String, groups: &[Option<Span>]) -> Result<(), AllocError> {
-    for (number, group) in groups.iter().enumerate() {
-        if number > 0 {
-            text.push(' ')?;
+/// Adds `new:` and the escaped text, or `same` for none.
+pub fn push_new(text: &mut String, new: Option<&[u8]>) -> Result<(), AllocError> {
+    match new {
+        Some(bytes) => {
+            text.push_str("new:")?;
+            push_escaped(text, bytes)
         }
-        match group {
-            Some(span) => push_span(text, *span)?,
-            None => text.push('-')?,
-        }
+        None => text.push_str("same"),
     }
-    Ok(())
 }
 
-// Adds texts in quotes, parted by spaces.
-fn push_parts(text: &mut String, parts: &[Vec<u8>]) -> Result<(), AllocError> {
-    if parts.is_empty() {
-        return text.push_str("none");
+/// Adds `err: ` and the message of a refused pattern. Out of memory is no message.
+pub fn push_refusal(text: &mut String, error: Error) -> Result<(), AllocError> {
+    match error {
+        Error::Memory => Err(AllocError),
+        error => write!(text, "err: {error}"),
     }
-    for (number, part) in parts.iter().enumerate() {
-        text.push_str(if number > 0 { " \"" } else { "\"" })?;
-        push_escaped(text, part)?;
-        text.push('"')?;
-    }
-    Ok(())
-}
-
-/// Adds `new:` and the escaped text.
-pub fn push_new(text: &mut String, bytes: &[u8]) -> Result<(), AllocError> {
-    text.push_str("new:")?;
-    push_escaped(text, bytes)
 }

@@ -197,7 +197,7 @@ directive_leads {front} {rest = rest} d next same =
 
 -- too many groups come before all else at one place
 pub least_rank : (m : Message) → rank too_many_groups ≤ rank m
-least_rank message.duplicate_name = omega arith
+least_rank message.too_many_groups = omega arith
 least_rank m = omega arith
 
 -- the answer is this very stop

@@ -83,3 +83,9 @@ pub mod TextMatches
 pub mod EscapedReading
 pub mod EscapedMatches
 pub mod ExpansionLemmas
+pub mod AsciiNames
+pub mod CallerLemmas
+pub mod AllMatchesLemmas
+pub mod Refuted
+pub mod Laws
+pub mod AnchoredLemmas

@@ -105,7 +105,7 @@ module _ (p : Program) (hay : List ℕ) where
         absurd (none-some _ (sym e ∙ ap (run_of p hay i) h.1))
 
     -- to one place: the first simple run, or none at all
-    run_to : (i j : ℕ) (r : Run) → first_run_to p hay i j ≡ Some r → i ≤ length hay →
+    pub run_to : (i j : ℕ) (r : Run) → first_run_to p hay i j ≡ Some r → i ≤ length hay →
         (spots : List Spot) × (run i spots j ≡ r) × IsRun p hay i spots j × IsFirstOf p hay (λ k. k ≡ j) (run i spots j)
     unfolding first_run_to
     run_to i j r e le = found_walk i j r (walk_to i j) refl e le
@@ -161,7 +161,7 @@ module _ (p : Program) (hay : List ℕ) where
         less j n lt is = let other : j ≡ n → ⊥ = (λ e. true≢false (sym (eq-eqb j n e) ∙ is)) in omega (arith, lt, other)
 
     -- a run from a place of the haystack ends within it
-    ends_below : (i : ℕ) (o : List Spot) (j : ℕ) → i ≤ length hay → IsRun p hay i o j → j < suc (length hay)
+    pub ends_below : (i : ℕ) (o : List Spot) (j : ℕ) → i ≤ length hay → IsRun p hay i o j → j < suc (length hay)
     ends_below i o j le runs = let within = runs_within p hay well (at p.start i) o j (well.start, le) runs in omega (arith, within)
 
     longest_run_is : (s : ℕ) (o : Option Run) → longest_run p hay s ≡ o → LongestRun p hay s o

@@ -3,7 +3,7 @@ use Rattle.std.proofs.Common.{◌≡◌, ℕ, zero, suc, ◌+◌, ◌≤◌, Boo
 use Rattle.std.proofs.lemmas.List.{length-map}
 use Rattle.std.proofs.lemmas.List.FromFn.{length-range_with_len}
 use Rattle.std.specs.List.{range_with_len}
-use Rattle.bites_spec.specs.Match.{Span, span, Mark, groups}
+use Rattle.bites_spec.specs.Match.{Span, Mark, groups}
 use Rattle.bites_spec.specs.Program.{Program, IsWellFormed}
 use Rattle.bites_spec.specs.Run.{Run, IsRun, StartsFirst, FirstRun, LongestRun, chosen_run, slots}
 use Rattle.bites_spec.specs.Slots.{group_in, span_between, span_of_run, answer_of, HasGroups}
@@ -11,8 +11,10 @@ use Rattle.bites_spec.specs.Utf8.{step_len}
 use Rattle.bites_spec.specs.Walks.{Among}
 use Rattle.bites_spec.specs.Spans.{LiesFrom, is_empty_at, due_after, followed, some_after, successive_after, successive}
 use Rattle.bites_spec.specs.Regex.{Regex, IsCompiled, run_at, span_at, slots_at}
-use Rattle.bites_spec.specs.Captured.{AreGroups, SlotsAreGroups, IsInSlots, FindsGroups, FindsSpan, SlotsAreFound}
+use Rattle.bites_spec.specs.Captured.{AreGroups, SlotsAreGroups, FindsGroups, FindsSpan, SlotsAreFound}
 use Rattle.bites_spec.specs.Iteration.{captured_by, captures_in, spans_in}
+use Rattle.bites_spec.specs.Found.{Finds}
+use Rattle.bites_spec.proofs.FoundSomeLemmas.{finds_some}
 use Rattle.bites_spec.proofs.RunLemmas.{first_run-FirstRun}
 use Rattle.bites_spec.proofs.LongestLemmas.{longest_run-LongestRun}
 use Rattle.bites_spec.proofs.BuiltLemmas.{run_is_parse}
@@ -84,19 +86,26 @@ module _ (r : Regex) (is : IsCompiled r) (hay : List ℕ) where
   pub span_at-lies : (s : ℕ) (g : Span) → span_at r hay s ≡ Some g → LiesFrom (length hay) s g
   span_at-lies s g e = span_lies s (run_at r hay s) g refl e
 
-  in_slots : (s : ℕ) (o : Option Run) → run_at r hay s ≡ o → IsInSlots (option_map (answer_of r.program) o) (option_map (slots r.program) o)
-  in_slots s None e = tt
-  in_slots s (Some x) e = (run_at-whole r is hay s x e, λ k. refl)
+  run_finds : (s : ℕ) (o : Option Run) → run_at r hay s ≡ o → Finds r.leftmost_longest r.tree hay s (option_map (answer_of r.program) o)
+  run_finds s o e = subst (λ (p : Option Run). Finds r.leftmost_longest r.tree hay s (option_map (answer_of r.program) p)) e (run_is_found r is hay s)
 
-  same_span : (o : Option Run) → option_map span_of_run o ≡ option_map (λ b. span b.start b.end) (option_map (answer_of r.program) o)
-  same_span None = refl
-  same_span (Some x) = refl
+  groups_by : (s : ℕ) (o : Option Run) → run_at r hay s ≡ o → FindsGroups r hay s (option_map (slots r.program) o)
+  groups_by s None e = finds_some r.leftmost_longest r.tree hay s None (run_finds s None e)
+  groups_by s (Some x) e = record {
+    answer = answer_of r.program x;
+    found = run_finds s (Some x) e;
+    in_slots = (run_at-whole r is hay s x e, λ k. refl);
+  }
 
   pub found_groups : (s : ℕ) → FindsGroups r hay s (slots_at r hay s)
-  found_groups s = (option_map (answer_of r.program) (run_at r hay s), run_is_found r is hay s, in_slots s (run_at r hay s) refl)
+  found_groups s = groups_by s (run_at r hay s) refl
+
+  span_by : (s : ℕ) (o : Option Run) → run_at r hay s ≡ o → FindsSpan r hay s (option_map span_of_run o)
+  span_by s None e = finds_some r.leftmost_longest r.tree hay s None (run_finds s None e)
+  span_by s (Some x) e = record { answer = answer_of r.program x; found = run_finds s (Some x) e; is_span = refl }
 
   pub found_span : (s : ℕ) → FindsSpan r hay s (span_at r hay s)
-  found_span s = (option_map (answer_of r.program) (run_at r hay s), run_is_found r is hay s, same_span (run_at r hay s))
+  found_span s = span_by s (run_at r hay s) refl
 
   -- what is read off each item of the list, where it is the same as what is read off each answer
   whole_of_all : (xs : List Run) → ((x : Run) → Among xs x → group_in (slots r.program x) 0 ≡ Some (span_of_run x)) →

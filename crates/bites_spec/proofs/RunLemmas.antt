@@ -259,11 +259,11 @@ module _ (p : Program) (hay : List ℕ) (well : IsWellFormed p) where
       absurd (none-some _ (sym e ∙ ap (run_of p hay i) h.1))
 
   -- from each place: a first simple run, or none at all
-  found_from_some : (i : ℕ) (r : Run) → first_run_from p hay i ≡ Some r → i ≤ length hay → FoundFrom i r
+  pub found_from_some : (i : ℕ) (r : Run) → first_run_from p hay i ≡ Some r → i ≤ length hay → FoundFrom i r
   unfolding first_run_from
   found_from_some i r e le = found_is i r (found_from i) refl e le
 
-  found_from_none : (i : ℕ) → first_run_from p hay i ≡ None → i ≤ length hay → (r : List Spot) (j : ℕ) → IsRun p hay i r j → ⊥
+  pub found_from_none : (i : ℕ) → first_run_from p hay i ≡ None → i ≤ length hay → (r : List Spot) (j : ℕ) → IsRun p hay i r j → ⊥
   unfolding first_run_from
   found_from_none i e le = none_is i (found_from i) refl e le
 

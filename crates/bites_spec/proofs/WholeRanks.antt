@@ -21,7 +21,7 @@ messages =
 -- the number of the message with this rank
 abbrev number_at : ℕ → ℕ
 number_at r =
-    if r == 2 then 2 else if r == 3 then 3 else if r == 69 then 54 else if r == 70 then 34 else if r == 71 then 36 else if r == 79 then 22 else r / 4
+    if r == 2 then 2 else if r == 70 then 34 else if r == 71 then 36 else r / 4
 
 abbrev message_at : ℕ → Message
 message_at r = get_or messages (number_at r - 1) message.too_much_nesting

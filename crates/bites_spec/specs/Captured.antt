@@ -1,11 +1,11 @@
 -- What contracts see of the parts of a haystack that a search hands out.
-use Rattle.std.specs.Prelude.{◌≡◌, ◌≤◌, ℕ, List, length, Option, Some, None, IsSome, option_map}
+use Rattle.std.specs.Prelude.{◌≡◌, ◌≤◌, ℕ, List, length, Option, Some, None, IsSome}
 use Rattle.bites_spec.specs.Match.{Span, span}
 use Rattle.bites_spec.specs.Pieces.{text_at}
 use Rattle.bites_spec.specs.Measure.{static_captures_len}
 use Rattle.bites_spec.specs.Slots.{group_in, taking_part}
 use Rattle.bites_spec.specs.Spans.{LiesFrom}
-use Rattle.bites_spec.specs.Found.{Answer, Finds}
+use Rattle.bites_spec.specs.Found.{Answer, NoMatch, Finds}
 use Rattle.bites_spec.specs.Regex.{Regex, IsCompiled, slots_at, span_at}
 
 -- a part of a haystack, by its span
@@ -47,13 +47,27 @@ IsInSlots (Some a) None = ⊥
 IsInSlots (Some a) (Some slots) =
     (group_in slots 0 ≡ Some (span a.start a.end)) × ((k : ℕ) → group_in slots k ≡ a.group k)
 
--- a search of the regex's tree finds the groups in the slots
-abbrev pub FindsGroups : Regex → List ℕ → ℕ → Option (List (Option ℕ)) → Type 0
-FindsGroups r hay s o = (a : Option Answer) × Finds r.leftmost_longest r.tree hay s a × IsInSlots a o
+-- in the slots stand the groups of a match that a search of the regex's tree from s finds
+pub record AreGroupsFrom (r : Regex) (hay : List ℕ) (s : ℕ) (slots : List (Option ℕ)) : Type 0 where
+  pub answer : Answer
+  pub found : Finds r.leftmost_longest r.tree hay s (Some answer)
+  pub in_slots : IsInSlots (Some answer) (Some slots)
 
--- a search of the regex's tree finds a match with this span
+-- a search of the regex's tree finds nothing, or the groups in the slots
+abbrev pub FindsGroups : Regex → List ℕ → ℕ → Option (List (Option ℕ)) → Type 0
+FindsGroups r hay s None = NoMatch r.tree hay s
+FindsGroups r hay s (Some slots) = AreGroupsFrom r hay s slots
+
+-- the span is that of a match that a search of the regex's tree from s finds
+pub record IsMatchFrom (r : Regex) (hay : List ℕ) (s : ℕ) (g : Span) : Type 0 where
+  pub answer : Answer
+  pub found : Finds r.leftmost_longest r.tree hay s (Some answer)
+  pub is_span : g ≡ span answer.start answer.end
+
+-- a search of the regex's tree finds nothing, or a match with this span
 abbrev pub FindsSpan : Regex → List ℕ → ℕ → Option Span → Type 0
-FindsSpan r hay s o = (a : Option Answer) × Finds r.leftmost_longest r.tree hay s a × (o ≡ option_map (λ b. span b.start b.end) a)
+FindsSpan r hay s None = NoMatch r.tree hay s
+FindsSpan r hay s (Some g) = IsMatchFrom r hay s g
 
 -- what a regex's search answers is what a search of its tree finds
 abbrev pub SlotsAreFound : Type 0

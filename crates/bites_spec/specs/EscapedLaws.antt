@@ -14,6 +14,10 @@ abbrev pub EscapedIsRead : Type 0
 EscapedIsRead =
     (text : Text) (nest_limit : ℕ) → height (text_tree text) ≤ nest_limit → Limits (escaped text) no_flags nest_limit (text_tree text)
 
+-- the bytes of an escaped text are those of its characters
+abbrev pub EscapedIsText : Type 0
+EscapedIsText = (text : List ℕ) → IsUtf8 text → chars (encode_utf8_all (escaped (chars text))) ≡ escaped (chars text)
+
 -- it has no group, and no part of its tree has parts
 abbrev pub EscapedIsFlat : Type 0
 EscapedIsFlat = (text : Text) → (groups_in (text_tree text) ≡ []) × (height (text_tree text) ≤ 1)

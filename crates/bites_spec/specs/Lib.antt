@@ -46,7 +46,9 @@ pub mod Captured
 pub mod Iteration
 pub mod Replacer
 pub mod Replaced
+pub mod AllMatches
 pub mod Counts
+pub mod Anchored
 pub mod ProgramFaults
 pub mod Reader
 pub mod GrammarLaws
@@ -55,3 +57,6 @@ pub mod Laws
 pub mod RunLaws
 pub mod FoundLaws
 pub mod RegexLaws
+pub mod CallerLaws
+pub mod Refutations
+pub mod AnchoredLaws

@@ -10,10 +10,6 @@ IsFront {B} front whole = (rest : List B) × (whole ≡ front ++ rest)
 abbrev pub Appends : (List ℕ → Type 0) → List ℕ → List ℕ → Type 0
 Appends Texts old new = (text : List ℕ) × Texts text × (new ≡ old ++ text)
 
--- behind the old text stands a front of one of these texts
-abbrev pub AppendsFront : (List ℕ → Type 0) → List ℕ → List ℕ → Type 0
-AppendsFront Texts old new = (text : List ℕ) × (front : List ℕ) × Texts text × IsFront front text × (new ≡ old ++ front)
-
 -- the text is appended, or a front of it where memory was refused
 abbrev pub AppendsUntilRefused : {E : Type 0} → Result (Unit {0}) E → (old new text : List ℕ) → Type 0
 AppendsUntilRefused r old new text =
@@ -40,22 +36,3 @@ abbrev pub IterationsEnd : Type 0 → Type 0 → Type 0 → Type 0 → Type 0
 IterationsEnd S B C E =
     (view : C → B) (left : S → List B) (s : S) (rs : List (Result C E)) →
     Drains (YieldsUntilRefused view left) s rs → GivenUntilRefused view (left s) rs
-
--- S are the states of a replacer, and C the captures of a match.
--- Gives: old state, captures, appended text, new state. Answers: old state, what `no_expansion` answers, new state.
--- Fails: old state, captures, the state that a refused call leaves.
-module _ {S C : Type 0} (Gives : S → C → List ℕ → S → Type 0) (Answers : S → Option (List ℕ) → S → Type 0) (Fails : S → C → S → Type 0) where
-  -- one text for each of a front of the captures, and then no call more or one that was refused
-  abbrev pub GaveFront : S → List C → S → Type 0
-  GaveFront s [] s' = s' ≡ s
-  GaveFront s (c ∷ cs) s' =
-      (s' ≡ s) ⊎ (Fails s c s' ⊎ ((text : List ℕ) × (m : S) × Gives s c text m × GaveFront m cs s'))
-
-  -- the same once `no_expansion` has answered: where that is a text, the replacer is let be
-  abbrev pub ServedFront : Option (List ℕ) → S → List C → S → Type 0
-  ServedFront None s cs s' = GaveFront s cs s'
-  ServedFront (Some text) s cs s' = s' ≡ s
-
-  -- The replacer has served a front of the captures, or it was not asked at all.
-  abbrev pub GaveUp : S → List C → S → Type 0
-  GaveUp s cs s' = (s' ≡ s) ⊎ ((answer : Option (List ℕ)) × (m : S) × Answers s answer m × ServedFront answer m cs s')

@@ -6,19 +6,13 @@ use Rattle.bites_spec.specs.Regex.{Regex}
 use Rattle.bites_spec.specs.Captured.{Captured}
 use Rattle.bites_spec.specs.Iteration.{captures_in}
 use Rattle.bites_spec.specs.Replace.{Replaces}
-use Rattle.bites_spec.specs.Refused.{GaveUp}
-use Rattle.bites_spec.specs.Pieces.{limited}
 
 -- where group 0 took part, which it does in every match
 abbrev pub span_in : Captured → Span
 span_in c = unwrap_or (group_in c.slots 0) (span 0 0)
 
--- a replacer by what it gives, what it answers, and what its refused calls leave
+-- a replacer by what it gives and what it answers
 module _ {S : Type 0} (gives : S → Captured → List ℕ → S → Type 0) (answers : S → Option (List ℕ) → S → Type 0) where
   -- the bytes are the haystack with the first n matches, all for 0, replaced as the replacer says
   abbrev pub ReplacesIn : Regex → List ℕ → ℕ → S → List ℕ → S → Type 0
   ReplacesIn r hay n s result t = Replaces gives answers span_in hay n (captures_in r hay) s result t
-
-  -- the replacer has served a front of these matches, or was not asked at all
-  abbrev pub GivesUpIn : (S → Captured → S → Type 0) → Regex → List ℕ → ℕ → S → S → Type 0
-  GivesUpIn refuses r hay n s t = GaveUp gives answers refuses s (limited n (captures_in r hay)) t

@@ -5,6 +5,7 @@ use Rattle.std.specs.List.{list_all}
 use Rattle.bites_spec.specs.Code.{code}
 use Rattle.bites_spec.specs.Expansion.{expansion_of}
 use Rattle.bites_spec.specs.Captured.{Captured}
+use Rattle.bites_spec.specs.Refused.{IsFront}
 
 -- what a template stands for by the groups of a match
 abbrev pub expanded : Captured → List ℕ → List ℕ
@@ -30,6 +31,10 @@ GivesExpansion template s c text t = (text ≡ expanded c (template s)) × (t �
 abbrev pub AnswersPlain : {S : Type 0} → (S → List ℕ) → S → Option (List ℕ) → S → Type 0
 AnswersPlain template s answer t = (answer ≡ plain_text (template s)) × (t ≡ s)
 
--- it stays as it is
-abbrev pub Stays : {S C : Type 0} → S → C → S → Type 0
-Stays s c t = t ≡ s
+-- where memory is refused, a prefix of what the template stands for was appended, and it stays as it is
+abbrev pub BeginsExpansion : {S : Type 0} → (S → List ℕ) → S → Captured → List ℕ → S → Type 0
+BeginsExpansion template s c text t = IsFront text (expanded c (template s)) × (t ≡ s)
+
+-- where memory is refused, a prefix of the text was appended, and the replacer stays as it is
+abbrev pub BeginsText : {S : Type 0} → (S → List ℕ) → S → Captured → List ℕ → S → Type 0
+BeginsText literal s c text t = IsFront text (literal s) × (t ≡ s)

@@ -7,15 +7,19 @@ ghost use Rattle.bites_spec.specs.Class.{ListsOnce};
 ghost use Rattle.bites_spec.specs.Laws.{MatchIsParse, FirstRunIsFirst, FirstRunIsOne, RunsAreParses, PlainRunsAreSimple, FirstRunIsFound, LeastEndIsLeast, ParsesAreListed, LongestIsFound, ParsesEndAtMatches, StaticCountIsLeast, FoundIsSome, AnsweredKeepsLength, ReplacesOnce};
 ghost use Rattle.bites_spec.specs.RunLaws.{LongestRunIsLongest, LongestRunIsOne, SlotsAreWritten, Group0IsSpan, RunsAreParsesInOrder, NothingPastTheEnd, NoFaultIsWellFormed, RunLies, ChosenRunLies, RunsBeginAlike, LeastRunEndIsAtMost, StaticLenTakesPart};
 ghost use Rattle.bites_spec.specs.FoundLaws.{FoundLies, AnswersBeginAlike, LeastEndIsAtMost, StaticLenIsLeast};
-ghost use Rattle.bites_spec.specs.RegexLaws.{RunIsFound, FindsSome};
+ghost use Rattle.bites_spec.specs.RegexLaws.{RunIsFound, FindsSome, AnswersHaveGroup0};
 ghost use Rattle.bites_spec.specs.SpanLaws.{SuccessiveIsOne, SuccessiveGoesOn, SuccessiveIsMapped, SpansGrow, PiecesAndMatches, ReplacedAlternates, ReplacedIsJoined};
 ghost use Rattle.bites_spec.specs.Captured.{SlotsAreGroups, SlotsAreFound};
 ghost use Rattle.bites_spec.specs.Iteration.{CapturesHaveSpans};
+ghost use Rattle.bites_spec.specs.AllMatches.{FindsAreSuccessive, GroupsAreSuccessive, CapturesAreMatches, NoneIsLeftOut, MatchesStandApart, MatchesHaveBorders};
+ghost use Rattle.bites_spec.specs.Refutations.{BoundsAreReached, BoundsRefuse, VisitsRefuse, AnsweredRefuses, FoundRefuses, PreferredRefuses, LeftmostRefuses, SpansRefuse, LeavingOutRefuses, BordersRefuse, ParticipantsRefuse, ItsGroupsRefuse, AppendsRefuse};
+ghost use Rattle.bites_spec.specs.CallerLaws.{NamesAreAscii, StartIsPlace, AnchoredIsWhole, AnchoredMatchesWhole, LiteralIsRead, UnionsAreListed, RangesAreListed, EachParticipates};
 ghost use Rattle.bites_spec.specs.Refused.{IterationsEnd};
 ghost use Rattle.bites_spec.specs.GrammarLaws.{ListsAll, ReadIsCompilable, ReadsOnce, FaultsOnce, RefusedHasNoTree, ReadOrRefused, ReaderReads, ReaderRefuses, StuckBracketIsNotRead};
 ghost use Rattle.bites_spec.specs.GroupLaws.{OpenedOnce, OpenedAreKept, LeftAreKept, DroppedHaveNoPlace};
 ghost use Rattle.bites_spec.specs.RangesOf.{RangesOfList};
-ghost use Rattle.bites_spec.specs.EscapedLaws.{EscapedIsRead, EscapedIsFlat, EscapedIsAccepted, EscapedMatchesText, EscapedFindsText};
+ghost use Rattle.bites_spec.specs.EscapedLaws.{EscapedIsText, EscapedIsRead, EscapedIsFlat, EscapedIsAccepted, EscapedMatchesText, EscapedFindsText};
+ghost use Rattle.bites_spec.specs.AnchoredLaws.{AnchoredRunIsFound, AnchoredSlotsAreFound, AnchoredSlotsAreGroups, LeastEndFromIsLeast, FullRunIsFound, AnchoredFindsSome, AnchoredIsFound, AnchoredHasBorders};
 ghost use Rattle.bites_spec.specs.TextLaws.{PlacesAreBorders, PiecesEndAtBorders, MatchesEndAtBorders, GroupsHaveBorders, FoundHasBorders, LeastEndIsBorder};
 ghost use Rattle.bites_spec.specs.TemplateLaws.{CutsOnce, ExpandsOnce, TextsHaveNames, NumbersAreFirst};
 
@@ -309,4 +313,152 @@ pub fn escaped_texts_find_their_text()
 
 pub fn numbers_are_of_the_first_name()
     ensures { NumbersAreFirst }
+{}
+
+pub fn finds_are_successive()
+    ensures { FindsAreSuccessive }
+{}
+
+pub fn groups_are_successive()
+    ensures { GroupsAreSuccessive }
+{}
+
+pub fn captures_are_matches()
+    ensures { CapturesAreMatches }
+{}
+
+pub fn none_is_left_out()
+    ensures { NoneIsLeftOut }
+{}
+
+pub fn matches_stand_apart()
+    ensures { MatchesStandApart }
+{}
+
+pub fn start_is_place()
+    ensures { StartIsPlace }
+{}
+
+pub fn anchored_is_whole()
+    ensures { AnchoredIsWhole }
+{}
+
+pub fn anchored_matches_whole()
+    ensures { AnchoredMatchesWhole }
+{}
+
+pub fn literal_is_read()
+    ensures { LiteralIsRead }
+{}
+
+pub fn unions_are_listed()
+    ensures { UnionsAreListed }
+{}
+
+pub fn ranges_are_listed()
+    ensures { RangesAreListed }
+{}
+
+pub fn each_participates()
+    ensures { EachParticipates }
+{}
+
+pub fn answers_have_group_0()
+    ensures { AnswersHaveGroup0 }
+{}
+
+pub fn escaped_texts_are_texts()
+    ensures { EscapedIsText }
+{}
+
+pub fn matches_have_borders()
+    ensures { MatchesHaveBorders }
+{}
+
+pub fn bounds_are_reached()
+    ensures { BoundsAreReached }
+{}
+
+pub fn bounds_refuse()
+    ensures { BoundsRefuse }
+{}
+
+pub fn visits_refuse()
+    ensures { VisitsRefuse }
+{}
+
+pub fn answered_refuses()
+    ensures { AnsweredRefuses }
+{}
+
+pub fn found_refuses()
+    ensures { FoundRefuses }
+{}
+
+pub fn preferred_refuses()
+    ensures { PreferredRefuses }
+{}
+
+pub fn leftmost_refuses()
+    ensures { LeftmostRefuses }
+{}
+
+pub fn spans_refuse()
+    ensures { SpansRefuse }
+{}
+
+pub fn leaving_out_refuses()
+    ensures { LeavingOutRefuses }
+{}
+
+pub fn borders_refuse()
+    ensures { BordersRefuse }
+{}
+
+pub fn participants_refuse()
+    ensures { ParticipantsRefuse }
+{}
+
+pub fn its_groups_refuse()
+    ensures { ItsGroupsRefuse }
+{}
+
+pub fn appends_refuse()
+    ensures { AppendsRefuse }
+{}
+
+pub fn anchored_run_is_found()
+    ensures { AnchoredRunIsFound }
+{}
+
+pub fn anchored_slots_are_found()
+    ensures { AnchoredSlotsAreFound }
+{}
+
+pub fn anchored_slots_are_groups()
+    ensures { AnchoredSlotsAreGroups }
+{}
+
+pub fn least_end_from_is_least()
+    ensures { LeastEndFromIsLeast }
+{}
+
+pub fn full_run_is_found()
+    ensures { FullRunIsFound }
+{}
+
+pub fn anchored_finds_some()
+    ensures { AnchoredFindsSome }
+{}
+
+pub fn anchored_is_found()
+    ensures { AnchoredIsFound }
+{}
+
+pub fn anchored_has_borders()
+    ensures { AnchoredHasBorders }
+{}
+
+pub fn names_are_ascii()
+    ensures { NamesAreAscii }
 {}

@@ -3,7 +3,7 @@ use Rattle.bites_spec.specs.Class as sets
 use Rattle.bites_spec.specs.Look as assertion
 use Rattle.bites_spec.specs.Tree.{Tree, empty, char, class, look, repetition, group, sequence, alternation, trees_of}
 use Rattle.bites_syntax.specs.declared.look.Look as declared
-use Rattle.bites_syntax.specs.declared.look.Look.TheVariants.{Start, End, StartLf, EndLf, StartCrlf, EndCrlf, Word, WordNegate, WordStart, WordEnd, WordStartHalf, WordEndHalf}
+use Rattle.bites_syntax.specs.declared.look.Look.TheVariants.{Start, End, StartLF, EndLF, StartCRLF, EndCRLF, Word, WordNegate, WordStart, WordEnd, WordStartHalf, WordEndHalf}
 use Rattle.bites_syntax.specs.declared.named_class.NamedClass.{NamedClass}
 use Rattle.bites_syntax.specs.declared.named_class.NamedClass.TheVariants as named
 use Rattle.bites_syntax.specs.declared.tree.Kind.{Kind}
@@ -13,10 +13,10 @@ use Rattle.bites_syntax.specs.declared.tree.Kind.TheVariants.{Empty, Char, Class
 abbrev pub look_of : declared.Look → assertion.Look
 look_of Start = assertion.start
 look_of End = assertion.end
-look_of StartLf = assertion.start_lf
-look_of EndLf = assertion.end_lf
-look_of StartCrlf = assertion.start_crlf
-look_of EndCrlf = assertion.end_crlf
+look_of StartLF = assertion.start_lf
+look_of EndLF = assertion.end_lf
+look_of StartCRLF = assertion.start_crlf
+look_of EndCRLF = assertion.end_crlf
 look_of Word = assertion.word
 look_of WordNegate = assertion.word_negate
 look_of WordStart = assertion.word_start

@@ -46,8 +46,8 @@ fn line_start(flags: Flags) -> Look
     ensures { look_of result ≡ caret_look (flags_of flags) }
 {
     match (flags.multi_line, flags.crlf) {
-        (true, true) => Look::StartCrlf,
-        (true, false) => Look::StartLf,
+        (true, true) => Look::StartCRLF,
+        (true, false) => Look::StartLF,
         (false, _) => Look::Start,
     }
 }
@@ -56,8 +56,8 @@ fn line_end(flags: Flags) -> Look
     ensures { look_of result ≡ dollar_look (flags_of flags) }
 {
     match (flags.multi_line, flags.crlf) {
-        (true, true) => Look::EndCrlf,
-        (true, false) => Look::EndLf,
+        (true, true) => Look::EndCRLF,
+        (true, false) => Look::EndLF,
         (false, _) => Look::End,
     }
 }

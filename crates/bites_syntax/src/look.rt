@@ -14,13 +14,13 @@ pub enum Look {
     /// The end of the haystack.
     End,
     /// The start of a line that a line feed ends.
-    StartLf,
+    StartLF,
     /// The end of a line that a line feed ends.
-    EndLf,
+    EndLF,
     /// The start of a line that a line feed, a carriage return or both end.
-    StartCrlf,
+    StartCRLF,
     /// The end of a line that a line feed, a carriage return or both end.
-    EndCrlf,
+    EndCRLF,
     /// A word byte on one side and none on the other.
     Word,
     /// Word bytes on both sides, or on neither.
@@ -59,14 +59,14 @@ impl Look {
         match self {
             Look::Start => at_start,
             Look::End => at_end,
-            Look::StartLf => at_start || is_byte(before, b'\n'),
-            Look::EndLf => at_end || is_byte(after, b'\n'),
-            Look::StartCrlf => {
+            Look::StartLF => at_start || is_byte(before, b'\n'),
+            Look::EndLF => at_end || is_byte(after, b'\n'),
+            Look::StartCRLF => {
                 at_start
                     || is_byte(before, b'\n')
                     || is_byte(before, b'\r') && !is_byte(after, b'\n')
             }
-            Look::EndCrlf => {
+            Look::EndCRLF => {
                 at_end || is_byte(after, b'\r') || is_byte(after, b'\n') && !is_byte(before, b'\r')
             }
             Look::Word => is_word(before) != is_word(after),

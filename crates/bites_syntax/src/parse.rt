@@ -28,7 +28,7 @@ use crate::cursor::Cursor;
 pub use crate::flags::Flags;
 use crate::group::{Front, Opened, open_group};
 use crate::group_names::Names;
-use crate::groups::Groups;
+pub use crate::groups::Groups;
 use crate::node::{Node, Numbered, choice_of, group_of, repetition_of, sequence_of};
 use crate::operator::{Bounds, counted, plain_operator};
 use crate::tree::Tree;

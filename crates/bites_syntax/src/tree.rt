@@ -155,8 +155,13 @@ impl Tree {
     }
 }
 
-/// The text as a pattern that matches it alone: a backslash stands before each of the characters
-/// `\ . + * ? ( ) | [ ] { } ^ $ # & - ~`. It refuses only for memory.
+/// Returns a pattern that matches this text alone: a backslash stands before each of the characters
+/// `\ . + * ? ( ) | [ ] { } ^ $ # & - ~`. The error is out of memory.
+///
+/// ```rust
+/// let pattern = escape(rt.alloc(), "1+1")?;
+/// assert_eq!(rt; pattern.as_str(), r"1\+1");
+/// ```
 pub fn escape(alloc: Global, text: &str) -> Result<String, AllocError>
     ensures { IfOk result
         (λ pattern. string_bytes pattern ≡ encode_utf8_all (escaped (chars text.now))) }

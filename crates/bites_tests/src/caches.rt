@@ -25,16 +25,16 @@ fn cache_of(alloc: Global, pattern: &str) -> Result<Cache, Error> {
     Ok(Regex::new(alloc, pattern)?.cache()?)
 }
 
+/// The programs of `a` and `b` have 4 states, 2 slots and 3 targets each.
 #[test]
 fn one_cache_for_haystacks_and_regexes(rt: HostRuntime) -> Result<(), Error> {
-    let mut cache = cache_of(rt.alloc(), "a+")?;
+    let mut cache = cache_of(rt.alloc(), "a")?;
     for (pattern, haystack, wanted) in &[
-        ("a+", "aaa", (true, Some((0, 3)))),
-        ("a+", "", (true, None)),
-        ("a+", "aaa", (true, Some((0, 3)))),
-        ("b+", "ab", (true, Some((1, 2)))),
-        ("a+", "xa", (true, Some((1, 2)))),
-        ("ab+", "ab", (false, None)),
+        ("a", "xa", (true, Some((1, 2)))),
+        ("b", "ab", (true, Some((1, 2)))),
+        ("a", "xa", (true, Some((1, 2)))),
+        ("a", "", (true, None)),
+        ("ab", "ab", (false, None)),
     ] {
         let found = found(rt.alloc(), &mut cache, pattern, haystack);
         assert_eq!(rt; found, Ok(*wanted));

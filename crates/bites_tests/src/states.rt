@@ -2,7 +2,6 @@
 
 use bites_machine::program::{BadProgram, Program, State};
 use bites_machine::vm;
-use bites_plain::run::{chosen_run, slots};
 use std::alloc::{AllocError, Global};
 use std::test::Fail;
 
@@ -63,7 +62,7 @@ fn faults_of_ranges(rt: HostRuntime) -> Result<(), AllocError> {
 
 type Slots = [Option<usize>; 2];
 
-// The slots of the first run, or of the longest, by the machine.
+// The slots of the first run of a program, or of the longest.
 fn by_machine(
     program: &Program,
     haystack: &[u8],
@@ -79,21 +78,7 @@ fn by_machine(
     Ok(if found { Some(slots) } else { None })
 }
 
-// The same by the plain program.
-fn by_plain(
-    alloc: Global,
-    program: &Program,
-    haystack: &[u8],
-    is_longest: bool,
-) -> Result<Option<Slots>, AllocError> {
-    let Some(run) = chosen_run(alloc, is_longest, program, haystack, 0)? else {
-        return Ok(None);
-    };
-    let slots = slots(alloc, program, &run)?;
-    Ok(slots.as_slice().try_into().ok())
-}
-
-// What both answer of these states, which must be the same.
+// The slots of the first run of these states, or of the longest.
 fn slots_of(
     alloc: Global,
     states: Vec<State>,
@@ -101,11 +86,7 @@ fn slots_of(
     is_longest: bool,
 ) -> Result<Option<Slots>, Fail> {
     let program = Program::from_states(alloc, states, 0, 2)?;
-    let slots = by_machine(&program, haystack, is_longest)?;
-    if by_plain(alloc, &program, haystack, is_longest)? != slots {
-        Err("the plain program answers otherwise")?;
-    }
-    Ok(slots)
+    Ok(by_machine(&program, haystack, is_longest)?)
 }
 
 #[test]

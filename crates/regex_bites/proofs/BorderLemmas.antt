@@ -28,10 +28,10 @@ use Rattle.bites_spec.proofs.RegexRuns.{run_at-lies, span_at-lies}
 use Rattle.regex_bites.specs.Order.{BeginFrom}
 use Rattle.regex_bites.specs.Borders.{IsPart, HaveBorders, AreGroupsOf}
 
-some_same : {A : Type 0} (a b : A) → Some a ≡ Some b → a ≡ b
+pub some_same : {A : Type 0} (a b : A) → Some a ≡ Some b → a ≡ b
 some_same a b e = cc
 
-none_some : {A B : Type 0} (a : A) → None ≡ Some a → B
+pub none_some : {A B : Type 0} (a : A) → None ≡ Some a → B
 none_some a e = absurd (cc)
 
 -- a search may begin at the place
@@ -108,7 +108,7 @@ module _ (hay : List ℕ) (utf8 : IsUtf8 hay) where
     slots_of s may None e l h = none_some l h
     slots_of s may (Some x) e l h = subst (HaveBorders hay) (some_same (slots r.program x) l h) (run_borders s may x e).1
 
-    captured_of : (o : Option (List (Option ℕ))) → ((l : List (Option ℕ)) → o ≡ Some l → HaveBorders hay l) → (c : Captured) →
+    pub captured_of : (o : Option (List (Option ℕ))) → ((l : List (Option ℕ)) → o ≡ Some l → HaveBorders hay l) → (c : Captured) →
         Some c ≡ option_map (captured r hay) o → AreGroupsOf hay c
     captured_of None borders c e = none_some c (sym e)
     captured_of (Some l) borders c e = subst (AreGroupsOf hay) (sym (some_same c (captured r hay l) e)) (refl, (borders l refl).groups)

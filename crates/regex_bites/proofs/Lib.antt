@@ -1,4 +1,5 @@
 pub mod BorderLemmas
+pub mod AnchoredBorders
 pub mod SplitLemmas
 pub mod ReplacingLemmas
 pub mod CountLemmas

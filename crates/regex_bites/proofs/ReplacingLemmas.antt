@@ -1,5 +1,5 @@
 -- Replacing the items of a list, one by one.
-use Rattle.std.proofs.Common.{◌≡◌, ◌≤◌, ◌↔◌, ℕ, zero, suc, Bool, true, false, List, [], ◌∷◌, ◌++◌, map, take, drop, Option, Some, None, refl, sym, ap, ap₂, ◌∙◌, subst, append_assoc, IsUtf8, ◌⊎◌, ⊎_elim, inl, inr}
+use Rattle.std.proofs.Common.{◌≡◌, ◌≤◌, ◌↔◌, ℕ, zero, suc, Bool, true, false, List, [], ◌∷◌, ◌++◌, map, take, drop, Option, Some, None, refl, sym, ap, ap₂, ◌∙◌, subst, append_assoc, IsUtf8}
 use Rattle.std.specs.Prelude.{unwrap_or, slice_range}
 use Rattle.bites_spec.specs.Match.{Span}
 use Rattle.bites_spec.specs.Pieces.{replaced_from, replaced, limited}
@@ -8,10 +8,8 @@ use Rattle.bites_spec.specs.Captured.{Excerpt, excerpt, Captured}
 use Rattle.bites_spec.specs.Iteration.{captures_in, spans_in}
 use Rattle.bites_spec.specs.Replaced.{span_in}
 use Rattle.bites_spec.specs.Replace.{Gave}
-use Rattle.bites_spec.specs.Refused.{GaveFront}
 use Rattle.bites_bytes.specs.Replacing.{is_nil, replaces_none}
 use Rattle.bites_bytes.proofs.ReplacingLemmas.{none_some, limited_map}
-use Rattle.bites_bytes.proofs.ReplacingSteps.{front_none}
 use Rattle.bites_bytes.proofs.ReplacedLemmas.{nothing_iff, limited_none, mapped_none, spans_of_captures}
 use Rattle.regex_bites.specs.Order.{BeginFrom}
 use Rattle.regex_bites.proofs.BorderLemmas.{spans_ordered}
@@ -67,30 +65,6 @@ module _ {S C : Type 0} (gives : S → C → List ℕ → S → Type 0) (answers
 
     pub on_borrows : (last ≡ None) ↔ (all ≡ [])
     on_borrows = nothing_iff last rest all none on.nothing
-
-module _ {S C : Type 0} (gives : S → C → List ℕ → S → Type 0) (answers : S → Option (List ℕ) → S → Type 0) (all : List C) (start : S)
-    (refuses : S → C → S → Type 0) where
-  -- if the replacer has served a front of the rest in the end, it has served a front of all
-  abbrev pub GoesOnServed : List C → S → Type 0
-  GoesOnServed rest now = (end : S) → GaveFront gives answers refuses now rest end → GaveFront gives answers refuses start all end
-
-  pub served_start : (rest : List C) → rest ≡ all → GoesOnServed rest start
-  served_start rest e end front = subst (λ l. GaveFront gives answers refuses start l end) e front
-
-  pub served_step : (c : C) (rest cs : List C) (now : S) → GoesOnServed cs now → cs ≡ c ∷ rest → (text : List ℕ) (next : S) → gives now c text next →
-      GoesOnServed rest next
-  served_step c rest cs now on e text next given end front =
-      on end (subst (λ l. GaveFront gives answers refuses now l end) (sym e) (inr (inr (text, next, given, front))))
-
-  -- no call more
-  pub served_here : (rest : List C) (now : S) → GoesOnServed rest now → GaveFront gives answers refuses start all now
-  served_here rest now on = on now (front_none gives answers refuses now rest)
-
-  -- a call that gave nothing, or was not made
-  pub served_refused : (c : C) (rest cs : List C) (now next : S) → GoesOnServed cs now → cs ≡ c ∷ rest → (next ≡ now) ⊎ refuses now c next →
-      GaveFront gives answers refuses start all next
-  served_refused c rest cs now next on e refused =
-      on next (subst (λ l. GaveFront gives answers refuses now l next) (sym e) (⊎_elim (λ same. inl same) (λ h. inr (inl h)) refused))
 
 -- the order of a front
 begin_take : (n e : ℕ) (ss : List Span) → BeginFrom e ss → BeginFrom e (take n ss)

@@ -1,9 +1,9 @@
 //! Regular expressions over texts and over byte strings, without backtracking: a search visits each state of a
-//! pattern's program at most once at each place of the haystack.
+//! pattern's program at most once at each offset of the haystack.
 //!
-//! [`Regex`] searches texts, and [`bytes::Regex`] byte strings, which need not be UTF-8. Places are numbers of bytes; over
-//! texts, all that is answered begins and ends between two characters. What allocates is handed an allocator and answers a
-//! `Result`. In the examples `rt` is what `main` is handed.
+//! [`Regex`] searches texts, and [`bytes::Regex`] byte strings, which need not be UTF-8. Offsets are in bytes. Over texts,
+//! each match and each group begins and ends at a character boundary. A function that allocates returns a `Result`, and one
+//! that makes an object is given an allocator. In the examples `rt` is the argument of `main`.
 //!
 //! # Does it match
 //!
@@ -46,13 +46,26 @@
 //!
 //! # Replace
 //!
-//! By a template, in which `$1` and `$name` stand for groups, by a text as it is ([`NoExpand`]), or by what a function
-//! answers ([`With`]).
+//! By a template, in which `$1` and `$name` stand for groups, by a text unchanged ([`NoExpand`]), or by the result of a
+//! function ([`With`]).
 //!
 //! ```rust
 //! let regex = Regex::new(rt.alloc(), r"(\w+)=(\w+)")?;
 //! let turned = regex.replace_all("a=1, b=2", "$2=$1")?;
 //! assert_eq!(rt; turned.as_str(), "1=a, 2=b");
+//! ```
+//!
+//! # A match that begins at one offset
+//!
+//! [`Regex::find_anchored_at`] returns only a match that begins at its start, as lexers need it. Such a search stops when no
+//! match that begins there can continue, so its time doesn't depend on the length of the haystack.
+//! [`Regex::is_full_match`] returns whether a match is the whole haystack.
+//!
+//! ```rust
+//! let regex = Regex::new(rt.alloc(), "[a-z]+")?;
+//! let found = regex.find_anchored_at("ab 1cd", 0)?.ok_or("no match")?;
+//! assert_eq!(rt; found.range(), 0..2);
+//! assert_eq!(rt; regex.find_anchored_at("1cd", 0)?, None);
 //! ```
 //!
 //! # A text as a pattern
@@ -67,10 +80,14 @@
 //! # Limits, and patterns that are not trusted
 //!
 //! A pattern and a haystack from anyone are safe: no call stops the program, and each one returns. A build takes time and
-//! memory that grow with the pattern and with its size limit, 10 MiB in the units of [`RegexBuilder::size_limit`] where
-//! nothing else is asked; its recursion goes as deep as [`RegexBuilder::nest_limit`], which is 50. A search takes time that
-//! grows with states times places, and memory that grows with the states. So for patterns that are not trusted lower the
-//! size limit, and for haystacks that are not, their length.
+//! memory that grow with the pattern and with its size limit. That limit is roughly in bytes, and 10 MiB by default
+//! ([`RegexBuilder::size_limit`]). The parser's recursion goes as deep as [`RegexBuilder::nest_limit`], which is 50 by
+//! default.
+//!
+//! A search takes time that grows with states times characters, and for groups, at worst, with slots times that. Its memory
+//! grows with the states and targets times the slots. For patterns that are not trusted lower the size limit, and for
+//! haystacks that are not, their length. An iterator searches once for each match, so at worst all its searches take time
+//! that grows with the square of the haystack's length.
 //!
 //! ```rust
 //! let mut builder = RegexBuilder::new(rt.alloc(), "(?:a{1000}){1000}")?;
@@ -78,8 +95,8 @@
 //! assert_eq!(rt; builder.build().err(), Some(Error::TooBig));
 //! ```
 //!
-//! A search without a cache makes one, which may be refused memory. Where many haystacks are searched, make it once: the
-//! calls whose names end in `_with` take no memory and cannot fail.
+//! A search without a cache allocates one, and its error is out of memory. For many haystacks make a cache once and reuse
+//! it: the methods whose names end in `_with` allocate nothing and cannot fail.
 //!
 //! ```rust
 //! let regex = Regex::new(rt.alloc(), "a+")?;
@@ -90,16 +107,20 @@
 //!
 //! # What differs from the Rust crate regex-bites
 //!
-//! - Calls that take memory are handed an allocator and answer a `Result`; an [`Error`] also says that memory was refused.
-//! - There is no pool of caches: a cache is made by each search, or handed in. A regex is shared by `Rc`.
-//! - No call panics. A start within a text is the border of a character, and captures are not indexed: `part` asks that the
-//!   group took part. Whoever calls proves such a condition, or tests it.
+//! - A function that allocates returns a `Result`, and one that makes an object is given an allocator. An [`Error`] may also
+//!   be out of memory.
+//! - There is no pool of caches: each search allocates a cache, or is given one. A regex and its clones share the program by
+//!   `Arc`, so a clone may go to another thread.
+//! - No call panics. A start within a text must be at a character boundary. Captures are not indexed: `part` requires that
+//!   the group participates. A caller proves such a condition, or tests it.
 //! - A function that replaces is wrapped in `With`.
-//! - [`RegexBuilder::leftmost_longest`] and [`RegexBuilder::keep_dropped_groups`] are new.
+//! - [`RegexBuilder::leftmost_longest`] and [`RegexBuilder::keep_dropped_groups`] are new. So are the searches for a match
+//!   that begins at one offset ([`Regex::find_anchored_at`], [`Regex::captures_anchored_at`]) and for a match of the whole
+//!   haystack ([`Regex::is_full_match`], [`Regex::captures_full`]).
 //! - Some faults of the Rust code are mended: `docs/DIFFERENCES.md` names them all, each with the smallest input that shows it.
 //!
-//! What is promised of each call is its contract. The page `headline` of the crate `bites_promises` says it all in one place.
-//! The modules below are those that both surfaces stand on.
+//! The contract of each call says what it promises. The page `headline` of the crate `bites_promises` has it all in one place.
+//! The modules below are those that texts and byte strings share.
 #![tactic(auto)]
 
 pub mod string;

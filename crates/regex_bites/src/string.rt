@@ -1,8 +1,9 @@
 //! Regular expressions that search texts.
 //!
 //! Each is a layer over the regular expression of [`crate::bytes`] with the same pattern, which searches the UTF-8 of
-//! the text. Whatever it hands out begins and ends between two characters, and so is a text.
+//! the text. Whatever it returns begins and ends at a character boundary, and so is a text.
 
+mod anchored;
 mod builder;
 mod cache;
 mod capture_matches;

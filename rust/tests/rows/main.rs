@@ -1,5 +1,5 @@
-//! Asks the rows of the repository's tables, `crates/bites_answers/data`, of this crate, over bytes or over texts as each
-//! row says, and over texts too where a row of bytes has a haystack that is one. The heads of the tables say what a row is.
+//! Asks the rows of the repository's tables, `crates/bites_rows/data`, of this crate, over bytes or over texts as each
+//! row says, and over texts too where a row of bytes has a haystack that is one. Their README says what a row is.
 //!
 //! With a number as argument only each row of so many is asked: `cargo test --test rows -- 40`.
 
@@ -13,11 +13,10 @@ mod surface;
 
 use row::Row;
 
-/// What a table asks that no call of the crate answers.
-const LEFT_OUT: [(&str, &str); 3] = [
-    ("tree", "the crate hands out no tree"),
-    ("program", "the crate hands out no compiled program"),
-    ("visits", "the crate tells no number of visits"),
+/// What a table asks that no call of the crate returns.
+const LEFT_OUT: [(&str, &str); 2] = [
+    ("tree", "the crate returns no tree"),
+    ("program", "the crate returns no compiled program"),
 ];
 
 #[derive(Default)]
@@ -33,7 +32,8 @@ impl Report {
             return self.leave_out(reason);
         }
         let Ok(pattern) = std::str::from_utf8(&row.pattern) else {
-            return self.leave_out("the pattern is no UTF-8, and a pattern of the crate is a text");
+            return self
+                .leave_out("the pattern is not UTF-8, and a pattern of the crate is a text");
         };
         let over_texts = row.kind == "text";
         if !over_texts {
@@ -82,7 +82,7 @@ impl Report {
 }
 
 fn tables() -> Vec<PathBuf> {
-    let folder = Path::new(env!("CARGO_MANIFEST_DIR")).join("../crates/bites_answers/data");
+    let folder = Path::new(env!("CARGO_MANIFEST_DIR")).join("../crates/bites_rows/data");
     let entries = fs::read_dir(&folder).expect("the folder of the tables can be read");
     let mut paths: Vec<_> = entries
         .map(|entry| entry.expect("an entry").path())

@@ -136,11 +136,17 @@ macro_rules! surface {
 
             fn find(regex: &Regex, haystack: &$text, start: usize) -> Vec<String> {
                 let mut locations = regex.capture_locations();
+                let found = regex.find_at(haystack, start);
+                let first = found.map_or(start, |found| found.start());
                 let mut answers = vec![
-                    shown(regex.find_at(haystack, start)),
+                    shown(found),
+                    shown(regex.find_anchored_at(haystack, first)),
                     shown(regex.captures_read_at(&mut locations, haystack, start)),
                 ];
                 if start == 0 {
+                    let whole = found.map(|found| found.range()) == Some(0..haystack.len());
+                    assert!(regex.is_full_match(haystack) >= whole);
+                    assert!(regex.is_full_match(haystack) <= (first == 0 && found.is_some()));
                     answers.push(shown(regex.find(haystack)));
                     answers.push(shown(regex.captures_read(&mut locations, haystack)));
                 }
@@ -167,9 +173,11 @@ macro_rules! surface {
                 let none = || "none".to_string();
                 let mut locations = regex.capture_locations();
                 let found = regex.captures_read_at(&mut locations, haystack, start);
+                let first = found.map_or(start, |found| found.start());
                 let mut answers = vec![
                     found.map_or_else(none, |_| places(&locations)),
                     regex.captures_at(haystack, start).map_or_else(none, |found| groups(&found)),
+                    regex.captures_anchored_at(haystack, first).map_or_else(none, |found| groups(&found)),
                 ];
                 if start == 0 {
                     answers.push(regex.captures(haystack).map_or_else(none, |found| groups(&found)));

@@ -1,13 +1,14 @@
-//! The room that searches take.
+//! The memory of searches.
 
-ghost use Rattle.std.specs.Prelude.{◌≡◌, ◌↔◌, ◌≤◌, ◌<◌, ◌+◌, ◌^◌, length, option_map, is_some, IsTrue, IfOk, IfSome};
+ghost use Rattle.std.specs.Prelude.{◌≡◌, ◌⊎◌, ◌↔◌, ◌≤◌, ◌<◌, ◌+◌, ◌^◌, length, option_map, is_some, IsTrue, IfOk, IfSome, Some};
 ghost use Rattle.std.specs.Option.{ForSome};
-ghost use Rattle.bites_spec.specs.Counts.{fit_of, IsSlotCount, IsWalked};
+ghost use Rattle.bites_spec.specs.Counts.{fit_of, IsSlotCount, IsWalked, IsBounded};
 ghost use Rattle.bites_spec.specs.Match.{span};
 ghost use Rattle.bites_spec.specs.Slots.{slot_in, group_in};
 ghost use Rattle.bites_spec.specs.Run.{Answered};
 ghost use Rattle.bites_spec.specs.Regex.{IsCompiled, run_at, span_at};
 ghost use Rattle.bites_spec.specs.Found.{HasMatch, IsLeastEnd};
+ghost use Rattle.bites_spec.specs.Anchored.{HasMatchFrom, IsFullMatch, IsWalkedFrom, anchored_run_at, anchored_span_at, full_run};
 ghost use Rattle.bites_spec.specs.Utf8.{step_len};
 ghost use Rattle.bites_spec.specs.Spans.{is_empty_at};
 ghost use Rattle.bites_bytes.specs.Due.{run_due, LeavesRun};
@@ -15,15 +16,17 @@ ghost use Rattle.bites_bytes.specs.Due.{run_due, LeavesRun};
 use crate::bytes::Regex;
 use crate::bytes::regex::Compiled;
 use bites_machine::program::Program;
-use bites_machine::vm;
+use bites_machine::vm::{self, MatchKind};
 use bites_text::utf8::decode_lossy;
 use std::alloc::AllocError;
+use std::fmt;
 use std::marker::Model;
 
-/// The room for searches with a regex, made once by [`Regex::cache`]. No search makes it greater, and none changes what
-/// a later one answers.
+/// The memory of searches, made by [`Regex::cache`] and reused by the methods whose names end in `_with`.
 ///
-/// A contract sees which regexes it fits, and what the last search did.
+/// No search makes it larger, and none changes what a later search returns.
+///
+/// For proofs: a contract sees which regexes it fits, and what the last search visited.
 #[derive(Drop)]
 pub struct Cache {
     room: vm::Cache,
@@ -46,7 +49,7 @@ impl Cache {
         })
     }
 
-    // The run that a search from `start` answers: it is put into the slots, as far as there are any. Where there is none
+    // The run that a search from `start` returns: it is put into the slots, as far as there are any. Where there is none
     // they stay.
     pub(super) fn search(
         &mut self,
@@ -71,7 +74,7 @@ impl Cache {
         }
     }
 
-    // Where the run begins and ends that a search from `start` answers.
+    // Where the run begins and ends that a search from `start` returns.
     pub(super) fn find(
         &mut self,
         compiled: &Compiled,
@@ -130,7 +133,7 @@ impl Cache {
         end_in(&slots)
     }
 
-    // The run that is due behind a match that ends at `last`, or the first of all: it is put into the slots. Where none is
+    // The run that is due after a match that ends at `last`, or the first of all: it is put into the slots. Where none is
     // due, the slots may be written too.
     pub(super) fn due(
         &mut self,
@@ -161,8 +164,119 @@ impl Cache {
         self.search(compiled, haystack, last + step, slots)
     }
 
-    /// Whether searches with the regex may use this cache: it was made for one whose program has as many states, slots
-    /// and targets.
+    // The run from `start` alone that a search returns: it is put into the slots, as far as there are any. Where there is
+    // none they stay.
+    pub(super) fn search_anchored(
+        &mut self,
+        compiled: &Compiled,
+        haystack: &[u8],
+        start: usize,
+        slots: &mut [Option<usize>],
+    ) -> bool
+        requires fits { self.old.fits ≡ fit_of compiled.now.program }
+        requires slots { IsSlotCount compiled.now.program (length slots.old) }
+        ensures answered { Answered compiled.now.program
+            (anchored_run_at compiled.now haystack.now start) result slots.old slots.new }
+        ensures compiled { IsCompiled compiled.now }
+        ensures fits { self.new.fits ≡ self.old.fits }
+        ensures walked { IsWalkedFrom compiled.now.program haystack.now start result self.new.walked }
+    {
+        let program = compiled.program();
+        let room = &mut self.room;
+        if compiled.leftmost_longest() {
+            vm::search_anchored(program, room, haystack, start, MatchKind::Longest, slots)
+        } else {
+            vm::search_anchored(program, room, haystack, start, MatchKind::First, slots)
+        }
+    }
+
+    // Where that run begins and ends.
+    pub(super) fn find_anchored(
+        &mut self,
+        compiled: &Compiled,
+        haystack: &[u8],
+        start: usize,
+    ) -> Option<(usize, usize)>
+        requires { self.old.fits ≡ fit_of compiled.now.program }
+        ensures found { option_map (λ s. span s.0 s.1) result
+            ≡ anchored_span_at compiled.now haystack.now start }
+        ensures lies { IfSome result (λ s. (s.0 ≤ s.1) × (s.1 ≤ length haystack.now)) }
+        ensures compiled { IsCompiled compiled.now }
+        ensures fits { self.new.fits ≡ self.old.fits }
+        ensures walked { IsWalkedFrom compiled.now.program haystack.now start (is_some result) self.new.walked }
+    {
+        let mut slots = [None; 2];
+        if !self.search_anchored(compiled, haystack, start, &mut slots) {
+            return None;
+        }
+        ends_in(&slots)
+    }
+
+    // Whether a match begins at `start`. No slot is asked, and the search ends where it first meets one.
+    pub(super) fn is_match_anchored(
+        &mut self,
+        compiled: &Compiled,
+        haystack: &[u8],
+        start: usize,
+    ) -> bool
+        requires { self.old.fits ≡ fit_of compiled.now.program }
+        ensures found { IsTrue result ↔ HasMatchFrom compiled.now.tree haystack.now start }
+        ensures fits { self.new.fits ≡ self.old.fits }
+        ensures walked { IsWalkedFrom compiled.now.program haystack.now start result self.new.walked }
+    {
+        vm::search_anchored(
+            compiled.program(),
+            &mut self.room,
+            haystack,
+            start,
+            MatchKind::Earliest,
+            &mut [],
+        )
+    }
+
+    // The first run over the whole haystack: it is put into the slots. Where there is none, the slots may be written too.
+    // The longest run from the start is it, if that ends at the end.
+    pub(super) fn search_full(
+        &mut self,
+        compiled: &Compiled,
+        haystack: &[u8],
+        slots: &mut [Option<usize>],
+    ) -> bool
+        requires fits { self.old.fits ≡ fit_of compiled.now.program }
+        requires slots { (length slots.old ≡ 2) ⊎ (length slots.old ≡ compiled.now.program.slots) }
+        ensures full { LeavesRun compiled.now.program (full_run compiled.now haystack.now) result
+            (length slots.old) slots.new }
+        ensures compiled { IsCompiled compiled.now }
+        ensures fits { self.new.fits ≡ self.old.fits }
+        ensures bounded { IsBounded compiled.now.program haystack.now 0 self.new.walked }
+    {
+        let program = compiled.program();
+        if !vm::search_anchored(
+            program,
+            &mut self.room,
+            haystack,
+            0,
+            MatchKind::Longest,
+            slots,
+        ) {
+            return false;
+        }
+        ends_at(slots, haystack.len())
+    }
+
+    // Whether the pattern matches the whole haystack.
+    pub(super) fn is_full_match(&mut self, compiled: &Compiled, haystack: &[u8]) -> bool
+        requires { self.old.fits ≡ fit_of compiled.now.program }
+        ensures found { IsTrue result ↔ IsFullMatch compiled.now.tree haystack.now }
+        ensures fits { self.new.fits ≡ self.old.fits }
+        ensures bounded { IsBounded compiled.now.program haystack.now 0 self.new.walked }
+    {
+        let mut slots = [None; 2];
+        self.search_full(compiled, haystack, &mut slots)
+    }
+
+    /// Returns whether searches with this regex may use the cache. They may if it was made for a program with as many
+    /// states, slots and targets.
     pub fn fits(&self, regex: &Regex) -> bool
         ensures { IsTrue result ↔ (self.now.fits ≡ fit_of regex.now.program) }
     {
@@ -186,6 +300,17 @@ fn end_in(slots: &[Option<usize>]) -> Option<usize>
     slots[1]
 }
 
+// Whether the second slot has that place.
+fn ends_at(slots: &[Option<usize>], place: usize) -> bool
+    requires { 2 ≤ length slots.now }
+    ensures { IsTrue result ↔ (slot_in slots.now 1 ≡ Some place) }
+{
+    match slots[1] {
+        Some(end) => end == place,
+        None => false,
+    }
+}
+
 // Whether the first two slots are known, and both hold the place.
 fn is_empty_at(slots: &[Option<usize>], place: usize) -> bool
     requires { 2 ≤ length slots.now }
@@ -206,4 +331,10 @@ fn step_at(haystack: &[u8], place: usize) -> usize
 {
     let (_, len) = decode_lossy(&haystack[place..]);
     len.max(1)
+}
+
+impl fmt::Debug for Cache {
+    fn fmt<W: fmt::Write>(&self, f: &mut fmt::Formatter<W>) -> fmt::Result {
+        f.debug_struct("Cache").finish_non_exhaustive()
+    }
 }

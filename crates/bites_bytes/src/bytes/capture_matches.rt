@@ -6,11 +6,12 @@ ghost use Rattle.bites_bytes.specs.Matches.{regex_of_matches};
 
 use crate::bytes::{CaptureLocations, Captures, Matches, Regex};
 use std::alloc::AllocError;
+use std::fmt;
 use std::iter::FusedIterator;
 
-/// The groups of the successive matches of a regex in a haystack, from left to right.
+/// An iterator over the groups of the successive matches, from left to right.
 ///
-/// Where memory is refused for the groups of a match, the error comes in their place, and nothing comes behind it.
+/// An item is an error if memory runs out for its groups. No item comes after an error.
 #[derive(Drop)]
 pub struct CaptureMatches<'r, 'h> {
     matches: Matches<'r, 'h>,
@@ -54,7 +55,8 @@ impl<'r, 'h> CaptureMatches<'r, 'h> {
         }
     }
 
-    /// The number of matches that are left, which is 0 after a refusal. It searches for each of them, and takes no memory.
+    /// Returns the number of matches that are left, or 0 after an error. It searches for each of them, and allocates
+    /// nothing.
     pub fn count(self) -> usize
         ensures { result ≡ length (captures_left self.entry) }
     {
@@ -95,7 +97,8 @@ impl<'r, 'h> FusedIterator for CaptureMatches<'r, 'h> {}
 impl Regex {
     ghost use Rattle.bites_bytes.specs.CapturesLeft.{captures_left};
 
-    /// The groups of the successive matches in the haystack. The error is want of memory for the room that searches take.
+    /// Returns an iterator over the groups of the successive matches, which are those of [`Regex::find_iter`]. The
+    /// error is out of memory for the cache of the iterator.
     pub fn captures_iter<'r, 'h>(
         &'r self,
         haystack: &'h [u8],
@@ -108,5 +111,14 @@ impl Regex {
             locations: CaptureLocations::new(self.alloc(), slots)?,
             refused: false,
         })
+    }
+}
+
+impl<'r, 'h> fmt::Debug for CaptureMatches<'r, 'h> {
+    fn fmt<W: fmt::Write>(&self, f: &mut fmt::Formatter<W>) -> fmt::Result {
+        f.debug_struct("CaptureMatches")
+            .field("matches", &self.matches)
+            .field("refused", &self.refused)
+            .finish_non_exhaustive()
     }
 }

@@ -1,11 +1,12 @@
 //! The groups of a match.
 
-ghost use Rattle.std.specs.Prelude.{◌≡◌, ◌+◌, ◌/◌, length, map, take, drop, IfOk, IsSome, Some, option_map, option_and_then};
+ghost use Rattle.std.specs.Prelude.{◌≡◌, ◌+◌, ◌/◌, length, map, take, drop, IfOk, IfSome, IsSome, Some, option_map, option_and_then};
 ghost use Rattle.bites_spec.specs.Measure.{static_captures_len};
 ghost use Rattle.bites_spec.specs.Slots.{group_in, taking_part};
 ghost use Rattle.bites_spec.specs.Counts.{fit_of};
 ghost use Rattle.bites_spec.specs.Pieces.{text_at};
 ghost use Rattle.bites_spec.specs.Regex.{slots_at};
+ghost use Rattle.bites_spec.specs.Anchored.{anchored_slots_at, full_slots};
 ghost use Rattle.bites_spec.specs.Captured.{AreGroups, captured, excerpt, FindsGroups};
 
 use crate::bytes::regex::Compiled;
@@ -15,15 +16,16 @@ use bites_machine::interpolate;
 use std::alloc::AllocError;
 use std::fmt;
 use std::marker::Model;
-use std::rc::Rc;
+use std::sync::Arc;
 
-/// The groups of a match: where each of them took part.
+/// The groups of a match. Group 0 participates; any other may or may not.
 ///
-/// It shares the program with its regex, and may outlive it. A contract sees the regex, the haystack, and the two slots
-/// of each group.
+/// It shares the program with its regex and may outlive it.
+///
+/// For proofs: a contract sees the regex, the haystack, and the two slots of each group.
 #[derive(Drop)]
 pub struct Captures<'h> {
-    compiled: Rc<Compiled>,
+    compiled: Arc<Compiled>,
     haystack: &'h [u8],
     locations: CaptureLocations,
 }
@@ -48,7 +50,7 @@ impl<'h> Captures<'h> {
     ghost use Rattle.bites_bytes.specs.Matched.{excerpt_of};
     ghost use Rattle.bites_spec.specs.Replacer.{answer_text, expanded};
 
-    // The groups of the match that a search from `start` answers.
+    // The groups of the match that a search from `start` returns.
     pub(super) fn find(
         regex: &Regex,
         cache: &mut Cache,
@@ -62,6 +64,51 @@ impl<'h> Captures<'h> {
         let mut locations = regex.capture_locations()?;
         let compiled = regex.compiled().clone()?;
         if !locations.search(&compiled, cache, haystack, start) {
+            return Ok(None);
+        }
+        Ok(Some(Captures {
+            compiled,
+            haystack,
+            locations,
+        }))
+    }
+
+    // The groups of the match from `start` alone that a search returns.
+    pub(super) fn find_anchored(
+        regex: &Regex,
+        cache: &mut Cache,
+        haystack: &'h [u8],
+        start: usize,
+    ) -> Result<Option<Captures<'h>>, AllocError>
+        requires { cache.old.fits ≡ fit_of regex.now.program }
+        ensures { IfOk result (λ c. c ≡ option_map (captured regex.now haystack.now)
+            (anchored_slots_at regex.now haystack.now start)) }
+    {
+        let mut locations = regex.capture_locations()?;
+        let compiled = regex.compiled().clone()?;
+        if !locations.search_anchored(&compiled, cache, haystack, start) {
+            return Ok(None);
+        }
+        Ok(Some(Captures {
+            compiled,
+            haystack,
+            locations,
+        }))
+    }
+
+    // The groups of a match of the whole haystack.
+    pub(super) fn find_full(
+        regex: &Regex,
+        cache: &mut Cache,
+        haystack: &'h [u8],
+    ) -> Result<Option<Captures<'h>>, AllocError>
+        requires { cache.old.fits ≡ fit_of regex.now.program }
+        ensures { IfOk result (λ c. c ≡ option_map (captured regex.now haystack.now)
+            (full_slots regex.now haystack.now)) }
+    {
+        let mut locations = regex.capture_locations()?;
+        let compiled = regex.compiled().clone()?;
+        if !locations.search_full(&compiled, cache, haystack) {
             return Ok(None);
         }
         Ok(Some(Captures {
@@ -87,7 +134,8 @@ impl<'h> Captures<'h> {
         })
     }
 
-    /// Where the group of this number took part; None if it took no part, and from [`Captures::len`] on.
+    /// Returns the match of the group with this number; group 0 is the whole match. Returns `None` if the group
+    /// doesn't participate, and for numbers from [`Captures::len`] on.
     pub fn get(&self, group: usize) -> Option<Match<'h>>
         ensures { option_map excerpt_of result
             ≡ option_map (excerpt self.now.haystack) (group_in self.now.slots group) }
@@ -95,7 +143,8 @@ impl<'h> Captures<'h> {
         Match::at(self.haystack, self.locations.get(group))
     }
 
-    /// Where the group of this name took part; None if it took no part, and if no group has the name.
+    /// Returns the match of the group with this name. Returns `None` if the group doesn't participate, and if no
+    /// group has the name.
     pub fn name(&self, name: &str) -> Option<Match<'h>>
         ensures { option_map excerpt_of result ≡ option_map (excerpt self.now.haystack)
             (option_and_then (group_in self.now.slots) (index_in self.now.regex.names name.now)) }
@@ -120,7 +169,7 @@ impl<'h> Captures<'h> {
         CaptureNames::new(self.compiled.program())
     }
 
-    // The bytes of the group of this number, if it took part.
+    // The bytes of the group of this number, if it participates.
     fn text_of(&self, group: usize) -> Option<&'h [u8]>
         ensures { answer_text result ≡ text_in self.now.slots self.now.haystack group }
     {
@@ -130,10 +179,11 @@ impl<'h> Captures<'h> {
         }
     }
 
-    /// Appends what a template stands for: `$name` and `${name}` are the bytes of the group of that name or number, `$$` is
-    /// a `$`, and all else stands for itself.
+    /// Appends the expansion of a template: `$name` and `${name}` stand for the bytes of the group with that name or
+    /// number, `$$` for a `$`, and all else for itself.
     ///
-    /// The error is want of memory; `dst` is then the old bytes followed by a beginning of what the template stands for.
+    /// A group that doesn't participate or doesn't exist stands for nothing. The error is out of memory; `dst` is
+    /// then the old bytes followed by a prefix of the expansion.
     pub fn expand(&self, template: &[u8], dst: &mut Vec<u8>) -> Result<(), AllocError>
         ensures { AppendsUntilRefused result dst.old.items dst.new.items (expanded self.now template.now) }
     {
@@ -145,10 +195,10 @@ impl<'h> Captures<'h> {
         )
     }
 
-    /// The number of groups, group 0 counted.
+    /// Returns the number of groups, group 0 counted.
     ///
-    /// Its contract also says what the groups of a match always are: group 0 took part, and each that did lies in the
-    /// haystack. A caller whose proof needs that calls it.
+    /// For proofs: the contract also says what holds of the groups of every match. Group 0 participates, and each
+    /// group that does lies in the haystack. A caller whose proof needs that calls it.
     pub fn len(&self) -> usize
         ensures groups { result ≡ length self.now.regex.names }
         ensures slots { result ≡ length self.now.slots / 2 }
@@ -157,7 +207,7 @@ impl<'h> Captures<'h> {
         self.compiled.captures_len()
     }
 
-    /// The bytes of the group of this number, which took part.
+    /// Returns the bytes of the group with this number, which must participate.
     pub fn part(&self, group: usize) -> &'h [u8]
         requires { IsSome (group_in self.now.slots group) }
         ensures { Some result.now ≡ option_map (text_at self.now.haystack) (group_in self.now.slots group) }
@@ -165,7 +215,7 @@ impl<'h> Captures<'h> {
         self.get(group).unwrap().as_bytes()
     }
 
-    /// The bytes of the group of this name, which took part.
+    /// Returns the bytes of the group with this name, which must participate.
     pub fn part_named(&self, name: &str) -> &'h [u8]
         requires { IsSome (option_and_then (group_in self.now.slots) (index_in self.now.regex.names name.now)) }
         ensures { Some result.now ≡ option_map (text_at self.now.haystack)
@@ -174,11 +224,11 @@ impl<'h> Captures<'h> {
         self.name(name).unwrap().as_bytes()
     }
 
-    /// The bytes of the match; `parts` gets those of the first groups behind group 0 that took part, in the order of their
-    /// numbers, as many as it has places.
+    /// Returns the bytes of the match, and fills `parts` with the bytes of the first groups after group 0 that
+    /// participate, in the order of their numbers.
     ///
-    /// So many take part in every match where [`Regex::static_captures_len`] is one more than that: for `(?:(a)|(b))+`, where
-    /// it is `Some(2)`, one part is `a` on `ab`. It takes no memory.
+    /// `parts` must be one shorter than [`Regex::static_captures_len`], so that enough groups participate in every
+    /// match. For `(?:(a)|(b))+` that is `Some(2)`, and the one part is `a` on `ab`. It allocates nothing.
     pub fn extract(&self, parts: &mut [&'h [u8]]) -> &'h [u8]
         requires { static_captures_len self.now.regex.tree ≡ Some (length parts.old + 1) }
         ensures whole { Some result.now ≡ option_map (text_at self.now.haystack) (group_in self.now.slots 0) }
@@ -221,7 +271,7 @@ impl<'h> fmt::Debug for Captures<'h> {
 }
 
 impl<'h> Captures<'h> {
-    // Where a group took part, and its bytes.
+    // Where a group participates, and its bytes.
     fn shown(&self, group: usize) -> Part<&'h [u8]> {
         match self.get(group) {
             Some(found) => Part(Some((found.start(), found.end(), found.as_bytes()))),
@@ -231,18 +281,31 @@ impl<'h> Captures<'h> {
 }
 
 impl Regex {
-    /// The groups of the first match in the haystack. The error is want of memory.
+    /// Returns the groups of the leftmost match in the haystack. The error is out of memory.
+    ///
+    /// At worst a search for groups takes time that grows with states times slots times characters.
+    ///
+    /// ```rust
+    /// let regex = Regex::new(rt.alloc(), r"(\w+)=(\w+)?")?;
+    /// let captures = regex.captures(b"key=")?.ok_or("no match")?;
+    /// let key = captures.get(1).ok_or("no key")?;
+    /// assert_eq!(rt; key.as_bytes(), b"key".as_slice());
+    /// assert_eq!(rt; captures.get(2), None);
+    /// ```
     pub fn captures<'h>(&self, haystack: &'h [u8]) -> Result<Option<Captures<'h>>, AllocError>
         ensures found { IfOk result (λ c. c
             ≡ option_map (captured self.now haystack.now) (slots_at self.now haystack.now 0)) }
         ensures on_tree { IfOk result (λ c. FindsGroups self.now haystack.now 0 (option_map (λ x. x.slots) c)) }
+        ensures regex { IfOk result (λ c. IfSome c (λ x. x.regex ≡ self.now)) }
+        ensures haystack { IfOk result (λ c. IfSome c (λ x. x.haystack ≡ haystack.now)) }
     {
         self.captures_at(haystack, 0)
     }
 
-    /// The groups of the first match from `start` on, a number of bytes; past the end of the haystack nothing matches.
+    /// Returns the groups of the leftmost match at or after `start`, an offset in bytes. Past the end of the haystack
+    /// nothing matches. The error is out of memory.
     ///
-    /// Assertions look at the bytes before `start` too.
+    /// Assertions look at the bytes before `start` too, so this differs from a search of the slice that begins there.
     pub fn captures_at<'h>(
         &self,
         haystack: &'h [u8],
@@ -251,6 +314,8 @@ impl Regex {
         ensures found { IfOk result (λ c. c
             ≡ option_map (captured self.now haystack.now) (slots_at self.now haystack.now start)) }
         ensures on_tree { IfOk result (λ c. FindsGroups self.now haystack.now start (option_map (λ x. x.slots) c)) }
+        ensures regex { IfOk result (λ c. IfSome c (λ x. x.regex ≡ self.now)) }
+        ensures haystack { IfOk result (λ c. IfSome c (λ x. x.haystack ≡ haystack.now)) }
     {
         let mut cache = Cache::new(self.program())?;
         Captures::find(self, &mut cache, haystack, start)

@@ -1,19 +1,21 @@
-//! Where the groups of a match begin and end.
+//! The offsets of the groups of a match.
 
-ghost use Rattle.std.specs.Prelude.{◌≡◌, ◌≤◌, ◌/◌, ◌↔◌, None, replicate, length, option_map, is_some, unwrap_or, IsTrue, IfOk, IfSome};
+ghost use Rattle.std.specs.Prelude.{◌≡◌, ◌≤◌, ◌/◌, ◌↔◌, None, replicate, length, option_map, is_some, unwrap_or, IsTrue, IfOk, IfSome, Some, true, false};
 ghost use Rattle.bites_spec.specs.Match.{span};
 ghost use Rattle.bites_spec.specs.Slots.{group_in};
 ghost use Rattle.bites_spec.specs.Counts.{fit_of, IsWalked};
 ghost use Rattle.bites_spec.specs.Regex.{IsCompiled, run_at, span_at, slots_at};
+ghost use Rattle.bites_spec.specs.Anchored.{IsWalkedFrom, anchored_run_at, anchored_span_at, anchored_slots_at, full_slots};
 
 use crate::bytes::regex::Compiled;
 use crate::bytes::{Cache, Match, Matches, Regex};
 use std::alloc::{AllocError, Global};
+use std::fmt;
 use std::marker::Model;
 
-/// Where each group of a match begins and ends, as [`Regex::captures_read`] writes it.
+/// The offsets of the groups of a match, in memory that is reused. [`Regex::captures_read`] writes them.
 ///
-/// A contract sees the two slots of each group, which are known where the group took part.
+/// For proofs: a contract sees the two slots of each group, which are known if the group participates.
 #[derive(Drop)]
 pub struct CaptureLocations {
     alloc: Global,
@@ -39,8 +41,8 @@ impl CaptureLocations {
         })
     }
 
-    /// Where the group of this number begins and ends, in bytes from the start of the haystack; None if it took no part,
-    /// and from [`CaptureLocations::len`] on.
+    /// Returns the offsets in bytes where the group with this number begins and ends. Returns `None` if the group
+    /// doesn't participate, and for numbers from [`CaptureLocations::len`] on.
     pub fn get(&self, group: usize) -> Option<(usize, usize)>
         ensures { option_map (λ s. span s.0 s.1) result ≡ group_in self.now group }
     {
@@ -50,21 +52,21 @@ impl CaptureLocations {
         Some((self.slots[2 * group]?, self.slots[2 * group + 1]?))
     }
 
-    /// The number of groups, group 0 counted.
+    /// Returns the number of groups, group 0 counted.
     pub fn len(&self) -> usize
         ensures { result ≡ length self.now / 2 }
     {
         self.slots.len() / 2
     }
 
-    /// Whether the regex has as many groups.
+    /// Returns whether the regex has as many groups, so that its searches may write these locations.
     pub fn fits(&self, regex: &Regex) -> bool
         ensures { IsTrue result ↔ (length self.now ≡ regex.now.program.slots) }
     {
         self.slots.len() == regex.program().slots()
     }
 
-    // The slots of the run that a search from `start` answers; where there is none they stay.
+    // The slots of the run that a search from `start` returns; where there is none they stay.
     pub(super) fn search(
         &mut self,
         compiled: &Compiled,
@@ -108,6 +110,69 @@ impl CaptureLocations {
 }
 
 impl CaptureLocations {
+    // The slots of the run from `start` alone that a search returns; where there is none they stay.
+    pub(super) fn search_anchored(
+        &mut self,
+        compiled: &Compiled,
+        cache: &mut Cache,
+        haystack: &[u8],
+        start: usize,
+    ) -> bool
+        requires cache { cache.old.fits ≡ fit_of compiled.now.program }
+        requires fits { length self.old ≡ compiled.now.program.slots }
+        ensures found { result ≡ is_some (anchored_run_at compiled.now haystack.now start) }
+        ensures slots { self.new
+            ≡ unwrap_or (anchored_slots_at compiled.now haystack.now start) self.old }
+        ensures compiled { IsCompiled compiled.now }
+        ensures cache { cache.new.fits ≡ cache.old.fits }
+        ensures walked { IsWalkedFrom compiled.now.program haystack.now start result cache.new.walked }
+    {
+        cache.search_anchored(compiled, haystack, start, &mut self.slots)
+    }
+
+    // The same, with where the run begins and ends.
+    pub(super) fn read_anchored(
+        &mut self,
+        compiled: &Compiled,
+        cache: &mut Cache,
+        haystack: &[u8],
+        start: usize,
+    ) -> Option<(usize, usize)>
+        requires cache { cache.old.fits ≡ fit_of compiled.now.program }
+        requires fits { length self.old ≡ compiled.now.program.slots }
+        ensures found { option_map (λ s. span s.0 s.1) result
+            ≡ anchored_span_at compiled.now haystack.now start }
+        ensures lies { IfSome result (λ s. (s.0 ≤ s.1) × (s.1 ≤ length haystack.now)) }
+        ensures slots { self.new
+            ≡ unwrap_or (anchored_slots_at compiled.now haystack.now start) self.old }
+        ensures compiled { IsCompiled compiled.now }
+        ensures cache { cache.new.fits ≡ cache.old.fits }
+        ensures walked { IsWalkedFrom compiled.now.program haystack.now start (is_some result) cache.new.walked }
+    {
+        if !self.search_anchored(compiled, cache, haystack, start) {
+            return None;
+        }
+        self.get(0)
+    }
+
+    // The slots of the first run over the whole haystack; where there is none, they may be written too.
+    pub(super) fn search_full(
+        &mut self,
+        compiled: &Compiled,
+        cache: &mut Cache,
+        haystack: &[u8],
+    ) -> bool
+        requires cache { cache.old.fits ≡ fit_of compiled.now.program }
+        requires fits { length self.old ≡ compiled.now.program.slots }
+        ensures found { result ≡ true → full_slots compiled.now haystack.now ≡ Some self.new }
+        ensures none { result ≡ false → full_slots compiled.now haystack.now ≡ None }
+        ensures compiled { IsCompiled compiled.now }
+    {
+        cache.search_full(compiled, haystack, &mut self.slots)
+    }
+}
+
+impl CaptureLocations {
     ghost use Rattle.bites_bytes.specs.Matches.{Advances, IsSameSearch, Moves, regex_of_matches};
 
     // The next match, with its slots.
@@ -127,11 +192,19 @@ impl CaptureLocations {
 impl Clone for CaptureLocations {
     ghost is_clone = { λ locations copy. copy ≡ locations };
 
-    /// Locations with the same places. The error is want of memory.
+    /// Returns locations with the same offsets. The error is out of memory.
     fn clone(&self) -> Result<CaptureLocations, AllocError> {
         Ok(CaptureLocations {
             alloc: self.alloc,
             slots: self.slots.clone()?,
         })
+    }
+}
+
+impl fmt::Debug for CaptureLocations {
+    fn fmt<W: fmt::Write>(&self, f: &mut fmt::Formatter<W>) -> fmt::Result {
+        f.debug_tuple("CaptureLocations")
+            .field(&self.slots)
+            .finish()
     }
 }

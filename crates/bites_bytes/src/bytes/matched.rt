@@ -5,9 +5,9 @@ ghost use Rattle.std.specs.Prelude.{◌≡◌, ◌-◌, ◌≤◌, ◌==◌, len
 use std::fmt;
 use std::ops::Range;
 
-/// A part of a haystack that matched.
+/// A match: a part of the haystack.
 ///
-/// Two matches are equal if their haystacks have the same bytes, and they begin and end at the same places.
+/// Two matches are equal if they have the same offsets and their haystacks have equal bytes.
 #[derive(Clone, Copy, PartialEq, Eq)]
 pub struct Match<'h> {
     haystack: &'h [u8],
@@ -47,42 +47,42 @@ impl<'h> Match<'h> {
         }
     }
 
-    /// Where the match begins, in bytes from the start of the haystack.
+    /// Returns the offset in bytes where the match begins.
     pub fn start(&self) -> usize
         ensures { result ≡ (excerpt_of self.now).span.start }
     {
         self.start
     }
 
-    /// Where the match ends, in bytes from the start of the haystack.
+    /// Returns the offset in bytes after the end of the match.
     pub fn end(&self) -> usize
         ensures { result ≡ (excerpt_of self.now).span.end }
     {
         self.end
     }
 
-    /// The number of its bytes.
+    /// Returns the length of the match in bytes.
     pub fn len(&self) -> usize
         ensures { result ≡ (excerpt_of self.now).span.end - (excerpt_of self.now).span.start }
     {
         self.end - self.start
     }
 
-    /// Whether it has no byte.
+    /// Returns whether the match is empty.
     pub fn is_empty(&self) -> bool
         ensures { result ≡ ((excerpt_of self.now).span.start == (excerpt_of self.now).span.end) }
     {
         self.start == self.end
     }
 
-    /// Where it begins and ends.
+    /// Returns the offsets in bytes where the match begins and ends.
     pub fn range(&self) -> Range<usize>
         ensures { span result.start result.end ≡ (excerpt_of self.now).span }
     {
         self.start..self.end
     }
 
-    /// The bytes that matched.
+    /// Returns the bytes that matched.
     pub fn as_bytes(&self) -> &'h [u8]
         ensures { result.now ≡ text_of (excerpt_of self.now) }
     {

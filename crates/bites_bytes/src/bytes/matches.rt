@@ -10,12 +10,13 @@ ghost use Rattle.bites_spec.specs.Iteration.{spans_in};
 use crate::bytes::cache::ends_in;
 use crate::bytes::{Cache, Match, Regex};
 use std::alloc::AllocError;
+use std::fmt;
 use std::iter::FusedIterator;
 
-/// The successive matches of a regex in a haystack, from left to right.
+/// An iterator over the successive matches, from left to right.
 ///
-/// Each search goes on where the match before ended; an empty match there is dropped, and the search goes on one
-/// character later. No search takes memory.
+/// Each search continues where the match before it ended. An empty match right there is dropped, and the search
+/// continues one character later. No search allocates.
 #[derive(Drop)]
 pub struct Matches<'r, 'h> {
     regex: &'r Regex,
@@ -105,7 +106,7 @@ impl<'r, 'h> Matches<'r, 'h> {
         self.advance(&mut slots)
     }
 
-    /// The number of matches that are left. It searches for each of them, and takes no memory.
+    /// Returns the number of matches that are left. It searches for each of them, and allocates nothing.
     pub fn count(mut self) -> usize
         ensures left { result ≡ length (matches_left self.entry) }
         ensures bound { result ≤ 2 ^ 63 }
@@ -148,12 +149,34 @@ impl<'r, 'h> FusedIterator for Matches<'r, 'h> {}
 impl Regex {
     ghost use Rattle.bites_bytes.specs.Matches.{matches_left};
 
-    /// The successive matches in the haystack. The error is want of memory for the room that searches take; the iterator
-    /// takes none.
+    /// Returns an iterator over the successive matches, which don't overlap. The error is out of memory for the cache
+    /// of the iterator; its items cannot fail.
+    ///
+    /// A search may read to the end of the haystack, so at worst all searches take time that grows with the square of
+    /// its length.
+    ///
+    /// ```rust
+    /// let regex = Regex::new(rt.alloc(), "a*")?;
+    /// let mut ends = Vec::new(rt.alloc());
+    /// for found in regex.find_iter(b"aab")? {
+    ///     ends.push(found.end())?;
+    /// }
+    /// assert_eq!(rt; ends.as_slice(), [2, 3].as_slice());
+    /// ```
     pub fn find_iter<'r, 'h>(&'r self, haystack: &'h [u8]) -> Result<Matches<'r, 'h>, AllocError>
         ensures { IfOk result (λ m. matches_left m
             ≡ map (excerpt haystack.now) (spans_in self.now haystack.now)) }
     {
         Matches::new(self, haystack)
+    }
+}
+
+impl<'r, 'h> fmt::Debug for Matches<'r, 'h> {
+    fn fmt<W: fmt::Write>(&self, f: &mut fmt::Formatter<W>) -> fmt::Result {
+        f.debug_struct("Matches")
+            .field("regex", &self.regex)
+            .field("haystack", &self.haystack)
+            .field("last", &self.last)
+            .finish_non_exhaustive()
     }
 }

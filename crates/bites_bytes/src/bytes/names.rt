@@ -4,10 +4,13 @@ ghost use Rattle.std.specs.Prelude.{◌≡◌, ◌<◌, ◌^◌, IfSome, length,
 
 use bites_machine::program::Program;
 use std::alloc::AllocError;
+use std::fmt;
 use std::iter::FusedIterator;
 use std::marker::Model;
 
-/// The name of each group, if it has one, from group 0 on. A contract sees the names that are left.
+/// An iterator over the names of the groups, from group 0 on. An item is `None` if its group has no name.
+///
+/// For proofs: a contract sees the names that are left.
 #[derive(Drop)]
 pub struct CaptureNames<'r> {
     program: &'r Program,
@@ -43,7 +46,7 @@ impl<'r> Clone for CaptureNames<'r> {
 
     ghost is_infallible = { λ _. ⊤ };
 
-    /// The same names left; it takes no memory.
+    /// Returns an iterator over the same names. It allocates nothing and cannot fail.
     fn clone(&self) -> Result<CaptureNames<'r>, AllocError> {
         Ok(CaptureNames {
             program: self.program,
@@ -88,3 +91,11 @@ impl<'r> ExactSizeIterator for CaptureNames<'r> {
 }
 
 impl<'r> FusedIterator for CaptureNames<'r> {}
+
+impl<'r> fmt::Debug for CaptureNames<'r> {
+    fn fmt<W: fmt::Write>(&self, f: &mut fmt::Formatter<W>) -> fmt::Result {
+        f.debug_struct("CaptureNames")
+            .field("left", &self.left)
+            .finish_non_exhaustive()
+    }
+}

@@ -1,10 +1,10 @@
 //! Haystacks with their matches replaced.
 
-ghost use Rattle.std.specs.Prelude.{◌≡◌, ◌↔◌, ◌++◌, [], List, ℕ, ◌≤◌, None, IfOk, OnOk, OnErr, drop, length};
+ghost use Rattle.std.specs.Prelude.{◌≡◌, ◌↔◌, ◌++◌, [], List, ℕ, ◌≤◌, None, IfOk, OnOk, drop, length};
 ghost use Rattle.std.specs.Cow.{cow_slice_items, IsBorrowedSlice};
 ghost use Rattle.bites_spec.specs.Iteration.{captures_in};
 ghost use Rattle.bites_bytes.specs.Matches.{regex_of_matches, last_of_matches};
-ghost use Rattle.bites_spec.specs.Replaced.{ReplacesIn, GivesUpIn};
+ghost use Rattle.bites_spec.specs.Replaced.{ReplacesIn};
 ghost use Rattle.bites_bytes.specs.Limit.{bound};
 
 use crate::bytes::{CaptureLocations, Captures, Matches, Regex, Replacer};
@@ -25,8 +25,7 @@ struct Replacing<'r, 'h> {
 
 impl<'r, 'h> Replacing<'r, 'h> {
     ghost use Rattle.bites_bytes.specs.Matches.{haystack_of_matches};
-    ghost use Rattle.bites_bytes.specs.Replacing.{hay_of, begin_of, StepsByText, EndsByText, StepsBy, EndsBy, GoesOnRefused, captures_to_replace};
-    ghost use Rattle.bites_spec.specs.Refused.{GaveFront};
+    ghost use Rattle.bites_bytes.specs.Replacing.{hay_of, begin_of, StepsByText, EndsByText, StepsBy, EndsBy};
 
     // Nothing is replaced yet; at most so many matches may be, or all for 0.
     fn new(
@@ -83,8 +82,6 @@ impl<'r, 'h> Replacing<'r, 'h> {
         requires whole { 2 ≤ length locations.old }
         ensures steps { IfOk result (λ there.
             StepsBy R.replaces R.answers self.old replacer.old there self.new replacer.new) }
-        ensures refused { OnErr result (GaveFront R.replaces R.answers R.refuses replacer.old
-            (captures_to_replace self.old) replacer.new) }
         ensures len { length locations.new ≡ length locations.old }
     {
         if !spend(&mut self.left) {
@@ -111,10 +108,6 @@ impl<'r, 'h> Replacing<'r, 'h> {
         requires fits { length locations.old ≡ (regex_of_matches self.old.matches).program.slots }
         requires whole { 2 ≤ length locations.old }
         ensures ends { OnOk result (EndsBy R.replaces R.answers self.old replacer.old self.new replacer.new) }
-        ensures served { OnOk result (GaveFront R.replaces R.answers R.refuses replacer.old
-            (captures_to_replace self.old) replacer.new) }
-        ensures refused { OnErr result (GaveFront R.replaces R.answers R.refuses replacer.old
-            (captures_to_replace self.old) replacer.new) }
     {
         while self.step_by(locations, replacer)? {}
         Ok(())
@@ -147,8 +140,6 @@ impl Regex {
         requires { (state : R) → R.can_replace state }
         ensures replaces { IfOk result (λ bytes. ReplacesIn R.replaces R.answers
             self.now haystack.now limit replacer.old (cow_slice_items bytes) replacer.new) }
-        ensures refused { OnErr result (GivesUpIn R.replaces R.answers R.refuses
-            self.now haystack.now limit replacer.old replacer.new) }
         ensures borrowed { IfOk result (λ bytes. IsBorrowedSlice bytes ↔ captures_in self.now haystack.now ≡ []) }
     {
         let slots = self.program().slots();
@@ -162,9 +153,10 @@ impl Regex {
         replacing.finish()
     }
 
-    /// The haystack with its first match replaced. The error is want of memory.
+    /// Returns the haystack with its first match replaced. The error is out of memory.
     ///
-    /// It is borrowed exactly if nothing matches. A refusal hands out no text, as [`Regex::replacen`] says.
+    /// The haystack is borrowed exactly if nothing matches. In a template `$1` and `$name` stand for groups, as
+    /// [`Captures::expand`] describes.
     pub fn replace<'h, R: Replacer + Drop>(
         &self,
         haystack: &'h [u8],
@@ -178,9 +170,15 @@ impl Regex {
         self.replacen(haystack, 1, replacer)
     }
 
-    /// The haystack with all its matches replaced. The error is want of memory.
+    /// Returns the haystack with all its matches replaced. The error is out of memory.
     ///
-    /// It is borrowed exactly if nothing matches. A refusal hands out no text, as [`Regex::replacen`] says.
+    /// The haystack is borrowed exactly if nothing matches.
+    ///
+    /// ```rust
+    /// let regex = Regex::new(rt.alloc(), r"(\w)=(\w)")?;
+    /// let turned = regex.replace_all(b"a=1, b=2", "$2=$1".as_bytes())?;
+    /// assert_eq!(rt; turned.as_slice(), b"1=a, 2=b".as_slice());
+    /// ```
     pub fn replace_all<'h, R: Replacer + Drop>(
         &self,
         haystack: &'h [u8],
@@ -194,11 +192,11 @@ impl Regex {
         self.replacen(haystack, 0, replacer)
     }
 
-    /// The haystack with its first `limit` matches replaced, or all of them for 0. The error is want of memory.
+    /// Returns the haystack with its first `limit` matches replaced, or all of them if `limit` is 0. The error is out
+    /// of memory.
     ///
-    /// The replacer is asked once for the same bytes for each match; where it has none, it gives what stands for the
-    /// groups of each match in turn. The haystack is borrowed exactly if nothing matches. A refusal hands out no text; the
-    /// replacer has then served a beginning of the matches, or was not asked at all.
+    /// The haystack is borrowed exactly if nothing matches. [`Replacer::no_expansion`] is called once. If it returns
+    /// bytes, each match is replaced by these. Else [`Replacer::replace_append`] is called for each match in turn.
     pub fn replacen<'h, R: Replacer + Drop>(
         &self,
         haystack: &'h [u8],

@@ -1,22 +1,22 @@
-//! What stands for a match: templates, texts, and what functions answer.
+//! What a match is replaced by: templates, literals, and results of functions.
 
 ghost use Rattle.std.specs.Prelude.{◌≡◌, ℕ, List, Option, Some, None, Ok, Err, OnOk, OnErr, ⊤};
 ghost use Rattle.std.specs.Borrow.{sem};
 ghost use Rattle.std.specs.Cow.{cow_slice_items};
 ghost use Rattle.std.specs.Io.BufRead.{Rests};
 ghost use Rattle.bites_spec.specs.Captured.{Captured};
-ghost use Rattle.bites_spec.specs.Refused.{Appends, IsFront};
-ghost use Rattle.bites_spec.specs.Replacer.{answer_text, plain_text, is_plain, GivesExpansion, AnswersPlain, Stays};
+ghost use Rattle.bites_spec.specs.Refused.{Appends};
+ghost use Rattle.bites_spec.specs.Replacer.{answer_text, plain_text, is_plain, GivesExpansion, AnswersPlain, BeginsExpansion, BeginsText};
 
 use crate::bytes::Captures;
 use std::alloc::AllocError;
 use std::borrow::CowSlice;
 use std::convert::AsSlice;
 
-/// What stands for the matches of a regex.
+/// What a match is replaced by: a template, a literal ([`NoExpand`]) or the result of a function ([`With`]).
 ///
-/// An implementation says when [`Replacer::replace_append`] may be called, what it gives, and what
-/// [`Replacer::no_expansion`] answers.
+/// For proofs: an implementation says when [`Replacer::replace_append`] may be called, what it appends, and what
+/// [`Replacer::no_expansion`] returns.
 pub trait Replacer {
     /// The states in which `replace_append` may be called.
     ghost can_replace: { Self → Type 0 } = { λ _. ⊤ };
@@ -24,13 +24,13 @@ pub trait Replacer {
     /// Relates a state, the groups of a match, the text that is appended for it, and the state after.
     ghost replaces: { Self → Captured → List ℕ → Self → Type 0 };
 
-    /// Relates a state, the groups of a match, and the state that a refused call leaves.
-    ghost refuses: { Self → Captured → Self → Type 0 } = { λ _ _ _. ⊤ };
+    /// Relates a state, the groups of a match, what a refused call has appended, and the state that it leaves.
+    ghost refuses: { Self → Captured → List ℕ → Self → Type 0 } = { λ _ _ _ _. ⊤ };
 
-    /// Relates a state, what `no_expansion` answers, and the state after.
+    /// Relates a state, what `no_expansion` returns, and the state after.
     ghost answers: { Self → Option (List ℕ) → Self → Type 0 };
 
-    /// Appends what stands for a match. The error is want of memory; `dst` still begins with the old bytes then.
+    /// Appends what replaces a match. The error is out of memory; `dst` then still begins with the old bytes.
     fn replace_append(
         &mut self,
         captures: &Captures<'_>,
@@ -39,16 +39,16 @@ pub trait Replacer {
         requires { can_replace self.old }
         ensures appends { OnOk result (Appends (λ text. replaces self.old captures.now text self.new)
             dst.old.items dst.new.items) }
-        ensures refused { OnErr result (refuses self.old captures.now self.new) }
-        ensures front { OnErr result (IsFront dst.old.items dst.new.items) }
+        ensures refused { OnErr result (Appends (λ text. refuses self.old captures.now text self.new)
+            dst.old.items dst.new.items) }
         ensures again { OnOk result (can_replace self.new) };
 
-    /// The bytes that stand for each match, if they are always the same.
+    /// Returns the bytes that replace each match, if they are always the same.
     fn no_expansion(&mut self) -> Option<&[u8]>
         ensures* after_borrow { sem 𝓛 (Rests Self.row self.entry
             (λ new. answers self.old (answer_text result) new)) };
 
-    /// A replacer that hands both calls on to this one.
+    /// Returns a replacer that forwards both calls to this one, which can be used again afterwards.
     final fn by_ref(&mut self) -> ReplacerRef<'_, Self>
     where
         Self: Sized,
@@ -59,8 +59,8 @@ pub trait Replacer {
     }
 }
 
-/// Hands both calls on to a replacer, which can be used again then.
-#[derive(Drop)]
+/// A replacer that forwards both calls to another, made by [`Replacer::by_ref`].
+#[derive(Debug, Drop)]
 pub struct ReplacerRef<'a, R>(&'a mut R);
 
 impl<'a, R: Replacer> Replacer for ReplacerRef<'a, R> {
@@ -68,7 +68,7 @@ impl<'a, R: Replacer> Replacer for ReplacerRef<'a, R> {
 
     ghost replaces = { λ s captures text t. R.replaces s.0.now captures text t.0.now };
 
-    ghost refuses = { λ s captures t. R.refuses s.0.now captures t.0.now };
+    ghost refuses = { λ s captures text t. R.refuses s.0.now captures text t.0.now };
 
     ghost answers = { λ s answer t. R.answers s.0.now answer t.0.now };
 
@@ -85,7 +85,8 @@ impl<'a, R: Replacer> Replacer for ReplacerRef<'a, R> {
     }
 }
 
-/// Appends what a function answers for the groups of each match.
+/// Replaces each match by what a function returns for its groups. An error of the function is out of memory, and ends
+/// the replacement.
 #[derive(Drop)]
 pub struct With<F>(pub F);
 
@@ -115,14 +116,20 @@ where
     }
 }
 
-/// A text that is appended as it is, also where it holds a `$`.
-#[derive(Clone, Copy)]
+/// Replaces each match by these bytes unchanged: a `$` stands for itself.
+///
+/// ```rust
+/// let regex = Regex::new(rt.alloc(), "(a)")?;
+/// let replaced = regex.replace(b"ab", NoExpand(b"$1$1"))?;
+/// assert_eq!(rt; replaced.as_slice(), b"$1$1b".as_slice());
+/// ```
+#[derive(Clone, Copy, Debug)]
 pub struct NoExpand<'t>(pub &'t [u8]);
 
 impl<'t> Replacer for NoExpand<'t> {
     ghost replaces = { λ s _ text t. (text ≡ s.0.now) × (t ≡ s) };
 
-    ghost refuses = { Stays };
+    ghost refuses = { BeginsText (λ s. s.0.now) };
 
     ghost answers = { λ s answer t. (answer ≡ Some s.0.now) × (t ≡ s) };
 
@@ -142,7 +149,7 @@ impl<'t> Replacer for NoExpand<'t> {
 impl<'t> Replacer for &'t [u8] {
     ghost replaces = { GivesExpansion (λ s. s.now) };
 
-    ghost refuses = { Stays };
+    ghost refuses = { BeginsExpansion (λ s. s.now) };
 
     ghost answers = { AnswersPlain (λ s. s.now) };
 
@@ -162,7 +169,7 @@ impl<'t> Replacer for &'t [u8] {
 impl Replacer for Vec<u8> {
     ghost replaces = { GivesExpansion (λ s. s.items) };
 
-    ghost refuses = { Stays };
+    ghost refuses = { BeginsExpansion (λ s. s.items) };
 
     ghost answers = { AnswersPlain (λ s. s.items) };
 
@@ -182,7 +189,7 @@ impl Replacer for Vec<u8> {
 impl<'t> Replacer for &'t Vec<u8> {
     ghost replaces = { GivesExpansion (λ s. s.now.items) };
 
-    ghost refuses = { Stays };
+    ghost refuses = { BeginsExpansion (λ s. s.now.items) };
 
     ghost answers = { AnswersPlain (λ s. s.now.items) };
 
@@ -202,7 +209,7 @@ impl<'t> Replacer for &'t Vec<u8> {
 impl<'t> Replacer for CowSlice<'t, u8> {
     ghost replaces = { GivesExpansion cow_slice_items };
 
-    ghost refuses = { Stays };
+    ghost refuses = { BeginsExpansion cow_slice_items };
 
     ghost answers = { AnswersPlain cow_slice_items };
 
@@ -222,7 +229,7 @@ impl<'t> Replacer for CowSlice<'t, u8> {
 impl<'c, 't> Replacer for &'c CowSlice<'t, u8> {
     ghost replaces = { GivesExpansion (λ s. cow_slice_items s.now) };
 
-    ghost refuses = { Stays };
+    ghost refuses = { BeginsExpansion (λ s. cow_slice_items s.now) };
 
     ghost answers = { AnswersPlain (λ s. cow_slice_items s.now) };
 

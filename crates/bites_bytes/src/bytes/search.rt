@@ -1,30 +1,45 @@
-//! Searches that answer where a match is.
+//! Searches that return where a match is.
 
-ghost use Rattle.std.specs.Prelude.{◌≡◌, None, replicate, length, option_map, is_some, unwrap_or, IfOk, OnOk, OnErr};
+ghost use Rattle.std.specs.Prelude.{◌≡◌, None, replicate, length, option_map, is_some, unwrap_or, IfOk, MatchOption, OnOk, OnErr};
 ghost use Rattle.bites_spec.specs.Counts.{fit_of, IsWalked};
 ghost use Rattle.bites_spec.specs.Regex.{span_at, slots_at};
-ghost use Rattle.bites_spec.specs.Captured.{excerpt, FindsSpan};
+ghost use Rattle.bites_spec.specs.Found.{NoMatch};
+ghost use Rattle.bites_spec.specs.Captured.{excerpt, FindsSpan, AreGroupsFrom};
 ghost use Rattle.bites_bytes.specs.Matched.{excerpt_of};
 
 use crate::bytes::{Cache, CaptureLocations, Match, Regex};
 use std::alloc::AllocError;
 
 impl Regex {
-    /// The room for searches with this regex, for the calls that take it. The error is want of memory.
+    /// Allocates a cache for the methods whose names end in `_with`. The error is out of memory.
+    ///
+    /// Make it once and reuse it. Its memory grows with the states and targets of the program times its slots. No
+    /// search makes it larger.
     pub fn cache(&self) -> Result<Cache, AllocError>
         ensures { IfOk result (λ c. c.fits ≡ fit_of self.now.program) }
     {
         Cache::new(self.program())
     }
 
-    /// Locations for the groups of this regex, in which no group has a place yet. The error is want of memory.
+    /// Allocates locations for the groups of this regex, in which no group participates yet. The error is out of
+    /// memory.
     pub fn capture_locations(&self) -> Result<CaptureLocations, AllocError>
         ensures { IfOk result (λ l. l ≡ replicate self.now.program.slots None) }
     {
         CaptureLocations::new(self.alloc(), self.program().slots())
     }
 
-    /// Where the pattern matches first in the haystack. The error is want of memory for the room that a search takes.
+    /// Returns the leftmost match in the haystack. The error is out of memory.
+    ///
+    /// Of the matches that begin there it is the one that the pattern prefers, or the longest with
+    /// [`RegexBuilder::leftmost_longest`]. The search visits each state of the program at most once at each offset.
+    ///
+    /// ```rust
+    /// let regex = Regex::new(rt.alloc(), "a+")?;
+    /// let found = regex.find(b"\xFFaab")?.ok_or("no match")?;
+    /// assert_eq!(rt; found.range(), 1..3);
+    /// assert_eq!(rt; found.as_bytes(), b"aa".as_slice());
+    /// ```
     pub fn find<'h>(&self, haystack: &'h [u8]) -> Result<Option<Match<'h>>, AllocError>
         ensures found { IfOk result (λ m. option_map excerpt_of m
             ≡ option_map (excerpt haystack.now) (span_at self.now haystack.now 0)) }
@@ -34,9 +49,16 @@ impl Regex {
         self.find_at(haystack, 0)
     }
 
-    /// Where the pattern matches first from `start` on, a number of bytes; past the end of the haystack nothing matches.
+    /// Returns the leftmost match at or after `start`, an offset in bytes. Past the end of the haystack nothing
+    /// matches. The error is out of memory.
     ///
-    /// Assertions look at the bytes before `start` too.
+    /// Assertions look at the bytes before `start` too, so this differs from a search of the slice that begins there.
+    ///
+    /// ```rust
+    /// let regex = Regex::new(rt.alloc(), r"\bb")?;
+    /// let found = regex.find_at(b"ab b", 1)?.ok_or("no match")?;
+    /// assert_eq!(rt; found.range(), 3..4);
+    /// ```
     pub fn find_at<'h>(
         &self,
         haystack: &'h [u8],
@@ -51,7 +73,17 @@ impl Regex {
         Ok(self.find_at_with(&mut cache, haystack, start))
     }
 
-    /// [`Regex::find`] with a cache that fits; it takes no memory.
+    /// Like [`Regex::find`], but with a cache. It allocates nothing and cannot fail.
+    ///
+    /// The cache must fit this regex ([`Cache::fits`]); it does if [`Regex::cache`] of this regex or of a clone made
+    /// it.
+    ///
+    /// ```rust
+    /// let regex = Regex::new(rt.alloc(), "a+")?;
+    /// let mut cache = regex.cache()?;
+    /// let found = regex.find_with(&mut cache, b"baa").ok_or("no match")?;
+    /// assert_eq!(rt; found.range(), 1..3);
+    /// ```
     pub fn find_with<'h>(&self, cache: &mut Cache, haystack: &'h [u8]) -> Option<Match<'h>>
         requires { cache.old.fits ≡ fit_of self.now.program }
         ensures found { option_map excerpt_of result
@@ -63,9 +95,9 @@ impl Regex {
         self.find_at_with(cache, haystack, 0)
     }
 
-    /// [`Regex::find_at`] with a cache that fits; it takes no memory.
+    /// Like [`Regex::find_at`], but with a cache that fits. It allocates nothing and cannot fail.
     ///
-    /// It visits each state of the program at most once at each place.
+    /// The search visits each state of the program at most once at each offset.
     pub fn find_at_with<'h>(
         &self,
         cache: &mut Cache,
@@ -83,8 +115,11 @@ impl Regex {
         Match::at(haystack, ends)
     }
 
-    /// [`Regex::find`], which also writes where each group took part. Where nothing matches or memory is refused, the
-    /// locations stay as they were.
+    /// Returns the leftmost match like [`Regex::find`], and writes the offsets of each group into `locations`. The
+    /// error is out of memory.
+    ///
+    /// The locations must fit this regex ([`CaptureLocations::fits`]). They are unchanged if nothing matches, and
+    /// after an error. At worst a search for groups takes time that grows with states times slots times characters.
     pub fn captures_read<'h>(
         &self,
         locations: &mut CaptureLocations,
@@ -93,6 +128,8 @@ impl Regex {
         requires { length locations.old ≡ self.now.program.slots }
         ensures found { IfOk result (λ m. option_map excerpt_of m
             ≡ option_map (excerpt haystack.now) (span_at self.now haystack.now 0)) }
+        ensures on_tree { IfOk result (λ m. MatchOption m (NoMatch self.now.tree haystack.now 0)
+            (λ _. AreGroupsFrom self.now haystack.now 0 locations.new)) }
         ensures groups { OnOk result (locations.new
             ≡ unwrap_or (slots_at self.now haystack.now 0) locations.old) }
         ensures refused { OnErr result (locations.new ≡ locations.old) }
@@ -100,8 +137,10 @@ impl Regex {
         self.captures_read_at(locations, haystack, 0)
     }
 
-    /// [`Regex::find_at`], which also writes where each group took part. Where nothing matches or memory is refused, the
-    /// locations stay as they were.
+    /// Returns the leftmost match at or after `start` like [`Regex::find_at`], and writes the offsets of each group
+    /// into `locations`. Past the end of the haystack nothing matches. The error is out of memory.
+    ///
+    /// The locations must fit this regex. They are unchanged if nothing matches, and after an error.
     pub fn captures_read_at<'h>(
         &self,
         locations: &mut CaptureLocations,
@@ -111,6 +150,8 @@ impl Regex {
         requires { length locations.old ≡ self.now.program.slots }
         ensures found { IfOk result (λ m. option_map excerpt_of m
             ≡ option_map (excerpt haystack.now) (span_at self.now haystack.now start)) }
+        ensures on_tree { IfOk result (λ m. MatchOption m (NoMatch self.now.tree haystack.now start)
+            (λ _. AreGroupsFrom self.now haystack.now start locations.new)) }
         ensures groups { OnOk result (locations.new
             ≡ unwrap_or (slots_at self.now haystack.now start) locations.old) }
         ensures refused { OnErr result (locations.new ≡ locations.old) }
@@ -119,7 +160,7 @@ impl Regex {
         Ok(self.captures_read_at_with(&mut cache, locations, haystack, start))
     }
 
-    /// [`Regex::captures_read`] with a cache that fits; it takes no memory.
+    /// Like [`Regex::captures_read`], but with a cache that fits. It allocates nothing and cannot fail.
     pub fn captures_read_with<'h>(
         &self,
         cache: &mut Cache,
@@ -130,6 +171,8 @@ impl Regex {
         requires locations { length locations.old ≡ self.now.program.slots }
         ensures found { option_map excerpt_of result
             ≡ option_map (excerpt haystack.now) (span_at self.now haystack.now 0) }
+        ensures on_tree { MatchOption result (NoMatch self.now.tree haystack.now 0)
+            (λ _. AreGroupsFrom self.now haystack.now 0 locations.new) }
         ensures groups { locations.new ≡ unwrap_or (slots_at self.now haystack.now 0) locations.old }
         ensures fits { cache.new.fits ≡ cache.old.fits }
         ensures walked { IsWalked self.now.program haystack.now 0 (is_some result) cache.new.walked }
@@ -137,9 +180,9 @@ impl Regex {
         self.captures_read_at_with(cache, locations, haystack, 0)
     }
 
-    /// [`Regex::captures_read_at`] with a cache that fits; it takes no memory.
+    /// Like [`Regex::captures_read_at`], but with a cache that fits. It allocates nothing and cannot fail.
     ///
-    /// It visits each state of the program at most once at each place.
+    /// The search visits each state of the program at most once at each offset.
     pub fn captures_read_at_with<'h>(
         &self,
         cache: &mut Cache,
@@ -151,6 +194,8 @@ impl Regex {
         requires locations { length locations.old ≡ self.now.program.slots }
         ensures found { option_map excerpt_of result
             ≡ option_map (excerpt haystack.now) (span_at self.now haystack.now start) }
+        ensures on_tree { MatchOption result (NoMatch self.now.tree haystack.now start)
+            (λ _. AreGroupsFrom self.now haystack.now start locations.new) }
         ensures groups { locations.new
             ≡ unwrap_or (slots_at self.now haystack.now start) locations.old }
         ensures fits { cache.new.fits ≡ cache.old.fits }

@@ -1,19 +1,21 @@
 //! The room that searches of a program take, made once.
 
-ghost use Rattle.std.specs.Prelude.{◌≡◌, ◌<◌, ◌≤◌, ◌↔◌, [], IfOk, IsTrue, length, false};
+ghost use Rattle.std.specs.Prelude.{◌≡◌, ◌<◌, ◌≤◌, ◌↔◌, [], IfOk, IfSome, IsTrue, length, false};
 ghost use Rattle.bites_spec.specs.Program as program;
 ghost use Rattle.bites_spec.specs.Counts.{fit_of};
+ghost use Rattle.bites_machine.specs.Prefix.{IsPrefix};
 ghost use Rattle.bites_machine.specs.States.{states_of};
 ghost use Rattle.bites_machine.specs.Sweep.{IsProgramOf, Sought};
+ghost use Rattle.bites_machine.specs.Anchored.{SoughtFrom};
 
 use super::counted::{Counted, Walked};
 use super::marks::Marks;
-use super::places;
 use super::places::Request;
 use super::rows::Rows;
 use super::stack::Stack;
 use super::threads::Threads;
 use super::walk::Desk;
+use super::{anchored, places};
 use crate::program::Program;
 use std::alloc::AllocError;
 use std::marker::Model;
@@ -98,6 +100,8 @@ impl Cache {
         requires fits { (p : program.Program)
             × IsProgramOf p (states_of counted.states.now) request.now.first
             × (self.old.fits ≡ fit_of p) }
+        requires prefix { IfSome request.now.prefix (λ x.
+            IsPrefix (states_of counted.states.now) request.now.first x.now) }
         requires width { length slots.old ≤ self.old.fits.slots }
         ensures sought { request.now.start ≤ length request.now.haystack.now →
             (p : program.Program) →
@@ -120,6 +124,47 @@ impl Cache {
                 2 => places::search(&mut counted, desk, threads, request, slots),
                 _ => places::search(&mut counted, desk, threads, request, slots),
             }
+        } else {
+            false
+        };
+        self.walked = counted.into_walked();
+        found
+    }
+
+    // The search from one place, with the states that it may read.
+    pub(super) fn search_anchored(
+        &mut self,
+        mut counted: Counted<'_>,
+        request: &Request<'_>,
+        slots: &mut [Option<usize>],
+    ) -> bool
+        requires visits { counted.walked.visits ≡ [] }
+        requires looks { counted.walked.looks ≡ 0 }
+        requires fits { (p : program.Program)
+            × IsProgramOf p (states_of counted.states.now) request.now.first
+            × (self.old.fits ≡ fit_of p) }
+        requires width { length slots.old ≤ self.old.fits.slots }
+        ensures sought { request.now.start ≤ length request.now.haystack.now →
+            (p : program.Program) →
+            IsProgramOf p (states_of counted.entry.states.now) request.now.first →
+            self.old.fits ≡ fit_of p →
+            SoughtFrom p request.now.haystack.now request.now.asked.longest
+            request.now.asked.earliest request.now.start result slots.old slots.new
+            self.new.walked }
+        ensures past { length request.now.haystack.now < request.now.start →
+            (result ≡ false) × (slots.new ≡ slots.old)
+            × (self.new.walked.visits ≡ []) × (self.new.walked.looks ≡ 0) }
+        ensures fits { self.new.fits ≡ self.old.fits }
+    {
+        let found = if request.start <= request.haystack.len() {
+            self.desk.rows.begin(slots.len());
+            anchored::search(
+                &mut counted,
+                &mut self.desk,
+                &mut self.threads,
+                request,
+                slots,
+            )
         } else {
             false
         };

@@ -1,13 +1,15 @@
 //! The states of a program as a walk reads them: once at most at each place, and each reading is counted.
 
-ghost use Rattle.std.specs.Prelude.{◌≡◌, ◌<◌, ◌+◌, [], ◌∷◌, IfSome, length};
-ghost use Rattle.bites_spec.specs.Walks.{IsNew};
-ghost use Rattle.bites_spec.specs.Program.{state_at, at};
+ghost use Rattle.std.specs.Prelude.{◌≡◌, ℕ, ◌<◌, ◌+◌, [], ◌∷◌, ◌++◌, map, length};
+ghost use Rattle.bites_spec.specs.Walks.{Among, IsNew};
+ghost use Rattle.bites_spec.specs.Program.{Spot, state_at, at};
+ghost use Rattle.bites_machine.specs.Looks.{seen_here, visited_before};
+ghost use Rattle.bites_machine.specs.Prefix.{fresh_of, fresh_sum};
+ghost use Rattle.bites_machine.specs.Skipped.{skipped};
 ghost use Rattle.bites_machine.specs.States.{state_of, states_of};
-ghost use Rattle.bites_machine.specs.Lead.{front_of, Leads};
-ghost use Rattle.bites_machine.specs.Looks.{AreSound};
 
-use super::lead::Lead;
+use super::recorded_bytes::RecordedBytes;
+use crate::prefix::StartPrefix;
 use crate::state::State;
 use std::marker::Model;
 use std::mem;
@@ -21,6 +23,22 @@ enum History {
         earlier: Snapshot<History>,
         state: u32,
         place: usize,
+    },
+    Prefix {
+        earlier: Snapshot<History>,
+        prefix: Snapshot<StartPrefix>,
+        place: usize,
+    },
+    Rest {
+        earlier: Snapshot<History>,
+        prefix: Snapshot<StartPrefix>,
+        place: usize,
+    },
+    Skip {
+        earlier: Snapshot<History>,
+        prefix: Snapshot<StartPrefix>,
+        haystack: RecordedBytes,
+        from: usize,
     },
     Look {
         earlier: Snapshot<History>,
@@ -69,6 +87,49 @@ impl Walked {
         self.history = Snapshot::of(&visit);
     }
 
+    fn visit_prefix(&mut self, prefix: &StartPrefix, place: usize)
+        ensures visits { self.new.visits
+            ≡ map (λ q. at q place) prefix.now.visited.value ++ self.old.visits }
+        ensures looks { self.new.looks ≡ self.old.looks + prefix.now.looks.value }
+    {
+        let earlier = mem::replace(&mut self.history, Snapshot::of(&History::Nothing));
+        let visits = History::Prefix {
+            earlier,
+            prefix: Snapshot::of(prefix),
+            place,
+        };
+        self.history = Snapshot::of(&visits);
+    }
+
+    fn visit_rest(&mut self, prefix: &StartPrefix, place: usize)
+        ensures visits { self.new.visits ≡ map (λ q. at q place)
+            (fresh_of (seen_here place self.old.visits) prefix.now.visited.value) ++ self.old.visits }
+        ensures looks { self.new.looks ≡ self.old.looks + 1
+            + fresh_sum (seen_here place self.old.visits) prefix.now.visited.value prefix.now.targets.value }
+    {
+        let earlier = mem::replace(&mut self.history, Snapshot::of(&History::Nothing));
+        let rest = History::Rest {
+            earlier,
+            prefix: Snapshot::of(prefix),
+            place,
+        };
+        self.history = Snapshot::of(&rest);
+    }
+
+    fn skip(&mut self, prefix: &StartPrefix, haystack: &[u8], from: usize)
+        ensures { self.new
+            ≡ skipped haystack.now prefix.now.visited.value prefix.now.looks.value from self.old }
+    {
+        let earlier = mem::replace(&mut self.history, Snapshot::of(&History::Nothing));
+        let skip = History::Skip {
+            earlier,
+            prefix: Snapshot::of(prefix),
+            haystack: RecordedBytes::of(haystack),
+            from,
+        };
+        self.history = Snapshot::of(&skip);
+    }
+
     fn look(&mut self)
         ensures visits { self.new.visits ≡ self.old.visits }
         ensures looks { self.new.looks ≡ self.old.looks + 1 }
@@ -81,8 +142,7 @@ impl Walked {
 
 /// The states of a program during one walk, with the record of what was read of them.
 ///
-/// It alone has the states, and lends one for a spot that was not visited before. [`Counted::lead`] reads up to three
-/// more, once, when a search begins: where the last of them takes no character the walk is known without its stack.
+/// It alone has the states, and lends one until the next call, for a spot that was not visited before.
 #[derive(Drop)]
 pub struct Counted<'p> {
     states: &'p [State],
@@ -105,18 +165,6 @@ impl<'p> Counted<'p> {
         }
     }
 
-    /// The front of a program that starts in this state, if it has one. Reading it at no place is no visit.
-    pub(super) fn lead(&self, first: u32) -> Option<Lead<'p>>
-        requires known { first < length self.now.states.now }
-        requires sound { AreSound (states_of self.now.states.now) }
-        ensures leads { IfSome result (λ l. Leads (states_of self.now.states.now)
-            (front_of first l.second l.last)) }
-        ensures taker { IfSome result (λ l. state_of l.taker.now
-            ≡ state_at (states_of self.now.states.now) l.last) }
-    {
-        Lead::of(self.states, first)
-    }
-
     /// Counts a look: a try to visit a state.
     pub(super) fn look(&mut self)
         ensures states { self.new.states ≡ self.old.states }
@@ -137,17 +185,46 @@ impl<'p> Counted<'p> {
         &self.states[state as usize]
     }
 
-    /// Looks at a state and visits it, at a place where it was not visited before.
+    /// Visits the states of the prefix at a place where none of them was visited before. It reads no state.
     #[inline(always)]
-    pub(super) fn pass(&mut self, state: u32, place: usize)
-        requires known { state < length self.old.states.now }
-        requires fresh { IsNew (at state place) self.old.walked.visits }
+    pub(super) fn visit_prefix(&mut self, prefix: &StartPrefix, place: usize)
+        requires fresh { (q : ℕ) → Among prefix.now.visited.value q
+            → IsNew (at q place) self.old.walked.visits }
         ensures states { self.new.states ≡ self.old.states }
-        ensures visits { self.new.walked.visits ≡ at state place ∷ self.old.walked.visits }
-        ensures looks { self.new.walked.looks ≡ self.old.walked.looks + 1 }
+        ensures visits { self.new.walked.visits
+            ≡ map (λ q. at q place) prefix.now.visited.value ++ self.old.walked.visits }
+        ensures looks { self.new.walked.looks ≡ self.old.walked.looks + prefix.now.looks.value }
     {
-        self.look();
-        self.visit(state, place);
+        self.walked.visit_prefix(prefix, place);
+    }
+
+    /// Visits those states of the prefix that were not visited at this place, which is the last one where any was. It
+    /// reads no state.
+    #[inline(always)]
+    pub(super) fn visit_rest(&mut self, prefix: &StartPrefix, place: usize)
+        requires last { (v : Spot) → Among (visited_before place self.old.walked.visits) v
+            → v.place < place }
+        ensures states { self.new.states ≡ self.old.states }
+        ensures visits { self.new.walked.visits ≡ map (λ q. at q place)
+            (fresh_of (seen_here place self.old.walked.visits) prefix.now.visited.value)
+            ++ self.old.walked.visits }
+        ensures looks { self.new.walked.looks ≡ self.old.walked.looks + 1
+            + fresh_sum (seen_here place self.old.walked.visits)
+            prefix.now.visited.value prefix.now.targets.value }
+    {
+        self.walked.visit_rest(prefix, place);
+    }
+
+    /// Visits the states of the prefix at each place from this one on, up to and without the end of the haystack. It
+    /// reads no state and no byte: the record alone names the places, and it takes no time.
+    #[inline(always)]
+    pub(super) fn skip_to_end(&mut self, prefix: &StartPrefix, haystack: &[u8], from: usize)
+        requires fresh { (v : Spot) → Among self.old.walked.visits v → v.place < from }
+        ensures states { self.new.states ≡ self.old.states }
+        ensures walked { self.new.walked ≡ skipped haystack.now prefix.now.visited.value
+            prefix.now.looks.value from self.old.walked }
+    {
+        self.walked.skip(prefix, haystack, from);
     }
 
     /// What was visited.

@@ -7,20 +7,22 @@ ghost use Rattle.bites_spec.specs.Program as program;
 ghost use Rattle.bites_spec.specs.Program.{IsWellFormed};
 ghost use Rattle.bites_spec.specs.Counts.{Record, fit_of};
 ghost use Rattle.bites_machine.specs.Ends.{next_character};
-ghost use Rattle.bites_machine.specs.States.{state_of, states_of};
+ghost use Rattle.bites_machine.specs.States.{states_of};
 ghost use Rattle.bites_machine.specs.Used.{IsUsed, slots_at};
 ghost use Rattle.bites_machine.specs.Desk.{users_of, row_of};
 ghost use Rattle.bites_machine.specs.declared.vm.threads.Thread as thread;
 ghost use Rattle.bites_machine.specs.Looks.{AreSound};
 ghost use Rattle.bites_machine.specs.Cuts.{cuts};
-ghost use Rattle.bites_machine.specs.Lead.{back_of, front_of, Leads};
-ghost use Rattle.bites_machine.specs.Sweep.{IsAmid, WalksPast, WalksSome, WalksAll, IsBetween, Passes, PlaceSearched, PlacesSearched, IsOfProgram, HasRoom, IsIdle, IsProgramOf, Sought};
+ghost use Rattle.bites_machine.specs.Anchored.{ThreadsSearched};
+ghost use Rattle.bites_machine.specs.Prefix.{IsPrefix};
+ghost use Rattle.bites_machine.specs.Sweep.{IsAmid, WalksPast, WalksSome, WalksAll, IsBetween, PlaceSearched, PlacesSearched, IsOfProgram, HasRoom, IsIdle, IsProgramOf, Sought};
 
 use super::counted::Counted;
-use super::lead::Lead;
+use super::idle::{idle_prefix, skip};
 use super::rows::Rows;
 use super::threads::{Thread, Threads};
 use super::walk::{Desk, Here, Hit, walk};
+use crate::prefix::StartPrefix;
 use bites_text::utf8::decode_lossy;
 
 /// What is asked of a search: the first end, or the greatest end of the first place, or else the first run.
@@ -30,19 +32,21 @@ pub struct Asked {
     pub longest: bool,
 }
 
-/// What is searched for: runs that start in a state, from a place of the haystack on.
+/// What is searched for: runs that start in a state, from a place of the haystack on. The prefix is that of
+/// the state.
 #[derive(Clone, Copy, Drop)]
 pub struct Request<'h> {
     pub haystack: &'h [u8],
     pub start: usize,
     pub first: u32,
+    pub prefix: Option<&'h StartPrefix>,
     pub asked: Asked,
 }
 
 // The place, with the character of its piece.
 #[inline(always)]
 #[tactic(auto, unfolding(bites_spec::specs::Utf8::piece))]
-fn piece_at(haystack: &[u8], place: usize, longest: bool) -> Here<'_>
+pub(super) fn piece_at(haystack: &[u8], place: usize, longest: bool) -> Here<'_>
     requires { place ≤ length haystack.now }
     ensures haystack { result.haystack.now ≡ haystack.now }
     ensures place { result.place ≡ place }
@@ -148,7 +152,8 @@ fn walk_each(
     }
 }
 
-// Walks each of the threads at a place, and behind them the start, if it is given.
+// Walks each of the threads at a place, and behind them the start, if it is given. Where the start takes nothing
+// it is not walked: what is left of its prefix is visited.
 #[inline(always)]
 fn walk_all(
     counted: &mut Counted<'_>,
@@ -156,6 +161,7 @@ fn walk_all(
     here: &Here<'_>,
     threads: &Threads,
     first: Option<u32>,
+    prefix: Option<&StartPrefix>,
     slots: &mut [Option<usize>],
 )
     requires place { here.now.place ≤ length here.now.haystack.now }
@@ -164,6 +170,10 @@ fn walk_all(
     requires known { (t : thread.Thread) → Among threads.now.threads t
         → t.state < length counted.old.states.now }
     requires first { IfSome first (λ q. q < length counted.old.states.now) }
+    requires prefix { IfSome first (λ q. IfSome prefix (λ x.
+        IsPrefix (states_of counted.old.states.now) q x.now)) }
+    requires before { (v : program.Spot) → Among counted.old.walked.visits v
+        → v.place < here.now.place }
     requires amid { IsAmid (states_of counted.old.states.now) here.now.place
         counted.old.walked desk.old (length slots.old) }
     requires used { IsUsed desk.old.rows
@@ -177,29 +187,39 @@ fn walk_all(
     let Some(state) = first else {
         return;
     };
-    walk_on(counted, desk, here, started(state, here), slots);
+    match idle_prefix(prefix, here, &desk.hit) {
+        Some(prefix) => counted.visit_rest(prefix, here.place),
+        None => walk_on(counted, desk, here, started(state, here), slots),
+    }
 }
 
 // Searches one place: its threads, and behind them the start while nothing is found. The threads are then
 // those of the next place.
 #[inline(always)]
-fn search_place(
+pub(super) fn search_place(
     counted: &mut Counted<'_>,
     desk: &mut Desk,
     threads: &mut Threads,
     here: &Here<'_>,
     first: Option<u32>,
+    prefix: Option<&StartPrefix>,
     slots: &mut [Option<usize>],
 )
     requires place { here.now.place ≤ length here.now.haystack.now }
     requires taken { here.now.taken ≡ next_character here.now.haystack.now here.now.place }
     requires len { here.now.len ≡ (piece here.now.haystack.now here.now.place).len }
     requires program { IsOfProgram (states_of counted.old.states.now) first }
+    requires prefix { IfSome first (λ q. IfSome prefix (λ x.
+        IsPrefix (states_of counted.old.states.now) q x.now)) }
     requires between { IsBetween (states_of counted.old.states.now) here.now.place
         counted.old.walked desk.old threads.old (length slots.old) }
     ensures states { counted.new.states ≡ counted.old.states }
     ensures searched { PlaceSearched here.now.haystack.now here.now.longest here.now.place
         here.now.len (states_of counted.old.states.now) first counted.old.walked
+        counted.new.walked desk.old desk.new threads.old.threads threads.new.threads
+        slots.old slots.new }
+    ensures alone { first ≡ None → ThreadsSearched here.now.haystack.now here.now.longest
+        here.now.place here.now.len (states_of counted.old.states.now) counted.old.walked
         counted.new.walked desk.old desk.new threads.old.threads threads.new.threads
         slots.old slots.new }
     ensures between { IsBetween (states_of counted.old.states.now) (here.now.place + 1)
@@ -211,7 +231,7 @@ fn search_place(
     desk.next.clear();
     desk.hit = None;
     desk.rows.first_is_free();
-    walk_all(counted, desk, here, threads, first, slots);
+    walk_all(counted, desk, here, threads, first, prefix, slots);
     threads.swap(&mut desk.next);
 }
 
@@ -246,7 +266,7 @@ fn search_start(
     walk(counted, desk, here, started(first, here), slots);
 }
 
-// Searches places from this one on while no thread is alive and nothing is found. Answers the place that
+// Searches places from this one on while no thread is alive and nothing is found. Returns the place that
 // was searched last; the threads that took its piece are those that the desk has put in.
 #[inline(always)]
 fn hunt<'h>(
@@ -254,6 +274,7 @@ fn hunt<'h>(
     desk: &mut Desk,
     from: Here<'h>,
     first: u32,
+    prefix: Option<&StartPrefix>,
     slots: &mut [Option<usize>],
 ) -> Here<'h>
     requires place { from.place ≤ length from.haystack.now }
@@ -261,6 +282,8 @@ fn hunt<'h>(
     requires within { from.place + from.len ≤ length from.haystack.now }
     requires len { from.len ≡ (piece from.haystack.now from.place).len }
     requires program { IsOfProgram (states_of counted.old.states.now) (Some first) }
+    requires prefix { IfSome prefix (λ x.
+        IsPrefix (states_of counted.old.states.now) first x.now) }
     requires between { IsBetween (states_of counted.old.states.now) from.place
         counted.old.walked desk.old desk.old.next (length slots.old) }
     requires next { desk.old.next.threads ≡ [] }
@@ -279,6 +302,7 @@ fn hunt<'h>(
 {
     let mut here = from;
     'places: loop {
+        here = skip(counted, here, first, prefix);
         search_start(counted, desk, &here, first, slots);
         if here.len == 0 || desk.hit.is_some() || desk.next.len() > 0 {
             break;
@@ -288,111 +312,7 @@ fn hunt<'h>(
     here
 }
 
-// Visits the front of the program at a place where its last state does not take the character. The states are lent
-// and not read, so that nothing of this is left in the built code.
-#[inline(always)]
-fn pass(counted: &mut Counted<'_>, first: u32, lead: &Lead<'_>, place: usize)
-    requires leads { Leads (states_of counted.old.states.now)
-        (front_of first lead.now.second lead.now.last) }
-    requires before { (v : program.Spot) → Among counted.old.walked.visits v → v.place < place }
-    ensures states { counted.new.states ≡ counted.old.states }
-    ensures visits { counted.new.walked.visits
-        ≡ map (λ q. program.at q place) (back_of first lead.now.second lead.now.last)
-        ++ counted.old.walked.visits }
-    ensures looks { counted.new.walked.looks ≡ counted.old.walked.looks
-        + length (front_of first lead.now.second lead.now.last) }
-{
-    match lead.second {
-        None => {
-            counted.pass(first, place);
-            counted.pass(lead.last, place);
-        }
-        Some(second) => {
-            counted.pass(first, place);
-            counted.pass(second, place);
-            counted.pass(lead.last, place);
-        }
-    }
-}
-
-// Passes the places from this one on where the front of the program does not take the character: a walk there
-// visits that front and leaves nothing. Answers the first place where it may leave something.
-//
-// It is not inlined, so that its loop has all registers.
-#[inline(never)]
-fn pass_on(
-    counted: &mut Counted<'_>,
-    haystack: &[u8],
-    from: usize,
-    first: u32,
-    lead: &Lead<'_>,
-) -> usize
-    requires place { from ≤ length haystack.now }
-    requires leads { Leads (states_of counted.old.states.now)
-        (front_of first lead.now.second lead.now.last) }
-    requires taker { state_of lead.now.taker.now
-        ≡ program.state_at (states_of counted.old.states.now) lead.now.last }
-    requires sound { AreSound (states_of counted.old.states.now) }
-    requires before { (v : program.Spot) → Among counted.old.walked.visits v → v.place < from }
-    ensures states { counted.new.states ≡ counted.old.states }
-    ensures onward { from ≤ result }
-    ensures within { result ≤ length haystack.now }
-    ensures before { (v : program.Spot) → Among counted.new.walked.visits v → v.place < result }
-    ensures passes { (longest : Bool) → Passes haystack.now longest from result
-        (states_of counted.old.states.now) first counted.old.walked counted.new.walked }
-{
-    let mut place = from;
-    'places: loop {
-        let here = piece_at(haystack, place, false);
-        if here.len == 0 || lead.takes(here.taken) {
-            break;
-        }
-        pass(counted, first, lead, place);
-        place += here.len;
-    }
-    place
-}
-
-// Passes the places from this one on where the start has a front that does not take the character. Answers the
-// first place where a walk may leave something.
-#[inline(always)]
-fn pass_places<'h>(
-    counted: &mut Counted<'_>,
-    from: Here<'h>,
-    first: u32,
-    lead: &Option<Lead<'_>>,
-) -> Here<'h>
-    requires place { from.place ≤ length from.haystack.now }
-    requires within { from.place + from.len ≤ length from.haystack.now }
-    requires taken { from.taken ≡ next_character from.haystack.now from.place }
-    requires len { from.len ≡ (piece from.haystack.now from.place).len }
-    requires program { IsOfProgram (states_of counted.old.states.now) (Some first) }
-    requires leads { IfSome lead.now (λ l. Leads (states_of counted.old.states.now)
-        (front_of first l.second l.last)) }
-    requires taker { IfSome lead.now (λ l. state_of l.taker.now
-        ≡ program.state_at (states_of counted.old.states.now) l.last) }
-    requires before { (v : program.Spot) → Among counted.old.walked.visits v
-        → v.place < from.place }
-    ensures states { counted.new.states ≡ counted.old.states }
-    ensures haystack { result.haystack.now ≡ from.entry.haystack.now }
-    ensures longest { result.longest ≡ from.entry.longest }
-    ensures onward { from.entry.place ≤ result.place }
-    ensures within { result.place + result.len ≤ length from.entry.haystack.now }
-    ensures taken { result.taken ≡ next_character from.entry.haystack.now result.place }
-    ensures len { result.len ≡ (piece from.entry.haystack.now result.place).len }
-    ensures before { (v : program.Spot) → Among counted.new.walked.visits v
-        → v.place < result.place }
-    ensures passes { Passes from.entry.haystack.now from.entry.longest from.entry.place result.place
-        (states_of counted.old.states.now) first counted.old.walked counted.new.walked }
-{
-    let Some(lead) = lead else {
-        return from;
-    };
-    let place = pass_on(counted, from.haystack, from.place, first, lead);
-    piece_at(from.haystack, place, from.longest)
-}
-
-// Searches this place, or while no thread is alive and nothing is found also those behind it. Answers the
+// Searches this place, or while no thread is alive and nothing is found also those behind it. Returns the
 // place that was searched last. The threads are then those of the next place.
 #[inline(always)]
 fn search_on<'h>(
@@ -401,7 +321,7 @@ fn search_on<'h>(
     threads: &mut Threads,
     here: Here<'h>,
     first: Option<u32>,
-    lead: &Option<Lead<'_>>,
+    prefix: Option<&StartPrefix>,
     slots: &mut [Option<usize>],
 ) -> Here<'h>
     requires place { here.place ≤ length here.haystack.now }
@@ -409,10 +329,8 @@ fn search_on<'h>(
     requires taken { here.taken ≡ next_character here.haystack.now here.place }
     requires len { here.len ≡ (piece here.haystack.now here.place).len }
     requires program { IsOfProgram (states_of counted.old.states.now) first }
-    requires leads { IfSome first (λ q. IfSome lead.now (λ l.
-        Leads (states_of counted.old.states.now) (front_of q l.second l.last))) }
-    requires taker { IfSome lead.now (λ l. state_of l.taker.now
-        ≡ program.state_at (states_of counted.old.states.now) l.last) }
+    requires prefix { IfSome first (λ q. IfSome prefix (λ x.
+        IsPrefix (states_of counted.old.states.now) q x.now)) }
     requires between { IsBetween (states_of counted.old.states.now) here.place
         counted.old.walked desk.old threads.old (length slots.old) }
     ensures states { counted.new.states ≡ counted.old.states }
@@ -432,13 +350,12 @@ fn search_on<'h>(
         Some(first) if threads.len() == 0 => {
             desk.next.clear();
             desk.hit = None;
-            let from = pass_places(counted, here, first, lead);
-            let last = hunt(counted, desk, from, first, slots);
+            let last = hunt(counted, desk, here, first, prefix, slots);
             threads.swap(&mut desk.next);
             last
         }
         _ => {
-            search_place(counted, desk, threads, &here, first, slots);
+            search_place(counted, desk, threads, &here, first, prefix, slots);
             here
         }
     }
@@ -454,7 +371,7 @@ fn first_of(is_found: bool, first: u32) -> Option<u32>
 
 // Whether a match was found, at this place or before.
 #[inline(always)]
-fn is_found_with(is_found: bool, hit: &Option<Hit>) -> bool
+pub(super) fn is_found_with(is_found: bool, hit: &Option<Hit>) -> bool
     ensures { result ≡ (is_found || is_some hit.now) }
 {
     is_found || hit.is_some()
@@ -483,6 +400,8 @@ pub(super) fn search(
     requires looks { counted.old.walked.looks ≡ 0 }
     requires program { (p : program.Program) × IsProgramOf p (states_of counted.old.states.now)
         request.now.first × HasRoom (fit_of p) desk.old threads.old }
+    requires prefix { IfSome request.now.prefix (λ x.
+        IsPrefix (states_of counted.old.states.now) request.now.first x.now) }
     requires idle { IsIdle desk.old threads.old }
     requires width { length slots.old ≡ desk.old.rows.width }
     requires nothing { slots_at desk.old.rows 0 ≡ replicate desk.old.rows.width None }
@@ -500,15 +419,15 @@ pub(super) fn search(
         haystack,
         start,
         first,
+        prefix,
         asked,
     } = *request;
-    let lead = counted.lead(first);
     let mut is_found = false;
     let mut place = start;
     'places: loop {
         let here = piece_at(haystack, place, asked.longest);
         let begins = first_of(is_found, first);
-        let last = search_on(counted, desk, threads, here, begins, &lead, slots);
+        let last = search_on(counted, desk, threads, here, begins, prefix, slots);
         is_found = is_found_with(is_found, &desk.hit);
         if is_over(last.len, is_found, asked.earliest, threads.len()) {
             break;
@@ -520,7 +439,7 @@ pub(super) fn search(
 }
 
 // The threads that are left are let go.
-fn release_all(rows: &mut Rows, threads: &mut Threads)
+pub(super) fn release_all(rows: &mut Rows, threads: &mut Threads)
     requires { IsUsed rows.old (map row_of threads.old.threads) }
     ensures threads { threads.new.threads ≡ [] }
     ensures room { threads.new.room ≡ threads.old.room }

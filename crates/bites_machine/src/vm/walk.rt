@@ -127,7 +127,7 @@ fn visit(
 
 // Whether the character is the one that stands here.
 #[inline(always)]
-pub(super) fn takes_char(taken: Option<char>, ch: char) -> bool
+fn takes_char(taken: Option<char>, ch: char) -> bool
     ensures { result ≡ takes_by (λ d. d == ch) taken }
 {
     match taken {
@@ -138,7 +138,7 @@ pub(super) fn takes_char(taken: Option<char>, ch: char) -> bool
 
 // Whether the character that stands here is in the ranges.
 #[inline(always)]
-pub(super) fn takes_range(taken: Option<char>, ranges: &Ranges) -> bool
+fn takes_range(taken: Option<char>, ranges: &Ranges) -> bool
     requires { AreRanges ranges.now }
     ensures { result ≡ takes_by (in_ranges ranges.now) taken }
 {

@@ -1,5 +1,5 @@
+use Rattle.bites_spec.proofs.Laws as laws
 use Rattle.bites_spec.proofs.answers_begin_alike.Goals as goal
-use Rattle.bites_spec.proofs.AlikeLemmas.{answers_begin_alike}
 
 pub returns : goal.returns
-returns c = answers_begin_alike
+returns c = laws.answers_begin_alike

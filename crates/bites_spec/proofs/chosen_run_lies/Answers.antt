@@ -1,5 +1,5 @@
+use Rattle.bites_spec.proofs.Laws as laws
 use Rattle.bites_spec.proofs.chosen_run_lies.Goals as goal
-use Rattle.bites_spec.proofs.AlikeLemmas.{chosen_run_lies}
 
 pub returns : goal.returns
-returns c = chosen_run_lies
+returns c = laws.chosen_run_lies

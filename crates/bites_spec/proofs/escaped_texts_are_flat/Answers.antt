@@ -1,5 +1,5 @@
+use Rattle.bites_spec.proofs.Laws as laws
 use Rattle.bites_spec.proofs.escaped_texts_are_flat.Goals as goal
-use Rattle.bites_spec.proofs.EscapedReading.{escaped_is_flat}
 
 pub returns : goal.returns
-returns c = escaped_is_flat
+returns c = laws.escaped_texts_are_flat

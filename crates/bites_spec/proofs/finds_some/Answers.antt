@@ -1,5 +1,5 @@
+use Rattle.bites_spec.proofs.Laws as laws
 use Rattle.bites_spec.proofs.finds_some.Goals as goal
-use Rattle.bites_spec.proofs.FoundSomeLemmas.{finds_some}
 
 pub returns : goal.returns
-returns c = finds_some
+returns c = laws.finds_some

@@ -1,5 +1,5 @@
+use Rattle.bites_spec.proofs.Laws as laws
 use Rattle.bites_spec.proofs.found_is_some.Goals as goal
-use Rattle.bites_spec.proofs.FoundSomeLemmas.{found_is_some}
 
 pub returns : goal.returns
-returns c = found_is_some
+returns c = laws.found_is_some

@@ -1,5 +1,5 @@
+use Rattle.bites_spec.proofs.Laws as laws
 use Rattle.bites_spec.proofs.iterations_end.Goals as goal
-use Rattle.bites_spec.proofs.RefusedLemmas.{given}
 
 pub returns : goal.returns
-returns g c = λ view left s rs drained. given view left s drained.1.0 rs drained.1.1 drained.1.2.0
+returns g c = laws.iterations_end _ _ _ _

@@ -1,5 +1,5 @@
+use Rattle.bites_spec.proofs.Laws as laws
 use Rattle.bites_spec.proofs.least_end_is_at_most.Goals as goal
-use Rattle.bites_spec.proofs.AlikeLemmas.{least_end_is_at_most}
 
 pub returns : goal.returns
-returns c = least_end_is_at_most
+returns c = laws.least_end_is_at_most

@@ -1,5 +1,5 @@
+use Rattle.bites_spec.proofs.Laws as laws
 use Rattle.bites_spec.proofs.least_ends_in_texts_are_borders.Goals as goal
-use Rattle.bites_spec.proofs.TextMatches.{least_end_border}
 
 pub returns : goal.returns
-returns c = least_end_border
+returns c = laws.least_ends_in_texts_are_borders

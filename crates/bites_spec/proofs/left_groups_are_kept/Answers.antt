@@ -1,5 +1,5 @@
-use Rattle.bites_spec.proofs.LeftLemmas.{left_are_kept}
+use Rattle.bites_spec.proofs.Laws as laws
 use Rattle.bites_spec.proofs.left_groups_are_kept.Goals as goal
 
 pub returns : goal.returns
-returns c = left_are_kept
+returns c = laws.left_groups_are_kept

@@ -1,5 +1,5 @@
+use Rattle.bites_spec.proofs.Laws as laws
 use Rattle.bites_spec.proofs.names_in_texts_are_texts.Goals as goal
-use Rattle.bites_spec.proofs.TemplateTexts.{expansion_of_text}
 
 pub returns : goal.returns
-returns c = expansion_of_text
+returns c = laws.names_in_texts_are_texts

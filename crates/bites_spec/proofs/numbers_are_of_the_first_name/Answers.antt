@@ -1,5 +1,5 @@
+use Rattle.bites_spec.proofs.Laws as laws
 use Rattle.bites_spec.proofs.numbers_are_of_the_first_name.Goals as goal
-use Rattle.bites_spec.proofs.ExpansionLemmas.{index_is}
 
 pub returns : goal.returns
-returns c = index_is
+returns c = laws.numbers_are_of_the_first_name

@@ -1,5 +1,5 @@
+use Rattle.bites_spec.proofs.Laws as laws
 use Rattle.bites_spec.proofs.run_is_found.Goals as goal
-use Rattle.bites_spec.proofs.RegexLemmas.{run_is_found}
 
 pub returns : goal.returns
-returns c = run_is_found
+returns c = laws.run_is_found

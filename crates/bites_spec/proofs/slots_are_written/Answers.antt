@@ -1,5 +1,5 @@
+use Rattle.bites_spec.proofs.Laws as laws
 use Rattle.bites_spec.proofs.slots_are_written.Goals as goal
-use Rattle.bites_spec.proofs.ValueLemmas.{slots_are_written}
 
 pub returns : goal.returns
-returns c = slots_are_written
+returns c = laws.slots_are_written

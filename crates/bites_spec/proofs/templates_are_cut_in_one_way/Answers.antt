@@ -1,5 +1,5 @@
+use Rattle.bites_spec.proofs.Laws as laws
 use Rattle.bites_spec.proofs.templates_are_cut_in_one_way.Goals as goal
-use Rattle.bites_spec.proofs.TemplateLemmas.{cuts_are_parts}
 
 pub returns : goal.returns
-returns c = cuts_are_parts
+returns c = laws.templates_are_cut_in_one_way

@@ -9,11 +9,19 @@ use crate::string::Regex;
 use bites_bytes::bytes;
 use bites_text::error::Error;
 use std::alloc::Global;
+use std::fmt;
 use std::marker::Model;
 
-/// A pattern, flags and limits, of which regexes are built.
+/// A builder of regexes: a pattern with flags and limits.
 ///
-/// A contract sees these settings.
+/// ```rust
+/// let mut builder = RegexBuilder::new(rt.alloc(), "abc")?;
+/// builder.case_insensitive(true);
+/// let regex = builder.build()?;
+/// assert!(rt; regex.is_match("xABCx")?);
+/// ```
+///
+/// For proofs: a contract sees these settings.
 #[derive(Drop)]
 pub struct RegexBuilder {
     alloc: Global,
@@ -29,10 +37,10 @@ impl Model for RegexBuilder {
 }
 
 impl RegexBuilder {
-    /// A builder of this pattern, with no flag set, a size limit of 10485760 and a nesting limit of 50, which drops groups
-    /// that the tree drops.
+    /// Returns a builder for this pattern, with all flags off, a size limit of 10 MiB (10485760) and a nesting limit
+    /// of 50. The pattern is not read yet.
     ///
-    /// The error is want of memory for a copy of the pattern.
+    /// The error is out of memory for a copy of the pattern.
     pub fn new(alloc: Global, pattern: &str) -> Result<RegexBuilder, Error>
         ensures made { IfOk result (λ b. b ≡ by_default pattern.now) }
         ensures refused { IfErr result (λ e. e ≡ Error.Memory) }
@@ -43,7 +51,7 @@ impl RegexBuilder {
         })
     }
 
-    /// Whether a letter of ASCII stands for both of its cases: the flag `i`.
+    /// Sets the flag `i`: an ASCII letter matches in both of its cases. Off by default.
     pub fn case_insensitive(&mut self, yes: bool) -> &mut RegexBuilder
         ensures same { result.ghost_name ≡ self.entry.ghost_name }
         ensures set { result.now
@@ -53,7 +61,7 @@ impl RegexBuilder {
         self
     }
 
-    /// Whether `^` and `$` stand at the ends of lines too: the flag `m`.
+    /// Sets the flag `m`: `^` and `$` match at the ends of each line too. Off by default.
     pub fn multi_line(&mut self, yes: bool) -> &mut RegexBuilder
         ensures same { result.ghost_name ≡ self.entry.ghost_name }
         ensures set { result.now
@@ -63,8 +71,9 @@ impl RegexBuilder {
         self
     }
 
-    /// Whether `.` stands for every character: the flag `s`. Without it LF is left out, and under `R` CR too, a lone one
-    /// as well as one before LF.
+    /// Sets the flag `s`: `.` matches every character. Off by default.
+    ///
+    /// Without it `.` doesn't match LF. With the flag `R` it doesn't match CR either, before LF or alone.
     pub fn dot_matches_new_line(&mut self, yes: bool) -> &mut RegexBuilder
         ensures same { result.ghost_name ≡ self.entry.ghost_name }
         ensures set { result.now
@@ -74,7 +83,8 @@ impl RegexBuilder {
         self
     }
 
-    /// Whether CR and CR LF end lines as LF does, for `^` and `$` under `m` and for `.` without `s`: the flag `R`.
+    /// Sets the flag `R`: CR and CR LF end lines as LF does, for `^` and `$` with the flag `m` and for `.` without
+    /// `s`. Off by default.
     pub fn crlf(&mut self, yes: bool) -> &mut RegexBuilder
         ensures same { result.ghost_name ≡ self.entry.ghost_name }
         ensures set { result.now
@@ -84,7 +94,7 @@ impl RegexBuilder {
         self
     }
 
-    /// Whether an operator is lazy, and greedy with a `?` behind it: the flag `U`.
+    /// Sets the flag `U`: repetitions are lazy, and greedy with a `?` after the operator. Off by default.
     pub fn swap_greed(&mut self, yes: bool) -> &mut RegexBuilder
         ensures same { result.ghost_name ≡ self.entry.ghost_name }
         ensures set { result.now
@@ -94,7 +104,8 @@ impl RegexBuilder {
         self
     }
 
-    /// Whether white space and comments between the parts of the pattern mean nothing: the flag `x`.
+    /// Sets the flag `x`: white space between the parts of the pattern means nothing, and a `#` begins a comment. Off
+    /// by default.
     pub fn ignore_whitespace(&mut self, yes: bool) -> &mut RegexBuilder
         ensures same { result.ghost_name ≡ self.entry.ghost_name }
         ensures set { result.now
@@ -104,8 +115,11 @@ impl RegexBuilder {
         self
     }
 
-    /// How large a program may be: each state counts 32, each target of a choice 4, each range of characters 8, each
-    /// number from 0 to the greatest of a group that is left 16, and the name of a group its bytes and 4.
+    /// Sets the greatest size of the program, roughly in bytes. The default is 10 MiB (10485760). A build that
+    /// exceeds it is refused with [`Error::TooBig`] before any state is made.
+    ///
+    /// A state counts 32, a target of a choice 4, and a range of characters 8. Each group number from 0 to the
+    /// greatest that is left counts 16, and the name of a group its bytes and 4.
     pub fn size_limit(&mut self, limit: usize) -> &mut RegexBuilder
         ensures same { result.ghost_name ≡ self.entry.ghost_name }
         ensures set { result.now ≡ record self.old { size_limit = limit } }
@@ -114,9 +128,10 @@ impl RegexBuilder {
         self
     }
 
-    /// How many groups may be open at once, and how tall the tree of the pattern may be.
+    /// Sets how many groups may be open at once, and how tall the tree of the pattern may be. The default is 50. A
+    /// build that exceeds it is refused with [`Error::TooMuchNesting`].
     ///
-    /// The parser's recursion goes as deep as this limit, so one far above the default asks for a large call stack.
+    /// The parser's recursion goes as deep as this limit, so a limit far above the default needs a large call stack.
     pub fn nest_limit(&mut self, limit: u32) -> &mut RegexBuilder
         ensures same { result.ghost_name ≡ self.entry.ghost_name }
         ensures set { result.now ≡ record self.old { nest_limit = limit } }
@@ -125,8 +140,10 @@ impl RegexBuilder {
         self
     }
 
-    /// Whether groups that the tree drops, as `(a){0}` does, are kept: such a group has its number and name, is weighed,
-    /// and never takes part in a match.
+    /// Sets whether groups are kept that the tree of the pattern drops, as it does for `(a){0}`. Off by default.
+    ///
+    /// A group that is kept has its number and its name, and counts for the size limit. It never participates in a
+    /// match.
     pub fn keep_dropped_groups(&mut self, yes: bool) -> &mut RegexBuilder
         ensures same { result.ghost_name ≡ self.entry.ghost_name }
         ensures set { result.now ≡ record self.old { keep_dropped_groups = yes } }
@@ -135,11 +152,20 @@ impl RegexBuilder {
         self
     }
 
-    /// Whether searches answer the longest of the matches that begin where the first one does, in place of the one that the
-    /// pattern prefers. Of several longest ones they answer the preferred one, so that groups are its groups.
+    /// Sets whether searches return the longest of the leftmost matches instead of the one that the pattern prefers.
+    /// Off by default.
     ///
-    /// All that answers matches, groups or pieces goes by it; [`Regex::is_match`] and [`Regex::shortest_match`] answer the
-    /// same either way. `sam|samwise` finds `samwise` in `samwise` under it, and `sam` without it.
+    /// Of several parses of the longest match they return the groups of the preferred one. All methods that return
+    /// matches, groups, pieces or replaced text follow this flag. [`Regex::is_match`] and [`Regex::shortest_match`]
+    /// return the same either way.
+    ///
+    /// ```rust
+    /// let mut builder = RegexBuilder::new(rt.alloc(), "sam|samwise")?;
+    /// builder.leftmost_longest(true);
+    /// let regex = builder.build()?;
+    /// let found = regex.find("samwise")?.ok_or("no match")?;
+    /// assert_eq!(rt; found.as_str(), "samwise");
+    /// ```
     pub fn leftmost_longest(&mut self, yes: bool) -> &mut RegexBuilder
         ensures same { result.ghost_name ≡ self.entry.ghost_name }
         ensures set { result.now ≡ record self.old { leftmost_longest = yes } }
@@ -148,11 +174,13 @@ impl RegexBuilder {
         self
     }
 
-    /// A regex of this pattern under these flags and limits, in time linear in the pattern and the size limit.
+    /// Returns a regex of this pattern, in time linear in the pattern and the size limit.
     ///
-    /// It is made exactly if the grammar reads the pattern as a tree and all limits hold; else the error is the message
-    /// of the first fault of the pattern, or of the first limit that the tree passes, or want of memory. A refused build
-    /// makes nothing, and the builder may be used again.
+    /// The error is the message of the pattern's first fault, or of the first limit that the pattern exceeds, or out
+    /// of memory. A refused build leaves the builder unchanged, and it may be used again.
+    ///
+    /// For proofs: a regex is built exactly if the grammar reads the pattern as a tree and all limits hold, unless
+    /// memory runs out.
     pub fn build(&self) -> Result<Regex, Error>
         ensures kept { IfOk result (λ r. (r.pattern ≡ self.now.pattern)
             × (r.flags ≡ self.now.flags)
@@ -165,5 +193,11 @@ impl RegexBuilder {
     {
         let regex = self.builder.build()?;
         Ok(Regex::from_bytes(self.alloc, regex))
+    }
+}
+
+impl fmt::Debug for RegexBuilder {
+    fn fmt<W: fmt::Write>(&self, f: &mut fmt::Formatter<W>) -> fmt::Result {
+        fmt::Debug::fmt(&self.builder, f)
     }
 }

@@ -1,4 +1,4 @@
-//! The room that searches take.
+//! The memory of searches.
 
 ghost use Rattle.std.specs.Prelude.{◌≡◌, ◌↔◌, IsTrue, IfOk};
 ghost use Rattle.bites_spec.specs.Counts.{fit_of};
@@ -6,15 +6,17 @@ ghost use Rattle.bites_spec.specs.Counts.{fit_of};
 use crate::string::Regex;
 use bites_bytes::bytes;
 use std::alloc::AllocError;
+use std::fmt;
 use std::marker::Model;
 
-/// The room for searches with a regex, made once by [`Regex::cache`]. No search makes it greater, and none changes what
-/// a later one answers.
+/// The memory of searches, made by [`Regex::cache`] and reused by the methods whose names end in `_with`.
 ///
-/// A contract sees which regexes it fits, and what the last search did.
+/// No search makes it larger, and none changes what a later search returns.
+///
+/// For proofs: a contract sees which regexes it fits, and what the last search visited.
 #[derive(Drop)]
 pub struct Cache {
-    // The room of searches over bytes.
+    // The memory of searches over bytes.
     pub(super) cache: bytes::Cache,
 }
 
@@ -27,8 +29,8 @@ impl Model for Cache {
 }
 
 impl Cache {
-    /// Whether searches with the regex may use this cache: it was made for one whose program has as many states, slots
-    /// and targets.
+    /// Returns whether searches with this regex may use the cache. They may if it was made for a program with as many
+    /// states, slots and targets.
     pub fn fits(&self, regex: &Regex) -> bool
         ensures { IsTrue result ↔ (self.now.fits ≡ fit_of regex.now.program) }
     {
@@ -37,12 +39,29 @@ impl Cache {
 }
 
 impl Regex {
-    /// The room for searches with this regex, for the calls that take it. The error is want of memory.
+    /// Allocates a cache for the methods whose names end in `_with`. The error is out of memory.
+    ///
+    /// Make it once and reuse it. Its memory grows with the states and targets of the program times its slots. No
+    /// search makes it larger.
+    ///
+    /// ```rust
+    /// let regex = Regex::new(rt.alloc(), r"\d")?;
+    /// let mut cache = regex.cache()?;
+    /// assert!(rt; cache.fits(&regex));
+    /// assert!(rt; regex.is_match_with(&mut cache, "b1"));
+    /// assert!(rt; !regex.is_match_with(&mut cache, "b"));
+    /// ```
     pub fn cache(&self) -> Result<Cache, AllocError>
         ensures { IfOk result (λ c. c.fits ≡ fit_of self.now.program) }
     {
         Ok(Cache {
             cache: self.over_bytes().cache()?,
         })
+    }
+}
+
+impl fmt::Debug for Cache {
+    fn fmt<W: fmt::Write>(&self, f: &mut fmt::Formatter<W>) -> fmt::Result {
+        fmt::Debug::fmt(&self.cache, f)
     }
 }

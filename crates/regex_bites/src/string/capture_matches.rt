@@ -13,11 +13,12 @@ use crate::string::{Captures, Regex};
 use bites_bytes::bytes;
 use bites_bytes::limit::spend;
 use std::alloc::AllocError;
+use std::fmt;
 use std::iter::FusedIterator;
 
-/// The groups of the successive matches of a regex in a text, from left to right.
+/// An iterator over the groups of the successive matches, from left to right.
 ///
-/// Where memory is refused for the groups of a match, the error comes in their place, and nothing comes behind it.
+/// An item is an error if memory runs out for its groups. No item comes after an error.
 #[derive(Drop)]
 pub struct CaptureMatches<'r, 'h> {
     matches: bytes::CaptureMatches<'r, 'h>,
@@ -72,7 +73,8 @@ impl<'r, 'h> CaptureMatches<'r, 'h> {
         self.step()
     }
 
-    /// The number of matches that are left, which is 0 after a refusal. It searches for each of them, and takes no memory.
+    /// Returns the number of matches that are left, or 0 after an error. It searches for each of them, and allocates
+    /// nothing.
     pub fn count(self) -> usize
         ensures { result ≡ length (captures_left self.entry) }
     {
@@ -110,7 +112,17 @@ impl<'r, 'h> FusedIterator for CaptureMatches<'r, 'h> {}
 impl Regex {
     ghost use Rattle.regex_bites.specs.CapturesLeft.{captures_left};
 
-    /// The groups of the successive matches in the haystack. The error is want of memory for the room that searches take.
+    /// Returns an iterator over the groups of the successive matches, which are those of [`Regex::find_iter`]. The
+    /// error is out of memory for the cache of the iterator.
+    ///
+    /// ```rust
+    /// let regex = Regex::new(rt.alloc(), "a(b)?")?;
+    /// let mut participates = Vec::new(rt.alloc());
+    /// for captures in regex.captures_iter("ab a")? {
+    ///     participates.push(captures?.get(1).is_some())?;
+    /// }
+    /// assert_eq!(rt; participates.as_slice(), [true, false].as_slice());
+    /// ```
     pub fn captures_iter<'r, 'h>(
         &'r self,
         haystack: &'h str,
@@ -118,5 +130,13 @@ impl Regex {
         ensures { IfOk result (λ m. captures_left m ≡ captures_in self.now haystack.now) }
     {
         CaptureMatches::new(self, haystack)
+    }
+}
+
+impl<'r, 'h> fmt::Debug for CaptureMatches<'r, 'h> {
+    fn fmt<W: fmt::Write>(&self, f: &mut fmt::Formatter<W>) -> fmt::Result {
+        f.debug_struct("CaptureMatches")
+            .field("haystack", &self.haystack)
+            .finish_non_exhaustive()
     }
 }

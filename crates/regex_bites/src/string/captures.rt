@@ -1,6 +1,6 @@
 //! The groups of a match in a text.
 
-ghost use Rattle.std.specs.Prelude.{◌≡◌, ◌≤◌, ◌+◌, ◌/◌, length, map, take, drop, IfOk, IsSome, Some, option_map, option_and_then, IsCharBoundary};
+ghost use Rattle.std.specs.Prelude.{◌≡◌, ◌≤◌, ◌+◌, ◌/◌, length, map, take, drop, IfOk, IfSome, IsSome, Some, option_map, option_and_then, IsCharBoundary};
 ghost use Rattle.bites_spec.specs.Measure.{static_captures_len};
 ghost use Rattle.bites_spec.specs.Slots.{group_in, taking_part};
 ghost use Rattle.bites_spec.specs.Pieces.{text_at};
@@ -17,10 +17,12 @@ use std::alloc::AllocError;
 use std::fmt;
 use std::marker::Model;
 
-/// The groups of a match: where each of them took part. Each begins and ends at the border of a character.
+/// The groups of a match. Group 0 participates; any other may or may not. Each that does begins and ends at a
+/// character boundary.
 ///
-/// It shares the program with its regex, and may outlive it. A contract sees the regex, the haystack, and the two slots
-/// of each group.
+/// It shares the program with its regex and may outlive it.
+///
+/// For proofs: a contract sees the regex, the haystack, and the two slots of each group.
 #[derive(Drop)]
 pub struct Captures<'h> {
     captures: bytes::Captures<'h>,
@@ -59,7 +61,8 @@ impl<'h> Captures<'h> {
         Captures { captures, haystack }
     }
 
-    /// Where the group of this number took part; None if it took no part, and from [`Captures::len`] on.
+    /// Returns the match of the group with this number; group 0 is the whole match. Returns `None` if the group
+    /// doesn't participate, and for numbers from [`Captures::len`] on.
     pub fn get(&self, group: usize) -> Option<Match<'h>>
         ensures { option_map excerpt_of result
             ≡ option_map (excerpt self.now.haystack) (group_in self.now.slots group) }
@@ -77,7 +80,15 @@ impl<'h> Captures<'h> {
         self.get(0).unwrap()
     }
 
-    /// Where the group of this name took part; None if it took no part, and if no group has the name.
+    /// Returns the match of the group with this name. Returns `None` if the group doesn't participate, and if no
+    /// group has the name.
+    ///
+    /// ```rust
+    /// let regex = Regex::new(rt.alloc(), r"(?<hour>\d+):(?<minute>\d+)")?;
+    /// let captures = regex.captures("at 12:34")?.ok_or("no match")?;
+    /// let minute = captures.name("minute").ok_or("no minute")?;
+    /// assert_eq!(rt; minute.as_str(), "34");
+    /// ```
     pub fn name(&self, name: &str) -> Option<Match<'h>>
         ensures { option_map excerpt_of result ≡ option_map (excerpt self.now.haystack)
             (option_and_then (group_in self.now.slots) (index_in self.now.regex.names name.now)) }
@@ -86,7 +97,7 @@ impl<'h> Captures<'h> {
         Match::of_found(self.haystack, found)
     }
 
-    // The text of the group of this number, if it took part.
+    // The text of the group of this number, if it participates.
     fn text_of(&self, group: usize) -> Option<&'h str>
         ensures { answer_text result ≡ text_in self.now.slots self.now.haystack group }
     {
@@ -96,10 +107,19 @@ impl<'h> Captures<'h> {
         }
     }
 
-    /// Appends what a template stands for: `$name` and `${name}` are the text of the group of that name or number, `$$` is
-    /// a `$`, and all else stands for itself.
+    /// Appends the expansion of a template: `$name` and `${name}` stand for the text of the group with that name or
+    /// number, `$$` for a `$`, and all else for itself.
     ///
-    /// The error is want of memory; `dst` is then the old text followed by a beginning of what the template stands for.
+    /// A group that doesn't participate or doesn't exist stands for nothing. The error is out of memory; `dst` is
+    /// then the old text followed by a prefix of the expansion.
+    ///
+    /// ```rust
+    /// let regex = Regex::new(rt.alloc(), r"(\d+)-(\d+)")?;
+    /// let captures = regex.captures("12-34")?.ok_or("no match")?;
+    /// let mut text = String::new(rt.alloc());
+    /// captures.expand("${2}th of $1, $$5", &mut text)?;
+    /// assert_eq!(rt; text.as_str(), "34th of 12, $5");
+    /// ```
     pub fn expand(&self, template: &str, dst: &mut String) -> Result<(), AllocError>
         ensures { AppendsUntilRefused result (string_bytes dst.old) (string_bytes dst.new)
             (expanded self.now template.now) }
@@ -112,10 +132,10 @@ impl<'h> Captures<'h> {
         )
     }
 
-    /// The number of groups, group 0 counted.
+    /// Returns the number of groups, group 0 counted.
     ///
-    /// Its contract also says what the groups of a match always are: group 0 took part, and each that did lies in the
-    /// haystack. A caller whose proof needs that calls it.
+    /// For proofs: the contract also says what holds of the groups of every match. Group 0 participates, and each
+    /// group that does lies in the haystack. A caller whose proof needs that calls it.
     pub fn len(&self) -> usize
         ensures groups { result ≡ length self.now.regex.names }
         ensures slots { result ≡ length self.now.slots / 2 }
@@ -124,7 +144,7 @@ impl<'h> Captures<'h> {
         self.captures.len()
     }
 
-    /// The text of the group of this number, which took part.
+    /// Returns the text of the group with this number, which must participate.
     pub fn part(&self, group: usize) -> &'h str
         requires { IsSome (group_in self.now.slots group) }
         ensures { Some result.now ≡ option_map (text_at self.now.haystack) (group_in self.now.slots group) }
@@ -132,7 +152,7 @@ impl<'h> Captures<'h> {
         self.get(group).unwrap().as_str()
     }
 
-    /// The text of the group of this name, which took part.
+    /// Returns the text of the group with this name, which must participate.
     pub fn part_named(&self, name: &str) -> &'h str
         requires { IsSome (option_and_then (group_in self.now.slots) (index_in self.now.regex.names name.now)) }
         ensures { Some result.now ≡ option_map (text_at self.now.haystack)
@@ -141,11 +161,11 @@ impl<'h> Captures<'h> {
         self.name(name).unwrap().as_str()
     }
 
-    /// The text of the match; `parts` gets those of the first groups behind group 0 that took part, in the order of their
-    /// numbers, as many as it has places.
+    /// Returns the text of the match, and fills `parts` with the texts of the first groups after group 0 that
+    /// participate, in the order of their numbers.
     ///
-    /// So many take part in every match where [`Regex::static_captures_len`] is one more than that: for `(?:(a)|(b))+`, where
-    /// it is `Some(2)`, one part is `a` on `ab`. It takes no memory.
+    /// `parts` must be one shorter than [`Regex::static_captures_len`], so that enough groups participate in every
+    /// match. For `(?:(a)|(b))+` that is `Some(2)`, and the one part is `a` on `ab`. It allocates nothing.
     pub fn extract(&self, parts: &mut [&'h str]) -> &'h str
         requires { static_captures_len self.now.regex.tree ≡ Some (length parts.old + 1) }
         ensures whole { Some result.now ≡ option_map (text_at self.now.haystack) (group_in self.now.slots 0) }
@@ -165,7 +185,7 @@ impl<'h> Captures<'h> {
         self.part(0)
     }
 
-    // Where a group took part, and its text.
+    // Where a group participates, and its text.
     fn shown(&self, group: usize) -> Part<&'h str> {
         match self.get(group) {
             Some(found) => Part(Some((found.start(), found.end(), found.as_str()))),
@@ -196,19 +216,32 @@ impl<'h> fmt::Debug for Captures<'h> {
 }
 
 impl Regex {
-    /// The groups of the first match in the haystack. The error is want of memory.
+    /// Returns the groups of the leftmost match in the haystack. The error is out of memory.
+    ///
+    /// At worst a search for groups takes time that grows with states times slots times characters.
+    ///
+    /// ```rust
+    /// let regex = Regex::new(rt.alloc(), r"(\w+)=(\w+)?")?;
+    /// let captures = regex.captures("key=")?.ok_or("no match")?;
+    /// let key = captures.get(1).ok_or("no key")?;
+    /// assert_eq!(rt; key.as_str(), "key");
+    /// assert_eq!(rt; captures.get(2), None);
+    /// ```
     pub fn captures<'h>(&self, haystack: &'h str) -> Result<Option<Captures<'h>>, AllocError>
         ensures found { IfOk result (λ c. c
             ≡ option_map (captured self.now haystack.now) (slots_at self.now haystack.now 0)) }
         ensures on_tree { IfOk result (λ c. FindsGroups self.now haystack.now 0 (option_map (λ x. x.slots) c)) }
+        ensures regex { IfOk result (λ c. IfSome c (λ x. x.regex ≡ self.now)) }
+        ensures haystack { IfOk result (λ c. IfSome c (λ x. x.haystack ≡ haystack.now)) }
     {
         self.captures_at(haystack, 0)
     }
 
-    /// The groups of the first match from `start` on, a number of bytes; past the end of the haystack nothing matches.
-    /// A start within the haystack is the border of a character, as `str::is_char_boundary` tests.
+    /// Returns the groups of the leftmost match at or after `start`, an offset in bytes. Past the end of the haystack
+    /// nothing matches. A start within the haystack must be at a character boundary, as `str::is_char_boundary`
+    /// tests. The error is out of memory.
     ///
-    /// Assertions look at the bytes before `start` too.
+    /// Assertions look at the bytes before `start` too, so this differs from a search of the slice that begins there.
     pub fn captures_at<'h>(
         &self,
         haystack: &'h str,
@@ -218,6 +251,8 @@ impl Regex {
         ensures found { IfOk result (λ c. c
             ≡ option_map (captured self.now haystack.now) (slots_at self.now haystack.now start)) }
         ensures on_tree { IfOk result (λ c. FindsGroups self.now haystack.now start (option_map (λ x. x.slots) c)) }
+        ensures regex { IfOk result (λ c. IfSome c (λ x. x.regex ≡ self.now)) }
+        ensures haystack { IfOk result (λ c. IfSome c (λ x. x.haystack ≡ haystack.now)) }
     {
         match self.over_bytes().captures_at(haystack.as_bytes(), start)? {
             Some(captures) => Ok(Some(Captures::of(haystack, captures))),

@@ -1,12 +1,12 @@
-//! The groups of a match in turn.
+//! An iterator over the groups of a match.
 
 ghost use Rattle.std.specs.Prelude.{◌≡◌, IfSome, length, Some};
 
 use crate::string::{Captures, Match};
 use std::iter::FusedIterator;
 
-/// Where each group of a match took part, from group 0 on.
-#[derive(Clone, Copy)]
+/// An iterator over the groups of one match, from group 0 on. An item is `None` if its group doesn't participate.
+#[derive(Clone, Copy, Debug)]
 pub struct SubCaptureMatches<'c, 'h> {
     captures: &'c Captures<'h>,
     next: usize,
@@ -16,7 +16,7 @@ impl<'h> Captures<'h> {
     ghost use Rattle.regex_bites.specs.Groups.{sub_captures_left};
     ghost use Rattle.bites_bytes.specs.Groups.{groups_of};
 
-    /// Where each group took part, from group 0 on.
+    /// Returns an iterator over the groups, from group 0 on. An item is `None` if its group doesn't participate.
     pub fn iter<'c>(&'c self) -> SubCaptureMatches<'c, 'h>
         ensures { sub_captures_left result ≡ groups_of self.now }
     {

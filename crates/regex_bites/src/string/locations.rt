@@ -1,4 +1,4 @@
-//! Where the groups of a match begin and end.
+//! The offsets of the groups of a match.
 
 ghost use Rattle.std.specs.Prelude.{◌≡◌, ◌/◌, ◌↔◌, None, replicate, length, option_map, IsTrue, IfOk};
 ghost use Rattle.bites_spec.specs.Match.{span};
@@ -7,11 +7,12 @@ ghost use Rattle.bites_spec.specs.Slots.{group_in};
 use crate::string::Regex;
 use bites_bytes::bytes;
 use std::alloc::AllocError;
+use std::fmt;
 use std::marker::Model;
 
-/// Where each group of a match begins and ends, as [`Regex::captures_read`] writes it.
+/// The offsets of the groups of a match, in memory that is reused. [`Regex::captures_read`] writes them.
 ///
-/// A contract sees the two slots of each group, which are known where the group took part.
+/// For proofs: a contract sees the two slots of each group, which are known if the group participates.
 #[derive(Drop)]
 pub struct CaptureLocations {
     // The places of a search over bytes.
@@ -27,22 +28,22 @@ impl Model for CaptureLocations {
 }
 
 impl CaptureLocations {
-    /// Where the group of this number begins and ends, in bytes from the start of the haystack; None if it took no part,
-    /// and from [`CaptureLocations::len`] on.
+    /// Returns the offsets in bytes where the group with this number begins and ends. Returns `None` if the group
+    /// doesn't participate, and for numbers from [`CaptureLocations::len`] on.
     pub fn get(&self, group: usize) -> Option<(usize, usize)>
         ensures { option_map (λ s. span s.0 s.1) result ≡ group_in self.now group }
     {
         self.locations.get(group)
     }
 
-    /// The number of groups, group 0 counted.
+    /// Returns the number of groups, group 0 counted.
     pub fn len(&self) -> usize
         ensures { result ≡ length self.now / 2 }
     {
         self.locations.len()
     }
 
-    /// Whether the regex has as many groups.
+    /// Returns whether the regex has as many groups, so that its searches may write these locations.
     pub fn fits(&self, regex: &Regex) -> bool
         ensures { IsTrue result ↔ (length self.now ≡ regex.now.program.slots) }
     {
@@ -53,7 +54,7 @@ impl CaptureLocations {
 impl Clone for CaptureLocations {
     ghost is_clone = { λ locations copy. copy ≡ locations };
 
-    /// Locations with the same places. The error is want of memory.
+    /// Returns locations with the same offsets. The error is out of memory.
     fn clone(&self) -> Result<CaptureLocations, AllocError> {
         Ok(CaptureLocations {
             locations: self.locations.clone()?,
@@ -62,12 +63,19 @@ impl Clone for CaptureLocations {
 }
 
 impl Regex {
-    /// Locations for the groups of this regex, in which no group has a place yet. The error is want of memory.
+    /// Allocates locations for the groups of this regex, in which no group participates yet. The error is out of
+    /// memory.
     pub fn capture_locations(&self) -> Result<CaptureLocations, AllocError>
         ensures { IfOk result (λ l. l ≡ replicate self.now.program.slots None) }
     {
         Ok(CaptureLocations {
             locations: self.over_bytes().capture_locations()?,
         })
+    }
+}
+
+impl fmt::Debug for CaptureLocations {
+    fn fmt<W: fmt::Write>(&self, f: &mut fmt::Formatter<W>) -> fmt::Result {
+        fmt::Debug::fmt(&self.locations, f)
     }
 }

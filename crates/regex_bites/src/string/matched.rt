@@ -7,9 +7,9 @@ use bites_bytes::bytes;
 use std::fmt;
 use std::ops::Range;
 
-/// A part of a text that matched. It begins and ends between two characters, or at an end of the text.
+/// A match: a part of the haystack. It begins and ends at a character boundary.
 ///
-/// Two matches are equal if their haystacks are the same text, and they begin and end at the same places.
+/// Two matches are equal if they have the same offsets and their haystacks have equal text.
 #[derive(Clone, Copy, PartialEq, Eq)]
 pub struct Match<'h> {
     haystack: &'h str,
@@ -50,42 +50,42 @@ impl<'h> Match<'h> {
         }
     }
 
-    /// Where the match begins, in bytes from the start of the haystack.
+    /// Returns the offset in bytes where the match begins.
     pub fn start(&self) -> usize
         ensures { result ≡ (excerpt_of self.now).span.start }
     {
         self.start
     }
 
-    /// Where the match ends, in bytes from the start of the haystack.
+    /// Returns the offset in bytes after the end of the match.
     pub fn end(&self) -> usize
         ensures { result ≡ (excerpt_of self.now).span.end }
     {
         self.end
     }
 
-    /// The number of its bytes.
+    /// Returns the length of the match in bytes.
     pub fn len(&self) -> usize
         ensures { result ≡ (excerpt_of self.now).span.end - (excerpt_of self.now).span.start }
     {
         self.end - self.start
     }
 
-    /// Whether it has no character.
+    /// Returns whether the match is empty.
     pub fn is_empty(&self) -> bool
         ensures { result ≡ ((excerpt_of self.now).span.start == (excerpt_of self.now).span.end) }
     {
         self.start == self.end
     }
 
-    /// Where it begins and ends.
+    /// Returns the offsets in bytes where the match begins and ends.
     pub fn range(&self) -> Range<usize>
         ensures { span result.start result.end ≡ (excerpt_of self.now).span }
     {
         self.start..self.end
     }
 
-    /// The text that matched.
+    /// Returns the text that matched.
     pub fn as_str(&self) -> &'h str
         ensures { result.now ≡ text_of (excerpt_of self.now) }
     {

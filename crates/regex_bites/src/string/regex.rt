@@ -15,10 +15,9 @@ use std::alloc::{AllocError, Global};
 use std::fmt;
 use std::marker::Model;
 
-/// A compiled regular expression, which searches texts.
+/// A compiled regular expression, which searches texts. A clone shares the program and may go to another thread.
 ///
-/// A contract sees its pattern, its flags and its tree: the one that the grammar reads the pattern as. A clone shares
-/// the program.
+/// For proofs: a contract sees the pattern, the flags, and the tree that the grammar reads the pattern as.
 #[derive(Drop)]
 pub struct Regex {
     alloc: Global,
@@ -40,10 +39,19 @@ impl Model for Regex {
 }
 
 impl Regex {
-    /// A regex of the pattern, with no flag set and the limits of [`RegexBuilder::new`].
+    /// Compiles a pattern with all flags off and the default limits of [`RegexBuilder::new`].
     ///
-    /// It is made exactly if the grammar reads the pattern as a tree and all limits hold; else the error is the message
-    /// of the first fault, or of the first limit that the tree passes, or want of memory.
+    /// The error is the message of the pattern's first fault, or of the first limit that the pattern exceeds, or out
+    /// of memory.
+    ///
+    /// ```rust
+    /// assert!(rt; Regex::new(rt.alloc(), "(a)").is_ok());
+    /// let error = Regex::new(rt.alloc(), "(a").err();
+    /// assert_eq!(rt; error, Some(Error::UnclosedGroup));
+    /// ```
+    ///
+    /// For proofs: a regex is made exactly if the grammar reads the pattern as a tree and all limits hold, unless
+    /// memory runs out.
     pub fn new(alloc: Global, pattern: &str) -> Result<Regex, Error>
         ensures kept { IfOk result (λ r. (r.pattern ≡ pattern.now) × (r.flags ≡ no_flags)
             × (r.keep_dropped_groups ≡ false) × (r.leftmost_longest ≡ false)) }
@@ -76,10 +84,10 @@ impl Regex {
         &self.regex
     }
 
-    /// The text of the pattern.
+    /// Returns the pattern.
     ///
-    /// Its contract also says what every regex is: its tree is what the pattern is read as, and its program is built from
-    /// that tree. A caller whose proof needs that calls it.
+    /// For proofs: the contract also says what holds of every regex. Its tree is what the pattern is read as, and its
+    /// program is built from that tree. A caller whose proof needs that calls it.
     pub fn as_str(&self) -> &str
         ensures pattern { result.now ≡ self.now.pattern }
         ensures compiled { IsCompiled self.now }
@@ -89,8 +97,10 @@ impl Regex {
 }
 
 impl Regex {
-    /// The number of groups, group 0 counted: one more than the greatest number of a group that is left in the tree, or
-    /// where dropped groups are kept one more than the number of groups that the pattern opens.
+    /// Returns the number of groups, group 0 counted. It is one more than the greatest group number that is left in
+    /// the tree.
+    ///
+    /// With [`RegexBuilder::keep_dropped_groups`] it is one more than the number of groups that the pattern opens.
     pub fn captures_len(&self) -> usize
         ensures groups { result ≡ length self.now.names }
         ensures left { self.now.keep_dropped_groups ≡ false → result ≡ captures_len self.now.tree }
@@ -99,17 +109,18 @@ impl Regex {
         self.regex.captures_len()
     }
 
-    /// How many groups take part in every match, group 0 counted, where the form of the pattern says so.
-    ///
-    /// At least so many groups take part; more may.
+    /// Returns a lower bound on the groups that participate in any match, group 0 counted, if the pattern's form
+    /// gives one.
     pub fn static_captures_len(&self) -> Option<usize>
         ensures { result ≡ static_captures_len self.now.tree }
     {
         self.regex.static_captures_len()
     }
 
-    /// The name of each group, if it has one, from group 0 on, which has none. A group that the tree drops has its name
-    /// only where dropped groups are kept.
+    /// Returns an iterator over the names of the groups, from group 0 on. An item is `None` if its group has no name;
+    /// group 0 has none.
+    ///
+    /// A group that the tree drops keeps its name only with [`RegexBuilder::keep_dropped_groups`].
     pub fn capture_names(&self) -> CaptureNames<'_>
         ensures names { result ≡ self.now.names }
         ensures left { self.now.keep_dropped_groups ≡ false →
@@ -124,7 +135,8 @@ impl Regex {
 impl Clone for Regex {
     ghost is_clone = { λ regex copy. copy ≡ regex };
 
-    /// A regex that shares the program. The error is want of memory, where the count of sharers is full.
+    /// Returns a regex that shares the program, and may go to another thread. It copies nothing: the error, out of
+    /// memory, comes only if the count of clones is full.
     fn clone(&self) -> Result<Regex, AllocError> {
         Ok(Regex {
             alloc: self.alloc,

@@ -1,11 +1,10 @@
 //! Texts with their matches replaced.
 
-ghost use Rattle.std.specs.Prelude.{◌≡◌, ◌↔◌, ◌≤◌, ◌++◌, ◌⊎◌, [], None, IfOk, OnOk, OnErr, drop, map, string_bytes, unwrap_or, IsCharBoundary};
+ghost use Rattle.std.specs.Prelude.{◌≡◌, ◌↔◌, ◌≤◌, ◌++◌, [], None, IfOk, OnOk, drop, map, string_bytes, unwrap_or, IsCharBoundary};
 ghost use Rattle.std.specs.Cow.{cow_str_bytes, IsBorrowedStr};
 ghost use Rattle.bites_spec.specs.Pieces.{limited, replaced};
 ghost use Rattle.bites_spec.specs.Iteration.{captures_in};
-ghost use Rattle.bites_spec.specs.Refused.{GaveFront};
-ghost use Rattle.bites_spec.specs.Replaced.{span_in, ReplacesIn, GivesUpIn};
+ghost use Rattle.bites_spec.specs.Replaced.{span_in, ReplacesIn};
 ghost use Rattle.regex_bites.specs.Replaced.{ReplacesEach};
 
 use crate::string::{CaptureMatches, Captures, Match, Matches, Regex, Replacer};
@@ -43,7 +42,7 @@ impl<'h> Replacing<'h> {
         }
     }
 
-    // Keeps what stands before a match, and goes on behind it.
+    // Keeps what stands before a match, and goes on after it.
     fn keep_up_to(&mut self, found: Match<'h>) -> Result<(), AllocError>
         requires part { IsPart self.old.haystack.now (excerpt_of found) }
         requires order { unwrap_or self.old.last 0 ≤ (excerpt_of found).span.start }
@@ -76,8 +75,6 @@ impl<'h> Replacing<'h> {
         requires order { unwrap_or self.old.last 0 ≤ (span_in captures.now).start }
         ensures gives { OnOk result (WritesBy R.replaces captures.now
             self.old replacer.old self.new replacer.new) }
-        ensures refused { OnErr result ((replacer.new ≡ replacer.old)
-            ⊎ R.refuses replacer.old captures.now replacer.new) }
     {
         self.keep_up_to(captures.whole())?;
         replacer.replace_append(captures, &mut self.out)
@@ -130,10 +127,6 @@ impl Regex {
         requires { (state : R) → R.can_replace state }
         ensures replaces { IfOk result (λ r. ReplacesEach R.replaces R.answers
             self.now haystack.now limit replacer.old (cow_str_bytes r) replacer.new) }
-        ensures served { OnOk result (GaveFront R.replaces R.answers R.refuses replacer.old
-            (limited limit (captures_in self.now haystack.now)) replacer.new) }
-        ensures refused { OnErr result (GaveFront R.replaces R.answers R.refuses replacer.old
-            (limited limit (captures_in self.now haystack.now)) replacer.new) }
         ensures borrowed { IfOk result (λ r. IsBorrowedStr r ↔ captures_in self.now haystack.now ≡ []) }
     {
         let mut matches = CaptureMatches::new(self, haystack)?;
@@ -155,8 +148,6 @@ impl Regex {
         requires { (state : R) → R.can_replace state }
         ensures replaces { IfOk result (λ r. ReplacesIn R.replaces R.answers
             self.now haystack.now limit replacer.old (cow_str_bytes r) replacer.new) }
-        ensures refused { OnErr result (GivesUpIn R.replaces R.answers R.refuses
-            self.now haystack.now limit replacer.old replacer.new) }
         ensures borrowed { IfOk result (λ r. IsBorrowedStr r ↔ captures_in self.now haystack.now ≡ []) }
     {
         if let Some(text) = replacer.no_expansion() {
@@ -165,9 +156,16 @@ impl Regex {
         self.replace_each(haystack, limit, replacer)
     }
 
-    /// The haystack with its first match replaced. The error is want of memory.
+    /// Returns the haystack with its first match replaced. The error is out of memory.
     ///
-    /// It is borrowed exactly if nothing matches. A refusal hands out no text, as [`Regex::replacen`] says.
+    /// The haystack is borrowed exactly if nothing matches. In a template `$1` and `$name` stand for groups, as
+    /// [`Captures::expand`] describes.
+    ///
+    /// ```rust
+    /// let regex = Regex::new(rt.alloc(), r"(?<last>\w+), (?<first>\w+)")?;
+    /// let turned = regex.replace("Curie, Marie", "$first $last")?;
+    /// assert_eq!(rt; turned.as_str(), "Marie Curie");
+    /// ```
     pub fn replace<'h, R: Replacer + Drop>(
         &self,
         haystack: &'h str,
@@ -181,9 +179,15 @@ impl Regex {
         self.replacen(haystack, 1, replacer)
     }
 
-    /// The haystack with all its matches replaced. The error is want of memory.
+    /// Returns the haystack with all its matches replaced. The error is out of memory.
     ///
-    /// It is borrowed exactly if nothing matches. A refusal hands out no text, as [`Regex::replacen`] says.
+    /// The haystack is borrowed exactly if nothing matches.
+    ///
+    /// ```rust
+    /// let regex = Regex::new(rt.alloc(), r"\s+")?;
+    /// let narrow = regex.replace_all("a  b   c", " ")?;
+    /// assert_eq!(rt; narrow.as_str(), "a b c");
+    /// ```
     pub fn replace_all<'h, R: Replacer + Drop>(
         &self,
         haystack: &'h str,
@@ -197,11 +201,18 @@ impl Regex {
         self.replacen(haystack, 0, replacer)
     }
 
-    /// The haystack with its first `limit` matches replaced, or all of them for 0. The error is want of memory.
+    /// Returns the haystack with its first `limit` matches replaced, or all of them if `limit` is 0. The error is out
+    /// of memory.
     ///
-    /// The replacer is asked once for the same text for each match; where it has none, it gives what stands for the
-    /// groups of each match in turn. The haystack is borrowed exactly if nothing matches. A refusal hands out no text; the
-    /// replacer has then served a beginning of the matches, or was not asked at all.
+    /// The haystack is borrowed exactly if nothing matches. [`Replacer::no_expansion`] is called once. If it returns
+    /// a text, each match is replaced by that text. Else [`Replacer::replace_append`] is called for each match in
+    /// turn.
+    ///
+    /// ```rust
+    /// let regex = Regex::new(rt.alloc(), "a")?;
+    /// let replaced = regex.replacen("aaaa", 2, "b")?;
+    /// assert_eq!(rt; replaced.as_str(), "bbaa");
+    /// ```
     pub fn replacen<'h, R: Replacer + Drop>(
         &self,
         haystack: &'h str,

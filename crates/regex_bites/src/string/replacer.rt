@@ -1,22 +1,22 @@
-//! What stands for a match: templates, texts, and what functions answer.
+//! What a match is replaced by: templates, literals, and results of functions.
 
 ghost use Rattle.std.specs.Prelude.{◌≡◌, string_bytes, ℕ, List, Option, Some, None, Ok, Err, OnOk, OnErr, ⊤};
 ghost use Rattle.std.specs.Borrow.{sem};
 ghost use Rattle.std.specs.Cow.{cow_str_bytes};
 ghost use Rattle.std.specs.Io.BufRead.{Rests};
 ghost use Rattle.bites_spec.specs.Captured.{Captured};
-ghost use Rattle.bites_spec.specs.Refused.{Appends, IsFront};
-ghost use Rattle.bites_spec.specs.Replacer.{answer_text, plain_text, is_plain, GivesExpansion, AnswersPlain, Stays};
+ghost use Rattle.bites_spec.specs.Refused.{Appends};
+ghost use Rattle.bites_spec.specs.Replacer.{answer_text, plain_text, is_plain, GivesExpansion, AnswersPlain, BeginsExpansion, BeginsText};
 
 use crate::string::Captures;
 use std::alloc::AllocError;
 use std::borrow::CowStr;
 use std::convert::AsStr;
 
-/// What stands for the matches of a regex.
+/// What a match is replaced by: a template, a literal ([`NoExpand`]) or the result of a function ([`With`]).
 ///
-/// An implementation says when [`Replacer::replace_append`] may be called, what it gives, and what
-/// [`Replacer::no_expansion`] answers.
+/// For proofs: an implementation says when [`Replacer::replace_append`] may be called, what it appends, and what
+/// [`Replacer::no_expansion`] returns.
 pub trait Replacer {
     /// The states in which `replace_append` may be called.
     ghost can_replace: { Self → Type 0 } = { λ _. ⊤ };
@@ -24,13 +24,13 @@ pub trait Replacer {
     /// Relates a state, the groups of a match, the text that is appended for it, and the state after.
     ghost replaces: { Self → Captured → List ℕ → Self → Type 0 };
 
-    /// Relates a state, the groups of a match, and the state that a refused call leaves.
-    ghost refuses: { Self → Captured → Self → Type 0 } = { λ _ _ _. ⊤ };
+    /// Relates a state, the groups of a match, what a refused call has appended, and the state that it leaves.
+    ghost refuses: { Self → Captured → List ℕ → Self → Type 0 } = { λ _ _ _ _. ⊤ };
 
-    /// Relates a state, what `no_expansion` answers, and the state after.
+    /// Relates a state, what `no_expansion` returns, and the state after.
     ghost answers: { Self → Option (List ℕ) → Self → Type 0 };
 
-    /// Appends what stands for a match. The error is want of memory; `dst` still begins with the old text then.
+    /// Appends what replaces a match. The error is out of memory; `dst` then still begins with the old text.
     fn replace_append(
         &mut self,
         captures: &Captures<'_>,
@@ -39,16 +39,16 @@ pub trait Replacer {
         requires { can_replace self.old }
         ensures appends { OnOk result (Appends (λ text. replaces self.old captures.now text self.new)
             (string_bytes dst.old) (string_bytes dst.new)) }
-        ensures refused { OnErr result (refuses self.old captures.now self.new) }
-        ensures front { OnErr result (IsFront (string_bytes dst.old) (string_bytes dst.new)) }
+        ensures refused { OnErr result (Appends (λ text. refuses self.old captures.now text self.new)
+            (string_bytes dst.old) (string_bytes dst.new)) }
         ensures again { OnOk result (can_replace self.new) };
 
-    /// The text that stands for each match, if it is always the same.
+    /// Returns the text that replaces each match, if it is always the same.
     fn no_expansion(&mut self) -> Option<&str>
         ensures* after_borrow { sem 𝓛 (Rests Self.row self.entry
             (λ new. answers self.old (answer_text result) new)) };
 
-    /// A replacer that hands both calls on to this one.
+    /// Returns a replacer that forwards both calls to this one, which can be used again afterwards.
     final fn by_ref(&mut self) -> ReplacerRef<'_, Self>
     where
         Self: Sized,
@@ -59,8 +59,8 @@ pub trait Replacer {
     }
 }
 
-/// Hands both calls on to a replacer, which can be used again then.
-#[derive(Drop)]
+/// A replacer that forwards both calls to another, made by [`Replacer::by_ref`].
+#[derive(Debug, Drop)]
 pub struct ReplacerRef<'a, R>(&'a mut R);
 
 impl<'a, R: Replacer> Replacer for ReplacerRef<'a, R> {
@@ -68,7 +68,7 @@ impl<'a, R: Replacer> Replacer for ReplacerRef<'a, R> {
 
     ghost replaces = { λ s captures text t. R.replaces s.0.now captures text t.0.now };
 
-    ghost refuses = { λ s captures t. R.refuses s.0.now captures t.0.now };
+    ghost refuses = { λ s captures text t. R.refuses s.0.now captures text t.0.now };
 
     ghost answers = { λ s answer t. R.answers s.0.now answer t.0.now };
 
@@ -85,7 +85,20 @@ impl<'a, R: Replacer> Replacer for ReplacerRef<'a, R> {
     }
 }
 
-/// Appends what a function answers for the groups of each match.
+/// Replaces each match by what a function returns for its groups. An error of the function is out of memory, and ends
+/// the replacement.
+///
+/// ```rust
+/// let regex = Regex::new(rt.alloc(), r"\w+")?;
+/// let alloc = rt.alloc();
+/// let mut count = 0u32;
+/// let numbered = With(|_captures: &Captures<'_>| {
+///     count = count.wrapping_add(1);
+///     format!(in alloc; "{count}")
+/// });
+/// let replaced = regex.replace_all("one, two", numbered)?;
+/// assert_eq!(rt; replaced.as_str(), "1, 2");
+/// ```
 #[derive(Drop)]
 pub struct With<F>(pub F);
 
@@ -115,14 +128,20 @@ where
     }
 }
 
-/// A text that is appended as it is, also where it holds a `$`.
-#[derive(Clone, Copy)]
+/// Replaces each match by these characters unchanged: a `$` stands for itself.
+///
+/// ```rust
+/// let regex = Regex::new(rt.alloc(), "(a)")?;
+/// let replaced = regex.replace("ab", NoExpand("$1$1"))?;
+/// assert_eq!(rt; replaced.as_str(), "$1$1b");
+/// ```
+#[derive(Clone, Copy, Debug)]
 pub struct NoExpand<'t>(pub &'t str);
 
 impl<'t> Replacer for NoExpand<'t> {
     ghost replaces = { λ s _ text t. (text ≡ s.0.now) × (t ≡ s) };
 
-    ghost refuses = { Stays };
+    ghost refuses = { BeginsText (λ s. s.0.now) };
 
     ghost answers = { λ s answer t. (answer ≡ Some s.0.now) × (t ≡ s) };
 
@@ -142,7 +161,7 @@ impl<'t> Replacer for NoExpand<'t> {
 impl<'t> Replacer for &'t str {
     ghost replaces = { GivesExpansion (λ s. s.now) };
 
-    ghost refuses = { Stays };
+    ghost refuses = { BeginsExpansion (λ s. s.now) };
 
     ghost answers = { AnswersPlain (λ s. s.now) };
 
@@ -162,7 +181,7 @@ impl<'t> Replacer for &'t str {
 impl Replacer for String {
     ghost replaces = { GivesExpansion string_bytes };
 
-    ghost refuses = { Stays };
+    ghost refuses = { BeginsExpansion string_bytes };
 
     ghost answers = { AnswersPlain string_bytes };
 
@@ -182,7 +201,7 @@ impl Replacer for String {
 impl<'t> Replacer for &'t String {
     ghost replaces = { GivesExpansion (λ s. string_bytes s.now) };
 
-    ghost refuses = { Stays };
+    ghost refuses = { BeginsExpansion (λ s. string_bytes s.now) };
 
     ghost answers = { AnswersPlain (λ s. string_bytes s.now) };
 
@@ -202,7 +221,7 @@ impl<'t> Replacer for &'t String {
 impl<'t> Replacer for CowStr<'t> {
     ghost replaces = { GivesExpansion cow_str_bytes };
 
-    ghost refuses = { Stays };
+    ghost refuses = { BeginsExpansion cow_str_bytes };
 
     ghost answers = { AnswersPlain cow_str_bytes };
 
@@ -222,7 +241,7 @@ impl<'t> Replacer for CowStr<'t> {
 impl<'c, 't> Replacer for &'c CowStr<'t> {
     ghost replaces = { GivesExpansion (λ s. cow_str_bytes s.now) };
 
-    ghost refuses = { Stays };
+    ghost refuses = { BeginsExpansion (λ s. cow_str_bytes s.now) };
 
     ghost answers = { AnswersPlain (λ s. cow_str_bytes s.now) };
 

@@ -1,9 +1,10 @@
-//! Searches of texts that answer where a match is.
+//! Searches of texts that return where a match is.
 
-ghost use Rattle.std.specs.Prelude.{◌≡◌, ◌≤◌, length, option_map, is_some, unwrap_or, IfOk, IfSome, OnOk, OnErr, IsCharBoundary};
+ghost use Rattle.std.specs.Prelude.{◌≡◌, ◌≤◌, length, option_map, is_some, unwrap_or, IfOk, IfSome, MatchOption, OnOk, OnErr, IsCharBoundary};
 ghost use Rattle.bites_spec.specs.Counts.{fit_of};
 ghost use Rattle.bites_spec.specs.Regex.{span_at, slots_at};
-ghost use Rattle.bites_spec.specs.Captured.{excerpt, FindsSpan};
+ghost use Rattle.bites_spec.specs.Found.{NoMatch};
+ghost use Rattle.bites_spec.specs.Captured.{excerpt, FindsSpan, AreGroupsFrom};
 ghost use Rattle.bites_spec.specs.Counts.{IsWalked};
 ghost use Rattle.regex_bites.specs.Matched.{excerpt_of};
 ghost use Rattle.regex_bites.specs.Borders.{HaveBorders};
@@ -12,7 +13,17 @@ use crate::string::{Cache, CaptureLocations, Match, Regex};
 use std::alloc::AllocError;
 
 impl Regex {
-    /// Where the pattern matches first in the haystack. The error is want of memory for the room that a search takes.
+    /// Returns the leftmost match in the haystack. The error is out of memory.
+    ///
+    /// Of the matches that begin there it is the one that the pattern prefers, or the longest with
+    /// [`RegexBuilder::leftmost_longest`]. The search visits each state of the program at most once at each offset.
+    ///
+    /// ```rust
+    /// let regex = Regex::new(rt.alloc(), r"\d+")?;
+    /// let found = regex.find("é 12 345")?.ok_or("no match")?;
+    /// assert_eq!(rt; found.range(), 3..5);
+    /// assert_eq!(rt; found.as_str(), "12");
+    /// ```
     pub fn find<'h>(&self, haystack: &'h str) -> Result<Option<Match<'h>>, AllocError>
         ensures found { IfOk result (λ m. option_map excerpt_of m
             ≡ option_map (excerpt haystack.now) (span_at self.now haystack.now 0)) }
@@ -22,10 +33,17 @@ impl Regex {
         self.find_at(haystack, 0)
     }
 
-    /// Where the pattern matches first from `start` on, a number of bytes; past the end of the haystack nothing matches.
-    /// A start within the haystack is the border of a character, as `str::is_char_boundary` tests.
+    /// Returns the leftmost match at or after `start`, an offset in bytes. Past the end of the haystack nothing
+    /// matches. A start within the haystack must be at a character boundary, as `str::is_char_boundary` tests. The
+    /// error is out of memory.
     ///
-    /// Assertions look at the bytes before `start` too.
+    /// Assertions look at the bytes before `start` too, so this differs from a search of the slice that begins there.
+    ///
+    /// ```rust
+    /// let regex = Regex::new(rt.alloc(), r"\bb")?;
+    /// let found = regex.find_at("ab b", 1)?.ok_or("no match")?;
+    /// assert_eq!(rt; found.range(), 3..4);
+    /// ```
     pub fn find_at<'h>(
         &self,
         haystack: &'h str,
@@ -41,7 +59,17 @@ impl Regex {
         Ok(self.find_at_with(&mut cache, haystack, start))
     }
 
-    /// [`Regex::find`] with a cache that fits; it takes no memory.
+    /// Like [`Regex::find`], but with a cache. It allocates nothing and cannot fail.
+    ///
+    /// The cache must fit this regex ([`Cache::fits`]); it does if [`Regex::cache`] of this regex or of a clone made
+    /// it.
+    ///
+    /// ```rust
+    /// let regex = Regex::new(rt.alloc(), "a+")?;
+    /// let mut cache = regex.cache()?;
+    /// let found = regex.find_with(&mut cache, "baa").ok_or("no match")?;
+    /// assert_eq!(rt; found.range(), 1..3);
+    /// ```
     pub fn find_with<'h>(&self, cache: &mut Cache, haystack: &'h str) -> Option<Match<'h>>
         requires { cache.old.fits ≡ fit_of self.now.program }
         ensures found { option_map excerpt_of result
@@ -53,9 +81,9 @@ impl Regex {
         self.find_at_with(cache, haystack, 0)
     }
 
-    /// [`Regex::find_at`] with a cache that fits; it takes no memory.
+    /// Like [`Regex::find_at`], but with a cache that fits. It allocates nothing and cannot fail.
     ///
-    /// It visits each state of the program at most once at each place.
+    /// The search visits each state of the program at most once at each offset.
     pub fn find_at_with<'h>(
         &self,
         cache: &mut Cache,
@@ -76,8 +104,19 @@ impl Regex {
         Match::of_found(haystack, found)
     }
 
-    /// [`Regex::find`], which also writes where each group took part. Where nothing matches or memory is refused, the
-    /// locations stay as they were.
+    /// Returns the leftmost match like [`Regex::find`], and writes the offsets of each group into `locations`. The
+    /// error is out of memory.
+    ///
+    /// The locations must fit this regex ([`CaptureLocations::fits`]). They are unchanged if nothing matches, and
+    /// after an error. At worst a search for groups takes time that grows with states times slots times characters.
+    ///
+    /// ```rust
+    /// let regex = Regex::new(rt.alloc(), "a(b)?")?;
+    /// let mut locations = regex.capture_locations()?;
+    /// let found = regex.captures_read(&mut locations, "xab")?;
+    /// assert!(rt; found.is_some());
+    /// assert_eq!(rt; locations.get(1), Some((2, 3)));
+    /// ```
     pub fn captures_read<'h>(
         &self,
         locations: &mut CaptureLocations,
@@ -86,6 +125,8 @@ impl Regex {
         requires { length locations.old ≡ self.now.program.slots }
         ensures found { IfOk result (λ m. option_map excerpt_of m
             ≡ option_map (excerpt haystack.now) (span_at self.now haystack.now 0)) }
+        ensures on_tree { IfOk result (λ m. MatchOption m (NoMatch self.now.tree haystack.now 0)
+            (λ _. AreGroupsFrom self.now haystack.now 0 locations.new)) }
         ensures groups { OnOk result (locations.new
             ≡ unwrap_or (slots_at self.now haystack.now 0) locations.old) }
         ensures borders { IfOk result (λ m. IfSome m (λ _. HaveBorders haystack.now locations.new)) }
@@ -94,8 +135,11 @@ impl Regex {
         self.captures_read_at(locations, haystack, 0)
     }
 
-    /// [`Regex::find_at`], which also writes where each group took part. Where nothing matches or memory is refused, the
-    /// locations stay as they were. A start within the haystack is the border of a character.
+    /// Returns the leftmost match at or after `start` like [`Regex::find_at`], and writes the offsets of each group
+    /// into `locations`. Past the end of the haystack nothing matches. A start within the haystack must be at a
+    /// character boundary, as `str::is_char_boundary` tests. The error is out of memory.
+    ///
+    /// The locations must fit this regex. They are unchanged if nothing matches, and after an error.
     pub fn captures_read_at<'h>(
         &self,
         locations: &mut CaptureLocations,
@@ -106,6 +150,8 @@ impl Regex {
         requires locations { length locations.old ≡ self.now.program.slots }
         ensures found { IfOk result (λ m. option_map excerpt_of m
             ≡ option_map (excerpt haystack.now) (span_at self.now haystack.now start)) }
+        ensures on_tree { IfOk result (λ m. MatchOption m (NoMatch self.now.tree haystack.now start)
+            (λ _. AreGroupsFrom self.now haystack.now start locations.new)) }
         ensures groups { OnOk result (locations.new
             ≡ unwrap_or (slots_at self.now haystack.now start) locations.old) }
         ensures borders { IfOk result (λ m. IfSome m (λ _. HaveBorders haystack.now locations.new)) }
@@ -115,7 +161,7 @@ impl Regex {
         Ok(self.captures_read_at_with(&mut cache, locations, haystack, start))
     }
 
-    /// [`Regex::captures_read`] with a cache that fits; it takes no memory.
+    /// Like [`Regex::captures_read`], but with a cache that fits. It allocates nothing and cannot fail.
     pub fn captures_read_with<'h>(
         &self,
         cache: &mut Cache,
@@ -126,6 +172,8 @@ impl Regex {
         requires locations { length locations.old ≡ self.now.program.slots }
         ensures found { option_map excerpt_of result
             ≡ option_map (excerpt haystack.now) (span_at self.now haystack.now 0) }
+        ensures on_tree { MatchOption result (NoMatch self.now.tree haystack.now 0)
+            (λ _. AreGroupsFrom self.now haystack.now 0 locations.new) }
         ensures groups { locations.new ≡ unwrap_or (slots_at self.now haystack.now 0) locations.old }
         ensures borders { IfSome result (λ _. HaveBorders haystack.now locations.new) }
         ensures fits { cache.new.fits ≡ cache.old.fits }
@@ -134,9 +182,9 @@ impl Regex {
         self.captures_read_at_with(cache, locations, haystack, 0)
     }
 
-    /// [`Regex::captures_read_at`] with a cache that fits; it takes no memory.
+    /// Like [`Regex::captures_read_at`], but with a cache that fits. It allocates nothing and cannot fail.
     ///
-    /// It visits each state of the program at most once at each place.
+    /// The search visits each state of the program at most once at each offset.
     pub fn captures_read_at_with<'h>(
         &self,
         cache: &mut Cache,
@@ -149,6 +197,8 @@ impl Regex {
         requires locations { length locations.old ≡ self.now.program.slots }
         ensures found { option_map excerpt_of result
             ≡ option_map (excerpt haystack.now) (span_at self.now haystack.now start) }
+        ensures on_tree { MatchOption result (NoMatch self.now.tree haystack.now start)
+            (λ _. AreGroupsFrom self.now haystack.now start locations.new) }
         ensures groups { locations.new
             ≡ unwrap_or (slots_at self.now haystack.now start) locations.old }
         ensures borders { IfSome result (λ _. HaveBorders haystack.now locations.new) }

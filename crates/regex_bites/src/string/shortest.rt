@@ -1,4 +1,4 @@
-//! Searches of texts that answer whether the pattern matches, and where a match ends first.
+//! Searches of texts that return whether the pattern matches, and where a match ends first.
 
 ghost use Rattle.std.specs.Prelude.{◌≡◌, ◌↔◌, ◌≤◌, length, is_some, IsTrue, IfOk, IfSome, IsCharBoundary};
 ghost use Rattle.bites_spec.specs.Found.{HasMatch, IsLeastEnd};
@@ -9,18 +9,27 @@ use crate::string::{Cache, Regex};
 use std::alloc::AllocError;
 
 impl Regex {
-    /// Whether the pattern matches somewhere in the haystack. The error is want of memory for the room that a search
-    /// takes.
+    /// Returns whether the pattern matches anywhere in the haystack. The error is out of memory.
+    ///
+    /// The search stops at the first end of a match, and visits each state of the program at most once at each
+    /// offset.
+    ///
+    /// ```rust
+    /// let regex = Regex::new(rt.alloc(), r"^\d+$")?;
+    /// assert!(rt; regex.is_match("2010")?);
+    /// assert!(rt; !regex.is_match("in 2010")?);
+    /// ```
     pub fn is_match(&self, haystack: &str) -> Result<bool, AllocError>
         ensures { IfOk result (λ found. IsTrue found ↔ HasMatch self.now.tree haystack.now 0) }
     {
         self.is_match_at(haystack, 0)
     }
 
-    /// Whether the pattern matches at some place from `start` on, a number of bytes; past the end nothing matches. A
-    /// start within the haystack is the border of a character, as `str::is_char_boundary` tests.
+    /// Returns whether the pattern matches at or after `start`, an offset in bytes. Past the end of the haystack
+    /// nothing matches. A start within the haystack must be at a character boundary, as `str::is_char_boundary`
+    /// tests. The error is out of memory.
     ///
-    /// Assertions look at the bytes before `start` too.
+    /// Assertions look at the bytes before `start` too, so this differs from a search of the slice that begins there.
     pub fn is_match_at(&self, haystack: &str, start: usize) -> Result<bool, AllocError>
         requires { start ≤ length haystack.now → IsCharBoundary haystack.now start }
         ensures { IfOk result (λ found. IsTrue found ↔ HasMatch self.now.tree haystack.now start) }
@@ -29,7 +38,7 @@ impl Regex {
         Ok(self.is_match_at_with(&mut cache, haystack, start))
     }
 
-    /// [`Regex::is_match`] with a cache that fits; it takes no memory.
+    /// Like [`Regex::is_match`], but with a cache that fits. It allocates nothing and cannot fail.
     pub fn is_match_with(&self, cache: &mut Cache, haystack: &str) -> bool
         requires { cache.old.fits ≡ fit_of self.now.program }
         ensures found { IsTrue result ↔ HasMatch self.now.tree haystack.now 0 }
@@ -39,9 +48,9 @@ impl Regex {
         self.is_match_at_with(cache, haystack, 0)
     }
 
-    /// [`Regex::is_match_at`] with a cache that fits; it takes no memory.
+    /// Like [`Regex::is_match_at`], but with a cache that fits. It allocates nothing and cannot fail.
     ///
-    /// It visits each state of the program at most once at each place.
+    /// The search visits each state of the program at most once at each offset.
     pub fn is_match_at_with(&self, cache: &mut Cache, haystack: &str, start: usize) -> bool
         requires fits { cache.old.fits ≡ fit_of self.now.program }
         requires border { start ≤ length haystack.now → IsCharBoundary haystack.now start }
@@ -53,7 +62,14 @@ impl Regex {
             .is_match_at_with(&mut cache.cache, haystack.as_bytes(), start)
     }
 
-    /// The least end of any match in the haystack, a number of bytes from its start.
+    /// Returns the least offset at which any match ends, in bytes. The error is out of memory.
+    ///
+    /// The match need not be the one that [`Regex::find`] returns.
+    ///
+    /// ```rust
+    /// let regex = Regex::new(rt.alloc(), "a+")?;
+    /// assert_eq!(rt; regex.shortest_match("xaaa")?, Some(2));
+    /// ```
     pub fn shortest_match(&self, haystack: &str) -> Result<Option<usize>, AllocError>
         ensures least { IfOk result (λ end. IsLeastEnd self.now.tree haystack.now 0 end) }
         ensures border { IfOk result (λ end. IfSome end (IsCharBoundary haystack.now)) }
@@ -61,8 +77,11 @@ impl Regex {
         self.shortest_match_at(haystack, 0)
     }
 
-    /// The least end of any match that begins at a place from `start` on; past the end there is none. A start within the
-    /// haystack is the border of a character, as `str::is_char_boundary` tests.
+    /// Returns the least offset at which any match ends that begins at or after `start`, an offset in bytes. Past the
+    /// end of the haystack nothing matches. A start within the haystack must be at a character boundary, as
+    /// `str::is_char_boundary` tests. The error is out of memory.
+    ///
+    /// Assertions look at the bytes before `start` too, so this differs from a search of the slice that begins there.
     pub fn shortest_match_at(
         &self,
         haystack: &str,
@@ -76,7 +95,7 @@ impl Regex {
         Ok(self.shortest_match_at_with(&mut cache, haystack, start))
     }
 
-    /// [`Regex::shortest_match`] with a cache that fits; it takes no memory.
+    /// Like [`Regex::shortest_match`], but with a cache that fits. It allocates nothing and cannot fail.
     pub fn shortest_match_with(&self, cache: &mut Cache, haystack: &str) -> Option<usize>
         requires { cache.old.fits ≡ fit_of self.now.program }
         ensures least { IsLeastEnd self.now.tree haystack.now 0 result }
@@ -87,9 +106,9 @@ impl Regex {
         self.shortest_match_at_with(cache, haystack, 0)
     }
 
-    /// [`Regex::shortest_match_at`] with a cache that fits; it takes no memory.
+    /// Like [`Regex::shortest_match_at`], but with a cache that fits. It allocates nothing and cannot fail.
     ///
-    /// It visits each state of the program at most once at each place.
+    /// The search visits each state of the program at most once at each offset.
     pub fn shortest_match_at_with(
         &self,
         cache: &mut Cache,

@@ -9,8 +9,8 @@ use crate::string::{Matches, Regex};
 use std::alloc::AllocError;
 use std::iter::FusedIterator;
 
-/// The pieces of a haystack between the successive matches of a regex: one more than there are matches.
-#[derive(Drop)]
+/// An iterator over the pieces between the successive matches. There is one more piece than there are matches.
+#[derive(Debug, Drop)]
 pub struct Split<'r, 'h> {
     matches: Matches<'r, 'h>,
     // Where the next piece begins: at the end of the match before, if there was one.
@@ -110,8 +110,8 @@ impl<'r, 'h> Iterator for Split<'r, 'h> {
 
 impl<'r, 'h> FusedIterator for Split<'r, 'h> {}
 
-/// At most so many pieces of a haystack: the last of them has the whole rest.
-#[derive(Drop)]
+/// An iterator over at most a given number of pieces. The last of them is the whole rest of the haystack.
+#[derive(Debug, Drop)]
 pub struct SplitN<'r, 'h> {
     split: Split<'r, 'h>,
     // How many pieces may still come.
@@ -122,7 +122,7 @@ impl<'r, 'h> SplitN<'r, 'h> {
     ghost use Rattle.std.specs.Iterator.{YieldsFirstBy};
     ghost use Rattle.regex_bites.specs.Split.{limited_left, text_now};
 
-    // The next piece: the rest, if no more may come behind it.
+    // The next piece: the rest, if no more may come after it.
     fn step(&mut self) -> Option<&'h str>
         ensures { YieldsFirstBy text_now limited_left self.old result self.new }
     {
@@ -179,15 +179,28 @@ impl<'r, 'h> FusedIterator for SplitN<'r, 'h> {}
 impl Regex {
     ghost use Rattle.regex_bites.specs.Split.{pieces_left, limited_left};
 
-    /// The pieces between the matches. The error is want of memory for the room that searches take.
+    /// Returns an iterator over the pieces between the matches. The error is out of memory for the cache of the
+    /// iterator.
+    ///
+    /// ```rust
+    /// let regex = Regex::new(rt.alloc(), r",\s*")?;
+    /// let pieces: Vec<&str> = regex.split("a, b,,c")?.collect(rt.alloc())?;
+    /// assert_eq!(rt; pieces.as_slice(), ["a", "b", "", "c"].as_slice());
+    /// ```
     pub fn split<'r, 'h>(&'r self, haystack: &'h str) -> Result<Split<'r, 'h>, AllocError>
         ensures { IfOk result (λ s. pieces_left s ≡ pieces_in self.now haystack.now) }
     {
         Split::new(self, haystack)
     }
 
-    /// At most `limit` pieces: the first ones, and then the whole rest. The error is want of memory for the room that
-    /// searches take.
+    /// Returns an iterator over at most `limit` pieces, of which the last is the whole rest of the haystack. With
+    /// `limit` 0 there are none. The error is out of memory for the cache of the iterator.
+    ///
+    /// ```rust
+    /// let regex = Regex::new(rt.alloc(), r",\s*")?;
+    /// let pieces: Vec<&str> = regex.splitn("a, b, c", 2)?.collect(rt.alloc())?;
+    /// assert_eq!(rt; pieces.as_slice(), ["a", "b, c"].as_slice());
+    /// ```
     pub fn splitn<'r, 'h>(
         &'r self,
         haystack: &'h str,

@@ -1,12 +1,10 @@
 use Rattle.std.specs.Prelude.{IfSome}
-use Rattle.std.proofs.Common.{◌≡◌, ◌≤◌, ◌<◌, ◌+◌, ℕ, false, List, length, refl, sym, ap, ap₂, ◌∙◌, subst, arith}
+use Rattle.std.proofs.Common.{◌≡◌, ◌≤◌, ◌<◌, ◌+◌, ℕ, false, List, length, refl, sym, ap, ap₂, ◌∙◌, subst, arith, Bor}
 use Rattle.bites_spec.specs.Utf8.{piece}
 use Rattle.bites_spec.specs.Program as program
-use Rattle.bites_machine.specs.States.{state_of, states_of}
-use Rattle.bites_machine.specs.Lead.{Leads, front_of}
-use Rattle.bites_machine.specs.Looks.{AreSound}
-use Rattle.bites_machine.specs.declared.vm.lead.Lead.{Lead}
-use Rattle.bites_machine.proofs.BetweenLemmas.{sound_states}
+use Rattle.bites_machine.specs.States.{states_of}
+use Rattle.bites_machine.specs.Prefix.{IsPrefix}
+use Rattle.bites_machine.specs.declared.prefix.StartPrefix.{StartPrefix}
 use Rattle.bites_machine.specs.Ends.{next_character}
 use Rattle.bites_machine.specs.Sweep.{IsBetween}
 use Rattle.bites_machine.proofs.PlaceSteps.{ends_by, some_piece, of_first, between_first, between_later, room_between, gone_first, gone_next, sought_by}
@@ -29,11 +27,6 @@ places-init c =
           c.args.desk.now.rows c.args.threads.now.threads c.requires.visits c.requires.looks c.requires.idle.threads;
     }
 
-pub lead-lead-requires-clause-sound : goal.lead-lead-requires-clause-sound
-lead-lead-requires-clause-sound c =
-    let is = c.requires.program.1 in
-    subst (λ (l : List program.State). AreSound l) is.states (sound_states c.requires.program.0 is.well)
-
 pub search_on-last-requires : goal.search_on-last-requires
 search_on-last-requires c =
     let p = c.requires.program.0 in
@@ -41,7 +34,6 @@ search_on-last-requires c =
     let e = c.piece_at-here.ensures in
     let inv = c.places.invariant in
     let states = ap (λ s. states_of s.now) inv.states in
-    let lead = c.lead-lead.result in
     record {
       place = subst (λ i. i ≤ length c.piece_at-here.result.haystack.now) (sym e.place)
           (subst (λ (h : List ℕ). c.places.place ≤ length h) (sym e.haystack) inv.within);
@@ -49,10 +41,9 @@ search_on-last-requires c =
       taken = e.taken ∙ sym (ap₂ next_character e.haystack e.place);
       len = e.len ∙ sym (ap₂ (λ h i. (piece h i).len) e.haystack e.place);
       program = (p, is.states ∙ sym states, is.well, of_first (λ q. q ≡ p.start) c.places.is_found c.first_of-begins.result c.args.request.now.first c.first_of-begins.ensures (sym is.start));
-      leads = of_first (λ q. IfSome lead (λ (l : Lead). Leads (states_of c.places.counted.states.now) (front_of q l.second l.last)))
+      prefix = of_first (λ q. IfSome c.args.request.now.prefix (λ (x : Bor StartPrefix). IsPrefix (states_of c.places.counted.states.now) q x.now))
           c.places.is_found c.first_of-begins.result c.args.request.now.first c.first_of-begins.ensures
-          (subst (λ (s : List program.State). IfSome lead (λ (l : Lead). Leads s (front_of c.args.request.now.first l.second l.last))) (sym states) c.lead-lead.ensures.leads);
-      taker = subst (λ (s : List program.State). IfSome lead (λ (l : Lead). state_of l.taker.now ≡ program.state_at s l.last)) (sym states) c.lead-lead.ensures.taker;
+          (subst (λ (s : List program.State). IfSome c.args.request.now.prefix (λ (x : Bor StartPrefix). IsPrefix s c.args.request.now.first x.now)) (sym states) c.requires.prefix);
       between = subst (λ i. IsBetween (states_of c.places.counted.states.now) i c.places.counted.walked c.places.desk c.places.threads (length c.places.slots)) (sym e.place)
           (subst (λ (l : List program.State). IsBetween l c.places.place c.places.counted.walked c.places.desk c.places.threads (length c.places.slots)) (sym states) inv.between);
     }

@@ -22,7 +22,7 @@ returns-clause-one_more c =
     let pieces : vec_len c.in_ok-pieces.pieces ≡ length (pieces_in r hay) =
     length_from_collect {E = Unit {0}} (Ok c.in_ok-pieces.pieces) (length (pieces_in r hay)) c.in_ok-pieces.ensures.ran
     (YieldsList-from_first bytes_at pieces_left (pieces_in r hay) c.in_ok-split.ensures) refl in
-    pieces ∙ pieces_are_one_more r hay ∙ ap (λ n. n + 1) (sym matches)
+    pieces ∙ pieces_are_one_more r c.as_str.ensures.compiled hay ∙ ap (λ n. n + 1) (sym matches)
 
 pub returns-clause-whole : goal.returns-clause-whole
 returns-clause-whole c =

@@ -1,8 +1,7 @@
 use Rattle.std.proofs.Common.{◌≤◌, ◌∙◌, sym, ap, subst}
 use Rattle.bites_spec.specs.Regex.{Regex}
-use Rattle.bites_bytes.specs.Replacing.{StepsBy, captures_to_replace}
-use Rattle.bites_bytes.proofs.ReplacingLemmas.{step_on, on_on, step_refused, rest_refused}
-use Rattle.bites_bytes.proofs.ReplacingSteps.{front_none}
+use Rattle.bites_bytes.specs.Replacing.{StepsBy}
+use Rattle.bites_bytes.proofs.ReplacingLemmas.{step_on, on_on}
 use Rattle.bites_bytes.proofs.bytes.replace.Replacing.by.Goals as goal
 
 pub loop-preserved : goal.loop-preserved
@@ -12,14 +11,6 @@ loop-preserved g c =
     let on = step_on R.replaces R.answers l.self l.replacer t.self t.replacer steps in
     record {
       on = on_on R.replaces R.answers c.args.self.now c.args.replacer.now l.self l.replacer t.self t.replacer l.invariant.on on;
-      refused = λ end front. l.invariant.refused end (step_refused R.replaces R.answers R.refuses l.self l.replacer t.self t.replacer steps end front);
       fits = e.len ∙ l.invariant.fits ∙ ap (λ (r : Regex). r.program.slots) (sym on.same.0);
       whole = subst (λ n. 2 ≤ n) (sym e.len) l.invariant.whole;
     }
-
-pub returns-clause-served : goal.returns-clause-served
-returns-clause-served g c =
-    let R = g.R.Replacer in let l = c.loop in let t = c.step_by.new in let e = c.in_ok-step_by.ensures in
-    let steps = subst (λ b. StepsBy R.replaces R.answers l.self l.replacer b t.self t.replacer) c.if-branch.false e.steps in
-    l.invariant.refused t.replacer (rest_refused R.replaces R.answers R.refuses l.self l.replacer t.self t.replacer steps t.replacer
-    (front_none R.replaces R.answers R.refuses t.replacer (captures_to_replace t.self)))

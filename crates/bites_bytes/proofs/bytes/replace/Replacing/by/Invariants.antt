@@ -1,11 +1,10 @@
 use Rattle.std.proofs.Common.{◌≡◌, ◌≤◌, length}
-use Rattle.bites_bytes.specs.Replacing.{GoesOn, GoesOnRefused, captures_to_replace}
+use Rattle.bites_bytes.specs.Replacing.{GoesOn, captures_to_replace}
 use Rattle.bites_bytes.proofs.bytes.replace.Replacing.by.Given as goal
 
 abbrev pub invariant-loop : goal.invariant-loop
 invariant-loop g l = record {
   on : GoesOn g.R.Replacer.replaces g.R.Replacer.answers l.fn.self l.fn.replacer l.self l.replacer;
-  refused : GoesOnRefused g.R.Replacer.replaces g.R.Replacer.answers g.R.Replacer.refuses l.fn.self l.fn.replacer l.self l.replacer;
   fits : length l.locations ≡ l.self.matches.regex.now.program.slots;
   whole : 2 ≤ length l.locations;
 }

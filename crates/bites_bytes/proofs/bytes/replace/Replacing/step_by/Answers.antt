@@ -2,8 +2,7 @@ use Rattle.std.proofs.Common.{◌++◌, ◌∙◌, Some, length, refl, sym, ap, 
 use Rattle.bites_spec.specs.Captured.{AreGroups, captured}
 use Rattle.bites_bytes.proofs.MatchLemmas.{captures_advance}
 use Rattle.bites_bytes.proofs.SplitLemmas.{piece_is}
-use Rattle.bites_bytes.proofs.ReplacingSteps.{by_step, captures_rest, captures_go, front_none, front_refused, on_err}
-use Rattle.bites_bytes.specs.Replacing.{captures_to_replace}
+use Rattle.bites_bytes.proofs.ReplacingSteps.{by_step, captures_rest}
 use Rattle.bites_bytes.proofs.bytes.replace.Replacing.step_by.Goals as goal
 
 pub returns-in_default-clause-steps : goal.returns-in_default-clause-steps
@@ -19,25 +18,6 @@ of-requires g c =
     subst (λ h. AreGroups c.regex.result.now h c.advance.new.self) (e.same.1 ∙ sym c.haystack-haystack.ensures)
     (subst (λ q. AreGroups q t.haystack.now c.advance.new.self) (sym c.regex.ensures)
     (captures_advance s.matches (Some c.in-Some.found) t (length c.args.locations.now) c.advance.new.self e.compiled c.requires.fits e.steps e.same).1)
-
-pub returns-in_err-extend_from_slice-clause-refused : goal.returns-in_err-extend_from_slice-clause-refused
-returns-in_err-extend_from_slice-clause-refused g c =
-    on_err c.from_residual.result _ (front_none g.R.Replacer.replaces g.R.Replacer.answers g.R.Replacer.refuses c.args.replacer.now (captures_to_replace c.args.self.now))
-
-pub returns-in_err-captures-clause-refused : goal.returns-in_err-captures-clause-refused
-returns-in_err-captures-clause-refused g c =
-    on_err c.from_residual-in_err-captures.result _
-    (front_none g.R.Replacer.replaces g.R.Replacer.answers g.R.Replacer.refuses c.args.replacer.now (captures_to_replace c.args.self.now))
-
-pub returns-in_err-replace_append-clause-refused : goal.returns-in_err-replace_append-clause-refused
-returns-in_err-replace_append-clause-refused g c =
-    let s = c.args.self.now in let e = c.in-Some.ensures in
-    on_err c.from_residual-in_err-replace_append.result _
-    (front_refused g.R.Replacer.replaces g.R.Replacer.answers g.R.Replacer.refuses c.args.replacer.now c.replace_append.new.self c.in_ok-captures.captures _ (captures_to_replace s)
-    (captures_go s c.spend.new.left c.advance.new.matches c.spend.result c.spend.ensures c.if-not-spend.false e.compiled (length c.args.locations.now) c.advance.new.self
-    c.requires.fits e.same c.in-Some.found e.steps c.in_ok-captures.captures
-    (c.in_ok-captures.ensures ∙ ap₂ (λ q h. captured q h c.advance.new.self) c.regex.ensures (c.haystack-haystack.ensures ∙ sym e.same.1)))
-    c.in_err-replace_append.ensures.refused)
 
 pub returns-clause-steps : goal.returns-clause-steps
 returns-clause-steps g c =

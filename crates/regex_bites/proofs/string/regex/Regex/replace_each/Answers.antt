@@ -5,18 +5,11 @@ use Rattle.bites_spec.specs.Iteration.{captures_in}
 use Rattle.bites_spec.specs.Replaced.{span_in}
 use Rattle.bites_bytes.specs.Limit.{taken}
 use Rattle.bites_bytes.proofs.ReplacingLemmas.{taken_limited, limited_map}
-use Rattle.bites_bytes.proofs.ReplacingSteps.{front_none, on_err}
 use Rattle.bites_bytes.proofs.ReplacedLemmas.{if_ok, limited_none}
 use Rattle.regex_bites.specs.CapturesLeft.{captures_left}
 use Rattle.regex_bites.specs.Order.{BeginFrom}
-use Rattle.regex_bites.proofs.ReplacingLemmas.{IsOn, on_start, on_step, on_end, on_borrows, served_start, served_step, begin_limited}
+use Rattle.regex_bites.proofs.ReplacingLemmas.{IsOn, on_start, on_step, on_end, on_borrows, begin_limited}
 use Rattle.regex_bites.proofs.string.regex.Regex.replace_each.Goals as goal
-
-pub returns-in_err-matches-clause-refused : goal.returns-in_err-matches-clause-refused
-returns-in_err-matches-clause-refused g c =
-    let R = g.R.Replacer in
-    on_err c.from_residual.result _
-    (front_none R.replaces R.answers R.refuses c.args.replacer.now (limited c.args.limit (captures_in c.args.self.now c.args.haystack.now)))
 
 pub loop-captures-init : goal.loop-captures-init
 loop-captures-init g c =
@@ -30,7 +23,6 @@ loop-captures-init g c =
           subst (λ l. IsOn R.replaces R.answers span_in hay (limited n cs) r (string_bytes s.out) s.last l r) (sym rest)
           (on_start R.replaces R.answers span_in hay (limited n cs) r (string_bytes s.out) s.last begun.out begun.last
           (begin_limited span_in n cs (subst (λ ds. BeginFrom 0 (map span_in ds)) e.left e.in_order)));
-      served = served_start R.replaces R.answers (limited n cs) r R.refuses (taken c.bound-left.result (captures_left m)) rest;
       haystack = begun.haystack;
       same = e.haystack;
     }
@@ -50,7 +42,6 @@ loop-captures-preserved g c =
           (subst (λ ds. IsOn R.replaces R.answers span_in hay all r (string_bytes s.out) s.last ds l.replacer) steps on.on)
           gave.0 c.by-in-Some.new.replacer gave.1 (string_bytes t.out) t.last
           (e.2 ∙ ap (λ h. (string_bytes s.out ++ slice_range h (unwrap_or s.last 0) (span_in d).start) ++ gave.0) on.haystack) e.1;
-      served = served_step R.replaces R.answers all r R.refuses d rest cs l.replacer on.served steps gave.0 c.by-in-Some.new.replacer gave.1;
       haystack = e.0 ∙ on.haystack;
       same = c.in-Some.ensures.same ∙ on.same;
     }

@@ -1,0 +1,54 @@
+-- Which of the types below may cross threads.
+use denote.Param.Send.{IsSend, IsSync, sendable}
+use Rattle.std.proofs.Crossing.{crosses}
+use Rattle.bites_syntax.proofs.flags.Flags.TheSendSync as flags
+use Rattle.bites_syntax.proofs.tree.Tree.TheLaws.TheKnot.{crosses as tree_crosses}
+use Rattle.bites_machine.proofs.state.State.TheSendSync as state
+use Rattle.bites_machine.specs.contracts.prefix.StartPrefix as StartPrefix
+use Rattle.bites_machine.proofs.vm.threads.Threads.TheSendSync as threads
+use Rattle.bites_machine.proofs.vm.walk.Desk.TheSendSync as desk
+use Rattle.bites_machine.specs.contracts.program.Program as Program
+use Rattle.bites_machine.specs.contracts.vm.cache.Cache as MachineCache
+use Rattle.bites_machine.specs.contracts.vm.counted.Walked as Walked
+use Rattle.bites_bytes.proofs.bytes.locations.CaptureLocations.TheSendSync as locations
+use Rattle.bites_bytes.specs.contracts.bytes.cache.Cache as Cache
+use Rattle.bites_bytes.specs.contracts.bytes.regex.Compiled as Compiled
+use Rattle.bites_bytes.specs.contracts.bytes.regex.Regex as Regex
+use Rattle.bites_c.specs.contracts.held.Held as Held
+use Rattle.bites_c.specs.contracts.room.Room as Room
+
+prefix_send : IsSend StartPrefix.the_row
+prefix_send = search (sendable, crosses) depth 20
+
+prefix_sync : IsSync StartPrefix.the_row
+prefix_sync = search (sendable, crosses) depth 20
+
+program_send : IsSend Program.the_row
+program_send = search (sendable, crosses, prefix_send, state.the_send) depth 30
+
+program_sync : IsSync Program.the_row
+program_sync = search (sendable, crosses, prefix_sync, state.the_sync) depth 30
+
+compiled_send : IsSend Compiled.the_row
+compiled_send = search (sendable, crosses, tree_crosses, flags.the_field_send, program_send) depth 20
+
+compiled_sync : IsSync Compiled.the_row
+compiled_sync = search (sendable, crosses, tree_crosses, flags.the_field_sync, program_sync) depth 20
+
+regex_send : IsSend Regex.the_row
+regex_send = search (sendable, crosses, compiled_send, compiled_sync) depth 20
+
+pub held_send : IsSend Held.the_row
+held_send = search (sendable, regex_send) depth 20
+
+walked_send : IsSend Walked.the_row
+walked_send = search (sendable, crosses) depth 20
+
+machine_send : IsSend MachineCache.the_row
+machine_send = search (sendable, threads.the_send, desk.the_send, desk.the_field_send, walked_send) depth 20
+
+cache_send : IsSend Cache.the_row
+cache_send = search (sendable, machine_send) depth 20
+
+pub room_send : IsSend Room.the_row
+room_send = search (sendable, cache_send, locations.the_send) depth 20

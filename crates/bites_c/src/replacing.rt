@@ -1,0 +1,244 @@
+//! A haystack whose matches are being replaced, from left to right.
+
+ghost use Rattle.std.specs.Prelude.{◌≡◌, ◌↔◌, ◌≤◌, ◌++◌, [], None, Some, IfOk, OnOk, IsSome, MatchOption, drop, length, option_map, slice_range, unwrap_or};
+ghost use Rattle.std.specs.Option.{ForSome};
+ghost use Rattle.bites_spec.specs.Counts.{fit_of};
+ghost use Rattle.bites_spec.specs.Captured.{AreGroups, captured};
+ghost use Rattle.bites_spec.specs.Iteration.{captures_in};
+ghost use Rattle.bites_spec.specs.Match.{span};
+ghost use Rattle.bites_spec.specs.Pieces.{text_at};
+ghost use Rattle.bites_spec.specs.Refused.{AppendsUntilRefused};
+ghost use Rattle.bites_spec.specs.Replaced.{span_in};
+ghost use Rattle.bites_spec.specs.Replacer.{answer_text, expanded, is_plain};
+ghost use Rattle.bites_spec.specs.Slots.{group_in};
+ghost use Rattle.bites_bytes.specs.Limit.{bound};
+ghost use Rattle.bites_c.specs.Replaced.{IsReplaced, with_template, with_text};
+
+use crate::room::{Room, read_next};
+use crate::text::index_of;
+use bites_bytes::bytes::{Cache, CaptureLocations, Regex};
+use bites_bytes::limit::{bound, spend};
+use bites_machine::interpolate;
+use std::alloc::{AllocError, Global};
+
+/// The haystack up to the end of the last match that was replaced, with the new texts.
+#[derive(Drop)]
+pub(crate) struct Replacing<'h> {
+    haystack: &'h [u8],
+    // Where the last match that was replaced ends, if one was.
+    last: Option<usize>,
+    // How many matches may still be replaced; None for all.
+    left: Option<usize>,
+    out: Vec<u8>,
+    pub ghost within: { ForSome last (λ e. e ≤ length haystack.now) },
+}
+
+impl<'h> Replacing<'h> {
+    ghost use Rattle.bites_c.specs.Replacing.{Ends, IsFresh, Steps, Writes, captures_left, spans_left};
+
+    // Nothing is replaced yet; at most `limit` matches may be, or all for 0.
+    fn new(alloc: Global, haystack: &'h [u8], limit: usize) -> Replacing<'h>
+        ensures { IsFresh haystack.now limit result }
+    {
+        Replacing {
+            haystack,
+            last: None,
+            left: bound(limit),
+            out: Vec::new(alloc),
+        }
+    }
+
+    // Copies what stands before a match, and goes on behind it.
+    fn keep_up_to(&mut self, start: usize, end: usize) -> Result<(), AllocError>
+        requires order { unwrap_or self.old.last 0 ≤ start }
+        requires lies { (start ≤ end) × (end ≤ length self.old.haystack.now) }
+        ensures { OnOk result (Writes (span start end) [] self.old self.new) }
+    {
+        if self.last.is_none() {
+            self.out.reserve(self.haystack.len())?;
+        }
+        let begin = self.last.unwrap_or(0);
+        self.out.extend_from_slice(&self.haystack[begin..start])?;
+        self.last = Some(end);
+        Ok(())
+    }
+
+    // Replaces the next match by the text, if one more is to be replaced.
+    fn step_by_text(
+        &mut self,
+        regex: &Regex,
+        room: &mut Room,
+        text: &[u8],
+    ) -> Result<bool, AllocError>
+        requires { room.old.fits ≡ fit_of regex.now.program }
+        ensures steps { IfOk result (λ there.
+            Steps (spans_left regex.now) (λ s. s) (λ s. text.now) self.old there self.new) }
+        ensures fits { room.new.fits ≡ room.old.fits }
+    {
+        if !spend(&mut self.left) {
+            return Ok(false);
+        }
+        let Some((start, end)) = room.next(regex, self.haystack, self.last) else {
+            return Ok(false);
+        };
+        self.keep_up_to(start, end)?;
+        self.out.extend_from_slice(text)?;
+        Ok(true)
+    }
+
+    // Replaces each match by the text.
+    fn by_text(&mut self, regex: &Regex, room: &mut Room, text: &[u8]) -> Result<(), AllocError>
+        requires { room.old.fits ≡ fit_of regex.now.program }
+        ensures ends { OnOk result (Ends (spans_left regex.now) (λ s. s) (λ s. text.now) self.old self.new) }
+        ensures fits { room.new.fits ≡ room.old.fits }
+    {
+        while self.step_by_text(regex, room, text)? {}
+        Ok(())
+    }
+
+    // Replaces the next match by what the template stands for, if one more is to be replaced.
+    fn step_by_template(
+        &mut self,
+        regex: &Regex,
+        cache: &mut Cache,
+        locations: &mut CaptureLocations,
+        template: &[u8],
+    ) -> Result<bool, AllocError>
+        requires cache { cache.old.fits ≡ fit_of regex.now.program }
+        requires locations { length locations.old ≡ regex.now.program.slots }
+        ensures steps { IfOk result (λ there.
+            Steps (captures_left regex.now) span_in (λ c. expanded c template.now) self.old there self.new) }
+        ensures len { length locations.new ≡ length locations.old }
+        ensures fits { cache.new.fits ≡ cache.old.fits }
+    {
+        if !spend(&mut self.left) {
+            return Ok(false);
+        }
+        let Some((start, end)) = read_next(regex, cache, locations, self.haystack, self.last) else {
+            return Ok(false);
+        };
+        self.keep_up_to(start, end)?;
+        expand(regex, self.haystack, locations, template, &mut self.out)?;
+        Ok(true)
+    }
+
+    /// Replaces each match by what the template stands for.
+    pub(crate) fn by_template(
+        &mut self,
+        regex: &Regex,
+        cache: &mut Cache,
+        locations: &mut CaptureLocations,
+        template: &[u8],
+    ) -> Result<(), AllocError>
+        requires cache { cache.old.fits ≡ fit_of regex.now.program }
+        requires locations { length locations.old ≡ regex.now.program.slots }
+        ensures ends { OnOk result
+            (Ends (captures_left regex.now) span_in (λ c. expanded c template.now) self.old self.new) }
+        ensures len { length locations.new ≡ length locations.old }
+        ensures fits { cache.new.fits ≡ cache.old.fits }
+    {
+        while self.step_by_template(regex, cache, locations, template)? {}
+        Ok(())
+    }
+
+    // What is written, with the rest of the haystack; None where nothing was replaced.
+    fn finish(self) -> Result<Option<Vec<u8>>, AllocError>
+        ensures { IfOk result (λ o. MatchOption o (self.entry.last ≡ None) (λ v. IsSome self.entry.last
+            × (v.items ≡ self.entry.out.items ++ drop (unwrap_or self.entry.last 0) self.entry.haystack.now))) }
+    {
+        let Some(end) = self.last else {
+            return Ok(None);
+        };
+        let mut out = self.out;
+        out.extend_from_slice(&self.haystack[end..])?;
+        Ok(Some(out))
+    }
+}
+
+/// The haystack with at most `limit` of its matches, or all for 0, replaced by the text; None where nothing matches. The error
+/// is want of memory.
+pub(crate) fn with_text(
+    alloc: Global,
+    regex: &Regex,
+    room: &mut Room,
+    haystack: &[u8],
+    limit: usize,
+    text: &[u8],
+) -> Result<Option<Vec<u8>>, AllocError>
+    requires { room.old.fits ≡ fit_of regex.now.program }
+    ensures replaced { IfOk result (IsReplaced (λ v. v.items) (captures_in regex.now haystack.now)
+        (with_text regex.now haystack.now limit text.now)) }
+    ensures fits { room.new.fits ≡ room.old.fits }
+{
+    // What every regex is: its captures have the spans of its matches.
+    let _pattern = regex.as_str();
+    let mut replacing = Replacing::new(alloc, haystack, limit);
+    replacing.by_text(regex, room, text)?;
+    replacing.finish()
+}
+
+/// The same, replaced by what the template stands for.
+pub(crate) fn with_template(
+    alloc: Global,
+    regex: &Regex,
+    room: &mut Room,
+    haystack: &[u8],
+    limit: usize,
+    template: &[u8],
+) -> Result<Option<Vec<u8>>, AllocError>
+    requires { room.old.fits ≡ fit_of regex.now.program }
+    ensures replaced { IfOk result (IsReplaced (λ v. v.items) (captures_in regex.now haystack.now)
+        (with_template regex.now haystack.now limit template.now)) }
+    ensures fits { room.new.fits ≡ room.old.fits }
+{
+    // A template with no `$` stands for itself, and needs no groups.
+    if is_plain(template) {
+        return with_text(alloc, regex, room, haystack, limit, template);
+    }
+    let mut replacing = Replacing::new(alloc, haystack, limit);
+    room.replace(regex, &mut replacing, template)?;
+    replacing.finish()
+}
+
+// Whether the text holds no `$`.
+fn is_plain(text: &[u8]) -> bool
+    ensures { result ≡ is_plain text.now }
+{
+    text.iter().all(|byte| *byte != b'$')
+}
+
+// Appends what the template stands for by these groups.
+fn expand(
+    regex: &Regex,
+    haystack: &[u8],
+    locations: &CaptureLocations,
+    template: &[u8],
+    text: &mut Vec<u8>,
+) -> Result<(), AllocError>
+    requires { AreGroups regex.now haystack.now locations.now }
+    ensures { AppendsUntilRefused result text.old.items text.new.items
+        (expanded (captured regex.now haystack.now locations.now) template.now) }
+{
+    interpolate::bytes(
+        template,
+        |group: usize| text_of(regex, haystack, locations, group),
+        |name: &str| index_of(regex, name.as_bytes()),
+        text,
+    )
+}
+
+// What the group of this number matched, if it took part.
+fn text_of<'h>(
+    regex: &Regex,
+    haystack: &'h [u8],
+    locations: &CaptureLocations,
+    group: usize,
+) -> Option<&'h [u8]>
+    requires { AreGroups regex.now haystack.now locations.now }
+    ensures { answer_text result ≡ option_map (text_at haystack.now) (group_in locations.now group) }
+{
+    match locations.get(group) {
+        Some((start, end)) => Some(&haystack[start..end]),
+        None => None,
+    }
+}

@@ -1,0 +1,34 @@
+-- The lines of an input, and what is done with each in turn.
+use Rattle.std.specs.Prelude.{◌≡◌, ◌==◌, ℕ, ◌+◌, Bool, true, false, cond, List, [], ◌∷◌, ◌++◌, Option, Some, None, if◌then◌else◌}
+use Rattle.std.specs.Io.BufRead.{ends_with_byte}
+
+-- a byte in front of the first line
+abbrev pub put_in_front : ℕ → List (List ℕ) → List (List ℕ)
+put_in_front b [] = (b ∷ []) ∷ []
+put_in_front b (l ∷ ls) = (b ∷ l) ∷ ls
+
+-- the lines of the bytes, each with the line feed that ends it; the last may have none
+abbrev pub lines_of : List ℕ → List (List ℕ)
+lines_of [] = []
+lines_of (b ∷ bs) = if b == 10 then (b ∷ []) ∷ lines_of bs else put_in_front b (lines_of bs)
+
+-- the line feed that ends the line, if one does
+abbrev pub line_feed_of : List ℕ → List ℕ
+line_feed_of line = if ends_with_byte 10 line then 10 ∷ [] else []
+
+-- Where the bytes that are left are known, their first line is read and leaves the others; or none was left.
+abbrev pub ReadsLine : Option (List ℕ) → Bool → List ℕ → Option (List ℕ) → Type 0
+ReadsLine None there line rest = Unit {0}
+ReadsLine (Some xs) false line rest = lines_of xs ≡ []
+ReadsLine (Some xs) true line None = ⊥
+ReadsLine (Some xs) true line (Some ys) = lines_of xs ≡ line ∷ lines_of ys
+
+module _ {S : Type 0} (Does : S → ℕ → List ℕ → List ℕ → Bool → S → Type 0) where
+  -- These lines, which come after the first n, are done one after another: the texts that are written for them stand in their
+  -- order, and so many of the lines count.
+  abbrev pub DoesEach : ℕ → List (List ℕ) → S → List ℕ → ℕ → S → Type 0
+  DoesEach n [] s text count t = (text ≡ []) × (count ≡ 0) × (t ≡ s)
+  DoesEach n (l ∷ ls) s text count t =
+      (first : List ℕ) × (counts : Bool) × (m : S) × (rest : List ℕ) × (others : ℕ)
+      × Does s (n + 1) l first counts m × DoesEach (n + 1) ls m rest others t
+      × (text ≡ first ++ rest) × (count ≡ cond counts 1 0 + others)

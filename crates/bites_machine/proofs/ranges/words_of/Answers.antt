@@ -1,0 +1,6 @@
+use Rattle.std.proofs.Common.{◌∙◌}
+use Rattle.bites_machine.proofs.BitLemmas.{has_bit-words}
+use Rattle.bites_machine.proofs.ranges.words_of.Goals as goal
+
+pub returns : goal.returns
+returns c = λ n lt. has_bit-words c.ascii_of-bits.result n lt ∙ c.ascii_of-bits.ensures n lt

@@ -1,0 +1,54 @@
+use Rattle.std.proofs.Common.{◌≡◌, ℕ, false, ◌<◌, ◌+◌, Option, Some, length, sym, ap, ◌∙◌, subst, arith}
+use Rattle.bites_spec.specs.Walks.{Among}
+use Rattle.bites_machine.specs.Ends.{next_character}
+use Rattle.bites_machine.specs.States.{states_of}
+use Rattle.bites_spec.specs.Counts.{Record}
+use Rattle.bites_machine.specs.Prefix.{TakesNone}
+use Rattle.bites_machine.specs.Sweep.{Passes}
+use Rattle.bites_machine.proofs.SkipLemmas.{visited_behind, skips_on, skips_all, some_taken, fresh_behind}
+use Rattle.bites_machine.proofs.vm.idle.skip_until_candidate.Goals as goal
+
+pub visit_prefix-requires : goal.visit_prefix-requires
+visit_prefix-requires c = record { fresh = λ q h v. fresh_behind c.places.place q c.places.counted.walked.visits c.places.invariant.before v }
+
+pub places-preserved : goal.places-preserved
+places-preserved c =
+    let e = c.piece_at-here.ensures in
+    let inv = c.places.invariant in
+    let here = c.piece_at-here.result in
+    let place = c.places.place in
+    let x = c.args.prefix.now in
+    let hay = c.args.haystack.now in
+    let states = states_of c.args.counted.now.states.now in
+    let was = c.places.counted.walked in
+    let now = c.visit_prefix.new.self.walked in
+    let stands : next_character hay place ≡ Some c.in-Some.ch = sym e.taken ∙ c.in-Some.is in
+    let some : 0 < here.len = subst (λ n. 0 < n) (sym e.len) (some_taken hay place c.in-Some.ch stands) in
+    let later : place < place + here.len = omega (arith, some) in
+    let out : TakesNone x (next_character hay place) = subst (λ (o : Option ℕ). TakesNone x o) (sym stands) (sym c.may_take.ensures ∙ c.if-may_take.false) in
+    record {
+      onward = omega (arith, inv.onward);
+      within = omega (arith, e.within, e.place, ap length e.haystack);
+      states = c.visit_prefix.ensures.states ∙ inv.states;
+      before = λ v h. visited_behind place (place + here.len) x.visited.value was.visits later inv.before v
+          (subst (λ vs. Among vs v) c.visit_prefix.ensures.visits h);
+      passes = λ longest. skips_on hay longest c.args.from place here.len states c.args.first x c.args.counted.now.walked was now
+          c.requires.prefix out (λ a. let from = c.requires.apart a in omega (arith, from, inv.onward)) e.len some c.visit_prefix.ensures.visits c.visit_prefix.ensures.looks (inv.passes longest);
+    }
+
+pub returns-then-takes_none-clause-before : goal.returns-then-takes_none-clause-before
+returns-then-takes_none-clause-before c =
+    let x = c.args.prefix.now in
+    let hay = c.args.haystack.now in
+    let was = c.args.counted.now.walked in
+    let all = skips_all hay false c.args.from (states_of c.args.counted.now.states.now) c.args.first x was c.requires.prefix (c.takes_none.ensures c.if-takes_none.true) c.requires.apart c.requires.place c.requires.before in
+    λ v h. let lt = all.before v (subst (λ (r : Record). Among r.visits v) c.skip_to_end.ensures.walked h) in lt
+
+pub returns-then-takes_none-clause-passes : goal.returns-then-takes_none-clause-passes
+returns-then-takes_none-clause-passes c = λ longest.
+    let x = c.args.prefix.now in
+    let hay = c.args.haystack.now in
+    let states = states_of c.args.counted.now.states.now in
+    let was = c.args.counted.now.walked in
+    let all = skips_all hay longest c.args.from states c.args.first x was c.requires.prefix (c.takes_none.ensures c.if-takes_none.true) c.requires.apart c.requires.place c.requires.before in
+    subst (λ (r : Record). Passes hay longest c.args.from (length hay) states c.args.first was r) (sym c.skip_to_end.ensures.walked) all.passes

@@ -1,0 +1,83 @@
+use Rattle.std.proofs.Common.{length, sym, ap, ◌∙◌, subst}
+use Rattle.bites_machine.specs.States.{states_of}
+use Rattle.bites_machine.specs.Sweep.{IsProgramOf}
+use Rattle.bites_machine.specs.Anchored.{SoughtFrom}
+use Rattle.bites_machine.specs.declared.vm.places.Asked.{Asked}
+use Rattle.bites_machine.proofs.SoughtLemmas.{slots_fit}
+use Rattle.bites_machine.proofs.AnchoredAnswers.{did_first_from, did_longest_from, did_least_from, did_visit_from, did_bounded_from}
+use Rattle.bites_machine.proofs.vm.search_anchored.Goals as goal
+
+pub returns-clause-first : goal.returns-clause-first
+returns-clause-first c kind =
+    let p = c.args.program.now.program in
+    let hay = c.args.haystack.now in
+    let start = c.args.start in
+    let well = c.start.ensures.well_formed in
+    let old = c.args.slots.now in
+    let new = c.search_anchored.new.slots in
+    let walked = c.search_anchored.new.self.walked in
+    let fits = slots_fit (length old) p.slots well.slots c.requires.slots in
+    let is : IsProgramOf p (states_of c.new-counted.result.states.now) c.start.result =
+    record { states = sym c.states.ensures ∙ ap (λ s. states_of s.now) (sym c.new-counted.ensures.states); start = sym c.start.ensures.start; well = well } in
+    did_first_from p hay well start c.search_anchored.result old new walked fits
+    (λ within. subst (λ (a : Asked). SoughtFrom p hay a.longest a.earliest start c.search_anchored.result old new walked) (c.asked_of.ensures.first kind) (c.search_anchored.ensures.sought within p is c.requires.fits), c.search_anchored.ensures.past)
+
+pub returns-clause-least : goal.returns-clause-least
+returns-clause-least c kind =
+    let p = c.args.program.now.program in
+    let hay = c.args.haystack.now in
+    let start = c.args.start in
+    let well = c.start.ensures.well_formed in
+    let old = c.args.slots.now in
+    let new = c.search_anchored.new.slots in
+    let walked = c.search_anchored.new.self.walked in
+    let fits = slots_fit (length old) p.slots well.slots c.requires.slots in
+    let is : IsProgramOf p (states_of c.new-counted.result.states.now) c.start.result =
+    record { states = sym c.states.ensures ∙ ap (λ s. states_of s.now) (sym c.new-counted.ensures.states); start = sym c.start.ensures.start; well = well } in
+    did_least_from p hay well start c.search_anchored.result old new walked fits
+    (λ within. subst (λ (a : Asked). SoughtFrom p hay a.longest a.earliest start c.search_anchored.result old new walked) (c.asked_of.ensures.least kind) (c.search_anchored.ensures.sought within p is c.requires.fits), c.search_anchored.ensures.past)
+
+pub returns-clause-longest : goal.returns-clause-longest
+returns-clause-longest c kind =
+    let p = c.args.program.now.program in
+    let hay = c.args.haystack.now in
+    let start = c.args.start in
+    let well = c.start.ensures.well_formed in
+    let old = c.args.slots.now in
+    let new = c.search_anchored.new.slots in
+    let walked = c.search_anchored.new.self.walked in
+    let fits = slots_fit (length old) p.slots well.slots c.requires.slots in
+    let is : IsProgramOf p (states_of c.new-counted.result.states.now) c.start.result =
+    record { states = sym c.states.ensures ∙ ap (λ s. states_of s.now) (sym c.new-counted.ensures.states); start = sym c.start.ensures.start; well = well } in
+    did_longest_from p hay well start c.search_anchored.result old new walked fits
+    (λ within. subst (λ (a : Asked). SoughtFrom p hay a.longest a.earliest start c.search_anchored.result old new walked) (c.asked_of.ensures.longest kind) (c.search_anchored.ensures.sought within p is c.requires.fits), c.search_anchored.ensures.past)
+
+pub returns-clause-bounded : goal.returns-clause-bounded
+returns-clause-bounded c =
+    let p = c.args.program.now.program in
+    let hay = c.args.haystack.now in
+    let start = c.args.start in
+    let well = c.start.ensures.well_formed in
+    let old = c.args.slots.now in
+    let new = c.search_anchored.new.slots in
+    let walked = c.search_anchored.new.self.walked in
+    let fits = slots_fit (length old) p.slots well.slots c.requires.slots in
+    let is : IsProgramOf p (states_of c.new-counted.result.states.now) c.start.result =
+    record { states = sym c.states.ensures ∙ ap (λ s. states_of s.now) (sym c.new-counted.ensures.states); start = sym c.start.ensures.start; well = well } in
+    did_bounded_from p hay well start c.search_anchored.result old new walked fits c.asked_of.result.longest c.asked_of.result.earliest
+    (λ within. c.search_anchored.ensures.sought within p is c.requires.fits, c.search_anchored.ensures.past)
+
+pub returns-clause-visited : goal.returns-clause-visited
+returns-clause-visited c =
+    let p = c.args.program.now.program in
+    let hay = c.args.haystack.now in
+    let start = c.args.start in
+    let well = c.start.ensures.well_formed in
+    let old = c.args.slots.now in
+    let new = c.search_anchored.new.slots in
+    let walked = c.search_anchored.new.self.walked in
+    let fits = slots_fit (length old) p.slots well.slots c.requires.slots in
+    let is : IsProgramOf p (states_of c.new-counted.result.states.now) c.start.result =
+    record { states = sym c.states.ensures ∙ ap (λ s. states_of s.now) (sym c.new-counted.ensures.states); start = sym c.start.ensures.start; well = well } in
+    did_visit_from p hay well start c.search_anchored.result old new walked fits c.asked_of.result.longest c.asked_of.result.earliest
+    (λ within. c.search_anchored.ensures.sought within p is c.requires.fits, c.search_anchored.ensures.past)

@@ -1,0 +1,197 @@
+//! What a search visits at an offset where no match begins.
+
+ghost use Rattle.std.specs.Prelude.{◌≡◌, ◌∷◌, ◌+◌, ◌++◌, ◌||◌, ℕ, IfSome, true, false};
+ghost use Rattle.bites_spec.specs.Program as program;
+
+use crate::ranges::{reaches_past_ascii, words_of};
+use crate::short_stack::ShortStack;
+use crate::state::State;
+use crate::targets::Targets;
+use bites_syntax::look::Look;
+use std::snapshot::Snapshot;
+
+/// The most looks that a start prefix is searched for: each of 16 states is visited once, and leads to 16 at most.
+const MOST_LOOKS: usize = 272;
+
+/// The states that an epsilon closure from the start visits at an offset where none of them takes the
+/// character.
+///
+/// A closure there visits these alone, in this order, and leaves nothing. With `anchored` that holds at
+/// offsets above 0: some of these states assert the start of the haystack.
+#[derive(Drop)]
+pub struct StartPrefix {
+    /// The states, the last one first. Contracts alone see them.
+    pub visited: Snapshot<ShortStack>,
+    /// To how many states each of them leads without taking anything.
+    pub targets: Snapshot<ShortStack>,
+    /// How often the closure looks at a state.
+    pub looks: Snapshot<usize>,
+    /// The ASCII characters that some state takes, as the bits of their numbers.
+    pub ascii: [u64; 2],
+    /// Whether some state may take another character.
+    pub others: bool,
+    pub anchored: bool,
+}
+
+impl StartPrefix {
+    ghost use Rattle.bites_machine.specs.Prefix.{in_set, IsApart, TakesNone, IsPrefix};
+    ghost use Rattle.bites_machine.specs.States.{states_of};
+
+    /// The prefix of a program of these states that starts in this one. `None` if a match or another
+    /// assertion is met, or if there are too many states.
+    pub(crate) fn of(states: &[State], start: u32) -> Option<StartPrefix>
+        ensures { IfSome result (IsPrefix (states_of states.now) start) }
+    {
+        let mut found = Closure {
+            visited: ShortStack::new(),
+            targets: ShortStack::new(),
+            ascii: [0, 0],
+            others: false,
+            anchored: false,
+        };
+        let mut stack = ShortStack::new();
+        stack.push(start)?;
+        for looks in 0..MOST_LOOKS {
+            let Some(number) = stack.pop() else {
+                let all = looks;
+                return Some(StartPrefix {
+                    visited: Snapshot::of(&found.visited),
+                    targets: Snapshot::of(&found.targets),
+                    looks: Snapshot::of(&all),
+                    ascii: found.ascii,
+                    others: found.others,
+                    anchored: found.anchored,
+                });
+            };
+            found.look(states, number, &mut stack)?;
+        }
+        None
+    }
+
+    /// Returns whether some state may take the character.
+    #[inline(always)]
+    pub(crate) fn may_take(&self, ch: char) -> bool
+        ensures { result ≡ in_set self.now.ascii self.now.others ch }
+    {
+        let number = ch as u32;
+        if number < 128 {
+            (self.ascii[(number / 64) as usize] >> (number % 64)) & 1 == 1
+        } else {
+            self.others
+        }
+    }
+
+    /// Returns whether no state takes a character.
+    #[inline(always)]
+    pub(crate) fn takes_none(&self) -> bool
+        ensures { result ≡ true → (c : ℕ) → in_set self.now.ascii self.now.others c ≡ false }
+    {
+        self.ascii[0] == 0 && self.ascii[1] == 0 && !self.others
+    }
+
+    /// Returns whether a closure visits the prefix alone at an offset where this character stands, if one does.
+    #[inline(always)]
+    pub(crate) fn is_idle(&self, taken: Option<char>, place: usize) -> bool
+        ensures taken { result ≡ true → TakesNone self.now taken }
+        ensures apart { result ≡ true → IsApart self.now place }
+    {
+        if self.anchored && place == 0 {
+            return false;
+        }
+        match taken {
+            None => true,
+            Some(ch) => !self.may_take(ch),
+        }
+    }
+}
+
+// What the closure has visited so far, and what these states take. It is gone once the prefix is found: of the
+// states the prefix keeps nothing at run time.
+#[derive(Drop)]
+pub struct Closure {
+    pub visited: ShortStack,
+    pub targets: ShortStack,
+    pub ascii: [u64; 2],
+    pub others: bool,
+    pub anchored: bool,
+}
+
+impl Closure {
+    ghost use Rattle.bites_machine.specs.Prefix.{in_set, Follows, HasFound};
+    ghost use Rattle.bites_machine.specs.States.{state_of, states_of};
+
+    // Looks at a state that was on top of the stack. `None` if it can't be followed, or if there is no room.
+    fn look(&mut self, states: &[State], number: u32, stack: &mut ShortStack) -> Option<()>
+        ensures { IfSome result (λ _. (start looks : ℕ) →
+            HasFound (states_of states.now) start looks (number ∷ stack.old) self.old →
+            HasFound (states_of states.now) start (looks + 1) stack.new self.new) }
+    {
+        if self.visited.contains(number) {
+            return Some(());
+        }
+        if number as usize >= states.len() {
+            return None;
+        }
+        self.visited.push(number)?;
+        let state = &states[number as usize];
+        let before = stack.len();
+        self.follow(state, stack)?;
+        self.targets.push((stack.len() - before) as u32)
+    }
+
+    // Follows a visited state as an epsilon closure does that takes nothing. `None` if a match or an assertion
+    // other than `\A` stands there, or if there is no room.
+    fn follow(&mut self, state: &State, stack: &mut ShortStack) -> Option<()>
+        ensures { IfSome result (λ _.
+            Follows (state_of state.now) stack.old stack.new self.old self.new) }
+    {
+        match state {
+            State::Char { ch, .. } => {
+                self.add(&words_of(&[(*ch, *ch)]), *ch > '\u{7F}');
+                Some(())
+            }
+            State::Ranges { ranges, .. } => {
+                self.add(&ranges.ascii(), reaches_past_ascii(ranges.as_slice()));
+                Some(())
+            }
+            State::Splits { targets, reverse } => push_all(stack, targets, *reverse),
+            State::Goto { target, look: None } => stack.push(*target),
+            State::Goto {
+                look: Some(Look::Start),
+                ..
+            } => {
+                self.anchored = true;
+                Some(())
+            }
+            State::Goto { .. } => None,
+            State::Capture { target, .. } => stack.push(*target),
+            State::Fail => Some(()),
+            State::Match => None,
+        }
+    }
+
+    // Puts these characters into the set.
+    fn add(&mut self, words: &[u64; 2], others: bool)
+        ensures set { (c : ℕ) → in_set self.new.ascii self.new.others c
+            ≡ (in_set self.old.ascii self.old.others c || in_set words.now others c) }
+        ensures visited { self.new.visited ≡ self.old.visited }
+        ensures targets { self.new.targets ≡ self.old.targets }
+        ensures anchored { self.new.anchored ≡ self.old.anchored }
+    {
+        self.ascii = [self.ascii[0] | words[0], self.ascii[1] | words[1]];
+        self.others |= others;
+    }
+}
+
+// Puts all targets on the stack, the preferred one on top. `None` if there is no room.
+fn push_all(stack: &mut ShortStack, targets: &Targets, reverse: bool) -> Option<()>
+    ensures { IfSome result (λ _. stack.new
+        ≡ program.targets_of (program.splits targets.now reverse) ++ stack.old) }
+{
+    let mut number = targets.len();
+    while number > 0 {
+        number -= 1;
+        stack.push(targets.in_order(reverse, number))?;
+    }
+    Some(())
+}

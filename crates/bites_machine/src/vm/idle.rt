@@ -1,0 +1,117 @@
+//! Places where a walk from the start visits the start prefix alone, and leaves nothing.
+
+ghost use Rattle.std.specs.Prelude.{◌≡◌, ◌+◌, ◌<◌, ◌≤◌, Bool, IfSome, Some, None, length};
+ghost use Rattle.bites_spec.specs.Utf8.{piece};
+ghost use Rattle.bites_spec.specs.Walks.{Among};
+ghost use Rattle.bites_spec.specs.Program as program;
+ghost use Rattle.bites_machine.specs.Ends.{next_character};
+ghost use Rattle.bites_machine.specs.States.{states_of};
+ghost use Rattle.bites_machine.specs.Prefix.{IsApart, IsPrefix, TakesNone};
+ghost use Rattle.bites_machine.specs.Sweep.{Passes};
+
+use super::counted::Counted;
+use super::places::piece_at;
+use super::walk::{Here, Hit};
+use crate::prefix::StartPrefix;
+
+/// The prefix, if a walk from the start visits it alone here and nothing was found.
+#[inline(always)]
+pub(super) fn idle_prefix<'p>(
+    prefix: Option<&'p StartPrefix>,
+    here: &Here<'_>,
+    hit: &Option<Hit>,
+) -> Option<&'p StartPrefix>
+    ensures one { IfSome result (λ x. prefix.entry ≡ Some x) }
+    ensures idle { IfSome result (λ x. TakesNone x.now here.now.taken) }
+    ensures apart { IfSome result (λ x. IsApart x.now here.now.place) }
+    ensures hit { IfSome result (λ x. hit.now ≡ None) }
+{
+    let prefix = prefix?;
+    if hit.is_none() && prefix.is_idle(here.taken, here.place) {
+        Some(prefix)
+    } else {
+        None
+    }
+}
+
+// Skips the places from this one on where no state of the prefix takes the character: a walk there visits the
+// prefix and leaves nothing. Returns the first place where it may leave something. A prefix that never takes one
+// leads to the end of the haystack at once.
+//
+// It is not inlined, so that its loop has all registers.
+#[inline(never)]
+fn skip_until_candidate(
+    counted: &mut Counted<'_>,
+    haystack: &[u8],
+    from: usize,
+    first: u32,
+    prefix: &StartPrefix,
+) -> usize
+    requires place { from ≤ length haystack.now }
+    requires prefix { IsPrefix (states_of counted.old.states.now) first prefix.now }
+    requires apart { IsApart prefix.now from }
+    requires before { (v : program.Spot) → Among counted.old.walked.visits v → v.place < from }
+    ensures states { counted.new.states ≡ counted.old.states }
+    ensures onward { from ≤ result }
+    ensures within { result ≤ length haystack.now }
+    ensures before { (v : program.Spot) → Among counted.new.walked.visits v → v.place < result }
+    ensures passes { (longest : Bool) → Passes haystack.now longest from result
+        (states_of counted.old.states.now) first counted.old.walked counted.new.walked }
+{
+    if prefix.takes_none() {
+        counted.skip_to_end(prefix, haystack, from);
+        return haystack.len();
+    }
+    let mut place = from;
+    'places: loop {
+        let here = piece_at(haystack, place, false);
+        let Some(ch) = here.taken else {
+            break;
+        };
+        if prefix.may_take(ch) {
+            break;
+        }
+        counted.visit_prefix(prefix, place);
+        place += here.len;
+    }
+    place
+}
+
+/// Skips the places from this one on where the prefix takes no character. Returns the first place where a walk
+/// may leave something.
+#[inline(always)]
+pub(super) fn skip<'h>(
+    counted: &mut Counted<'_>,
+    from: Here<'h>,
+    first: u32,
+    prefix: Option<&StartPrefix>,
+) -> Here<'h>
+    requires place { from.place ≤ length from.haystack.now }
+    requires within { from.place + from.len ≤ length from.haystack.now }
+    requires taken { from.taken ≡ next_character from.haystack.now from.place }
+    requires len { from.len ≡ (piece from.haystack.now from.place).len }
+    requires prefix { IfSome prefix (λ x.
+        IsPrefix (states_of counted.old.states.now) first x.now) }
+    requires before { (v : program.Spot) → Among counted.old.walked.visits v
+        → v.place < from.place }
+    ensures states { counted.new.states ≡ counted.old.states }
+    ensures haystack { result.haystack.now ≡ from.entry.haystack.now }
+    ensures longest { result.longest ≡ from.entry.longest }
+    ensures onward { from.entry.place ≤ result.place }
+    ensures within { result.place + result.len ≤ length from.entry.haystack.now }
+    ensures taken { result.taken ≡ next_character from.entry.haystack.now result.place }
+    ensures len { result.len ≡ (piece from.entry.haystack.now result.place).len }
+    ensures before { (v : program.Spot) → Among counted.new.walked.visits v
+        → v.place < result.place }
+    ensures passes { Passes from.entry.haystack.now from.entry.longest from.entry.place result.place
+        (states_of counted.old.states.now) first counted.old.walked counted.new.walked }
+{
+    let Some(prefix) = prefix else {
+        return from;
+    };
+    if prefix.anchored && from.place == 0 {
+        return from;
+    }
+    let place = skip_until_candidate(counted, from.haystack, from.place, first, prefix);
+    piece_at(from.haystack, place, from.longest)
+}

@@ -1,4 +1,0 @@
-pub mod Group
-pub mod Groups
-pub mod Visits
-pub mod Walk

@@ -1,0 +1,5 @@
+use Rattle.bites_spec.proofs.Laws as laws
+use Rattle.bites_spec.proofs.literal_is_read.Goals as goal
+
+pub returns : goal.returns
+returns c = laws.literal_is_read

@@ -1,0 +1,135 @@
+-- A search from one place: a match has to begin there.
+use Rattle.std.specs.Prelude.{◌≡◌, ℕ, suc, ◌≤◌, Bool, true, false, List, length, Option, Some, None, option_map, if◌then◌else◌, nat_le}
+use Rattle.bites_spec.specs.Walks.{Among}
+use Rattle.bites_spec.specs.Tree.{Tree, IsPlain}
+use Rattle.bites_spec.specs.Match.{Span, Mark, Matches, Parse, groups, span}
+use Rattle.bites_spec.specs.Preference.{parses}
+use Rattle.bites_spec.specs.Program.{Program, Spot, at}
+use Rattle.bites_spec.specs.Run.{Run, IsRun, Reaches, first_run_from, first_run_to, longest_run_below, slots}
+use Rattle.bites_spec.specs.Counts.{Record, VisitedRun, IsBounded}
+use Rattle.bites_spec.specs.Found.{Answer, head_of, first_ending, way}
+use Rattle.bites_spec.specs.Slots.{span_of_run}
+use Rattle.bites_spec.specs.Captured.{IsInSlots}
+use Rattle.bites_spec.specs.Regex.{Regex}
+
+module _ (p : Program) (hay : List ℕ) where
+  -- the first simple run from s, or the longest; past the end of the haystack there is none
+  abbrev pub anchored_run : Bool → ℕ → Option Run
+  anchored_run longest s =
+      if nat_le s (length hay) then (if longest then longest_run_below p hay (suc (length hay)) s else first_run_from p hay s) else None
+
+  -- no run begins at s
+  abbrev pub NoRunFrom : ℕ → Type 0
+  NoRunFrom s = s ≤ length hay → (r : List Spot) (j : ℕ) → IsRun p hay s r j → ⊥
+
+  -- None where no run begins at s, else a run from s whose end is the least of all from there
+  abbrev pub LeastEndFrom : ℕ → Option Run → Type 0
+  LeastEndFrom s None = NoRunFrom s
+  LeastEndFrom s (Some r) =
+      (s ≤ length hay) × (r.start ≡ s) × IsRun p hay r.start r.spots r.end × ((o : List Spot) (j : ℕ) → IsRun p hay s o j → r.end ≤ j)
+
+  -- every spot that a walk from the start at place s reaches was visited
+  abbrev pub VisitedAllFrom : ℕ → Record → Type 0
+  VisitedAllFrom s c = s ≤ length hay → (t : Spot) → Reaches p hay (at p.start s) t → Among c.visits t
+
+  -- some run from s was visited
+  abbrev pub VisitedRunFrom : ℕ → Record → Type 0
+  VisitedRunFrom s c = (r : Run) × (r.start ≡ s) × IsRun p hay r.start r.spots r.end × VisitedRun p hay s c r
+
+  -- what a search from s alone that finds something, or finds nothing, has visited
+  abbrev pub VisitedFrom : ℕ → Bool → Record → Type 0
+  VisitedFrom s true c = VisitedRunFrom s c
+  VisitedFrom s false c = VisitedAllFrom s c
+
+-- what a search from s alone may have done: it kept to the bounds, and visited what it had to
+abbrev pub IsWalkedFrom : Program → List ℕ → ℕ → Bool → Record → Type 0
+IsWalkedFrom p hay s found c = IsBounded p hay s c × VisitedFrom p hay s found c
+
+module _ (t : Tree) (hay : List ℕ) where
+  -- the tree matches from s
+  abbrev pub HasMatchFrom : ℕ → Type 0
+  HasMatchFrom s = (s ≤ length hay) × (j : ℕ) × Matches hay t s j
+
+  -- the answer begins at s, and its end and groups are those of one parse there, of which Q holds
+  pub record IsFoundFromBy (Q : (j : ℕ) → List Mark → Type 0) (s : ℕ) (a : Answer) : Type 0 where
+    pub within : s ≤ length hay
+    pub start : a.start ≡ s
+    pub marks : List Mark
+    pub parse : Parse hay t s a.end marks
+    pub groups : (k : ℕ) → a.group k ≡ groups s a.end marks k
+    pub chosen : Q a.end marks
+
+  -- the search from s alone answers so, the parse left open but for Q
+  abbrev pub FoundFromBy : ((j : ℕ) → List Mark → Type 0) → ℕ → Option Answer → Type 0
+  FoundFromBy Q s None = HasMatchFrom s → ⊥
+  FoundFromBy Q s (Some a) = IsFoundFromBy Q s a
+
+  -- if the tree is plain, its preferred parse from s
+  abbrev pub FoundFrom : ℕ → Option Answer → Type 0
+  FoundFrom s = FoundFromBy (λ j ms. IsPlain t → head_of (parses hay t s) ≡ Some (way j ms)) s
+
+  -- the greatest end, and if the tree is plain the first parse that ends there
+  abbrev pub FoundLongestFrom : ℕ → Option Answer → Type 0
+  FoundLongestFrom s =
+      FoundFromBy (λ j ms. ((l : ℕ) → Matches hay t s l → l ≤ j) × (IsPlain t → first_ending j (parses hay t s) ≡ Some (way j ms))) s
+
+  -- the least end of any match from s
+  abbrev pub IsLeastEndFrom : ℕ → Option ℕ → Type 0
+  IsLeastEndFrom s None = HasMatchFrom s → ⊥
+  IsLeastEndFrom s (Some j) = (s ≤ length hay) × Matches hay t s j × ((l : ℕ) → Matches hay t s l → j ≤ l)
+
+  -- the tree matches the whole haystack
+  abbrev pub IsFullMatch : Type 0
+  IsFullMatch = Matches hay t 0 (length hay)
+
+  -- a parse of the whole haystack, and if the tree is plain the first one
+  pub record IsFoundFull (a : Answer) : Type 0 where
+    pub start : a.start ≡ 0
+    pub end : a.end ≡ length hay
+    pub marks : List Mark
+    pub parse : Parse hay t 0 (length hay) marks
+    pub groups : (k : ℕ) → a.group k ≡ groups 0 (length hay) marks k
+    pub chosen : IsPlain t → first_ending (length hay) (parses hay t 0) ≡ Some (way (length hay) marks)
+
+  -- a match of the whole haystack answers so
+  abbrev pub FoundFull : Option Answer → Type 0
+  FoundFull None = IsFullMatch → ⊥
+  FoundFull (Some a) = IsFoundFull a
+
+-- a search of the tree from s alone answers so: by the greatest end, or by the preferred parse
+abbrev pub FindsFrom : Bool → Tree → List ℕ → ℕ → Option Answer → Type 0
+FindsFrom true = FoundLongestFrom
+FindsFrom false = FoundFrom
+
+-- the run of a regex's program that a search from s alone answers
+abbrev pub anchored_run_at : Regex → List ℕ → ℕ → Option Run
+anchored_run_at r hay s = anchored_run r.program hay r.leftmost_longest s
+
+-- where it begins and ends
+abbrev pub anchored_span_at : Regex → List ℕ → ℕ → Option Span
+anchored_span_at r hay s = option_map span_of_run (anchored_run_at r hay s)
+
+-- its slots
+abbrev pub anchored_slots_at : Regex → List ℕ → ℕ → Option (List (Option ℕ))
+anchored_slots_at r hay s = option_map (slots r.program) (anchored_run_at r hay s)
+
+-- the first run over the whole haystack
+abbrev pub full_run : Regex → List ℕ → Option Run
+full_run r hay = first_run_to r.program hay 0 (length hay)
+
+-- its slots
+abbrev pub full_slots : Regex → List ℕ → Option (List (Option ℕ))
+full_slots r hay = option_map (slots r.program) (full_run r hay)
+
+-- a search of the regex's tree from s alone finds a match with this span
+abbrev pub FindsSpanFrom : Regex → List ℕ → ℕ → Option Span → Type 0
+FindsSpanFrom r hay s o =
+    (a : Option Answer) × FindsFrom r.leftmost_longest r.tree hay s a × (o ≡ option_map (λ b. span b.start b.end) a)
+
+-- and the groups in the slots
+abbrev pub FindsGroupsFrom : Regex → List ℕ → ℕ → Option (List (Option ℕ)) → Type 0
+FindsGroupsFrom r hay s o = (a : Option Answer) × FindsFrom r.leftmost_longest r.tree hay s a × IsInSlots a o
+
+-- a match of the whole haystack by the regex's tree has the groups in the slots
+abbrev pub FindsGroupsFull : Regex → List ℕ → Option (List (Option ℕ)) → Type 0
+FindsGroupsFull r hay o = (a : Option Answer) × FoundFull r.tree hay a × IsInSlots a o

@@ -1,0 +1,71 @@
+-- What callers ask of patterns, places and groups, each proved.
+use Rattle.std.specs.Prelude.{◌≡◌, ℕ, ◌/◌, ◌<◌, ◌≤◌, ◌↔◌, ◌==◌, ◌||◌, codes, true, List, [], ◌∷◌, length, Option, Ok, IsSome, if◌then◌else◌}
+use Rattle.bites_spec.specs.Utf8.{places}
+use Rattle.bites_spec.specs.Walks.{Among}
+use Rattle.bites_spec.specs.Range.{Range, in_ranges}
+use Rattle.bites_spec.specs.Class.{Set, is_letter, none, single, between, union, is_scalar, AreGreatest}
+use Rattle.bites_spec.specs.RangesOf.{ranges_of}
+use Rattle.bites_spec.specs.Look.{start, end}
+use Rattle.bites_spec.specs.Tree.{Tree, look, sequence, trees_of}
+use Rattle.bites_spec.specs.Match.{Matches}
+use Rattle.bites_spec.specs.Found.{HasMatch}
+use Rattle.bites_spec.specs.Pattern.{Text, Flags, one_of}
+use Rattle.bites_spec.specs.Code.{code}
+use Rattle.bites_spec.specs.Group.{is_name_start, is_name_part}
+use Rattle.bites_spec.specs.Grammar.{Reads}
+use Rattle.bites_spec.specs.Reader.{read}
+use Rattle.bites_spec.specs.Slots.{group_in, taking_part}
+
+-- a start within the haystack is a place of it
+abbrev pub StartIsPlace : Type 0
+StartIsPlace = (hay : List ℕ) (s : ℕ) → s ≤ length hay → Among (places hay s) s
+
+-- what `\A(?:p)\z` is read as, where p is read as t
+abbrev pub anchored : Tree → Tree
+anchored t = sequence (trees_of (look start ∷ t ∷ look end ∷ []))
+
+-- it matches somewhere exactly if the tree matches the whole haystack
+abbrev pub AnchoredIsWhole : Type 0
+AnchoredIsWhole = (t : Tree) (hay : List ℕ) → HasMatch (anchored t) hay 0 ↔ Matches hay t 0 (length hay)
+
+-- and wherever it matches, it matches the whole haystack
+abbrev pub AnchoredMatchesWhole : Type 0
+AnchoredMatchesWhole =
+    (t : Tree) (hay : List ℕ) (i j : ℕ) → Matches hay (anchored t) i j → (i ≡ 0) × (j ≡ length hay) × Matches hay t 0 (length hay)
+
+-- A pattern is read as the tree that the grammar's function answers, and as no other: for a pattern that stands in the code
+-- that tree is computed.
+abbrev pub LiteralIsRead : Type 0
+LiteralIsRead =
+    (pattern : Text) (flags : Flags) (nest_limit : ℕ) (t : Tree) → read ranges_of nest_limit pattern flags ≡ Ok t →
+    Reads pattern flags t × ((u : Tree) → Reads pattern flags u → u ≡ t)
+
+-- the characters of a range: one character, or those from the first to the second
+abbrev pub range_set : Range → Set
+range_set r = if r.0 == r.1 then single r.0 else between r.0 r.1
+
+-- the set with the characters of these ranges, as a class in brackets makes it
+abbrev pub with_ranges : Set → List Range → Set
+with_ranges set [] = set
+with_ranges set (r ∷ ranges) = with_ranges (union set (range_set r)) ranges
+
+-- ranges that rise, with a character between each two, are the greatest ranges of their union
+abbrev pub UnionsAreListed : Type 0
+UnionsAreListed = (ranges : List Range) → AreGreatest ranges → ranges_of (with_ranges none ranges) ≡ ranges
+
+-- and of each set that has their characters alone
+abbrev pub RangesAreListed : Type 0
+RangesAreListed =
+    (set : Set) (ranges : List Range) → AreGreatest ranges → ((c : ℕ) → is_scalar c ≡ true → in_ranges ranges c ≡ set c) → ranges_of set ≡ ranges
+
+-- where as many groups participate as there are, each does
+abbrev pub EachParticipates : Type 0
+EachParticipates =
+    (slots : List (Option ℕ)) → length slots / 2 ≤ length (taking_part slots) → (k : ℕ) → k < length slots / 2 → IsSome (group_in slots k)
+
+-- of the ASCII characters the letters and `_` may begin a name, and with them the digits, a dot and brackets may stand in one
+abbrev pub NamesAreAscii : Type 0
+NamesAreAscii =
+    (c : ℕ) → c < 128 →
+    (is_name_start c ≡ (is_letter c || (c == code "_")))
+    × (is_name_part c ≡ (is_letter c || between (code "0") (code "9") c || one_of (codes "_.[]") c))

@@ -1,0 +1,119 @@
+-- Values for which a word of the promises is false, each proved: a weaker word, which holds of them, would not do.
+use Rattle.std.specs.Prelude.{ℕ, Bool, true, false, List, [], ◌∷◌, codes, Some, None, Ok, Err, if◌then◌else◌, ◌==◌}
+use Rattle.bites_spec.specs.Tree.{Tree, empty, char, group, sequence, alternation, trees_of}
+use Rattle.bites_spec.specs.Match.{span, groups}
+use Rattle.bites_spec.specs.Program as program
+use Rattle.bites_spec.specs.Program.{Program, at}
+use Rattle.bites_spec.specs.Run.{run, Answered}
+use Rattle.bites_spec.specs.Counts.{IsBounded, VisitedBy}
+use Rattle.bites_spec.specs.Found.{Answer, Found, FoundLongest, IsLeastEnd}
+use Rattle.bites_spec.specs.FoundLaws.{TakePartAtLeast}
+use Rattle.bites_spec.specs.Occurrence.{IsLeftmost}
+use Rattle.bites_spec.specs.Spans.{EndsGrow, LiesFrom}
+use Rattle.bites_spec.specs.Pieces.{AreInOrder}
+use Rattle.bites_spec.specs.TextLaws.{HasBorders}
+use Rattle.bites_spec.specs.Measure.{HasItsGroups}
+use Rattle.bites_spec.specs.Refused.{AppendsUntilRefused}
+use Rattle.bites_spec.specs.AllMatches.{LeaveNoneOut}
+
+-- a state with three edges to the state that ends a run: at one place two visits and four looks are allowed
+abbrev pub three_ways : Program
+three_ways = record { states = program.splits (1 ∷ 1 ∷ 1 ∷ []) false ∷ program.match ∷ []; start = 0; slots = 2 }
+
+-- on the empty haystack, by the visits and the number of looks
+abbrev pub KeepsBounds : List program.Spot → ℕ → Type 0
+KeepsBounds visits looks = IsBounded three_ways [] 0 (record { visits = visits; looks = looks })
+
+-- the bound on looks is reached; one look more, one visit more, a spot twice, and less looks than visits are too many
+abbrev pub BoundsAreReached : Type 0
+BoundsAreReached = KeepsBounds (at 1 0 ∷ at 0 0 ∷ []) 4
+
+abbrev pub BoundsRefuse : Type 0
+BoundsRefuse =
+    (KeepsBounds (at 1 0 ∷ at 0 0 ∷ []) 5 → ⊥) × (KeepsBounds (at 2 0 ∷ at 1 0 ∷ at 0 0 ∷ []) 4 → ⊥)
+    × (KeepsBounds (at 0 0 ∷ at 0 0 ∷ []) 4 → ⊥) × (KeepsBounds (at 1 0 ∷ at 0 0 ∷ []) 1 → ⊥)
+
+-- a state that leads to the last one
+abbrev pub one_way : program.State → Program
+one_way last = record { states = program.goto 1 None ∷ last ∷ []; start = 0; slots = 2 }
+
+-- what a search on the empty haystack visited
+abbrev pub Visited : program.State → Bool → List program.Spot → Type 0
+Visited last found visits = VisitedBy (one_way last) [] 0 found (record { visits = visits; looks = 2 })
+
+-- where something is found, a whole run was visited; where nothing is, all that is reached
+abbrev pub VisitsRefuse : Type 0
+VisitsRefuse =
+    Visited program.match true (at 1 0 ∷ at 0 0 ∷ []) × (Visited program.match true (at 0 0 ∷ []) → ⊥)
+    × (Visited program.fail true (at 1 0 ∷ at 0 0 ∷ []) → ⊥) × (Visited program.fail false (at 0 0 ∷ []) → ⊥)
+
+-- a state that writes slot 0
+abbrev pub one_write : Program
+one_write = record { states = program.capture 1 0 ∷ program.match ∷ []; start = 0; slots = 2 }
+
+-- what a search says is what it found, and a slice has its slots, or stays
+abbrev pub AnsweredRefuses : Type 0
+AnsweredRefuses =
+    (Answered one_write None true [] [] → ⊥) × (Answered one_write None false (None ∷ []) (Some 0 ∷ []) → ⊥)
+    × (Answered one_write (Some (run 0 (at 1 0 ∷ []) 0)) false (None ∷ []) (None ∷ []) → ⊥)
+    × (Answered one_write (Some (run 0 (at 1 0 ∷ []) 0)) true (None ∷ []) (None ∷ []) → ⊥)
+
+-- an answer of a parse without marks
+abbrev pub answer : ℕ → ℕ → Answer
+answer i j = record { start = i; end = j; group = groups i j [] }
+
+-- `a` on `aa`: something is found, not at 1, not up to 2, and with group 0
+abbrev pub FoundRefuses : Type 0
+FoundRefuses =
+    (Found (char 97) (codes "aa") 0 None → ⊥) × (Found (char 97) (codes "aa") 0 (Some (answer 1 2)) → ⊥)
+    × (Found (char 97) (codes "aa") 0 (Some (answer 0 2)) → ⊥)
+    × (Found (char 97) (codes "aa") 0 (Some (record { start = 0; end = 1; group = λ k. None })) → ⊥)
+    × (IsLeastEnd (char 97) (codes "aa") 0 None → ⊥) × (IsLeastEnd (char 97) (codes "aa") 0 (Some 2) → ⊥)
+
+-- `a|ab`
+abbrev pub a_or_ab : Tree
+a_or_ab = alternation (trees_of (char 97 ∷ sequence (trees_of (char 97 ∷ char 98 ∷ [])) ∷ []))
+
+-- on `ab` the preferred parse is not that to 2, and the longest not that to 1
+abbrev pub PreferredRefuses : Type 0
+PreferredRefuses =
+    (Found a_or_ab (codes "ab") 0 (Some (answer 0 2)) → ⊥) × (FoundLongest a_or_ab (codes "ab") 0 (Some (answer 0 1)) → ⊥)
+
+-- `a` stands in `aa`, first at 0, and ends at 1
+abbrev pub LeftmostRefuses : Type 0
+LeftmostRefuses =
+    (IsLeftmost (codes "aa") (codes "a") 0 None → ⊥) × (IsLeftmost (codes "aa") (codes "a") 0 (Some (span 1 2)) → ⊥)
+    × (IsLeftmost (codes "aa") (codes "a") 0 (Some (span 0 2)) → ⊥)
+
+-- spans that stand apart: one more ends later, none overlaps, and all lie within
+abbrev pub SpansRefuse : Type 0
+SpansRefuse =
+    (EndsGrow 1 (span 0 1 ∷ []) → ⊥) × (AreInOrder 3 0 (span 0 2 ∷ span 1 3 ∷ []) → ⊥)
+    × (AreInOrder 2 0 (span 0 3 ∷ []) → ⊥) × (LiesFrom 2 1 (span 0 1) → ⊥)
+
+-- `a` on `aaa`: the match in the middle is not left out, nor the last, nor the first
+abbrev pub LeavingOutRefuses : Type 0
+LeavingOutRefuses =
+    (LeaveNoneOut (char 97) (codes "aaa") (span 0 1 ∷ span 2 3 ∷ []) → ⊥)
+    × (LeaveNoneOut (char 97) (codes "aaa") (span 0 1 ∷ span 1 2 ∷ []) → ⊥)
+    × (LeaveNoneOut (char 97) (codes "aaa") (span 1 2 ∷ span 2 3 ∷ []) → ⊥)
+
+-- within the three bytes of a snowman is no border
+abbrev pub BordersRefuse : Type 0
+BordersRefuse = (HasBorders (0xE2 ∷ 0x98 ∷ 0x83 ∷ []) (span 0 1) → ⊥) × (HasBorders (0xE2 ∷ 0x98 ∷ 0x83 ∷ []) (span 2 3) → ⊥)
+
+-- group 0 alone is not two groups
+abbrev pub ParticipantsRefuse : Type 0
+ParticipantsRefuse = TakePartAtLeast 2 (λ k. if k == 0 then Some (span 0 0) else None) → ⊥
+
+-- a group whose number or whose name is missing
+abbrev pub ItsGroupsRefuse : Type 0
+ItsGroupsRefuse =
+    (HasItsGroups (None ∷ []) (group 1 None empty) → ⊥) × (HasItsGroups (None ∷ None ∷ []) (group 1 (Some (codes "n")) empty) → ⊥)
+
+-- a text that is not appended; a refusal that loses the old text, or appends what is no beginning
+abbrev pub AppendsRefuse : Type 0
+AppendsRefuse =
+    (AppendsUntilRefused {E = Unit {0}} (Ok tt) (codes "x") (codes "x") (codes "y") → ⊥)
+    × (AppendsUntilRefused {E = Unit {0}} (Err tt) (codes "x") [] (codes "y") → ⊥)
+    × (AppendsUntilRefused {E = Unit {0}} (Err tt) (codes "x") (codes "xz") (codes "y") → ⊥)

@@ -1,0 +1,139 @@
+//! Searches from one place, and matches of the whole haystack.
+
+use bites_bytes::bytes;
+use regex_bites::{Error, Regex};
+use std::alloc::{AllocError, Global};
+
+/// A pattern, a haystack and a start; the ends of the first match that begins there, and of the longest.
+type Row = (
+    &'static str,
+    &'static str,
+    usize,
+    Option<(usize, usize)>,
+    Option<(usize, usize)>,
+);
+
+const ROWS: [Row; 16] = [
+    ("[a-z]+", "ab 1cd", 0, Some((0, 2)), Some((0, 2))),
+    ("[a-z]+", "ab 1cd", 1, Some((1, 2)), Some((1, 2))),
+    ("[a-z]+", "ab 1cd", 3, None, None),
+    ("[a-z]+", "ab 1cd", 6, None, None),
+    ("[a-z]*", "ab 1cd", 6, Some((6, 6)), Some((6, 6))),
+    ("[a-z]*", "ab 1cd", 7, None, None),
+    ("b", "ab", 0, None, None),
+    (r"\bb", "ab", 1, None, None),
+    (r"\Bb", "ab", 1, Some((1, 2)), Some((1, 2))),
+    ("^b", "ab", 1, None, None),
+    ("(?m)^b", "a\nb", 2, Some((2, 3)), Some((2, 3))),
+    ("b$", "ab", 1, Some((1, 2)), Some((1, 2))),
+    ("a|ab", "ab", 0, Some((0, 1)), Some((0, 2))),
+    ("a.*c|ab", "abd", 0, Some((0, 2)), Some((0, 2))),
+    ("(a+?)(b*)", "aab", 0, Some((0, 1)), Some((0, 3))),
+    ("ä+", "bää", 1, Some((1, 5)), Some((1, 5))),
+];
+
+fn in_bytes(
+    alloc: Global,
+    longest: bool,
+    row: &Row,
+) -> Result<(bool, Option<(usize, usize)>), Error> {
+    let (pattern, haystack, start, ..) = *row;
+    let regex = bytes::RegexBuilder::new(alloc, pattern)?
+        .leftmost_longest(longest)
+        .build()?;
+    let found = regex.find_anchored_at(haystack.as_bytes(), start)?;
+    let is_match = regex.is_match_anchored_at(haystack.as_bytes(), start)?;
+    Ok((is_match, found.map(|m| (m.start(), m.end()))))
+}
+
+#[test]
+fn matches_from_one_place(rt: HostRuntime) -> Result<(), Error> {
+    for row in &ROWS {
+        let (.., first, longest) = *row;
+        let told = in_bytes(rt.alloc(), false, row)?;
+        assert_eq!(rt; told, (first.is_some(), first));
+        let told = in_bytes(rt.alloc(), true, row)?;
+        assert_eq!(rt; told, (longest.is_some(), longest));
+    }
+    Ok(())
+}
+
+/// A pattern, a haystack, and whether the pattern matches the whole of it.
+const WHOLE: [(&str, &str, bool); 10] = [
+    ("a|ab", "ab", true),
+    ("a", "ab", false),
+    ("b", "ab", false),
+    ("", "", true),
+    ("", "a", false),
+    ("(a|b)*", "abba", true),
+    ("a*", "aab", false),
+    ("a*?", "aa", true),
+    (r"\ba\b", "a", true),
+    ("(a|b)*?c?", "abx", false),
+];
+
+fn are_full(alloc: Global, pattern: &str, haystack: &str) -> Result<(bool, bool), Error> {
+    let over_bytes = bytes::Regex::new(alloc, pattern)?;
+    let regex = Regex::new(alloc, pattern)?;
+    Ok((
+        over_bytes.is_full_match(haystack.as_bytes())?,
+        regex.is_full_match(haystack)?,
+    ))
+}
+
+#[test]
+fn matches_of_the_whole_haystack(rt: HostRuntime) -> Result<(), Error> {
+    for (pattern, haystack, full) in &WHOLE {
+        assert_eq!(rt; are_full(rt.alloc(), pattern, haystack)?, (*full, *full));
+    }
+    Ok(())
+}
+
+/// The ends of groups 0, 1 and 2.
+type Groups = [Option<(usize, usize)>; 3];
+
+fn full_groups(alloc: Global, pattern: &str, haystack: &str) -> Result<Option<Groups>, Error> {
+    let regex = Regex::new(alloc, pattern)?;
+    let Some(captures) = regex.captures_full(haystack)? else {
+        return Ok(None);
+    };
+    Ok(Some([0, 1, 2].map(|group| {
+        captures
+            .get(group)
+            .map(|found| (found.start(), found.end()))
+    })))
+}
+
+#[test]
+fn groups_of_the_whole_haystack(rt: HostRuntime) -> Result<(), Error> {
+    let groups = full_groups(rt.alloc(), "(a|ab)(c|bcd)?", "abcd")?;
+    assert_eq!(rt; groups, Some([Some((0, 4)), Some((0, 1)), Some((1, 4))]));
+    let groups = full_groups(rt.alloc(), "(a|ab)(c|bcd)?", "abcde")?;
+    assert_eq!(rt; groups, None);
+    Ok(())
+}
+
+fn groups_from(regex: &bytes::Regex, haystack: &[u8]) -> Result<Option<Groups>, AllocError> {
+    let Some(captures) = regex.captures_anchored_at(haystack, 0)? else {
+        return Ok(None);
+    };
+    Ok(Some([0, 1, 2].map(|group| {
+        captures
+            .get(group)
+            .map(|found| (found.start(), found.end()))
+    })))
+}
+
+#[test]
+fn groups_from_one_place(rt: HostRuntime) -> Result<(), Error> {
+    let regex = bytes::Regex::new(rt.alloc(), "([a-z]+)(=?)")?;
+    let groups = groups_from(&regex, b"x=1")?;
+    assert_eq!(rt; groups, Some([Some((0, 2)), Some((0, 1)), Some((1, 2))]));
+    assert_eq!(rt; groups_from(&regex, b" x=1")?, None);
+    let mut cache = regex.cache()?;
+    let mut locations = regex.capture_locations()?;
+    let found = regex.captures_read_anchored_at_with(&mut cache, &mut locations, b"xy=1", 0);
+    assert!(rt; found.is_some());
+    assert_eq!(rt; locations.get(2), Some((2, 3)));
+    Ok(())
+}

@@ -1,0 +1,129 @@
+//! The examples at the items over byte strings, word for word.
+
+use regex_bites::bytes::{NoExpand, Regex, RegexBuilder};
+use std::test::Fail;
+
+#[test]
+fn at_regex(rt: HostRuntime) -> Result<(), Fail> {
+    let regex = Regex::new(rt.alloc(), "^.!")?;
+    assert!(rt; regex.is_match(b"\xE2\x82!")?);
+    assert!(rt; !regex.is_match(b"\xFF\xFF!")?);
+    Ok(())
+}
+
+#[test]
+fn at_is_match(rt: HostRuntime) -> Result<(), Fail> {
+    let regex = Regex::new(rt.alloc(), r"\bfoo\b")?;
+    assert!(rt; regex.is_match(b"\xFFfoo\xFF")?);
+    assert!(rt; !regex.is_match(b"food")?);
+    Ok(())
+}
+
+#[test]
+fn at_find(rt: HostRuntime) -> Result<(), Fail> {
+    let regex = Regex::new(rt.alloc(), "a+")?;
+    let found = regex.find(b"\xFFaab")?.ok_or("no match")?;
+    assert_eq!(rt; found.range(), 1..3);
+    assert_eq!(rt; found.as_bytes(), b"aa".as_slice());
+    Ok(())
+}
+
+#[test]
+fn at_find_at(rt: HostRuntime) -> Result<(), Fail> {
+    let regex = Regex::new(rt.alloc(), r"\bb")?;
+    let found = regex.find_at(b"ab b", 1)?.ok_or("no match")?;
+    assert_eq!(rt; found.range(), 3..4);
+    Ok(())
+}
+
+#[test]
+fn at_find_iter(rt: HostRuntime) -> Result<(), Fail> {
+    let regex = Regex::new(rt.alloc(), "a*")?;
+    let mut ends = Vec::new(rt.alloc());
+    for found in regex.find_iter(b"aab")? {
+        ends.push(found.end())?;
+    }
+    assert_eq!(rt; ends.as_slice(), [2, 3].as_slice());
+    Ok(())
+}
+
+#[test]
+fn at_captures(rt: HostRuntime) -> Result<(), Fail> {
+    let regex = Regex::new(rt.alloc(), r"(\w+)=(\w+)?")?;
+    let captures = regex.captures(b"key=")?.ok_or("no match")?;
+    let key = captures.get(1).ok_or("no key")?;
+    assert_eq!(rt; key.as_bytes(), b"key".as_slice());
+    assert_eq!(rt; captures.get(2), None);
+    Ok(())
+}
+
+#[test]
+fn at_shortest_match(rt: HostRuntime) -> Result<(), Fail> {
+    let regex = Regex::new(rt.alloc(), "a+")?;
+    assert_eq!(rt; regex.shortest_match(b"xaaa")?, Some(2));
+    Ok(())
+}
+
+#[test]
+fn at_split(rt: HostRuntime) -> Result<(), Fail> {
+    let regex = Regex::new(rt.alloc(), ",")?;
+    let mut lengths = Vec::new(rt.alloc());
+    for piece in regex.split(b"ab,,\xFF")? {
+        lengths.push(piece.len())?;
+    }
+    assert_eq!(rt; lengths.as_slice(), [2, 0, 1].as_slice());
+    Ok(())
+}
+
+#[test]
+fn at_replace_all(rt: HostRuntime) -> Result<(), Fail> {
+    let regex = Regex::new(rt.alloc(), r"(\w)=(\w)")?;
+    let turned = regex.replace_all(b"a=1, b=2", "$2=$1".as_bytes())?;
+    assert_eq!(rt; turned.as_slice(), b"1=a, 2=b".as_slice());
+    Ok(())
+}
+
+#[test]
+fn at_no_expand(rt: HostRuntime) -> Result<(), Fail> {
+    let regex = Regex::new(rt.alloc(), "(a)")?;
+    let replaced = regex.replace(b"ab", NoExpand(b"$1$1"))?;
+    assert_eq!(rt; replaced.as_slice(), b"$1$1b".as_slice());
+    Ok(())
+}
+
+#[test]
+fn at_find_with(rt: HostRuntime) -> Result<(), Fail> {
+    let regex = Regex::new(rt.alloc(), "a+")?;
+    let mut cache = regex.cache()?;
+    let found = regex.find_with(&mut cache, b"baa").ok_or("no match")?;
+    assert_eq!(rt; found.range(), 1..3);
+    Ok(())
+}
+
+#[test]
+fn at_find_anchored_at(rt: HostRuntime) -> Result<(), Fail> {
+    let regex = Regex::new(rt.alloc(), "[a-z]+")?;
+    let found = regex.find_anchored_at(b"ab 1cd", 1)?.ok_or("no match")?;
+    assert_eq!(rt; found.range(), 1..2);
+    assert_eq!(rt; regex.find_anchored_at(b"ab 1cd", 3)?, None);
+    Ok(())
+}
+
+#[test]
+fn at_captures_full(rt: HostRuntime) -> Result<(), Fail> {
+    let regex = Regex::new(rt.alloc(), "(a|ab)(c|bcd)?")?;
+    let captures = regex.captures_full(b"abcd")?.ok_or("no match")?;
+    let second = captures.get(2).ok_or("no group")?;
+    assert_eq!(rt; second.as_bytes(), b"bcd".as_slice());
+    Ok(())
+}
+
+#[test]
+fn at_leftmost_longest(rt: HostRuntime) -> Result<(), Fail> {
+    let mut builder = RegexBuilder::new(rt.alloc(), "sam|samwise")?;
+    builder.leftmost_longest(true);
+    let regex = builder.build()?;
+    let found = regex.find(b"samwise")?.ok_or("no match")?;
+    assert_eq!(rt; found.range(), 0..7);
+    Ok(())
+}

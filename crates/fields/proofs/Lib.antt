@@ -1,0 +1,3 @@
+mod PatternLemmas
+mod EntryLemmas
+mod ExtractLemmas

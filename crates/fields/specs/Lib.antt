@@ -1,0 +1,4 @@
+pub mod Entry
+pub mod Parts
+pub mod Fields
+pub mod Rows

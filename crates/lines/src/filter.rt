@@ -1,0 +1,86 @@
+//! The lines in which a pattern matches somewhere, or the others.
+
+ghost use Rattle.std.specs.Prelude.{◌≡◌, IfOk, IfSome};
+ghost use Rattle.std.specs.Io.KnownBytes.{Appends};
+ghost use Rattle.bites_filter.specs.Lines.{lines_of};
+ghost use Rattle.lines.specs.Selected.{IsFiltered, shown, ending};
+
+use crate::options::Show;
+use bites_filter::fault::Fault;
+use bites_filter::lines::{LineTask, each_line, without_line_feed};
+use bites_filter::searcher::Searcher;
+use std::alloc::Global;
+use std::io::{self, BufRead, Write};
+
+/// Which lines are written, and how.
+#[derive(Drop)]
+pub struct Filter {
+    /// The regex that is looked for in each line, the line feed at its end left out.
+    pub searcher: Searcher,
+    /// Whether the lines are written in which it does not match.
+    pub invert: bool,
+    /// What is written of each.
+    pub show: Show,
+}
+
+impl LineTask for Filter {
+    ghost use Rattle.lines.specs.Filtered.{Filters};
+
+    ghost does = { Filters };
+
+    fn line<W: Write>(&mut self, number: u64, line: &[u8], out: &mut W) -> io::Result<bool> {
+        let selected = self.searcher.is_match(without_line_feed(line)) != self.invert;
+        if selected {
+            write_shown(self.show, number, line, out)?;
+        }
+        Ok(selected)
+    }
+}
+
+// Writes what is shown of a line.
+fn write_shown<W: Write>(show: Show, number: u64, line: &[u8], out: &mut W) -> io::Result<()>
+    ensures { IfOk result (λ _. Appends (W.contents out.old) (W.contents out.new)
+        (shown show number line.now)) }
+{
+    match show {
+        Show::Line => out.write_all(line),
+        Show::Numbered => {
+            write!(out, "{number}:")?;
+            out.write_all(line)
+        }
+        Show::Count => Ok(()),
+    }
+}
+
+/// Writes what is shown of the lines of the input in which the filter's regex matches somewhere, in their order, or of the
+/// others; for [`Show::Count`] how many they are. Returns how many they are.
+///
+/// What was written before a fault stays.
+pub fn write_lines<R: BufRead, W: Write>(
+    alloc: Global,
+    filter: &mut Filter,
+    input: &mut R,
+    out: &mut W,
+) -> Result<u64, Fault>
+    ensures { IfOk result (λ count. IfSome (R.Read.remaining input.old) (λ bytes.
+        IsFiltered filter.old.searcher.tree filter.old.invert filter.old.show (lines_of bytes)
+        count (W.contents out.old) (W.contents out.new))) }
+{
+    let show = filter.show;
+    let count = each_line(alloc, filter, input, out)?;
+    match write_ending(show, count, out) {
+        Ok(()) => Ok(count),
+        Err(error) => Err(Fault::of_writing(&error)),
+    }
+}
+
+// Writes how many lines were selected, if only that is shown.
+fn write_ending<W: Write>(show: Show, count: u64, out: &mut W) -> io::Result<()>
+    ensures { IfOk result (λ _. Appends (W.contents out.old) (W.contents out.new)
+        (ending show count)) }
+{
+    match show {
+        Show::Line | Show::Numbered => Ok(()),
+        Show::Count => writeln!(out, "{count}"),
+    }
+}

@@ -1,0 +1,193 @@
+//! Searches of texts for a match that begins at one offset, and for matches of the whole text.
+
+ghost use Rattle.std.specs.Prelude.{◌≡◌, ◌↔◌, ◌≤◌, length, option_map, is_some, unwrap_or, IsTrue, IfOk, IfSome, IsCharBoundary};
+ghost use Rattle.bites_spec.specs.Counts.{fit_of, IsBounded};
+ghost use Rattle.bites_spec.specs.Captured.{captured, excerpt};
+ghost use Rattle.bites_spec.specs.Anchored.{HasMatchFrom, IsFullMatch, IsWalkedFrom, anchored_span_at, anchored_slots_at, full_slots, FindsSpanFrom, FindsGroupsFrom, FindsGroupsFull};
+ghost use Rattle.regex_bites.specs.Matched.{excerpt_of};
+ghost use Rattle.regex_bites.specs.Borders.{HaveBorders};
+
+use crate::string::{Cache, CaptureLocations, Captures, Match, Regex};
+use std::alloc::AllocError;
+
+impl Regex {
+    /// Returns the match that begins at `start`, an offset in bytes: the preferred one, or with
+    /// [`RegexBuilder::leftmost_longest`] the longest. Past the end of the haystack nothing matches. A start within
+    /// the haystack must be at a character boundary, as `str::is_char_boundary` tests. The error is out of memory.
+    ///
+    /// The search stops when no match that begins there can continue, so its time depends on the text that it matches
+    /// and not on the length of the haystack. Assertions look at the bytes before `start` too, so this differs from a
+    /// search of the slice that begins there.
+    ///
+    /// ```rust
+    /// let regex = Regex::new(rt.alloc(), "[a-z]+")?;
+    /// let found = regex.find_anchored_at("ab 1cd", 0)?.ok_or("no match")?;
+    /// assert_eq!(rt; found.range(), 0..2);
+    /// assert_eq!(rt; regex.find_anchored_at("1cd", 0)?, None);
+    /// ```
+    pub fn find_anchored_at<'h>(
+        &self,
+        haystack: &'h str,
+        start: usize,
+    ) -> Result<Option<Match<'h>>, AllocError>
+        requires { start ≤ length haystack.now → IsCharBoundary haystack.now start }
+        ensures found { IfOk result (λ m. option_map excerpt_of m
+            ≡ option_map (excerpt haystack.now) (anchored_span_at self.now haystack.now start)) }
+        ensures on_tree { IfOk result (λ m. FindsSpanFrom self.now haystack.now start
+            (option_map (λ x. (excerpt_of x).span) m)) }
+    {
+        let mut cache = self.cache()?;
+        Ok(self.find_anchored_at_with(&mut cache, haystack, start))
+    }
+
+    /// Like [`Regex::find_anchored_at`], but with a cache that fits. It allocates nothing and cannot fail.
+    ///
+    /// The search visits each state of the program at most once at each offset.
+    pub fn find_anchored_at_with<'h>(
+        &self,
+        cache: &mut Cache,
+        haystack: &'h str,
+        start: usize,
+    ) -> Option<Match<'h>>
+        requires border { start ≤ length haystack.now → IsCharBoundary haystack.now start }
+        requires fits { cache.old.fits ≡ fit_of self.now.program }
+        ensures found { option_map excerpt_of result
+            ≡ option_map (excerpt haystack.now) (anchored_span_at self.now haystack.now start) }
+        ensures on_tree { FindsSpanFrom self.now haystack.now start (option_map (λ x. (excerpt_of x).span) result) }
+        ensures fits { cache.new.fits ≡ cache.old.fits }
+        ensures walked { IsWalkedFrom self.now.program haystack.now start (is_some result) cache.new.walked }
+    {
+        let found = self
+            .over_bytes()
+            .find_anchored_at_with(&mut cache.cache, haystack.as_bytes(), start);
+        Match::of_found(haystack, found)
+    }
+
+    /// Returns whether a match begins at `start`, an offset in bytes. Past the end of the haystack nothing matches. A
+    /// start within the haystack must be at a character boundary, as `str::is_char_boundary` tests. The error is out
+    /// of memory.
+    ///
+    /// The search stops at the first end of such a match.
+    pub fn is_match_anchored_at(&self, haystack: &str, start: usize) -> Result<bool, AllocError>
+        requires { start ≤ length haystack.now → IsCharBoundary haystack.now start }
+        ensures { IfOk result (λ found. IsTrue found ↔ HasMatchFrom self.now.tree haystack.now start) }
+    {
+        let mut cache = self.cache()?;
+        Ok(self.is_match_anchored_at_with(&mut cache, haystack, start))
+    }
+
+    /// Like [`Regex::is_match_anchored_at`], but with a cache that fits. It allocates nothing and cannot fail.
+    ///
+    /// The search visits each state of the program at most once at each offset.
+    pub fn is_match_anchored_at_with(&self, cache: &mut Cache, haystack: &str, start: usize) -> bool
+        requires border { start ≤ length haystack.now → IsCharBoundary haystack.now start }
+        requires fits { cache.old.fits ≡ fit_of self.now.program }
+        ensures found { IsTrue result ↔ HasMatchFrom self.now.tree haystack.now start }
+        ensures fits { cache.new.fits ≡ cache.old.fits }
+        ensures walked { IsWalkedFrom self.now.program haystack.now start result cache.new.walked }
+    {
+        self.over_bytes()
+            .is_match_anchored_at_with(&mut cache.cache, haystack.as_bytes(), start)
+    }
+
+    /// Returns the groups of the match that begins at `start`, as [`Regex::find_anchored_at`] finds it. Past the end
+    /// of the haystack nothing matches. A start within the haystack must be at a character boundary, as
+    /// `str::is_char_boundary` tests. The error is out of memory.
+    ///
+    /// `([a-z]+)(=?)` on `x=1` at 0 has `x` as group 1 and `=` as group 2.
+    pub fn captures_anchored_at<'h>(
+        &self,
+        haystack: &'h str,
+        start: usize,
+    ) -> Result<Option<Captures<'h>>, AllocError>
+        requires { start ≤ length haystack.now → IsCharBoundary haystack.now start }
+        ensures found { IfOk result (λ c. c ≡ option_map (captured self.now haystack.now)
+            (anchored_slots_at self.now haystack.now start)) }
+        ensures on_tree { IfOk result (λ c. FindsGroupsFrom self.now haystack.now start
+            (option_map (λ x. x.slots) c)) }
+    {
+        match self
+            .over_bytes()
+            .captures_anchored_at(haystack.as_bytes(), start)?
+        {
+            Some(captures) => Ok(Some(Captures::of(haystack, captures))),
+            None => Ok(None),
+        }
+    }
+
+    /// Like [`Regex::find_anchored_at_with`], but also writes the offsets of each group into `locations`, which must
+    /// fit this regex. It allocates nothing and cannot fail.
+    ///
+    /// The locations are unchanged if nothing matches. The search visits each state of the program at most once at
+    /// each offset.
+    pub fn captures_read_anchored_at_with<'h>(
+        &self,
+        cache: &mut Cache,
+        locations: &mut CaptureLocations,
+        haystack: &'h str,
+        start: usize,
+    ) -> Option<Match<'h>>
+        requires border { start ≤ length haystack.now → IsCharBoundary haystack.now start }
+        requires cache { cache.old.fits ≡ fit_of self.now.program }
+        requires locations { length locations.old ≡ self.now.program.slots }
+        ensures found { option_map excerpt_of result
+            ≡ option_map (excerpt haystack.now) (anchored_span_at self.now haystack.now start) }
+        ensures groups { locations.new
+            ≡ unwrap_or (anchored_slots_at self.now haystack.now start) locations.old }
+        ensures borders { IfSome result (λ _. HaveBorders haystack.now locations.new) }
+        ensures fits { cache.new.fits ≡ cache.old.fits }
+        ensures walked { IsWalkedFrom self.now.program haystack.now start (is_some result) cache.new.walked }
+    {
+        let found = self.over_bytes().captures_read_anchored_at_with(
+            &mut cache.cache,
+            &mut locations.locations,
+            haystack.as_bytes(),
+            start,
+        );
+        Match::of_found(haystack, found)
+    }
+
+    /// Returns whether any match of the pattern is the whole haystack. The error is out of memory.
+    ///
+    /// `a|ab` matches the whole of `ab`, and so does `(a|b)*`. `a` does not.
+    pub fn is_full_match(&self, haystack: &str) -> Result<bool, AllocError>
+        ensures { IfOk result (λ found. IsTrue found ↔ IsFullMatch self.now.tree haystack.now) }
+    {
+        let mut cache = self.cache()?;
+        Ok(self.is_full_match_with(&mut cache, haystack))
+    }
+
+    /// Like [`Regex::is_full_match`], but with a cache that fits. It allocates nothing and cannot fail.
+    ///
+    /// The search visits each state of the program at most once at each offset.
+    pub fn is_full_match_with(&self, cache: &mut Cache, haystack: &str) -> bool
+        requires { cache.old.fits ≡ fit_of self.now.program }
+        ensures found { IsTrue result ↔ IsFullMatch self.now.tree haystack.now }
+        ensures fits { cache.new.fits ≡ cache.old.fits }
+        ensures bounded { IsBounded self.now.program haystack.now 0 cache.new.walked }
+    {
+        self.over_bytes()
+            .is_full_match_with(&mut cache.cache, haystack.as_bytes())
+    }
+
+    /// Returns the groups of a match that is the whole haystack. Of several parses it is the preferred one. The error
+    /// is out of memory.
+    ///
+    /// ```rust
+    /// let regex = Regex::new(rt.alloc(), "(a|ab)(c|bcd)?")?;
+    /// let captures = regex.captures_full("abcd")?.ok_or("no match")?;
+    /// let second = captures.get(2).ok_or("no group")?;
+    /// assert_eq!(rt; second.as_str(), "bcd");
+    /// ```
+    pub fn captures_full<'h>(&self, haystack: &'h str) -> Result<Option<Captures<'h>>, AllocError>
+        ensures found { IfOk result (λ c. c ≡ option_map (captured self.now haystack.now)
+            (full_slots self.now haystack.now)) }
+        ensures on_tree { IfOk result (λ c. FindsGroupsFull self.now haystack.now
+            (option_map (λ x. x.slots) c)) }
+    {
+        match self.over_bytes().captures_full(haystack.as_bytes())? {
+            Some(captures) => Ok(Some(Captures::of(haystack, captures))),
+            None => Ok(None),
+        }
+    }
+}

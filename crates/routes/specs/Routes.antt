@@ -1,0 +1,20 @@
+-- Which route a path takes.
+use Rattle.std.specs.Prelude.{◌≡◌, ℕ, ◌<◌, List, Option, Some, slice_get}
+use Rattle.bites_spec.specs.Anchored.{IsFullMatch, FindsGroupsFull}
+use Rattle.routes.specs.declared.router.Route.{Route}
+
+module _ (routes : List Route) (path : List ℕ) where
+  -- the tree of the route of this number matches the whole path
+  abbrev pub Serves : ℕ → Type 0
+  Serves k = (r : Route) × (slice_get routes k ≡ Some r) × IsFullMatch r.regex.tree path
+
+  -- no route's tree matches the whole path
+  abbrev pub NoRoute : Type 0
+  NoRoute = (k : ℕ) → Serves k → ⊥
+
+  -- the route of this number is the first whose tree matches the whole path, and in the slots stand the groups of a parse of it
+  pub record IsRoute (k : ℕ) (slots : List (Option ℕ)) : Type 0 where
+    pub route : Route
+    pub at : slice_get routes k ≡ Some route
+    pub groups : FindsGroupsFull route.regex path (Some slots)
+    pub first : (l : ℕ) → l < k → Serves l → ⊥

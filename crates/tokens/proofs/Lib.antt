@@ -1,0 +1,2 @@
+mod LexerLemmas
+mod LongestLemmas

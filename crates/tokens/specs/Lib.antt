@@ -1,0 +1,3 @@
+pub mod Longest
+pub mod Table
+pub mod Tokens

@@ -1,0 +1,352 @@
+//! Searches of bytes that need not be UTF-8.
+//!
+//! The types and calls are those of the crate's root, except that haystacks, templates and matches are `&[u8]`. Patterns
+//! are texts here too. Where a haystack is not UTF-8, each longest run of bytes that could begin a character and does not is
+//! searched as U+FFFD, and matches have the bytes themselves.
+//!
+//! ```
+//! use regex_bites::bytes::Regex;
+//!
+//! let re = Regex::new(r"key=(.*?);").unwrap();
+//! let captures = re.captures(b"\xFFkey=\x80\x81;").unwrap();
+//! assert_eq!(b"\x80\x81", &captures[1]);
+//! ```
+
+use crate::builder::regex_builder;
+use crate::engine::{Engine, Settings, ABSENT};
+use crate::sys;
+use std::borrow::Cow;
+use std::fmt;
+use std::iter;
+use std::str::FromStr;
+use std::sync::Arc;
+
+pub use crate::error::Error;
+
+mod captures;
+mod iterators;
+mod replacer;
+
+pub use captures::{CaptureLocations, Captures, Match};
+pub use iterators::{CaptureMatches, CaptureNames, Matches, Split, SplitN, SubCaptureMatches};
+pub use replacer::{NoExpand, Replacer, ReplacerRef};
+
+/// A compiled pattern, which searches bytes.
+///
+/// Any number of threads may search with one regex at the same time. A clone shares the compiled pattern and has caches of its
+/// own, so threads that each have a clone never wait for one another.
+#[derive(Clone)]
+pub struct Regex {
+    engine: Engine,
+}
+
+impl fmt::Display for Regex {
+    fn fmt(&self, f: &mut fmt::Formatter<'_>) -> fmt::Result {
+        f.write_str(self.as_str())
+    }
+}
+
+impl fmt::Debug for Regex {
+    fn fmt(&self, f: &mut fmt::Formatter<'_>) -> fmt::Result {
+        f.debug_tuple("Regex").field(&self.as_str()).finish()
+    }
+}
+
+impl FromStr for Regex {
+    type Err = Error;
+
+    fn from_str(pattern: &str) -> Result<Regex, Error> {
+        Regex::new(pattern)
+    }
+}
+
+impl TryFrom<&str> for Regex {
+    type Error = Error;
+
+    fn try_from(pattern: &str) -> Result<Regex, Error> {
+        Regex::new(pattern)
+    }
+}
+
+impl TryFrom<String> for Regex {
+    type Error = Error;
+
+    fn try_from(pattern: String) -> Result<Regex, Error> {
+        Regex::new(&pattern)
+    }
+}
+
+/// What most programs use.
+impl Regex {
+    /// Compiles the pattern with no flag set and with the default limits. The error says why it is refused.
+    pub fn new(pattern: &str) -> Result<Regex, Error> {
+        Regex::of(pattern, Settings::default())
+    }
+
+    /// Returns whether the pattern matches somewhere in the haystack.
+    #[inline]
+    pub fn is_match(&self, haystack: &[u8]) -> bool {
+        self.is_match_at(haystack, 0)
+    }
+
+    /// Returns the leftmost match.
+    ///
+    /// ```
+    /// let year = regex_bites::bytes::Regex::new(r"\d{4}").unwrap();
+    /// assert_eq!(Some(3..7), year.find(b"in 2010").map(|found| found.range()));
+    /// ```
+    #[inline]
+    pub fn find<'h>(&self, haystack: &'h [u8]) -> Option<Match<'h>> {
+        self.find_at(haystack, 0)
+    }
+
+    /// Returns an iterator over all matches that do not overlap, from left to right.
+    #[inline]
+    pub fn find_iter<'r, 'h>(&'r self, haystack: &'h [u8]) -> Matches<'r, 'h> {
+        Matches::new(self, haystack)
+    }
+
+    /// Returns the groups of the leftmost match.
+    ///
+    /// ```
+    /// let pair = regex_bites::bytes::Regex::new(r"(\w+)=(?<value>\w+)").unwrap();
+    /// let captures = pair.captures(b"in k=v").unwrap();
+    /// assert_eq!((&b"k"[..], &b"v"[..]), (&captures[1], &captures["value"]));
+    /// ```
+    #[inline]
+    pub fn captures<'h>(&self, haystack: &'h [u8]) -> Option<Captures<'h>> {
+        self.captures_at(haystack, 0)
+    }
+
+    /// Returns an iterator over the groups of each match that [`Regex::find_iter`] yields.
+    #[inline]
+    pub fn captures_iter<'r, 'h>(&'r self, haystack: &'h [u8]) -> CaptureMatches<'r, 'h> {
+        CaptureMatches::new(self, haystack)
+    }
+
+    /// Returns an iterator over the pieces of the haystack before, between and after its matches, empty ones too.
+    ///
+    /// ```
+    /// let comma = regex_bites::bytes::Regex::new(", *").unwrap();
+    /// assert_eq!([&b"a"[..], b"b", b"", b"c"], comma.split(b"a, b,,c").collect::<Vec<_>>()[..]);
+    /// ```
+    #[inline]
+    pub fn split<'r, 'h>(&'r self, haystack: &'h [u8]) -> Split<'r, 'h> {
+        Split::new(self, haystack)
+    }
+
+    /// Like [`Regex::split`], but yields at most `limit` pieces. The last one is the rest of the haystack.
+    #[inline]
+    pub fn splitn<'r, 'h>(&'r self, haystack: &'h [u8], limit: usize) -> SplitN<'r, 'h> {
+        SplitN::new(self.split(haystack), limit)
+    }
+
+    /// Returns the haystack with its first match replaced, or borrows it if nothing matches.
+    #[inline]
+    pub fn replace<'h, R: Replacer>(&self, haystack: &'h [u8], rep: R) -> Cow<'h, [u8]> {
+        self.replacen(haystack, 1, rep)
+    }
+
+    /// Returns the haystack with each match replaced, or borrows it if nothing matches.
+    ///
+    /// ```
+    /// let date = regex_bites::bytes::Regex::new(r"(\d{4})-(\d\d)").unwrap();
+    /// assert_eq!(date.replace_all(b"2010-03 2011-04", &b"$2/$1"[..]), &b"03/2010 04/2011"[..]);
+    /// ```
+    #[inline]
+    pub fn replace_all<'h, R: Replacer>(&self, haystack: &'h [u8], rep: R) -> Cow<'h, [u8]> {
+        self.replacen(haystack, 0, rep)
+    }
+
+    /// Returns the haystack with its first `limit` matches replaced, or all of them for 0. Borrows it if nothing matches.
+    #[inline]
+    pub fn replacen<'h, R: Replacer>(
+        &self,
+        haystack: &'h [u8],
+        limit: usize,
+        mut rep: R,
+    ) -> Cow<'h, [u8]> {
+        let new = if let Some(literal) = rep.no_expansion() {
+            self.engine.replace_literal(haystack, limit, &literal)
+        } else if let Some(template) = rep.__regex_bites_template() {
+            self.engine.replace(haystack, limit, &template)
+        } else {
+            return self.replace_by(haystack, limit, &mut rep);
+        };
+        new.map_or(Cow::Borrowed(haystack), Cow::Owned)
+    }
+
+    /// Asks the replacer for each match in turn.
+    fn replace_by<'h>(
+        &self,
+        haystack: &'h [u8],
+        limit: usize,
+        rep: &mut impl Replacer,
+    ) -> Cow<'h, [u8]> {
+        let mut all = self.captures_iter(haystack);
+        let Some(first) = all.next() else {
+            return Cow::Borrowed(haystack);
+        };
+        let limit = if limit == 0 { usize::MAX } else { limit };
+        let mut new = Vec::with_capacity(haystack.len());
+        let mut last = 0;
+        for captures in iter::once(first).chain(all).take(limit) {
+            let whole = captures.whole();
+            new.extend_from_slice(&haystack[last..whole.start]);
+            rep.replace_append(&captures, &mut new);
+            last = whole.end;
+        }
+        new.extend_from_slice(&haystack[last..]);
+        Cow::Owned(new)
+    }
+}
+
+/// Searches from an offset, where assertions look at what stands before it too. An offset past the end finds nothing.
+impl Regex {
+    /// Returns the least end of any match.
+    #[inline]
+    pub fn shortest_match(&self, haystack: &[u8]) -> Option<usize> {
+        self.shortest_match_at(haystack, 0)
+    }
+
+    /// Returns the least end of any match at or after `start`.
+    #[inline]
+    pub fn shortest_match_at(&self, haystack: &[u8], start: usize) -> Option<usize> {
+        self.engine.shortest_match_at(haystack, start)
+    }
+
+    /// Returns whether there is a match at or after `start`.
+    #[inline]
+    pub fn is_match_at(&self, haystack: &[u8], start: usize) -> bool {
+        self.engine.is_match_at(haystack, start)
+    }
+
+    /// Returns the leftmost match at or after `start`.
+    #[inline]
+    pub fn find_at<'h>(&self, haystack: &'h [u8], start: usize) -> Option<Match<'h>> {
+        let span = self.engine.find_at(haystack, start)?;
+        Some(Match::new(haystack, span))
+    }
+
+    /// Returns the groups of the leftmost match at or after `start`.
+    #[inline]
+    pub fn captures_at<'h>(&self, haystack: &'h [u8], start: usize) -> Option<Captures<'h>> {
+        let mut locations = self.capture_locations();
+        let groups = locations.groups_mut();
+        let found = self.engine.captures_at(haystack, start, groups);
+        found.then(|| Captures::new(haystack, locations, Arc::clone(self.engine.program())))
+    }
+
+    /// Returns the leftmost match and writes its groups to `locs`, which is unchanged if nothing matches.
+    ///
+    /// Locations of another regex take as many groups as they have room for. Those that this regex has no group for become
+    /// groups that did not participate.
+    #[inline]
+    pub fn captures_read<'h>(
+        &self,
+        locs: &mut CaptureLocations,
+        haystack: &'h [u8],
+    ) -> Option<Match<'h>> {
+        self.captures_read_at(locs, haystack, 0)
+    }
+
+    /// Like [`Regex::captures_read`], for the leftmost match at or after `start`.
+    #[inline]
+    pub fn captures_read_at<'h>(
+        &self,
+        locs: &mut CaptureLocations,
+        haystack: &'h [u8],
+        start: usize,
+    ) -> Option<Match<'h>> {
+        let groups = locs.groups_mut();
+        let found = self.engine.captures_at(haystack, start, groups);
+        found.then(|| Match::new(haystack, groups[0]))
+    }
+}
+
+/// Searches that the Rust crate regex-bites doesn't have: from one offset alone, for lexers, and of a whole haystack, for routers.
+///
+/// An offset counts bytes. Assertions look at what stands before it too. An offset past the end finds nothing.
+impl Regex {
+    /// Returns the match that begins at `start`.
+    ///
+    /// The search ends where no match that begins there can go on, so a lexer that asks for one token after another does not
+    /// read the rest of the haystack each time.
+    ///
+    /// ```
+    /// let number = regex_bites::bytes::Regex::new(r"\d+").unwrap();
+    /// assert_eq!(Some(1..3), number.find_anchored_at(b"+42", 1).map(|found| found.range()));
+    /// assert_eq!(None, number.find_anchored_at(b"+42", 0));
+    /// ```
+    #[inline]
+    pub fn find_anchored_at<'h>(&self, haystack: &'h [u8], start: usize) -> Option<Match<'h>> {
+        let span = self.engine.find_anchored_at(haystack, start)?;
+        Some(Match::new(haystack, span))
+    }
+
+    /// Returns the groups of the match that begins at `start`.
+    ///
+    /// ```
+    /// let pair = regex_bites::bytes::Regex::new(r"(\w+)=(\w+)").unwrap();
+    /// let (_, parts) = pair.captures_anchored_at(b"?k=v", 1).unwrap().extract();
+    /// assert_eq!([b"k", b"v"], parts);
+    /// ```
+    #[inline]
+    pub fn captures_anchored_at<'h>(
+        &self,
+        haystack: &'h [u8],
+        start: usize,
+    ) -> Option<Captures<'h>> {
+        let mut locations = self.capture_locations();
+        let groups = locations.groups_mut();
+        let found = self.engine.captures_anchored_at(haystack, start, groups);
+        found.then(|| Captures::new(haystack, locations, Arc::clone(self.engine.program())))
+    }
+
+    /// Returns whether the pattern matches the whole haystack, also where it prefers a shorter match.
+    ///
+    /// ```
+    /// let route = regex_bites::bytes::Regex::new(r"/items|/items/\d+").unwrap();
+    /// assert!(route.is_full_match(b"/items/42") && !route.is_full_match(b"/items/42/"));
+    /// ```
+    #[inline]
+    pub fn is_full_match(&self, haystack: &[u8]) -> bool {
+        self.engine.is_full_match(haystack)
+    }
+}
+
+/// What is known of the pattern.
+impl Regex {
+    /// Returns the pattern.
+    #[inline]
+    pub fn as_str(&self) -> &str {
+        self.engine.program().pattern()
+    }
+
+    /// Returns an iterator over the name of each group, or `None` for one without, from group 0 on.
+    #[inline]
+    pub fn capture_names(&self) -> CaptureNames<'_> {
+        CaptureNames::new(self.engine.program().names())
+    }
+
+    /// Returns the number of groups, with group 0.
+    #[inline]
+    pub fn captures_len(&self) -> usize {
+        self.engine.program().captures_len()
+    }
+
+    /// Returns a lower bound on the groups that participate in any match, with group 0, if the pattern's form gives one: the
+    /// same number for all branches of each alternation.
+    #[inline]
+    pub fn static_captures_len(&self) -> Option<usize> {
+        self.engine.program().static_captures_len()
+    }
+
+    /// Returns locations for the groups of this regex, none of which participated yet.
+    #[inline]
+    pub fn capture_locations(&self) -> CaptureLocations {
+        CaptureLocations::new(vec![ABSENT; self.captures_len()])
+    }
+}
+
+regex_builder!();

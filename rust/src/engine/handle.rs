@@ -1,0 +1,152 @@
+//! Handles of the engine, which are freed with what holds them.
+
+use super::text::{give_up, text_of, written};
+use crate::error::Error;
+use crate::sys::{self, Bites, BitesCache};
+
+/// The flags and limits of a pattern.
+#[derive(Clone, Copy, Debug)]
+pub(crate) struct Settings {
+    flags: u32,
+    size_limit: usize,
+    nest_limit: u32,
+}
+
+impl Settings {
+    pub(crate) fn set(&mut self, flag: u32, yes: bool) {
+        self.flags = if yes {
+            self.flags | flag
+        } else {
+            self.flags & !flag
+        };
+    }
+
+    pub(crate) fn set_size_limit(&mut self, limit: usize) {
+        self.size_limit = limit;
+    }
+
+    pub(crate) fn set_nest_limit(&mut self, limit: u32) {
+        self.nest_limit = limit;
+    }
+}
+
+impl Default for Settings {
+    fn default() -> Settings {
+        Settings {
+            flags: 0,
+            size_limit: sys::SIZE_LIMIT,
+            nest_limit: sys::NEST_LIMIT,
+        }
+    }
+}
+
+/// A handle of a regex, which is freed with it.
+pub(super) struct Handle(pub(super) Bites);
+
+// SAFETY: the header says that a handle may go to another thread.
+unsafe impl Send for Handle {}
+
+impl Handle {
+    pub(super) fn new(pattern: &str, settings: Settings) -> Result<Handle, Error> {
+        let mut handle = Handle(Bites::EMPTY);
+        let Settings {
+            flags,
+            size_limit,
+            nest_limit,
+        } = settings;
+        let (text, len) = (pattern.as_ptr(), pattern.len());
+        // SAFETY: the pattern is a text, and the handle an empty local.
+        let code =
+            unsafe { sys::bites_new(text, len, flags, size_limit, nest_limit, &mut handle.0) };
+        match code {
+            sys::DONE => Ok(handle),
+            code => Err(Error::new(code)),
+        }
+    }
+
+    /// Another handle of the same regex.
+    pub(super) fn share(&mut self) -> Handle {
+        let mut handle = Handle(Bites::EMPTY);
+        // SAFETY: both handles are borrowed exclusively, and are two.
+        let code = unsafe { sys::bites_clone(&mut self.0, &mut handle.0) };
+        match code {
+            sys::DONE => handle,
+            code => give_up(code),
+        }
+    }
+
+    pub(super) fn groups(&mut self) -> usize {
+        // SAFETY: the handle is borrowed exclusively.
+        unsafe { sys::bites_captures_len(&mut self.0) }
+    }
+
+    pub(super) fn static_groups(&mut self) -> Option<usize> {
+        // SAFETY: the handle is borrowed exclusively.
+        match unsafe { sys::bites_static_captures_len(&mut self.0) } {
+            0 => None,
+            len => Some(len),
+        }
+    }
+
+    pub(super) fn name(&mut self, group: usize) -> Option<Box<str>> {
+        // SAFETY: the handle is borrowed exclusively, and `out` and `room` are a buffer.
+        let name = unsafe {
+            written(32, sys::DONE, |out, room| {
+                sys::bites_group_name(&mut self.0, group, out, room)
+            })
+        };
+        match name {
+            Ok(name) => Some(text_of(name).into_boxed_str()),
+            Err(sys::NO_NAME) => None,
+            Err(code) => give_up(code),
+        }
+    }
+}
+
+impl Drop for Handle {
+    fn drop(&mut self) {
+        // SAFETY: the handle is borrowed exclusively, and nobody uses it after this.
+        unsafe { sys::bites_free(&mut self.0) }
+    }
+}
+
+/// What one thread at a time searches with: a handle of its own and a cache.
+pub(super) struct Searcher {
+    pub(super) regex: Handle,
+    pub(super) cache: BitesCache,
+}
+
+// SAFETY: the header says that handles may go to another thread.
+unsafe impl Send for Searcher {}
+
+impl Searcher {
+    #[inline(never)]
+    pub(super) fn new(mut regex: Handle) -> Searcher {
+        let mut cache = BitesCache::EMPTY;
+        // SAFETY: the handle is borrowed exclusively, and the cache an empty local.
+        let code = unsafe { sys::bites_cache_new(&mut regex.0, &mut cache) };
+        match code {
+            sys::DONE => Searcher { regex, cache },
+            code => give_up(code),
+        }
+    }
+}
+
+impl Searcher {
+    /// Returns whether the call finds a match.
+    #[inline]
+    pub(super) fn search(&mut self, ask: impl FnOnce(&mut Bites, &mut BitesCache) -> u32) -> bool {
+        match ask(&mut self.regex.0, &mut self.cache) {
+            sys::MATCH => true,
+            sys::NO_MATCH => false,
+            code => give_up(code),
+        }
+    }
+}
+
+impl Drop for Searcher {
+    fn drop(&mut self) {
+        // SAFETY: the cache is borrowed exclusively, and nobody uses it after this.
+        unsafe { sys::bites_cache_free(&mut self.cache) }
+    }
+}

@@ -1,0 +1,417 @@
+//! The engine's calls, in safe Rust. All `unsafe` of this crate stands here, in `pool` and in `race`.
+//!
+//! What every call asks: its handles hold what the engine put there or nothing, and no other call uses them meanwhile, since they
+//! are borrowed exclusively; each pointer with a length is one slice, or the spare room of a buffer, which lives until the call
+//! returns and is not null, also where it is empty; and what is written to is borrowed exclusively, so that it overlaps nothing
+//! that is read.
+#![allow(unsafe_code)]
+
+use crate::error::Error;
+use crate::pattern::Pattern;
+use crate::pool::{with_locked, Pool, Taken};
+use crate::race;
+use crate::sys::{self, Bites, BitesCache, BitesSize, BitesSpan};
+use handle::{Handle, Searcher};
+use std::str;
+use std::sync::{Arc, Mutex, OnceLock};
+use text::{append, give_up, written};
+
+mod handle;
+mod text;
+
+pub(crate) use handle::Settings;
+pub(crate) use text::{message, text_of};
+
+/// A compiled regex, which any number of threads may read.
+pub(crate) struct Program {
+    handle: Mutex<Handle>,
+    pattern: Pattern,
+    groups: usize,
+    static_groups: OnceLock<Option<usize>>,
+    names: OnceLock<Vec<Option<Box<str>>>>,
+}
+
+impl Program {
+    #[inline]
+    pub(crate) fn pattern(&self) -> &str {
+        self.pattern.as_str()
+    }
+
+    #[inline]
+    pub(crate) fn captures_len(&self) -> usize {
+        self.groups
+    }
+
+    #[inline]
+    pub(crate) fn static_captures_len(&self) -> Option<usize> {
+        let read = || {
+            let len = with_locked(&self.handle, Handle::static_groups);
+            race::released(&self.static_groups);
+            len
+        };
+        let len = *self.static_groups.get_or_init(read);
+        race::acquired(&self.static_groups);
+        len
+    }
+
+    #[inline]
+    pub(crate) fn names(&self) -> &[Option<Box<str>>] {
+        let names = self.names.get().unwrap_or_else(|| self.read_names());
+        race::acquired(&self.names);
+        names
+    }
+
+    #[cold]
+    fn read_names(&self) -> &Vec<Option<Box<str>>> {
+        self.names.get_or_init(|| {
+            let all =
+                |handle: &mut Handle| (0..self.groups).map(|group| handle.name(group)).collect();
+            let names = with_locked(&self.handle, all);
+            race::released(&self.names);
+            names
+        })
+    }
+
+    /// Returns the number of the group of this name. It is looked up in the list of names, which threads read without a lock.
+    pub(crate) fn index_of(&self, name: &str) -> Option<usize> {
+        let mut names = self.names().iter();
+        names.position(|known| known.as_deref() == Some(name))
+    }
+
+    /// Appends what the template stands for at a match with these groups.
+    pub(crate) fn expand(
+        &self,
+        haystack: &[u8],
+        groups: &[BitesSpan],
+        template: &[u8],
+        to: &mut Vec<u8>,
+    ) {
+        let (text, len) = (haystack.as_ptr(), haystack.len());
+        let (spans, count) = (groups.as_ptr(), groups.len());
+        let (by, by_len) = (template.as_ptr(), template.len());
+        // SAFETY: the handle is borrowed exclusively, three pointers are of slices, and the last of spare room.
+        let appended = with_locked(&self.handle, |handle| unsafe {
+            append(to, by_len + 32, sys::DONE, |out, room| {
+                let regex = &mut handle.0;
+                sys::bites_expand(regex, text, len, spans, count, by, by_len, out, room)
+            })
+        });
+        appended.unwrap_or_else(|code| give_up(code));
+    }
+
+    /// Like [`Program::expand`], over texts.
+    ///
+    /// # Panics
+    ///
+    /// If a group begins or ends within a character, and what the template stands for is not UTF-8.
+    pub(crate) fn expand_text(
+        &self,
+        haystack: &str,
+        groups: &[BitesSpan],
+        template: &str,
+        to: &mut String,
+    ) {
+        let old = to.len();
+        // SAFETY: what is appended is taken away again if it is not UTF-8, and nothing unwinds before that is known.
+        let bytes = unsafe { to.as_mut_vec() };
+        self.expand(haystack.as_bytes(), groups, template.as_bytes(), bytes);
+        if str::from_utf8(&bytes[old..]).is_err() {
+            bytes.truncate(old);
+            panic!("a group begins or ends within a character");
+        }
+    }
+}
+
+/// A compiled regex with what its searches need. A clone shares the program and has searchers of its own.
+pub(crate) struct Engine {
+    program: Arc<Program>,
+    searchers: Pool<Searcher>,
+}
+
+impl Clone for Engine {
+    fn clone(&self) -> Engine {
+        Engine {
+            program: Arc::clone(&self.program),
+            searchers: Pool::new(),
+        }
+    }
+}
+
+impl Engine {
+    pub(crate) fn new(pattern: &str, settings: Settings) -> Result<Engine, Error> {
+        let mut handle = Handle::new(pattern, settings)?;
+        let program = Program {
+            pattern: Pattern::new(pattern),
+            groups: handle.groups(),
+            static_groups: OnceLock::new(),
+            names: OnceLock::new(),
+            handle: Mutex::new(handle),
+        };
+        Ok(Engine {
+            program: Arc::new(program),
+            searchers: Pool::new(),
+        })
+    }
+
+    #[inline]
+    pub(crate) fn program(&self) -> &Arc<Program> {
+        &self.program
+    }
+
+    pub(crate) fn is_match_at(&self, haystack: &[u8], start: usize) -> bool {
+        let (text, len) = (haystack.as_ptr(), haystack.len());
+        // SAFETY: both handles are borrowed exclusively, and the haystack is a slice.
+        self.search(|regex, cache| unsafe {
+            sys::bites_is_match_at(regex, cache, text, len, start)
+        })
+    }
+
+    pub(crate) fn shortest_match_at(&self, haystack: &[u8], start: usize) -> Option<usize> {
+        let (text, len) = (haystack.as_ptr(), haystack.len());
+        let mut end = 0;
+        // SAFETY: both handles are borrowed exclusively, the haystack is a slice, and `end` a local.
+        let found = self.search(|regex, cache| unsafe {
+            sys::bites_shortest_match_at(regex, cache, text, len, start, &mut end)
+        });
+        found.then_some(end)
+    }
+
+    pub(crate) fn find_at(&self, haystack: &[u8], start: usize) -> Option<BitesSpan> {
+        let (text, len) = (haystack.as_ptr(), haystack.len());
+        let mut span = ABSENT;
+        // SAFETY: both handles are borrowed exclusively, the haystack is a slice, and `span` a local.
+        let found = self.search(|regex, cache| unsafe {
+            sys::bites_find_at(regex, cache, text, len, start, &mut span)
+        });
+        found.then_some(span)
+    }
+
+    pub(crate) fn find_anchored_at(&self, haystack: &[u8], start: usize) -> Option<BitesSpan> {
+        let (text, len) = (haystack.as_ptr(), haystack.len());
+        let mut span = ABSENT;
+        // SAFETY: both handles are borrowed exclusively, the haystack is a slice, and `span` a local.
+        let found = self.search(|regex, cache| unsafe {
+            sys::bites_find_anchored_at(regex, cache, text, len, start, &mut span)
+        });
+        found.then_some(span)
+    }
+
+    pub(crate) fn is_full_match(&self, haystack: &[u8]) -> bool {
+        let (text, len) = (haystack.as_ptr(), haystack.len());
+        // SAFETY: both handles are borrowed exclusively, and the haystack is a slice.
+        self.search(|regex, cache| unsafe { sys::bites_is_full_match(regex, cache, text, len) })
+    }
+
+    /// Writes the groups of the first match, as many as `groups` has room for. `groups` is unchanged if nothing matches; a span
+    /// that the regex has no group for becomes [`ABSENT`].
+    pub(crate) fn captures_at(
+        &self,
+        haystack: &[u8],
+        start: usize,
+        groups: &mut [BitesSpan],
+    ) -> bool {
+        let own = self.program.captures_len();
+        if groups.len() < own {
+            return self.some_captures_at(haystack, start, groups);
+        }
+        let (text, len) = (haystack.as_ptr(), haystack.len());
+        let (spans, count) = (groups.as_mut_ptr(), groups.len());
+        // SAFETY: both handles are borrowed exclusively, and both pointers are of slices.
+        let found = self.search(|regex, cache| unsafe {
+            sys::bites_captures_at(regex, cache, text, len, start, spans, count).code
+        });
+        if found {
+            groups[own..].fill(ABSENT);
+        }
+        found
+    }
+
+    /// Like [`Engine::captures_at`], where `groups` has room for some of the groups only.
+    #[cold]
+    fn some_captures_at(&self, haystack: &[u8], start: usize, groups: &mut [BitesSpan]) -> bool {
+        let mut all = vec![ABSENT; self.program.captures_len()];
+        let found = self.captures_at(haystack, start, &mut all);
+        if found {
+            groups.copy_from_slice(&all[..groups.len()]);
+        }
+        found
+    }
+
+    /// Writes the groups of the match that [`Engine::find_anchored_at`] returns to `groups`, which has room for all of them.
+    pub(crate) fn captures_anchored_at(
+        &self,
+        haystack: &[u8],
+        start: usize,
+        groups: &mut [BitesSpan],
+    ) -> bool {
+        let (text, len) = (haystack.as_ptr(), haystack.len());
+        let (spans, count) = (groups.as_mut_ptr(), groups.len());
+        // SAFETY: both handles are borrowed exclusively, and both pointers are of slices.
+        self.search(|regex, cache| unsafe {
+            sys::bites_captures_anchored_at(regex, cache, text, len, start, spans, count).code
+        })
+    }
+
+    #[inline]
+    fn search(&self, ask: impl FnOnce(&mut Bites, &mut BitesCache) -> u32) -> bool {
+        self.with_searcher(|own| own.search(ask))
+    }
+
+    #[inline]
+    fn with_searcher<R>(&self, work: impl FnOnce(&mut Searcher) -> R) -> R {
+        self.searchers.with(|| self.make_searcher(), work)
+    }
+
+    /// Takes a searcher for all matches of a haystack.
+    #[inline]
+    pub(crate) fn searches(&self) -> Searches<'_> {
+        Searches(self.searchers.take(|| self.make_searcher()))
+    }
+
+    fn make_searcher(&self) -> Searcher {
+        Searcher::new(with_locked(&self.program.handle, Handle::share))
+    }
+}
+
+/// Searches for one match after another.
+#[derive(Debug)]
+pub(crate) struct Searches<'r>(Taken<'r, Searcher>);
+
+impl Searches<'_> {
+    /// Returns the match that comes after one that ends at `last`, or the first of all for [`sys::NONE`].
+    #[inline]
+    pub(crate) fn find_next(&mut self, haystack: &[u8], last: usize) -> Option<BitesSpan> {
+        let (text, len) = (haystack.as_ptr(), haystack.len());
+        let mut span = ABSENT;
+        // SAFETY: both handles are borrowed exclusively, the haystack is a slice, and `span` a local.
+        let found = self.0.value().search(|regex, cache| unsafe {
+            sys::bites_find_next(regex, cache, text, len, last, &mut span)
+        });
+        found.then_some(span)
+    }
+
+    /// Returns the next piece between matches, and whether it is before a match, whose end `last` then is. It begins as
+    /// [`sys::NONE`].
+    #[inline]
+    pub(crate) fn split_next(&mut self, haystack: &[u8], last: &mut usize) -> (BitesSpan, bool) {
+        let (text, len) = (haystack.as_ptr(), haystack.len());
+        let mut piece = ABSENT;
+        // SAFETY: both handles are borrowed exclusively, the haystack is a slice, and the rest is borrowed exclusively too.
+        let found = self.0.value().search(|regex, cache| unsafe {
+            sys::bites_split_next(regex, cache, text, len, last, &mut piece)
+        });
+        (piece, found)
+    }
+
+    /// Writes the groups of the match that [`Searches::find_next`] returns to `groups`, which has room for all of them.
+    pub(crate) fn captures_next(
+        &mut self,
+        haystack: &[u8],
+        last: usize,
+        groups: &mut [BitesSpan],
+    ) -> bool {
+        let (text, len) = (haystack.as_ptr(), haystack.len());
+        let (spans, count) = (groups.as_mut_ptr(), groups.len());
+        // SAFETY: both handles are borrowed exclusively, and both pointers are of slices.
+        self.0.value().search(|regex, cache| unsafe {
+            sys::bites_captures_next(regex, cache, text, len, last, spans, count).code
+        })
+    }
+}
+
+impl Engine {
+    /// Returns the haystack with its first `limit` matches replaced by what the template stands for, or all for 0; `None` if
+    /// nothing matches.
+    pub(crate) fn replace(
+        &self,
+        haystack: &[u8],
+        limit: usize,
+        template: &[u8],
+    ) -> Option<Vec<u8>> {
+        self.replace_by(sys::bites_replace, haystack, limit, template)
+    }
+
+    /// Like [`Engine::replace`], by a text that stands for itself.
+    pub(crate) fn replace_literal(
+        &self,
+        haystack: &[u8],
+        limit: usize,
+        text: &[u8],
+    ) -> Option<Vec<u8>> {
+        self.replace_by(sys::bites_replace_literal, haystack, limit, text)
+    }
+
+    fn replace_by(
+        &self,
+        call: ReplaceCall,
+        haystack: &[u8],
+        limit: usize,
+        template: &[u8],
+    ) -> Option<Vec<u8>> {
+        let (text, len) = (haystack.as_ptr(), haystack.len());
+        let (by, by_len) = (template.as_ptr(), template.len());
+        let guess = len.saturating_add(len / 2).saturating_add(by_len);
+        // SAFETY: both handles are borrowed exclusively, two pointers are of slices, and the last of a buffer.
+        let new = self.with_searcher(|own| unsafe {
+            let (regex, cache) = (&mut own.regex.0, &mut own.cache);
+            written(guess, sys::MATCH, |out, room| {
+                call(regex, cache, text, len, limit, by, by_len, out, room)
+            })
+        });
+        match new {
+            Ok(new) => Some(new),
+            Err(sys::NO_MATCH) => None,
+            Err(code) => give_up(code),
+        }
+    }
+}
+
+/// A group that did not participate.
+pub(crate) const ABSENT: BitesSpan = BitesSpan {
+    start: sys::NONE,
+    end: sys::NONE,
+};
+
+type ReplaceCall = unsafe extern "C" fn(
+    *mut Bites,
+    *mut BitesCache,
+    *const u8,
+    usize,
+    usize,
+    *const u8,
+    usize,
+    *mut u8,
+    usize,
+) -> BitesSize;
+
+/// Returns the text with a backslash before each special character.
+pub(crate) fn escape(text: &str) -> String {
+    let (from, len) = (text.as_ptr(), text.len());
+    // SAFETY: the text is a slice, and `out` and `room` are a buffer.
+    let escaped = unsafe {
+        written(len.saturating_mul(2), sys::DONE, |out, room| {
+            sys::bites_escape(from, len, out, room)
+        })
+    };
+    match escaped {
+        Ok(escaped) => text_of(escaped),
+        Err(code) => give_up(code),
+    }
+}
+
+#[cfg(test)]
+mod tests {
+    use crate::sys;
+
+    /// Major, minor and patch of this crate, as the library numbers them.
+    #[test]
+    fn the_library_has_the_version_of_the_crate() {
+        let version = env!("CARGO_PKG_VERSION");
+        let numbers = version
+            .split(['.', '+'])
+            .filter_map(|part| part.parse().ok());
+        let wanted = numbers.fold(0, |number: u32, part: u32| number << 8 | part);
+        // SAFETY: nothing is handed over.
+        assert_eq!(unsafe { sys::bites_version() }, wanted);
+    }
+}

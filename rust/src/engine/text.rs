@@ -1,0 +1,110 @@
+//! Texts that the engine writes, and those of its errors.
+
+use crate::sys::{self, BitesSize};
+use std::io::{self, Write};
+use std::mem::MaybeUninit;
+use std::slice;
+use std::sync::OnceLock;
+
+/// The size of the buffer for texts that are probably short.
+const SHORT: usize = 1024;
+
+/// Returns what a call of the engine writes, probably at most `guess` bytes. It is asked once more if it needs more room. A short
+/// text goes by way of the stack, so that nothing is allocated where there is none, and else no more than its size.
+///
+/// # Safety
+///
+/// Where the call returns `wanted`, it wrote as many bytes as it says.
+pub(super) unsafe fn written(
+    guess: usize,
+    wanted: u32,
+    mut ask: impl FnMut(*mut u8, usize) -> BitesSize,
+) -> Result<Vec<u8>, u32> {
+    let mut room = guess;
+    if guess <= SHORT {
+        let mut short = [MaybeUninit::<u8>::uninit(); SHORT];
+        let BitesSize { code, size } = ask(short.as_mut_ptr().cast(), SHORT);
+        if code == wanted {
+            // SAFETY: so many bytes of the buffer are written.
+            let text = unsafe { slice::from_raw_parts(short.as_ptr().cast(), size) };
+            return Ok(text.to_vec());
+        }
+        if code != sys::TOO_SMALL {
+            return Err(code);
+        }
+        room = size;
+    }
+    let mut text = Vec::new();
+    // SAFETY: as the caller says.
+    match unsafe { append(&mut text, room, wanted, ask) } {
+        Ok(()) => Ok(text),
+        Err(code) => Err(code),
+    }
+}
+
+/// Appends what a call of the engine writes, into at least so much room, and once more where the call asks for more.
+///
+/// # Safety
+///
+/// As [`written`] asks.
+pub(super) unsafe fn append(
+    to: &mut Vec<u8>,
+    room: usize,
+    wanted: u32,
+    mut ask: impl FnMut(*mut u8, usize) -> BitesSize,
+) -> Result<(), u32> {
+    to.reserve(room);
+    loop {
+        let spare = to.spare_capacity_mut();
+        let BitesSize { code, size } = ask(spare.as_mut_ptr().cast(), spare.len());
+        if code == wanted {
+            // SAFETY: so many bytes of the spare room are written.
+            unsafe { to.set_len(to.len() + size) };
+            return Ok(());
+        }
+        if code != sys::TOO_SMALL {
+            return Err(code);
+        }
+        to.reserve(size);
+    }
+}
+
+/// Returns the text of an error's number, which the engine is asked for once.
+pub(crate) fn message(code: u32) -> &'static str {
+    // Each place of the array is a value of its own, for which the constant stands.
+    #[allow(clippy::declare_interior_mutable_const)]
+    const UNKNOWN: OnceLock<String> = OnceLock::new();
+    static TEXTS: [OnceLock<String>; sys::NO_MEMORY as usize + 1] =
+        [UNKNOWN; sys::NO_MEMORY as usize + 1];
+    let text = TEXTS.get(code as usize).map(|text| {
+        text.get_or_init(|| {
+            let mut text = vec![0; text_into(code, &mut [])];
+            text_into(code, &mut text);
+            text_of(text)
+        })
+    });
+    text.map_or("", String::as_str)
+}
+
+/// Writes as much of the text of an error's number as there is room for, and returns its length.
+fn text_into(code: u32, text: &mut [u8]) -> usize {
+    // SAFETY: the pointer is of a slice of this length.
+    unsafe { sys::bites_error_text(code, text.as_mut_ptr(), text.len()) }
+}
+
+/// Returns these bytes as a text. They are UTF-8, since all that the engine was given was.
+pub(crate) fn text_of(bytes: Vec<u8>) -> String {
+    String::from_utf8(bytes).expect("the engine writes UTF-8 where all that it reads is UTF-8")
+}
+
+/// Ends the program, as the collections of `std` do where memory is out: no signature here can return that. Nothing unwinds,
+/// also where standard error is closed.
+#[cold]
+pub(super) fn give_up(code: u32) -> ! {
+    let mut text = [0; 64];
+    let len = text_into(code, &mut text).min(text.len());
+    let text = String::from_utf8_lossy(&text[..len]);
+    // The program ends either way, so a message that can't be written is let go.
+    let _ = writeln!(io::stderr(), "regex-bites: {text} ({code})");
+    std::process::abort()
+}

@@ -1,0 +1,280 @@
+//! Matches and their groups.
+
+use super::iterators::SubCaptureMatches;
+use crate::engine::Program;
+use crate::sys::{self, BitesSpan};
+use std::fmt;
+use std::ops::{Index, Range};
+use std::sync::Arc;
+
+/// A match, or a group of one, in its haystack.
+#[derive(Clone, Copy, Eq, PartialEq)]
+pub struct Match<'h> {
+    haystack: &'h str,
+    start: usize,
+    end: usize,
+}
+
+impl<'h> Match<'h> {
+    #[inline]
+    pub(super) fn new(haystack: &'h str, span: BitesSpan) -> Match<'h> {
+        Match {
+            haystack,
+            start: span.start,
+            end: span.end,
+        }
+    }
+
+    /// Returns the offset where it begins.
+    #[inline]
+    pub fn start(&self) -> usize {
+        self.start
+    }
+
+    /// Returns the offset after its last byte.
+    #[inline]
+    pub fn end(&self) -> usize {
+        self.end
+    }
+
+    /// Returns whether it has no byte.
+    #[inline]
+    pub fn is_empty(&self) -> bool {
+        self.start == self.end
+    }
+
+    /// Returns the number of its bytes.
+    #[inline]
+    pub fn len(&self) -> usize {
+        self.end - self.start
+    }
+
+    /// Returns its range of offsets.
+    #[inline]
+    pub fn range(&self) -> Range<usize> {
+        self.start..self.end
+    }
+
+    /// Returns its text.
+    ///
+    /// # Panics
+    ///
+    /// If the search began within a character, and this begins or ends within one.
+    #[inline]
+    pub fn as_str(&self) -> &'h str {
+        &self.haystack[self.range()]
+    }
+}
+
+impl fmt::Debug for Match<'_> {
+    fn fmt(&self, f: &mut fmt::Formatter<'_>) -> fmt::Result {
+        f.debug_struct("Match")
+            .field("start", &self.start)
+            .field("end", &self.end)
+            .field("string", &self.as_str())
+            .finish()
+    }
+}
+
+impl<'h> From<Match<'h>> for &'h str {
+    fn from(found: Match<'h>) -> &'h str {
+        found.as_str()
+    }
+}
+
+impl From<Match<'_>> for Range<usize> {
+    fn from(found: Match<'_>) -> Range<usize> {
+        found.range()
+    }
+}
+
+/// The groups of one match.
+pub struct Captures<'h> {
+    haystack: &'h str,
+    locations: CaptureLocations,
+    program: Arc<Program>,
+}
+
+impl<'h> Captures<'h> {
+    #[inline]
+    pub(super) fn new(
+        haystack: &'h str,
+        locations: CaptureLocations,
+        program: Arc<Program>,
+    ) -> Captures<'h> {
+        Captures {
+            haystack,
+            locations,
+            program,
+        }
+    }
+
+    /// Returns the group of this number, if there is one and it participated. Group 0 is the match.
+    #[inline]
+    pub fn get(&self, i: usize) -> Option<Match<'h>> {
+        let (start, end) = self.locations.get(i)?;
+        Some(Match::new(self.haystack, BitesSpan { start, end }))
+    }
+
+    /// Returns the group of this name, if there is one and it participated.
+    #[inline]
+    pub fn name(&self, name: &str) -> Option<Match<'h>> {
+        self.get(self.program.index_of(name)?)
+    }
+
+    /// Returns the text of the match, and the texts of the first groups that participated: as many as participate in every
+    /// match.
+    ///
+    /// # Panics
+    ///
+    /// If `N` is not [`Regex::static_captures_len`](super::Regex::static_captures_len) less 1.
+    pub fn extract<const N: usize>(&self) -> (&'h str, [&'h str; N]) {
+        let len = self.program.static_captures_len();
+        let len = len.expect("number of capture groups can vary in a match") - 1;
+        assert_eq!(N, len, "asked for {N} groups, but must ask for {len}");
+        let mut parts = self.iter().flatten().map(|part| part.as_str());
+        let mut next = || {
+            parts
+                .next()
+                .expect("as many groups participate as the pattern says")
+        };
+        (next(), std::array::from_fn(|_| next()))
+    }
+
+    /// Appends what the template stands for: in it `$1`, `$name`, `${1}` and `${name}` are groups, and `$$` is a `$`. A group
+    /// that does not exist or did not participate is the empty text.
+    ///
+    /// # Panics
+    ///
+    /// If the search began within a character, and a group in the template begins or ends within one.
+    #[inline]
+    pub fn expand(&self, replacement: &str, dst: &mut String) {
+        let groups = self.locations.groups();
+        self.program
+            .expand_text(self.haystack, groups, replacement, dst);
+    }
+
+    /// Returns an iterator over all groups from group 0 on, with `None` for one that did not participate.
+    #[inline]
+    pub fn iter<'c>(&'c self) -> SubCaptureMatches<'c, 'h> {
+        SubCaptureMatches::new(self)
+    }
+
+    /// Returns the number of groups, with group 0.
+    #[inline]
+    #[allow(clippy::len_without_is_empty)]
+    pub fn len(&self) -> usize {
+        self.locations.len()
+    }
+
+    #[inline]
+    pub(super) fn whole(&self) -> BitesSpan {
+        self.locations.groups()[0]
+    }
+}
+
+/// A map from the number of each group, and its name, to its offsets and its text.
+impl fmt::Debug for Captures<'_> {
+    fn fmt(&self, f: &mut fmt::Formatter<'_>) -> fmt::Result {
+        f.debug_tuple("Captures").field(&Groups(self)).finish()
+    }
+}
+
+struct Groups<'c, 'h>(&'c Captures<'h>);
+
+impl fmt::Debug for Groups<'_, '_> {
+    fn fmt(&self, f: &mut fmt::Formatter<'_>) -> fmt::Result {
+        let mut map = f.debug_map();
+        for (group, name) in self.0.program.names().iter().enumerate() {
+            let key = GroupKey(group, name.as_deref());
+            match self.0.get(group) {
+                Some(found) => map.entry(&key, &GroupText(found)),
+                None => map.entry(&key, &None::<()>),
+            };
+        }
+        map.finish()
+    }
+}
+
+struct GroupKey<'c>(usize, Option<&'c str>);
+
+impl fmt::Debug for GroupKey<'_> {
+    fn fmt(&self, f: &mut fmt::Formatter<'_>) -> fmt::Result {
+        match self.1 {
+            Some(name) => write!(f, "{}/{:?}", self.0, name),
+            None => write!(f, "{}", self.0),
+        }
+    }
+}
+
+struct GroupText<'h>(Match<'h>);
+
+impl fmt::Debug for GroupText<'_> {
+    fn fmt(&self, f: &mut fmt::Formatter<'_>) -> fmt::Result {
+        let Range { start, end } = self.0.range();
+        write!(f, "{start}..{end}/{:?}", self.0.as_str())
+    }
+}
+
+impl Index<usize> for Captures<'_> {
+    type Output = str;
+
+    /// # Panics
+    ///
+    /// If there is no such group, or it did not participate.
+    fn index(&self, i: usize) -> &str {
+        match self.get(i) {
+            Some(found) => found.as_str(),
+            None => panic!("no group at index '{i}'"),
+        }
+    }
+}
+
+impl Index<&str> for Captures<'_> {
+    type Output = str;
+
+    /// # Panics
+    ///
+    /// If there is no such group, or it did not participate.
+    fn index(&self, name: &str) -> &str {
+        match self.name(name) {
+            Some(found) => found.as_str(),
+            None => panic!("no group named '{name}'"),
+        }
+    }
+}
+
+/// The offsets of a match's groups, which [`Regex::captures_read`](super::Regex::captures_read) writes. They can be reused.
+#[derive(Clone, Debug)]
+pub struct CaptureLocations(Vec<BitesSpan>);
+
+impl CaptureLocations {
+    #[inline]
+    pub(super) fn new(groups: Vec<BitesSpan>) -> CaptureLocations {
+        CaptureLocations(groups)
+    }
+
+    #[inline]
+    pub(super) fn groups(&self) -> &[BitesSpan] {
+        &self.0
+    }
+
+    #[inline]
+    pub(super) fn groups_mut(&mut self) -> &mut [BitesSpan] {
+        &mut self.0
+    }
+
+    /// Returns the start and the end of the group of this number, if there is one and it participated.
+    #[inline]
+    pub fn get(&self, i: usize) -> Option<(usize, usize)> {
+        let span = self.0.get(i)?;
+        (span.start != sys::NONE).then_some((span.start, span.end))
+    }
+
+    /// Returns the number of groups, with group 0.
+    #[inline]
+    #[allow(clippy::len_without_is_empty)]
+    pub fn len(&self) -> usize {
+        self.0.len()
+    }
+}
