@@ -25,6 +25,7 @@ pub fn push_answer(
         Search::Shortest => shortest(regex, haystack, argument, text),
         Search::FindAt => find_at(regex, haystack, argument, text),
         Search::CapturesAt => captures_at(regex, haystack, argument, text),
+        Search::CapturesRead => captures_read(regex, haystack, argument, text),
         Search::FindIter => find_iter(regex, haystack, text),
         Search::CapturesIter => captures_iter(regex, haystack, text),
         Search::Split => split(alloc, regex, haystack, text),
@@ -32,6 +33,7 @@ pub fn push_answer(
         Search::Extract => extract(alloc, regex, haystack, text),
         Search::Expand => expand(alloc, regex, haystack, &asked.template, text),
         Search::Replace => by_template(regex, haystack, &asked.template, argument, text),
+        Search::ReplaceOwned => by_owned(alloc, regex, haystack, &asked.template, argument, text),
         Search::ReplaceLiteral => by_literal(regex, haystack, &asked.template, argument, text),
         Search::ReplaceCount => by_count(alloc, regex, haystack, argument, text),
     }
@@ -94,6 +96,25 @@ fn captures_at(
 ) -> Result<(), AllocError> {
     if let Some(captures) = regex.captures_at(haystack, start)? {
         push_groups(&captures, text)?;
+    }
+    push_none(text)
+}
+
+// A clone of the regex reads the groups into locations, which are cloned too.
+fn captures_read(
+    regex: &Regex,
+    haystack: &[u8],
+    start: usize,
+    text: &mut String,
+) -> Result<(), AllocError> {
+    let regex = regex.clone()?;
+    let mut locations = regex.capture_locations()?;
+    let found = regex.captures_read_at(&mut locations, haystack, start)?;
+    if found.is_some() {
+        let locations = locations.clone()?;
+        for group in 0..locations.len() {
+            push_span(text, locations.get(group))?;
+        }
     }
     push_none(text)
 }
@@ -215,6 +236,19 @@ fn by_template(
         limit => regex.replacen(haystack, limit, template)?,
     };
     push_replaced(text, &replaced)
+}
+
+// As `by_template`, with a template that the call owns.
+fn by_owned(
+    alloc: Global,
+    regex: &Regex,
+    haystack: &[u8],
+    template: &[u8],
+    limit: usize,
+    text: &mut String,
+) -> Result<(), AllocError> {
+    let template = Vec::from_slice(alloc, template)?;
+    push_replaced(text, &regex.replacen(haystack, limit, template)?)
 }
 
 fn by_literal(

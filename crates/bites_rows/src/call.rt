@@ -18,6 +18,7 @@ pub enum Search {
     Shortest,
     FindAt,
     CapturesAt,
+    CapturesRead,
     FindIter,
     CapturesIter,
     Split,
@@ -25,6 +26,7 @@ pub enum Search {
     Extract,
     Expand,
     Replace,
+    ReplaceOwned,
     ReplaceLiteral,
     ReplaceCount,
 }
@@ -34,7 +36,11 @@ impl Search {
     pub fn has_start(self) -> bool {
         matches!(
             self,
-            Search::Is | Search::Shortest | Search::FindAt | Search::CapturesAt
+            Search::Is
+                | Search::Shortest
+                | Search::FindAt
+                | Search::CapturesAt
+                | Search::CapturesRead
         )
     }
 
@@ -43,10 +49,12 @@ impl Search {
         matches!(
             self,
             Search::CapturesAt
+                | Search::CapturesRead
                 | Search::CapturesIter
                 | Search::Extract
                 | Search::Expand
                 | Search::Replace
+                | Search::ReplaceOwned
         )
     }
 }
@@ -59,7 +67,7 @@ pub enum Call {
 }
 
 /// Each call by its word.
-const CALLS: [(&str, Call); 19] = [
+const CALLS: [(&str, Call); 21] = [
     ("message", Call::Pattern(Question::Message)),
     ("tree", Call::Pattern(Question::Tree)),
     ("build", Call::Pattern(Question::Build)),
@@ -70,6 +78,7 @@ const CALLS: [(&str, Call); 19] = [
     ("shortest", Call::Search(Search::Shortest)),
     ("find_at", Call::Search(Search::FindAt)),
     ("captures_at", Call::Search(Search::CapturesAt)),
+    ("captures_read", Call::Search(Search::CapturesRead)),
     ("find_iter", Call::Search(Search::FindIter)),
     ("captures_iter", Call::Search(Search::CapturesIter)),
     ("split", Call::Search(Search::Split)),
@@ -77,6 +86,7 @@ const CALLS: [(&str, Call); 19] = [
     ("extract", Call::Search(Search::Extract)),
     ("expand", Call::Search(Search::Expand)),
     ("replace", Call::Search(Search::Replace)),
+    ("replace_owned", Call::Search(Search::ReplaceOwned)),
     ("replace_lit", Call::Search(Search::ReplaceLiteral)),
     ("replace_count", Call::Search(Search::ReplaceCount)),
 ];

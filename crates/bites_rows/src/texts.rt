@@ -37,6 +37,7 @@ pub fn push_answer_from(
         Search::Is => is_match(regex, haystack, text),
         Search::Shortest => shortest(regex, haystack, text),
         Search::FindAt => find_at(regex, haystack, text),
+        Search::CapturesRead => captures_read(regex, haystack, text),
         _ => captures_at(regex, haystack, text),
     }
 }
@@ -59,6 +60,7 @@ pub fn push_answer(
         Search::Extract => extract(alloc, regex, haystack, text),
         Search::Expand => expand(alloc, regex, haystack, template, text),
         Search::Replace => by_template(regex, haystack, template, limit, text),
+        Search::ReplaceOwned => by_owned(alloc, regex, haystack, template, limit, text),
         Search::ReplaceLiteral => by_literal(regex, haystack, template, limit, text),
         _ => by_count(alloc, regex, haystack, limit, text),
     }
@@ -101,6 +103,24 @@ fn captures_at(regex: &Regex, haystack: Haystack<'_>, text: &mut String) -> Resu
 fn find_iter(regex: &Regex, haystack: &str, text: &mut String) -> Result<(), AllocError> {
     for found in regex.find_iter(haystack)? {
         push_span(text, Some((found.start(), found.end())))?;
+    }
+    push_none(text)
+}
+
+// A clone of the regex reads the groups into locations, which are cloned too.
+fn captures_read(
+    regex: &Regex,
+    haystack: Haystack<'_>,
+    text: &mut String,
+) -> Result<(), AllocError> {
+    let regex = regex.clone()?;
+    let mut locations = regex.capture_locations()?;
+    let found = regex.captures_read_at(&mut locations, haystack.text, haystack.argument)?;
+    if found.is_some() {
+        let locations = locations.clone()?;
+        for group in 0..locations.len() {
+            push_span(text, locations.get(group))?;
+        }
     }
     push_none(text)
 }
@@ -228,6 +248,19 @@ fn by_template(
         limit => regex.replacen(haystack, limit, template)?,
     };
     push_replaced(text, &replaced)
+}
+
+// As `by_template`, with a template that the call owns.
+fn by_owned(
+    alloc: Global,
+    regex: &Regex,
+    haystack: &str,
+    template: &str,
+    limit: usize,
+    text: &mut String,
+) -> Result<(), AllocError> {
+    let template = String::from_str(alloc, template)?;
+    push_replaced(text, &regex.replacen(haystack, limit, template)?)
 }
 
 fn by_literal(
