@@ -1,10 +1,10 @@
 -- A search from one place goes from place to place as the machine on lists does.
-use Rattle.std.proofs.Common.{◌≡◌, ℕ, zero, suc, ◌+◌, ◌<◌, ◌≤◌, Bool, true, false, ◌||◌, ◌&&◌, List, [], ◌∷◌, ◌++◌, map, length, Option, None, replicate, refl, sym, ap, ap₂, ◌∙◌, subst, arith, true≢false, append-nil, ⊎_elim}
+use Rattle.std.proofs.Common.{◌≡◌, ℕ, zero, suc, ◌+◌, ◌*◌, ◌<◌, ◌≤◌, Bool, true, false, ◌||◌, ◌&&◌, List, [], ◌∷◌, ◌++◌, map, length, Option, None, replicate, refl, sym, ap, ap₂, ◌∙◌, subst, arith, true≢false, append-nil, ⊎_elim}
 use Rattle.std.specs.Prelude.{◌==◌, is_some, if◌then◌else◌}
 use Rattle.bites_spec.specs.Utf8.{piece}
 use Rattle.bites_spec.specs.Walks.{Among}
 use Rattle.bites_spec.specs.Program as program
-use Rattle.bites_spec.specs.Program.{Program, Spot, at}
+use Rattle.bites_spec.specs.Program.{Program, Spot, at, targets}
 use Rattle.bites_spec.specs.Counts.{Record, fit_of}
 use Rattle.bites_machine.specs.Machine as machine
 use Rattle.bites_machine.specs.Machine.{WalksTo, Searching, after, is_empty}
@@ -91,7 +91,7 @@ between_alone p states place walked desk list one width t same room idle visits 
           (subst (λ (ts : List Thread). Among ts u) alone h);
       used = subst (λ (ts : List Thread). IsUsed desk.rows (map row_of ts)) (sym alone)
           (subst (λ (row : ℕ). IsUsed desk.rows (row ∷ [])) (sym first)
-          (used_zero desk.rows [] (let some = room.rows in omega arith) (used_by_none desk.rows idle.free even nothing)));
+          (used_zero desk.rows [] (let some : length desk.rows.counts ≡ 2 * length p.states + targets p + 2 = room.rows in omega (arith, some)) (used_by_none desk.rows idle.free even nothing)));
       rows = room.rows;
       wide = wide;
     })

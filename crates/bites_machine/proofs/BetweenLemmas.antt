@@ -121,12 +121,12 @@ amid_cleared states place walked desk list width cleared b marks stack rows next
   seen = λ q lt. ap (λ (ms : List Bool). slice_index_or ms q false) marks ∙ none_marked (length desk.marks) q ∙ ap (list_any (λ x. x == q)) (sym (none_here place walked.visits b.visits));
   before = λ v h. b.visits v (subst (λ (l : List Spot). Among l v) (all_before place walked.visits b.visits) h);
   noted = ap (λ (r : Pool). length r.notes) rows ∙ b.noted;
-  stack = subst (λ (s : Frames). sum_by (λ s. length (targets_of s)) states + 1 ≤ s.room) (sym stack) b.stack;
+  stack = ap (λ (s : Frames). s.room) stack ∙ b.stack;
   empty = ap (λ (s : Frames). s.frames) stack ∙ b.empty;
   next = omega (arith, ap length next);
   more = room ∙ b.more;
   sum = omega (arith, ap (λ (r : Pool). sum r.counts) rows, sum_within (map row_of list.threads) desk.rows first b.used, length-map list.threads row_of, b.few);
-  rows = subst (λ (r : Pool). 2 * length states + 1 < length r.counts) (sym rows) b.rows;
+  rows = ap (λ (r : Pool). length r.counts) rows ∙ b.rows;
   wide = b.wide ∙ ap (λ (r : Pool). r.width) (sym rows);
 }
 
@@ -189,7 +189,7 @@ module _ (hay : List ℕ) (longest : Bool) (place : ℕ) (states : List program.
   -- the row of the start is one where nothing is written
   pub start_used : (was now : Record) (old new : Desk) (slots left : List (Option ℕ)) →
       WalksSome hay longest place states threads [] was now old new slots left → IsUsed new.rows (0 ∷ (map row_of new.next.threads ++ []))
-  start_used was now old new slots left w = used_zero new.rows (map row_of new.next.threads ++ []) (omega (arith, w.amid.rows)) w.users
+  start_used was now old new slots left w = used_zero new.rows (map row_of new.next.threads ++ []) (let some : length new.rows.counts ≡ 2 * length states + sum_by (λ s. length (targets_of s)) states + 2 = w.amid.rows in omega (arith, some)) w.users
 
   -- the threads, and behind them the start
   pub all_with : (q start : ℕ) (was mid now : Record) (old new last : Desk) (slots left more : List (Option ℕ)) → start ≡ (if longest then place else 0) →

@@ -1,32 +1,32 @@
 -- Cells that are copied within a list.
-use Rattle.std.proofs.Common.{◌≡◌, ℕ, ◌+◌, ◌<◌, ◌≤◌, ◌⊎◌, ⊎_elim, List, ◌++◌, take, drop, length, Option, None, sym, ap, ap₂, ◌∙◌, arith, append_assoc, length-append, length-drop}
-use Rattle.std.specs.Prelude.{slice_set, slice_index_or}
+use Rattle.std.proofs.Common.{◌≡◌, ℕ, ◌+◌, ◌<◌, ◌≤◌, ◌⊎◌, ⊎_elim, List, ◌++◌, take, drop, length, sym, ap, ap₂, ◌∙◌, arith, append_assoc, length-append, length-drop}
+use Rattle.std.specs.Prelude.{slice_set, slice_index}
 use Rattle.std.proofs.lemmas.List.{get_or-drop, length-take-le, places, drop_at, take_at, take_all}
 use Rattle.std.proofs.lemmas.List.Edits.{paste_more}
 use lib.Seq.{paste}
 
 abbrev Cells : Type 0
-Cells = List (Option ℕ)
+Cells = List ℕ
 
 -- a cell before those that were written
-read_below : (d s : Cells) (to k i : ℕ) → i < to → to ≤ length d → slice_index_or (paste d to s k) i None ≡ slice_index_or d i None
+read_below : (d s : Cells) (to k i : ℕ) → i < to → to ≤ length d → slice_index (paste d to s k) i ≡ slice_index d i
 read_below d s to k i below room = grind (arith, places)
 
 -- a cell behind those that were written
-read_above : (d s : Cells) (to k i : ℕ) → to + k ≤ i → to + k ≤ length d → k ≤ length s → slice_index_or (paste d to s k) i None ≡ slice_index_or d i None
+read_above : (d s : Cells) (to k i : ℕ) → to + k ≤ i → to + k ≤ length d → k ≤ length s → slice_index (paste d to s k) i ≡ slice_index d i
 read_above d s to k i above room enough = grind (arith, places)
 
 -- one cell more is copied, from a part that does not meet the one that is written
 pub copied_more : (d xs : Cells) (from to w k : ℕ) → from + w ≤ length d → to + w ≤ length d → (from + w ≤ to) ⊎ (to + w ≤ from) → k < w →
-    xs ≡ paste d to (drop from d) k → slice_set xs (to + k) (slice_index_or xs (from + k) None) ≡ paste d to (drop from d) (k + 1)
+    xs ≡ paste d to (drop from d) k → slice_set xs (to + k) (slice_index xs (from + k)) ≡ paste d to (drop from d) (k + 1)
 copied_more d xs from to w k source target apart lt is =
     let len : k < length (drop from d) = omega (arith, length-drop from d) in
-    let same : slice_index_or (paste d to (drop from d) k) (from + k) None ≡ slice_index_or d (from + k) None =
+    let same : slice_index (paste d to (drop from d) k) (from + k) ≡ slice_index d (from + k) =
     ⊎_elim (λ (a : from + w ≤ to). read_below d (drop from d) to k (from + k) (omega arith) (omega arith))
     (λ (b : to + w ≤ from). read_above d (drop from d) to k (from + k) (omega arith) (omega arith) (omega arith)) apart in
-    ap (λ ys. slice_set ys (to + k) (slice_index_or ys (from + k) None)) is
-    ∙ ap (λ v. slice_set (paste d to (drop from d) k) (to + k) v) (same ∙ sym (get_or-drop from d k None))
-    ∙ paste_more d to (drop from d) k None (omega arith) len
+    ap (λ ys. slice_set ys (to + k) (slice_index ys (from + k))) is
+    ∙ ap (λ v. slice_set (paste d to (drop from d) k) (to + k) v) (same ∙ sym (get_or-drop from d k 0))
+    ∙ paste_more d to (drop from d) k 0 (omega arith) len
 
 module _ (d : Cells) (from to w : ℕ) (source : from + w ≤ length d) (target : to + w ≤ length d) where
   front : Cells

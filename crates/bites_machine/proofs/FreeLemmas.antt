@@ -1,13 +1,13 @@
 -- The free rows of a pool.
-use Rattle.std.proofs.Common.{◌≡◌, ◌≢◌, ℕ, zero, suc, ◌+◌, ◌-◌, ◌*◌, ◌<◌, ◌≤◌, ⊎_elim, inl, inr, Bool, true, false, not, List, [], ◌∷◌, ◌++◌, length, sum, refl, sym, ap, ◌∙◌, subst, arith, length-append, ne_eqb, cond}
+use Rattle.std.proofs.Common.{◌≡◌, ◌≢◌, ℕ, zero, suc, ◌+◌, ◌-◌, ◌*◌, ◌<◌, ◌≤◌, ⊎_elim, inl, inr, Bool, true, false, not, List, [], ◌∷◌, ◌++◌, take, length, sum, refl, sym, ap, ap₂, ◌∙◌, subst, arith, append_assoc, length-append, ne_eqb, cond}
 use Rattle.std.specs.Prelude.{slice_set, slice_index, count_by, replicate}
-use Rattle.std.proofs.lemmas.List.{length-set, get_or-set_same, get_or-set_other, length-replicate}
-use Rattle.std.proofs.lemmas.List.Sums.{sum_by-set, sum_by-le-sum_by}
+use Rattle.std.proofs.lemmas.List.{length-set, get_or-set_same, get_or-set_other, length-replicate, set-append_left, set-append_right}
+use Rattle.std.proofs.lemmas.List.Sums.{sum_by-append, sum_by-set, sum_by-le-sum_by}
 use Rattle.std.proofs.lemmas.List.Folds.{sum_by-replicate}
 use Rattle.bites_spec.specs.Walks.{Among, AllApart, IsNew}
 use Rattle.bites_spec.proofs.SlotLemmas.{Among-left, Among-right, AllApart-append}
 use Rattle.bites_machine.proofs.EdgeLemmas.{Among-apart}
-use Rattle.bites_machine.specs.Rows.{AreFree, AreRows, is_used}
+use Rattle.bites_machine.specs.Rows.{AreFree, AreTaken, counts_of, is_used, one_more, one_less}
 
 used_by : (n : ℕ) → ℕ
 used_by n = count_by is_used (n ∷ [])
@@ -103,41 +103,159 @@ used-le-sum counts = sum_by-le-sum_by (λ n. cond (is_used n) 1 0) (λ n. n) cou
     one_at_most zero = omega arith
     one_at_most (suc n) = cond_most (is_used (suc n)) n
 
--- some row is free where there are fewer users than rows
-pub some_free : (free counts : List ℕ) → AreFree free counts → sum counts + 1 < length counts → 0 < length free
-some_free free counts are room = omega (arith, are.number, used-le-sum counts)
-
--- one row more, below the others
-pub row_below : (low high : ℕ) (free : List ℕ) → 1 < low → AreRows low high free → AreRows (low - 1) high (free ++ (low - 1) ∷ [])
-row_below low high free lt are = record {
-  number = omega (arith, are.number, length-append free ((low - 1) ∷ []));
-  known = λ r h. ⊎_elim
-      (λ (a : Among free r). let old = are.known r a in let l : low - 1 ≤ r = omega (arith, old.0) in (l, old.1))
-      (λ (b : Among ((low - 1) ∷ []) r). ⊎_elim
-      (λ (e : low - 1 ≡ r). let l : low - 1 ≤ r = omega (arith, e) in let m : r < high = omega (arith, e, are.number) in (l, m))
-      (λ n. absurd n) b)
-      (Among-apart free ((low - 1) ∷ []) r h);
-  apart = apart_push free (low - 1) are.apart (λ h. absurd (omega (arith, (are.known (low - 1) h).0)));
-}
-
--- at first every row but row 0 is free
-pub all_free : (n : ℕ) (free : List ℕ) → AreRows 1 n free → AreFree free (replicate n 0)
-all_free n free are = record {
-  first = zero_at n 0;
-  some = rw length-replicate (omega (arith, are.number));
-  known = λ r h. let old = are.known r h in
-      (rw length-replicate old.1, (λ e. absurd (omega (arith, e, old.0))), zero_at n r);
-  apart = are.apart;
-  number = rw length-replicate (omega (arith, are.number, sum_by-replicate (λ k. cond (is_used k) 1 0) n 0, nothing n));
-}
+sum-counts_of : (limit : ℕ) (counts : List ℕ) → sum (counts_of limit counts) ≡ sum counts
+sum-counts_of limit counts =
+    omega (
+      arith,
+      sum_by-append (λ n. n) counts (replicate (limit - length counts) 0),
+      sum_by-replicate (λ n. n) (limit - length counts) 0,
+      nothing (limit - length counts),
+    )
   where
-    zero_at : (n r : ℕ) → slice_index (replicate n 0) r ≡ 0
-    zero_at zero r = refl
-    zero_at (suc n) zero = refl
-    zero_at (suc n) (suc r) = zero_at n r
-
     nothing : (n : ℕ) → n * 0 ≡ 0
     nothing n = omega arith
+
+pub length-counts_of : (limit : ℕ) (counts : List ℕ) → length counts ≤ limit → length (counts_of limit counts) ≡ limit
+length-counts_of limit counts few =
+    omega (arith, length-append counts (replicate (limit - length counts) 0), length-replicate {A = ℕ} (limit - length counts) 0, few)
+
+-- some row was never taken where none is free and there are fewer users than rows
+pub some_left : (limit : ℕ) (counts : List ℕ) → AreFree [] counts → length counts ≤ limit →
+    sum (counts_of limit counts) + 1 < length (counts_of limit counts) → length counts < limit
+some_left limit counts are few room =
+    let number : 0 + count_by is_used counts + 1 ≡ length counts = are.number in
+    omega (arith, number, used-le-sum counts, sum-counts_of limit counts, length-counts_of limit counts few, room)
+
+-- a row that was never taken gets a user
+pub grown : (counts : List ℕ) → AreFree [] counts → AreFree [] (counts ++ 1 ∷ [])
+grown counts are = record {
+  first = first counts are.some are.first;
+  some = omega (arith, length-append counts (1 ∷ []));
+  known = λ r h. absurd h;
+  apart = tt;
+  number = let number : 0 + count_by is_used counts + 1 ≡ length counts = are.number in
+      omega (arith, number, sum_by-append (λ n. cond (is_used n) 1 0) counts (1 ∷ []), used_some 1 (omega arith), length-append counts (1 ∷ []));
+}
+  where
+    first : (counts : List ℕ) → 0 < length counts → slice_index counts 0 ≡ 0 → slice_index (counts ++ 1 ∷ []) 0 ≡ 0
+    first [] some is = absurd (omega arith)
+    first (n ∷ counts) some is = is
+
+-- at first row 0 alone is taken
+pub first_taken : AreFree [] (0 ∷ [])
+first_taken = record {
+  first = refl;
+  some = omega arith;
+  known = λ r h. absurd h;
+  apart = tt;
+  number = refl;
+}
+
+-- row 0 alone is left where a search begins
+pub first_left : (free counts : List ℕ) → AreFree free counts → take 1 counts ≡ 0 ∷ []
+first_left free counts are = only counts are.some are.first
+  where
+    only : (counts : List ℕ) → 0 < length counts → slice_index counts 0 ≡ 0 → take 1 counts ≡ 0 ∷ []
+    only [] some is = absurd (omega arith)
+    only (n ∷ counts) some is = ap (λ k. k ∷ []) is
+
+-- no row has users at first
+pub none_at : (n row : ℕ) → slice_index (replicate n 0) row ≡ 0
+none_at zero row = refl
+none_at (suc n) zero = refl
+none_at (suc n) (suc row) = none_at n row
+
+none_behind : (counts : List ℕ) (n row : ℕ) → slice_index (counts ++ replicate n 0) row ≡ slice_index counts row
+none_behind [] n row = none_at n row
+none_behind (c ∷ counts) n zero = refl
+none_behind (c ∷ counts) n (suc row) = none_behind counts n row
+
+-- a row that was never taken has no users
+pub count_at : (limit : ℕ) (counts : List ℕ) (row : ℕ) → slice_index (counts_of limit counts) row ≡ slice_index counts row
+count_at limit counts row = none_behind counts (limit - length counts) row
+
+-- no row has users where row 0 alone is taken
+pub no_users : (limit row : ℕ) → slice_index (counts_of limit (0 ∷ [])) row ≡ 0
+no_users limit row = count_at limit (0 ∷ []) row ∙ none_at 1 row
+
+-- a row that has users was taken
+used_taken : (counts : List ℕ) (row : ℕ) → 0 < slice_index counts row → row < length counts
+used_taken [] row used = absurd (omega arith)
+used_taken (c ∷ counts) zero used = omega arith
+used_taken (c ∷ counts) (suc row) used = let rest = used_taken counts row used in omega (arith, rest)
+
+-- a row that has users, and row 0, was taken
+pub is_taken : (limit : ℕ) (free counts : List ℕ) (row : ℕ) → AreFree free counts → (row ≢ 0 → 0 < slice_index (counts_of limit counts) row) → row < length counts
+is_taken limit free counts zero are used = are.some
+is_taken limit free counts (suc row) are used =
+    used_taken counts (suc row) (subst (λ n. 0 < n) (count_at limit counts (suc row)) (used (λ e. absurd (omega (arith, e)))))
+
+-- another count of a row that was taken
+pub count_set : (limit : ℕ) (counts : List ℕ) (row v : ℕ) → row < length counts → counts_of limit (slice_set counts row v) ≡ slice_set (counts_of limit counts) row v
+count_set limit counts row v known =
+    ap (λ n. slice_set counts row v ++ replicate (limit - n) 0) (length-set counts row v)
+    ∙ sym (set-append_left counts (replicate (limit - length counts) 0) row v known)
+
+-- one row more is taken
+pub count_pushed : (limit : ℕ) (counts : List ℕ) (v : ℕ) → length counts < limit → counts_of limit (counts ++ v ∷ []) ≡ slice_set (counts_of limit counts) (length counts) v
+count_pushed limit counts v few =
+    append_assoc counts (v ∷ []) (replicate (limit - length (counts ++ v ∷ [])) 0)
+    ∙ ap (λ n. counts ++ (v ∷ replicate n 0)) (less limit (length counts) (length (counts ++ v ∷ [])) (length-append counts (v ∷ [])))
+    ∙ ap (λ l. counts ++ l) (at_first (limit - length counts) v (omega (arith, few)))
+    ∙ sym (set-append_right counts (replicate (limit - length counts) 0) (length counts) (length counts) v refl (omega arith)
+    ∙ ap (λ n. counts ++ slice_set (replicate (limit - length counts) 0) n v) (no_more (length counts)))
+  where
+    less : (limit n m : ℕ) → m ≡ n + 1 → limit - m ≡ limit - n - 1
+    less limit n m e = omega (arith, e)
+
+    no_more : (n : ℕ) → n - n ≡ 0
+    no_more n = omega arith
+
+    at_first : (n v : ℕ) → 0 < n → v ∷ replicate (n - 1) 0 ≡ slice_set (replicate n 0) 0 v
+    at_first zero v some = absurd (omega arith)
+    at_first (suc n) v some = ap (λ k. v ∷ replicate k 0) (one_less n)
+      where
+        one_less : (n : ℕ) → suc n - 1 ≡ n
+        one_less n = omega arith
+
+-- one user more of a row that was taken
+pub count_more : (limit : ℕ) (counts : List ℕ) (row n : ℕ) → row ≢ 0 → row < length counts → n ≡ slice_index counts row →
+    counts_of limit (slice_set counts row (n + 1)) ≡ one_more (counts_of limit counts) row
+count_more limit counts row n other known is =
+    count_set limit counts row (n + 1) known
+    ∙ ap (λ k. slice_set (counts_of limit counts) row (k + 1)) (is ∙ sym (count_at limit counts row))
+    ∙ ap (λ b. cond b (counts_of limit counts) (slice_set (counts_of limit counts) row (slice_index (counts_of limit counts) row + 1))) (sym (ne_eqb row 0 other))
+
+-- one user less of a row that was taken
+pub count_less : (limit : ℕ) (counts : List ℕ) (row n : ℕ) → row ≢ 0 → row < length counts → n ≡ slice_index counts row →
+    counts_of limit (slice_set counts row (n - 1)) ≡ one_less (counts_of limit counts) row
+count_less limit counts row n other known is =
+    count_set limit counts row (n - 1) known
+    ∙ ap (λ k. slice_set (counts_of limit counts) row (k - 1)) (is ∙ sym (count_at limit counts row))
+    ∙ ap (λ b. cond b (counts_of limit counts) (slice_set (counts_of limit counts) row (slice_index (counts_of limit counts) row - 1))) (sym (ne_eqb row 0 other))
+
+-- a row that was taken has another count
+pub taken_set : (limit width most row v : ℕ) (words counts unused rest : List ℕ) → AreTaken limit width most words counts unused →
+    AreFree rest (slice_set counts row v) → AreTaken limit width most words (slice_set counts row v) rest
+taken_set limit width most row v words counts unused rest are free = record {
+  free = free;
+  few = subst (λ n. n ≤ limit) (sym (length-set counts row v)) are.few;
+  cells = are.cells ∙ ap (λ n. n * width) (sym (length-set counts row v));
+  wide = are.wide;
+}
+
+-- one row more is taken
+pub taken_more : (limit width most : ℕ) (words counts more : List ℕ) → AreTaken limit width most words counts [] →
+    length counts < limit → length more ≡ width → AreTaken limit width most (words ++ more) (counts ++ 1 ∷ []) []
+taken_more limit width most words counts more are few len = record {
+  free = grown counts are.free;
+  few = omega (arith, length-append counts (1 ∷ []), few);
+  cells = length-append words more ∙ ap₂ ◌+◌ are.cells len ∙ sym (ap (λ n. n * width) (length-append counts (1 ∷ [])) ∙ one_row (length counts) width);
+  wide = are.wide;
+}
+  where
+    one_row : (n w : ℕ) → (n + 1) * w ≡ n * w + w
+    one_row n w = grind arith
 
 -- the last of the free rows
 pub last_free : (free counts : List ℕ) (row : ℕ) (rest : List ℕ) → free ≡ rest ++ row ∷ [] → AreFree free counts →

@@ -25,6 +25,7 @@ pub mod PathLemmas
 pub mod MachineCases
 pub mod MachineSlots
 pub mod RowLemmas
+pub mod WordLemmas
 pub mod CellLemmas
 pub mod FreeLemmas
 pub mod MarkLemmas

@@ -45,11 +45,11 @@ ready_to_walk states place longest walked desk t width amid known starts = recor
   known = λ f h. ⊎_elim (λ (e : frame_at 0 t.state ≡ f). subst (λ (x : Frame). x.state < length states) e known) (λ n. absurd n) h;
   notes = (omega arith, λ k h. absurd (omega (arith, h)), tt);
   noted = amid.noted;
-  stack = let a = edges_left_within states desk.marks in let b = amid.stack in omega arith;
+  stack = let a = edges_left_within states desk.marks in let b : desk.stack.room ≡ sum_by (λ s. length (targets_of s)) states + 1 = amid.stack in omega arith;
   next = amid.next;
   more = amid.more;
   sum = amid.sum;
-  rows = amid.rows;
+  rows = let r : length desk.rows.counts ≡ 2 * length states + sum_by (λ s. length (targets_of s)) states + 2 = amid.rows in omega (arith, r);
   width = amid.wide;
   starts = starts;
 }
@@ -79,12 +79,12 @@ past_by_walk hay longest place states t was now old new slots left on amid off =
     seen = off.ready.seen;
     before = off.ready.before;
     noted = off.ready.noted;
-    stack = subst (λ n. sum_by (λ s. length (targets_of s)) states + 1 ≤ n) (sym off.room) amid.stack;
+    stack = off.room ∙ amid.stack;
     empty = off.empty;
     next = off.ready.next;
     more = off.ready.more;
     sum = off.ready.sum;
-    rows = off.ready.rows;
+    rows = off.rows ∙ amid.rows;
     wide = off.ready.width;
   };
   users = off.users;
@@ -131,7 +131,7 @@ past_by_cut hay longest place states t was old rows slots cut amid known counts 
     next = amid.next;
     more = amid.more;
     sum = let a = sum-one_less old.rows.counts t.row known in let b = amid.sum in let e = ap sum counts in omega arith;
-    rows = subst (λ n. 2 * length states + 1 < n) (sym (ap length counts ∙ length-one_less old.rows.counts t.row)) amid.rows;
+    rows = ap length counts ∙ length-one_less old.rows.counts t.row ∙ amid.rows;
     wide = amid.wide ∙ sym width;
   };
   users = λ others used. released t.row (map row_of old.next.threads ++ others) old.rows rows counts same width used;

@@ -1,5 +1,5 @@
 -- A search that goes from place to place, and what it answers where it ends.
-use Rattle.std.proofs.Common.{◌≡◌, ℕ, zero, suc, ◌+◌, ◌*◌, ◌<◌, ◌≤◌, Bool, true, false, ◌||◌, ◌&&◌, cond, List, [], ◌∷◌, map, length, Option, Some, None, replicate, refl, sym, ap, ap₂, ◌∙◌, subst, arith, true≢false}
+use Rattle.std.proofs.Common.{◌≡◌, ℕ, zero, suc, ◌+◌, ◌<◌, ◌≤◌, Bool, true, false, ◌||◌, ◌&&◌, cond, List, [], ◌∷◌, map, length, Option, Some, None, replicate, refl, sym, ap, ap₂, ◌∙◌, subst, arith, true≢false}
 use Rattle.std.specs.Prelude.{◌==◌, is_some, IfSome}
 use Rattle.bites_spec.specs.Utf8.{piece}
 use Rattle.bites_spec.specs.Walks.{Among}
@@ -88,7 +88,7 @@ room_between p states place walked desk list width rows empty same between most 
       empty = b.empty;
       next = b.more;
       threads = room ∙ b.room;
-      rows = subst (λ n. 2 * length p.states + 1 < n) (sym counts) b.rows;
+      rows = counts ∙ b.rows;
       most = most;
     }
 

@@ -1,7 +1,7 @@
 -- Rows of cells, and what is noted and written in them.
 use Rattle.std.proofs.Common.{◌≡◌, ℕ, zero, suc, ◌+◌, ◌*◌, ◌<◌, ◌≤◌, List, [], ◌∷◌, ◌++◌, take, drop, length, Option, Some, refl, sym, ap, ap₂, ◌∙◌, arith, append_assoc, length-drop}
 use Rattle.std.specs.Prelude.{slice_set, slice_index_or}
-use Rattle.std.proofs.lemmas.List.{drop-drop, drop_at, take_at, length-take-le, length-set}
+use Rattle.std.proofs.lemmas.List.{drop-drop, drop_at, drop_all, take_at, take_all, length-take-le, length-set, append-nil}
 use Rattle.std.proofs.Math.Nat.{mul-le-mul_left, mul-le-mul_right}
 use Rattle.bites_machine.specs.Rows.{rows_of, with_notes}
 
@@ -32,8 +32,8 @@ row_at w (suc n) zero cells lt = ap (λ k. take w (drop k cells)) (zero_row w)
 row_at w (suc n) (suc r) cells lt =
     row_at w n r (drop w cells) (omega arith) ∙ ap (take w) (drop-drop (r * w) w cells ∙ ap (λ k. drop k cells) (sym (row_step w r)))
 
--- one row is written
-pub row_written : (w n r : ℕ) (cells row : List (Option ℕ)) → r < n → n * w ≤ length cells → length row ≡ w →
+-- one row is written, or put behind all that are there
+row_written : (w n r : ℕ) (cells row : List (Option ℕ)) → r < n → r * w ≤ length cells → length row ≡ w →
     rows_of w n (take (r * w) cells ++ (row ++ drop (r * w + w) cells)) ≡ slice_set (rows_of w n cells) r row
 row_written w zero r cells row lt room len = absurd (omega arith)
 row_written w (suc n) zero cells row lt room len =
@@ -46,9 +46,9 @@ row_written w (suc n) zero cells row lt room len =
     from_zero : (w : ℕ) → 0 + w ≡ w
     from_zero w = omega arith
 row_written w (suc n) (suc r) cells row lt room len =
-    let fits : w ≤ length cells = omega (arith, row_step w n, room) in
+    let fits : w ≤ length cells = omega (arith, row_step w r, room) in
     let front : length (take w cells) ≡ w = length-take-le w cells fits in
-    let rest : n * w ≤ length (drop w cells) = omega (arith, row_step w n, room, length-drop w cells) in
+    let rest : r * w ≤ length (drop w cells) = omega (arith, row_step w r, room, length-drop w cells) in
     let split : take (suc r * w) cells ++ (row ++ drop (suc r * w + w) cells) ≡ take w cells ++ (take (r * w) (drop w cells) ++ (row ++ drop (r * w + w) (drop w cells))) =
     ap₂ (λ x y. x ++ (row ++ y)) (ap (λ k. take k cells) (row_step w r) ∙ take_parts w (r * w) cells) (ap (λ k. drop k cells) (behind w (r * w) (suc r * w) (row_step w r)) ∙ sym (drop-drop (r * w + w) w cells))
     ∙ append_assoc (take w cells) (take (r * w) (drop w cells)) (row ++ drop (r * w + w) (drop w cells)) in
@@ -81,16 +81,35 @@ pub rows_apart : (w r s : ℕ) → r < s → r * w + w ≤ s * w
 rows_apart w r s lt = row_fits w w s r lt (omega arith)
 
 -- a slice that was written is the whole list
-pub whole_again : (n : ℕ) (xs ys : List (Option ℕ)) → length xs ≡ length ys → n ≡ length ys → take n (xs ++ drop (length xs) ys) ≡ xs
+pub whole_again : (n : ℕ) (xs ys : List ℕ) → length xs ≡ length ys → n ≡ length ys → take n (xs ++ drop (length xs) ys) ≡ xs
 whole_again n xs ys len is = take_at xs (drop (length xs) ys) n (omega (arith, len, is))
 
--- a row is the copy of another, with the place in some slots
-pub row_copied : (w most n row fresh place : ℕ) (ks : List ℕ) (cells : List (Option ℕ)) → row < n → fresh < n → w ≤ most → length cells ≡ n * most →
-    rows_of w n (take (fresh * w) cells ++ (with_notes place ks (take w (drop (row * w) cells)) ++ drop (fresh * w + w) cells))
-    ≡ slice_set (rows_of w n cells) fresh (with_notes place ks (slice_index_or (rows_of w n cells) row []))
-row_copied w most n row fresh place ks cells known new le is =
-    let fits : row * w + w ≤ n * most = row_fits w most n row known le in
-    let len : length (with_notes place ks (take w (drop (row * w) cells))) ≡ w =
-    length-with_notes place ks (take w (drop (row * w) cells)) ∙ length-take-le w (drop (row * w) cells) (omega (arith, length-drop (row * w) cells, fits, is)) in
-    row_written w n fresh cells (with_notes place ks (take w (drop (row * w) cells))) new (omega (arith, mul-le-mul_left n le, is)) len
-    ∙ ap (λ r. slice_set (rows_of w n cells) fresh (with_notes place ks r)) (sym (row_at w n row cells known))
+module _ (w limit taken row place : ℕ) (ks : List ℕ) (cells : List (Option ℕ)) (known : row < taken) (len : length cells ≡ taken * w) where
+  -- the row, with the place in some slots
+  abbrev pub copy : List (Option ℕ)
+  copy = with_notes place ks (take w (drop (row * w) cells))
+
+  length-copy : length (with_notes place ks (take w (drop (row * w) cells))) ≡ w
+  length-copy =
+      let fits : row * w + w ≤ taken * w = row_fits w w taken row known (omega arith) in
+      length-with_notes place ks (take w (drop (row * w) cells)) ∙ length-take-le w (drop (row * w) cells) (omega (arith, length-drop (row * w) cells, fits, len))
+
+  -- a row that was taken is the copy of another
+  pub row_copied : (fresh : ℕ) → fresh < taken → taken ≤ limit →
+      rows_of w limit (take (fresh * w) cells ++ (copy ++ drop (fresh * w + w) cells))
+      ≡ slice_set (rows_of w limit cells) fresh (with_notes place ks (slice_index_or (rows_of w limit cells) row []))
+  row_copied fresh new few =
+      let fits : fresh * w + w ≤ taken * w = row_fits w w taken fresh new (omega arith) in
+      row_written w limit fresh cells copy (omega arith) (omega (arith, fits, len)) length-copy
+      ∙ ap (λ r. slice_set (rows_of w limit cells) fresh (with_notes place ks r)) (sym (row_at w limit row cells (omega arith)))
+
+  -- a row that is put behind those that were taken is the copy of another
+  pub row_pushed : taken < limit →
+      rows_of w limit (cells ++ copy) ≡ slice_set (rows_of w limit cells) taken (with_notes place ks (slice_index_or (rows_of w limit cells) row []))
+  row_pushed few =
+      let behind : cells ++ copy ≡ take (taken * w) cells ++ (copy ++ drop (taken * w + w) cells) =
+      ap₂ (λ x y. x ++ y) (sym (take_all (taken * w) cells (omega (arith, len))))
+      (sym (append-nil copy) ∙ ap (λ y. copy ++ y) (sym (drop_all (taken * w + w) cells (omega (arith, len))))) in
+      ap (rows_of w limit) behind
+      ∙ row_written w limit taken cells copy few (omega (arith, len)) length-copy
+      ∙ ap (λ r. slice_set (rows_of w limit cells) taken (with_notes place ks r)) (sym (row_at w limit row cells (omega arith)))

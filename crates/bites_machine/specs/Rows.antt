@@ -1,5 +1,5 @@
 -- A pool of rows of slots, which threads share.
-use Rattle.std.specs.Prelude.{◌≡◌, ◌≢◌, ℕ, zero, suc, ◌+◌, ◌-◌, ◌<◌, ◌≤◌, Bool, not, List, [], ◌∷◌, take, drop, length, Option, Some, if◌then◌else◌, ◌==◌, slice_set, slice_index, count_by}
+use Rattle.std.specs.Prelude.{◌≡◌, ◌≢◌, ℕ, zero, suc, ◌+◌, ◌-◌, ◌*◌, ◌<◌, ◌≤◌, Bool, not, List, [], ◌∷◌, ◌++◌, take, drop, length, replicate, Option, None, Some, if◌then◌else◌, ◌==◌, slice_set, slice_index, count_by}
 use Rattle.bites_spec.specs.Walks.{Among, AllApart}
 
 -- the rows, how many users each has, the slots that were noted, how many slots a row has and may have
@@ -19,6 +19,19 @@ rows_of width (suc n) cells = take width cells ∷ rows_of width n (drop width c
 abbrev pub with_notes : ℕ → List ℕ → List (Option ℕ) → List (Option ℕ)
 with_notes place [] slots = slots
 with_notes place (k ∷ ks) slots = with_notes place ks (slice_set slots k (Some place))
+
+-- the word of a slot where nothing was written: the greatest one
+abbrev pub no_slot : ℕ
+no_slot = 18446744073709551615
+
+-- the slot that a word stands for
+abbrev pub slot_of : ℕ → Option ℕ
+slot_of word = if word == no_slot then None else Some word
+
+-- the word is written at each of the slots that were noted
+abbrev pub with_words : ℕ → List ℕ → List ℕ → List ℕ
+with_words word [] words = words
+with_words word (k ∷ ks) words = with_words word ks (slice_set words k word)
 
 -- one user more; row 0 is not counted
 abbrev pub one_more : List ℕ → ℕ → List ℕ
@@ -40,8 +53,13 @@ pub record AreFree (free counts : List ℕ) : Type 0 where
   pub apart : AllApart free
   pub number : length free + count_by is_used counts + 1 ≡ length counts
 
--- the rows from the one on and below the other, each once
-pub record AreRows (low high : ℕ) (rows : List ℕ) : Type 0 where
-  pub number : length rows + low ≡ high
-  pub known : (row : ℕ) → Among rows row → (low ≤ row) × (row < high)
-  pub apart : AllApart rows
+-- the counts of so many rows: those of the rows that were taken, and none for the others
+abbrev pub counts_of : ℕ → List ℕ → List ℕ
+counts_of limit counts = counts ++ replicate (limit - length counts) 0
+
+-- The rows that were taken, of so many: the words of their slots, their counts, and those of them that are free.
+pub record AreTaken (limit width most : ℕ) (words counts unused : List ℕ) : Type 0 where
+  pub free : AreFree unused counts
+  pub few : length counts ≤ limit
+  pub cells : length words ≡ length counts * width
+  pub wide : width ≤ most

@@ -46,18 +46,29 @@ pub record WalksOff (hay : List ℕ) (longest : Bool) (place : ℕ) (states : Li
   pub walks : (p : Program) → p.states ≡ states → (others : List ℕ) → IsUsed old.rows (users_of old t others) →
       WalksTo hay longest p place (walking_at place old slots (thread_of old.rows t ∷ []) was) (walking_at place new left [] now)
 
+-- how many frames the stack holds, and how many rows the pool, where programs take so much
+abbrev pub frames_for : Fit → ℕ
+frames_for fit = fit.targets + 1
+
+abbrev pub rows_for : Fit → ℕ
+rows_for fit = 2 * fit.states + fit.targets + 2
+
+-- what searches over these states take, but for slots
+abbrev pub fit_in : List program.State → Fit
+fit_in states = record { states = length states; slots = 0; targets = sum_by (λ s. length (targets_of s)) states }
+
 -- What holds between the walks of two threads at a place.
 pub record IsAmid (states : List program.State) (place : ℕ) (walked : Record) (desk : Desk) (width : ℕ) : Type 0 where
   pub marks : length desk.marks ≡ length states
   pub seen : (q : ℕ) → q < length states → slice_index_or desk.marks q false ≡ list_any (λ x. x == q) (seen_here place walked.visits)
   pub before : (v : Spot) → Among (visited_before place walked.visits) v → v.place < place
   pub noted : length desk.rows.notes ≡ length states
-  pub stack : sum_by (λ s. length (targets_of s)) states + 1 ≤ desk.stack.room
+  pub stack : desk.stack.room ≡ frames_for (fit_in states)
   pub empty : desk.stack.frames ≡ []
   pub next : length desk.next.threads ≤ marked desk.marks
   pub more : desk.next.room ≡ length states
   pub sum : sum desk.rows.counts ≤ length states + marked desk.marks
-  pub rows : 2 * length states + 1 < length desk.rows.counts
+  pub rows : length desk.rows.counts ≡ rows_for (fit_in states)
   pub wide : width ≡ desk.rows.width
 
 -- A thread was walked, or let go where a match cut it off; other threads wait below it.
@@ -95,11 +106,11 @@ pub record HasWalked (states : List program.State) (place : ℕ) (walked : Recor
   pub marks : length desk.marks ≡ length states
   pub before : (v : Spot) → Among (visited_before place walked.visits) v → v.place < place
   pub noted : length desk.rows.notes ≡ length states
-  pub stack : sum_by (λ s. length (targets_of s)) states + 1 ≤ desk.stack.room
+  pub stack : desk.stack.room ≡ frames_for (fit_in states)
   pub empty : desk.stack.frames ≡ []
   pub next : length desk.next.threads ≤ marked desk.marks
   pub more : desk.next.room ≡ length states
-  pub rows : 2 * length states + 1 < length desk.rows.counts
+  pub rows : length desk.rows.counts ≡ rows_for (fit_in states)
   pub wide : width ≡ desk.rows.width
 
 -- All threads of a place were walked, or let go, and behind them the start, if one is given.
@@ -120,14 +131,14 @@ pub record IsBetween (states : List program.State) (place : ℕ) (walked : Recor
   pub marks : length desk.marks ≡ length states
   pub visits : (v : Spot) → Among walked.visits v → v.place < place
   pub noted : length desk.rows.notes ≡ length states
-  pub stack : sum_by (λ s. length (targets_of s)) states + 1 ≤ desk.stack.room
+  pub stack : desk.stack.room ≡ frames_for (fit_in states)
   pub empty : desk.stack.frames ≡ []
   pub more : desk.next.room ≡ length states
   pub room : list.room ≡ length states
   pub few : length list.threads ≤ length states
   pub known : (t : Thread) → Among list.threads t → t.state < length states
   pub used : IsUsed desk.rows (map row_of list.threads)
-  pub rows : 2 * length states + 1 < length desk.rows.counts
+  pub rows : length desk.rows.counts ≡ rows_for (fit_in states)
   pub wide : width ≡ desk.rows.width
 
 -- A search of the machine on lists stands at a place, with these threads, and this is what it found and did.
@@ -167,15 +178,15 @@ module _ (p : Program) (hay : List ℕ) (longest earliest : Bool) (start : ℕ) 
 abbrev pub IsOfProgram : List program.State → Option ℕ → Type 0
 IsOfProgram states begins = (p : Program) × (p.states ≡ states) × IsWellFormed p × IfSome begins (λ q. q ≡ p.start)
 
--- There is room for the searches of programs that take so much.
+-- There is room for the searches of programs that take so much: no fewer frames and rows, and no more.
 pub record HasRoom (fit : Fit) (desk : Desk) (list : Listed) : Type 0 where
   pub marks : length desk.marks ≡ fit.states
   pub noted : length desk.rows.notes ≡ fit.states
-  pub stack : fit.targets + 1 ≤ desk.stack.room
+  pub stack : desk.stack.room ≡ frames_for fit
   pub empty : desk.stack.frames ≡ []
   pub next : desk.next.room ≡ fit.states
   pub threads : list.room ≡ fit.states
-  pub rows : 2 * fit.states + 1 < length desk.rows.counts
+  pub rows : length desk.rows.counts ≡ rows_for fit
   pub most : fit.slots ≤ desk.rows.most
 
 -- nothing is held from an earlier search

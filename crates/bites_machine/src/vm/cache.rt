@@ -5,7 +5,7 @@ ghost use Rattle.bites_spec.specs.Program as program;
 ghost use Rattle.bites_spec.specs.Counts.{fit_of};
 ghost use Rattle.bites_machine.specs.Prefix.{IsPrefix};
 ghost use Rattle.bites_machine.specs.States.{states_of};
-ghost use Rattle.bites_machine.specs.Sweep.{IsProgramOf, Sought};
+ghost use Rattle.bites_machine.specs.Sweep.{IsProgramOf, Sought, frames_for, rows_for};
 ghost use Rattle.bites_machine.specs.Anchored.{SoughtFrom};
 
 use super::counted::{Counted, Walked};
@@ -49,8 +49,10 @@ impl Model for Cache {
 }
 
 impl Cache {
-    /// Room for searches of the program. It takes memory in proportion to its states and targets, and for
-    /// each of them to its slots.
+    /// Room for searches of the program, or a refusal where there is not so much memory.
+    ///
+    /// It takes 60 bytes for each state and 16 for each frame. For each row it reserves 16 bytes, and 8 for each
+    /// slot; the room of a row is first written when a search needs the row.
     pub fn new(program: &Program) -> Result<Cache, AllocError>
         ensures { IfOk result (λ cache. cache.fits ≡ fit_of program.now.program) }
     {
@@ -61,7 +63,7 @@ impl Cache {
         let frames = targets.checked_add(1).ok_or(AllocError)?;
         let threads = states.checked_mul(2).ok_or(AllocError)?;
         let rows = frames.checked_add(threads).ok_or(AllocError)?;
-        let rows = rows.checked_add(2).ok_or(AllocError)?;
+        let rows = rows.checked_add(1).ok_or(AllocError)?;
         let desk = Desk {
             marks: Marks::new(alloc, states)?,
             stack: Stack::new(alloc, frames)?,
@@ -77,6 +79,22 @@ impl Cache {
             threads: Threads::new(alloc, states)?,
             walked: Walked::new(),
         })
+    }
+
+    /// Returns the number of rows of slots: two for each state, one for each target, and two more. No search
+    /// changes it.
+    pub fn rows(&self) -> usize
+        ensures { result ≡ rows_for self.now.fits }
+    {
+        self.desk.rows.len()
+    }
+
+    /// Returns the number of frames that the stack of a walk holds: one for each target, and one more. No search
+    /// changes it.
+    pub fn frames(&self) -> usize
+        ensures { result ≡ frames_for self.now.fits }
+    {
+        self.desk.stack.room()
     }
 
     /// Whether the cache was made for a program of as many states, slots and targets.

@@ -1,49 +1,55 @@
 //! The pool of rows: a thread names a row of slots, which it may share with other threads.
 
-ghost use Rattle.std.specs.Prelude.{◌≡◌, ◌≢◌, ◌^◌, ◌++◌, List, ◌∷◌, [], drop, replicate, ◌⊎◌, ℕ, ◌+◌, ◌<◌, ◌≤◌, Some, None, IfOk, length, sum, take, if◌then◌else◌, nat_lt, slice_index, slice_index_or, slice_set, vec_capacity};
+ghost use Rattle.std.specs.Prelude.{◌≡◌, ◌≢◌, ◌++◌, List, ◌∷◌, [], drop, map, replicate, ◌⊎◌, ℕ, ◌+◌, ◌<◌, ◌≤◌, None, IfOk, length, sum, take, if◌then◌else◌, nat_lt, slice_index, slice_index_or, slice_set, vec_capacity};
 ghost use lib.Seq.{paste};
-ghost use Rattle.bites_machine.specs.Rows.{with_notes, one_more, one_less, AreRows};
+ghost use Rattle.bites_machine.specs.Rows.{no_slot, slot_of, with_notes, with_words, one_more, one_less};
 ghost use Rattle.bites_machine.specs.Used.{IsUsed, GoesOnBy};
 
 use std::alloc::{AllocError, Global};
 use std::marker::Model;
 
-/// Rows of slots, all of them made at once. Each row counts its users.
+// The word of a slot where nothing was written. No offset is as great, since a slice has fewer than 2^63 bytes.
+const NONE: usize = usize::MAX;
+
+/// Rows of slots, whose room is reserved at once. Each row counts its users.
 ///
 /// Row 0 is the one where nothing was written: it is never written, never counted, and any number of
-/// threads may name it.
+/// threads may name it. The other rows are taken in order, and one that has lost its users before one that was
+/// never taken. So the memory of a row that no search needs is never touched.
 #[derive(Drop)]
 pub struct Rows {
-    // How many slots a row may have, and how many it has in this search.
+    // How many rows there are, how many slots one may have, and how many it has in this search.
+    limit: usize,
     most: usize,
     width: usize,
-    // The slots of the rows, one row behind another.
-    cells: Vec<Option<usize>>,
+    // The slots of the rows that were taken in this search, one row behind another.
+    cells: Vec<usize>,
+    // How many users each of these has.
     counts: Vec<usize>,
-    // The rows that have no user.
+    // Those of them that have no user.
     free: Vec<usize>,
     // The slots that a walk has written so far.
     notes: Vec<u32>,
 }
 
 impl Model for Rows {
-    ghost use Rattle.std.specs.Prelude.{◌≡◌, ◌*◌, ◌≤◌, length, vec_capacity};
-    ghost use Rattle.bites_machine.specs.Rows.{Pool, rows_of, AreFree};
+    ghost use Rattle.std.specs.Prelude.{◌*◌, ◌≤◌, map, vec_capacity};
+    ghost use Rattle.bites_machine.specs.Rows.{Pool, rows_of, slot_of, counts_of, AreTaken};
 
     ghost Value = { Pool };
 
     ghost view = { λ a. record {
-      rows = rows_of a.width (length a.counts.items) a.cells.items;
-      counts = a.counts.items;
+      rows = rows_of a.width a.limit (map slot_of a.cells.items);
+      counts = counts_of a.limit a.counts.items;
       notes = a.notes.items;
       width = a.width;
       most = a.most;
     } };
 
-    ghost invariant = { λ a. AreFree a.free.items a.counts.items
-        × (length a.counts.items ≤ vec_capacity a.free)
-        × (length a.cells.items ≡ length a.counts.items * a.most)
-        × (a.width ≤ a.most) };
+    ghost invariant = { λ a. AreTaken a.limit a.width a.most a.cells.items a.counts.items a.free.items
+        × (a.limit * a.most ≤ vec_capacity a.cells)
+        × (a.limit ≤ vec_capacity a.counts)
+        × (a.limit ≤ vec_capacity a.free) };
 }
 
 impl Rows {
@@ -60,28 +66,43 @@ impl Rows {
         ensures most { IfOk result (λ r. r.most ≡ most) }
     {
         let cells = rows.checked_mul(most).ok_or(AllocError)?;
+        let cells = Vec::with_capacity(alloc, cells)?;
+        let mut counts = Vec::with_capacity(alloc, rows)?;
+        counts.push(0)?;
         Ok(Rows {
+            limit: rows,
             most,
             width: 0,
-            cells: vec![in alloc; None; cells]?,
-            counts: vec![in alloc; 0; rows]?,
-            free: all_but_first(alloc, rows)?,
+            cells,
+            counts,
+            free: Vec::with_capacity(alloc, rows)?,
             notes: vec![in alloc; 0; notes]?,
         })
     }
 
-    /// Rows of so many slots from now on; nothing is written in row 0.
+    /// Rows of so many slots from now on, none of them with a user; nothing is written in row 0.
     pub(super) fn begin(&mut self, width: usize)
         requires { width ≤ self.old.most }
         ensures width { self.new.width ≡ width }
         ensures nothing { slice_index_or self.new.rows 0 [] ≡ replicate width None }
         ensures even { length self.new.rows ≡ length self.new.counts }
-        ensures counts { self.new.counts ≡ self.old.counts }
+        ensures free { (row : ℕ) → slice_index self.new.counts row ≡ 0 }
+        ensures count { length self.new.counts ≡ length self.old.counts }
         ensures notes { self.new.notes ≡ self.old.notes }
         ensures most { self.new.most ≡ self.old.most }
     {
         self.width = width;
-        clear(&mut self.cells, width);
+        self.free.clear();
+        self.counts.truncate(1);
+        self.cells.clear();
+        let _ = self.cells.resize(width, NONE);
+    }
+
+    /// How many rows there are.
+    pub(super) fn len(&self) -> usize
+        ensures { result ≡ length self.now.counts }
+    {
+        self.limit
     }
 
     /// Row 0 has no users that are counted.
@@ -139,6 +160,7 @@ impl Rows {
         requires noted { noted ≤ length self.old.notes }
         requires slots { (k : ℕ) → k < noted → slice_index self.old.notes k < self.old.width }
         requires room { sum self.old.counts + 1 < length self.old.counts }
+        requires place { place < no_slot }
         ensures { GoesOnBy place row noted result self.old self.new }
     {
         if noted == 0 {
@@ -178,6 +200,7 @@ impl Rows {
         requires slots { (k : ℕ) → k < noted → slice_index self.old.notes k < self.old.width }
         requires used { row ≢ 0 → 0 < slice_index self.old.counts row }
         requires room { sum self.old.counts + 1 < length self.old.counts }
+        requires place { place < no_slot }
         ensures known { result < length self.old.counts }
         ensures fresh { slice_index self.old.counts result ≡ 0 }
         ensures other { result ≢ 0 }
@@ -188,11 +211,20 @@ impl Rows {
         ensures width { self.new.width ≡ self.old.width }
         ensures most { self.new.most ≡ self.old.most }
     {
+        let from = row * self.width;
         let Some(fresh) = self.free.pop() else {
-            unreachable!()
+            let fresh = self.counts.len();
+            let _ = self.counts.push(1);
+            push_row(
+                &mut self.cells,
+                from,
+                self.width,
+                &self.notes[..noted],
+                place,
+            );
+            return fresh;
         };
         self.counts[fresh] = 1;
-        let from = row * self.width;
         let to = fresh * self.width;
         copy_row(
             &mut self.cells,
@@ -209,6 +241,7 @@ impl Rows {
     #[inline(always)]
     pub(super) fn keep(&self, row: usize, noted: usize, place: usize, slots: &mut [Option<usize>])
         requires known { row < length self.now.counts }
+        requires used { row ≢ 0 → 0 < slice_index self.now.counts row }
         requires noted { noted ≤ length self.now.notes }
         requires slots { (k : ℕ) → k < noted → slice_index self.now.notes k < self.now.width }
         requires width { length slots.old ≡ self.now.width }
@@ -221,31 +254,16 @@ impl Rows {
     }
 }
 
-// The rows from the last to row 1.
-fn all_but_first(alloc: Global, rows: usize) -> Result<Vec<usize>, AllocError>
-    requires { 0 < rows }
-    ensures rows { IfOk result (λ v. AreRows 1 rows v.items) }
-    ensures room { IfOk result (λ v. rows ≤ vec_capacity v) }
+// The slot that a word stands for.
+#[inline(always)]
+fn slot(word: usize) -> Option<usize>
+    ensures { result ≡ slot_of word }
 {
-    let mut free = Vec::with_capacity(alloc, rows)?;
-    let mut row = rows;
-    while row > 1 {
-        row -= 1;
-        free.push(row)?;
-    }
-    Ok(free)
-}
-
-// Nothing stands in the first so many cells.
-fn clear(cells: &mut [Option<usize>], width: usize)
-    requires { width ≤ length cells.old }
-    ensures { take width cells.new ≡ replicate width None }
-{
-    cells[..width].fill(None);
+    if word == NONE { None } else { Some(word) }
 }
 
 // So many cells from a place on are written behind another place.
-fn copy_cells(cells: &mut [Option<usize>], from: usize, to: usize, width: usize)
+fn copy_cells(cells: &mut [usize], from: usize, to: usize, width: usize)
     requires from { from + width ≤ length cells.old }
     requires to { to + width ≤ length cells.old }
     requires apart { (from + width ≤ to) ⊎ (to + width ≤ from) }
@@ -256,36 +274,54 @@ fn copy_cells(cells: &mut [Option<usize>], from: usize, to: usize, width: usize)
     }
 }
 
-// The slots become these. Rows are short, so that a loop costs less than a call that copies memory.
+// The slots become those that a row has. Rows are short, so that a loop costs less than a call that copies memory.
 #[inline(always)]
-fn copy_slots(slots: &mut [Option<usize>], row: &[Option<usize>])
+fn copy_slots(slots: &mut [Option<usize>], row: &[usize])
     requires { length slots.old ≡ length row.now }
-    ensures { slots.new ≡ row.now }
+    ensures { slots.new ≡ map slot_of row.now }
 {
     for k in 0..slots.len() {
-        slots[k] = row[k];
+        slots[k] = slot(row[k]);
     }
 }
 
+// A copy of a row of so many cells is put behind all cells, with the place of the haystack in these slots.
+fn push_row(cells: &mut Vec<usize>, from: usize, width: usize, notes: &[u32], place: usize)
+    requires from { from + width ≤ length cells.old.items }
+    requires room { length cells.old.items + width ≤ vec_capacity cells.old }
+    requires notes { (k : ℕ) → k < length notes.now → slice_index notes.now k < width }
+    ensures items { cells.new.items ≡ cells.old.items
+        ++ with_words place notes.now (take width (drop from cells.old.items)) }
+    ensures capacity { vec_capacity cells.old ≤ vec_capacity cells.new }
+{
+    let to = cells.len();
+    let _ = cells.extend_from_within(from..from + width);
+    write_words(&mut cells[to..], notes, place);
+}
+
 // A row of so many cells is written at a place, with the place of the haystack in these slots.
-fn copy_row(
-    cells: &mut [Option<usize>],
-    from: usize,
-    to: usize,
-    width: usize,
-    notes: &[u32],
-    place: usize,
-)
+fn copy_row(cells: &mut [usize], from: usize, to: usize, width: usize, notes: &[u32], place: usize)
     requires from { from + width ≤ length cells.old }
     requires to { to + width ≤ length cells.old }
     requires apart { (from + width ≤ to) ⊎ (to + width ≤ from) }
     requires notes { (k : ℕ) → k < length notes.now → slice_index notes.now k < width }
     ensures { cells.new ≡ take to cells.old
-        ++ (with_notes place notes.now (take width (drop from cells.old))
+        ++ (with_words place notes.now (take width (drop from cells.old))
         ++ drop (to + width) cells.old) }
 {
     copy_cells(cells, from, to, width);
-    write_notes(&mut cells[to..to + width], notes, place);
+    write_words(&mut cells[to..to + width], notes, place);
+}
+
+// The place is written to each of these cells of a row.
+#[inline(always)]
+fn write_words(cells: &mut [usize], notes: &[u32], place: usize)
+    requires { (k : ℕ) → k < length notes.now → slice_index notes.now k < length cells.old }
+    ensures { cells.new ≡ with_words place notes.now cells.old }
+{
+    for slot in notes {
+        cells[*slot as usize] = place;
+    }
 }
 
 // The place is written to each of these slots.

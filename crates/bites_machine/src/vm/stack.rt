@@ -46,6 +46,13 @@ impl Stack {
         })
     }
 
+    /// How many frames the stack holds at most.
+    pub(super) fn room(&self) -> usize
+        ensures { result ≡ self.now.room }
+    {
+        self.frames.len()
+    }
+
     #[inline(always)]
     pub(super) fn push(&mut self, frame: Frame)
         requires { length self.old.frames < self.old.room }

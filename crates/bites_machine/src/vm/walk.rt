@@ -1,7 +1,7 @@
 //! The walk: from place to place with threads in order of preference.
 
 ghost use Rattle.bites_machine.specs.Used.{IsUsed, slots_at};
-ghost use Rattle.bites_machine.specs.Rows.{with_notes};
+ghost use Rattle.bites_machine.specs.Rows.{no_slot, with_notes};
 ghost use Rattle.bites_machine.specs.Visits.{lets_on};
 ghost use Rattle.bites_syntax.specs.View.{look_of};
 ghost use Rattle.std.specs.Option.{option_or};
@@ -16,7 +16,7 @@ ghost use Rattle.bites_spec.specs.Range.{in_ranges};
 ghost use Rattle.bites_spec.specs.Walks.{IsNew};
 ghost use Rattle.std.specs.Bool.{MatchBool};
 ghost use Rattle.bites_machine.specs.Framed.{framed, frame_at};
-ghost use Rattle.std.specs.Prelude.{◌≡◌, ℕ, ◌+◌, ◌++◌, ◌∷◌, ◌<◌, ◌≤◌, ◌==◌, List, [], drop, take, length, Some, if◌then◌else◌, is_some, option_map, sum, slice_index, option_to_list};
+ghost use Rattle.std.specs.Prelude.{◌≡◌, ◌≢◌, ℕ, ◌+◌, ◌++◌, ◌∷◌, ◌<◌, ◌≤◌, ◌==◌, List, [], drop, take, length, Some, if◌then◌else◌, is_some, option_map, sum, slice_index, option_to_list};
 ghost use Rattle.bites_spec.specs.Program as program;
 ghost use Rattle.bites_spec.specs.Program.{targets_of, at, state_at, HasRanges, AreRanges};
 
@@ -157,6 +157,7 @@ fn take(desk: &mut Desk, place: usize, thread: Thread, noted: usize, target: u32
     requires slots { (k : ℕ) → k < noted →
         slice_index desk.old.rows.notes k < desk.old.rows.width }
     requires rows { sum desk.old.rows.counts + 1 < length desk.old.rows.counts }
+    requires place { place < no_slot }
     ensures { MatchBool takes (PutsIn place target noted thread desk.old desk.new)
         (desk.new ≡ desk.old) }
 {
@@ -234,6 +235,7 @@ fn put_in(desk: &mut Desk, place: usize, thread: Thread, noted: usize, target: u
     requires slots { (k : ℕ) → k < noted →
         slice_index desk.old.rows.notes k < desk.old.rows.width }
     requires rows { sum desk.old.rows.counts + 1 < length desk.old.rows.counts }
+    requires place { place < no_slot }
     ensures { PutsIn place target noted thread desk.old desk.new }
 {
     let row = desk.rows.go_on(thread.row, noted, place);
@@ -255,6 +257,7 @@ fn found(
     slots: &mut [Option<usize>],
 )
     requires known { thread.row < length desk.old.rows.counts }
+    requires used { thread.row ≢ 0 → 0 < slice_index desk.old.rows.counts thread.row }
     requires noted { frame.noted ≤ length desk.old.rows.notes }
     requires notes { (k : ℕ) → k < frame.noted →
         slice_index desk.old.rows.notes k < desk.old.rows.width }

@@ -6,11 +6,14 @@ use Rattle.bites_machine.specs.Visits.{VisitsTo, takes_by}
 use Rattle.bites_spec.specs.Range.{in_ranges}
 use Rattle.bites_machine.proofs.VisitLemmas.{visits_splits, visits_on, visits_not_on, visits_fail, visits_char, visits_ranges}
 use Rattle.bites_machine.proofs.CaptureLemmas.{visits_capture, visits_match}
-use Rattle.bites_machine.proofs.UsedLemmas.{user_known}
+use Rattle.bites_machine.proofs.UsedLemmas.{user_known, user_counted}
 use Rattle.bites_machine.proofs.vm.walk.visit.Goals as goal
 
 pub found-requires-clause-known : goal.found-requires-clause-known
 found-requires-clause-known c = user_known c.args.desk.now.rows c.args.thread.row _ c.requires.used.1
+
+pub found-requires-clause-used : goal.found-requires-clause-used
+found-requires-clause-used c = user_counted c.args.desk.now.rows c.args.thread.row _ c.requires.used.1
 
 pub returns-in-Char-clause-moves : goal.returns-in-Char-clause-moves
 returns-in-Char-clause-moves c =

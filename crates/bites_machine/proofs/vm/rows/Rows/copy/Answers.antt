@@ -1,41 +1,127 @@
-use Rattle.std.proofs.Common.{◌≡◌, ◌≢◌, ◌<◌, ◌≤◌, ◌+◌, ◌*◌, ◌⊎◌, inl, inr, ⊎_elim, [], length, sum, take, drop, arith, ap, ap₂, sym, ◌∙◌, ◌++◌, subst, ℕ, List, Option, vec_len, true≢false}
+use Rattle.std.proofs.Common.{◌≡◌, ◌≢◌, ◌<◌, ◌≤◌, ◌+◌, ◌*◌, ◌⊎◌, inl, inr, ⊎_elim, [], ◌∷◌, length, sum, take, drop, arith, ap, ap₂, sym, ◌∙◌, ◌++◌, subst, cond, map, ℕ, List, vec_len, vec_capacity}
 use Rattle.std.specs.Prelude.{slice_index, slice_index_or, slice_set}
-use Rattle.std.proofs.lemmas.List.{length-set}
-use Rattle.bites_machine.specs.Rows.{AreFree, with_notes, rows_of}
-use Rattle.bites_machine.proofs.RowLemmas.{row_fits, rows_apart, row_copied, whole_again}
-use Rattle.bites_machine.proofs.FreeLemmas.{taken, some_free, last_free}
+use Rattle.std.proofs.lemmas.List.{length-set, length-take-le, nil_from_length}
+use Rattle.std.proofs.Common.{length-drop}
+use Rattle.bites_machine.specs.Rows.{AreFree, AreTaken, counts_of, slot_of, with_notes, with_words, rows_of}
+use Rattle.bites_machine.proofs.RowLemmas.{row_fits, rows_apart, whole_again}
+use Rattle.bites_machine.proofs.WordLemmas.{length-with_words, words_copied, words_pushed}
+use Rattle.bites_machine.proofs.FreeLemmas.{is_taken, taken, taken_more, some_left, last_free, count_at, count_set, count_pushed, length-counts_of}
 use Rattle.bites_machine.proofs.vm.rows.Rows.copy.Goals as goal
+use Rattle.bites_machine.proofs.vm.rows.Rows.copy.Goals.{After-copy_row, After-pop, After-push, After-push_row, In-Some, In_default}
 
-pub unreachable-requires : goal.unreachable-requires
-unreachable-requires c =
-    let room = subst (λ p. sum p.counts + 1 < length p.counts) (sym c.self.view_is) c.requires.room in
-    let some : 0 < vec_len c.self.inside.free = omega (arith, some_free _ _ c.self.invariant.0 room, c.self.inside.free.ok.0) in
-    let e = c.in_default.ensures.variant.1 some in
-    absurd (true≢false (sym e))
+known : (c : After-pop) → c.args.row < length c.self.inside.counts.items
+known c =
+    is_taken c.self.inside.limit c.self.inside.free.items c.self.inside.counts.items c.args.row c.self.invariant.0.free
+    (λ other. subst (λ p. 0 < slice_index p.counts c.args.row) (sym c.self.view_is) (c.requires.used other))
+
+-- where no row is free
+
+none_free : (c : In_default) → c.self.inside.free.items ≡ []
+none_free c = nil_from_length c.self.inside.free.items (omega (arith, c.in_default.ensures.cases.0, c.self.inside.free.ok.0))
+
+none_left : (c : In_default) → c.pop.new.self.items ≡ []
+none_left c = nil_from_length c.pop.new.self.items (omega (arith, c.in_default.ensures.cases.1, c.pop.new.self.ok.0))
+
+are_taken : (c : In_default) → AreTaken c.self.inside.limit c.self.inside.width c.self.inside.most c.self.inside.cells.items c.self.inside.counts.items []
+are_taken c =
+    subst (λ xs. AreTaken c.self.inside.limit c.self.inside.width c.self.inside.most c.self.inside.cells.items c.self.inside.counts.items xs) (none_free c) c.self.invariant.0
+
+few : (c : In_default) → length c.self.inside.counts.items < c.self.inside.limit
+few c =
+    some_left c.self.inside.limit c.self.inside.counts.items (are_taken c).free c.self.invariant.0.few
+    (subst (λ p. sum p.counts + 1 < length p.counts) (sym c.self.view_is) c.requires.room)
+
+pushed : (c : After-push) → length c.self.inside.counts.items < c.self.inside.limit → c.push.new.self.items ≡ c.self.inside.counts.items ++ 1 ∷ []
+pushed c lt =
+    let room : vec_len c.self.inside.counts < vec_capacity c.self.inside.counts = omega (arith, lt, c.self.invariant.2, c.self.inside.counts.ok.0) in
+    c.push.ensures.items ∙ ap (λ b. cond b (c.self.inside.counts.items ++ 1 ∷ []) c.self.inside.counts.items) (c.push.ensures.succeeds room)
+
+fresh_is : (c : After-push) → c.len-fresh.result ≡ length c.self.inside.counts.items
+fresh_is c = c.len-fresh.ensures ∙ c.self.inside.counts.ok.0
+
+pub push_row-requires-clause-room : goal.push_row-requires-clause-room
+push_row-requires-clause-room c =
+    let fits = row_fits c.self.inside.width c.self.inside.most c.self.inside.limit (length c.self.inside.counts.items) (few (goal.at.push_row-requires-clause-room c).In_default) c.self.invariant.0.wide in
+    omega (arith, fits, c.self.invariant.0.cells, c.self.invariant.1)
+
+length-more : (c : After-push_row) → c.args.row < length c.self.inside.counts.items →
+    length (with_words c.args.place (take c.args.noted c.self.inside.notes.items) (take c.self.inside.width (drop (c.args.row * c.self.inside.width) c.self.inside.cells.items))) ≡ c.self.inside.width
+length-more c lt =
+    let w = c.self.inside.width in
+    let from = c.args.row * c.self.inside.width in
+    let fits : from + w ≤ length c.self.inside.counts.items * w = row_fits w w (length c.self.inside.counts.items) c.args.row lt (omega arith) in
+    length-with_words c.args.place (take c.args.noted c.self.inside.notes.items) (take w (drop from c.self.inside.cells.items))
+    ∙ length-take-le w (drop from c.self.inside.cells.items) (omega (arith, length-drop from c.self.inside.cells.items, fits, c.self.invariant.0.cells))
+
+cells_are : (c : After-push_row) → c.push_row.new.cells.items ≡ c.self.inside.cells.items
+    ++ with_words c.args.place (take c.args.noted c.self.inside.notes.items) (take c.self.inside.width (drop (c.args.row * c.self.inside.width) c.self.inside.cells.items))
+cells_are c =
+    c.push_row.ensures.items
+    ∙ ap (λ ks. c.self.inside.cells.items ++ with_words c.args.place (take c.args.noted ks) (take c.self.inside.width (drop (c.args.row * c.self.inside.width) c.self.inside.cells.items))) c.deref.ensures.value
+
+pub invariant_of-self : goal.invariant_of-self
+invariant_of-self c =
+    rw (cells_are (goal.at.invariant_of-self c).After-push_row, pushed (goal.at.invariant_of-self c).After-push (few (goal.at.invariant_of-self c).In_default), none_left (goal.at.invariant_of-self c).In_default) (
+      taken_more c.self.inside.limit c.self.inside.width c.self.inside.most _ _ _ (are_taken (goal.at.invariant_of-self c).In_default) (few (goal.at.invariant_of-self c).In_default) (length-more (goal.at.invariant_of-self c).After-push_row (known (goal.at.invariant_of-self c).After-pop)),
+      omega (arith, c.self.invariant.1, c.push_row.ensures.capacity),
+      omega (arith, c.self.invariant.2, c.push.ensures.capacity),
+      omega (arith, c.self.invariant.3, c.pop.ensures.capacity),
+    )
+
+pub returns-in_default-clause-known : goal.returns-in_default-clause-known
+returns-in_default-clause-known c =
+    subst (λ p. c.len-fresh.result < length p.counts) c.self.view_is
+    (omega (arith, few (goal.at.returns-in_default-clause-known c).In_default, fresh_is (goal.at.returns-in_default-clause-known c).After-push, length-counts_of c.self.inside.limit c.self.inside.counts.items c.self.invariant.0.few))
+
+pub returns-in_default-clause-counts : goal.returns-in_default-clause-counts
+returns-in_default-clause-counts c =
+    ap (counts_of c.self.inside.limit) (pushed (goal.at.returns-in_default-clause-counts c).After-push (few (goal.at.returns-in_default-clause-counts c).In_default))
+    ∙ count_pushed c.self.inside.limit c.self.inside.counts.items 1 (few (goal.at.returns-in_default-clause-counts c).In_default)
+    ∙ ap (λ n. slice_set (counts_of c.self.inside.limit c.self.inside.counts.items) n 1) (sym (fresh_is (goal.at.returns-in_default-clause-counts c).After-push))
+    ∙ ap (λ p. slice_set p.counts c.len-fresh.result 1) c.self.view_is
+
+pub returns-in_default-clause-rows : goal.returns-in_default-clause-rows
+returns-in_default-clause-rows c =
+    let w = c.self.inside.width in
+    let limit = c.self.inside.limit in
+    ap (λ cells. rows_of w limit (map slot_of cells)) (cells_are (goal.at.returns-in_default-clause-rows c).After-push_row)
+    ∙ words_pushed w limit (length c.self.inside.counts.items) c.args.row c.args.place (take c.args.noted c.self.inside.notes.items) c.self.inside.cells.items
+    c.requires.place (known (goal.at.returns-in_default-clause-rows c).After-pop) c.self.invariant.0.cells (few (goal.at.returns-in_default-clause-rows c).In_default)
+    ∙ ap (λ n. slice_set (rows_of w limit (map slot_of c.self.inside.cells.items)) n
+    (with_notes c.args.place (take c.args.noted c.self.inside.notes.items) (slice_index_or (rows_of w limit (map slot_of c.self.inside.cells.items)) c.args.row []))) (sym (fresh_is (goal.at.returns-in_default-clause-rows c).After-push))
+    ∙ ap (λ p. slice_set p.rows c.len-fresh.result (with_notes c.args.place (take c.args.noted p.notes) (slice_index_or p.rows c.args.row []))) c.self.view_is
+
+-- where the last row that lost its users is taken
+
+mine : (c : In-Some) → (c.in-Some.fresh < length c.self.inside.counts.items) × (c.in-Some.fresh ≢ 0) × (slice_index c.self.inside.counts.items c.in-Some.fresh ≡ 0)
+mine c = last_free _ _ c.in-Some.fresh _ c.in-Some.ensures.items c.self.invariant.0.free
+
+fits : (c : In-Some) → c.in-Some.fresh * c.self.inside.width + c.self.inside.width ≤ length c.self.inside.cells.items
+fits c =
+    let le = row_fits c.self.inside.width c.self.inside.width (length c.self.inside.counts.items) c.in-Some.fresh (mine c).0 (omega arith) in
+    omega (arith, le, c.self.invariant.0.cells)
 
 pub index_mut-requires : goal.index_mut-requires
-index_mut-requires c =
-    let mine = last_free _ _ c.in-Some.fresh _ c.in-Some.ensures.items c.self.invariant.0 in
-    omega (arith, mine.0, c.self.inside.counts.ok.0)
+index_mut-requires c = omega (arith, (mine (goal.at.index_mut-requires c).In-Some).0, c.self.inside.counts.ok.0)
 
 pub overflow_mul-to : goal.overflow_mul-to
-overflow_mul-to c =
-    let mine = last_free _ _ c.in-Some.fresh _ c.in-Some.ensures.items c.self.invariant.0 in
-    let fits = row_fits _ _ _ _ mine.0 c.self.invariant.3 in
-    omega (arith, fits, c.self.invariant.2, c.self.inside.cells.ok.0)
+overflow_mul-to c = omega (arith, fits (goal.at.overflow_mul-to c).In-Some, c.self.inside.cells.ok.0)
+
+pub copy_row-requires-clause-from : goal.copy_row-requires-clause-from
+copy_row-requires-clause-from c =
+    let w = c.self.inside.width in
+    let le : c.args.row * w + w ≤ length c.self.inside.counts.items * w = row_fits w w (length c.self.inside.counts.items) c.args.row (known (goal.at.copy_row-requires-clause-from c).After-pop) (omega arith) in
+    omega (arith, le, c.self.invariant.0.cells, ap length c.deref_mut.ensures.value)
 
 pub copy_row-requires-clause-to : goal.copy_row-requires-clause-to
-copy_row-requires-clause-to c =
-    let mine = last_free _ _ c.in-Some.fresh _ c.in-Some.ensures.items c.self.invariant.0 in
-    let fits = row_fits _ _ _ _ mine.0 c.self.invariant.3 in
-    omega (arith, fits, c.self.invariant.2, ap length c.deref_mut.ensures.value)
+copy_row-requires-clause-to c = omega (arith, fits (goal.at.copy_row-requires-clause-to c).In-Some, ap length c.deref_mut.ensures.value)
 
 pub copy_row-requires-clause-apart : goal.copy_row-requires-clause-apart
 copy_row-requires-clause-apart c =
-    let mine = last_free _ _ c.in-Some.fresh _ c.in-Some.ensures.items c.self.invariant.0 in
     let used : c.args.row ≢ 0 → 0 < slice_index c.self.inside.counts.items c.args.row =
-    λ other. subst (λ p. 0 < slice_index p.counts c.args.row) (sym c.self.view_is) (c.requires.used other) in
-    rows_meet c.self.inside.counts.items c.self.inside.width c.args.row c.in-Some.fresh used mine.1 mine.2
+    λ other. subst (λ n. 0 < n) (count_at c.self.inside.limit c.self.inside.counts.items c.args.row)
+    (subst (λ p. 0 < slice_index p.counts c.args.row) (sym c.self.view_is) (c.requires.used other)) in
+    rows_meet c.self.inside.counts.items c.self.inside.width c.args.row c.in-Some.fresh used (mine (goal.at.copy_row-requires-clause-apart c).In-Some).1 (mine (goal.at.copy_row-requires-clause-apart c).In-Some).2
   where
     from_other : (counts : List ℕ) (row fresh : ℕ) → (row ≢ 0 → 0 < slice_index counts row) → fresh ≢ 0 → slice_index counts fresh ≡ 0 → row ≡ fresh → ⊥
     from_other counts row fresh used other none e =
@@ -51,40 +137,54 @@ copy_row-requires-clause-apart c =
         order : (a b : ℕ) → (a < b) ⊎ ((b < a) ⊎ (a ≡ b))
         order a b = grind (arith)
 
-pub invariant_of-self : goal.invariant_of-self
-invariant_of-self c =
-    let same = whole_again c.self.inside.cells.len c.copy_row.new.cells c.self.inside.cells.items (c.copy_row.auto.cells ∙ ap length c.deref_mut.ensures.value) c.self.inside.cells.ok.0 in (
-      taken c.pop.new.self.items c.self.inside.counts.items c.in-Some.fresh (subst (λ xs. AreFree xs c.self.inside.counts.items) c.in-Some.ensures.items c.self.invariant.0),
-      rw length-set (omega (arith, c.self.invariant.1, c.pop.ensures.capacity)),
-      ap length same ∙ (c.copy_row.auto.cells ∙ ap length c.deref_mut.ensures.value) ∙ c.self.invariant.2 ∙ ap (λ n. n * c.self.inside.most) (sym (length-set _ _ _)),
-      c.self.invariant.3,
+same : (c : After-copy_row) → take c.self.inside.cells.len (c.copy_row.new.cells ++ drop (length c.copy_row.new.cells) c.self.inside.cells.items) ≡ c.copy_row.new.cells
+same c =
+    whole_again c.self.inside.cells.len c.copy_row.new.cells c.self.inside.cells.items (c.copy_row.auto.cells ∙ ap length c.deref_mut.ensures.value) c.self.inside.cells.ok.0
+
+pub invariant_of-self-2 : goal.invariant_of-self-2
+invariant_of-self-2 c =
+    let free : AreFree (c.pop.new.self.items ++ c.in-Some.fresh ∷ []) c.self.inside.counts.items =
+    subst (λ xs. AreFree xs c.self.inside.counts.items) c.in-Some.ensures.items c.self.invariant.0.free in
+    let len : length c.copy_row.new.cells ≡ length c.self.inside.cells.items = c.copy_row.auto.cells ∙ ap length c.deref_mut.ensures.value in
+    rw (same (goal.at.invariant_of-self-2 c).After-copy_row) (
+      record {
+        free = taken c.pop.new.self.items c.self.inside.counts.items c.in-Some.fresh free;
+        few = subst (λ n. n ≤ c.self.inside.limit) (sym (length-set _ _ _)) c.self.invariant.0.few;
+        cells = len ∙ c.self.invariant.0.cells ∙ ap (λ n. n * c.self.inside.width) (sym (length-set _ _ _));
+        wide = c.self.invariant.0.wide;
+      },
+      c.self.invariant.1,
+      c.self.invariant.2,
+      omega (arith, c.self.invariant.3, c.pop.ensures.capacity),
     )
 
 pub returns-clause-known : goal.returns-clause-known
 returns-clause-known c =
-    let mine = last_free _ _ c.in-Some.fresh _ c.in-Some.ensures.items c.self.invariant.0 in
-    subst (λ p. c.in-Some.fresh < length p.counts) c.self.view_is mine.0
+    subst (λ p. c.in-Some.fresh < length p.counts) c.self.view_is
+    (omega (arith, (mine (goal.at.returns-clause-known c).In-Some).0, c.self.invariant.0.few, length-counts_of c.self.inside.limit c.self.inside.counts.items c.self.invariant.0.few))
 
 pub returns-clause-fresh : goal.returns-clause-fresh
 returns-clause-fresh c =
-    let mine = last_free _ _ c.in-Some.fresh _ c.in-Some.ensures.items c.self.invariant.0 in
-    subst (λ p. slice_index p.counts c.in-Some.fresh ≡ 0) c.self.view_is mine.2
+    subst (λ p. slice_index p.counts c.in-Some.fresh ≡ 0) c.self.view_is
+    (count_at c.self.inside.limit c.self.inside.counts.items c.in-Some.fresh ∙ (mine (goal.at.returns-clause-fresh c).In-Some).2)
 
 pub returns-clause-other : goal.returns-clause-other
-returns-clause-other c = (last_free _ _ c.in-Some.fresh _ c.in-Some.ensures.items c.self.invariant.0).1
+returns-clause-other c = (mine (goal.at.returns-clause-other c).In-Some).1
+
+pub returns-clause-counts : goal.returns-clause-counts
+returns-clause-counts c =
+    count_set c.self.inside.limit c.self.inside.counts.items c.in-Some.fresh 1 (mine (goal.at.returns-clause-counts c).In-Some).0
+    ∙ ap (λ p. slice_set p.counts c.in-Some.fresh 1) c.self.view_is
 
 pub returns-clause-rows : goal.returns-clause-rows
 returns-clause-rows c =
-    let mine = last_free _ _ c.in-Some.fresh _ c.in-Some.ensures.items c.self.invariant.0 in
-    let known : c.args.row < length c.self.inside.counts.items = subst (λ p. c.args.row < length p.counts) (sym c.self.view_is) c.requires.known in
-    let same = whole_again c.self.inside.cells.len c.copy_row.new.cells c.self.inside.cells.items (c.copy_row.auto.cells ∙ ap length c.deref_mut.ensures.value) c.self.inside.cells.ok.0 in
     let w = c.self.inside.width in
+    let limit = c.self.inside.limit in
     let to = c.in-Some.fresh * c.self.inside.width in
     let from = c.args.row * c.self.inside.width in
-    ap₂ (λ n xs. rows_of w n xs) (length-set _ _ _) same
-    ∙ ap (rows_of w (length c.self.inside.counts.items)) c.copy_row.ensures
-    ∙ ap₂ (λ (d : List (Option ℕ)) (ks : List ℕ). rows_of w (length c.self.inside.counts.items) (take to d ++ (with_notes c.args.place (take c.args.noted ks) (take w (drop from d)) ++ drop (to + w) d)))
-    c.deref_mut.ensures.value c.deref.ensures.value
-    ∙ row_copied w c.self.inside.most (length c.self.inside.counts.items) c.args.row c.in-Some.fresh c.args.place (take c.args.noted c.self.inside.notes.items) c.self.inside.cells.items
-    known mine.0 c.self.invariant.3 c.self.invariant.2
+    ap (λ cells. rows_of w limit (map slot_of cells)) (same (goal.at.returns-clause-rows c).After-copy_row ∙ c.copy_row.ensures)
+    ∙ ap₂ (λ (d : List ℕ) (ks : List ℕ). rows_of w limit (map slot_of (take to d ++ (with_words c.args.place (take c.args.noted ks) (take w (drop from d)) ++ drop (to + w) d))))
+    c.deref_mut.ensures.value c.deref-2.ensures.value
+    ∙ words_copied w limit (length c.self.inside.counts.items) c.args.row c.args.place (take c.args.noted c.self.inside.notes.items) c.self.inside.cells.items
+    c.requires.place (known (goal.at.returns-clause-rows c).After-pop) c.self.invariant.0.cells c.in-Some.fresh (mine (goal.at.returns-clause-rows c).In-Some).0 c.self.invariant.0.few
     ∙ ap (λ p. slice_set p.rows c.in-Some.fresh (with_notes c.args.place (take c.args.noted p.notes) (slice_index_or p.rows c.args.row []))) c.self.view_is
