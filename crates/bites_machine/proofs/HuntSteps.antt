@@ -1,12 +1,12 @@
--- Places that are searched in turn, while no thread is alive and nothing is found.
-use Rattle.std.proofs.Common.{◌≡◌, ℕ, zero, suc, ◌+◌, ◌<◌, ◌≤◌, Bool, true, false, ◌||◌, cond, List, [], ◌∷◌, length, Option, Some, None, refl, sym, ap, ◌∙◌, subst, arith, ne_eqb}
+-- Places that are skipped where no thread is alive, and the place that is searched behind them.
+use Rattle.std.proofs.Common.{◌≡◌, ℕ, zero, suc, ◌+◌, ◌<◌, ◌≤◌, Bool, true, false, ◌||◌, cond, List, [], ◌∷◌, length, Option, Some, None, refl, sym, ap, ◌∙◌, subst, ⊎_elim, arith}
 use Rattle.std.specs.Prelude.{◌==◌, is_some}
 use Rattle.bites_spec.specs.Utf8.{piece}
 use Rattle.bites_spec.specs.Program as program
 use Rattle.bites_spec.specs.Program.{Program}
 use Rattle.bites_spec.specs.Counts.{Record}
 use Rattle.bites_machine.specs.Rows.{Pool}
-use Rattle.bites_machine.specs.Sweep.{IsProgramOf, Passes, PlaceSearched, PlacesSearched, GoneTo, HasSearched}
+use Rattle.bites_machine.specs.Sweep.{IsProgramOf, Passes, PassesIdle, PlaceSearched, PlacesSearched, GoneTo, HasSearched}
 use Rattle.bites_machine.specs.declared.vm.threads.Thread.{Thread}
 use Rattle.bites_machine.specs.declared.vm.walk.Hit.{Hit}
 use Rattle.bites_machine.specs.declared.vm.walk.Desk.{Desk}
@@ -16,20 +16,6 @@ use Rattle.bites_machine.proofs.PlaceSteps.{has_searched, gone_next, ends_by}
 pub no_threads : (ts : List Thread) → length ts ≤ 0 → ts ≡ []
 no_threads [] none = refl
 no_threads (t ∷ ts) none = absurd (omega arith)
-
--- no match was found
-pub no_hit : (hit : Option Hit) → is_some hit ≡ false → hit ≡ None
-no_hit None none = refl
-no_hit (Some h) none = cc
-
--- a piece that takes some bytes
-pub not_zero : (n : ℕ) → 0 < n → (n == 0) ≡ false
-not_zero zero some = absurd (omega arith)
-not_zero (suc n) some = ne_eqb (suc n) 0 (λ e. absurd (omega (arith, e)))
-
--- a search is not over behind a piece where nothing was found
-not_over : (earliest : Bool) (len threads : ℕ) → (len == 0) ≡ false → ends_by earliest len false threads ≡ false
-not_over earliest len threads some = ap (λ (b : Bool). b || false) some
 
 module _ (hay : List ℕ) (longest : Bool) (place : ℕ) (states : List program.State) where
   -- one place was searched
@@ -96,23 +82,42 @@ module _ (hay : List ℕ) (longest : Bool) (place : ℕ) (states : List program.
             texts refl (lens ∙ ap (λ (h : List ℕ). (piece h here).len) texts) (same ∙ width) is begun refl
             (subst (λ (b : Bool). GoneTo p hay longest earliest start first here b mid last.rows [] left) (sym by.0) (hunts.gone p mine earliest start first width from)) there
 
-    -- nothing was found there, and the hunt goes on
-    pub hunts_on : (here len : ℕ) (text : List ℕ) (deep : Bool) (all : List program.State) (mid now : Record) (last new : Desk) (later : List Thread) (left more : List (Option ℕ)) →
-        text ≡ hay → deep ≡ longest → all ≡ states → len ≡ (piece text here).len → length left ≡ length slots → Hunts here mid last.rows left →
-        PlaceSearched text deep here len all (Some q) mid now last new [] later left more → (len == 0) ≡ false → is_some new.hit ≡ false → later ≡ [] →
-        Hunts (here + len) now new.rows more
-    hunts_on here len text deep all mid now last new later left more texts deeps alls lens same hunts one some none empty =
-        let there : PlaceSearched text longest here len states (Some q) mid now last new [] later left more =
-        subst (λ (b : Bool). PlaceSearched text b here len states (Some q) mid now last new [] later left more) deeps
-        (subst (λ (l : List program.State). PlaceSearched text deep here len l (Some q) mid now last new [] later left more) alls one) in
-        let lens_in : len ≡ (piece hay here).len = lens ∙ ap (λ (h : List ℕ). (piece h here).len) texts in
-        record {
-          gone = λ p is earliest start first width gone.
-              let did = has_searched p hay longest earliest start first here here len q text states (Some q) false false mid now last new [] later left more
-              texts refl lens_in (same ∙ width) is refl (sym none) (hunts.gone p is earliest start first width gone) there in
-              subst (λ (ts : List Thread). GoneTo p hay longest earliest start first (here + len) false now new.rows ts more) empty
-              (gone_next p hay longest earliest start first here len false now new.rows later more (length later) did lens_in refl (not_over earliest len (length later) some));
-        }
+-- some places were skipped if no thread is alive, and one was searched
+pub skipped_then_searched : (hay : List ℕ) (longest : Bool) (place : ℕ) (states : List program.State) (begins : Option ℕ) (here len : ℕ) (text : List ℕ) (deep : Bool) (all : List program.State)
+    (was mid now : Record) (old new : Desk) (threads later : List Thread) (slots left : List (Option ℕ)) →
+    text ≡ hay → deep ≡ longest → all ≡ states → len ≡ (piece text here).len → PassesIdle hay longest place here states begins (length threads) was mid →
+    PlaceSearched text deep here len all begins mid now old new threads later slots left →
+    PlacesSearched hay longest place here states begins was now old new threads later slots left
+skipped_then_searched hay longest place states begins here len text deep all was mid now old new threads later slots left texts deeps alls lens passes one =
+    ⊎_elim same skipped passes
+  where
+    there : PlaceSearched hay longest here len states begins mid now old new threads later slots left
+    there = subst (λ (h : List ℕ). PlaceSearched h longest here len states begins mid now old new threads later slots left) texts
+        (subst (λ (b : Bool). PlaceSearched text b here len states begins mid now old new threads later slots left) deeps
+        (subst (λ (l : List program.State). PlaceSearched text deep here len l begins mid now old new threads later slots left) alls one))
+
+    lens_in : len ≡ (piece hay here).len
+    lens_in = lens ∙ ap (λ (h : List ℕ). (piece h here).len) texts
+
+    same : (here ≡ place) × (mid ≡ was) → PlacesSearched hay longest place here states begins was now old new threads later slots left
+    same e =
+        subst (λ (i : ℕ). PlacesSearched hay longest place i states begins was now old new threads later slots left) (sym e.0)
+        (one_place hay longest place states len begins was now old new threads later slots left (lens_in ∙ ap (λ (i : ℕ). (piece hay i).len) e.0)
+        (subst (λ (i : ℕ). PlaceSearched hay longest i len states begins was now old new threads later slots left) e.0
+        (subst (λ (r : Record). PlaceSearched hay longest here len states begins r now old new threads later slots left) e.1 there)))
+
+    skipped : (length threads ≡ 0) × (q : ℕ) × (begins ≡ Some q) × Passes hay longest place here states q was mid → PlacesSearched hay longest place here states begins was now old new threads later slots left
+    skipped e =
+        let q = e.1 in
+        let none : threads ≡ [] = no_threads threads (omega (arith, e.0)) in
+        let hunts = hunts_skip hay longest place states q was old.rows slots place here hay longest states was mid old.rows slots refl refl refl refl
+        (hunts_first hay longest place states q was old.rows slots) e.3 in
+        let mine : PlaceSearched hay longest here len states (Some q) mid now old new [] later slots left =
+        subst (λ (o : Option ℕ). PlaceSearched hay longest here len states o mid now old new [] later slots left) e.2
+        (subst (λ (ts : List Thread). PlaceSearched hay longest here len states begins mid now old new ts later slots left) none there) in
+        subst (λ (o : Option ℕ). PlacesSearched hay longest place here states o was now old new threads later slots left) (sym e.2)
+        (subst (λ (ts : List Thread). PlacesSearched hay longest place here states (Some q) was now old new ts later slots left) (sym none)
+        (hunted hay longest place states q was old.rows slots here len hay longest states mid now old old new later slots left refl refl refl refl lens_in refl hunts mine))
 
 -- some places more were searched
 pub searched_on : (p : Program) (hay : List ℕ) (longest earliest : Bool) (start : ℕ) (old : List (Option ℕ)) (place here last q : ℕ) (text : List ℕ) (deep : Bool) (states : List program.State) (begins : Option ℕ) (is_found found : Bool)

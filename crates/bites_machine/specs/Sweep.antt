@@ -1,5 +1,5 @@
 -- What a walk of a thread leaves, and a search that goes from place to place.
-use Rattle.std.specs.Prelude.{◌≡◌, ◌≢◌, ℕ, ◌+◌, ◌*◌, ◌<◌, ◌≤◌, Bool, false, ◌||◌, if◌then◌else◌, List, [], ◌∷◌, ◌++◌, map, length, replicate, Option, None, Some, is_some, ◌==◌, slice_index, slice_index_or, sum, sum_by, IfSome}
+use Rattle.std.specs.Prelude.{◌≡◌, ◌≢◌, ℕ, ◌+◌, ◌*◌, ◌<◌, ◌≤◌, ◌⊎◌, Bool, false, ◌||◌, if◌then◌else◌, List, [], ◌∷◌, ◌++◌, map, length, replicate, Option, None, Some, is_some, ◌==◌, slice_index, slice_index_or, sum, sum_by, IfSome}
 use Rattle.std.specs.List.{list_any}
 use Rattle.bites_spec.specs.Walks.{Among}
 use Rattle.bites_spec.specs.Program as program
@@ -211,6 +211,11 @@ pub record PlacesSearched (hay : List ℕ) (longest : Bool) (place last : ℕ) (
 pub record Passes (hay : List ℕ) (longest : Bool) (place here : ℕ) (states : List program.State) (q : ℕ) (was now : Record) : Type 0 where
   pub gone : (p : Program) → IsProgramOf p states q → (earliest : Bool) (start : ℕ) (first slots : List (Option ℕ)) (pool : Pool) → length slots ≡ length first →
       GoneTo p hay longest earliest start first place false was pool [] slots → GoneTo p hay longest earliest start first here false now pool [] slots
+
+-- Places were passed if the start is given and no thread is alive; else this is the same place, and nothing more was visited.
+abbrev pub PassesIdle : List ℕ → Bool → ℕ → ℕ → List program.State → Option ℕ → ℕ → Record → Record → Type 0
+PassesIdle hay longest place here states begins threads was now =
+    ((here ≡ place) × (now ≡ was)) ⊎ ((threads ≡ 0) × (q : ℕ) × (begins ≡ Some q) × Passes hay longest place here states q was now)
 
 -- The machine on lists searched from the start on, and this is what it found and did.
 pub record Sought (p : Program) (hay : List ℕ) (longest earliest : Bool) (start : ℕ) (answer : Bool) (old new : List (Option ℕ)) (walked : Record) : Type 0 where

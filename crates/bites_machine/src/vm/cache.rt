@@ -1,16 +1,17 @@
 //! The room that searches of a program take, made once.
 
-ghost use Rattle.std.specs.Prelude.{◌≡◌, ◌<◌, ◌≤◌, ◌↔◌, [], IfOk, IfSome, IsTrue, length, false};
+ghost use Rattle.std.specs.Prelude.{◌≡◌, ◌<◌, ◌≤◌, ◌↔◌, [], IfOk, IfSome, IsTrue, None, length, replicate, false};
 ghost use Rattle.bites_spec.specs.Program as program;
 ghost use Rattle.bites_spec.specs.Counts.{fit_of};
 ghost use Rattle.bites_machine.specs.Prefix.{IsPrefix};
 ghost use Rattle.bites_machine.specs.States.{states_of};
-ghost use Rattle.bites_machine.specs.Sweep.{IsProgramOf, Sought, frames_for, rows_for};
+ghost use Rattle.bites_machine.specs.Sweep.{HasRoom, IsIdle, IsProgramOf, Sought, frames_for, rows_for};
 ghost use Rattle.bites_machine.specs.Anchored.{SoughtFrom};
+ghost use Rattle.bites_machine.specs.Used.{slots_at};
 
 use super::counted::{Counted, Walked};
 use super::marks::Marks;
-use super::places::Request;
+use super::places::{Asked, Request};
 use super::rows::Rows;
 use super::stack::Stack;
 use super::threads::Threads;
@@ -19,6 +20,9 @@ use super::{anchored, places};
 use crate::program::Program;
 use std::alloc::AllocError;
 use std::marker::Model;
+
+// The width of the body for slices of any length.
+const ANY: usize = 3;
 
 /// The room for searches of a program and of those with as many states, slots and targets: the threads of
 /// two places, a stack, marks, and rows of slots. No search takes more.
@@ -138,9 +142,12 @@ impl Cache {
             let (desk, threads) = (&mut self.desk, &mut self.threads);
             // One body for each width that is asked, each with loops over so many slots.
             match slots.len() {
-                0 => places::search(&mut counted, desk, threads, request, slots),
-                2 => places::search(&mut counted, desk, threads, request, slots),
-                _ => places::search(&mut counted, desk, threads, request, slots),
+                _ if request.asked.longest => {
+                    search_width::<ANY, true>(&mut counted, desk, threads, request, slots)
+                }
+                0 => search_width::<0, false>(&mut counted, desk, threads, request, slots),
+                2 => search_width::<2, false>(&mut counted, desk, threads, request, slots),
+                _ => search_width::<ANY, false>(&mut counted, desk, threads, request, slots),
             }
         } else {
             false
@@ -189,4 +196,47 @@ impl Cache {
         self.walked = counted.into_walked();
         found
     }
+}
+
+// The search for a slice of so many slots, or of any length, and for the longest run or not. It is not inlined, so that each of
+// these has a body of its own.
+#[inline(never)]
+fn search_width<const WIDTH: usize, const LONGEST: bool>(
+    counted: &mut Counted<'_>,
+    desk: &mut Desk,
+    threads: &mut Threads,
+    request: &Request<'_>,
+    slots: &mut [Option<usize>],
+) -> bool
+    requires start { request.now.start ≤ length request.now.haystack.now }
+    requires visits { counted.old.walked.visits ≡ [] }
+    requires looks { counted.old.walked.looks ≡ 0 }
+    requires program { (p : program.Program) × IsProgramOf p (states_of counted.old.states.now)
+        request.now.first × HasRoom (fit_of p) desk.old threads.old }
+    requires prefix { IfSome request.now.prefix (λ x.
+        IsPrefix (states_of counted.old.states.now) request.now.first x.now) }
+    requires idle { IsIdle desk.old threads.old }
+    requires width { length slots.old ≡ desk.old.rows.width }
+    requires one { WIDTH < 3 → length slots.old ≡ WIDTH }
+    requires kind { request.now.asked.longest ≡ LONGEST }
+    requires nothing { slots_at desk.old.rows 0 ≡ replicate desk.old.rows.width None }
+    requires even { length desk.old.rows.rows ≡ length desk.old.rows.counts }
+    ensures sought { (p : program.Program) →
+        IsProgramOf p (states_of counted.old.states.now) request.now.first →
+        Sought p request.now.haystack.now request.now.asked.longest request.now.asked.earliest
+        request.now.start result slots.old slots.new counted.new.walked }
+    ensures room { (p : program.Program) →
+        IsProgramOf p (states_of counted.old.states.now) request.now.first →
+        HasRoom (fit_of p) desk.old threads.old → HasRoom (fit_of p) desk.new threads.new }
+    ensures idle { IsIdle desk.new threads.new }
+{
+    if WIDTH < ANY && slots.len() != WIDTH {
+        unreachable!()
+    }
+    let asked = Asked {
+        earliest: request.asked.earliest,
+        longest: LONGEST,
+    };
+    let request = Request { asked, ..*request };
+    places::search(counted, desk, threads, &request, slots)
 }

@@ -15,7 +15,7 @@ ghost use Rattle.bites_machine.specs.Looks.{AreSound};
 ghost use Rattle.bites_machine.specs.Cuts.{cuts};
 ghost use Rattle.bites_machine.specs.Anchored.{ThreadsSearched};
 ghost use Rattle.bites_machine.specs.Prefix.{IsPrefix};
-ghost use Rattle.bites_machine.specs.Sweep.{IsAmid, WalksPast, WalksSome, WalksAll, IsBetween, PlaceSearched, PlacesSearched, IsOfProgram, HasRoom, IsIdle, IsProgramOf, Sought};
+ghost use Rattle.bites_machine.specs.Sweep.{IsAmid, WalksPast, WalksSome, WalksAll, IsBetween, PassesIdle, PlaceSearched, PlacesSearched, IsOfProgram, HasRoom, IsIdle, IsProgramOf, Sought};
 
 use super::counted::Counted;
 use super::idle::{idle_prefix, skip};
@@ -235,85 +235,44 @@ pub(super) fn search_place(
     threads.swap(&mut desk.next);
 }
 
-// Searches one place where no thread is alive and nothing is found: the start alone is walked.
+// Skips the places where a walk from the start leaves nothing, if the start is given and no thread is alive.
 #[inline(always)]
-fn search_start(
+fn skip_idle<'h>(
     counted: &mut Counted<'_>,
-    desk: &mut Desk,
-    here: &Here<'_>,
-    first: u32,
-    slots: &mut [Option<usize>],
-)
-    requires place { here.now.place ≤ length here.now.haystack.now }
-    requires taken { here.now.taken ≡ next_character here.now.haystack.now here.now.place }
-    requires len { here.now.len ≡ (piece here.now.haystack.now here.now.place).len }
-    requires program { IsOfProgram (states_of counted.old.states.now) (Some first) }
-    requires between { IsBetween (states_of counted.old.states.now) here.now.place
-        counted.old.walked desk.old desk.old.next (length slots.old) }
-    requires next { desk.old.next.threads ≡ [] }
-    requires hit { desk.old.hit ≡ None }
-    ensures states { counted.new.states ≡ counted.old.states }
-    ensures searched { PlaceSearched here.now.haystack.now here.now.longest here.now.place
-        here.now.len (states_of counted.old.states.now) (Some first) counted.old.walked
-        counted.new.walked desk.old desk.new [] desk.new.next.threads slots.old slots.new }
-    ensures between { IsBetween (states_of counted.old.states.now) (here.now.place + 1)
-        counted.new.walked desk.new desk.new.next (length slots.new) }
-    ensures most { desk.new.rows.most ≡ desk.old.rows.most }
-    ensures len { length slots.new ≡ length slots.old }
-{
-    desk.marks.clear();
-    desk.rows.first_is_free();
-    walk(counted, desk, here, started(first, here), slots);
-}
-
-// Searches places from this one on while no thread is alive and nothing is found. Returns the place that
-// was searched last; the threads that took its piece are those that the desk has put in.
-#[inline(always)]
-fn hunt<'h>(
-    counted: &mut Counted<'_>,
-    desk: &mut Desk,
     from: Here<'h>,
-    first: u32,
+    first: Option<u32>,
+    threads: usize,
     prefix: Option<&StartPrefix>,
-    slots: &mut [Option<usize>],
 ) -> Here<'h>
     requires place { from.place ≤ length from.haystack.now }
-    requires taken { from.taken ≡ next_character from.haystack.now from.place }
     requires within { from.place + from.len ≤ length from.haystack.now }
+    requires taken { from.taken ≡ next_character from.haystack.now from.place }
     requires len { from.len ≡ (piece from.haystack.now from.place).len }
-    requires program { IsOfProgram (states_of counted.old.states.now) (Some first) }
-    requires prefix { IfSome prefix (λ x.
-        IsPrefix (states_of counted.old.states.now) first x.now) }
-    requires between { IsBetween (states_of counted.old.states.now) from.place
-        counted.old.walked desk.old desk.old.next (length slots.old) }
-    requires next { desk.old.next.threads ≡ [] }
-    requires hit { desk.old.hit ≡ None }
+    requires prefix { IfSome first (λ q. IfSome prefix (λ x.
+        IsPrefix (states_of counted.old.states.now) q x.now)) }
+    requires before { (v : program.Spot) → Among counted.old.walked.visits v
+        → v.place < from.place }
     ensures states { counted.new.states ≡ counted.old.states }
+    ensures haystack { result.haystack.now ≡ from.entry.haystack.now }
+    ensures longest { result.longest ≡ from.entry.longest }
     ensures onward { from.entry.place ≤ result.place }
     ensures within { result.place + result.len ≤ length from.entry.haystack.now }
+    ensures taken { result.taken ≡ next_character from.entry.haystack.now result.place }
     ensures len { result.len ≡ (piece from.entry.haystack.now result.place).len }
-    ensures searched { PlacesSearched from.entry.haystack.now from.entry.longest from.entry.place
-        result.place (states_of counted.old.states.now) (Some first) counted.old.walked
-        counted.new.walked desk.old desk.new [] desk.new.next.threads slots.old slots.new }
-    ensures between { IsBetween (states_of counted.old.states.now) (result.place + 1)
-        counted.new.walked desk.new desk.new.next (length slots.new) }
-    ensures most { desk.new.rows.most ≡ desk.old.rows.most }
-    ensures slots { length slots.new ≡ length slots.old }
+    ensures before { (v : program.Spot) → Among counted.new.walked.visits v
+        → v.place < result.place }
+    ensures passes { PassesIdle from.entry.haystack.now from.entry.longest from.entry.place
+        result.place (states_of counted.old.states.now) first threads
+        counted.old.walked counted.new.walked }
 {
-    let mut here = from;
-    'places: loop {
-        here = skip(counted, here, first, prefix);
-        search_start(counted, desk, &here, first, slots);
-        if here.len == 0 || desk.hit.is_some() || desk.next.len() > 0 {
-            break;
-        }
-        here = piece_at(here.haystack, here.place + here.len, here.longest);
+    match first {
+        Some(state) if threads == 0 => skip(counted, from, state, prefix),
+        _ => from,
     }
-    here
 }
 
-// Searches this place, or while no thread is alive and nothing is found also those behind it. Returns the
-// place that was searched last. The threads are then those of the next place.
+// Skips places if no thread is alive and nothing is found, and searches the next one. Returns the place that was searched.
+// The threads are then those of the place after it.
 #[inline(always)]
 fn search_on<'h>(
     counted: &mut Counted<'_>,
@@ -346,19 +305,9 @@ fn search_on<'h>(
     ensures most { desk.new.rows.most ≡ desk.old.rows.most }
     ensures slots { length slots.new ≡ length slots.old }
 {
-    match first {
-        Some(first) if threads.len() == 0 => {
-            desk.next.clear();
-            desk.hit = None;
-            let last = hunt(counted, desk, here, first, prefix, slots);
-            threads.swap(&mut desk.next);
-            last
-        }
-        _ => {
-            search_place(counted, desk, threads, &here, first, prefix, slots);
-            here
-        }
-    }
+    let here = skip_idle(counted, here, first, threads.len(), prefix);
+    search_place(counted, desk, threads, &here, first, prefix, slots);
+    here
 }
 
 // The state where runs start, while nothing is found.

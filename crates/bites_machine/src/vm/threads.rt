@@ -84,8 +84,7 @@ impl Threads {
         ensures this { self.new ≡ other.old }
         ensures other { other.new ≡ self.old }
     {
-        mem::swap(&mut self.threads, &mut other.threads);
-        mem::swap(&mut self.len, &mut other.len);
+        mem::swap(self, other);
     }
 
     #[inline(always)]
