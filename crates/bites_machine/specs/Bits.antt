@@ -1,5 +1,5 @@
 -- What is kept beside a list, so that it need not be walked.
-use Rattle.std.specs.Prelude.{◌≡◌, ℕ, ◌<◌, ◌/◌, ◌%◌, ◌-◌, Bool, List, ◌==◌, length, slice_index}
+use Rattle.std.specs.Prelude.{◌≡◌, ℕ, ◌<◌, ◌/◌, ◌%◌, ◌-◌, Bool, List, ◌==◌, if◌then◌else◌, length, slice_index}
 use Rattle.std.specs.Int.{bit_at}
 use Rattle.bites_spec.specs.Range.{Range, in_ranges}
 
@@ -11,6 +11,12 @@ has_bit bits n = bit_at bits n == 1
 abbrev pub HasAscii : List ℕ → List Range → Type 0
 HasAscii words ranges = (c : ℕ) → c < 128 → has_bit (slice_index words (c / 64)) (c % 64) ≡ in_ranges ranges c
 
--- the first and the last number of the list, if it has one
-abbrev pub HasEnds : ℕ → ℕ → List ℕ → Type 0
-HasEnds first last numbers = 0 < length numbers → (first ≡ slice_index numbers 0) × (last ≡ slice_index numbers (length numbers - 1))
+-- all targets, of which two are kept in place
+abbrev pub all_targets : ℕ → List ℕ → List ℕ → List ℕ
+all_targets len ends list = if len == 2 then ends else list
+
+-- the length of the list, and its first and its last number, if it has one
+pub record HasEnds (len : ℕ) (ends numbers : List ℕ) : Type 0 where
+  pub len_is : len ≡ length numbers
+  pub first : 0 < len → slice_index ends 0 ≡ slice_index numbers 0
+  pub last : 0 < len → slice_index ends 1 ≡ slice_index numbers (len - 1)

@@ -9,6 +9,7 @@ ghost use Rattle.bites_machine.specs.Emitted.{emitted, pushed, class_state, choi
 
 use crate::ranges::Ranges;
 use crate::state::State;
+use crate::targets::Targets;
 use bites_syntax::measure::is_empty_by_form;
 use bites_syntax::tree::{Class, Kind, Tree};
 use std::alloc::{AllocError, Global};
@@ -78,14 +79,8 @@ impl States {
         ensures { IfOk result (λ from. emitted self.new from
             ≡ pushed self.old (class_state class.now to)) }
     {
-        if class.ranges().is_empty() {
-            return self.push(State::Fail);
-        }
-        let ranges = Vec::from_slice(self.alloc, class.ranges())?;
-        self.push(State::Ranges {
-            target: to,
-            ranges: ranges.into(),
-        })
+        let ranges = Ranges::copy_of(self.alloc, class.list())?;
+        self.ranges(ranges, to)
     }
 
     /// Writes so many states of a class, one in front of the other. Each has a copy of what was found of the ranges
@@ -95,24 +90,23 @@ impl States {
         ensures { IfOk result (λ from. emitted self.new from
             ≡ again count (emit (spec.class class.now)) to self.old) }
     {
-        let ranges = Ranges::from(Vec::from_slice(self.alloc, class.ranges())?);
+        let ranges = Ranges::copy_of(self.alloc, class.list())?;
         let mut from = to;
         for _ in 0..count {
-            from = self.ranges(&ranges, from)?;
+            from = self.ranges(ranges.copy(self.alloc)?, from)?;
         }
         Ok(from)
     }
 
     /// Writes the state of a class of these ranges.
-    fn ranges(&mut self, ranges: &Ranges, to: u32) -> Result<u32, AllocError>
+    fn ranges(&mut self, ranges: Ranges, to: u32) -> Result<u32, AllocError>
         requires { length self.old < 4294967295 }
         ensures { IfOk result (λ from. emitted self.new from
-            ≡ pushed self.old (class_state ranges.now to)) }
+            ≡ pushed self.old (class_state ranges to)) }
     {
         if ranges.as_slice().is_empty() {
             return self.push(State::Fail);
         }
-        let ranges = ranges.copy(self.alloc)?;
         self.push(State::Ranges { target: to, ranges })
     }
 
@@ -122,18 +116,18 @@ impl States {
         ensures { IfOk result (λ from. emitted self.new from
             ≡ pushed self.old (choice greedy round leave)) }
     {
-        let state = self.choice(greedy, round, leave)?;
+        let state = self.choice(greedy, round, leave);
         self.push(state)
     }
 
     /// A choice between two states, the first preferred if it is greedy, else the second.
-    fn choice(&self, greedy: bool, round: u32, leave: u32) -> Result<State, AllocError>
-        ensures { IfOk result (λ state. state_of state ≡ choice greedy round leave) }
+    fn choice(&self, greedy: bool, round: u32, leave: u32) -> State
+        ensures { state_of result ≡ choice greedy round leave }
     {
-        Ok(State::Splits {
-            targets: vec![in self.alloc; round, leave]?.into(),
+        State::Splits {
+            targets: Targets::two(self.alloc, round, leave),
             reverse: !greedy,
-        })
+        }
     }
 
     /// Writes the states of a tree in front of the state `to`, and answers where they are entered.
@@ -302,7 +296,7 @@ impl States {
     {
         let again = self.push(State::Fail)?;
         let from = self.emit(sub, again)?;
-        let state = self.choice(greedy, from, to)?;
+        let state = self.choice(greedy, from, to);
         self.put(again, state);
         Ok(from)
     }
@@ -318,7 +312,7 @@ impl States {
     {
         let from = self.push(State::Fail)?;
         let round = self.emit(sub, from)?;
-        let state = self.choice(greedy, round, to)?;
+        let state = self.choice(greedy, round, to);
         self.put(from, state);
         Ok(from)
     }

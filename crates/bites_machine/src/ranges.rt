@@ -5,13 +5,14 @@ ghost use Rattle.bites_spec.specs.Range.{in_range, in_ranges};
 ghost use Rattle.bites_spec.specs.Program.{AreRanges};
 ghost use Rattle.bites_machine.specs.Bits.{has_bit, HasAscii};
 
+use bites_syntax::range_list::RangeList;
 use std::alloc::{AllocError, Global};
 use std::marker::Model;
 
 /// Ranges of characters, whose ends belong to them. A contract sees their list.
 #[derive(Drop)]
 pub struct Ranges {
-    list: Vec<(char, char)>,
+    list: RangeList,
     /// Of each ASCII character, whether it lies in one of the ranges, as the bit of its number.
     ascii: [u64; 2],
 }
@@ -23,9 +24,9 @@ impl Model for Ranges {
 
     ghost Value = { List Range };
 
-    ghost view = { λ a. a.list.items };
+    ghost view = { λ a. a.list };
 
-    ghost invariant = { λ a. HasAscii a.ascii a.list.items };
+    ghost invariant = { λ a. HasAscii a.ascii a.list };
 }
 
 impl Ranges {
@@ -34,7 +35,7 @@ impl Ranges {
     pub fn as_slice(&self) -> &[(char, char)]
         ensures { result.now ≡ self.now }
     {
-        &self.list
+        self.list.as_slice()
     }
 
     /// Of each ASCII character, whether it lies in one of the ranges: a bit for each, 64 a word.
@@ -45,18 +46,20 @@ impl Ranges {
         self.ascii
     }
 
-    /// The list of the ranges, in its memory.
-    pub fn into_vec(self) -> Vec<(char, char)>
-        ensures { result.items ≡ self }
+    /// The ranges of this list. It takes memory only if the list does.
+    pub(crate) fn copy_of(alloc: Global, list: &RangeList) -> Result<Ranges, AllocError>
+        ensures { IfOk result (λ ranges. ranges ≡ list.now) }
     {
-        self.list
+        let list = list.copy(alloc)?;
+        let ascii = words_of(list.as_slice());
+        Ok(Ranges { list, ascii })
     }
 
-    /// The same ranges in memory of their own.
+    /// The same ranges. It takes memory only if their list does.
     pub(crate) fn copy(&self, alloc: Global) -> Result<Ranges, AllocError>
         ensures { IfOk result (λ copy. copy ≡ self.now) }
     {
-        let list = Vec::from_slice(alloc, &self.list)?;
+        let list = self.list.copy(alloc)?;
         Ok(Ranges {
             list,
             ascii: self.ascii,
@@ -75,7 +78,7 @@ impl Ranges {
         if number < 128 {
             (self.ascii[(number / 64) as usize] >> (number % 64)) & 1 == 1
         } else {
-            is_in_ranges(&self.list, ch)
+            is_in_ranges(self.list.as_slice(), ch)
         }
     }
 }
@@ -86,7 +89,10 @@ impl From<Vec<(char, char)>> for Ranges {
     /// The ranges of this list; it takes no memory.
     fn from(list: Vec<(char, char)>) -> Ranges {
         let ascii = words_of(&list);
-        Ranges { list, ascii }
+        Ranges {
+            list: list.into(),
+            ascii,
+        }
     }
 }
 

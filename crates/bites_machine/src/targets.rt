@@ -1,46 +1,58 @@
 //! The targets of a state with several.
 
-ghost use Rattle.std.specs.Prelude.{◌≡◌, ◌<◌, ◌-◌, length, slice_index};
+ghost use Rattle.std.specs.Prelude.{◌≡◌, ◌<◌, ◌-◌, [], ◌∷◌, length, slice_index};
 ghost use Rattle.bites_spec.specs.Program as program;
 ghost use Rattle.bites_spec.specs.Program.{targets_of};
 
+use std::alloc::Global;
 use std::marker::Model;
 
 /// Numbers of the states that a state leads to. A contract sees their list.
 ///
-/// Whether the first or the last is preferred stands beside them, in the state: `reverse`.
+/// Whether the first or the last is preferred stands beside them, in the state: `reverse`. Two targets are kept in
+/// place.
 #[derive(Drop)]
 pub struct Targets {
+    len: usize,
+    /// The first and the last target.
+    ends: [u32; 2],
+    /// All targets, unless there are two.
     list: Vec<u32>,
-    first: u32,
-    last: u32,
 }
 
 impl Model for Targets {
     ghost use Rattle.std.specs.Prelude.{List, ℕ};
-    ghost use Rattle.bites_machine.specs.Bits.{HasEnds};
+    ghost use Rattle.bites_machine.specs.Bits.{HasEnds, all_targets};
 
     ghost Value = { List ℕ };
 
-    ghost view = { λ a. a.list.items };
+    ghost view = { λ a. all_targets a.len a.ends a.list.items };
 
-    ghost invariant = { λ a. HasEnds a.first a.last a.list.items };
+    ghost invariant = { λ a. HasEnds a.len a.ends (all_targets a.len a.ends a.list.items) };
 }
 
 impl Targets {
+    /// Two targets. It takes no memory.
+    pub(crate) fn two(alloc: Global, first: u32, second: u32) -> Targets
+        ensures { result ≡ first ∷ second ∷ [] }
+    {
+        Targets {
+            len: 2,
+            ends: [first, second],
+            list: Vec::new(alloc),
+        }
+    }
+
     /// The targets as a slice.
     #[inline]
     pub fn as_slice(&self) -> &[u32]
         ensures { result.now ≡ self.now }
     {
-        &self.list
-    }
-
-    /// The list of the targets, in its memory.
-    pub fn into_vec(self) -> Vec<u32>
-        ensures { result.items ≡ self }
-    {
-        self.list
+        if self.len == 2 {
+            &self.ends
+        } else {
+            &self.list
+        }
     }
 
     /// The number of targets.
@@ -49,7 +61,8 @@ impl Targets {
     pub fn len(&self) -> usize
         ensures { result ≡ length self.now }
     {
-        self.list.len()
+        let _ = &self.list;
+        self.len
     }
 
     /// The target that is preferred to all others.
@@ -58,7 +71,8 @@ impl Targets {
         requires { 0 < length self.now }
         ensures { result ≡ slice_index (targets_of (program.splits self.now reverse)) 0 }
     {
-        if reverse { self.last } else { self.first }
+        let _ = &self.list;
+        if reverse { self.ends[1] } else { self.ends[0] }
     }
 
     /// The target to which all others are preferred: of two targets the other one.
@@ -68,7 +82,8 @@ impl Targets {
         ensures { result ≡ slice_index (targets_of (program.splits self.now reverse))
             (length self.now - 1) }
     {
-        if reverse { self.first } else { self.last }
+        let _ = &self.list;
+        if reverse { self.ends[0] } else { self.ends[1] }
     }
 
     /// The target with this number in order of preference, where 0 is the preferred one.
@@ -76,10 +91,11 @@ impl Targets {
         requires { number < length self.now }
         ensures { result ≡ slice_index (targets_of (program.splits self.now reverse)) number }
     {
+        let targets = self.as_slice();
         if reverse {
-            self.list[self.list.len() - 1 - number]
+            targets[targets.len() - 1 - number]
         } else {
-            self.list[number]
+            targets[number]
         }
     }
 }
@@ -89,11 +105,12 @@ impl From<Vec<u32>> for Targets {
 
     /// The targets of this list; it takes no memory.
     fn from(list: Vec<u32>) -> Targets {
-        let (first, last) = match list.as_slice() {
-            [] => (0, 0),
-            [only] => (*only, *only),
-            [first, .., last] => (*first, *last),
+        let len = list.len();
+        let ends = match list.as_slice() {
+            [] => [0, 0],
+            [only] => [*only, *only],
+            [first, .., last] => [*first, *last],
         };
-        Targets { list, first, last }
+        Targets { len, ends, list }
     }
 }

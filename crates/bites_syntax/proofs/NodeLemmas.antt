@@ -1,7 +1,7 @@
 -- Nodes and the trees that they stand for.
 use Rattle.std.proofs.Common.{◌≡◌, ◌≤◌, ◌<◌, ◌+◌, ◌⊎◌, ℕ, suc, max, List, [], ◌∷◌, ◌++◌, length, refl, sym, ap, subst, ◌∙◌, arith, inl, inr, ⊎_elim}
 use Rattle.bites_spec.specs.Measure.{height, IsTooTall}
-use Rattle.bites_spec.specs.Tree.{Tree, sequence, alternation, trees_of}
+use Rattle.bites_spec.specs.Tree.{Tree, sequence, alternation, choice_of, trees_of}
 use Rattle.bites_syntax.specs.declared.node.Node.{Node}
 use Rattle.bites_syntax.specs.declared.node.Node.TheVariants.{Kept, TooTall}
 use Rattle.bites_syntax.specs.Nodes.{IsNodeOf, AreNodes}
@@ -97,3 +97,10 @@ two_of limit (n ∷ []) ts some are = absurd (omega arith)
 two_of limit (n ∷ m ∷ nodes) [] some are = absurd are
 two_of limit (n ∷ m ∷ nodes) (t ∷ []) some are = absurd are.1
 two_of limit (n ∷ m ∷ nodes) (t ∷ u ∷ ts) some are = record { first = t; second = u; more = ts; are = refl }
+
+-- a node where there are no others is the choice
+pub node_alone : (limit : ℕ) (nodes : List Node) (node : Node) (ts : List Tree) (t : Tree) → length nodes ≡ 0 → AreNodes limit nodes ts → IsNodeOf limit node t →
+    IsNodeOf limit node (choice_of (ts ++ t ∷ []))
+node_alone limit [] node [] t none are is = is
+node_alone limit [] node (u ∷ ts) t none are is = absurd are
+node_alone limit (n ∷ nodes) node ts t none are is = absurd (omega (arith, none))

@@ -5,7 +5,7 @@ use Rattle.bites_spec.specs.Group.{Opening}
 use Rattle.bites_spec.specs.Pattern as pattern
 use Rattle.bites_spec.specs.RangesOf.{ranges_of}
 use Rattle.bites_spec.specs.Reader.{ReadChoice, Stop, and_found, behind_group, inner, read}
-use Rattle.bites_spec.specs.Tree.{Tree, choice_of}
+use Rattle.bites_spec.specs.Tree.{Tree, choice_of, sequence_of}
 use Rattle.bites_text.specs.declared.error.Error.{Error}
 use Rattle.bites_syntax.specs.declared.node.Node.{Node}
 use Rattle.bites_syntax.specs.declared.parse.OpenGroup.{OpenGroup}
@@ -57,14 +57,14 @@ module _ (limit depth n : ℕ) (start : pattern.Front) (text : pattern.Text) (p 
   -- at the end of the choice
   pub reached_end : (q : Parser) (after : Rows) (node : Node) (r : Reached limit depth n start text p rows) →
       EndsReading limit q after r.g (inner ranges_of limit (suc r.steps) depth r.g r.branches r.nodes p.cursor) →
-      ((ts : List Tree) → AreNodes limit after.branches.items ts → IsNodeOf limit node (choice_of ts)) →
+      ((bs ts : List Tree) → AreNodes limit after.branches.items bs → AreNodes limit after.nodes.items ts → IsNodeOf limit node (choice_of (bs ++ sequence_of ts ∷ []))) →
       ReadsAs limit q node (inner ranges_of limit (suc n) depth start [] [] text)
   reached_end q after node r ends stands = record {
-    found = record { branches = ends.branches; behind = r.g; rest = q.cursor };
+    found = record { branches = ends.branches ++ sequence_of ends.nodes ∷ []; behind = r.g; rest = q.cursor };
     same = r.same ∙ ends.same;
     rest = refl;
     front = ends.front;
-    node_is = stands ends.branches ends.branches_are;
+    node_is = stands ends.branches ends.nodes ends.branches_are ends.nodes_are;
   }
 
   -- a fault

@@ -8,6 +8,7 @@ pub mod Nodes
 pub mod Numbers
 pub mod Operators
 pub mod Openings
+pub mod Ranges
 pub mod Parts
 pub mod Progress
 pub mod Sets

@@ -1,11 +1,11 @@
 -- How far a pattern is read, beside the reader.
-use Rattle.std.specs.Prelude.{◌≡◌, ◌<◌, ◌≤◌, length, ℕ, suc, List, [], Result, Ok, Err, MatchResult}
+use Rattle.std.specs.Prelude.{◌≡◌, ◌<◌, ◌≤◌, ◌++◌, ◌∷◌, length, ℕ, suc, List, [], Result, Ok, Err, MatchResult}
 use Rattle.bites_spec.specs.Group.{Opening}
 use Rattle.bites_spec.specs.Pattern as pattern
 use Rattle.bites_spec.specs.Pattern.{Text}
 use Rattle.bites_spec.specs.RangesOf.{ranges_of}
 use Rattle.bites_spec.specs.Reader.{ReadChoice, Stop, and_found, behind_group, inner}
-use Rattle.bites_spec.specs.Tree.{Tree, choice_of}
+use Rattle.bites_spec.specs.Tree.{Tree, choice_of, sequence_of}
 use Rattle.bites_text.specs.declared.error.Error.{Error}
 use Rattle.bites_syntax.specs.declared.node.Node.{Node}
 use Rattle.bites_syntax.specs.declared.parse.OpenGroup.{OpenGroup}
@@ -41,12 +41,14 @@ pub record Enters (limit depth n : ℕ) (p : Parser) (group : OpenGroup) (g : pa
   pub numbered : IsNumbered group.numbered opening g.groups
   pub same : a ≡ and_found (inner ranges_of limit n (suc depth) inside [] [] p.cursor) (behind_group ranges_of limit (inner ranges_of limit n) depth g branches nodes opening)
 
--- the reader has found these branches, and the text behind them
+-- the reader has found these branches, the last of which are the nodes, and the text behind them
 pub record EndsReading (limit : ℕ) (p : Parser) (rows : Rows) (g : pattern.Front) (a : Result ReadChoice Stop) : Type 0 where
   pub branches : List Tree
+  pub nodes : List Tree
   pub front : IsPatternFront p.front g
   pub branches_are : AreNodes limit rows.branches.items branches
-  pub same : a ≡ Ok (record { branches = branches; behind = g; rest = p.cursor })
+  pub nodes_are : AreNodes limit rows.nodes.items nodes
+  pub same : a ≡ Ok (record { branches = branches ++ sequence_of nodes ∷ []; behind = g; rest = p.cursor })
 
 -- what one step of the parser is to the reader
 abbrev pub Steps : ℕ → ℕ → ℕ → pattern.Front → List Tree → List Tree → Result Step Error → Parser → Rows → Result ReadChoice Stop → Type 0

@@ -1,6 +1,6 @@
 //! Items that are nodes of their own and no groups.
 
-ghost use Rattle.std.specs.Prelude.{◌≡◌, ◌≤◌, length, IfOk};
+ghost use Rattle.std.specs.Prelude.{◌≡◌, ◌≤◌, length};
 ghost use Rattle.bites_spec.specs.Class as set;
 ghost use Rattle.bites_spec.specs.Class.{Lists};
 ghost use Rattle.bites_spec.specs.Escape as escape;
@@ -22,24 +22,23 @@ use crate::flags::Flags;
 use crate::look::Look;
 use crate::tree::Tree;
 use bites_text::error::Error;
-use std::alloc::{AllocError, Global};
+use std::alloc::Global;
 
-/// The tree of a character, by the flags in force. It refuses only for memory.
-fn literal(alloc: Global, flags: Flags, c: char) -> Result<Tree, AllocError>
-    ensures { IfOk result (λ tree. tree ≡ literal_of (flags_of flags) c) }
+/// The tree of a character, by the flags in force.
+fn literal(flags: Flags, c: char) -> Tree
+    ensures { result ≡ literal_of (flags_of flags) c }
 {
     if flags.case_insensitive && c.is_ascii_alphabetic() {
-        return Ok(Tree::class(Class::two_cases(alloc, c)?));
+        return Tree::class(Class::two_cases(c));
     }
-    Ok(Tree::char(c))
+    Tree::char(c)
 }
 
-/// The tree of a dot. It refuses only for memory.
-fn any(alloc: Global, flags: Flags) -> Result<Tree, AllocError>
-    ensures { IfOk result (λ tree. tree ≡ spec.class (ranges_of (dot_set (flags_of flags)))) }
+/// The tree of a dot.
+fn any(flags: Flags) -> Tree
+    ensures { result ≡ spec.class (ranges_of (dot_set (flags_of flags))) }
 {
-    let class = Class::dot(alloc, flags.dot_matches_new_line, flags.crlf)?;
-    Ok(Tree::class(class))
+    Tree::class(Class::dot(flags.dot_matches_new_line, flags.crlf))
 }
 
 fn line_start(flags: Flags) -> Look
@@ -62,15 +61,15 @@ fn line_end(flags: Flags) -> Look
     }
 }
 
-/// The tree of an escape. It refuses only for memory.
-fn escaped(alloc: Global, flags: Flags, meaning: Meaning) -> Result<Tree, AllocError>
+/// The tree of an escape.
+fn escaped(flags: Flags, meaning: Meaning) -> Tree
     ensures { (m : escape.Meaning) → IsMeaning meaning m →
-        IfOk result (λ tree. tree ≡ node_of ranges_of 0 (flags_of flags) m) }
+        result ≡ node_of ranges_of 0 (flags_of flags) m }
 {
     match meaning {
-        Meaning::Character(c) => literal(alloc, flags, c),
-        Meaning::Characters(class) => Ok(Tree::class(class)),
-        Meaning::Assertion(look) => Ok(Tree::look(look)),
+        Meaning::Character(c) => literal(flags, c),
+        Meaning::Characters(class) => Tree::class(class),
+        Meaning::Assertion(look) => Tree::look(look),
     }
 }
 
@@ -93,11 +92,11 @@ pub(crate) fn atom(
         }
         '\\' => {
             let meaning = escape(alloc, cursor, flags)?;
-            Ok(escaped(alloc, flags, meaning)?)
+            Ok(escaped(flags, meaning))
         }
-        '.' => Ok(any(alloc, flags)?),
+        '.' => Ok(any(flags)),
         '^' => Ok(Tree::look(line_start(flags))),
         '$' => Ok(Tree::look(line_end(flags))),
-        _ => Ok(literal(alloc, flags, c)?),
+        _ => Ok(literal(flags, c)),
     }
 }

@@ -15,7 +15,7 @@ ghost use Rattle.bites_syntax.specs.View.{named_of};
 use crate::class::Class;
 use crate::class_builder::ClassBuilder;
 use crate::cursor::{Characters, Cursor};
-use crate::escape::{Meaning, escape, named_class, other_characters};
+use crate::escape::{Meaning, escape};
 use crate::flags::Flags;
 use crate::named_class::NamedClass;
 use bites_text::error::Error;
@@ -58,18 +58,18 @@ fn named_at<'a>(cursor: &Cursor<'a>, names: &[NamedClass]) -> Option<(NamedClass
 }
 
 /// The characters of a named class, or all others.
-fn class_named(alloc: Global, name: NamedClass, negated: bool) -> Result<Class, AllocError>
-    ensures { IfOk result (λ class. Lists class (members_named (named_of name) negated)) }
+fn class_named(name: NamedClass, negated: bool) -> Class
+    ensures { Lists result (members_named (named_of name) negated) }
 {
     if negated {
-        other_characters(alloc, name)
+        Class::all_but_named(name)
     } else {
-        named_class(alloc, name)
+        Class::named(name)
     }
 }
 
 /// Reads a named class, and adds its characters.
-fn named(alloc: Global, cursor: &mut Cursor<'_>, builder: &mut ClassBuilder) -> Result<(), Error>
+fn named(cursor: &mut Cursor<'_>, builder: &mut ClassBuilder) -> Result<(), Error>
     ensures reads { Adds builder.old builder.new result cursor.new
         (λ go set. named go set cursor.old named_classes) }
     ensures forward { length cursor.new ≤ length cursor.old }
@@ -78,7 +78,7 @@ fn named(alloc: Global, cursor: &mut Cursor<'_>, builder: &mut ClassBuilder) -> 
     let Some((name, negated, behind)) = named_at(cursor, &NamedClass::ALL) else {
         return Err(Error::NestedClass);
     };
-    let class = class_named(alloc, name, negated)?;
+    let class = class_named(name, negated);
     builder.extend(class.ranges())?;
     *cursor = behind;
     Ok(())
@@ -227,7 +227,7 @@ fn member(
     ensures progress { OnOk result (length cursor.new < length cursor.old) }
 {
     match cursor.peek() {
-        Some('[') => named(alloc, cursor, builder),
+        Some('[') => named(cursor, builder),
         _ => unnamed(alloc, cursor, flags, builder),
     }
 }

@@ -2,17 +2,21 @@
 
 ghost use Rattle.std.specs.Prelude.{◌≡◌, ◌<◌, true, codes, if◌then◌else◌, IsTrue, [], IfOk, MatchOption};
 ghost use Rattle.bites_spec.specs.Range.{in_ranges};
-ghost use Rattle.bites_spec.specs.Class.{AreGreatest, Lists, complement, following, is_scalar, is_letter, none, single};
+ghost use Rattle.bites_spec.specs.Class.{AreGreatest, Lists, complement, following, is_scalar, is_letter, members, none, single};
 ghost use Rattle.bites_spec.specs.Grammar.{two_cases};
 ghost use Rattle.bites_spec.specs.Pattern.{one_of};
+ghost use Rattle.bites_syntax.specs.Ranges.{constant_set};
+ghost use Rattle.bites_syntax.specs.View.{named_of};
 
+use crate::named_class::NamedClass;
+use crate::range_list::{Constant, RangeList};
 use std::alloc::{AllocError, Global};
 use std::marker::Model;
 
 /// A set of characters. A contract sees the list of its greatest ranges.
 #[derive(Drop)]
 pub struct Class {
-    ranges: Vec<(char, char)>,
+    ranges: RangeList,
 }
 
 impl Model for Class {
@@ -22,9 +26,9 @@ impl Model for Class {
 
     ghost Value = { List Range };
 
-    ghost view = { λ a. a.ranges.items };
+    ghost view = { λ a. a.ranges };
 
-    ghost invariant = { λ a. AreGreatest a.ranges.items };
+    ghost invariant = { λ a. AreGreatest a.ranges };
 }
 
 impl Class {
@@ -32,9 +36,7 @@ impl Class {
     pub fn new(alloc: Global) -> Class
         ensures { result ≡ [] }
     {
-        Class {
-            ranges: Vec::new(alloc),
-        }
+        Class::from_ranges(Vec::new(alloc))
     }
 
     /// The class with these greatest ranges.
@@ -42,7 +44,32 @@ impl Class {
         requires { AreGreatest ranges.items }
         ensures { result ≡ ranges.items }
     {
-        Class { ranges }
+        Class {
+            ranges: ranges.into(),
+        }
+    }
+
+    /// The class of a constant set. It takes no memory.
+    pub fn constant(set: Constant) -> Class
+        ensures { Lists result (constant_set set) }
+    {
+        Class {
+            ranges: RangeList::constant(set),
+        }
+    }
+
+    /// The class of the characters of a named class.
+    pub fn named(name: NamedClass) -> Class
+        ensures { Lists result (members (named_of name)) }
+    {
+        Class::constant(Constant::Named(name))
+    }
+
+    /// The class of all characters but those of a named class.
+    pub fn all_but_named(name: NamedClass) -> Class
+        ensures { Lists result (complement (members (named_of name))) }
+    {
+        Class::constant(Constant::Others(name))
     }
 
     /// The class of all characters that lie in none of these greatest ranges. It refuses only for
@@ -51,41 +78,51 @@ impl Class {
         requires { AreGreatest ranges.now }
         ensures { IfOk result (λ class. Lists class (complement (in_ranges ranges.now))) }
     {
-        Ok(Class {
-            ranges: gaps(alloc, ranges)?,
-        })
+        Ok(Class::from_ranges(gaps(alloc, ranges)?))
     }
 
     /// The class of what a dot stands for: all characters, or all but a line feed, or all but a
-    /// line feed and a carriage return. It refuses only for memory.
-    pub fn dot(alloc: Global, matches_new_line: bool, crlf: bool) -> Result<Class, AllocError>
-        ensures { IfOk result (λ class. Lists class (complement
+    /// line feed and a carriage return.
+    pub fn dot(matches_new_line: bool, crlf: bool) -> Class
+        ensures { Lists result (complement
             (if matches_new_line then none
             else if crlf then one_of (codes "\n\r")
-            else single 10))) }
+            else single 10)) }
     {
         if matches_new_line {
-            Class::all_but(alloc, &[])
-        } else if crlf {
-            Class::all_but(alloc, &[('\n', '\n'), ('\r', '\r')])
-        } else {
-            Class::all_but(alloc, &[('\n', '\n')])
+            return Class {
+                ranges: RangeList::one(('\0', char::MAX)),
+            };
+        }
+        if crlf {
+            return Class::constant(Constant::NoLineEnd);
+        }
+        Class {
+            ranges: RangeList::two(('\0', '\t'), ('\x0B', char::MAX)),
         }
     }
 
-    /// The class of both cases of an ASCII letter. It refuses only for memory.
-    pub fn two_cases(alloc: Global, letter: char) -> Result<Class, AllocError>
+    /// The class of both cases of an ASCII letter.
+    pub fn two_cases(letter: char) -> Class
         requires { IsTrue (is_letter letter) }
-        ensures { IfOk result (λ class. class ≡ two_cases letter) }
+        ensures { result ≡ two_cases letter }
     {
         let (upper, lower) = (letter.to_ascii_uppercase(), letter.to_ascii_lowercase());
-        Ok(Class {
-            ranges: vec![in alloc; (upper, upper), (lower, lower)]?,
-        })
+        Class {
+            ranges: RangeList::two((upper, upper), (lower, lower)),
+        }
     }
 
     /// The greatest ranges of the class, from the lowest to the highest.
     pub fn ranges(&self) -> &[(char, char)]
+        ensures ranges { result.now ≡ self.now }
+        ensures greatest { AreGreatest self.now }
+    {
+        self.ranges.as_slice()
+    }
+
+    /// The list of the greatest ranges.
+    pub fn list(&self) -> &RangeList
         ensures ranges { result.now ≡ self.now }
         ensures greatest { AreGreatest self.now }
     {
@@ -96,14 +133,14 @@ impl Class {
     pub fn contains(&self, c: char) -> bool
         ensures { result ≡ in_ranges self.now c }
     {
-        self.ranges.iter().any(|r| r.0 <= c && c <= r.1)
+        self.ranges().iter().any(|r| r.0 <= c && c <= r.1)
     }
 
     /// The class of all other characters. It refuses only for memory.
     pub fn negate(&self, alloc: Global) -> Result<Class, AllocError>
         ensures { IfOk result (λ class. Lists class (complement (in_ranges self.now))) }
     {
-        Class::all_but(alloc, &self.ranges)
+        Class::all_but(alloc, self.ranges())
     }
 }
 

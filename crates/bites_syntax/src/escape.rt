@@ -1,14 +1,13 @@
 //! Escapes: what a backslash begins.
 
 ghost use Rattle.std.specs.Prelude.{◌≡◌, ◌≤◌, length, IfOk, OnOk, option_map, string_bytes};
-ghost use Rattle.bites_spec.specs.Class.{Lists, complement, members};
 ghost use Rattle.bites_spec.specs.Escape.{assertion_of, boundary_of, class_of, control_of, digits_of, escapes_itself, is_boundary_letter};
 ghost use Rattle.bites_spec.specs.Reader.{boundary, boundary_name, escape, meaning_of, simple};
 ghost use Rattle.bites_syntax.specs.FlagsView.{flags_of};
 ghost use Rattle.bites_syntax.specs.Meanings.{IsClassOf, IsMeaning, IsMeaningOf, IsLook};
 ghost use Rattle.bites_syntax.specs.Parts.{Agrees, WithSteps};
 ghost use Rattle.bites_syntax.specs.Steps.{each_of};
-ghost use Rattle.bites_syntax.specs.View.{look_of, named_of};
+ghost use Rattle.bites_syntax.specs.View.{look_of};
 
 use crate::class::Class;
 use crate::cursor::{Characters, Cursor};
@@ -54,33 +53,19 @@ fn assertion(c: char) -> Option<Look>
     }
 }
 
-/// The class of the characters of a named class.
-pub(crate) fn named_class(alloc: Global, name: NamedClass) -> Result<Class, AllocError>
-    ensures { IfOk result (λ class. Lists class (members (named_of name))) }
-{
-    Ok(Class::from_ranges(Vec::from_slice(alloc, name.ranges())?))
-}
-
-/// The class of all characters but those of a named class.
-pub(crate) fn other_characters(alloc: Global, name: NamedClass) -> Result<Class, AllocError>
-    ensures { IfOk result (λ class. Lists class (complement (members (named_of name)))) }
-{
-    Class::all_but(alloc, name.ranges())
-}
-
-fn perl_class(alloc: Global, c: char) -> Result<Option<Class>, AllocError>
-    ensures { IfOk result (λ found. IsClassOf found (class_of c)) }
+fn perl_class(c: char) -> Option<Class>
+    ensures { IsClassOf result (class_of c) }
 {
     let class = match c {
-        'd' => named_class(alloc, NamedClass::Digit)?,
-        's' => named_class(alloc, NamedClass::Space)?,
-        'w' => named_class(alloc, NamedClass::Word)?,
-        'D' => other_characters(alloc, NamedClass::Digit)?,
-        'S' => other_characters(alloc, NamedClass::Space)?,
-        'W' => other_characters(alloc, NamedClass::Word)?,
-        _ => return Ok(None),
+        'd' => Class::named(NamedClass::Digit),
+        's' => Class::named(NamedClass::Space),
+        'w' => Class::named(NamedClass::Word),
+        'D' => Class::all_but_named(NamedClass::Digit),
+        'S' => Class::all_but_named(NamedClass::Space),
+        'W' => Class::all_but_named(NamedClass::Word),
+        _ => return None,
     };
-    Ok(Some(class))
+    Some(class)
 }
 
 fn escapes_itself(c: char) -> bool
@@ -102,22 +87,22 @@ fn digits(c: char) -> Option<u32>
 }
 
 /// What the character behind a backslash means alone.
-fn meaning_alone(alloc: Global, c: char) -> Result<Option<Meaning>, AllocError>
-    ensures { IfOk result (λ found. IsMeaningOf found (meaning_of c)) }
+fn meaning_alone(c: char) -> Option<Meaning>
+    ensures { IsMeaningOf result (meaning_of c) }
 {
     if let Some(control) = control(c) {
-        return Ok(Some(Meaning::Character(control)));
+        return Some(Meaning::Character(control));
     }
     if let Some(look) = assertion(c) {
-        return Ok(Some(Meaning::Assertion(look)));
+        return Some(Meaning::Assertion(look));
     }
-    if let Some(class) = perl_class(alloc, c)? {
-        return Ok(Some(Meaning::Characters(class)));
+    if let Some(class) = perl_class(c) {
+        return Some(Meaning::Characters(class));
     }
     if escapes_itself(c) {
-        return Ok(Some(Meaning::Character(c)));
+        return Some(Meaning::Character(c));
     }
-    Ok(None)
+    None
 }
 
 /// The word boundary with this name.
@@ -183,12 +168,12 @@ fn boundary(alloc: Global, cursor: &mut Cursor<'_>, flags: Flags) -> Result<Look
 }
 
 /// Reads an escape other than of a word boundary, from behind this character.
-fn simple(alloc: Global, cursor: &mut Cursor<'_>, flags: Flags, c: char) -> Result<Meaning, Error>
+fn simple(cursor: &mut Cursor<'_>, flags: Flags, c: char) -> Result<Meaning, Error>
     ensures reads { WithSteps cursor.old
         (λ n. Agrees IsMeaning result cursor.new (simple n (flags_of flags) c cursor.old)) }
     ensures forward { length cursor.new ≤ length cursor.old }
 {
-    if let Some(meaning) = meaning_alone(alloc, c)? {
+    if let Some(meaning) = meaning_alone(c) {
         return Ok(meaning);
     }
     let Some(count) = digits(c) else {
@@ -209,6 +194,6 @@ pub(crate) fn escape(alloc: Global, cursor: &mut Cursor<'_>, flags: Flags) -> Re
         Some('0'..='9') => Err(Error::Backreference),
         Some('p' | 'P') => Err(Error::UnicodeClass),
         Some('b') => Ok(Meaning::Assertion(boundary(alloc, cursor, flags)?)),
-        Some(c) => simple(alloc, cursor, flags, c),
+        Some(c) => simple(cursor, flags, c),
     }
 }

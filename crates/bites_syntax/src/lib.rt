@@ -20,4 +20,5 @@ pub(crate) mod node;
 pub(crate) mod number;
 pub(crate) mod operator;
 pub mod parse;
+pub mod range_list;
 pub mod tree;

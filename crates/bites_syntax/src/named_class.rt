@@ -2,7 +2,7 @@
 
 ghost use Rattle.std.specs.Prelude.{◌≡◌, ℕ};
 ghost use Rattle.bites_spec.specs.Range.{in_ranges};
-ghost use Rattle.bites_spec.specs.Class.{AreGreatest, members, class_name};
+ghost use Rattle.bites_spec.specs.Class.{AreGreatest, Lists, complement, members, class_name};
 ghost use Rattle.bites_syntax.specs.View.{named_of};
 
 /// A class of ASCII characters that has a name: those of POSIX, and `word`.
@@ -85,6 +85,40 @@ impl NamedClass {
             NamedClass::Upper => &[('A', 'Z')],
             NamedClass::Word => &[('0', '9'), ('A', 'Z'), ('_', '_'), ('a', 'z')],
             NamedClass::Xdigit => &[('0', '9'), ('A', 'F'), ('a', 'f')],
+        }
+    }
+
+    /// The greatest ranges of all characters that are not in the class.
+    pub fn others(self) -> &'static [(char, char)]
+        ensures { Lists result.now (complement (members (named_of self))) }
+    {
+        match self {
+            NamedClass::Alnum => &[('\0', '/'), (':', '@'), ('[', '`'), ('{', char::MAX)],
+            NamedClass::Alpha => &[('\0', '@'), ('[', '`'), ('{', char::MAX)],
+            NamedClass::Ascii => &[('\u{80}', char::MAX)],
+            NamedClass::Blank => &[('\0', '\x08'), ('\n', '\x1F'), ('!', char::MAX)],
+            NamedClass::Cntrl => &[(' ', '~'), ('\u{80}', char::MAX)],
+            NamedClass::Digit => &[('\0', '/'), (':', char::MAX)],
+            NamedClass::Graph => &[('\0', ' '), ('\x7F', char::MAX)],
+            NamedClass::Lower => &[('\0', '`'), ('{', char::MAX)],
+            NamedClass::Print => &[('\0', '\x1F'), ('\x7F', char::MAX)],
+            NamedClass::Punct => &[
+                ('\0', ' '),
+                ('0', '9'),
+                ('A', 'Z'),
+                ('a', 'z'),
+                ('\x7F', char::MAX),
+            ],
+            NamedClass::Space => &[('\0', '\x08'), ('\x0E', '\x1F'), ('!', char::MAX)],
+            NamedClass::Upper => &[('\0', '@'), ('[', char::MAX)],
+            NamedClass::Word => &[
+                ('\0', '/'),
+                (':', '@'),
+                ('[', '^'),
+                ('`', '`'),
+                ('{', char::MAX),
+            ],
+            NamedClass::Xdigit => &[('\0', '/'), (':', '@'), ('G', '`'), ('g', char::MAX)],
         }
     }
 }

@@ -85,7 +85,7 @@ impl Rows {
         }
     }
 
-    /// Makes the nodes a branch.
+    /// Makes the nodes a branch before another one.
     fn end_branch(&mut self, alloc: Global, limit: u32) -> Result<(), AllocError>
         ensures { (bs ts : List spec.Tree) → AreNodes limit self.old.branches.items bs →
             AreNodes limit self.old.nodes.items ts →
@@ -97,6 +97,24 @@ impl Rows {
         let branch = sequence_of(alloc, nodes, limit)?;
         self.branches.push(branch)?;
         Ok(())
+    }
+
+    /// The choice between the branches, the last of which are the nodes.
+    fn into_choice(self, alloc: Global, limit: u32) -> Result<Node, AllocError>
+        ensures { (bs ts : List spec.Tree) → AreNodes limit self.branches.items bs →
+            AreNodes limit self.nodes.items ts →
+            IfOk result (λ node. IsNodeOf limit node (choice_of (bs ++ sequence_of ts ∷ []))) }
+    {
+        let Rows {
+            mut branches,
+            nodes,
+        } = self;
+        let last = sequence_of(alloc, nodes, limit)?;
+        if branches.is_empty() {
+            return Ok(last);
+        }
+        branches.push(last)?;
+        choice_of(alloc, branches, limit)
     }
 
     /// Repeats the last node.
@@ -315,14 +333,12 @@ impl Parser<'_> {
             if depth > 0 {
                 return Err(Error::UnclosedGroup);
             }
-            rows.end_branch(alloc, limit)?;
             return Ok(Step::End);
         };
         if c == ')' {
             if depth == 0 {
                 return Err(Error::UnopenedGroup);
             }
-            rows.end_branch(alloc, limit)?;
             return Ok(Step::End);
         }
         self.cursor.bump();
@@ -350,7 +366,7 @@ impl Parser<'_> {
                     self.front.flags = close_group(alloc, &mut rows, group, choice, limit)?;
                     self.cursor.bump();
                 }
-                Step::End => return Ok(choice_of(alloc, rows.branches, limit)?),
+                Step::End => return Ok(rows.into_choice(alloc, limit)?),
             }
         }
     }

@@ -6,4 +6,4 @@ use Rattle.bites_syntax.specs.FlagsView.{flags_of}
 use Rattle.bites_syntax.proofs.atom.any.Goals as goal
 
 pub returns : goal.returns
-returns c = c.class.ensures ∙ ap class (lists_are_ranges_of (dot_set (flags_of c.args.flags)) _ c.in_ok-class.ensures)
+returns c = c.class.ensures ∙ ap class (lists_are_ranges_of (dot_set (flags_of c.args.flags)) _ c.dot.ensures)

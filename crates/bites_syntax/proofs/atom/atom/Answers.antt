@@ -15,10 +15,10 @@ returns-in_ok-class-in-91-clause-reads c = λ n room.
       c.class.ensures ∙ ap class (lists_are_ranges_of r.0 _ r.2),
     )
 
-pub returns-in_ok-escaped-in-92-clause-reads : goal.returns-in_ok-escaped-in-92-clause-reads
-returns-in_ok-escaped-in-92-clause-reads c = λ n room.
+pub returns-in_ok-meaning-in-92-clause-reads : goal.returns-in_ok-meaning-in-92-clause-reads
+returns-in_ok-meaning-in-92-clause-reads c = λ n room.
     let r = c.in_ok-meaning-in-92.ensures.reads n room in (
       node_of ranges_of 0 (flags_of c.args.flags) r.0,
       atom_escape n (flags_of c.args.flags) c.args.c c.args.cursor.now c.escape.new.cursor r.0 c.in-92.is r.1,
-      c.in_ok-escaped-in-92.ensures r.0 r.2,
+      c.escaped.ensures r.0 r.2,
     )

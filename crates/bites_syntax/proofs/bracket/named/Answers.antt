@@ -15,7 +15,7 @@ returns-clause-reads c = λ go set has.
     let found : named_at c.args.cursor.now named_classes ≡ Some (named_of c.in-Some.name, c.in-Some.negated, c.in-Some.behind) = c.in-Some.ensures in (
       union set (members_named (named_of c.in-Some.name) c.in-Some.negated),
       named_some go set c.args.cursor.now _ named_classes _ _ found,
-      Has_extend _ _ _ set _ has (rw c.ranges-2.ensures.ranges c.in_ok-class.ensures) c.in_ok-extend.ensures.added,
+      Has_extend _ _ _ set _ has (rw c.ranges-2.ensures.ranges c.class_named-class.ensures) c.in_ok-extend.ensures.added,
     )
 
 pub returns-clause-progress : goal.returns-clause-progress

@@ -13,12 +13,12 @@ unfolding emit
 class_again rs qs n to from old so_far new same is e =
     e ∙ ap (λ (q : List Range). pushed so_far (class_state q from)) same ∙ ap (in_front (emit (spec.class rs))) is
 
-pub ranges-requires-in-loop : goal.ranges-requires-in-loop
-ranges-requires-in-loop c =
+pub ranges-requires : goal.ranges-requires
+ranges-requires c =
     omega (arith, again-length (spec.class c.args.class.now) tt c.args.to c.args.self.now c.loop.self c.loop.from c.loop.counter c.loop.invariant, c.requires, c.loop-test.true)
 
 pub loop-preserved : goal.loop-preserved
 loop-preserved c =
     rw add-one
     (class_again c.args.class.now _ c.loop.counter c.args.to c.loop.from c.args.self.now c.loop.self _
-    (c.from-ranges.ensures ∙ c.in_ok-from_slice.ensures.items ∙ c.ranges-2.ensures.ranges) c.loop.invariant c.in_ok-from.ensures)
+    (c.in_ok-copy.ensures ∙ c.in_ok-ranges.ensures ∙ c.list.ensures.ranges) c.loop.invariant c.in_ok-from.ensures)

@@ -82,5 +82,5 @@ returns-in-End-clause-reads t c = λ g is n room.
     subst (λ s. Steps c.args.limit c.args.depth r.steps r.g r.branches r.nodes (Ok s) c.step.new.self c.step.new.rows
     (inner ranges_of c.args.limit (suc r.steps) c.args.depth r.g r.branches r.nodes c.loop-rows.self.cursor))
     c.in-End.is (c.in_ok-step.ensures.steps r.g r.branches r.nodes r.is_at r.steps r.room) in
-    reached_end c.args.limit c.args.depth n g c.args.self.now.cursor c.loop-rows.self c.loop-rows.rows c.step.new.self c.step.new.rows c.in_ok-choice_of-in-End.field-0 r ends
-    c.in_ok-choice_of-in-End.ensures
+    reached_end c.args.limit c.args.depth n g c.args.self.now.cursor c.loop-rows.self c.loop-rows.rows c.step.new.self c.step.new.rows c.in_ok-into_choice-in-End.field-0 r ends
+    c.in_ok-into_choice-in-End.ensures

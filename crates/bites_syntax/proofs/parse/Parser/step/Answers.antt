@@ -17,9 +17,11 @@ pub returns-in_default-clause-steps : goal.returns-in_default-clause-steps
 returns-in_default-clause-steps c = λ g bs ts is n room.
     let same = read_item c.args.limit n c.args.depth (flags_of c.args.self.now.front.flags) g bs ts c.args.self.now.cursor c.skip.new.self is.front.flags c.skip.ensures.rest in
     record {
-      branches = bs ++ sequence_of ts ∷ [];
+      branches = bs;
+      nodes = ts;
       front = is.front;
-      branches_are = (c.in_ok-end_branch.ensures bs ts is.branches_are is.nodes_are).0;
+      branches_are = is.branches_are;
+      nodes_are = is.nodes_are;
       same = same ∙ end_of_all c.args.limit (inner ranges_of c.args.limit n) n g bs ts c.args.depth c.skip.new.self c.in_default.ensures c.if-depth-gt0.false;
     }
 
@@ -33,9 +35,11 @@ pub returns-then-c-eq41-clause-steps : goal.returns-then-c-eq41-clause-steps
 returns-then-c-eq41-clause-steps c = λ g bs ts is n room.
     let same = read_item c.args.limit n c.args.depth (flags_of c.args.self.now.front.flags) g bs ts c.args.self.now.cursor c.skip.new.self is.front.flags c.skip.ensures.rest in
     record {
-      branches = bs ++ sequence_of ts ∷ [];
+      branches = bs;
+      nodes = ts;
       front = is.front;
-      branches_are = (c.in_ok-end_branch-2.ensures bs ts is.branches_are is.nodes_are).0;
+      branches_are = is.branches_are;
+      nodes_are = is.nodes_are;
       same = same ∙ close_one c.args.limit (inner ranges_of c.args.limit n) n g bs ts c.args.depth c.skip.new.self _ c.in-Some.c c.in-Some.ensures c.if-c-eq41.true c.if-depth-eq0.false;
     }
 
