@@ -32,13 +32,13 @@ spans_bound : (r : Regex) (hay : List ℕ) (last : Option ℕ) → length (spans
 spans_bound r hay None = successive-length (λ s. s) hay (span_at r hay)
 spans_bound r hay (Some e) = let le = successive_after-length (λ s. s) hay (span_at r hay) e in omega (arith, le)
 
-pub length-matches : (s : Matches) → length (matches_left s) ≡ length (spans_left s)
-length-matches s = length-map (spans_left s) (excerpt s.haystack.now)
+pub length-matches : (s : Matches) → length (matches_left s) ≡ length (spans_left s.cursor)
+length-matches s = length-map (spans_left s.cursor) (excerpt s.cursor.haystack.now)
 
 -- at most one match more is left than the haystack has bytes
-pub matches_bound : (s : Matches) → length (matches_left s) ≤ suc (length s.haystack.now)
+pub matches_bound : (s : Matches) → length (matches_left s) ≤ suc (length s.cursor.haystack.now)
 matches_bound s =
-    let le = spans_bound s.regex.now s.haystack.now s.last in let e = length-matches s in omega (arith, le, e)
+    let le = spans_bound s.cursor.regex.now s.cursor.haystack.now s.cursor.last in let e = length-matches s in omega (arith, le, e)
 
 captures_spans : (r : Regex) (hay : List ℕ) (last : Option ℕ) → length (captures_behind r hay last) ≡ length (spans_behind r hay last)
 captures_spans r hay None =
@@ -51,31 +51,31 @@ captures_spans r hay (Some e) =
     ∙ ap length (mapped_after span_of_run span_of_run (λ s. s) (λ x. refl) hay (run_at r hay) e)
 
 -- as many captures are to come as matches are left
-pub length-captures : (s : Matches) → length (captures_to_come s) ≡ length (matches_left s)
-length-captures s = captures_spans s.regex.now s.haystack.now s.last ∙ sym (length-matches s)
+pub length-captures : (s : Matches) → length (captures_to_come s.cursor) ≡ length (matches_left s)
+length-captures s = captures_spans s.cursor.regex.now s.cursor.haystack.now s.cursor.last ∙ sym (length-matches s)
 
 length-by : (s : Split) (ss : List Span) (done : Bool) → s.done ≡ done → length (pieces_by s ss) ≡ cond done 0 (suc (length ss))
 length-by s ss done is =
-    let hay = s.matches.haystack.now in let gaps = gaps_from (length hay) (unwrap_or s.matches.last 0) ss in
+    let hay = s.matches.cursor.haystack.now in let gaps = gaps_from (length hay) (unwrap_or s.matches.cursor.last 0) ss in
     ap (λ b. length (cond b [] (map (text_at hay) gaps))) is ∙ each done
   where
-    each : (b : Bool) → length (cond b [] (map (text_at s.matches.haystack.now) (gaps_from (length s.matches.haystack.now) (unwrap_or s.matches.last 0) ss))) ≡ cond b 0 (suc (length ss))
+    each : (b : Bool) → length (cond b [] (map (text_at s.matches.cursor.haystack.now) (gaps_from (length s.matches.cursor.haystack.now) (unwrap_or s.matches.cursor.last 0) ss))) ≡ cond b 0 (suc (length ss))
     each true = refl
     each false =
-        length-map (gaps_from (length s.matches.haystack.now) (unwrap_or s.matches.last 0) ss) (text_at s.matches.haystack.now)
-        ∙ length-gaps_from (length s.matches.haystack.now) (unwrap_or s.matches.last 0) ss
+        length-map (gaps_from (length s.matches.cursor.haystack.now) (unwrap_or s.matches.cursor.last 0) ss) (text_at s.matches.cursor.haystack.now)
+        ∙ length-gaps_from (length s.matches.cursor.haystack.now) (unwrap_or s.matches.cursor.last 0) ss
 
 pub no_pieces : (s : Split) → s.done ≡ true → length (pieces_left s) ≡ 0
-no_pieces s is = length-by s (spans_left s.matches) true is
+no_pieces s is = length-by s (spans_left s.matches.cursor) true is
 
 -- one piece more is left than there are matches
 pub length-pieces : (s : Split) → s.done ≡ false → length (pieces_left s) ≡ suc (length (matches_left s.matches))
-length-pieces s is = length-by s (spans_left s.matches) false is ∙ ap suc (sym (length-matches s.matches))
+length-pieces s is = length-by s (spans_left s.matches.cursor) false is ∙ ap suc (sym (length-matches s.matches))
 
-limited_by : (n : ℕ) (s : Split) (done : Bool) → s.done ≡ done → length (pieces_by s (take n (spans_left s.matches))) ≤ suc n
-limited_by n s true is = let e = length-by s (take n (spans_left s.matches)) true is in omega (arith, e)
+limited_by : (n : ℕ) (s : Split) (done : Bool) → s.done ≡ done → length (pieces_by s (take n (spans_left s.matches.cursor))) ≤ suc n
+limited_by n s true is = let e = length-by s (take n (spans_left s.matches.cursor)) true is in omega (arith, e)
 limited_by n s false is =
-    let e = length-by s (take n (spans_left s.matches)) false is in let l = length-take n (spans_left s.matches) in omega (arith, e, l)
+    let e = length-by s (take n (spans_left s.matches.cursor)) false is in let l = length-take n (spans_left s.matches.cursor) in omega (arith, e, l)
 
 -- no more pieces are left than may come
 pub limited_bound : (n : ℕ) (s : Split) → length (at_most_left n s) ≤ n

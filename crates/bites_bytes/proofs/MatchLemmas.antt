@@ -16,9 +16,9 @@ use Rattle.bites_spec.proofs.SpanLemmas.{due_next}
 use Rattle.bites_spec.proofs.SuccessiveLemmas.{due_after-due, goes_on, mapped_after, mapped_successive}
 use Rattle.bites_bytes.specs.Due.{run_due, LeavesRun}
 use Rattle.bites_bytes.specs.Matched.{excerpt_of}
-use Rattle.bites_bytes.specs.Matches.{Advances, IsSameSearch, Moves, matches_left, captures_to_come, CapturesCome}
+use Rattle.bites_bytes.specs.Matches.{Advances, IsSameSearch, Moves, left_from, captures_to_come, CapturesCome}
 use Rattle.bites_bytes.specs.declared.bytes.matched.Match.{Match}
-use Rattle.bites_bytes.specs.declared.bytes.matches.Matches.{Matches}
+use Rattle.bites_bytes.specs.declared.bytes.matches.Cursor.{Cursor}
 use Rattle.bites_bytes.proofs.SlotLemmas.{ends, length-slots}
 use Rattle.bites_bytes.proofs.DueLemmas.{front_group}
 
@@ -117,16 +117,16 @@ module _ (r : Regex) (is : IsCompiled r) (hay : List ℕ) where
   nothing_due (Some x) found n new leaves missing = absurd (true≢false (sym leaves.0 ∙ missing))
 
 -- what is left where the search goes on
-moved_left : (s t : Matches) (last : Option ℕ) → IsSameSearch s t → t.last ≡ last →
-    matches_left t ≡ map (excerpt s.haystack.now) (spans_behind s.regex.now s.haystack.now last)
+moved_left : (s t : Cursor) (last : Option ℕ) → IsSameSearch s t → t.last ≡ last →
+    left_from t ≡ map (excerpt s.haystack.now) (spans_behind s.regex.now s.haystack.now last)
 moved_left s t last same is =
     ap (λ h. map (excerpt h) (spans_behind t.regex.now h t.last)) same.1
     ∙ ap (λ r. map (excerpt s.haystack.now) (spans_behind r s.haystack.now t.last)) same.0
     ∙ ap (λ l. map (excerpt s.haystack.now) (spans_behind s.regex.now s.haystack.now l)) is
 
 -- a step is that of an iterator over the matches that are left
-pub advance_yields : (s : Matches) (m : Option Match) (t : Matches) (n : ℕ) (new : List (Option ℕ)) → IsCompiled s.regex.now →
-    Advances s m t n new → IsSameSearch s t → YieldsFirstBy excerpt_of matches_left s m t
+pub advance_yields : (s : Cursor) (m : Option Match) (t : Cursor) (n : ℕ) (new : List (Option ℕ)) → IsCompiled s.regex.now →
+    Advances s m t n new → IsSameSearch s t → YieldsFirstBy excerpt_of left_from s m t
 advance_yields s None t n new is step same =
     let hay = s.haystack.now in let r = s.regex.now in
     let none = ap (map (excerpt hay)) (spans_none r is hay s.last step.0) in
@@ -137,7 +137,7 @@ advance_yields s (Some m) t n new is step same =
     ∙ ap₂ (λ a b. a ∷ b) (sym step.2.0) (sym (moved_left s t (Some x.end) same step.2.1))
 
 -- the match lies behind the one before, and the search goes on where it ends
-pub advance_moves : (s : Matches) (m : Option Match) (t : Matches) (n : ℕ) (new : List (Option ℕ)) → IsCompiled s.regex.now →
+pub advance_moves : (s : Cursor) (m : Option Match) (t : Cursor) (n : ℕ) (new : List (Option ℕ)) → IsCompiled s.regex.now →
     Advances s m t n new → Moves s m t
 advance_moves s None t n new is step = step.1
 advance_moves s (Some m) t n new is step =
@@ -146,14 +146,14 @@ advance_moves s (Some m) t n new is step =
       step.2.1 ∙ ap (λ (g : Span). Some g.end) (sym span_is),
     )
 
-moved_captures : (s t : Matches) (last : Option ℕ) → IsSameSearch s t → t.last ≡ last → captures_to_come t ≡ captures_behind s.regex.now s.haystack.now last
+moved_captures : (s t : Cursor) (last : Option ℕ) → IsSameSearch s t → t.last ≡ last → captures_to_come t ≡ captures_behind s.regex.now s.haystack.now last
 moved_captures s t last same is =
     ap (λ h. captures_behind t.regex.now h t.last) same.1
     ∙ ap (λ r. captures_behind r s.haystack.now t.last) same.0
     ∙ ap (λ l. captures_behind s.regex.now s.haystack.now l) is
 
 -- a step with all slots is one to the captures of the match
-pub captures_advance : (s : Matches) (m : Option Match) (t : Matches) (n : ℕ) (new : List (Option ℕ)) → IsCompiled s.regex.now →
+pub captures_advance : (s : Cursor) (m : Option Match) (t : Cursor) (n : ℕ) (new : List (Option ℕ)) → IsCompiled s.regex.now →
     n ≡ s.regex.now.program.slots → Advances s m t n new → IsSameSearch s t → CapturesCome s (is_some m) t new
 captures_advance s None t n new is all step same =
     let none = captures_none s.regex.now is s.haystack.now s.last step.0 in (none, moved_captures s t s.last same step.1 ∙ none)

@@ -71,32 +71,32 @@ mapped_none f (x ∷ xs) = (λ p. absurd (filled p), λ p. absurd (bare p))
     bare p = cc
 
 -- a haystack of which nothing is replaced yet
-module _ (s : Replacing) (r : Regex) (hay : List ℕ) (n : ℕ) (regex_is : s.matches.regex.now ≡ r) (hay_is : s.matches.haystack.now ≡ hay)
-    (last_is : s.matches.last ≡ None) (left_is : s.left ≡ bound n) (out_is : s.out.items ≡ []) where
+module _ (s : Replacing) (r : Regex) (hay : List ℕ) (n : ℕ) (regex_is : s.cursor.regex.now ≡ r) (hay_is : s.cursor.haystack.now ≡ hay)
+    (last_is : s.cursor.last ≡ None) (left_is : s.left ≡ bound n) (out_is : s.out.items ≡ []) where
   spans_start : spans_to_replace s ≡ limited n (spans_in r hay)
   spans_start =
-      ap (λ o. taken o (spans_behind s.matches.regex.now s.matches.haystack.now s.matches.last)) left_is
-      ∙ ap (λ q. taken (bound n) (spans_behind q s.matches.haystack.now s.matches.last)) regex_is
-      ∙ ap (λ h. taken (bound n) (spans_behind r h s.matches.last)) hay_is
+      ap (λ o. taken o (spans_behind s.cursor.regex.now s.cursor.haystack.now s.cursor.last)) left_is
+      ∙ ap (λ q. taken (bound n) (spans_behind q s.cursor.haystack.now s.cursor.last)) regex_is
+      ∙ ap (λ h. taken (bound n) (spans_behind r h s.cursor.last)) hay_is
       ∙ ap (λ l. taken (bound n) (spans_behind r hay l)) last_is
       ∙ taken_limited n (spans_in r hay)
 
   pub captures_start : captures_to_replace s ≡ limited n (captures_in r hay)
   captures_start =
-      ap (λ o. taken o (captures_behind s.matches.regex.now s.matches.haystack.now s.matches.last)) left_is
-      ∙ ap (λ q. taken (bound n) (captures_behind q s.matches.haystack.now s.matches.last)) regex_is
-      ∙ ap (λ h. taken (bound n) (captures_behind r h s.matches.last)) hay_is
+      ap (λ o. taken o (captures_behind s.cursor.regex.now s.cursor.haystack.now s.cursor.last)) left_is
+      ∙ ap (λ q. taken (bound n) (captures_behind q s.cursor.haystack.now s.cursor.last)) regex_is
+      ∙ ap (λ h. taken (bound n) (captures_behind r h s.cursor.last)) hay_is
       ∙ ap (λ l. taken (bound n) (captures_behind r hay l)) last_is
       ∙ taken_limited n (captures_in r hay)
 
   texts_start : (ss : List Span) (texts : List (List ℕ)) → with_texts s ss texts ≡ replaced_from hay 0 ss texts
   texts_start ss texts =
-      ap (λ l. l ++ replaced_from s.matches.haystack.now (unwrap_or s.matches.last 0) ss texts) out_is
-      ∙ ap (λ h. replaced_from h (unwrap_or s.matches.last 0) ss texts) hay_is
+      ap (λ l. l ++ replaced_from s.cursor.haystack.now (unwrap_or s.cursor.last 0) ss texts) out_is
+      ∙ ap (λ h. replaced_from h (unwrap_or s.cursor.last 0) ss texts) hay_is
       ∙ ap (λ (l : Option ℕ). replaced_from hay (unwrap_or l 0) ss texts) last_is
 
   module _ (is : IsCompiled r) (t : Replacing) (bytes : List ℕ)
-      (written : bytes ≡ t.out.items ++ drop (unwrap_or t.matches.last 0) t.matches.haystack.now) where
+      (written : bytes ≡ t.out.items ++ drop (unwrap_or t.cursor.last 0) t.cursor.haystack.now) where
     module _ (text : List ℕ) (ends : EndsByText text s t) where
       text_bytes : bytes ≡ replaced hay n (map span_in (captures_in r hay)) (map (λ c. text) (limited n (captures_in r hay)))
       text_bytes =
@@ -115,11 +115,11 @@ module _ (s : Replacing) (r : Regex) (hay : List ℕ) (n : ℕ) (regex_is : s.ma
       text_replaces gives answers old new answered =
           (map (λ c. text) (limited n (captures_in r hay)), (Some text, new, answered, (refl, refl)), text_bytes)
 
-      pub text_borrows : (t.matches.last ≡ None) ↔ (captures_in r hay ≡ [])
+      pub text_borrows : (t.cursor.last ≡ None) ↔ (captures_in r hay ≡ [])
       text_borrows =
           let cs = captures_in r hay in
           let spans : spans_to_replace s ≡ limited n (map span_in cs) = spans_start ∙ ap (limited n) (spans_of_captures r is hay) in
-          let a = nothing_iff t.matches.last (spans_to_replace t) (limited n (map span_in cs)) ends.1
+          let a = nothing_iff t.cursor.last (spans_to_replace t) (limited n (map span_in cs)) ends.1
           (ends.0.nothing ∙ ap₂ replaces_none last_is spans) in
           let b = limited_none n (map span_in cs) in let d = mapped_none span_in cs in
           (λ e. d.0 (b.0 (a.0 e)), λ e. a.1 (b.1 (d.1 e)))
@@ -140,10 +140,10 @@ module _ (s : Replacing) (r : Regex) (hay : List ℕ) (n : ℕ) (regex_is : s.ma
                 ∙ ap (λ ss. replaced_from hay 0 ss on.0) (sym (limited_map span_in n cs)),
           )
 
-      pub by_borrows : (t.matches.last ≡ None) ↔ (captures_in r hay ≡ [])
+      pub by_borrows : (t.cursor.last ≡ None) ↔ (captures_in r hay ≡ [])
       by_borrows =
           let cs = captures_in r hay in
-          let a = nothing_iff t.matches.last (captures_to_replace t) (limited n cs) ends.1
+          let a = nothing_iff t.cursor.last (captures_to_replace t) (limited n cs) ends.1
           (ends.0.nothing ∙ ap₂ replaces_none last_is captures_start) in
           let b = limited_none n cs in
           (λ e. b.0 (a.0 e), λ e. a.1 (b.1 e))

@@ -6,12 +6,12 @@ use Rattle.bites_spec.specs.Pieces.{replaced_from, limited}
 use Rattle.bites_spec.specs.Captured.{Captured, Excerpt}
 use Rattle.bites_spec.specs.Replace.{Gave}
 use Rattle.bites_bytes.specs.Matched.{excerpt_of}
-use Rattle.bites_bytes.specs.Matches.{IsSameSearch, matches_left, spans_left}
+use Rattle.bites_bytes.specs.Matches.{IsSameSearch, left_from, spans_left}
 use Rattle.bites_spec.specs.Replaced.{span_in}
 use Rattle.bites_bytes.specs.Limit.{taken, bound, Spends}
 use Rattle.bites_bytes.specs.Replacing.{spans_to_replace, captures_to_replace, replaces_none, with_texts, Writes, Rests, StepsByText, OnByText, StepsBy, GoesOn}
 use Rattle.bites_bytes.specs.declared.bytes.matched.Match.{Match}
-use Rattle.bites_bytes.specs.declared.bytes.matches.Matches.{Matches}
+use Rattle.bites_bytes.specs.declared.bytes.matches.Cursor.{Cursor}
 use Rattle.bites_bytes.specs.declared.bytes.replace.Replacing.{Replacing}
 use Rattle.bites_bytes.proofs.SplitLemmas.{spans_of}
 
@@ -48,28 +48,28 @@ limited_map f (suc n) xs = take_map (suc n) xs
     take_map (suc k) [] = refl
     take_map (suc k) (y ∷ ys) = ap (λ zs. f y ∷ zs) (take_map k ys)
 
-pub same_still : (s t u : Matches) → IsSameSearch s t → IsSameSearch t u → IsSameSearch s u
+pub same_still : (s t u : Cursor) → IsSameSearch s t → IsSameSearch t u → IsSameSearch s u
 same_still s t u f g = (g.0 ∙ f.0, g.1 ∙ f.1)
 
 -- the spans of the matches that are left
-pub spans_yield : (s t : Matches) (m : Match) → matches_left s ≡ excerpt_of m ∷ matches_left t → spans_left s ≡ (excerpt_of m).span ∷ spans_left t
+pub spans_yield : (s t : Cursor) (m : Match) → left_from s ≡ excerpt_of m ∷ left_from t → spans_left s ≡ (excerpt_of m).span ∷ spans_left t
 spans_yield s t m steps =
     sym (spans_of s.haystack.now (spans_left s)) ∙ ap (map (λ (e : Excerpt). e.span)) steps
     ∙ ap (λ ss. (excerpt_of m).span ∷ ss) (spans_of t.haystack.now (spans_left t))
 
-pub spans_end : (s : Matches) → matches_left s ≡ [] → spans_left s ≡ []
+pub spans_end : (s : Cursor) → left_from s ≡ [] → spans_left s ≡ []
 spans_end s none = sym (spans_of s.haystack.now (spans_left s)) ∙ ap (map (λ (e : Excerpt). e.span)) none
 
 -- a text in the place of the next span
 pub writes_on : (s t : Replacing) (x : Span) (text : List ℕ) → Writes s x text t → (ss : List Span) (texts : List (List ℕ)) →
     with_texts t ss texts ≡ with_texts s (x ∷ ss) (text ∷ texts)
 writes_on s t x text w ss texts =
-    let hay = s.matches.haystack.now in
-    let piece = slice_range hay (unwrap_or s.matches.last 0) x.start in
+    let hay = s.cursor.haystack.now in
+    let piece = slice_range hay (unwrap_or s.cursor.last 0) x.start in
     let out = (s.out.items ++ piece) ++ text in
     let rest = replaced_from hay x.end ss texts in
-    ap (λ l. l ++ replaced_from t.matches.haystack.now (unwrap_or t.matches.last 0) ss texts) w.out
-    ∙ ap (λ h. out ++ replaced_from h (unwrap_or t.matches.last 0) ss texts) w.same.1
+    ap (λ l. l ++ replaced_from t.cursor.haystack.now (unwrap_or t.cursor.last 0) ss texts) w.out
+    ∙ ap (λ h. out ++ replaced_from h (unwrap_or t.cursor.last 0) ss texts) w.same.1
     ∙ ap (λ (l : Option ℕ). out ++ replaced_from hay (unwrap_or l 0) ss texts) w.last
     ∙ ap (λ l. l ++ rest) (append_assoc s.out.items piece text)
     ∙ append_assoc s.out.items (piece ++ text) rest
@@ -82,16 +82,16 @@ none_some (Some e) x xs = refl
 pub rests_on : {B : Type 0} (to_replace : Replacing → List B) (s t : Replacing) → Rests to_replace s t → (ss : List Span) (texts : List (List ℕ)) →
     with_texts t ss texts ≡ with_texts s ss texts
 rests_on to_replace s t w ss texts =
-    ap (λ l. l ++ replaced_from t.matches.haystack.now (unwrap_or t.matches.last 0) ss texts) w.out
-    ∙ ap (λ h. s.out.items ++ replaced_from h (unwrap_or t.matches.last 0) ss texts) w.same.1
-    ∙ ap (λ (l : Option ℕ). s.out.items ++ replaced_from s.matches.haystack.now (unwrap_or l 0) ss texts) w.last
+    ap (λ l. l ++ replaced_from t.cursor.haystack.now (unwrap_or t.cursor.last 0) ss texts) w.out
+    ∙ ap (λ h. s.out.items ++ replaced_from h (unwrap_or t.cursor.last 0) ss texts) w.same.1
+    ∙ ap (λ (l : Option ℕ). s.out.items ++ replaced_from s.cursor.haystack.now (unwrap_or l 0) ss texts) w.last
 
 -- one match replaced by the text
 pub step_on_text : (text : List ℕ) (s t : Replacing) → StepsByText text s true t → OnByText text s t
 step_on_text text s t h =
     let x = h.0 in let ss = spans_to_replace t in record {
       out = writes_on s t x text h.2 ss (map (λ y. text) ss) ∙ ap (λ l. with_texts s l (map (λ y. text) l)) (sym h.1);
-      nothing = ap (λ l. replaces_none l ss) h.2.last ∙ sym (ap (replaces_none s.matches.last) h.1 ∙ none_some s.matches.last x ss);
+      nothing = ap (λ l. replaces_none l ss) h.2.last ∙ sym (ap (replaces_none s.cursor.last) h.1 ∙ none_some s.cursor.last x ss);
       same = h.2.same;
     }
 
@@ -105,7 +105,7 @@ rest_on_text text s t h =
 
 pub on_on_text : (text : List ℕ) (s t u : Replacing) → OnByText text s t → OnByText text t u → OnByText text s u
 on_on_text text s t u f g =
-    record { out = g.out ∙ f.out; nothing = g.nothing ∙ f.nothing; same = same_still s.matches t.matches u.matches f.same g.same }
+    record { out = g.out ∙ f.out; nothing = g.nothing ∙ f.nothing; same = same_still s.cursor t.cursor u.cursor f.same g.same }
 
 module _ {S : Type 0} (gives : S → Captured → List ℕ → S → Type 0) (answers : S → Option (List ℕ) → S → Type 0) where
   -- one match replaced by what the replacer gave
@@ -117,7 +117,7 @@ module _ {S : Type 0} (gives : S → Captured → List ℕ → S → Type 0) (an
           subst (λ l. Gave gives answers r l (text ∷ texts) end) (sym h.2) (q, h.3, gave),
           writes_on s t (span_in c) text h.4 (map span_in cs) texts ∙ ap (λ l. with_texts s (map span_in l) (text ∷ texts)) (sym h.2),
         );
-        nothing = ap (λ l. replaces_none l cs) h.4.last ∙ sym (ap (replaces_none s.matches.last) h.2 ∙ none_some s.matches.last c cs);
+        nothing = ap (λ l. replaces_none l cs) h.4.last ∙ sym (ap (replaces_none s.cursor.last) h.2 ∙ none_some s.cursor.last c cs);
         same = h.4.same;
       }
 
@@ -139,5 +139,5 @@ module _ {S : Type 0} (gives : S → Captured → List ℕ → S → Type 0) (an
     out = λ texts end gave.
         let inner = g.out texts end gave in let outer = f.out inner.0 end inner.1 in (outer.0, outer.1, inner.2 ∙ outer.2);
     nothing = g.nothing ∙ f.nothing;
-    same = same_still s.matches t.matches u.matches f.same g.same;
+    same = same_still s.cursor t.cursor u.cursor f.same g.same;
   }

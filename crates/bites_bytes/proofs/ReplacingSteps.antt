@@ -8,12 +8,12 @@ use Rattle.bites_spec.specs.Regex.{IsCompiled}
 use Rattle.bites_spec.specs.Captured.{Captured, captured, Excerpt}
 use Rattle.bites_spec.proofs.RegexRuns.{run_at-whole}
 use Rattle.bites_bytes.specs.Matched.{excerpt_of}
-use Rattle.bites_bytes.specs.Matches.{IsSameSearch, Moves, Advances, matches_left, captures_to_come}
+use Rattle.bites_bytes.specs.Matches.{IsSameSearch, Moves, Advances, left_from, captures_to_come}
 use Rattle.bites_spec.specs.Replaced.{span_in}
 use Rattle.bites_bytes.specs.Limit.{taken, Spends}
 use Rattle.bites_bytes.specs.Replacing.{spans_to_replace, captures_to_replace, Rests, StepsByText, StepsBy}
 use Rattle.bites_bytes.specs.declared.bytes.matched.Match.{Match}
-use Rattle.bites_bytes.specs.declared.bytes.matches.Matches.{Matches}
+use Rattle.bites_bytes.specs.declared.bytes.matches.Cursor.{Cursor}
 use Rattle.bites_bytes.specs.declared.bytes.replace.Replacing.{Replacing}
 use Rattle.bites_bytes.proofs.DueLemmas.{front_group}
 use Rattle.bites_bytes.proofs.MatchLemmas.{due_place, captures_advance, advance_moves}
@@ -21,48 +21,48 @@ use Rattle.bites_bytes.proofs.ReplacingLemmas.{taken_step, taken_spent, taken_af
 
 -- what is written for a match
 abbrev pub IsWritten : Replacing → ℕ → List ℕ → Replacing → Type 0
-IsWritten s start text t = t.out.items ≡ (s.out.items ++ slice_range s.matches.haystack.now (unwrap_or s.matches.last 0) start) ++ text
+IsWritten s start text t = t.out.items ≡ (s.out.items ++ slice_range s.cursor.haystack.now (unwrap_or s.cursor.last 0) start) ++ text
 
 module _ (s t : Replacing) (there : Bool) (spends : Spends s.left there t.left) where
-  module _ (is : there ≡ true) (same : IsSameSearch s.matches t.matches) where
-    pub text_step : (m : Match) (text : List ℕ) → matches_left s.matches ≡ excerpt_of m ∷ matches_left t.matches →
-        Moves s.matches (Some m) t.matches → IsWritten s (excerpt_of m).span.start text t → StepsByText text s true t
+  module _ (is : there ≡ true) (same : IsSameSearch s.cursor t.cursor) where
+    pub text_step : (m : Match) (text : List ℕ) → left_from s.cursor ≡ excerpt_of m ∷ left_from t.cursor →
+        Moves s.cursor (Some m) t.cursor → IsWritten s (excerpt_of m).span.start text t → StepsByText text s true t
     text_step m text steps moves out = (
       (excerpt_of m).span,
-      ap (taken s.left) (spans_yield s.matches t.matches m steps) ∙ taken_step s.left t.left there _ _ spends is,
+      ap (taken s.left) (spans_yield s.cursor t.cursor m steps) ∙ taken_step s.left t.left there _ _ spends is,
       record { out = out; last = moves.1; same = same },
     )
 
-    pub text_rest : matches_left s.matches ≡ [] → matches_left t.matches ≡ [] → Moves s.matches None t.matches →
+    pub text_rest : left_from s.cursor ≡ [] → left_from t.cursor ≡ [] → Moves s.cursor None t.cursor →
         t.out.items ≡ s.out.items → Rests spans_to_replace s t
     text_rest none still moves out = record {
-      none = taken_nil s.left _ (spans_end s.matches none);
-      still = taken_nil t.left _ (spans_end t.matches still);
+      none = taken_nil s.left _ (spans_end s.cursor none);
+      still = taken_nil t.left _ (spans_end t.cursor still);
       out = out;
       last = moves;
       same = same;
     }
 
-  pub text_spent : there ≡ false → t.matches ≡ s.matches → t.out.items ≡ s.out.items → Rests spans_to_replace s t
+  pub text_spent : there ≡ false → t.cursor ≡ s.cursor → t.out.items ≡ s.out.items → Rests spans_to_replace s t
   text_spent is still out = record {
     none = taken_spent s.left t.left there _ spends is;
     still = taken_after s.left t.left there _ spends is;
     out = out;
-    last = ap (λ (m : Matches). m.last) still;
-    same = (ap (λ (m : Matches). m.regex.now) still, ap (λ (m : Matches). m.haystack.now) still);
+    last = ap (λ (m : Cursor). m.last) still;
+    same = (ap (λ (m : Cursor). m.regex.now) still, ap (λ (m : Cursor). m.haystack.now) still);
   }
 
-  pub captures_spent : there ≡ false → t.matches ≡ s.matches → t.out.items ≡ s.out.items → Rests captures_to_replace s t
+  pub captures_spent : there ≡ false → t.cursor ≡ s.cursor → t.out.items ≡ s.out.items → Rests captures_to_replace s t
   captures_spent is still out = record {
     none = taken_spent s.left t.left there _ spends is;
     still = taken_after s.left t.left there _ spends is;
     out = out;
-    last = ap (λ (m : Matches). m.last) still;
-    same = (ap (λ (m : Matches). m.regex.now) still, ap (λ (m : Matches). m.haystack.now) still);
+    last = ap (λ (m : Cursor). m.last) still;
+    same = (ap (λ (m : Cursor). m.regex.now) still, ap (λ (m : Cursor). m.haystack.now) still);
   }
 
 -- the slots that are left have the match in group 0
-pub advance_span : (s : Matches) (m : Match) (t : Matches) (n : ℕ) (new : List (Option ℕ)) → IsCompiled s.regex.now → 2 ≤ n →
+pub advance_span : (s : Cursor) (m : Match) (t : Cursor) (n : ℕ) (new : List (Option ℕ)) → IsCompiled s.regex.now → 2 ≤ n →
     Advances s (Some m) t n new → group_in new 0 ≡ Some (excerpt_of m).span
 advance_span s m t n new is le step =
     let r = s.regex.now in let x = step.0 in let place = due_place r is s.haystack.now s.last x step.1 in
@@ -70,38 +70,38 @@ advance_span s m t n new is le step =
     ∙ ap (λ (e : Excerpt). Some e.span) (sym step.2.0)
 
 -- the captures of the match come first
-pub captures_go : (s : Replacing) (left : Option ℕ) (t : Matches) (there : Bool) → Spends s.left there left → there ≡ true → IsCompiled s.matches.regex.now →
-    (n : ℕ) (new : List (Option ℕ)) → n ≡ s.matches.regex.now.program.slots → IsSameSearch s.matches t → (m : Match) → Advances s.matches (Some m) t n new →
+pub captures_go : (s : Replacing) (left : Option ℕ) (t : Cursor) (there : Bool) → Spends s.left there left → there ≡ true → IsCompiled s.cursor.regex.now →
+    (n : ℕ) (new : List (Option ℕ)) → n ≡ s.cursor.regex.now.program.slots → IsSameSearch s.cursor t → (m : Match) → Advances s.cursor (Some m) t n new →
     (c : Captured) → c ≡ captured t.regex.now t.haystack.now new → captures_to_replace s ≡ c ∷ taken left (captures_to_come t)
 captures_go s left t there spends is compiled n new all same m advances c e =
-    ap (taken s.left) ((captures_advance s.matches (Some m) t n new compiled all advances same).0 ∙ ap (λ d. d ∷ captures_to_come t) (sym e))
+    ap (taken s.left) ((captures_advance s.cursor (Some m) t n new compiled all advances same).0 ∙ ap (λ d. d ∷ captures_to_come t) (sym e))
     ∙ taken_step s.left left there c (captures_to_come t) spends is
 
-module _ (s t : Replacing) (there : Bool) (spends : Spends s.left there t.left) (is : there ≡ true) (compiled : IsCompiled s.matches.regex.now)
-    (n : ℕ) (new : List (Option ℕ)) (all : n ≡ s.matches.regex.now.program.slots) (same : IsSameSearch s.matches t.matches) where
-  module _ (m : Match) (advances : Advances s.matches (Some m) t.matches n new) where
+module _ (s t : Replacing) (there : Bool) (spends : Spends s.left there t.left) (is : there ≡ true) (compiled : IsCompiled s.cursor.regex.now)
+    (n : ℕ) (new : List (Option ℕ)) (all : n ≡ s.cursor.regex.now.program.slots) (same : IsSameSearch s.cursor t.cursor) where
+  module _ (m : Match) (advances : Advances s.cursor (Some m) t.cursor n new) where
     pub by_step : {S : Type 0} (gives : S → Captured → List ℕ → S → Type 0) (answers : S → Option (List ℕ) → S → Type 0) →
-        (r q : S) (c : Captured) (text : List ℕ) → c ≡ captured t.matches.regex.now t.matches.haystack.now new → 2 ≤ n →
+        (r q : S) (c : Captured) (text : List ℕ) → c ≡ captured t.cursor.regex.now t.cursor.haystack.now new → 2 ≤ n →
         gives r c text q → IsWritten s (excerpt_of m).span.start text t → StepsBy gives answers s r true t q
     by_step gives answers r q c text e le given out =
         let spans : span_in c ≡ (excerpt_of m).span =
-        ap span_in e ∙ ap (λ o. unwrap_or o (span 0 0)) (advance_span s.matches m t.matches n new compiled le advances) in
-        let moves = advance_moves s.matches (Some m) t.matches n new compiled advances in (
+        ap span_in e ∙ ap (λ o. unwrap_or o (span 0 0)) (advance_span s.cursor m t.cursor n new compiled le advances) in
+        let moves = advance_moves s.cursor (Some m) t.cursor n new compiled advances in (
           c,
           text,
-          captures_go s t.left t.matches there spends is compiled n new all same m advances c e,
+          captures_go s t.left t.cursor there spends is compiled n new all same m advances c e,
           given,
           record {
             out =
-                out ∙ ap (λ (x : Span). (s.out.items ++ slice_range s.matches.haystack.now (unwrap_or s.matches.last 0) x.start) ++ text) (sym spans);
+                out ∙ ap (λ (x : Span). (s.out.items ++ slice_range s.cursor.haystack.now (unwrap_or s.cursor.last 0) x.start) ++ text) (sym spans);
             last = moves.1 ∙ ap (λ (x : Span). Some x.end) (sym spans);
             same = same;
           },
         )
 
-  pub captures_rest : Advances s.matches None t.matches n new → t.out.items ≡ s.out.items → Rests captures_to_replace s t
+  pub captures_rest : Advances s.cursor None t.cursor n new → t.out.items ≡ s.out.items → Rests captures_to_replace s t
   captures_rest advances out =
-      let come = captures_advance s.matches None t.matches n new compiled all advances same in record {
+      let come = captures_advance s.cursor None t.cursor n new compiled all advances same in record {
         none = taken_nil s.left _ come.0;
         still = taken_nil t.left _ come.1;
         out = out;

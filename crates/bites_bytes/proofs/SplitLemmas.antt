@@ -8,7 +8,7 @@ use Rattle.bites_spec.specs.Regex.{Regex}
 use Rattle.bites_spec.specs.Captured.{Excerpt, excerpt}
 use Rattle.bites_spec.specs.Iteration.{spans_behind, pieces_up_to}
 use Rattle.bites_bytes.specs.Matched.{excerpt_of}
-use Rattle.bites_bytes.specs.Matches.{IsSameSearch, Moves, matches_left, spans_left}
+use Rattle.bites_bytes.specs.Matches.{IsSameSearch, Moves, left_from, spans_left}
 use Rattle.bites_bytes.specs.Split.{pieces_by, pieces_left, at_most_left, bytes_at, StepsOn}
 use Rattle.bites_bytes.specs.declared.bytes.matched.Match.{Match}
 use Rattle.bites_bytes.specs.declared.bytes.split.Split.{Split}
@@ -26,49 +26,49 @@ piece_is h k a b i j e f g =
 abbrev body : List ℕ → ℕ → List Span → List (List ℕ)
 body hay e ss = map (text_at hay) (gaps_from (length hay) e ss)
 
-open_by : (s : Split) (ss : List Span) → s.done ≡ false → pieces_by s ss ≡ body s.matches.haystack.now (unwrap_or s.matches.last 0) ss
-open_by s ss more = ap (λ b. cond b [] (body s.matches.haystack.now (unwrap_or s.matches.last 0) ss)) more
+open_by : (s : Split) (ss : List Span) → s.done ≡ false → pieces_by s ss ≡ body s.matches.cursor.haystack.now (unwrap_or s.matches.cursor.last 0) ss
+open_by s ss more = ap (λ b. cond b [] (body s.matches.cursor.haystack.now (unwrap_or s.matches.cursor.last 0) ss)) more
 
 shut_by : (s : Split) (ss : List Span) → s.done ≡ true → pieces_by s ss ≡ []
-shut_by s ss done = ap (λ b. cond b [] (body s.matches.haystack.now (unwrap_or s.matches.last 0) ss)) done
+shut_by s ss done = ap (λ b. cond b [] (body s.matches.cursor.haystack.now (unwrap_or s.matches.cursor.last 0) ss)) done
 
 module _ (s t : Split) (m : Match) (more : s.done ≡ false) (still : t.done ≡ false)
-    (steps : matches_left s.matches ≡ excerpt_of m ∷ matches_left t.matches) (moves : Moves s.matches (Some m) t.matches)
-    (same : IsSameSearch s.matches t.matches) (piece : List ℕ)
-    (is : slice_range s.matches.haystack.now (unwrap_or s.matches.last 0) (excerpt_of m).span.start ≡ piece) where
-  spans_step : spans_left s.matches ≡ (excerpt_of m).span ∷ spans_left t.matches
+    (steps : left_from s.matches.cursor ≡ excerpt_of m ∷ left_from t.matches.cursor) (moves : Moves s.matches.cursor (Some m) t.matches.cursor)
+    (same : IsSameSearch s.matches.cursor t.matches.cursor) (piece : List ℕ)
+    (is : slice_range s.matches.cursor.haystack.now (unwrap_or s.matches.cursor.last 0) (excerpt_of m).span.start ≡ piece) where
+  spans_step : spans_left s.matches.cursor ≡ (excerpt_of m).span ∷ spans_left t.matches.cursor
   spans_step =
-      sym (spans_of s.matches.haystack.now (spans_left s.matches)) ∙ ap (map (λ (e : Excerpt). e.span)) steps
-      ∙ ap (λ ss. (excerpt_of m).span ∷ ss) (spans_of t.matches.haystack.now (spans_left t.matches))
+      sym (spans_of s.matches.cursor.haystack.now (spans_left s.matches.cursor)) ∙ ap (map (λ (e : Excerpt). e.span)) steps
+      ∙ ap (λ ss. (excerpt_of m).span ∷ ss) (spans_of t.matches.cursor.haystack.now (spans_left t.matches.cursor))
 
   step_by : (ss rest : List Span) → ss ≡ (excerpt_of m).span ∷ rest → pieces_by s ss ≡ piece ∷ pieces_by t rest
   step_by ss rest e =
-      open_by s ss more ∙ ap (body s.matches.haystack.now (unwrap_or s.matches.last 0)) e
+      open_by s ss more ∙ ap (body s.matches.cursor.haystack.now (unwrap_or s.matches.cursor.last 0)) e
       ∙ ap₂ (λ a b. a ∷ b) is
-      (ap (λ (k : ℕ). body s.matches.haystack.now k rest) (sym (ap (λ o. unwrap_or o 0) moves.1))
-      ∙ ap (λ h. body h (unwrap_or t.matches.last 0) rest) (sym same.1)
+      (ap (λ (k : ℕ). body s.matches.cursor.haystack.now k rest) (sym (ap (λ o. unwrap_or o 0) moves.1))
+      ∙ ap (λ h. body h (unwrap_or t.matches.cursor.last 0) rest) (sym same.1)
       ∙ sym (open_by t rest still))
 
   pub split_some : (pieces_left s ≡ piece ∷ pieces_left t)
       × ((n : ℕ) → at_most_left (suc (suc n)) s ≡ piece ∷ at_most_left (suc n) t)
   split_some = (
-    step_by (spans_left s.matches) (spans_left t.matches) spans_step,
-    λ n. step_by (take (suc n) (spans_left s.matches)) (take n (spans_left t.matches)) (ap (take (suc n)) spans_step),
+    step_by (spans_left s.matches.cursor) (spans_left t.matches.cursor) spans_step,
+    λ n. step_by (take (suc n) (spans_left s.matches.cursor)) (take n (spans_left t.matches.cursor)) (ap (take (suc n)) spans_step),
   )
 
 -- where nothing matches any more the rest is a piece
-pub split_none : (s : Split) (piece : List ℕ) → s.done ≡ false → matches_left s.matches ≡ [] →
-    slice_range s.matches.haystack.now (unwrap_or s.matches.last 0) (length s.matches.haystack.now) ≡ piece →
+pub split_none : (s : Split) (piece : List ℕ) → s.done ≡ false → left_from s.matches.cursor ≡ [] →
+    slice_range s.matches.cursor.haystack.now (unwrap_or s.matches.cursor.last 0) (length s.matches.cursor.haystack.now) ≡ piece →
     (pieces_left s ≡ piece ∷ []) × ((n : ℕ) → at_most_left (suc (suc n)) s ≡ piece ∷ [])
 split_none s piece more none is =
-    let spans : spans_left s.matches ≡ [] = sym (spans_of s.matches.haystack.now (spans_left s.matches)) ∙ ap (map (λ (e : Excerpt). e.span)) none in (
-      last (spans_left s.matches) spans,
-      λ n. last (take (suc n) (spans_left s.matches)) (ap (take (suc n)) spans),
+    let spans : spans_left s.matches.cursor ≡ [] = sym (spans_of s.matches.cursor.haystack.now (spans_left s.matches.cursor)) ∙ ap (map (λ (e : Excerpt). e.span)) none in (
+      last (spans_left s.matches.cursor) spans,
+      λ n. last (take (suc n) (spans_left s.matches.cursor)) (ap (take (suc n)) spans),
     )
   where
     last : (ss : List Span) → ss ≡ [] → pieces_by s ss ≡ piece ∷ []
     last ss e =
-        open_by s ss more ∙ ap (body s.matches.haystack.now (unwrap_or s.matches.last 0)) e ∙ ap (λ x. x ∷ []) is
+        open_by s ss more ∙ ap (body s.matches.cursor.haystack.now (unwrap_or s.matches.cursor.last 0)) e ∙ ap (λ x. x ∷ []) is
 
 -- a step where more than one piece may come
 pub step_yields : (n m k : ℕ) (s t : Split) (r : Option (Bor (List ℕ))) → n ≡ suc (suc k) → m ≡ suc k → StepsOn s r t →
@@ -77,11 +77,11 @@ step_yields n m k s t None e f h = ((h.2 n).0, (h.2 m).1)
 step_yields n m k s t (Some x) e f h =
     ap (λ j. at_most_left j s) e ∙ h.1 k ∙ ap (λ xs. bytes_at x ∷ xs) (sym (ap (λ j. at_most_left j t) f))
 
-pub limited_start : (s : Split) (r : Regex) (hay : List ℕ) → s.done ≡ false → s.matches.regex.now ≡ r → s.matches.haystack.now ≡ hay →
-    s.matches.last ≡ None → (n : ℕ) → at_most_left n s ≡ pieces_up_to r hay n
+pub limited_start : (s : Split) (r : Regex) (hay : List ℕ) → s.done ≡ false → s.matches.cursor.regex.now ≡ r → s.matches.cursor.haystack.now ≡ hay →
+    s.matches.cursor.last ≡ None → (n : ℕ) → at_most_left n s ≡ pieces_up_to r hay n
 limited_start s r hay more is at none zero = refl
 limited_start s r hay more is at none (suc n) =
-    open_by s (take n (spans_left s.matches)) more
-    ∙ ap (λ h. body h (unwrap_or s.matches.last 0) (take n (spans_behind s.matches.regex.now h s.matches.last))) at
-    ∙ ap (λ q. body hay (unwrap_or s.matches.last 0) (take n (spans_behind q hay s.matches.last))) is
+    open_by s (take n (spans_left s.matches.cursor)) more
+    ∙ ap (λ h. body h (unwrap_or s.matches.cursor.last 0) (take n (spans_behind s.matches.cursor.regex.now h s.matches.cursor.last))) at
+    ∙ ap (λ q. body hay (unwrap_or s.matches.cursor.last 0) (take n (spans_behind q hay s.matches.cursor.last))) is
     ∙ ap (λ (l : Option ℕ). body hay (unwrap_or l 0) (take n (spans_behind r hay l))) none

@@ -6,8 +6,8 @@ use Rattle.bites_bytes.specs.declared.bytes.capture_matches.CaptureMatches.{Capt
 
 -- the captures that are still to come: none where memory was refused
 abbrev pub captures_left : CaptureMatches → List Captured
-captures_left s = cond s.refused [] (captures_to_come s.matches)
+captures_left s = cond s.refused [] (captures_to_come s.matches.cursor)
 
 -- a step to the next match, whose slots the locations have then
 abbrev pub NextCaptures : CaptureMatches → Bool → CaptureMatches → Type 0
-NextCaptures s found t = CapturesCome s.matches found t.matches t.locations
+NextCaptures s found t = CapturesCome s.matches.cursor found t.matches.cursor t.locations

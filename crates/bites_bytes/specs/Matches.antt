@@ -9,53 +9,70 @@ use Rattle.bites_spec.specs.Iteration.{spans_behind, captures_behind}
 use Rattle.bites_bytes.specs.Due.{run_due}
 use Rattle.bites_bytes.specs.Matched.{excerpt_of}
 use Rattle.bites_bytes.specs.declared.bytes.matched.Match.{Match}
+use Rattle.bites_bytes.specs.declared.bytes.matches.Cursor.{Cursor}
 use Rattle.bites_bytes.specs.declared.bytes.matches.Matches.{Matches}
 
 -- the regex and the haystack
-abbrev pub regex_of_matches : Matches → Regex
-regex_of_matches s = s.regex.now
+abbrev pub regex_of : Cursor → Regex
+regex_of s = s.regex.now
 
-abbrev pub haystack_of_matches : Matches → List ℕ
-haystack_of_matches s = s.haystack.now
+abbrev pub haystack_of : Cursor → List ℕ
+haystack_of s = s.haystack.now
 
 -- where the match before ended, if there was one
-abbrev pub last_of_matches : Matches → Option ℕ
-last_of_matches s = s.last
+abbrev pub last_of : Cursor → Option ℕ
+last_of s = s.last
 
 -- the spans of the matches that are still to come
-abbrev pub spans_left : Matches → List Span
+abbrev pub spans_left : Cursor → List Span
 spans_left s = spans_behind s.regex.now s.haystack.now s.last
 
 -- the matches that are still to come
+abbrev pub left_from : Cursor → List Excerpt
+left_from s = map (excerpt s.haystack.now) (spans_left s)
+
+-- the same of an iterator
+abbrev pub cursor_of : Matches → Cursor
+cursor_of s = s.cursor
+
+abbrev pub regex_of_matches : Matches → Regex
+regex_of_matches s = regex_of s.cursor
+
+abbrev pub haystack_of_matches : Matches → List ℕ
+haystack_of_matches s = haystack_of s.cursor
+
+abbrev pub last_of_matches : Matches → Option ℕ
+last_of_matches s = last_of s.cursor
+
 abbrev pub matches_left : Matches → List Excerpt
-matches_left s = map (excerpt s.haystack.now) (spans_left s)
+matches_left s = left_from s.cursor
 
 -- the haystack and the regex stay
-abbrev pub IsSameSearch : Matches → Matches → Type 0
+abbrev pub IsSameSearch : Cursor → Cursor → Type 0
 IsSameSearch s t = (t.regex.now ≡ s.regex.now) × (t.haystack.now ≡ s.haystack.now)
 
 -- the match is that of the run, which ends where the next search goes on
-abbrev pub IsMatchOf : Matches → Matches → Run → Match → Type 0
+abbrev pub IsMatchOf : Cursor → Cursor → Run → Match → Type 0
 IsMatchOf s t x m = (excerpt_of m ≡ excerpt s.haystack.now (span_of_run x)) × (t.last ≡ Some x.end)
 
 -- a step to the run that is due, whose slots are left
-abbrev pub Advances : Matches → Option Match → Matches → ℕ → List (Option ℕ) → Type 0
+abbrev pub Advances : Cursor → Option Match → Cursor → ℕ → List (Option ℕ) → Type 0
 Advances s r t n new =
     MatchOption r ((run_due s.regex.now s.haystack.now s.last ≡ None) × (t.last ≡ s.last))
     (λ m. (x : Run) × (run_due s.regex.now s.haystack.now s.last ≡ Some x) × IsMatchOf s t x m × (new ≡ take n (slots s.regex.now.program x)))
 
 -- the match begins where the one before ended or later, and the search goes on where it ends
-abbrev pub Moves : Matches → Option Match → Matches → Type 0
+abbrev pub Moves : Cursor → Option Match → Cursor → Type 0
 Moves s r t =
     MatchOption r (t.last ≡ s.last)
     (λ m. (unwrap_or s.last 0 ≤ (excerpt_of m).span.start) × (t.last ≡ Some (excerpt_of m).span.end))
 
 -- the captures of the matches that are still to come
-abbrev pub captures_to_come : Matches → List Captured
+abbrev pub captures_to_come : Cursor → List Captured
 captures_to_come s = captures_behind s.regex.now s.haystack.now s.last
 
 -- a step with all slots goes to the captures of the next match, if there is one
-abbrev pub CapturesCome : Matches → Bool → Matches → List (Option ℕ) → Type 0
+abbrev pub CapturesCome : Cursor → Bool → Cursor → List (Option ℕ) → Type 0
 CapturesCome s true t new =
     (captures_to_come s ≡ captured t.regex.now t.haystack.now new ∷ captures_to_come t) × AreGroups t.regex.now t.haystack.now new
 CapturesCome s false t new = (captures_to_come s ≡ []) × (captures_to_come t ≡ [])

@@ -11,17 +11,17 @@ use Rattle.bites_bytes.specs.declared.bytes.replace.Replacing.{Replacing}
 
 -- the haystack, and the end of the last match that was replaced
 abbrev pub hay_of : Replacing → List ℕ
-hay_of s = s.matches.haystack.now
+hay_of s = s.cursor.haystack.now
 
 abbrev pub begin_of : Replacing → ℕ
-begin_of s = unwrap_or s.matches.last 0
+begin_of s = unwrap_or s.cursor.last 0
 
 -- the matches that are still to be replaced
 abbrev pub spans_to_replace : Replacing → List Span
-spans_to_replace s = taken s.left (spans_left s.matches)
+spans_to_replace s = taken s.left (spans_left s.cursor)
 
 abbrev pub captures_to_replace : Replacing → List Captured
-captures_to_replace s = taken s.left (captures_to_come s.matches)
+captures_to_replace s = taken s.left (captures_to_come s.cursor)
 
 -- whether there are none
 abbrev pub is_nil : {B : Type 0} → List B → Bool
@@ -35,7 +35,7 @@ replaces_none (Some e) xs = false
 
 -- what is written, and then the rest of the haystack with spans replaced
 abbrev pub with_texts : Replacing → List Span → List (List ℕ) → List ℕ
-with_texts s ss texts = s.out.items ++ replaced_from s.matches.haystack.now (unwrap_or s.matches.last 0) ss texts
+with_texts s ss texts = s.out.items ++ replaced_from s.cursor.haystack.now (unwrap_or s.cursor.last 0) ss texts
 
 -- the same with one text in each place
 abbrev pub with_text : List ℕ → Replacing → List ℕ
@@ -43,17 +43,17 @@ with_text text s = with_texts s (spans_to_replace s) (map (λ x. text) (spans_to
 
 -- the text is written behind what stands before the span, and the search goes on where the span ends
 pub record Writes (s : Replacing) (x : Span) (text : List ℕ) (t : Replacing) : Type 0 where
-  pub out : t.out.items ≡ (s.out.items ++ slice_range s.matches.haystack.now (unwrap_or s.matches.last 0) x.start) ++ text
-  pub last : t.matches.last ≡ Some x.end
-  pub same : IsSameSearch s.matches t.matches
+  pub out : t.out.items ≡ (s.out.items ++ slice_range s.cursor.haystack.now (unwrap_or s.cursor.last 0) x.start) ++ text
+  pub last : t.cursor.last ≡ Some x.end
+  pub same : IsSameSearch s.cursor t.cursor
 
 -- nothing is left, and nothing was written
 pub record Rests {B : Type 0} (to_replace : Replacing → List B) (s t : Replacing) : Type 0 where
   pub none : to_replace s ≡ []
   pub still : to_replace t ≡ []
   pub out : t.out.items ≡ s.out.items
-  pub last : t.matches.last ≡ s.matches.last
-  pub same : IsSameSearch s.matches t.matches
+  pub last : t.cursor.last ≡ s.cursor.last
+  pub same : IsSameSearch s.cursor t.cursor
 
 -- one match more was replaced by the text, or none is left
 abbrev pub StepsByText : List ℕ → Replacing → Bool → Replacing → Type 0
@@ -63,8 +63,8 @@ StepsByText text s false t = Rests spans_to_replace s t
 -- what stands for the rest stands for all
 pub record OnByText (text : List ℕ) (s t : Replacing) : Type 0 where
   pub out : with_text text t ≡ with_text text s
-  pub nothing : replaces_none t.matches.last (spans_to_replace t) ≡ replaces_none s.matches.last (spans_to_replace s)
-  pub same : IsSameSearch s.matches t.matches
+  pub nothing : replaces_none t.cursor.last (spans_to_replace t) ≡ replaces_none s.cursor.last (spans_to_replace s)
+  pub same : IsSameSearch s.cursor t.cursor
 
 -- all are replaced by the text
 abbrev pub EndsByText : List ℕ → Replacing → Replacing → Type 0
@@ -82,8 +82,8 @@ module _ {S : Type 0} (gives : S → Captured → List ℕ → S → Type 0) (an
     pub out : (texts : List (List ℕ)) (end : S) → Gave gives answers q (captures_to_replace t) texts end →
         (all : List (List ℕ)) × Gave gives answers r (captures_to_replace s) all end
         × (with_texts t (map span_in (captures_to_replace t)) texts ≡ with_texts s (map span_in (captures_to_replace s)) all)
-    pub nothing : replaces_none t.matches.last (captures_to_replace t) ≡ replaces_none s.matches.last (captures_to_replace s)
-    pub same : IsSameSearch s.matches t.matches
+    pub nothing : replaces_none t.cursor.last (captures_to_replace t) ≡ replaces_none s.cursor.last (captures_to_replace s)
+    pub same : IsSameSearch s.cursor t.cursor
 
   -- all are replaced
   abbrev pub EndsBy : Replacing → S → Replacing → S → Type 0

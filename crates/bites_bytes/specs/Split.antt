@@ -9,23 +9,23 @@ use Rattle.bites_bytes.specs.declared.bytes.split.SplitN.{SplitN}
 
 -- the haystack, and where the next piece begins
 abbrev pub haystack_of_split : Split → List ℕ
-haystack_of_split s = s.matches.haystack.now
+haystack_of_split s = s.matches.cursor.haystack.now
 
 abbrev pub begin_of_split : Split → ℕ
-begin_of_split s = unwrap_or s.matches.last 0
+begin_of_split s = unwrap_or s.matches.cursor.last 0
 
 -- the pieces between these spans, and behind them
 abbrev pub pieces_by : Split → List Span → List (List ℕ)
-pieces_by s ss = cond s.done [] (map (text_at s.matches.haystack.now) (gaps_from (length s.matches.haystack.now) (unwrap_or s.matches.last 0) ss))
+pieces_by s ss = cond s.done [] (map (text_at s.matches.cursor.haystack.now) (gaps_from (length s.matches.cursor.haystack.now) (unwrap_or s.matches.cursor.last 0) ss))
 
 -- the pieces that are still to come
 abbrev pub pieces_left : Split → List (List ℕ)
-pieces_left s = pieces_by s (spans_left s.matches)
+pieces_left s = pieces_by s (spans_left s.matches.cursor)
 
 -- at most n pieces
 abbrev pub at_most_left : ℕ → Split → List (List ℕ)
 at_most_left zero s = []
-at_most_left (suc n) s = pieces_by s (take n (spans_left s.matches))
+at_most_left (suc n) s = pieces_by s (take n (spans_left s.matches.cursor))
 
 -- the pieces that are still to come, at most so many
 abbrev pub limited_left : SplitN → List (List ℕ)

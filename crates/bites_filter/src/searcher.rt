@@ -1,10 +1,15 @@
 //! A regex with the cache for its searches.
 
-ghost use Rattle.std.specs.Prelude.{◌≡◌, ◌↔◌, IfOk, IsTrue};
-ghost use Rattle.bites_spec.specs.Found.{HasMatch};
+ghost use Rattle.std.specs.Prelude.{◌≡◌, ◌↔◌, option_map, IfOk, IsTrue};
+ghost use Rattle.std.specs.Cow.{cow_slice_items};
+ghost use Rattle.bites_spec.specs.Anchored.{FindsSpanFrom};
+ghost use Rattle.bites_spec.specs.Found.{HasMatch, NoMatch};
+ghost use Rattle.bites_bytes.specs.Matched.{excerpt_of};
+ghost use Rattle.bites_filter.specs.Substituted.{Substitutes};
 
-use bites_bytes::bytes::{Cache, Regex};
+use bites_bytes::bytes::{Cache, Match, Regex};
 use std::alloc::AllocError;
+use std::borrow::CowSlice;
 use std::marker::Model;
 
 /// A regex over byte strings that keeps one cache for all its searches.
@@ -41,18 +46,46 @@ impl Searcher {
         Ok(Searcher { regex, cache })
     }
 
-    /// Returns the regex.
-    pub fn regex(&self) -> &Regex
-        ensures { result.now ≡ self.now }
-    {
-        &self.regex
-    }
-
     /// Returns whether the pattern matches somewhere in the haystack. It takes no memory.
     pub fn is_match(&mut self, haystack: &[u8]) -> bool
         ensures found { IsTrue result ↔ HasMatch self.old.tree haystack.now 0 }
         ensures same { self.new ≡ self.old }
     {
         self.regex.is_match_with(&mut self.cache, haystack)
+    }
+
+    /// Returns the match that begins at `start`, if one does. It takes no memory.
+    pub fn find_anchored_at<'h>(&mut self, haystack: &'h [u8], start: usize) -> Option<Match<'h>>
+        ensures found { FindsSpanFrom self.old haystack.now start (option_map (λ x. (excerpt_of x).span) result) }
+        ensures same { self.new ≡ self.old }
+    {
+        self.regex
+            .find_anchored_at_with(&mut self.cache, haystack, start)
+    }
+
+    /// Returns the haystack with its first `limit` matches replaced by what the template stands for, or all of them
+    /// for 0. The error is that memory ran out.
+    pub fn replacen<'h>(
+        &mut self,
+        haystack: &'h [u8],
+        limit: usize,
+        template: &[u8],
+    ) -> Result<CowSlice<'h, u8>, AllocError>
+        ensures substitutes { IfOk result (λ r.
+            Substitutes self.old template.now limit haystack.now (cow_slice_items r)) }
+        ensures unchanged { IfOk result (λ r.
+            NoMatch self.old.tree haystack.now 0 → cow_slice_items r ≡ haystack.now) }
+        ensures same { self.new ≡ self.old }
+    {
+        // What the proof takes from here: that the regex is compiled, and four laws.
+        self.regex.as_str();
+        bites_spec::groups_are_successive();
+        bites_spec::captures_are_matches();
+        bites_spec::none_is_left_out();
+        bites_spec::templates_have_one_text();
+        let replaced = self
+            .regex
+            .replacen_with(&mut self.cache, haystack, limit, template)?;
+        Ok(replaced)
     }
 }

@@ -1,17 +1,14 @@
 //! Lines with their matches replaced.
 
-ghost use Rattle.std.specs.Prelude.{◌≡◌, ℕ, List, IfOk, IfSome, OnOk};
+ghost use Rattle.std.specs.Prelude.{◌≡◌, ℕ, List, IfSome, OnOk};
 ghost use Rattle.std.specs.Io.KnownBytes.{Appends};
 ghost use Rattle.bites_filter.specs.Lines.{lines_of};
-ghost use Rattle.std.specs.Cow.{cow_slice_items};
-ghost use Rattle.sed.specs.Edited.{AreEdited, Substitutes};
+ghost use Rattle.sed.specs.Edited.{AreEdited};
 
-use bites_bytes::bytes::Regex;
 use bites_filter::fault::Fault;
 use bites_filter::lines::{LineTask, each_line, line_feed, without_line_feed};
 use bites_filter::searcher::Searcher;
-use std::alloc::{AllocError, Global};
-use std::borrow::CowSlice;
+use std::alloc::Global;
 use std::io::{self, BufRead, Write};
 
 /// What is replaced in each line, and by what.
@@ -31,33 +28,13 @@ impl<'t> LineTask for Editor<'t> {
     ghost does = { Edits };
 
     fn line<W: Write>(&mut self, _number: u64, line: &[u8], out: &mut W) -> io::Result<bool> {
-        let text = without_line_feed(line);
-        if !self.searcher.is_match(text) {
-            out.write_all(line)?;
-            return Ok(false);
-        }
-        let edited = substitute(self.searcher.regex(), text, self.limit, self.template)?;
+        let edited = self
+            .searcher
+            .replacen(without_line_feed(line), self.limit, self.template)?;
         out.write_all(edited.as_slice())?;
         out.write_all(line_feed(line))?;
         Ok(true)
     }
-}
-
-// Returns the text with its first `limit` matches replaced by what the template stands for, or all of them for 0.
-fn substitute<'h>(
-    regex: &Regex,
-    text: &'h [u8],
-    limit: usize,
-    template: &[u8],
-) -> Result<CowSlice<'h, u8>, AllocError>
-    ensures { IfOk result (λ r. Substitutes regex.now template.now limit text.now (cow_slice_items r)) }
-{
-    // What the proof takes from here: that the regex is compiled, and two laws.
-    regex.as_str();
-    bites_spec::groups_are_successive();
-    bites_spec::templates_have_one_text();
-    let edited = regex.replacen(text, limit, template)?;
-    Ok(edited)
 }
 
 /// Writes each line of the input with its matches replaced, as many as the editor says. What was written before a fault

@@ -102,8 +102,29 @@ impl Regex {
         ensures regex { IfOk result (λ c. IfSome c (λ x. x.regex ≡ self.now)) }
         ensures haystack { IfOk result (λ c. IfSome c (λ x. x.haystack ≡ haystack.now)) }
     {
-        let mut cache = Cache::new(self.program())?;
-        Captures::find_anchored(self, &mut cache, haystack, start)
+        let mut cache = self.cache()?;
+        self.captures_anchored_at_with(&mut cache, haystack, start)
+    }
+
+    /// Like [`Regex::captures_anchored_at`], but with a cache that fits. It allocates the groups alone.
+    pub fn captures_anchored_at_with<'h>(
+        &self,
+        cache: &mut Cache,
+        haystack: &'h [u8],
+        start: usize,
+    ) -> Result<Option<Captures<'h>>, AllocError>
+        requires { cache.old.fits ≡ fit_of self.now.program }
+        ensures found { IfOk result (λ c. c ≡ option_map (captured self.now haystack.now)
+            (anchored_slots_at self.now haystack.now start)) }
+        ensures on_tree { IfOk result (λ c. FindsGroupsFrom self.now haystack.now start
+            (option_map (λ x. x.slots) c)) }
+        ensures regex { IfOk result (λ c. IfSome c (λ x. x.regex ≡ self.now)) }
+        ensures haystack { IfOk result (λ c. IfSome c (λ x. x.haystack ≡ haystack.now)) }
+        ensures fits { cache.new.fits ≡ cache.old.fits }
+    {
+        // What every regex is: its tree finds what its program answers.
+        let _pattern = self.as_str();
+        Captures::find_anchored(self, cache, haystack, start)
     }
 
     /// Like [`Regex::find_anchored_at_with`], but also writes the offsets of each group into `locations`, which must
@@ -172,7 +193,29 @@ impl Regex {
         ensures regex { IfOk result (λ c. IfSome c (λ x. x.regex ≡ self.now)) }
         ensures haystack { IfOk result (λ c. IfSome c (λ x. x.haystack ≡ haystack.now)) }
     {
-        let mut cache = Cache::new(self.program())?;
-        Captures::find_full(self, &mut cache, haystack)
+        let mut cache = self.cache()?;
+        self.captures_full_with(&mut cache, haystack)
+    }
+
+    /// Like [`Regex::captures_full`], but with a cache that fits. It allocates the groups alone.
+    ///
+    /// The search visits each state of the program at most once at each offset.
+    pub fn captures_full_with<'h>(
+        &self,
+        cache: &mut Cache,
+        haystack: &'h [u8],
+    ) -> Result<Option<Captures<'h>>, AllocError>
+        requires { cache.old.fits ≡ fit_of self.now.program }
+        ensures found { IfOk result (λ c. c ≡ option_map (captured self.now haystack.now)
+            (full_slots self.now haystack.now)) }
+        ensures on_tree { IfOk result (λ c. FindsGroupsFull self.now haystack.now
+            (option_map (λ x. x.slots) c)) }
+        ensures regex { IfOk result (λ c. IfSome c (λ x. x.regex ≡ self.now)) }
+        ensures haystack { IfOk result (λ c. IfSome c (λ x. x.haystack ≡ haystack.now)) }
+        ensures fits { cache.new.fits ≡ cache.old.fits }
+    {
+        // What every regex is: its tree finds what its program answers.
+        let _pattern = self.as_str();
+        Captures::find_full(self, cache, haystack)
     }
 }

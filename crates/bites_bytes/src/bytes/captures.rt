@@ -68,8 +68,9 @@ impl<'h> Captures<'h> {
         start: usize,
     ) -> Result<Option<Captures<'h>>, AllocError>
         requires { cache.old.fits ≡ fit_of regex.now.program }
-        ensures { IfOk result (λ c. c
+        ensures found { IfOk result (λ c. c
             ≡ option_map (captured regex.now haystack.now) (slots_at regex.now haystack.now start)) }
+        ensures fits { cache.new.fits ≡ cache.old.fits }
     {
         let mut locations = regex.capture_locations()?;
         let compiled = regex.compiled().clone()?;
@@ -91,8 +92,9 @@ impl<'h> Captures<'h> {
         start: usize,
     ) -> Result<Option<Captures<'h>>, AllocError>
         requires { cache.old.fits ≡ fit_of regex.now.program }
-        ensures { IfOk result (λ c. c ≡ option_map (captured regex.now haystack.now)
+        ensures found { IfOk result (λ c. c ≡ option_map (captured regex.now haystack.now)
             (anchored_slots_at regex.now haystack.now start)) }
+        ensures fits { cache.new.fits ≡ cache.old.fits }
     {
         let mut locations = regex.capture_locations()?;
         let compiled = regex.compiled().clone()?;
@@ -113,8 +115,9 @@ impl<'h> Captures<'h> {
         haystack: &'h [u8],
     ) -> Result<Option<Captures<'h>>, AllocError>
         requires { cache.old.fits ≡ fit_of regex.now.program }
-        ensures { IfOk result (λ c. c ≡ option_map (captured regex.now haystack.now)
+        ensures found { IfOk result (λ c. c ≡ option_map (captured regex.now haystack.now)
             (full_slots regex.now haystack.now)) }
+        ensures fits { cache.new.fits ≡ cache.old.fits }
     {
         let mut locations = regex.capture_locations()?;
         let compiled = regex.compiled().clone()?;
@@ -327,7 +330,46 @@ impl Regex {
         ensures regex { IfOk result (λ c. IfSome c (λ x. x.regex ≡ self.now)) }
         ensures haystack { IfOk result (λ c. IfSome c (λ x. x.haystack ≡ haystack.now)) }
     {
-        let mut cache = Cache::new(self.program())?;
-        Captures::find(self, &mut cache, haystack, start)
+        let mut cache = self.cache()?;
+        self.captures_at_with(&mut cache, haystack, start)
+    }
+
+    /// Like [`Regex::captures`], but with a cache that fits. It allocates the groups alone.
+    ///
+    /// [`Regex::captures_read_with`] allocates nothing.
+    pub fn captures_with<'h>(
+        &self,
+        cache: &mut Cache,
+        haystack: &'h [u8],
+    ) -> Result<Option<Captures<'h>>, AllocError>
+        requires { cache.old.fits ≡ fit_of self.now.program }
+        ensures found { IfOk result (λ c. c
+            ≡ option_map (captured self.now haystack.now) (slots_at self.now haystack.now 0)) }
+        ensures on_tree { IfOk result (λ c. FindsGroups self.now haystack.now 0 (option_map (λ x. x.slots) c)) }
+        ensures regex { IfOk result (λ c. IfSome c (λ x. x.regex ≡ self.now)) }
+        ensures haystack { IfOk result (λ c. IfSome c (λ x. x.haystack ≡ haystack.now)) }
+        ensures fits { cache.new.fits ≡ cache.old.fits }
+    {
+        self.captures_at_with(cache, haystack, 0)
+    }
+
+    /// Like [`Regex::captures_at`], but with a cache that fits. It allocates the groups alone.
+    pub fn captures_at_with<'h>(
+        &self,
+        cache: &mut Cache,
+        haystack: &'h [u8],
+        start: usize,
+    ) -> Result<Option<Captures<'h>>, AllocError>
+        requires { cache.old.fits ≡ fit_of self.now.program }
+        ensures found { IfOk result (λ c. c
+            ≡ option_map (captured self.now haystack.now) (slots_at self.now haystack.now start)) }
+        ensures on_tree { IfOk result (λ c. FindsGroups self.now haystack.now start (option_map (λ x. x.slots) c)) }
+        ensures regex { IfOk result (λ c. IfSome c (λ x. x.regex ≡ self.now)) }
+        ensures haystack { IfOk result (λ c. IfSome c (λ x. x.haystack ≡ haystack.now)) }
+        ensures fits { cache.new.fits ≡ cache.old.fits }
+    {
+        // What every regex is: its tree finds what its program answers.
+        let _pattern = self.as_str();
+        Captures::find(self, cache, haystack, start)
     }
 }

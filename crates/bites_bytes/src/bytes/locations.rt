@@ -7,6 +7,7 @@ ghost use Rattle.bites_spec.specs.Counts.{fit_of, IsWalked};
 ghost use Rattle.bites_spec.specs.Regex.{IsCompiled, run_at, span_at, slots_at};
 ghost use Rattle.bites_spec.specs.Anchored.{IsWalkedFrom, anchored_run_at, anchored_span_at, anchored_slots_at, full_slots};
 
+use crate::bytes::matches::Cursor;
 use crate::bytes::regex::Compiled;
 use crate::bytes::{Cache, Match, Matches, Regex};
 use std::alloc::{AllocError, Global};
@@ -167,25 +168,44 @@ impl CaptureLocations {
         ensures found { result ≡ true → full_slots compiled.now haystack.now ≡ Some self.new }
         ensures none { result ≡ false → full_slots compiled.now haystack.now ≡ None }
         ensures compiled { IsCompiled compiled.now }
+        ensures cache { cache.new.fits ≡ cache.old.fits }
     {
         cache.search_full(compiled, haystack, &mut self.slots)
     }
 }
 
 impl CaptureLocations {
-    ghost use Rattle.bites_bytes.specs.Matches.{Advances, IsSameSearch, Moves, regex_of_matches};
+    ghost use Rattle.bites_bytes.specs.Matches.{Advances, IsSameSearch, Moves, cursor_of, regex_of, regex_of_matches};
 
     // The next match, with its slots.
     pub(super) fn advance<'r, 'h>(&mut self, matches: &mut Matches<'r, 'h>) -> Option<Match<'h>>
         requires fits { length self.old ≡ (regex_of_matches matches.old).program.slots }
         requires whole { 2 ≤ length self.old }
-        ensures steps { Advances matches.old result matches.new (length self.old) self.new }
-        ensures moves { Moves matches.old result matches.new }
-        ensures same { IsSameSearch matches.old matches.new }
+        ensures steps { Advances (cursor_of matches.old) result (cursor_of matches.new) (length self.old) self.new }
+        ensures same { IsSameSearch (cursor_of matches.old) (cursor_of matches.new) }
         ensures compiled { IsCompiled (regex_of_matches matches.old) }
         ensures len { length self.new ≡ length self.old }
     {
         matches.advance(&mut self.slots)
+    }
+
+    // The same, where the caller has the cache.
+    pub(super) fn advance_with<'r, 'h>(
+        &mut self,
+        cursor: &mut Cursor<'r, 'h>,
+        cache: &mut Cache,
+    ) -> Option<Match<'h>>
+        requires cache { cache.old.fits ≡ fit_of (regex_of cursor.old).program }
+        requires fits { length self.old ≡ (regex_of cursor.old).program.slots }
+        requires whole { 2 ≤ length self.old }
+        ensures steps { Advances cursor.old result cursor.new (length self.old) self.new }
+        ensures moves { Moves cursor.old result cursor.new }
+        ensures same { IsSameSearch cursor.old cursor.new }
+        ensures compiled { IsCompiled (regex_of cursor.old) }
+        ensures len { length self.new ≡ length self.old }
+        ensures cache { cache.new.fits ≡ cache.old.fits }
+    {
+        cursor.advance(cache, &mut self.slots)
     }
 }
 

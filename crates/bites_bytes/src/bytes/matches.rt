@@ -1,6 +1,6 @@
 //! The successive matches in a haystack.
 
-ghost use Rattle.std.specs.Prelude.{◌≡◌, ◌≤◌, ◌^◌, IfOk, IfSome, length, None, map, unwrap_or, is_some};
+ghost use Rattle.std.specs.Prelude.{◌≡◌, ◌≤◌, ◌<◌, ◌^◌, IfOk, IfSome, length, None, map, unwrap_or, is_some};
 ghost use Rattle.std.specs.Option.{ForSome};
 ghost use Rattle.bites_spec.specs.Counts.{fit_of, IsSlotCount};
 ghost use Rattle.bites_spec.specs.Regex.{IsCompiled};
@@ -13,78 +13,77 @@ use std::alloc::AllocError;
 use std::fmt;
 use std::iter::FusedIterator;
 
-/// An iterator over the successive matches, from left to right.
-///
-/// Each search continues where the match before it ended. An empty match right there is dropped, and the search
-/// continues one character later. No search allocates.
+// The place among the successive matches where the next search goes on. The caller gives the cache of each search.
 #[derive(Drop)]
-pub struct Matches<'r, 'h> {
+pub(super) struct Cursor<'r, 'h> {
     regex: &'r Regex,
-    cache: Cache,
     haystack: &'h [u8],
     // Where the match before ended, if there was one.
     last: Option<usize>,
-    pub ghost fits: { cache.fits ≡ fit_of regex.now.program },
     pub ghost within: { ForSome last (λ e. e ≤ length haystack.now) },
+    pub ghost bounded: { length haystack.now < 2 ^ 63 },
 }
 
-impl<'r, 'h> Matches<'r, 'h> {
+impl<'r, 'h> Cursor<'r, 'h> {
     ghost use Rattle.std.specs.Iterator.{YieldsFirstBy};
     ghost use Rattle.bites_bytes.specs.Matched.{excerpt_of};
-    ghost use Rattle.bites_bytes.specs.Matches.{Advances, Moves, IsSameSearch, matches_left, regex_of_matches, haystack_of_matches, last_of_matches};
+    ghost use Rattle.bites_bytes.specs.Matches.{Advances, Moves, IsSameSearch, left_from, regex_of, haystack_of, last_of};
 
-    pub(super) fn new(regex: &'r Regex, haystack: &'h [u8]) -> Result<Matches<'r, 'h>, AllocError>
-        ensures regex { IfOk result (λ m. regex_of_matches m ≡ regex.now) }
-        ensures haystack { IfOk result (λ m. haystack_of_matches m ≡ haystack.now) }
-        ensures last { IfOk result (λ m. last_of_matches m ≡ None) }
+    // In front of the first match.
+    pub(super) fn new(regex: &'r Regex, haystack: &'h [u8]) -> Cursor<'r, 'h>
+        ensures regex { regex_of result ≡ regex.now }
+        ensures haystack { haystack_of result ≡ haystack.now }
+        ensures last { last_of result ≡ None }
     {
-        Ok(Matches {
+        Cursor {
             regex,
-            cache: regex.cache()?,
             haystack,
             last: None,
-        })
+        }
     }
 
     pub(super) fn regex(&self) -> &'r Regex
-        ensures { result.now ≡ regex_of_matches self.now }
+        ensures { result.now ≡ regex_of self.now }
     {
         self.regex
     }
 
     pub(super) fn haystack(&self) -> &'h [u8]
-        ensures { result.now ≡ haystack_of_matches self.now }
+        ensures { result.now ≡ haystack_of self.now }
     {
         self.haystack
     }
 
     // Whether there was a match.
     pub(super) fn has_begun(&self) -> bool
-        ensures { result ≡ is_some (last_of_matches self.now) }
+        ensures { result ≡ is_some (last_of self.now) }
     {
         self.last.is_some()
     }
 
     // Where the match before ended, or where the haystack begins.
     pub(super) fn end_of_last(&self) -> usize
-        ensures last { result ≡ unwrap_or (last_of_matches self.now) 0 }
-        ensures within { result ≤ length (haystack_of_matches self.now) }
+        ensures last { result ≡ unwrap_or (last_of self.now) 0 }
+        ensures within { result ≤ length (haystack_of self.now) }
     {
         self.last.unwrap_or(0)
     }
 
     // The next match; the slots that are given have the front of its slots then.
-    pub(super) fn advance(&mut self, slots: &mut [Option<usize>]) -> Option<Match<'h>>
-        requires slots { IsSlotCount (regex_of_matches self.old).program (length slots.old) }
+    pub(super) fn advance(
+        &mut self,
+        cache: &mut Cache,
+        slots: &mut [Option<usize>],
+    ) -> Option<Match<'h>>
+        requires fits { cache.old.fits ≡ fit_of (regex_of self.old).program }
+        requires slots { IsSlotCount (regex_of self.old).program (length slots.old) }
         requires whole { 2 ≤ length slots.old }
         ensures steps { Advances self.old result self.new (length slots.old) slots.new }
         ensures same { IsSameSearch self.old self.new }
-        ensures compiled { IsCompiled (regex_of_matches self.old) }
+        ensures compiled { IsCompiled (regex_of self.old) }
+        ensures fits { cache.new.fits ≡ cache.old.fits }
     {
-        if !self
-            .cache
-            .due(self.regex.compiled(), self.haystack, self.last, slots)
-        {
+        if !cache.due(self.regex.compiled(), self.haystack, self.last, slots) {
             return None;
         }
         match ends_in(slots) {
@@ -97,13 +96,83 @@ impl<'r, 'h> Matches<'r, 'h> {
     }
 
     // The next match.
-    pub(super) fn step(&mut self) -> Option<Match<'h>>
-        ensures steps { YieldsFirstBy excerpt_of matches_left self.old result self.new }
+    pub(super) fn step(&mut self, cache: &mut Cache) -> Option<Match<'h>>
+        requires fits { cache.old.fits ≡ fit_of (regex_of self.old).program }
+        ensures steps { YieldsFirstBy excerpt_of left_from self.old result self.new }
         ensures moves { Moves self.old result self.new }
         ensures same { IsSameSearch self.old self.new }
+        ensures fits { cache.new.fits ≡ cache.old.fits }
     {
         let mut slots = [None; 2];
-        self.advance(&mut slots)
+        self.advance(cache, &mut slots)
+    }
+}
+
+/// An iterator over the successive matches, from left to right.
+///
+/// Each search continues where the match before it ended. An empty match right there is dropped, and the search
+/// continues one character later. No search allocates.
+#[derive(Drop)]
+pub struct Matches<'r, 'h> {
+    cursor: Cursor<'r, 'h>,
+    cache: Cache,
+    pub ghost fits: { cache.fits ≡ fit_of cursor.regex.now.program },
+}
+
+impl<'r, 'h> Matches<'r, 'h> {
+    ghost use Rattle.std.specs.Iterator.{YieldsFirstBy};
+    ghost use Rattle.bites_bytes.specs.Matched.{excerpt_of};
+    ghost use Rattle.bites_bytes.specs.Matches.{Advances, Moves, IsSameSearch, cursor_of, matches_left, regex_of_matches, haystack_of_matches, last_of_matches};
+
+    pub(super) fn new(regex: &'r Regex, haystack: &'h [u8]) -> Result<Matches<'r, 'h>, AllocError>
+        ensures regex { IfOk result (λ m. regex_of_matches m ≡ regex.now) }
+        ensures haystack { IfOk result (λ m. haystack_of_matches m ≡ haystack.now) }
+        ensures last { IfOk result (λ m. last_of_matches m ≡ None) }
+    {
+        Ok(Matches {
+            cursor: Cursor::new(regex, haystack),
+            cache: regex.cache()?,
+        })
+    }
+
+    pub(super) fn regex(&self) -> &'r Regex
+        ensures { result.now ≡ regex_of_matches self.now }
+    {
+        self.cursor.regex()
+    }
+
+    pub(super) fn haystack(&self) -> &'h [u8]
+        ensures { result.now ≡ haystack_of_matches self.now }
+    {
+        self.cursor.haystack()
+    }
+
+    // Where the match before ended, or where the haystack begins.
+    pub(super) fn end_of_last(&self) -> usize
+        ensures last { result ≡ unwrap_or (last_of_matches self.now) 0 }
+        ensures within { result ≤ length (haystack_of_matches self.now) }
+    {
+        self.cursor.end_of_last()
+    }
+
+    // The next match; the slots that are given have the front of its slots then.
+    pub(super) fn advance(&mut self, slots: &mut [Option<usize>]) -> Option<Match<'h>>
+        requires slots { IsSlotCount (regex_of_matches self.old).program (length slots.old) }
+        requires whole { 2 ≤ length slots.old }
+        ensures steps { Advances (cursor_of self.old) result (cursor_of self.new) (length slots.old) slots.new }
+        ensures same { IsSameSearch (cursor_of self.old) (cursor_of self.new) }
+        ensures compiled { IsCompiled (regex_of_matches self.old) }
+    {
+        self.cursor.advance(&mut self.cache, slots)
+    }
+
+    // The next match.
+    pub(super) fn step(&mut self) -> Option<Match<'h>>
+        ensures steps { YieldsFirstBy excerpt_of matches_left self.old result self.new }
+        ensures moves { Moves (cursor_of self.old) result (cursor_of self.new) }
+        ensures same { IsSameSearch (cursor_of self.old) (cursor_of self.new) }
+    {
+        self.cursor.step(&mut self.cache)
     }
 
     /// Returns the number of matches that are left. It searches for each of them, and allocates nothing.
@@ -174,9 +243,9 @@ impl Regex {
 impl<'r, 'h> fmt::Debug for Matches<'r, 'h> {
     fn fmt<W: fmt::Write>(&self, f: &mut fmt::Formatter<W>) -> fmt::Result {
         f.debug_struct("Matches")
-            .field("regex", &self.regex)
-            .field("haystack", &self.haystack)
-            .field("last", &self.last)
+            .field("regex", &self.cursor.regex)
+            .field("haystack", &self.cursor.haystack)
+            .field("last", &self.cursor.last)
             .finish_non_exhaustive()
     }
 }

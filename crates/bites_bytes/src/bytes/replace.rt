@@ -2,12 +2,14 @@
 
 ghost use Rattle.std.specs.Prelude.{◌≡◌, ◌↔◌, ◌++◌, [], List, ℕ, ◌≤◌, None, IfOk, OnOk, drop, length};
 ghost use Rattle.std.specs.Cow.{cow_slice_items, IsBorrowedSlice};
+ghost use Rattle.bites_spec.specs.Counts.{fit_of};
 ghost use Rattle.bites_spec.specs.Iteration.{captures_in};
-ghost use Rattle.bites_bytes.specs.Matches.{regex_of_matches, last_of_matches};
+ghost use Rattle.bites_bytes.specs.Matches.{regex_of, last_of};
 ghost use Rattle.bites_spec.specs.Replaced.{ReplacesIn};
 ghost use Rattle.bites_bytes.specs.Limit.{bound};
 
-use crate::bytes::{CaptureLocations, Captures, Matches, Regex, Replacer};
+use crate::bytes::matches::Cursor;
+use crate::bytes::{Cache, CaptureLocations, Captures, Regex, Replacer};
 use crate::limit::{bound, spend};
 use std::alloc::AllocError;
 use std::borrow::CowSlice;
@@ -15,47 +17,45 @@ use std::borrow::CowSlice;
 // A haystack whose matches are being replaced, from left to right.
 #[derive(Drop)]
 struct Replacing<'r, 'h> {
-    matches: Matches<'r, 'h>,
+    cursor: Cursor<'r, 'h>,
     // How many matches may still be replaced; None for all.
     left: Option<usize>,
     // The haystack up to the end of the last match that was replaced, with the new texts.
     out: Vec<u8>,
-    ghost fresh: { last_of_matches matches ≡ None → out.items ≡ [] },
+    ghost fresh: { last_of cursor ≡ None → out.items ≡ [] },
 }
 
 impl<'r, 'h> Replacing<'r, 'h> {
-    ghost use Rattle.bites_bytes.specs.Matches.{haystack_of_matches};
+    ghost use Rattle.bites_bytes.specs.Matches.{haystack_of};
     ghost use Rattle.bites_bytes.specs.Replacing.{hay_of, begin_of, StepsByText, EndsByText, StepsBy, EndsBy};
 
     // Nothing is replaced yet; at most so many matches may be, or all for 0.
-    fn new(
-        regex: &'r Regex,
-        haystack: &'h [u8],
-        limit: usize,
-    ) -> Result<Replacing<'r, 'h>, AllocError>
-        ensures regex { IfOk result (λ s. regex_of_matches s.matches ≡ regex.now) }
-        ensures haystack { IfOk result (λ s. haystack_of_matches s.matches ≡ haystack.now) }
-        ensures last { IfOk result (λ s. last_of_matches s.matches ≡ None) }
-        ensures left { IfOk result (λ s. s.left ≡ bound limit) }
-        ensures out { IfOk result (λ s. s.out.items ≡ []) }
+    fn new(regex: &'r Regex, haystack: &'h [u8], limit: usize) -> Replacing<'r, 'h>
+        ensures regex { regex_of result.cursor ≡ regex.now }
+        ensures haystack { haystack_of result.cursor ≡ haystack.now }
+        ensures last { last_of result.cursor ≡ None }
+        ensures left { result.left ≡ bound limit }
+        ensures out { result.out.items ≡ [] }
     {
-        Ok(Replacing {
-            matches: Matches::new(regex, haystack)?,
+        Replacing {
+            cursor: Cursor::new(regex, haystack),
             left: bound(limit),
             out: Vec::new(regex.alloc()),
-        })
+        }
     }
 
     // Replaces the next match by the text, if one more is to be replaced.
-    fn step_by_text(&mut self, text: &[u8]) -> Result<bool, AllocError>
-        ensures { IfOk result (λ there. StepsByText text.now self.old there self.new) }
+    fn step_by_text(&mut self, cache: &mut Cache, text: &[u8]) -> Result<bool, AllocError>
+        requires { cache.old.fits ≡ fit_of (regex_of self.old.cursor).program }
+        ensures steps { IfOk result (λ there. StepsByText text.now self.old there self.new) }
+        ensures fits { cache.new.fits ≡ cache.old.fits }
     {
         if !spend(&mut self.left) {
             return Ok(false);
         }
-        let haystack = self.matches.haystack();
-        let begin = self.matches.end_of_last();
-        let Some(found) = self.matches.step() else {
+        let haystack = self.cursor.haystack();
+        let begin = self.cursor.end_of_last();
+        let Some(found) = self.cursor.step(cache) else {
             return Ok(false);
         };
         self.out.extend_from_slice(&haystack[begin..found.start()])?;
@@ -64,36 +64,41 @@ impl<'r, 'h> Replacing<'r, 'h> {
     }
 
     // Replaces each match by the text.
-    fn by_text(&mut self, text: &[u8]) -> Result<(), AllocError>
-        ensures { OnOk result (EndsByText text.now self.old self.new) }
+    fn by_text(&mut self, cache: &mut Cache, text: &[u8]) -> Result<(), AllocError>
+        requires { cache.old.fits ≡ fit_of (regex_of self.old.cursor).program }
+        ensures ends { OnOk result (EndsByText text.now self.old self.new) }
+        ensures fits { cache.new.fits ≡ cache.old.fits }
     {
-        while self.step_by_text(text)? {}
+        while self.step_by_text(cache, text)? {}
         Ok(())
     }
 
     // Replaces the next match by what the replacer gives, if one more is to be replaced.
     fn step_by<R: Replacer>(
         &mut self,
+        cache: &mut Cache,
         locations: &mut CaptureLocations,
         replacer: &mut R,
     ) -> Result<bool, AllocError>
         requires callable { (state : R) → R.can_replace state }
-        requires fits { length locations.old ≡ (regex_of_matches self.old.matches).program.slots }
+        requires cache { cache.old.fits ≡ fit_of (regex_of self.old.cursor).program }
+        requires fits { length locations.old ≡ (regex_of self.old.cursor).program.slots }
         requires whole { 2 ≤ length locations.old }
         ensures steps { IfOk result (λ there.
             StepsBy R.replaces R.answers self.old replacer.old there self.new replacer.new) }
         ensures len { length locations.new ≡ length locations.old }
+        ensures fits { cache.new.fits ≡ cache.old.fits }
     {
         if !spend(&mut self.left) {
             return Ok(false);
         }
-        let haystack = self.matches.haystack();
-        let begin = self.matches.end_of_last();
-        let Some(found) = locations.advance(&mut self.matches) else {
+        let haystack = self.cursor.haystack();
+        let begin = self.cursor.end_of_last();
+        let Some(found) = locations.advance_with(&mut self.cursor, cache) else {
             return Ok(false);
         };
         self.out.extend_from_slice(&haystack[begin..found.start()])?;
-        let captures = Captures::of(self.matches.regex(), haystack, locations)?;
+        let captures = Captures::of(self.cursor.regex(), haystack, locations)?;
         replacer.replace_append(&captures, &mut self.out)?;
         Ok(true)
     }
@@ -101,15 +106,18 @@ impl<'r, 'h> Replacing<'r, 'h> {
     // Replaces each match by what the replacer gives.
     fn by<R: Replacer>(
         &mut self,
+        cache: &mut Cache,
         locations: &mut CaptureLocations,
         replacer: &mut R,
     ) -> Result<(), AllocError>
         requires callable { (state : R) → R.can_replace state }
-        requires fits { length locations.old ≡ (regex_of_matches self.old.matches).program.slots }
+        requires cache { cache.old.fits ≡ fit_of (regex_of self.old.cursor).program }
+        requires fits { length locations.old ≡ (regex_of self.old.cursor).program.slots }
         requires whole { 2 ≤ length locations.old }
         ensures ends { OnOk result (EndsBy R.replaces R.answers self.old replacer.old self.new replacer.new) }
+        ensures fits { cache.new.fits ≡ cache.old.fits }
     {
-        while self.step_by(locations, replacer)? {}
+        while self.step_by(cache, locations, replacer)? {}
         Ok(())
     }
 
@@ -117,14 +125,14 @@ impl<'r, 'h> Replacing<'r, 'h> {
     fn finish(self) -> Result<CowSlice<'h, u8>, AllocError>
         ensures bytes { IfOk result (λ r. cow_slice_items r
             ≡ self.entry.out.items ++ drop (begin_of self.entry) (hay_of self.entry)) }
-        ensures borrowed { IfOk result (λ r. IsBorrowedSlice r ↔ last_of_matches self.entry.matches ≡ None) }
+        ensures borrowed { IfOk result (λ r. IsBorrowedSlice r ↔ last_of self.entry.cursor ≡ None) }
     {
-        let haystack = self.matches.haystack();
-        if !self.matches.has_begun() {
+        let haystack = self.cursor.haystack();
+        if !self.cursor.has_begun() {
             return Ok(CowSlice::Borrowed(haystack));
         }
         let mut out = self.out;
-        out.extend_from_slice(&haystack[self.matches.end_of_last()..])?;
+        out.extend_from_slice(&haystack[self.cursor.end_of_last()..])?;
         Ok(CowSlice::Owned(out))
     }
 }
@@ -133,23 +141,26 @@ impl Regex {
     // The haystack with at most `limit` matches replaced, or all for 0.
     fn replace_by<'h, R: Replacer>(
         &self,
+        cache: &mut Cache,
         haystack: &'h [u8],
         limit: usize,
         replacer: &mut R,
     ) -> Result<CowSlice<'h, u8>, AllocError>
-        requires { (state : R) → R.can_replace state }
+        requires callable { (state : R) → R.can_replace state }
+        requires fits { cache.old.fits ≡ fit_of self.now.program }
         ensures replaces { IfOk result (λ bytes. ReplacesIn R.replaces R.answers
             self.now haystack.now limit replacer.old (cow_slice_items bytes) replacer.new) }
         ensures borrowed { IfOk result (λ bytes. IsBorrowedSlice bytes ↔ captures_in self.now haystack.now ≡ []) }
+        ensures fits { cache.new.fits ≡ cache.old.fits }
     {
         let slots = self.program().slots();
-        let mut replacing = Replacing::new(self, haystack, limit)?;
+        let mut replacing = Replacing::new(self, haystack, limit);
         if let Some(text) = replacer.no_expansion() {
-            replacing.by_text(text)?;
+            replacing.by_text(cache, text)?;
             return replacing.finish();
         }
         let mut locations = CaptureLocations::new(self.alloc(), slots)?;
-        replacing.by(&mut locations, replacer)?;
+        replacing.by(cache, &mut locations, replacer)?;
         replacing.finish()
     }
 
@@ -201,13 +212,61 @@ impl Regex {
         &self,
         haystack: &'h [u8],
         limit: usize,
-        mut replacer: R,
+        replacer: R,
     ) -> Result<CowSlice<'h, u8>, AllocError>
         requires { (state : R) → R.can_replace state }
         ensures replaces { IfOk result (λ bytes. (end : R) × ReplacesIn R.replaces R.answers
             self.now haystack.now limit replacer (cow_slice_items bytes) end) }
         ensures borrowed { IfOk result (λ bytes. IsBorrowedSlice bytes ↔ captures_in self.now haystack.now ≡ []) }
     {
-        self.replace_by(haystack, limit, &mut replacer)
+        let mut cache = self.cache()?;
+        self.replacen_with(&mut cache, haystack, limit, replacer)
+    }
+
+    /// Like [`Regex::replace_all`], but with a cache that fits.
+    ///
+    /// It allocates the new bytes alone, and for a replacer that asks for groups the memory of these.
+    pub fn replace_all_with<'h, R: Replacer + Drop>(
+        &self,
+        cache: &mut Cache,
+        haystack: &'h [u8],
+        replacer: R,
+    ) -> Result<CowSlice<'h, u8>, AllocError>
+        requires callable { (state : R) → R.can_replace state }
+        requires fits { cache.old.fits ≡ fit_of self.now.program }
+        ensures replaces { IfOk result (λ bytes. (end : R) × ReplacesIn R.replaces R.answers
+            self.now haystack.now 0 replacer (cow_slice_items bytes) end) }
+        ensures borrowed { IfOk result (λ bytes. IsBorrowedSlice bytes ↔ captures_in self.now haystack.now ≡ []) }
+        ensures fits { cache.new.fits ≡ cache.old.fits }
+    {
+        self.replacen_with(cache, haystack, 0, replacer)
+    }
+
+    /// Like [`Regex::replacen`], but with a cache that fits.
+    ///
+    /// It allocates the new bytes alone, and for a replacer that asks for groups the memory of these. So where nothing
+    /// matches and [`Replacer::no_expansion`] returns bytes, it allocates nothing.
+    ///
+    /// ```rust
+    /// let regex = Regex::new(rt.alloc(), r"\d+")?;
+    /// let mut cache = regex.cache()?;
+    /// let first = regex.replacen_with(&mut cache, b"1 and 2", 1, b"n".as_slice())?;
+    /// assert_eq!(rt; first.as_slice(), b"n and 2".as_slice());
+    /// ```
+    pub fn replacen_with<'h, R: Replacer + Drop>(
+        &self,
+        cache: &mut Cache,
+        haystack: &'h [u8],
+        limit: usize,
+        mut replacer: R,
+    ) -> Result<CowSlice<'h, u8>, AllocError>
+        requires callable { (state : R) → R.can_replace state }
+        requires fits { cache.old.fits ≡ fit_of self.now.program }
+        ensures replaces { IfOk result (λ bytes. (end : R) × ReplacesIn R.replaces R.answers
+            self.now haystack.now limit replacer (cow_slice_items bytes) end) }
+        ensures borrowed { IfOk result (λ bytes. IsBorrowedSlice bytes ↔ captures_in self.now haystack.now ≡ []) }
+        ensures fits { cache.new.fits ≡ cache.old.fits }
+    {
+        self.replace_by(cache, haystack, limit, &mut replacer)
     }
 }

@@ -108,9 +108,30 @@ impl Regex {
         ensures regex { IfOk result (λ c. IfSome c (λ x. x.regex ≡ self.now)) }
         ensures haystack { IfOk result (λ c. IfSome c (λ x. x.haystack ≡ haystack.now)) }
     {
+        let mut cache = self.cache()?;
+        self.captures_anchored_at_with(&mut cache, haystack, start)
+    }
+
+    /// Like [`Regex::captures_anchored_at`], but with a cache that fits. It allocates the groups alone.
+    pub fn captures_anchored_at_with<'h>(
+        &self,
+        cache: &mut Cache,
+        haystack: &'h str,
+        start: usize,
+    ) -> Result<Option<Captures<'h>>, AllocError>
+        requires border { start ≤ length haystack.now → IsCharBoundary haystack.now start }
+        requires fits { cache.old.fits ≡ fit_of self.now.program }
+        ensures found { IfOk result (λ c. c ≡ option_map (captured self.now haystack.now)
+            (anchored_slots_at self.now haystack.now start)) }
+        ensures on_tree { IfOk result (λ c. FindsGroupsFrom self.now haystack.now start
+            (option_map (λ x. x.slots) c)) }
+        ensures regex { IfOk result (λ c. IfSome c (λ x. x.regex ≡ self.now)) }
+        ensures haystack { IfOk result (λ c. IfSome c (λ x. x.haystack ≡ haystack.now)) }
+        ensures fits { cache.new.fits ≡ cache.old.fits }
+    {
         match self
             .over_bytes()
-            .captures_anchored_at(haystack.as_bytes(), start)?
+            .captures_anchored_at_with(&mut cache.cache, haystack.as_bytes(), start)?
         {
             Some(captures) => Ok(Some(Captures::of(haystack, captures))),
             None => Ok(None),
@@ -191,7 +212,31 @@ impl Regex {
         ensures regex { IfOk result (λ c. IfSome c (λ x. x.regex ≡ self.now)) }
         ensures haystack { IfOk result (λ c. IfSome c (λ x. x.haystack ≡ haystack.now)) }
     {
-        match self.over_bytes().captures_full(haystack.as_bytes())? {
+        let mut cache = self.cache()?;
+        self.captures_full_with(&mut cache, haystack)
+    }
+
+    /// Like [`Regex::captures_full`], but with a cache that fits. It allocates the groups alone.
+    ///
+    /// The search visits each state of the program at most once at each offset.
+    pub fn captures_full_with<'h>(
+        &self,
+        cache: &mut Cache,
+        haystack: &'h str,
+    ) -> Result<Option<Captures<'h>>, AllocError>
+        requires { cache.old.fits ≡ fit_of self.now.program }
+        ensures found { IfOk result (λ c. c ≡ option_map (captured self.now haystack.now)
+            (full_slots self.now haystack.now)) }
+        ensures on_tree { IfOk result (λ c. FindsGroupsFull self.now haystack.now
+            (option_map (λ x. x.slots) c)) }
+        ensures regex { IfOk result (λ c. IfSome c (λ x. x.regex ≡ self.now)) }
+        ensures haystack { IfOk result (λ c. IfSome c (λ x. x.haystack ≡ haystack.now)) }
+        ensures fits { cache.new.fits ≡ cache.old.fits }
+    {
+        match self
+            .over_bytes()
+            .captures_full_with(&mut cache.cache, haystack.as_bytes())?
+        {
             Some(captures) => Ok(Some(Captures::of(haystack, captures))),
             None => Ok(None),
         }

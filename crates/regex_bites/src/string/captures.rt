@@ -4,11 +4,12 @@ ghost use Rattle.std.specs.Prelude.{◌≡◌, ◌≤◌, ◌+◌, ◌/◌, leng
 ghost use Rattle.bites_spec.specs.Measure.{static_captures_len};
 ghost use Rattle.bites_spec.specs.Slots.{group_in, taking_part};
 ghost use Rattle.bites_spec.specs.Pieces.{text_at};
+ghost use Rattle.bites_spec.specs.Counts.{fit_of};
 ghost use Rattle.bites_spec.specs.Regex.{slots_at};
 ghost use Rattle.bites_spec.specs.Captured.{AreGroups, captured, excerpt, FindsGroups};
 ghost use Rattle.bites_spec.specs.Expansion.{index_in};
 
-use crate::string::{Match, Regex};
+use crate::string::{Cache, Match, Regex};
 use bites_bytes::bytes;
 use bites_bytes::named::{names_of, number_named};
 use bites_bytes::shown::{Key, Part};
@@ -263,7 +264,49 @@ impl Regex {
         ensures regex { IfOk result (λ c. IfSome c (λ x. x.regex ≡ self.now)) }
         ensures haystack { IfOk result (λ c. IfSome c (λ x. x.haystack ≡ haystack.now)) }
     {
-        match self.over_bytes().captures_at(haystack.as_bytes(), start)? {
+        let mut cache = self.cache()?;
+        self.captures_at_with(&mut cache, haystack, start)
+    }
+
+    /// Like [`Regex::captures`], but with a cache that fits. It allocates the groups alone.
+    ///
+    /// [`Regex::captures_read_with`] allocates nothing.
+    pub fn captures_with<'h>(
+        &self,
+        cache: &mut Cache,
+        haystack: &'h str,
+    ) -> Result<Option<Captures<'h>>, AllocError>
+        requires { cache.old.fits ≡ fit_of self.now.program }
+        ensures found { IfOk result (λ c. c
+            ≡ option_map (captured self.now haystack.now) (slots_at self.now haystack.now 0)) }
+        ensures on_tree { IfOk result (λ c. FindsGroups self.now haystack.now 0 (option_map (λ x. x.slots) c)) }
+        ensures regex { IfOk result (λ c. IfSome c (λ x. x.regex ≡ self.now)) }
+        ensures haystack { IfOk result (λ c. IfSome c (λ x. x.haystack ≡ haystack.now)) }
+        ensures fits { cache.new.fits ≡ cache.old.fits }
+    {
+        self.captures_at_with(cache, haystack, 0)
+    }
+
+    /// Like [`Regex::captures_at`], but with a cache that fits. It allocates the groups alone.
+    pub fn captures_at_with<'h>(
+        &self,
+        cache: &mut Cache,
+        haystack: &'h str,
+        start: usize,
+    ) -> Result<Option<Captures<'h>>, AllocError>
+        requires border { start ≤ length haystack.now → IsCharBoundary haystack.now start }
+        requires fits { cache.old.fits ≡ fit_of self.now.program }
+        ensures found { IfOk result (λ c. c
+            ≡ option_map (captured self.now haystack.now) (slots_at self.now haystack.now start)) }
+        ensures on_tree { IfOk result (λ c. FindsGroups self.now haystack.now start (option_map (λ x. x.slots) c)) }
+        ensures regex { IfOk result (λ c. IfSome c (λ x. x.regex ≡ self.now)) }
+        ensures haystack { IfOk result (λ c. IfSome c (λ x. x.haystack ≡ haystack.now)) }
+        ensures fits { cache.new.fits ≡ cache.old.fits }
+    {
+        match self
+            .over_bytes()
+            .captures_at_with(&mut cache.cache, haystack.as_bytes(), start)?
+        {
             Some(captures) => Ok(Some(Captures::of(haystack, captures))),
             None => Ok(None),
         }

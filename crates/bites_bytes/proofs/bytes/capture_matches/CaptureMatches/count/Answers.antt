@@ -6,4 +6,4 @@ use Rattle.bites_bytes.proofs.bytes.capture_matches.CaptureMatches.count.Goals a
 pub returns : goal.returns
 returns c =
     c.count.ensures.left ∙ sym (length-captures c.args.self.matches)
-    ∙ sym (ap (λ b. length (cond b [] (captures_to_come c.args.self.matches))) c.if-self.false)
+    ∙ sym (ap (λ b. length (cond b [] (captures_to_come c.args.self.matches.cursor))) c.if-self.false)

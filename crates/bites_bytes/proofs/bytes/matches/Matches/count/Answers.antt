@@ -10,7 +10,7 @@ loop-number-init c = omega arith
 pub overflow_add-number : goal.overflow_add-number
 overflow_add-number c =
     let less = one_less excerpt_of matches_left c.loop-number.self c.step.new.self c.step.result c.step.ensures.steps (sym c.is_some.ensures ∙ c.loop-number-test.true) in
-    omega (arith, less, c.loop-number.invariant, matches_bound c.args.self, c.ranges.self.1)
+    omega (arith, less, c.loop-number.invariant, matches_bound c.args.self, c.args.self.cursor.bounded)
 
 pub loop-number-smaller : goal.loop-number-smaller
 loop-number-smaller c =
@@ -28,4 +28,4 @@ returns-clause-left c =
     omega (arith, none, c.loop-number.invariant)
 
 pub returns-clause-bound : goal.returns-clause-bound
-returns-clause-bound c = omega (arith, c.loop-number.invariant, matches_bound c.args.self, c.ranges.self.1)
+returns-clause-bound c = omega (arith, c.loop-number.invariant, matches_bound c.args.self, c.args.self.cursor.bounded)

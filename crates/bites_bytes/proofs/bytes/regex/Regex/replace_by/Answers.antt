@@ -4,21 +4,21 @@ use Rattle.bites_bytes.proofs.bytes.regex.Regex.replace_by.Goals as goal
 
 pub returns-in-Some-clause-replaces : goal.returns-in-Some-clause-replaces
 returns-in-Some-clause-replaces g c =
-    let e = c.in_ok-replacing.ensures in let s = c.in_ok-replacing.replacing in
+    let e = c.new-replacing.ensures in let s = c.new-replacing.result in
     if_ok c.finish.result _ _ c.finish.ensures.bytes
     (λ x written. text_replaces s c.args.self.now c.args.haystack.now c.args.limit e.regex e.haystack e.last e.left e.out c.program.ensures.compiled _ _ written
-    c.in-Some.text.now c.in_ok-by_text.ensures g.R.Replacer.replaces g.R.Replacer.answers c.args.replacer.now _ (search rules))
+    c.in-Some.text.now c.in_ok-by_text.ensures.ends g.R.Replacer.replaces g.R.Replacer.answers c.args.replacer.now _ (search rules))
 
 pub returns-in-Some-clause-borrowed : goal.returns-in-Some-clause-borrowed
 returns-in-Some-clause-borrowed g c =
-    let e = c.in_ok-replacing.ensures in let s = c.in_ok-replacing.replacing in
+    let e = c.new-replacing.ensures in let s = c.new-replacing.result in
     let is = text_borrows s c.args.self.now c.args.haystack.now c.args.limit e.regex e.haystack e.last e.left e.out c.program.ensures.compiled
-    c.by_text.new.self _ refl c.in-Some.text.now c.in_ok-by_text.ensures in
+    c.by_text.new.self _ refl c.in-Some.text.now c.in_ok-by_text.ensures.ends in
     if_ok c.finish.result _ _ c.finish.ensures.borrowed (λ x same. (λ b. is.0 (same.0 b), λ none. same.1 (is.1 none)))
 
 pub returns-clause-replaces : goal.returns-clause-replaces
 returns-clause-replaces g c =
-    let e = c.in_ok-replacing.ensures in let s = c.in_ok-replacing.replacing in
+    let e = c.new-replacing.ensures in let s = c.new-replacing.result in
     if_ok c.finish-2.result _ _ c.finish-2.ensures.bytes
     (λ x written. by_replaces s c.args.self.now c.args.haystack.now c.args.limit e.regex e.haystack e.last e.left e.out c.program.ensures.compiled _ _ written
     g.R.Replacer.replaces g.R.Replacer.answers c.args.replacer.now c.no_expansion.follows.lender-at-none _ c.in_ok-by.ensures.ends (search rules))

@@ -8,23 +8,23 @@ use Rattle.bites_bytes.proofs.bytes.replace.Replacing.step_by.Goals as goal
 pub returns-in_default-clause-steps : goal.returns-in_default-clause-steps
 returns-in_default-clause-steps g c =
     let e = c.in_default.ensures in (
-      captures_rest c.args.self.now _ c.spend.result c.spend.ensures c.if-not-spend.false e.compiled (length c.args.locations.now) c.advance.new.self c.requires.fits e.same e.steps refl,
+      captures_rest c.args.self.now _ c.spend.result c.spend.ensures c.if-not-spend.false e.compiled (length c.args.locations.now) c.advance_with.new.self c.requires.fits e.same e.steps refl,
       refl,
     )
 
 pub of-requires : goal.of-requires
 of-requires g c =
-    let s = c.args.self.now in let e = c.in-Some.ensures in let t = c.advance.new.matches in
-    subst (λ h. AreGroups c.regex.result.now h c.advance.new.self) (e.same.1 ∙ sym c.haystack-haystack.ensures)
-    (subst (λ q. AreGroups q t.haystack.now c.advance.new.self) (sym c.regex.ensures)
-    (captures_advance s.matches (Some c.in-Some.found) t (length c.args.locations.now) c.advance.new.self e.compiled c.requires.fits e.steps e.same).1)
+    let s = c.args.self.now in let e = c.in-Some.ensures in let t = c.advance_with.new.cursor in
+    subst (λ h. AreGroups c.regex.result.now h c.advance_with.new.self) (e.same.1 ∙ sym c.haystack-haystack.ensures)
+    (subst (λ q. AreGroups q t.haystack.now c.advance_with.new.self) (sym c.regex.ensures)
+    (captures_advance s.cursor (Some c.in-Some.found) t (length c.args.locations.now) c.advance_with.new.self e.compiled c.requires.fits e.steps e.same).1)
 
 pub returns-clause-steps : goal.returns-clause-steps
 returns-clause-steps g c =
     let s = c.args.self.now in let e = c.in-Some.ensures in let a = c.in_ok-replace_append.ensures.appends in
-    by_step s _ c.spend.result c.spend.ensures c.if-not-spend.false e.compiled (length c.args.locations.now) c.advance.new.self c.requires.fits e.same
+    by_step s _ c.spend.result c.spend.ensures c.if-not-spend.false e.compiled (length c.args.locations.now) c.advance_with.new.self c.requires.fits e.same
     c.in-Some.found e.steps g.R.Replacer.replaces g.R.Replacer.answers c.args.replacer.now _ c.in_ok-captures.captures a.0
-    (c.in_ok-captures.ensures ∙ ap₂ (λ q h. captured q h c.advance.new.self) c.regex.ensures (c.haystack-haystack.ensures ∙ sym e.same.1))
+    (c.in_ok-captures.ensures ∙ ap₂ (λ q h. captured q h c.advance_with.new.self) c.regex.ensures (c.haystack-haystack.ensures ∙ sym e.same.1))
     c.requires.whole a.1
     (a.2
     ∙ ap (λ l. l ++ a.0) (c.in_ok-extend_from_slice.ensures.items

@@ -1,5 +1,5 @@
 use Rattle.bites_bytes.proofs.MatchLemmas.{advance_yields, advance_moves}
-use Rattle.bites_bytes.proofs.bytes.matches.Matches.step.Goals as goal
+use Rattle.bites_bytes.proofs.bytes.matches.Cursor.step.Goals as goal
 
 pub returns-clause-steps : goal.returns-clause-steps
 returns-clause-steps c =

@@ -2,7 +2,7 @@ use Rattle.std.proofs.Common.{◌∙◌, ap, sym, option_map}
 use Rattle.bites_spec.specs.Captured.{captured}
 use Rattle.bites_spec.specs.Anchored.{full_slots}
 use Rattle.regex_bites.proofs.AnchoredBorders.{groups_full}
-use Rattle.regex_bites.proofs.string.regex.Regex.captures_full.Goals as goal
+use Rattle.regex_bites.proofs.string.regex.Regex.captures_full_with.Goals as goal
 
 pub of-requires : goal.of-requires
 of-requires c =

@@ -4,18 +4,18 @@ use Rattle.bites_spec.specs.Regex.{Regex, IsCompiled}
 use Rattle.bites_spec.specs.Captured.{excerpt}
 use Rattle.bites_bytes.specs.Due.{run_due, LeavesRun}
 use Rattle.bites_bytes.proofs.MatchLemmas.{left_at, left_known}
-use Rattle.bites_bytes.proofs.bytes.matches.Matches.advance.Goals as goal
+use Rattle.bites_bytes.proofs.bytes.matches.Cursor.advance.Goals as goal
 
-pub invariant_of-self-in-Some : goal.invariant_of-self-in-Some
-invariant_of-self-in-Some c =
+pub invariant_of-self : goal.invariant_of-self
+invariant_of-self c =
     let s = c.args.self.now in let hay = s.haystack.now in
     let eq = c.deref.ensures ∙ c.compiled.ensures in
     let l = left_at s.regex.now (subst IsCompiled eq c.due.ensures.compiled) hay s.last c.due.result (length c.args.slots.now) c.due.new.slots
     c.in-Some.start c.in-Some.end (subst (λ (q : Regex). LeavesRun q.program (run_due q hay s.last) c.due.result (length c.args.slots.now) c.due.new.slots) eq c.due.ensures.due)
     c.if-not-due.false c.requires.whole c.in-Some.ensures in
     record {
-      fits = c.due.ensures.fits ∙ s.fits;
       within = λ x e. let lies = l.4.2 in bound c.in-Some.end x (length hay) e lies;
+      bounded = s.bounded;
     }
   where
     bound : (a x n : ℕ) → Some a ≡ Some x → a ≤ n → x ≤ n

@@ -1,0 +1,37 @@
+-- What is written one behind the other.
+use Rattle.std.proofs.Common.{◌≡◌, ℕ, ◌-◌, ◌<◌, Bool, true, false, List, [], ◌∷◌, ◌++◌, length, Option, Some, None, refl, sym, ap, ◌∙◌, inl, inr, ◌⊎◌, eqb-true, append_assoc, arith}
+use Rattle.std.proofs.lemmas.Grind.{common_steps}
+use Rattle.std.proofs.lemmas.List.{append-nil}
+use borrow.Author.Tests.{ltb-true}
+use Rattle.std.specs.Prelude.{◌==◌, ◌&&◌, nat_lt, slice_index}
+use Rattle.std.specs.Io.BufRead.{strip_last, ends_with_byte}
+use Rattle.std.specs.Io.KnownBytes.{Appends}
+use Rattle.bites_filter.specs.Lines.{line_feed_of}
+
+pub appends_none : (o : Option (List ℕ)) → Appends o o []
+appends_none None = tt
+appends_none (Some xs) = sym (append-nil xs)
+
+pub appends_both : (a b c : Option (List ℕ)) (x y : List ℕ) → Appends a b x → Appends b c y → Appends a c (x ++ y)
+appends_both None b c x y f g = tt
+appends_both (Some a) None c x y f g = absurd f
+appends_both (Some a) (Some b) None x y f g = absurd g
+appends_both (Some a) (Some b) (Some c) x y f g = g ∙ ap (λ l. l ++ y) f ∙ append_assoc a x y
+
+bool_cases : (b : Bool) → (b ≡ true) ⊎ (b ≡ false)
+bool_cases true = inl refl
+bool_cases false = inr refl
+
+both_true : (a b : Bool) → a && b ≡ true → (a ≡ true) × (b ≡ true)
+both_true true b e = (refl, e)
+both_true false b e = let never : false ≡ true = e in absurd (cc)
+
+-- a line is its text and its line feed
+pub line_is : (line : List ℕ) → line ≡ strip_last 10 line ++ line_feed_of line
+line_is line = elim (bool_cases (ends_with_byte 10 line)) [
+  | inl is ↦ let both = both_true (nat_lt 0 (length line)) (slice_index line (length line - 1) == 10) is in
+      let some : 0 < length line = ltb-true 0 (length line) both.0 in
+      let last : slice_index line (length line - 1) ≡ 10 = eqb-true (slice_index line (length line - 1)) 10 both.1 in
+      rw is (grind (arith, common_steps, some, last))
+  | inr is ↦ rw is (sym (append-nil line))
+]
