@@ -4,6 +4,12 @@
 macro_rules! regex_builder {
     () => {
         /// Builds a regex of a pattern with flags and limits.
+        ///
+        /// ```
+        /// let mut builder = regex_bites::RegexBuilder::new("holmes");
+        /// let regex = builder.case_insensitive(true).build().unwrap();
+        /// assert!(regex.is_match("Sherlock Holmes"));
+        /// ```
         #[derive(Debug)]
         pub struct RegexBuilder {
             pattern: String,

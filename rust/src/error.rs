@@ -4,6 +4,11 @@ use std::fmt;
 /// Why a pattern was refused.
 ///
 /// [`Display`](fmt::Display) writes the engine's text of it.
+///
+/// ```
+/// let error = regex_bites::Regex::new("a(b").unwrap_err();
+/// assert_eq!("found open group without closing ')'", error.to_string());
+/// ```
 #[derive(Clone, Eq, PartialEq)]
 pub struct Error {
     // The engine's number of the message.

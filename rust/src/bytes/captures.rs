@@ -8,6 +8,11 @@ use std::ops::{Index, Range};
 use std::sync::Arc;
 
 /// A match, or a group of one, in its haystack.
+///
+/// ```
+/// let found = regex_bites::bytes::Regex::new(r"\d+").unwrap().find(b"\xFF 42").unwrap();
+/// assert_eq!((2..4, &b"42"[..]), (found.range(), found.as_bytes()));
+/// ```
 #[derive(Clone, Copy, Eq, PartialEq)]
 pub struct Match<'h> {
     haystack: &'h [u8],
@@ -85,6 +90,12 @@ impl From<Match<'_>> for Range<usize> {
 }
 
 /// The groups of one match.
+///
+/// ```
+/// let pair = regex_bites::bytes::Regex::new(r"(?<key>\w+)=").unwrap();
+/// let captures = pair.captures(b"\xFF k=\xFE").unwrap();
+/// assert_eq!(b"k", &captures["key"]);
+/// ```
 pub struct Captures<'h> {
     haystack: &'h [u8],
     locations: CaptureLocations,
@@ -236,6 +247,13 @@ impl Index<&str> for Captures<'_> {
 }
 
 /// The offsets of a match's groups, which [`Regex::captures_read`](super::Regex::captures_read) writes. They can be reused.
+///
+/// ```
+/// let pair = regex_bites::bytes::Regex::new(r"(\w+)=").unwrap();
+/// let mut locations = pair.capture_locations();
+/// pair.captures_read(&mut locations, b"\xFF k=\xFE").unwrap();
+/// assert_eq!(Some((2, 3)), locations.get(1));
+/// ```
 #[derive(Clone, Debug)]
 pub struct CaptureLocations(Vec<BitesSpan>);
 

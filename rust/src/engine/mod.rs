@@ -28,7 +28,39 @@ pub(crate) struct Program {
     pattern: Pattern,
     groups: usize,
     static_groups: OnceLock<Option<usize>>,
-    names: OnceLock<Vec<Option<Box<str>>>>,
+    names: Names,
+}
+
+/// The name of each group. The names are read when the regex is made, since a lock that is asked each time takes as long as
+/// going over a few names.
+enum Names {
+    /// So many groups without a name, at most as many as [`UNNAMED`] has.
+    Unnamed(usize),
+    Each(Vec<Option<Box<str>>>),
+}
+
+/// The names of groups that have none.
+static UNNAMED: [Option<Box<str>>; 32] = [NO_NAME; 32];
+
+// Each place of the array is a value of its own, for which the constant stands.
+const NO_NAME: Option<Box<str>> = None;
+
+impl Names {
+    /// Reads the names of a regex of this pattern. One without `<` names no group.
+    fn read(pattern: &str, handle: &mut Handle, groups: usize) -> Names {
+        if groups <= UNNAMED.len() && !pattern.as_bytes().contains(&b'<') {
+            return Names::Unnamed(groups);
+        }
+        Names::Each((0..groups).map(|group| handle.name(group)).collect())
+    }
+
+    #[inline]
+    fn as_slice(&self) -> &[Option<Box<str>>] {
+        match self {
+            Names::Unnamed(groups) => &UNNAMED[..*groups],
+            Names::Each(names) => names,
+        }
+    }
 }
 
 impl Program {
@@ -56,23 +88,10 @@ impl Program {
 
     #[inline]
     pub(crate) fn names(&self) -> &[Option<Box<str>>] {
-        let names = self.names.get().unwrap_or_else(|| self.read_names());
-        race::acquired(&self.names);
-        names
+        self.names.as_slice()
     }
 
-    #[cold]
-    fn read_names(&self) -> &Vec<Option<Box<str>>> {
-        self.names.get_or_init(|| {
-            let all =
-                |handle: &mut Handle| (0..self.groups).map(|group| handle.name(group)).collect();
-            let names = with_locked(&self.handle, all);
-            race::released(&self.names);
-            names
-        })
-    }
-
-    /// Returns the number of the group of this name. It is looked up in the list of names, which threads read without a lock.
+    /// Returns the number of the group of this name. It is looked up in the list of names.
     pub(crate) fn index_of(&self, name: &str) -> Option<usize> {
         let mut names = self.names().iter();
         names.position(|known| known.as_deref() == Some(name))
@@ -140,11 +159,12 @@ impl Clone for Engine {
 impl Engine {
     pub(crate) fn new(pattern: &str, settings: Settings) -> Result<Engine, Error> {
         let mut handle = Handle::new(pattern, settings)?;
+        let groups = handle.groups();
         let program = Program {
             pattern: Pattern::new(pattern),
-            groups: handle.groups(),
+            groups,
             static_groups: OnceLock::new(),
-            names: OnceLock::new(),
+            names: Names::read(pattern, &mut handle, groups),
             handle: Mutex::new(handle),
         };
         Ok(Engine {

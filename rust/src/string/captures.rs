@@ -8,6 +8,11 @@ use std::ops::{Index, Range};
 use std::sync::Arc;
 
 /// A match, or a group of one, in its haystack.
+///
+/// ```
+/// let found = regex_bites::Regex::new(r"\d+").unwrap().find("in 2010").unwrap();
+/// assert_eq!((3, 7, "2010"), (found.start(), found.end(), found.as_str()));
+/// ```
 #[derive(Clone, Copy, Eq, PartialEq)]
 pub struct Match<'h> {
     haystack: &'h str,
@@ -89,6 +94,13 @@ impl From<Match<'_>> for Range<usize> {
 }
 
 /// The groups of one match.
+///
+/// ```
+/// let date = regex_bites::Regex::new(r"(?<year>\d{4})(-\d\d)?").unwrap();
+/// let captures = date.captures("in 2010").unwrap();
+/// assert_eq!("2010", &captures["year"]);
+/// assert!(captures.get(2).is_none());
+/// ```
 pub struct Captures<'h> {
     haystack: &'h str,
     locations: CaptureLocations,
@@ -245,6 +257,13 @@ impl Index<&str> for Captures<'_> {
 }
 
 /// The offsets of a match's groups, which [`Regex::captures_read`](super::Regex::captures_read) writes. They can be reused.
+///
+/// ```
+/// let pair = regex_bites::Regex::new(r"(\w+)=(\w+)").unwrap();
+/// let mut locations = pair.capture_locations();
+/// pair.captures_read(&mut locations, "in k=v").unwrap();
+/// assert_eq!(Some((5, 6)), locations.get(2));
+/// ```
 #[derive(Clone, Debug)]
 pub struct CaptureLocations(Vec<BitesSpan>);
 

@@ -87,6 +87,11 @@ impl<R: Replacer + ?Sized> Replacer for ReplacerRef<'_, R> {
 }
 
 /// A text that stands for itself, also where it would mean something as a template.
+///
+/// ```
+/// let price = regex_bites::Regex::new(r"\d+").unwrap();
+/// assert_eq!("for $1", price.replace("for 20", regex_bites::NoExpand("$1")));
+/// ```
 #[derive(Clone, Debug)]
 pub struct NoExpand<'t>(pub &'t str);
 
