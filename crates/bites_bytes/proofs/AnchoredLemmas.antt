@@ -1,13 +1,13 @@
 -- What searches from one place, and for a match of the whole haystack, leave in slots and say of a regex's tree.
 use Rattle.std.proofs.Common.{◌≡◌, ℕ, ◌≤◌, Bool, true, false, List, ◌++◌, length, take, drop, Option, Some, None, option_map, refl, sym, ap, ◌∙◌, subst, ⊎_elim, ◌⊎◌, true≢false, arith}
-use Rattle.std.specs.Prelude.{◌↔◌, IsTrue, unwrap_or, is_some, IfSome, Result, Ok, Err, IfOk}
+use Rattle.std.specs.Prelude.{◌↔◌, IsTrue, unwrap_or, is_some, IfSome, MatchOption, Result, Ok, Err, IfOk}
 use Rattle.std.proofs.lemmas.List.{take_all}
 use Rattle.bites_spec.specs.Match.{Span}
 use Rattle.bites_spec.specs.Run.{Run, IsRun, Answered, slots}
 use Rattle.bites_spec.specs.Slots.{slot_in, group_in, span_of_run, span_between, answer_of}
 use Rattle.bites_spec.specs.Regex.{Regex, IsCompiled}
 use Rattle.bites_spec.specs.Captured.{Excerpt, excerpt, Captured, captured}
-use Rattle.bites_spec.specs.Anchored.{anchored_run, LeastEndFrom, HasMatchFrom, IsFullMatch, anchored_span_at, anchored_slots_at, full_run, full_slots, FindsSpanFrom, FindsGroupsFrom, FindsGroupsFull}
+use Rattle.bites_spec.specs.Anchored.{anchored_run, LeastEndFrom, HasMatchFrom, IsFullMatch, AreGroupsAt, anchored_run_at, anchored_span_at, anchored_slots_at, full_run, full_slots, FindsSpanFrom, FindsGroupsFrom, FindsGroupsFull}
 use Rattle.bites_spec.proofs.AnchoredLemmas.{longest_full, longest_not_full, anchored_starts, run-whole, run-lies, found_groups_from, found_span_from, found_groups_full, full_run_found, least_end_from_is_least, anchored_finds_some}
 use Rattle.bites_bytes.specs.Due.{LeavesRun}
 use Rattle.bites_bytes.proofs.DueLemmas.{front_group}
@@ -123,6 +123,36 @@ module _ (r : Regex) (is : IsCompiled r) (hay : List ℕ) where
   groups_on_tree_full (Err e) h = tt
   groups_on_tree_full (Ok c) h =
       subst (FindsGroupsFull r hay) (slots_of (full_slots r hay) ∙ ap (option_map (λ y. y.slots)) (sym h)) (found_groups_full r is hay)
+
+  read_from_by : {M : Type 0} (s : ℕ) (f : M → Excerpt) (x : Option Run) → anchored_run_at r hay s ≡ x → (o : Option M) →
+      option_map f o ≡ option_map (excerpt hay) (option_map span_of_run x) → (old new : List (Option ℕ)) →
+      new ≡ unwrap_or (option_map (slots r.program) x) old → MatchOption o (HasMatchFrom r.tree hay s → ⊥) (λ m. AreGroupsAt r hay s new)
+  read_from_by s f None e None same old new w =
+      subst (λ (q : Option Run). FindsGroupsFrom r hay s (option_map (slots r.program) q)) e (found_groups_from r is hay s)
+  read_from_by s f None e (Some m) same old new w = let never : Some (f m) ≡ None = same in absurd (cc)
+  read_from_by s f (Some x) e None same old new w = let never : None ≡ Some (excerpt hay (span_of_run x)) = same in absurd (cc)
+  read_from_by s f (Some x) e (Some m) same old new w =
+      subst (AreGroupsAt r hay s) (sym w)
+      (subst (λ (q : Option Run). FindsGroupsFrom r hay s (option_map (slots r.program) q)) e (found_groups_from r is hay s))
+
+  -- what locations have after a search from one place
+  pub read_on_tree_from : {M : Type 0} (s : ℕ) (f : M → Excerpt) (o : Option M) → option_map f o ≡ option_map (excerpt hay) (anchored_span_at r hay s) →
+      (old new : List (Option ℕ)) → new ≡ unwrap_or (anchored_slots_at r hay s) old →
+      MatchOption o (HasMatchFrom r.tree hay s → ⊥) (λ m. AreGroupsAt r hay s new)
+  read_on_tree_from s f o = read_from_by s f (anchored_run_at r hay s) refl o
+
+  captured_is : (o : Option (List (Option ℕ))) (c : Option Captured) → c ≡ option_map (captured r hay) o →
+      IfSome c (λ x. x.regex ≡ r) × IfSome c (λ x. x.haystack ≡ hay)
+  captured_is o None e = (tt, tt)
+  captured_is None (Some c) e = let never : Some c ≡ None = e in absurd (cc)
+  captured_is (Some l) (Some c) e =
+      let same = some_same c (captured r hay l) e in (ap (λ (x : Captured). x.regex) same, ap (λ (x : Captured). x.haystack) same)
+
+  -- captures are of the regex that found them, in the haystack that was searched
+  pub captures_are : {E : Type 0} (o : Option (List (Option ℕ))) (x : Result (Option Captured) E) → IfOk x (λ c. c ≡ option_map (captured r hay) o) →
+      IfOk x (λ c. IfSome c (λ y. y.regex ≡ r)) × IfOk x (λ c. IfSome c (λ y. y.haystack ≡ hay))
+  captures_are o (Err e) h = (tt, tt)
+  captures_are o (Ok c) h = captured_is o c h
 
   -- whether something matches from a place, with any number of slots
   pub least_found_from : (s : ℕ) (o : Option Run) (found : Bool) (old new : List (Option ℕ)) → LeastEndFrom r.program hay s o → Answered r.program o found old new →

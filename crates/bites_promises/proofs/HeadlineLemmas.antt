@@ -97,7 +97,7 @@ module _ (r : Regex) (hay : List ℕ) (s : ℕ) where
               of_parse _ _ a (λ i j ms h. (h.0, h.1 plain)) (subst (λ b. Finds b r.tree hay s (Some a)) on found.found) found.in_slots;
         }
 
-  captured_by : (o : Option (List (Option ℕ))) (c : Captured) → Some c ≡ option_map (captured r hay) o → (c.regex ≡ r) × (c.haystack ≡ hay)
+  pub captured_by : (o : Option (List (Option ℕ))) (c : Captured) → Some c ≡ option_map (captured r hay) o → (c.regex ≡ r) × (c.haystack ≡ hay)
   captured_by None c e = let never : Some c ≡ None = e in absurd (cc)
   captured_by (Some l) c e =
       let some : Some c ≡ Some (captured r hay l) = e in

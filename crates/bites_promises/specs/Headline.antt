@@ -1,9 +1,10 @@
 -- What the headline says of what a search answers.
-use Rattle.std.specs.Prelude.{◌≡◌, ℕ, ◌≤◌, true, false, List, Option, Some, None}
+use Rattle.std.specs.Prelude.{◌≡◌, ℕ, ◌≤◌, true, false, List, length, Option, Some, None}
 use Rattle.bites_spec.specs.Tree.{Tree, IsPlain}
 use Rattle.bites_spec.specs.Match.{Span, Mark, Matches, Parse, groups}
 use Rattle.bites_spec.specs.Preference.{parses}
 use Rattle.bites_spec.specs.Found.{NoMatch, IsFirstPlace, head_of, first_ending, way}
+use Rattle.bites_spec.specs.Anchored.{HasMatchFrom, IsFullMatch}
 use Rattle.bites_spec.specs.Slots.{group_in}
 use Rattle.bites_spec.specs.Regex.{Regex}
 use Rattle.bites_spec.specs.Captured.{Captured}
@@ -81,3 +82,82 @@ module _ (regex : Regex) (hay : List ℕ) (start : ℕ) where
   abbrev pub Headline : Option Captured → Type 0
   Headline None = NoMatch regex.tree hay start
   Headline (Some c) = AreFirstCaptures c
+
+module _ (t : Tree) (hay : List ℕ) (s : ℕ) where
+  -- In the slots stand the groups of one parse from s, of which Q holds.
+  pub record AreOfParseAt (Q : (j : ℕ) → List Mark → Type 0) (slots : List (Option ℕ)) : Type 0 where
+    pub end : ℕ
+    pub marks : List Mark
+    pub parse : Parse hay t s end marks
+    pub groups : (k : ℕ) → group_in slots k ≡ groups s end marks k
+    pub chosen : Q end marks
+
+  -- of one parse, whichever it is
+  abbrev pub AreOfOneParseAt : List (Option ℕ) → Type 0
+  AreOfOneParseAt = AreOfParseAt (λ j ms. Unit {0})
+
+  -- of the parse that the pattern prefers
+  abbrev pub AreOfPreferredParseAt : List (Option ℕ) → Type 0
+  AreOfPreferredParseAt = AreOfParseAt (λ j ms. head_of (parses hay t s) ≡ Some (way j ms))
+
+  -- of a parse to the greatest end
+  abbrev pub AreOfLongestParseAt : List (Option ℕ) → Type 0
+  AreOfLongestParseAt = AreOfParseAt (λ j ms. (l : ℕ) → Matches hay t s l → l ≤ j)
+
+  -- of the one that the pattern prefers among the parses to that end
+  abbrev pub AreOfPreferredLongestParseAt : List (Option ℕ) → Type 0
+  AreOfPreferredLongestParseAt =
+      AreOfParseAt (λ j ms. ((l : ℕ) → Matches hay t s l → l ≤ j) × (first_ending j (parses hay t s) ≡ Some (way j ms)))
+
+module _ (regex : Regex) (hay : List ℕ) (start : ℕ) where
+  -- A match that begins at the start itself. Where the tree is plain it ends as the pattern prefers; where the longest match is
+  -- asked for, it ends last.
+  pub record IsMatchHere (g : Span) : Type 0 where
+    pub within : start ≤ length hay
+    pub begins : g.start ≡ start
+    pub matches : MatchesOver regex.tree hay g
+    pub preferred : regex.leftmost_longest ≡ false → IsPlain regex.tree → EndsAsPreferred regex.tree hay g
+    pub longest : regex.leftmost_longest ≡ true → EndsLast regex.tree hay g
+
+  -- the search from there alone answers such a match, or that the tree matches nothing there
+  abbrev pub AnchoredMatchHeadline : Option Span → Type 0
+  AnchoredMatchHeadline None = HasMatchFrom regex.tree hay start → ⊥
+  AnchoredMatchHeadline (Some g) = IsMatchHere g
+
+  -- In the slots stand the groups of one parse from the start itself. Where the tree is plain it is the preferred parse; where
+  -- the longest match is asked for, a longest one, and the preferred of those.
+  pub record AreGroupsHere (slots : List (Option ℕ)) : Type 0 where
+    pub within : start ≤ length hay
+    pub one_parse : AreOfOneParseAt regex.tree hay start slots
+    pub preferred : regex.leftmost_longest ≡ false → IsPlain regex.tree → AreOfPreferredParseAt regex.tree hay start slots
+    pub longest : regex.leftmost_longest ≡ true → AreOfLongestParseAt regex.tree hay start slots
+    pub preferred_longest : regex.leftmost_longest ≡ true → IsPlain regex.tree → AreOfPreferredLongestParseAt regex.tree hay start slots
+
+  -- captures that this regex found in this haystack, with such groups
+  pub record AreCapturesHere (c : Captured) : Type 0 where
+    pub regex_is : c.regex ≡ regex
+    pub haystack_is : c.haystack ≡ hay
+    pub groups : AreGroupsHere c.slots
+
+  -- the search from there alone answers such captures, or that the tree matches nothing there
+  abbrev pub AnchoredHeadline : Option Captured → Type 0
+  AnchoredHeadline None = HasMatchFrom regex.tree hay start → ⊥
+  AnchoredHeadline (Some c) = AreCapturesHere c
+
+module _ (regex : Regex) (hay : List ℕ) where
+  -- In the slots stand the groups of one parse of the whole haystack; where the tree is plain, of the one that the pattern prefers.
+  pub record AreFullGroups (slots : List (Option ℕ)) : Type 0 where
+    pub one_parse : AreOfParseAt regex.tree hay 0 (λ j ms. j ≡ length hay) slots
+    pub preferred : IsPlain regex.tree →
+        AreOfParseAt regex.tree hay 0 (λ j ms. (j ≡ length hay) × (first_ending (length hay) (parses hay regex.tree 0) ≡ Some (way j ms))) slots
+
+  -- captures that this regex found in this haystack, with such groups
+  pub record AreFullCaptures (c : Captured) : Type 0 where
+    pub regex_is : c.regex ≡ regex
+    pub haystack_is : c.haystack ≡ hay
+    pub groups : AreFullGroups c.slots
+
+  -- such captures are answered, or that the tree does not match the whole haystack
+  abbrev pub FullHeadline : Option Captured → Type 0
+  FullHeadline None = IsFullMatch regex.tree hay → ⊥
+  FullHeadline (Some c) = AreFullCaptures c

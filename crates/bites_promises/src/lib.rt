@@ -5,6 +5,7 @@
 #![tactic(auto)]
 
 pub mod agreement;
+pub mod bounds;
 pub mod escaped;
 pub mod headline;
 pub mod refuted;

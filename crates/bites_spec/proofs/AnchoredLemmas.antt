@@ -9,7 +9,7 @@ use Rattle.std.specs.List.{range_with_len}
 use Rattle.bites_spec.specs.Utf8.{places}
 use Rattle.bites_spec.specs.Walks.{Among}
 use Rattle.bites_spec.specs.Tree.{Tree, IsPlain}
-use Rattle.bites_spec.specs.Match.{span, Mark, Matches, Parse, groups}
+use Rattle.bites_spec.specs.Match.{Mark, Matches, Parse, groups}
 use Rattle.bites_spec.specs.Preference.{parses}
 use Rattle.bites_spec.specs.Program.{Program, at, IsWellFormed}
 use Rattle.bites_spec.specs.Built.{Built, IsCompilable}
@@ -18,7 +18,7 @@ use Rattle.bites_spec.specs.Slots.{group_in, span_of_run, answer_of}
 use Rattle.bites_spec.specs.Spans.{LiesFrom}
 use Rattle.bites_spec.specs.Found.{Answer, IsFoundBy, FoundSome, Finds, head_of, first_ending, way}
 use Rattle.bites_spec.specs.Regex.{Regex, IsCompiled}
-use Rattle.bites_spec.specs.Captured.{AreGroups, IsInSlots}
+use Rattle.bites_spec.specs.Captured.{AreGroups}
 use Rattle.bites_spec.specs.Anchored.{anchored_run, NoRunFrom, HasMatchFrom, IsFoundFromBy, FoundFromBy, FindsFrom, IsFullMatch, FoundFull, anchored_run_at, anchored_span_at, anchored_slots_at, full_run, full_slots, FindsSpanFrom, FindsGroupsFrom, FindsGroupsFull}
 use Rattle.bites_spec.specs.AnchoredLaws.{AnchoredRunIsFound, AnchoredSlotsAreFound, AnchoredSlotsAreGroups, LeastEndFromIsLeast, FullRunIsFound, AnchoredFindsSome, AnchoredIsFound, AnchoredHasBorders}
 use Rattle.bites_spec.proofs.PieceLemmas.{Among-places}
@@ -212,6 +212,11 @@ module _ (r : Regex) (is : IsCompiled r) (hay : List ℕ) (x : Run) (le : x.star
         enough = λ n known. static_len_takes_part r.tree r.program hay is.compilable is.built n known x runs;
       }
 
+-- nothing is found from a place only where nothing matches from there
+nothing_from : (longest : Bool) (t : Tree) (hay : List ℕ) (s : ℕ) → FindsFrom longest t hay s None → HasMatchFrom t hay s → ⊥
+nothing_from true t hay s none = none
+nothing_from false t hay s none = none
+
 module _ (r : Regex) (is : IsCompiled r) (hay : List ℕ) where
   abbrev Begins : Run → Type 0
   Begins x = (x.start ≤ length hay) × IsRun r.program hay x.start x.spots x.end
@@ -225,33 +230,44 @@ module _ (r : Regex) (is : IsCompiled r) (hay : List ℕ) where
   full_begins x e =
       let b = full_is r.program hay is.well_formed x e in let start = b.0 in (omega arith, b.2.0.runs)
 
-  in_slots : (o : Option Run) → ((x : Run) → o ≡ Some x → Begins x) → IsInSlots (option_map (answer_of r.program) o) (option_map (slots r.program) o)
-  in_slots None begins = tt
-  in_slots (Some x) begins = let b = begins x refl in (run-whole r is hay x b.0 b.1, λ k. refl)
-
   are_groups : (o : Option Run) → ((x : Run) → o ≡ Some x → Begins x) → (list : List (Option ℕ)) → option_map (slots r.program) o ≡ Some list → AreGroups r hay list
   are_groups None begins list e = absurd (none-some list e)
   are_groups (Some x) begins list e = let b = begins x refl in subst (AreGroups r hay) (same_Some _ list e) (run-AreGroups r is hay x b.0 b.1)
 
-  same_span : (o : Option Run) → option_map span_of_run o ≡ option_map (λ b. span b.start b.end) (option_map (answer_of r.program) o)
-  same_span None = refl
-  same_span (Some x) = refl
+  run_finds : (s : ℕ) (o : Option Run) → anchored_run_at r hay s ≡ o → FindsFrom r.leftmost_longest r.tree hay s (option_map (answer_of r.program) o)
+  run_finds s o e =
+      subst (λ (p : Option Run). FindsFrom r.leftmost_longest r.tree hay s (option_map (answer_of r.program) p)) e (anchored_run_is_found r is hay s)
+
+  groups_from_by : (s : ℕ) (o : Option Run) → anchored_run_at r hay s ≡ o → FindsGroupsFrom r hay s (option_map (slots r.program) o)
+  groups_from_by s None e = nothing_from r.leftmost_longest r.tree hay s (run_finds s None e)
+  groups_from_by s (Some x) e =
+      let b = anchored_begins s x e in
+      record { answer = answer_of r.program x; found = run_finds s (Some x) e; in_slots = (run-whole r is hay x b.0 b.1, λ k. refl) }
 
   pub found_groups_from : (s : ℕ) → FindsGroupsFrom r hay s (anchored_slots_at r hay s)
-  found_groups_from s = (
-    option_map (answer_of r.program) (anchored_run_at r hay s),
-    anchored_run_is_found r is hay s,
-    in_slots (anchored_run_at r hay s) (λ x e. anchored_begins s x e),
-  )
+  found_groups_from s = groups_from_by s (anchored_run_at r hay s) refl
+
+  span_from_by : (s : ℕ) (o : Option Run) → anchored_run_at r hay s ≡ o → FindsSpanFrom r hay s (option_map span_of_run o)
+  span_from_by s None e = nothing_from r.leftmost_longest r.tree hay s (run_finds s None e)
+  span_from_by s (Some x) e = record { answer = answer_of r.program x; found = run_finds s (Some x) e; is_span = refl }
 
   pub found_span_from : (s : ℕ) → FindsSpanFrom r hay s (anchored_span_at r hay s)
-  found_span_from s = (option_map (answer_of r.program) (anchored_run_at r hay s), anchored_run_is_found r is hay s, same_span (anchored_run_at r hay s))
+  found_span_from s = span_from_by s (anchored_run_at r hay s) refl
+
+  full_by : (o : Option Run) → full_run r hay ≡ o → FoundFull r.tree hay (option_map (answer_of r.program) o)
+  full_by o e = full_found r.tree r.program hay is.compilable is.built is.well_formed o e
 
   pub full_run_found : FoundFull r.tree hay (option_map (answer_of r.program) (full_run r hay))
-  full_run_found = full_found r.tree r.program hay is.compilable is.built is.well_formed (full_run r hay) refl
+  full_run_found = full_by (full_run r hay) refl
+
+  groups_full_by : (o : Option Run) → full_run r hay ≡ o → FindsGroupsFull r hay (option_map (slots r.program) o)
+  groups_full_by None e = full_by None e
+  groups_full_by (Some x) e =
+      let b = full_begins x e in
+      record { answer = answer_of r.program x; found = full_by (Some x) e; in_slots = (run-whole r is hay x b.0 b.1, λ k. refl) }
 
   pub found_groups_full : FindsGroupsFull r hay (full_slots r hay)
-  found_groups_full = (option_map (answer_of r.program) (full_run r hay), full_run_found, in_slots (full_run r hay) (λ x e. full_begins x e))
+  found_groups_full = groups_full_by (full_run r hay) refl
 
 pub anchored_slots_are_found : AnchoredSlotsAreFound
 anchored_slots_are_found r is hay s = (found_groups_from r is hay s, found_span_from r is hay s)

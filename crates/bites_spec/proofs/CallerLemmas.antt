@@ -21,7 +21,7 @@ pub start_is_place : StartIsPlace
 unfolding places
 start_is_place hay s le = rw (le-leb s (length hay) le) (inl refl)
 
-at_start : (hay : List ℕ) (i : ℕ) → Holds start hay i → i ≡ 0
+pub at_start : (hay : List ℕ) (i : ℕ) → Holds start hay i → i ≡ 0
 unfolding holds
 at_start hay i h = eqb-true i 0 h
 
@@ -29,7 +29,7 @@ at_end : (hay : List ℕ) (i : ℕ) → Holds end hay i → i ≡ length hay
 unfolding holds
 at_end hay i h = eqb-true i (length hay) h
 
-holds_start : (hay : List ℕ) → Holds start hay 0
+pub holds_start : (hay : List ℕ) → Holds start hay 0
 unfolding holds
 holds_start hay = refl
 

@@ -2,15 +2,16 @@
 -- proofs: its names stay, while all others may change.
 use Rattle.std.proofs.Common.{List, ap, arith, map, refl, subst, sym, ℕ, ◌∙◌, ◌≡◌}
 use Rattle.std.proofs.lemmas.List.{length-map}
+use Rattle.bites_spec.specs.AnchoredLaws.{AnchoredRunIsFound, AnchoredSlotsAreFound, AnchoredSlotsAreGroups, LeastEndFromIsLeast, FullRunIsFound, AnchoredFindsSome, AnchoredIsFound, AnchoredHasBorders}
 use Rattle.bites_spec.specs.AllMatches.{MatchesHaveBorders, CapturesAreMatches, FindsAreSuccessive, GroupsAreSuccessive, MatchesStandApart, NoneIsLeftOut}
-use Rattle.bites_spec.specs.CallerLaws.{NamesAreAscii, AnchoredIsWhole, AnchoredMatchesWhole, EachParticipates, LiteralIsRead, RangesAreListed, StartIsPlace, UnionsAreListed}
+use Rattle.bites_spec.specs.CallerLaws.{NamesAreAscii, AnchoredIsBegun, AnchoredIsRead, AnchoredIsWhole, AnchoredMatchesWhole, EachParticipates, LiteralIsRead, RangesAreListed, StartIsPlace, UnionsAreListed}
 use Rattle.bites_spec.specs.Captured.{SlotsAreFound, SlotsAreGroups}
 use Rattle.bites_spec.specs.Class.{ListsOnce}
 use Rattle.bites_spec.specs.EscapedLaws.{EscapedIsText, EscapedFindsText, EscapedIsAccepted, EscapedIsFlat, EscapedIsRead, EscapedMatchesText}
 use Rattle.bites_spec.specs.Found.{way}
 use Rattle.bites_spec.specs.FoundLaws.{AnswersBeginAlike, FoundLies, LeastEndIsAtMost, StaticLenIsLeast}
 use Rattle.bites_spec.specs.GrammarLaws.{FaultsOnce, ListsAll, ReadIsCompilable, ReadOrRefused, ReaderReads, ReaderRefuses, ReadsOnce, RefusedHasNoTree, StuckBracketIsNotRead}
-use Rattle.bites_spec.specs.GroupLaws.{DroppedHaveNoPlace, LeftAreKept, OpenedAreKept, OpenedOnce}
+use Rattle.bites_spec.specs.GroupLaws.{DroppedHaveNoPlace, KeptAnswerAlike, LeftAreKept, OpenedAreKept, OpenedOnce}
 use Rattle.bites_spec.specs.Iteration.{CapturesHaveSpans}
 use Rattle.bites_spec.specs.Laws.{AnsweredKeepsLength, FirstRunIsFirst, FirstRunIsFound, FirstRunIsOne, FoundIsSome, LeastEndIsLeast, LongestIsFound, MatchIsParse, ParsesAreListed, ParsesEndAtMatches, PlainRunsAreSimple, ReplacesOnce, RunsAreParses, StaticCountIsLeast}
 use Rattle.bites_spec.specs.Match.{Matches}
@@ -18,18 +19,20 @@ use Rattle.bites_spec.specs.Pieces.{limited, text_at}
 use Rattle.bites_spec.specs.Preference.{Way, parses}
 use Rattle.bites_spec.specs.RangesOf.{RangesOfList, ranges_of}
 use Rattle.bites_spec.specs.Refused.{IterationsEnd}
-use Rattle.bites_spec.specs.Refutations.{BoundsAreReached, BoundsRefuse, VisitsRefuse, AnsweredRefuses, FoundRefuses, PreferredRefuses, LeftmostRefuses, SpansRefuse, LeavingOutRefuses, BordersRefuse, ParticipantsRefuse, ItsGroupsRefuse, AppendsRefuse}
+use Rattle.bites_spec.specs.Refutations.{BoundsAreReached, SearchesReachBounds, BoundsRefuse, VisitsRefuse, AnsweredRefuses, FoundRefuses, PreferredRefuses, LeftmostRefuses, SpansRefuse, LeavingOutRefuses, BordersRefuse, ParticipantsRefuse, ItsGroupsRefuse, AppendsRefuse}
 use Rattle.bites_spec.specs.RegexLaws.{AnswersHaveGroup0, FindsSome, RunIsFound}
 use Rattle.bites_spec.specs.RunLaws.{ChosenRunLies, Group0IsSpan, LeastRunEndIsAtMost, LongestRunIsLongest, LongestRunIsOne, NoFaultIsWellFormed, NothingPastTheEnd, RunLies, RunsAreParsesInOrder, RunsBeginAlike, SlotsAreWritten, StaticLenTakesPart}
 use Rattle.bites_spec.specs.SpanLaws.{PiecesAndMatches, ReplacedAlternates, ReplacedIsJoined, SpansGrow, SuccessiveGoesOn, SuccessiveIsMapped, SuccessiveIsOne}
 use Rattle.bites_spec.specs.Spans.{Successive, successive}
-use Rattle.bites_spec.specs.TemplateLaws.{CutsOnce, ExpandsOnce, NumbersAreFirst, TextsHaveNames}
+use Rattle.bites_spec.specs.TemplateLaws.{CutsOnce, ExpandsOnce, NumbersAreFirst, PlainStandsForItself, TextsHaveNames}
 use Rattle.bites_spec.specs.TextLaws.{FoundHasBorders, GroupsHaveBorders, LeastEndIsBorder, MatchesEndAtBorders, PiecesEndAtBorders, PlacesAreBorders}
 use Rattle.bites_spec.specs.Tree.{IsPlain, IsReduced, Tree}
 use Rattle.bites_spec.specs.Walks.{Among}
 use Rattle.bites_spec.proofs.AlikeLemmas
 use Rattle.bites_spec.proofs.AllMatchesLemmas
+use Rattle.bites_spec.proofs.AnchoredLemmas
 use Rattle.bites_spec.proofs.AsciiNames
+use Rattle.bites_spec.proofs.BegunLemmas
 use Rattle.bites_spec.proofs.BoundLemmas
 use Rattle.bites_spec.proofs.BracketLemmas
 use Rattle.bites_spec.proofs.BuiltLemmas
@@ -48,6 +51,7 @@ use Rattle.bites_spec.proofs.LeftLemmas
 use Rattle.bites_spec.proofs.ListedLemmas
 use Rattle.bites_spec.proofs.ListedRunLemmas
 use Rattle.bites_spec.proofs.LongestLemmas
+use Rattle.bites_spec.proofs.LookLemmas
 use Rattle.bites_spec.proofs.OneLemmas
 use Rattle.bites_spec.proofs.PartCountLemmas
 use Rattle.bites_spec.proofs.PieceTextLemmas
@@ -67,9 +71,11 @@ use Rattle.bites_spec.proofs.TemplateLemmas
 use Rattle.bites_spec.proofs.TemplateTexts
 use Rattle.bites_spec.proofs.TextMatches
 use Rattle.bites_spec.proofs.TextPlaces
+use Rattle.bites_spec.proofs.TwinRuns
 use Rattle.bites_spec.proofs.ValueLemmas
 use Rattle.bites_spec.proofs.WholeLaws
 use Rattle.bites_spec.proofs.WholeOnce
+use Rattle.bites_spec.proofs.WrappedLemmas
 
 pub match_is_parse : MatchIsParse
 match_is_parse = (λ hay t i j h. EventLemmas.Matches-Parse hay t i j h, λ hay t i j ms h. EventLemmas.Parse-Matches hay t i j ms h)
@@ -395,3 +401,42 @@ appends_refuse = Refuted.appends_refuse
 
 pub names_are_ascii : NamesAreAscii
 names_are_ascii = AsciiNames.names_are_ascii
+
+pub anchored_run_is_found : AnchoredRunIsFound
+anchored_run_is_found = AnchoredLemmas.anchored_run_is_found
+
+pub anchored_slots_are_found : AnchoredSlotsAreFound
+anchored_slots_are_found = AnchoredLemmas.anchored_slots_are_found
+
+pub anchored_slots_are_groups : AnchoredSlotsAreGroups
+anchored_slots_are_groups = AnchoredLemmas.anchored_slots_are_groups
+
+pub least_end_from_is_least : LeastEndFromIsLeast
+least_end_from_is_least = AnchoredLemmas.least_end_from_is_least
+
+pub full_run_is_found : FullRunIsFound
+full_run_is_found = AnchoredLemmas.full_run_is_found
+
+pub anchored_finds_some : AnchoredFindsSome
+anchored_finds_some = AnchoredLemmas.anchored_finds_some
+
+pub anchored_is_found : AnchoredIsFound
+anchored_is_found = AnchoredLemmas.anchored_is_found
+
+pub anchored_has_borders : AnchoredHasBorders
+anchored_has_borders = AnchoredLemmas.anchored_has_borders
+
+pub anchored_is_read : AnchoredIsRead
+anchored_is_read = WrappedLemmas.anchored_is_read
+
+pub anchored_is_begun : AnchoredIsBegun
+anchored_is_begun = BegunLemmas.anchored_is_begun
+
+pub plain_templates_stand_for_themselves : PlainStandsForItself
+plain_templates_stand_for_themselves = TemplateLemmas.plain_stands_for_itself
+
+pub kept_answer_alike : KeptAnswerAlike
+kept_answer_alike = TwinRuns.kept_answer_alike
+
+pub searches_reach_bounds : SearchesReachBounds
+searches_reach_bounds = LookLemmas.searches_reach_bounds

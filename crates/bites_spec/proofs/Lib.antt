@@ -20,6 +20,8 @@ pub mod FoundLemmas
 pub mod OneLemmas
 pub mod ApartLemmas
 pub mod ListedRunLemmas
+mod TwinForms
+mod TwinRuns
 pub mod RegexLemmas
 pub mod BoundLemmas
 pub mod RunBoundLemmas
@@ -85,6 +87,9 @@ pub mod EscapedMatches
 pub mod ExpansionLemmas
 pub mod AsciiNames
 pub mod CallerLemmas
+mod WrappedLemmas
+mod BegunLemmas
+mod LookLemmas
 pub mod AllMatchesLemmas
 pub mod Refuted
 pub mod Laws

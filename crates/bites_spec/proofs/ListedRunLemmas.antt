@@ -221,7 +221,7 @@ edges_differ hay program.fail i apart = tt
 edges_differ hay program.match i apart = tt
 
 -- 1 for a test that passes, else 0
-abbrev unit_if : Bool → ℕ
+abbrev pub unit_if : Bool → ℕ
 unit_if b = cond b 1 0
 
 -- how often a number comes
@@ -232,7 +232,7 @@ times-cons : (x : ℕ) (xs : List ℕ) (q : ℕ) → times (x ∷ xs) q ≡ unit
 times-cons x xs q = sum_by-cons (λ u. cond (u == q) 1 0) x xs
 
 -- what comes once at most does not come again
-counted_some : (xs : List ℕ) (q : ℕ) → Among xs q → 1 ≤ times xs q
+pub counted_some : (xs : List ℕ) (q : ℕ) → Among xs q → 1 ≤ times xs q
 counted_some [] q h = absurd h
 counted_some (x ∷ xs) q h =
     ⊎_elim
@@ -241,7 +241,7 @@ counted_some (x ∷ xs) q h =
     let all = times-cons x xs q in omega (arith, one, all))
     (λ later. let more = counted_some xs q later in let all = times-cons x xs q in omega (arith, more, all)) h
 
-some_counted : (xs : List ℕ) (q : ℕ) → 1 ≤ times xs q → Among xs q
+pub some_counted : (xs : List ℕ) (q : ℕ) → 1 ≤ times xs q → Among xs q
 some_counted [] q h = absurd (omega (arith, h))
 some_counted (x ∷ xs) q h =
     ⊎_elim (λ (b : (x == q) ≡ true). inl (eqb-true x q b))
@@ -261,10 +261,10 @@ once_apart (x ∷ xs) once = (
 )
 
 module _ (t : Tree) (p : Program) (hay : List ℕ) (fit : IsCompilable t) (built : Built t p) where
-  counts : (q : ℕ) → times (built.last ∷ built.used) q ≡ unit_if (nat_lt q (length p.states))
+  pub counts : (q : ℕ) → times (built.last ∷ built.used) q ≡ unit_if (nat_lt q (length p.states))
   counts q = built.each_once q
 
-  all_apart : AllApart (built.last ∷ built.used)
+  pub all_apart : AllApart (built.last ∷ built.used)
   all_apart = once_apart (built.last ∷ built.used) (λ q. at_most (nat_lt q (length p.states)) (counts q))
     where
       at_most : (b : Bool) {n : ℕ} → n ≡ unit_if b → n ≤ 1

@@ -11,6 +11,7 @@ use Rattle.std.proofs.lemmas.Str.{IsUtf8-from_is_utf8, is_utf8-from_IsUtf8}
 use Rattle.bites_spec.specs.Look.{is_word_byte}
 use Rattle.bites_spec.specs.Walks.{Among, IsNew}
 use Rattle.bites_spec.specs.Template.{Part, byte, name, Cuts, ends, plain, doubled, named, braced, alone, IsName, EndsWord, StandsAlone, Cut, cut, before_brace, braced_cut, word_cut, dollar_cut, first_cut, parts_behind, parts_of, stands_for, Expands, expansion}
+use Rattle.bites_spec.specs.TemplateLaws.{PlainStandsForItself}
 use Rattle.bites_spec.specs.Cutting.{CutsFirst, CutsFront, NoName, IsWordAt}
 use Rattle.bites_spec.proofs.CuttingLemmas.{no_brace, cuts_last, cuts_doubled, cuts_braced, cuts_unnamed, cuts_alone, cuts_named, cuts_plain}
 
@@ -284,3 +285,12 @@ pub bytes_stand : (largest : ℕ) (text_of : ℕ → Option (List ℕ)) (index_o
     flat_map (stands_for largest text_of index_of) (map byte bytes) ≡ bytes
 bytes_stand largest text_of index_of [] = refl
 bytes_stand largest text_of index_of (b ∷ bytes) = ap (λ (l : List ℕ). b ∷ l) (bytes_stand largest text_of index_of bytes)
+
+plain_cuts : (any : Bool) (template : List ℕ) → IsNew 36 template → Cuts any template (map byte template)
+plain_cuts any [] new = ends
+plain_cuts any (b ∷ rest) new = plain b rest (map byte rest) (λ is. new (inl is)) (plain_cuts any rest (λ among. new (inr among)))
+
+pub plain_stands_for_itself : PlainStandsForItself
+plain_stands_for_itself any largest text_of index_of template new =
+    sym ((expands_once any largest text_of index_of template template).0
+    (map byte template, plain_cuts any template new, sym (bytes_stand largest text_of index_of template)))

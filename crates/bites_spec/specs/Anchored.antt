@@ -121,15 +121,35 @@ full_run r hay = first_run_to r.program hay 0 (length hay)
 abbrev pub full_slots : Regex → List ℕ → Option (List (Option ℕ))
 full_slots r hay = option_map (slots r.program) (full_run r hay)
 
--- a search of the regex's tree from s alone finds a match with this span
+-- the span is that of a match that a search of the regex's tree from s alone finds
+pub record IsMatchAt (r : Regex) (hay : List ℕ) (s : ℕ) (g : Span) : Type 0 where
+  pub answer : Answer
+  pub found : FindsFrom r.leftmost_longest r.tree hay s (Some answer)
+  pub is_span : g ≡ span answer.start answer.end
+
+-- a search of the regex's tree from s alone finds nothing, or a match with this span
 abbrev pub FindsSpanFrom : Regex → List ℕ → ℕ → Option Span → Type 0
-FindsSpanFrom r hay s o =
-    (a : Option Answer) × FindsFrom r.leftmost_longest r.tree hay s a × (o ≡ option_map (λ b. span b.start b.end) a)
+FindsSpanFrom r hay s None = HasMatchFrom r.tree hay s → ⊥
+FindsSpanFrom r hay s (Some g) = IsMatchAt r hay s g
 
--- and the groups in the slots
+-- in the slots stand the groups of a match that a search of the regex's tree from s alone finds
+pub record AreGroupsAt (r : Regex) (hay : List ℕ) (s : ℕ) (slots : List (Option ℕ)) : Type 0 where
+  pub answer : Answer
+  pub found : FindsFrom r.leftmost_longest r.tree hay s (Some answer)
+  pub in_slots : IsInSlots (Some answer) (Some slots)
+
+-- a search of the regex's tree from s alone finds nothing, or the groups in the slots
 abbrev pub FindsGroupsFrom : Regex → List ℕ → ℕ → Option (List (Option ℕ)) → Type 0
-FindsGroupsFrom r hay s o = (a : Option Answer) × FindsFrom r.leftmost_longest r.tree hay s a × IsInSlots a o
+FindsGroupsFrom r hay s None = HasMatchFrom r.tree hay s → ⊥
+FindsGroupsFrom r hay s (Some slots) = AreGroupsAt r hay s slots
 
--- a match of the whole haystack by the regex's tree has the groups in the slots
+-- in the slots stand the groups of a match of the whole haystack by the regex's tree
+pub record AreGroupsFull (r : Regex) (hay : List ℕ) (slots : List (Option ℕ)) : Type 0 where
+  pub answer : Answer
+  pub found : FoundFull r.tree hay (Some answer)
+  pub in_slots : IsInSlots (Some answer) (Some slots)
+
+-- the regex's tree does not match the whole haystack, or the groups of such a match are in the slots
 abbrev pub FindsGroupsFull : Regex → List ℕ → Option (List (Option ℕ)) → Type 0
-FindsGroupsFull r hay o = (a : Option Answer) × FoundFull r.tree hay a × IsInSlots a o
+FindsGroupsFull r hay None = IsFullMatch r.tree hay → ⊥
+FindsGroupsFull r hay (Some slots) = AreGroupsFull r hay slots

@@ -1,18 +1,19 @@
 -- What callers ask of patterns, places and groups, each proved.
-use Rattle.std.specs.Prelude.{◌≡◌, ℕ, ◌/◌, ◌<◌, ◌≤◌, ◌↔◌, ◌==◌, ◌||◌, codes, true, List, [], ◌∷◌, length, Option, Ok, IsSome, if◌then◌else◌}
+use Rattle.std.specs.Prelude.{◌≡◌, ℕ, ◌/◌, ◌<◌, ◌≤◌, ◌↔◌, ◌==◌, ◌||◌, codes, Bool, true, List, [], ◌∷◌, ◌++◌, length, Option, Ok, IsSome, if◌then◌else◌}
 use Rattle.bites_spec.specs.Utf8.{places}
 use Rattle.bites_spec.specs.Walks.{Among}
 use Rattle.bites_spec.specs.Range.{Range, in_ranges}
 use Rattle.bites_spec.specs.Class.{Set, is_letter, none, single, between, union, is_scalar, AreGreatest}
 use Rattle.bites_spec.specs.RangesOf.{ranges_of}
 use Rattle.bites_spec.specs.Look.{start, end}
-use Rattle.bites_spec.specs.Tree.{Tree, look, sequence, trees_of}
+use Rattle.bites_spec.specs.Tree.{Tree, look, sequence, trees_of, choice_of}
 use Rattle.bites_spec.specs.Match.{Matches}
-use Rattle.bites_spec.specs.Found.{HasMatch}
-use Rattle.bites_spec.specs.Pattern.{Text, Flags, one_of}
+use Rattle.bites_spec.specs.Found.{Answer, HasMatch, Finds}
+use Rattle.bites_spec.specs.Anchored.{FindsFrom}
+use Rattle.bites_spec.specs.Pattern.{Text, Flags, Front, one_of}
 use Rattle.bites_spec.specs.Code.{code}
 use Rattle.bites_spec.specs.Group.{is_name_start, is_name_part}
-use Rattle.bites_spec.specs.Grammar.{Reads}
+use Rattle.bites_spec.specs.Grammar.{Reads, ReadsChoice, at_front}
 use Rattle.bites_spec.specs.Reader.{read}
 use Rattle.bites_spec.specs.Slots.{group_in, taking_part}
 
@@ -32,6 +33,23 @@ AnchoredIsWhole = (t : Tree) (hay : List ℕ) → HasMatch (anchored t) hay 0 �
 abbrev pub AnchoredMatchesWhole : Type 0
 AnchoredMatchesWhole =
     (t : Tree) (hay : List ℕ) (i j : ℕ) → Matches hay (anchored t) i j → (i ≡ 0) × (j ≡ length hay) × Matches hay t 0 (length hay)
+
+-- Where a pattern is read up to a closing parenthesis, it is read between `\A(?:` and `)\z` as well: as this tree, and as no other.
+abbrev pub AnchoredIsRead : Type 0
+AnchoredIsRead =
+    (pattern : Text) (flags : Flags) (branches : List Tree) (behind : Front) →
+    ReadsChoice (at_front flags) (pattern ++ codes ")\\z") branches behind (codes ")\\z") →
+    Reads (codes "\\A(?:" ++ pattern ++ codes ")\\z") flags (anchored (choice_of branches))
+    × ((u : Tree) → Reads (codes "\\A(?:" ++ pattern ++ codes ")\\z") flags u → u ≡ anchored (choice_of branches))
+
+-- what `\A(?:p)` is read as, where p is read as t
+abbrev pub begun : Tree → Tree
+begun t = sequence (trees_of (look start ∷ t ∷ []))
+
+-- a search from the start of the haystack alone finds just what a search of that tree finds
+abbrev pub AnchoredIsBegun : Type 0
+AnchoredIsBegun =
+    (longest : Bool) (t : Tree) (hay : List ℕ) (o : Option Answer) → FindsFrom longest t hay 0 o ↔ Finds longest (begun t) hay 0 o
 
 -- A pattern is read as the tree that the grammar's function answers, and as no other: for a pattern that stands in the code
 -- that tree is computed.

@@ -1,5 +1,5 @@
 -- What has to hold of the groups that a pattern opens, of which a tree keeps some.
-use Rattle.std.specs.Prelude.{◌≡◌, ℕ, suc, ◌+◌, ◌*◌, ◌≤◌, List, length, None}
+use Rattle.std.specs.Prelude.{◌≡◌, ℕ, suc, ◌+◌, ◌*◌, ◌≤◌, List, length, Option, Some, None}
 use Rattle.bites_spec.specs.Walks.{Among}
 use Rattle.bites_spec.specs.Tree.{Tree, groups_in, captures_len}
 use Rattle.bites_spec.specs.Pattern.{Text, Flags}
@@ -9,6 +9,9 @@ use Rattle.bites_spec.specs.Program.{Program}
 use Rattle.bites_spec.specs.Run.{Run, IsRun, slots}
 use Rattle.bites_spec.specs.Slots.{slot_in, group_in}
 use Rattle.bites_spec.specs.Built.{Built, IsCompilable}
+use Rattle.bites_spec.specs.Match.{Span}
+use Rattle.bites_spec.specs.Regex.{Regex, IsCompiled, span_at, slots_at}
+use Rattle.bites_spec.specs.Anchored.{anchored_span_at, anchored_slots_at, full_slots}
 
 -- a pattern opens its groups in one way, whatever tree it is read as
 abbrev pub OpenedOnce : Type 0
@@ -33,3 +36,25 @@ DroppedHaveNoPlace =
     (t : Tree) (p : Program) (hay : List ℕ) → IsCompilable t → Built t p → (r : Run) → IsRun p hay r.start r.spots r.end →
     (k : ℕ) → 1 ≤ k → (Among (groups_in t) k → ⊥) →
     (slot_in (slots p r) (2 * k) ≡ None) × (slot_in (slots p r) (2 * k + 1) ≡ None) × (group_in (slots p r) k ≡ None)
+
+-- in both stand the same groups by their numbers, however many there are room for, or neither is there
+abbrev pub HaveSameGroups : Option (List (Option ℕ)) → Option (List (Option ℕ)) → Type 0
+HaveSameGroups None None = Unit {0}
+HaveSameGroups None (Some y) = ⊥
+HaveSameGroups (Some x) None = ⊥
+HaveSameGroups (Some x) (Some y) = (k : ℕ) → group_in x k ≡ group_in y k
+
+-- the same span, and the same groups
+abbrev pub AnswerAlike : Option Span → Option (List (Option ℕ)) → Option Span → Option (List (Option ℕ)) → Type 0
+AnswerAlike g x h y = (g ≡ h) × HaveSameGroups x y
+
+-- Two regexes of one pattern that differ in the groups that are kept, and so in numbers, names and size, have one tree, and
+-- their searches answer alike: from each start, from one place alone, and over the whole haystack.
+abbrev pub KeptAnswerAlike : Type 0
+KeptAnswerAlike =
+    (r k : Regex) → IsCompiled r → IsCompiled k → r.pattern ≡ k.pattern → r.flags ≡ k.flags → r.leftmost_longest ≡ k.leftmost_longest →
+    (r.tree ≡ k.tree)
+    × ((hay : List ℕ) (s : ℕ) → AnswerAlike (span_at r hay s) (slots_at r hay s) (span_at k hay s) (slots_at k hay s))
+    × ((hay : List ℕ) (s : ℕ) →
+    AnswerAlike (anchored_span_at r hay s) (anchored_slots_at r hay s) (anchored_span_at k hay s) (anchored_slots_at k hay s))
+    × ((hay : List ℕ) → HaveSameGroups (full_slots r hay) (full_slots k hay))

@@ -1,11 +1,12 @@
 -- Values for which a word of the promises is false, each proved: a weaker word, which holds of them, would not do.
-use Rattle.std.specs.Prelude.{ℕ, Bool, true, false, List, [], ◌∷◌, codes, Some, None, Ok, Err, if◌then◌else◌, ◌==◌}
+use Rattle.std.specs.Prelude.{◌≡◌, ℕ, ◌+◌, ◌*◌, Bool, true, false, List, [], ◌∷◌, length, codes, Some, None, Ok, Err, if◌then◌else◌, ◌==◌}
+use Rattle.bites_spec.specs.Utf8.{places}
 use Rattle.bites_spec.specs.Tree.{Tree, empty, char, group, sequence, alternation, trees_of}
 use Rattle.bites_spec.specs.Match.{span, groups}
 use Rattle.bites_spec.specs.Program as program
-use Rattle.bites_spec.specs.Program.{Program, at}
+use Rattle.bites_spec.specs.Program.{Program, at, targets}
 use Rattle.bites_spec.specs.Run.{run, Answered}
-use Rattle.bites_spec.specs.Counts.{IsBounded, VisitedBy}
+use Rattle.bites_spec.specs.Counts.{Record, IsBounded, VisitedBy, IsWalked}
 use Rattle.bites_spec.specs.Found.{Answer, Found, FoundLongest, IsLeastEnd}
 use Rattle.bites_spec.specs.FoundLaws.{TakePartAtLeast}
 use Rattle.bites_spec.specs.Occurrence.{IsLeftmost}
@@ -36,6 +37,16 @@ BoundsRefuse =
 -- a state that leads to the last one
 abbrev pub one_way : program.State → Program
 one_way last = record { states = program.goto 1 None ∷ last ∷ []; start = 0; slots = 2 }
+
+-- a state that leads to one that leads nowhere
+abbrev pub dead_end : Program
+dead_end = one_way program.fail
+
+-- each search of it makes as many visits and as many looks as the bounds allow, whatever the haystack and the start
+abbrev pub SearchesReachBounds : Type 0
+SearchesReachBounds =
+    (hay : List ℕ) (s : ℕ) (found : Bool) (c : Record) → IsWalked dead_end hay s found c →
+    (length c.visits ≡ length dead_end.states * length (places hay s)) × (c.looks ≡ (targets dead_end + 1) * length (places hay s))
 
 -- what a search on the empty haystack visited
 abbrev pub Visited : program.State → Bool → List program.Spot → Type 0

@@ -1,5 +1,7 @@
 -- The laws of templates, each proved.
 use Rattle.std.specs.Prelude.{◌≡◌, ◌≢◌, ◌↔◌, ℕ, ◌<◌, Bool, true, false, List, Option, Some, None, IfSome, IfNone, IsUtf8, slice_index_or}
+use Rattle.bites_spec.specs.Code.{code}
+use Rattle.bites_spec.specs.Walks.{IsNew}
 use Rattle.bites_spec.specs.Expansion.{index_in}
 use Rattle.bites_spec.specs.Template.{Part, Cuts, parts_of, Expands, expansion}
 
@@ -12,6 +14,12 @@ abbrev pub ExpandsOnce : Type 0
 ExpandsOnce =
     (any : Bool) (largest : ℕ) (text_of : ℕ → Option (List ℕ)) (index_of : List ℕ → Option ℕ) (template text : List ℕ) →
     Expands largest text_of index_of any template text ↔ (text ≡ expansion any largest text_of index_of template)
+
+-- a template without `$` stands for itself
+abbrev pub PlainStandsForItself : Type 0
+PlainStandsForItself =
+    (any : Bool) (largest : ℕ) (text_of : ℕ → Option (List ℕ)) (index_of : List ℕ → Option ℕ) (template : List ℕ) →
+    IsNew (code "$") template → expansion any largest text_of index_of template ≡ template
 
 -- in a template of UTF-8 it is all one whether names in braces may be of any bytes
 abbrev pub TextsHaveNames : Type 0

@@ -12,16 +12,16 @@ ghost use Rattle.bites_spec.specs.SpanLaws.{SuccessiveIsOne, SuccessiveGoesOn, S
 ghost use Rattle.bites_spec.specs.Captured.{SlotsAreGroups, SlotsAreFound};
 ghost use Rattle.bites_spec.specs.Iteration.{CapturesHaveSpans};
 ghost use Rattle.bites_spec.specs.AllMatches.{FindsAreSuccessive, GroupsAreSuccessive, CapturesAreMatches, NoneIsLeftOut, MatchesStandApart, MatchesHaveBorders};
-ghost use Rattle.bites_spec.specs.Refutations.{BoundsAreReached, BoundsRefuse, VisitsRefuse, AnsweredRefuses, FoundRefuses, PreferredRefuses, LeftmostRefuses, SpansRefuse, LeavingOutRefuses, BordersRefuse, ParticipantsRefuse, ItsGroupsRefuse, AppendsRefuse};
-ghost use Rattle.bites_spec.specs.CallerLaws.{NamesAreAscii, StartIsPlace, AnchoredIsWhole, AnchoredMatchesWhole, LiteralIsRead, UnionsAreListed, RangesAreListed, EachParticipates};
+ghost use Rattle.bites_spec.specs.Refutations.{BoundsAreReached, SearchesReachBounds, BoundsRefuse, VisitsRefuse, AnsweredRefuses, FoundRefuses, PreferredRefuses, LeftmostRefuses, SpansRefuse, LeavingOutRefuses, BordersRefuse, ParticipantsRefuse, ItsGroupsRefuse, AppendsRefuse};
+ghost use Rattle.bites_spec.specs.CallerLaws.{NamesAreAscii, StartIsPlace, AnchoredIsRead, AnchoredIsBegun, AnchoredIsWhole, AnchoredMatchesWhole, LiteralIsRead, UnionsAreListed, RangesAreListed, EachParticipates};
 ghost use Rattle.bites_spec.specs.Refused.{IterationsEnd};
 ghost use Rattle.bites_spec.specs.GrammarLaws.{ListsAll, ReadIsCompilable, ReadsOnce, FaultsOnce, RefusedHasNoTree, ReadOrRefused, ReaderReads, ReaderRefuses, StuckBracketIsNotRead};
-ghost use Rattle.bites_spec.specs.GroupLaws.{OpenedOnce, OpenedAreKept, LeftAreKept, DroppedHaveNoPlace};
+ghost use Rattle.bites_spec.specs.GroupLaws.{OpenedOnce, OpenedAreKept, LeftAreKept, DroppedHaveNoPlace, KeptAnswerAlike};
 ghost use Rattle.bites_spec.specs.RangesOf.{RangesOfList};
 ghost use Rattle.bites_spec.specs.EscapedLaws.{EscapedIsText, EscapedIsRead, EscapedIsFlat, EscapedIsAccepted, EscapedMatchesText, EscapedFindsText};
 ghost use Rattle.bites_spec.specs.AnchoredLaws.{AnchoredRunIsFound, AnchoredSlotsAreFound, AnchoredSlotsAreGroups, LeastEndFromIsLeast, FullRunIsFound, AnchoredFindsSome, AnchoredIsFound, AnchoredHasBorders};
 ghost use Rattle.bites_spec.specs.TextLaws.{PlacesAreBorders, PiecesEndAtBorders, MatchesEndAtBorders, GroupsHaveBorders, FoundHasBorders, LeastEndIsBorder};
-ghost use Rattle.bites_spec.specs.TemplateLaws.{CutsOnce, ExpandsOnce, TextsHaveNames, NumbersAreFirst};
+ghost use Rattle.bites_spec.specs.TemplateLaws.{CutsOnce, ExpandsOnce, PlainStandsForItself, TextsHaveNames, NumbersAreFirst};
 
 pub fn match_is_parse()
     ensures { MatchIsParse }
@@ -239,6 +239,10 @@ pub fn dropped_groups_have_no_place()
     ensures { DroppedHaveNoPlace }
 {}
 
+pub fn kept_answer_alike()
+    ensures { KeptAnswerAlike }
+{}
+
 pub fn iterations_end<S, B, C, E>()
     ensures { IterationsEnd S B C E }
 {}
@@ -249,6 +253,10 @@ pub fn templates_are_cut_in_one_way()
 
 pub fn templates_have_one_text()
     ensures { ExpandsOnce }
+{}
+
+pub fn plain_templates_stand_for_themselves()
+    ensures { PlainStandsForItself }
 {}
 
 pub fn names_in_texts_are_texts()
@@ -347,6 +355,14 @@ pub fn anchored_matches_whole()
     ensures { AnchoredMatchesWhole }
 {}
 
+pub fn anchored_is_read()
+    ensures { AnchoredIsRead }
+{}
+
+pub fn anchored_is_begun()
+    ensures { AnchoredIsBegun }
+{}
+
 pub fn literal_is_read()
     ensures { LiteralIsRead }
 {}
@@ -377,6 +393,10 @@ pub fn matches_have_borders()
 
 pub fn bounds_are_reached()
     ensures { BoundsAreReached }
+{}
+
+pub fn searches_reach_bounds()
+    ensures { SearchesReachBounds }
 {}
 
 pub fn bounds_refuse()

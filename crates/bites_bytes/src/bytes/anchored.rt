@@ -1,9 +1,9 @@
 //! Searches for a match that begins at one offset, and for matches of the whole haystack.
 
-ghost use Rattle.std.specs.Prelude.{◌≡◌, ◌↔◌, length, option_map, is_some, unwrap_or, IsTrue, IfOk};
+ghost use Rattle.std.specs.Prelude.{◌≡◌, ◌↔◌, length, option_map, is_some, unwrap_or, MatchOption, IsTrue, IfOk, IfSome};
 ghost use Rattle.bites_spec.specs.Counts.{fit_of, IsBounded};
 ghost use Rattle.bites_spec.specs.Captured.{captured, excerpt};
-ghost use Rattle.bites_spec.specs.Anchored.{HasMatchFrom, IsFullMatch, IsWalkedFrom, anchored_span_at, anchored_slots_at, full_slots, FindsSpanFrom, FindsGroupsFrom, FindsGroupsFull};
+ghost use Rattle.bites_spec.specs.Anchored.{HasMatchFrom, IsFullMatch, IsWalkedFrom, anchored_span_at, anchored_slots_at, full_slots, FindsSpanFrom, FindsGroupsFrom, FindsGroupsFull, AreGroupsAt};
 ghost use Rattle.bites_bytes.specs.Matched.{excerpt_of};
 
 use crate::bytes::{Cache, CaptureLocations, Captures, Match, Regex};
@@ -99,6 +99,8 @@ impl Regex {
             (anchored_slots_at self.now haystack.now start)) }
         ensures on_tree { IfOk result (λ c. FindsGroupsFrom self.now haystack.now start
             (option_map (λ x. x.slots) c)) }
+        ensures regex { IfOk result (λ c. IfSome c (λ x. x.regex ≡ self.now)) }
+        ensures haystack { IfOk result (λ c. IfSome c (λ x. x.haystack ≡ haystack.now)) }
     {
         let mut cache = Cache::new(self.program())?;
         Captures::find_anchored(self, &mut cache, haystack, start)
@@ -120,6 +122,8 @@ impl Regex {
         requires locations { length locations.old ≡ self.now.program.slots }
         ensures found { option_map excerpt_of result
             ≡ option_map (excerpt haystack.now) (anchored_span_at self.now haystack.now start) }
+        ensures on_tree { MatchOption result (HasMatchFrom self.now.tree haystack.now start → ⊥)
+            (λ _. AreGroupsAt self.now haystack.now start locations.new) }
         ensures groups { locations.new
             ≡ unwrap_or (anchored_slots_at self.now haystack.now start) locations.old }
         ensures fits { cache.new.fits ≡ cache.old.fits }
@@ -165,6 +169,8 @@ impl Regex {
             (full_slots self.now haystack.now)) }
         ensures on_tree { IfOk result (λ c. FindsGroupsFull self.now haystack.now
             (option_map (λ x. x.slots) c)) }
+        ensures regex { IfOk result (λ c. IfSome c (λ x. x.regex ≡ self.now)) }
+        ensures haystack { IfOk result (λ c. IfSome c (λ x. x.haystack ≡ haystack.now)) }
     {
         let mut cache = Cache::new(self.program())?;
         Captures::find_full(self, &mut cache, haystack)

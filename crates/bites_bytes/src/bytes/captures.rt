@@ -23,11 +23,21 @@ use std::sync::Arc;
 /// It shares the program with its regex and may outlive it.
 ///
 /// For proofs: a contract sees the regex, the haystack, and the two slots of each group.
-#[derive(Drop)]
 pub struct Captures<'h> {
     compiled: Arc<Compiled>,
     haystack: &'h [u8],
     locations: CaptureLocations,
+}
+
+// A caller that drops one relies on this function, and on no type below it.
+impl<'h> Drop for Captures<'h> {
+    fn drop(self) {
+        let Captures {
+            compiled: _,
+            haystack: _,
+            locations: _,
+        } = self;
+    }
 }
 
 impl<'h> Model for Captures<'h> {

@@ -4,6 +4,7 @@ ghost use Rattle.std.specs.Prelude.{◌≡◌, ◌≢◌, ◌↔◌, false, leng
 ghost use Rattle.std.specs.Cow.{cow_str_bytes};
 ghost use Rattle.bites_spec.specs.Tree.{Tree};
 ghost use Rattle.bites_spec.specs.Found.{HasMatch, IsLeastEnd};
+ghost use Rattle.bites_spec.specs.Anchored.{HasMatchFrom, IsFullMatch, IsWalkedFrom};
 ghost use Rattle.bites_spec.specs.Slots.{group_in};
 ghost use Rattle.bites_spec.specs.Counts.{fit_of, IsBounded, VisitedBy};
 ghost use Rattle.bites_spec.specs.Settings.{Accepts, by_default, no_flags};
@@ -12,7 +13,7 @@ ghost use Rattle.bites_bytes.specs.Settings.{Refuses};
 ghost use Rattle.bites_spec.specs.TextLaws.{HasBorders};
 ghost use Rattle.regex_bites.specs.Matched.{excerpt_of};
 ghost use Rattle.regex_bites.specs.Borders.{GroupsAtBorders};
-ghost use Rattle.bites_promises.specs.Headline.{MatchHeadline, Headline, AreFirstGroups};
+ghost use Rattle.bites_promises.specs.Headline.{MatchHeadline, Headline, AreFirstGroups, AnchoredMatchHeadline, AnchoredHeadline, AreGroupsHere, FullHeadline};
 ghost use Rattle.bites_promises.specs.OnTree.{ArePieces, ArePiecesUpTo, IsReplaced, ReplacesMatches};
 ghost use Rattle.bites_promises.specs.Promises.{StandApart};
 
@@ -162,6 +163,90 @@ pub fn search<'h>(
     // Its contract says that the regex is compiled.
     regex.as_str();
     regex.captures_read_at_with(cache, locations, haystack, start)
+}
+
+/// Returns whether something matches from the start itself.
+pub fn is_match_anchored(regex: &Regex, haystack: &str, start: usize) -> Result<bool, AllocError>
+    requires { start ≤ length haystack.now → IsCharBoundary haystack.now start }
+    ensures { IfOk result (λ found. IsTrue found ↔ HasMatchFrom regex.now.tree haystack.now start) }
+{
+    regex.is_match_anchored_at(haystack, start)
+}
+
+/// Returns the match that begins at the start itself, which is what the tree matches there. Where the tree is plain, it ends
+/// where the preferred parse there does; where the longest match is asked for, no match there ends after it. It begins and ends at borders of
+/// characters.
+pub fn find_anchored<'h>(
+    regex: &Regex,
+    haystack: &'h str,
+    start: usize,
+) -> Result<Option<Match<'h>>, AllocError>
+    requires { start ≤ length haystack.now → IsCharBoundary haystack.now start }
+    ensures headline { IfOk result (λ m. AnchoredMatchHeadline regex.now haystack.now start
+        (option_map (λ x. (excerpt_of x).span) m)) }
+    ensures borders { IfOk result (λ m. IfSome m (λ x. HasBorders haystack.now (excerpt_of x).span)) }
+{
+    regex.find_anchored_at(haystack, start)
+}
+
+/// Returns the groups of this match: its end and its groups are those of one parse from the start. Where the tree is plain, it is
+/// the parse that the pattern prefers. Where the longest match is asked for, it goes to the greatest end, and is the one that
+/// the pattern prefers of those that do. Each group begins and ends at borders of characters.
+pub fn captures_anchored<'h>(
+    regex: &Regex,
+    haystack: &'h str,
+    start: usize,
+) -> Result<Option<Captures<'h>>, AllocError>
+    requires { start ≤ length haystack.now → IsCharBoundary haystack.now start }
+    ensures headline { IfOk result (AnchoredHeadline regex.now haystack.now start) }
+    ensures borders { IfOk result (λ c. IfSome c (λ x. GroupsAtBorders haystack.now x.slots)) }
+{
+    regex.as_str();
+    let found = regex.captures_anchored_at(haystack, start)?;
+    Ok(found)
+}
+
+/// Says all of this of one call. It takes no memory, so it cannot fail. It visits no state twice at a place; where nothing is
+/// found, all that can be reached from the start was visited, and otherwise all of one run.
+pub fn search_anchored<'h>(
+    regex: &Regex,
+    cache: &mut Cache,
+    locations: &mut CaptureLocations,
+    haystack: &'h str,
+    start: usize,
+) -> Option<Match<'h>>
+    requires border { start ≤ length haystack.now → IsCharBoundary haystack.now start }
+    requires cache { cache.old.fits ≡ fit_of regex.now.program }
+    requires locations { length locations.old ≡ regex.now.program.slots }
+    ensures exactly { IsSome result ↔ HasMatchFrom regex.now.tree haystack.now start }
+    ensures whole { IfSome result (λ x. group_in locations.new 0 ≡ Some (excerpt_of x).span) }
+    ensures headline { IfSome result (λ x. AreGroupsHere regex.now haystack.now start locations.new) }
+    ensures borders { IfSome result (λ x. GroupsAtBorders haystack.now locations.new) }
+    ensures walked { IsWalkedFrom regex.now.program haystack.now start (is_some result) cache.new.walked }
+{
+    regex.as_str();
+    regex.captures_read_anchored_at_with(cache, locations, haystack, start)
+}
+
+/// Returns whether the tree matches the whole haystack.
+pub fn is_full_match(regex: &Regex, haystack: &str) -> Result<bool, AllocError>
+    ensures { IfOk result (λ found. IsTrue found ↔ IsFullMatch regex.now.tree haystack.now) }
+{
+    regex.is_full_match(haystack)
+}
+
+/// Returns the groups of a match of the whole haystack: those of one parse of it, and where the tree is plain of the one that the
+/// pattern prefers. Each group begins and ends at borders of characters.
+pub fn captures_full<'h>(
+    regex: &Regex,
+    haystack: &'h str,
+) -> Result<Option<Captures<'h>>, AllocError>
+    ensures headline { IfOk result (FullHeadline regex.now haystack.now) }
+    ensures borders { IfOk result (λ c. IfSome c (λ x. GroupsAtBorders haystack.now x.slots)) }
+{
+    regex.as_str();
+    let found = regex.captures_full(haystack)?;
+    Ok(found)
 }
 
 /// Returns all matches: what the tree finds from the start, and then what it finds after each. Nothing matches between two of

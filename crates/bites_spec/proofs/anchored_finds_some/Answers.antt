@@ -1,5 +1,5 @@
+use Rattle.bites_spec.proofs.Laws as laws
 use Rattle.bites_spec.proofs.anchored_finds_some.Goals as goal
-use Rattle.bites_spec.proofs.AnchoredLemmas.{anchored_finds_some}
 
 pub returns : goal.returns
-returns c = anchored_finds_some
+returns c = laws.anchored_finds_some

@@ -1,5 +1,5 @@
+use Rattle.bites_spec.proofs.Laws as laws
 use Rattle.bites_spec.proofs.anchored_run_is_found.Goals as goal
-use Rattle.bites_spec.proofs.AnchoredLemmas.{anchored_run_is_found}
 
 pub returns : goal.returns
-returns c = anchored_run_is_found
+returns c = laws.anchored_run_is_found

@@ -1,5 +1,5 @@
+use Rattle.bites_spec.proofs.Laws as laws
 use Rattle.bites_spec.proofs.full_run_is_found.Goals as goal
-use Rattle.bites_spec.proofs.AnchoredLemmas.{full_run_is_found}
 
 pub returns : goal.returns
-returns c = full_run_is_found
+returns c = laws.full_run_is_found

@@ -1,9 +1,9 @@
 //! Searches of texts for a match that begins at one offset, and for matches of the whole text.
 
-ghost use Rattle.std.specs.Prelude.{◌≡◌, ◌↔◌, ◌≤◌, length, option_map, is_some, unwrap_or, IsTrue, IfOk, IfSome, IsCharBoundary};
+ghost use Rattle.std.specs.Prelude.{◌≡◌, ◌↔◌, ◌≤◌, length, option_map, is_some, unwrap_or, MatchOption, IsTrue, IfOk, IfSome, IsCharBoundary};
 ghost use Rattle.bites_spec.specs.Counts.{fit_of, IsBounded};
 ghost use Rattle.bites_spec.specs.Captured.{captured, excerpt};
-ghost use Rattle.bites_spec.specs.Anchored.{HasMatchFrom, IsFullMatch, IsWalkedFrom, anchored_span_at, anchored_slots_at, full_slots, FindsSpanFrom, FindsGroupsFrom, FindsGroupsFull};
+ghost use Rattle.bites_spec.specs.Anchored.{HasMatchFrom, IsFullMatch, IsWalkedFrom, anchored_span_at, anchored_slots_at, full_slots, FindsSpanFrom, FindsGroupsFrom, FindsGroupsFull, AreGroupsAt};
 ghost use Rattle.regex_bites.specs.Matched.{excerpt_of};
 ghost use Rattle.regex_bites.specs.Borders.{HaveBorders};
 
@@ -105,6 +105,8 @@ impl Regex {
             (anchored_slots_at self.now haystack.now start)) }
         ensures on_tree { IfOk result (λ c. FindsGroupsFrom self.now haystack.now start
             (option_map (λ x. x.slots) c)) }
+        ensures regex { IfOk result (λ c. IfSome c (λ x. x.regex ≡ self.now)) }
+        ensures haystack { IfOk result (λ c. IfSome c (λ x. x.haystack ≡ haystack.now)) }
     {
         match self
             .over_bytes()
@@ -132,6 +134,8 @@ impl Regex {
         requires locations { length locations.old ≡ self.now.program.slots }
         ensures found { option_map excerpt_of result
             ≡ option_map (excerpt haystack.now) (anchored_span_at self.now haystack.now start) }
+        ensures on_tree { MatchOption result (HasMatchFrom self.now.tree haystack.now start → ⊥)
+            (λ _. AreGroupsAt self.now haystack.now start locations.new) }
         ensures groups { locations.new
             ≡ unwrap_or (anchored_slots_at self.now haystack.now start) locations.old }
         ensures borders { IfSome result (λ _. HaveBorders haystack.now locations.new) }
@@ -184,6 +188,8 @@ impl Regex {
             (full_slots self.now haystack.now)) }
         ensures on_tree { IfOk result (λ c. FindsGroupsFull self.now haystack.now
             (option_map (λ x. x.slots) c)) }
+        ensures regex { IfOk result (λ c. IfSome c (λ x. x.regex ≡ self.now)) }
+        ensures haystack { IfOk result (λ c. IfSome c (λ x. x.haystack ≡ haystack.now)) }
     {
         match self.over_bytes().captures_full(haystack.as_bytes())? {
             Some(captures) => Ok(Some(Captures::of(haystack, captures))),

@@ -23,10 +23,19 @@ use std::marker::Model;
 /// It shares the program with its regex and may outlive it.
 ///
 /// For proofs: a contract sees the regex, the haystack, and the two slots of each group.
-#[derive(Drop)]
 pub struct Captures<'h> {
     captures: bytes::Captures<'h>,
     haystack: &'h str,
+}
+
+// A caller that drops one relies on this function, and on no type below it.
+impl<'h> Drop for Captures<'h> {
+    fn drop(self) {
+        let Captures {
+            captures: _,
+            haystack: _,
+        } = self;
+    }
 }
 
 impl<'h> Model for Captures<'h> {

@@ -18,10 +18,16 @@ use std::marker::Model;
 /// A compiled regular expression, which searches texts. A clone shares the program and may go to another thread.
 ///
 /// For proofs: a contract sees the pattern, the flags, and the tree that the grammar reads the pattern as.
-#[derive(Drop)]
 pub struct Regex {
     alloc: Global,
     regex: bytes::Regex,
+}
+
+// A caller that drops one relies on this function, and on no type below it.
+impl Drop for Regex {
+    fn drop(self) {
+        let Regex { alloc: _, regex: _ } = self;
+    }
 }
 
 impl Model for Regex {

@@ -30,7 +30,7 @@ loop-captures-init g c =
 pub loop-captures-preserved : goal.loop-captures-preserved
 loop-captures-preserved g c =
     let R = g.R.Replacer in let hay = c.args.haystack.now in let all = limited c.args.limit (captures_in c.args.self.now hay) in
-    let l = c.loop-captures in let s = l.replacing in let on = l.invariant in let t = c.by-in-Some.new.self in
+    let l = c.loop-captures in let s = l.replacing in let on = l.invariant in let t = c.by.new.self in
     let d = c.in_ok-captures.field-0 in let r = c.args.replacer.now in
     let cs = taken l.left (captures_left l.matches) in let rest = taken c.step_of.new.left (captures_left c.step_of.new.self) in
     let steps : cs ≡ d ∷ rest =
@@ -40,7 +40,7 @@ loop-captures-preserved g c =
       on =
           on_step R.replaces R.answers span_in hay all r (string_bytes s.out) s.last d rest l.replacer
           (subst (λ ds. IsOn R.replaces R.answers span_in hay all r (string_bytes s.out) s.last ds l.replacer) steps on.on)
-          gave.0 c.by-in-Some.new.replacer gave.1 (string_bytes t.out) t.last
+          gave.0 c.by.new.replacer gave.1 (string_bytes t.out) t.last
           (e.2 ∙ ap (λ h. (string_bytes s.out ++ slice_range h (unwrap_or s.last 0) (span_in d).start) ++ gave.0) on.haystack) e.1;
       haystack = e.0 ∙ on.haystack;
       same = c.in-Some.ensures.same ∙ on.same;
