@@ -1,12 +1,12 @@
 -- A search of a program without runs makes as many looks as the bound allows.
-use Rattle.std.proofs.Common.{◌≡◌, ℕ, zero, suc, ◌+◌, ◌*◌, ◌<◌, ◌≤◌, ◌⊎◌, Bool, true, false, cond, List, [], ◌∷◌, length, map, refl, sym, ap, ◌∙◌, subst, inl, inr, ⊎_elim, true≢false, arith}
+use Rattle.std.proofs.Common.{◌≡◌, ℕ, zero, suc, ◌+◌, ◌*◌, ◌<◌, ◌≤◌, ◌⊎◌, Bool, true, false, cond, List, [], ◌∷◌, length, map, refl, sym, ap, subst, inl, inr, ⊎_elim, true≢false, arith}
 use Rattle.std.specs.Prelude.{nat_le}
 use Rattle.std.proofs.lemmas.List.{length-map}
 use Rattle.bites_spec.specs.Utf8.{places, places_within, step_len}
 use Rattle.bites_spec.specs.Walks.{Among, AllApart, Walk}
 use Rattle.bites_spec.specs.Program.{Spot, at}
 use Rattle.bites_spec.specs.Run.{IsRun, Ends, leads}
-use Rattle.bites_spec.specs.Counts.{Record, IsBounded, VisitedAll, VisitedBy}
+use Rattle.bites_spec.specs.Counts.{Record, VisitedAll, VisitedBy}
 use Rattle.bites_spec.specs.Refutations.{dead_end, SearchesReachBounds}
 use Rattle.bites_spec.proofs.PieceLemmas.{places_within_above}
 use Rattle.bites_spec.proofs.PartCountLemmas.{apart_length}

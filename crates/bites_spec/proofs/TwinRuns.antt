@@ -1,5 +1,5 @@
 -- Searches of two programs that hold one tree answer alike.
-use Rattle.std.proofs.Common.{◌≡◌, ℕ, zero, suc, ◌+◌, ◌*◌, ◌<◌, ◌≤◌, Bool, true, false, cond, ◌&&◌, List, [], ◌∷◌, ◌++◌, reverse, length, map, Option, Some, None, option_map, refl, sym, ap, ap₂, ◌∙◌, subst, inl, inr, ⊎_elim, ◌⊎◌, true≢false, arith, eq-eqb, ne_eqb, eqb-true, ltb-true, lt-ltb}
+use Rattle.std.proofs.Common.{◌≡◌, ℕ, zero, suc, ◌+◌, ◌*◌, ◌<◌, Bool, true, false, cond, ◌&&◌, List, [], ◌∷◌, ◌++◌, reverse, length, map, Option, Some, None, option_map, refl, sym, ap, ap₂, ◌∙◌, subst, inl, inr, ⊎_elim, ◌⊎◌, true≢false, arith, eq-eqb, ne_eqb, eqb-true, ltb-true, lt-ltb}
 use Rattle.std.specs.Prelude.{◌==◌, ◌||◌, nat_lt, nat_le, option_and_then, chars}
 use Rattle.std.specs.Option.{option_or}
 use Rattle.bites_spec.specs.Utf8.{piece, character, places}
@@ -11,14 +11,14 @@ use Rattle.bites_spec.specs.Match.{span}
 use Rattle.bites_spec.specs.Program as program
 use Rattle.bites_spec.specs.Program.{State, Program, Spot, at, state_at, edges, taking, looking, is_match, IsWellFormed}
 use Rattle.bites_spec.specs.Run.{Run, run, is_same_spot, write_of, last_write, matches, is_end_at, writes, written, slots, leads, enough, run_of, first_run_from, first_run, first_run_to, longest_run_below, longest_run, chosen_run}
-use Rattle.bites_spec.specs.Slots.{slot_in, group_in, span_between, span_of_run}
+use Rattle.bites_spec.specs.Slots.{slot_in, span_between, span_of_run}
 use Rattle.bites_spec.specs.Built.{Built, IsCompilable}
 use Rattle.bites_spec.specs.Regex.{Regex, IsCompiled, span_at, slots_at}
 use Rattle.bites_spec.specs.Anchored.{anchored_run, anchored_span_at, anchored_slots_at, full_slots}
 use Rattle.bites_spec.specs.Pattern.{Flags}
 use Rattle.bites_spec.specs.Grammar.{Reads}
 use Rattle.bites_spec.specs.GroupLaws.{HaveSameGroups, AnswerAlike, KeptAnswerAlike}
-use Rattle.std.proofs.lemmas.List.{reverse-append, length-map}
+use Rattle.std.proofs.lemmas.List.{reverse-append}
 use Rattle.bites_spec.proofs.TwinForms.{Pairs, pairs_join, Alike, Twin, Good, twin_by, same_form}
 use Rattle.bites_spec.proofs.ListedRunLemmas.{unit_if, all_apart, some_counted, counted_some, counts}
 use Rattle.bites_spec.proofs.PartCountLemmas.{apart_length}
@@ -207,28 +207,22 @@ module _ (R : ℕ → ℕ → Type 0) (to_one : (a b c : ℕ) → R a b → R a 
       (walks_alike (is_end_at p j) (is_end_at q j) (same_ends j) (enough p hay) (λ s. false) (λ s. false) (λ s t h. refl) (at p.start i) (at q.start i)
       (starts, refl)))
 
+  or_alike : (a b c d : Option Run) → Both Runs a b → Both Runs c d → Both Runs (option_or a c) (option_or b d)
+  or_alike None None c d one two = two
+  or_alike None (Some y) c d one two = absurd one
+  or_alike (Some x) None c d one two = absurd one
+  or_alike (Some x) (Some y) c d one two = one
+
   longest_below_alike : (n i : ℕ) → Both Runs (longest_run_below p hay n i) (longest_run_below q hay n i)
   unfolding longest_run_below
   longest_below_alike zero i = tt
   longest_below_alike (suc j) i =
       or_alike (first_run_to p hay i j) (first_run_to q hay i j) (longest_run_below p hay j i) (longest_run_below q hay j i)
       (first_to_alike i j) (longest_below_alike j i)
-    where
-      or_alike : (a b c d : Option Run) → Both Runs a b → Both Runs c d → Both Runs (option_or a c) (option_or b d)
-      or_alike None None c d one two = two
-      or_alike None (Some y) c d one two = absurd one
-      or_alike (Some x) None c d one two = absurd one
-      or_alike (Some x) (Some y) c d one two = one
 
   at_places : (f g : ℕ → Option Run) → ((i : ℕ) → Both Runs (f i) (g i)) → (is : List ℕ) → Both Runs (first_among f is) (first_among g is)
   at_places f g each [] = tt
   at_places f g each (i ∷ is) = or_alike (f i) (g i) (first_among f is) (first_among g is) (each i) (at_places f g each is)
-    where
-      or_alike : (a b c d : Option Run) → Both Runs a b → Both Runs c d → Both Runs (option_or a c) (option_or b d)
-      or_alike None None c d one two = two
-      or_alike None (Some y) c d one two = absurd one
-      or_alike (Some x) None c d one two = absurd one
-      or_alike (Some x) (Some y) c d one two = one
 
   pub chosen_alike : (longest : Bool) (s : ℕ) → Both Runs (chosen_run longest p hay s) (chosen_run longest q hay s)
   unfolding first_run longest_run
