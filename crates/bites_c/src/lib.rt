@@ -99,11 +99,11 @@ pub extern "C" fn bites_clone(alloc: Global, regex: &mut Bites, out: &mut Bites)
     ensures known { result ≢ done → result ≢ empty_handle → result ≡ code_of Memory }
 {
     *out = Bites::empty(alloc);
-    let Some(held) = std::mem::replace(regex, Bites::empty(alloc)).into_box() else {
+    let Some(source) = std::mem::replace(regex, Bites::empty(alloc)).into_box() else {
         return EMPTY_HANDLE;
     };
-    let copy = make::copy(alloc, &held);
-    *regex = Bites::of(held);
+    let copy = make::copy(alloc, &source);
+    *regex = Bites::of(source);
     match copy {
         Some(made) => {
             *out = made;
@@ -126,11 +126,11 @@ pub extern "C" fn bites_cache_new(alloc: Global, regex: &mut Bites, out: &mut Bi
     ensures known { result ≢ done → result ≢ empty_handle → result ≡ code_of Memory }
 {
     *out = BitesCache::empty(alloc);
-    let Some(held) = std::mem::replace(regex, Bites::empty(alloc)).into_box() else {
+    let Some(owner) = std::mem::replace(regex, Bites::empty(alloc)).into_box() else {
         return EMPTY_HANDLE;
     };
-    let made = make::room(alloc, &held.regex);
-    *regex = Bites::of(held);
+    let made = make::room(alloc, &owner.regex);
+    *regex = Bites::of(owner);
     match made {
         Some(room) => {
             *out = room;
