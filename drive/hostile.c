@@ -176,7 +176,7 @@ static _Noreturn void replace(const struct row *row, bites *regex, bites_cache *
     end(row, size.code == BITES_TOO_SMALL ? answer : "a fault");
 }
 
-/* The rules of a small language, each of which must match at the start of what is left. */
+/* The rules of a small language. Each must match at the start of what is left. */
 static const char *const rules[] = {"^[a-z]+", "^[0-9]+", "^[ \n]+", "^\"[^\"]*\"", "^[-+*/=]", "^[(){};]"};
 enum { RULES = sizeof rules / sizeof *rules };
 

@@ -12,7 +12,7 @@ use std::time::Instant;
 /// A job answers a number, so that the answers can be compared.
 type Job = (String, Box<dyn FnMut() -> usize>);
 
-/// The lines of a log, of which one in seven is a comment.
+/// The lines of a log. One in seven is a comment.
 fn lines() -> Vec<String> {
     let methods = ["GET", "POST", "PUT", "DELETE"];
     let line = |i: usize| {

@@ -1,5 +1,5 @@
 //! Writes the fields of a log in the common log format as comma-separated values, as the program `fields` of this
-//! repository does. Each line of standard input that is none is told on standard error.
+//! repository does. Each line of standard input that is none is reported on standard error.
 
 use regex_bites::Regex;
 use std::io::{self, BufRead, Write};

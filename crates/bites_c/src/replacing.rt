@@ -156,7 +156,7 @@ impl<'h> Replacing<'h> {
 }
 
 /// The haystack with at most `limit` of its matches, or all for 0, replaced by the text; None where nothing matches. The error
-/// is want of memory.
+/// is out of memory.
 pub(crate) fn with_text(
     alloc: Global,
     regex: &Regex,

@@ -310,7 +310,7 @@ impl Search {
         put_replaced(made, haystack.len(), out)
     }
 
-    /// The same with a text in the place of the template.
+    /// The same with a text instead of the template.
     pub(crate) fn replace_literal(
         &mut self,
         alloc: Global,

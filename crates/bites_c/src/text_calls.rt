@@ -75,7 +75,7 @@ pub extern "C" fn bites_escape(alloc: Global, text: &[u8], out: &mut [u8]) -> Bi
 /// for.
 ///
 /// The code is 100 where a match was replaced; 101 where nothing matches, and the size is the length of the haystack, which is
-/// what it then stands for; 105 where it does not fit, and the size is how many bytes it has; 58 for want of memory. What is
+/// what it then stands for; 105 where it does not fit, and the size is how many bytes it has; 58 for out of memory. What is
 /// wrong with the handles comes first, as in a search. Over texts the haystack and the template are to be UTF-8, else the code
 /// is 102. `out` stays but for 100.
 #[unsafe(no_mangle)]
@@ -105,7 +105,7 @@ pub extern "C" fn bites_replace(
     }
 }
 
-/// [`bites_replace`] with a text in the place of the template, in which a `$` stands for itself.
+/// [`bites_replace`] with a text instead of the template. A `$` in it stands for itself.
 #[unsafe(no_mangle)]
 pub extern "C" fn bites_replace_literal(
     alloc: Global,
@@ -135,7 +135,7 @@ pub extern "C" fn bites_replace_literal(
 
 /// What the template stands for by these groups goes to the front of `out`. The code is 0; 105 where it does not fit, and the
 /// size is how many bytes it has; 107 where a group does not lie in the haystack, 103 where there is no regex, and 58 for
-/// want of memory. Where it is not 0, `out` stays. Over texts the template is to be UTF-8 too, else the code is 102, and no group
+/// out of memory. Where it is not 0, `out` stays. Over texts the template is to be UTF-8 too, else the code is 102, and no group
 /// that lies in the haystack may begin or end within a character, else it is 108.
 ///
 /// A group from the last of `groups` on took no part, as one has that is the greatest number twice.

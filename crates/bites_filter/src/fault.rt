@@ -42,7 +42,7 @@ impl Fault {
     }
 
     /// Writes the line of the fault. Returns the status of the program: 2, or 0 if nobody reads its output any more,
-    /// which is told to no one.
+    /// which nobody reports.
     pub fn tell<E: Write>(&self, program: &str, err: &mut E) -> u8 {
         if let Fault::Closed = self {
             return 0;

@@ -164,7 +164,7 @@ module _ (p : Program) (hay : List ℕ) (longest : Bool) (width : ℕ) (start : 
           goes s [] a runs = true≢false (sym runs.0 ∙ (shut none).0.no_match s a)
           goes s (v ∷ r) a runs = goes v r (led_visited none s a v runs.0) runs.1
 
-      -- what a search found is a run, all of which was visited
+      -- what a search found is a run, and each of its spots was visited
       pub some_visited_from : (b : Thread) → t.best ≡ Some b → VisitedRunFrom p hay start (record_of t)
       some_visited_from b is =
           let f = ((end_rooted p hay longest width start fits earliest within t end).best b is).1 in (f.0.run, f.1, f.0.runs, f.0.was)

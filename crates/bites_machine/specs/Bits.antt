@@ -11,7 +11,7 @@ has_bit bits n = bit_at bits n == 1
 abbrev pub HasAscii : List ℕ → List Range → Type 0
 HasAscii words ranges = (c : ℕ) → c < 128 → has_bit (slice_index words (c / 64)) (c % 64) ≡ in_ranges ranges c
 
--- all targets, of which two are kept in place
+-- all targets; two are kept in place
 abbrev pub all_targets : ℕ → List ℕ → List ℕ → List ℕ
 all_targets len ends list = if len == 2 then ends else list
 

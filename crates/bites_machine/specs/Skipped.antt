@@ -1,4 +1,4 @@
--- Places up to the end of a haystack, at each of which a start prefix is visited.
+-- A start prefix is visited at each place up to the end of a haystack.
 use Rattle.std.specs.Prelude.{ℕ, zero, suc, ◌+◌, List, ◌++◌, map, length, if◌then◌else◌, nat_lt}
 use Rattle.bites_spec.specs.Utf8.{piece}
 use Rattle.bites_spec.specs.Program.{at}

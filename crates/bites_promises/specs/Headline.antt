@@ -84,7 +84,7 @@ module _ (regex : Regex) (hay : List ℕ) (start : ℕ) where
   Headline (Some c) = AreFirstCaptures c
 
 module _ (t : Tree) (hay : List ℕ) (s : ℕ) where
-  -- In the slots stand the groups of one parse from s, of which Q holds.
+  -- Q holds of one parse from s, and its groups stand in the slots.
   pub record AreOfParseAt (Q : (j : ℕ) → List Mark → Type 0) (slots : List (Option ℕ)) : Type 0 where
     pub end : ℕ
     pub marks : List Mark

@@ -45,7 +45,7 @@ pub fn push_none(text: &mut String) -> Result<(), AllocError> {
     Ok(())
 }
 
-/// Adds the pieces of a haystack, each of which begins where the match before it ends.
+/// Adds the pieces of a haystack. Each piece begins where the match before it ends.
 pub fn push_pieces(
     text: &mut String,
     haystack: &[u8],

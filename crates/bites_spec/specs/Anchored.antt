@@ -50,7 +50,7 @@ module _ (t : Tree) (hay : List ℕ) where
   abbrev pub HasMatchFrom : ℕ → Type 0
   HasMatchFrom s = (s ≤ length hay) × (j : ℕ) × Matches hay t s j
 
-  -- the answer begins at s, and its end and groups are those of one parse there, of which Q holds
+  -- the answer begins at s; Q holds of one parse there, and the end and groups are those of that parse
   pub record IsFoundFromBy (Q : (j : ℕ) → List Mark → Type 0) (s : ℕ) (a : Answer) : Type 0 where
     pub within : s ≤ length hay
     pub start : a.start ≡ s

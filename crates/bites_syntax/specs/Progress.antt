@@ -41,7 +41,7 @@ pub record Enters (limit depth n : ℕ) (p : Parser) (group : OpenGroup) (g : pa
   pub numbered : IsNumbered group.numbered opening g.groups
   pub same : a ≡ and_found (inner ranges_of limit n (suc depth) inside [] [] p.cursor) (behind_group ranges_of limit (inner ranges_of limit n) depth g branches nodes opening)
 
--- the reader has found these branches, the last of which are the nodes, and the text behind them
+-- the reader has found these branches and the text after them; the nodes are the last branch
 pub record EndsReading (limit : ℕ) (p : Parser) (rows : Rows) (g : pattern.Front) (a : Result ReadChoice Stop) : Type 0 where
   pub branches : List Tree
   pub nodes : List Tree

@@ -99,7 +99,7 @@ impl Rows {
         Ok(())
     }
 
-    /// The choice between the branches, the last of which are the nodes.
+    /// The choice between the branches. The nodes are the last one.
     fn into_choice(self, alloc: Global, limit: u32) -> Result<Node, AllocError>
         ensures { (bs ts : List spec.Tree) → AreNodes limit self.branches.items bs →
             AreNodes limit self.nodes.items ts →

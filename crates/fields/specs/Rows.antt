@@ -16,7 +16,7 @@ row e =
     quoted e.host.now (44 ∷ quoted e.ident.now (44 ∷ quoted e.user.now (44 ∷ quoted e.time.now (44 ∷
     quoted e.request.now (44 ∷ quoted e.status.now (44 ∷ quoted e.size.now (10 ∷ [])))))))
 
--- what is told of a line that does not have the format
+-- what is reported of a line that does not have the format
 abbrev pub told : ℕ → List ℕ
 told number = codes "fields: line " ++ (decimal number ++ (codes " is not in the common log format" ++ 10 ∷ []))
 
@@ -24,13 +24,13 @@ told number = codes "fields: line " ++ (decimal number ++ (codes " is not in the
 abbrev pub IsOther : List ℕ → Type 0
 IsOther line = IsUtf8 line → NoEntry line
 
--- of a line that is bad nothing is written and its number is told; of another one its fields are written
+-- a bad line writes nothing and its number is reported; any other line writes its fields
 abbrev pub IsOutcome : ℕ → List ℕ → List ℕ → Bool → (old new : Option (List ℕ)) → Type 0
 IsOutcome number line text true old new = IsOther line × (text ≡ []) × Appends old new (told number)
 IsOutcome number line text false old new = ((e : Entry) × IsEntry line e × (text ≡ row e)) × (new ≡ old)
 
 -- Of these lines, which come after the first n: the fields of each that has the format are written in their order, each other
--- one is told in their order, and so many are others.
+-- one is reported in their order, and so many are others.
 abbrev pub AreExtracted : ℕ → List (List ℕ) → (text lines : List ℕ) → ℕ → Type 0
 AreExtracted n [] text lines bad = (text ≡ []) × (lines ≡ []) × (bad ≡ 0)
 AreExtracted n (l ∷ ls) text lines bad =

@@ -1,4 +1,4 @@
--- What searches of a text from one place hand out begins and ends at borders.
+-- What searches of a text from one place return begins and ends at borders.
 use Rattle.std.proofs.Common.{◌≡◌, ℕ, List, Option, Some, None, option_map, refl, sym, subst, IsUtf8}
 use Rattle.std.specs.Prelude.{IfSome, unwrap_or}
 use Rattle.bites_spec.specs.Match.{Span}

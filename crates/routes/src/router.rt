@@ -1,4 +1,4 @@
-//! Routes: patterns of paths, of which the first that matches a whole path serves it.
+//! Routes: patterns of paths. The first one that matches a whole path serves it.
 
 ghost use Rattle.std.specs.Prelude.{MatchOption, IfOk};
 ghost use Rattle.routes.specs.Routes.{NoRoute, IsRoute};

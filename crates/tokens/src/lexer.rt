@@ -54,7 +54,7 @@ impl Lexer {
         }
     }
 
-    /// Puts a rule behind the others. The error is that of the pattern, or want of memory; the table is then as it was.
+    /// Puts a rule after the others. The error is that of the pattern, or out of memory; the table is then unchanged.
     pub fn add(&mut self, pattern: &str) -> Result<(), Error>
         ensures added { OnOk result (Adds self.old self.new pattern.now) }
         ensures same { OnErr result (self.new ≡ self.old) }
@@ -67,7 +67,7 @@ impl Lexer {
     }
 
     /// The tokens from the start of the text on, and where they stop: at its end, or at the first place from which no rule
-    /// reads anything. The error is want of memory.
+    /// reads anything. The error is out of memory.
     pub fn tokens(&self, text: &[u8]) -> Result<(Vec<Token>, usize), AllocError>
         ensures { IfOk result
             (λ r. AreTokens (map (λ x. x.tree) self.now) text.now 0 r.0.items r.1) }

@@ -2,7 +2,7 @@
 //!
 //! Each line of the file RULES is a name, a space and a pattern. At each place the longest token that a rule reads is
 //! taken, by the first rule that reads so far, and a line with the name of the rule and the text is written. Where no rule
-//! reads anything, the number of the byte and of its line are told on standard error. The status is 0 if all of the input is
+//! reads anything, the number of the byte and of its line are reported on standard error. The status is 0 if all of the input is
 //! read, 1 if not, and 2 for a fault, which is one line on standard error. That nobody reads the output any more is no
 //! fault.
 #![tactic(auto)]

@@ -342,7 +342,7 @@ impl Regex {
         self.engine.program().static_captures_len()
     }
 
-    /// Returns locations for the groups of this regex, none of which participated yet.
+    /// Returns locations for the groups of this regex. No group participated yet.
     #[inline]
     pub fn capture_locations(&self) -> CaptureLocations {
         CaptureLocations::new(vec![ABSENT; self.captures_len()])

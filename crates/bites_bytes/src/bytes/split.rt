@@ -177,7 +177,7 @@ impl Regex {
         })
     }
 
-    /// Returns an iterator over at most `limit` pieces, of which the last is the whole rest of the haystack. With
+    /// Returns an iterator over at most `limit` pieces. The last one is the whole rest of the haystack. With
     /// `limit` 0 there are none. The error is out of memory for the cache of the iterator.
     pub fn splitn<'r, 'h>(
         &'r self,

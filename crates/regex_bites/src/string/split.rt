@@ -193,7 +193,7 @@ impl Regex {
         Split::new(self, haystack)
     }
 
-    /// Returns an iterator over at most `limit` pieces, of which the last is the whole rest of the haystack. With
+    /// Returns an iterator over at most `limit` pieces. The last one is the whole rest of the haystack. With
     /// `limit` 0 there are none. The error is out of memory for the cache of the iterator.
     ///
     /// ```rust
