@@ -11,7 +11,11 @@ fn run(flags: &str, pattern: &str) -> Result<u64, Box<dyn std::error::Error>> {
     let regex = RegexBuilder::new(pattern)
         .case_insensitive(flags.contains('i'))
         .build()?;
-    let (counts, numbers, inverts) = (flags.contains('c'), flags.contains('n'), flags.contains('v'));
+    let (counts, numbers, inverts) = (
+        flags.contains('c'),
+        flags.contains('n'),
+        flags.contains('v'),
+    );
     let (mut input, mut out) = (io::stdin().lock(), io::BufWriter::new(io::stdout().lock()));
     let (mut line, mut number, mut selected) = (Vec::new(), 0, 0);
     while input.read_until(b'\n', &mut line)? > 0 {
@@ -40,7 +44,10 @@ fn main() -> ExitCode {
         eprintln!("{USAGE}");
         return ExitCode::from(2);
     };
-    if flags.iter().any(|word| !word.starts_with('-') || word[1..].contains(|letter| !"cinv".contains(letter))) {
+    if flags
+        .iter()
+        .any(|word| !word.starts_with('-') || word[1..].contains(|letter| !"cinv".contains(letter)))
+    {
         eprintln!("{USAGE}");
         return ExitCode::from(2);
     }
