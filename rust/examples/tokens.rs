@@ -8,7 +8,7 @@ use std::process::ExitCode;
 fn read_rules(rules: &str) -> Result<Vec<(&str, Regex)>, Box<dyn std::error::Error>> {
     let mut read = Vec::new();
     for line in rules.lines() {
-        let (name, pattern) = line.split_once(' ').ok_or("cannot read the rules")?;
+        let (name, pattern) = line.split_once(' ').ok_or("cannot read the table")?;
         let regex = RegexBuilder::new(pattern).leftmost_longest(true).build()?;
         read.push((name, regex));
     }

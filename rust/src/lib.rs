@@ -7,9 +7,11 @@ pub mod bytes;
 mod engine;
 mod error;
 mod escape;
+mod iterators;
 mod pattern;
 mod pool;
 mod race;
+mod replacer;
 mod string;
 mod sys;
 

@@ -46,23 +46,37 @@ impl<T> Pool<T> {
     /// Calls `work` with a value that nobody else uses, made by `make` if none is free.
     #[inline]
     pub(crate) fn with<R>(&self, make: impl FnOnce() -> T, work: impl FnOnce(&mut T) -> R) -> R {
-        work(self.take(make).value())
+        let thread = this_thread();
+        // `work` stands in both branches, so that the compiler knows in each of them which value it has.
+        match self.take_first(thread) {
+            Some(mut first) => work(first.value()),
+            None => work(self.take_another(thread, make).value()),
+        }
     }
 
     /// Takes a value that nobody else uses, made by `make` if none is free, until it is dropped.
     #[inline]
     pub(crate) fn take(&self, make: impl FnOnce() -> T) -> Taken<'_, T> {
         let thread = this_thread();
+        match self.take_first(thread) {
+            Some(first) => first,
+            None => self.take_another(thread, make),
+        }
+    }
+
+    /// Takes the first value, if this thread owns it.
+    #[inline]
+    fn take_first(&self, thread: usize) -> Option<Taken<'_, T>> {
         if self.owner.load(Ordering::Acquire) != thread {
-            return self.take_another(thread, make);
+            return None;
         }
         // No other thread has this number, and this one is here, so nobody else changes `owner` now.
         self.owner.store(IN_USE, Ordering::Relaxed);
         race::acquired(&self.owner);
-        Taken {
+        Some(Taken {
             pool: self,
             value: Value::First(thread),
-        }
+        })
     }
 
     #[inline(never)]

@@ -229,7 +229,7 @@ fn rules_cut_a_text_into_tokens() {
 /// The least time of some runs, for a text of so many tokens.
 fn time_of_tokens(rules: &[Regex], count: usize) -> Duration {
     let text = "a ".repeat(count / 2);
-    let runs = (0..5).map(|_| {
+    let runs = (0..20).map(|_| {
         let begin = Instant::now();
         assert_eq!(tokens(rules, &text).len(), count);
         begin.elapsed()
@@ -241,9 +241,6 @@ fn time_of_tokens(rules: &[Regex], count: usize) -> Duration {
 #[test]
 fn the_time_to_cut_a_text_is_linear_in_its_length() {
     let rules = rules();
-    let (short, long) = (
-        time_of_tokens(&rules, 4_000),
-        time_of_tokens(&rules, 32_000),
-    );
+    let (short, long) = (time_of_tokens(&rules, 1_000), time_of_tokens(&rules, 8_000));
     assert!(long < short * 24, "{short:?} and {long:?}");
 }

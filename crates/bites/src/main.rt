@@ -6,7 +6,7 @@
 //! error.
 #![tactic(auto)]
 
-use bites_run::{refuse_words, run};
+use bites_cli::{refuse_words, run};
 use std::process::ExitCode;
 use std::rt::Env;
 use std::{env, io};

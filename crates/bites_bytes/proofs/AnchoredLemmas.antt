@@ -1,5 +1,6 @@
 -- What searches from one place, and for a match of the whole haystack, leave in slots and say of a regex's tree.
 use Rattle.std.proofs.Common.{◌≡◌, ℕ, ◌≤◌, Bool, true, false, List, ◌++◌, length, take, drop, Option, Some, None, option_map, refl, sym, ap, ◌∙◌, subst, ⊎_elim, ◌⊎◌, true≢false, arith}
+use Rattle.std.proofs.lemmas.Option.{same_Some}
 use Rattle.std.specs.Prelude.{◌↔◌, IsTrue, unwrap_or, is_some, IfSome, MatchOption, Result, Ok, Err, IfOk}
 use Rattle.std.proofs.lemmas.List.{take_all}
 use Rattle.bites_spec.specs.Match.{Span}
@@ -8,16 +9,13 @@ use Rattle.bites_spec.specs.Slots.{slot_in, group_in, span_of_run, span_between,
 use Rattle.bites_spec.specs.Regex.{Regex, IsCompiled}
 use Rattle.bites_spec.specs.Captured.{Excerpt, excerpt, Captured, captured}
 use Rattle.bites_spec.specs.Anchored.{anchored_run, LeastEndFrom, HasMatchFrom, IsFullMatch, AreGroupsAt, anchored_run_at, anchored_span_at, anchored_slots_at, full_run, full_slots, FindsSpanFrom, FindsGroupsFrom, FindsGroupsFull}
-use Rattle.bites_spec.proofs.AnchoredLemmas.{longest_full, longest_not_full, anchored_starts, run-whole, run-lies, found_groups_from, found_span_from, found_groups_full, full_run_found, least_end_from_is_least, anchored_finds_some}
-use Rattle.bites_bytes.specs.Due.{LeavesRun}
-use Rattle.bites_bytes.proofs.DueLemmas.{front_group}
+use Rattle.bites_spec.proofs.regex.AnchoredLemmas.{longest_full, longest_not_full, anchored_starts, run-whole, run-lies, found_groups_from, found_span_from, found_groups_full, full_run_found, least_end_from_is_least, anchored_finds_some}
+use Rattle.bites_bytes.specs.NextMatch.{LeavesRun}
+use Rattle.bites_bytes.proofs.NextLemmas.{front_group}
 use Rattle.bites_bytes.proofs.SlotLemmas.{length-slots, ends, written_over}
 
-some_same : {A : Type 0} (a b : A) → Some a ≡ Some b → a ≡ b
-some_same a b e = cc
-
 -- a run of a regex's program, if there is one, that begins in the haystack
-module _ (r : Regex) (is : IsCompiled r) (hay : List ℕ) (o : Option Run) (begins : (x : Run) → o ≡ Some x → (x.start ≤ length hay) × IsRun r.program hay x.start x.spots x.end) where
+module _ (r : Regex) (is : IsCompiled r) (hay : List ℕ) (o : Option Run) (begins : (x : Run) → o ≡ Some x → (x.start ≤ length hay) × IsRun r.program hay x.start x.configurations x.end) where
   -- what such a search leaves says whether there is one
   pub answered_some : (found : Bool) (old new : List (Option ℕ)) → Answered r.program o found old new → found ≡ is_some o
   answered_some found old new h = by_run o h
@@ -31,7 +29,7 @@ module _ (r : Regex) (is : IsCompiled r) (hay : List ℕ) (o : Option Run) (begi
       group_in new 0 ≡ option_map span_of_run o
   slots_span found old new two holds h = by_run o begins h
     where
-      by_run : (q : Option Run) → ((x : Run) → q ≡ Some x → (x.start ≤ length hay) × IsRun r.program hay x.start x.spots x.end) → Answered r.program q found old new →
+      by_run : (q : Option Run) → ((x : Run) → q ≡ Some x → (x.start ≤ length hay) × IsRun r.program hay x.start x.configurations x.end) → Answered r.program q found old new →
           group_in new 0 ≡ option_map span_of_run q
       by_run None begins h = absurd (true≢false (sym holds ∙ h.0))
       by_run (Some x) begins h =
@@ -43,7 +41,7 @@ module _ (r : Regex) (is : IsCompiled r) (hay : List ℕ) (o : Option Run) (begi
       group_in new 0 ≡ option_map span_of_run o
   all_slots_span found old new is_found holds h = by_run o begins is_found h
     where
-      by_run : (q : Option Run) → ((x : Run) → q ≡ Some x → (x.start ≤ length hay) × IsRun r.program hay x.start x.spots x.end) → found ≡ is_some q →
+      by_run : (q : Option Run) → ((x : Run) → q ≡ Some x → (x.start ≤ length hay) × IsRun r.program hay x.start x.configurations x.end) → found ≡ is_some q →
           new ≡ unwrap_or (option_map (slots r.program) q) old → group_in new 0 ≡ option_map span_of_run q
       by_run None begins is_found h = absurd (true≢false (sym holds ∙ is_found))
       by_run (Some x) begins is_found h = let b = begins x refl in ap (λ l. group_in l 0) h ∙ run-whole r is hay x b.0 b.1
@@ -60,13 +58,13 @@ module _ (r : Regex) (is : IsCompiled r) (hay : List ℕ) (o : Option Run) (begi
   pub known_lie : (e : Option (ℕ × ℕ)) → option_map ends e ≡ option_map span_of_run o → IfSome e (λ s. (s.0 ≤ s.1) × (s.1 ≤ length hay))
   known_lie e h = by_run o begins e h
     where
-      by_run : (q : Option Run) → ((x : Run) → q ≡ Some x → (x.start ≤ length hay) × IsRun r.program hay x.start x.spots x.end) → (e : Option (ℕ × ℕ)) →
+      by_run : (q : Option Run) → ((x : Run) → q ≡ Some x → (x.start ≤ length hay) × IsRun r.program hay x.start x.configurations x.end) → (e : Option (ℕ × ℕ)) →
           option_map ends e ≡ option_map span_of_run q → IfSome e (λ s. (s.0 ≤ s.1) × (s.1 ≤ length hay))
       by_run q begins None h = tt
       by_run None begins (Some e) h = let never : Some (ends e) ≡ None = h in cc
       by_run (Some x) begins (Some e) h =
           let b = begins x refl in let lies = run-lies r is hay x b.0 b.1 in
-          let same : ends e ≡ span_of_run x = some_same (ends e) (span_of_run x) h in
+          let same : ends e ≡ span_of_run x = same_Some (ends e) (span_of_run x) h in
           subst (λ (g : Span). (g.start ≤ g.end) × (g.end ≤ length hay)) (sym same) (lies.1, lies.2)
 
   -- and they are known where something is found
@@ -105,7 +103,7 @@ module _ (r : Regex) (is : IsCompiled r) (hay : List ℕ) where
       same f None None h = refl
       same f None (Some g) h = let never : None ≡ Some (excerpt hay g) = h in cc
       same f (Some m) None h = let never : Some (f m) ≡ None = h in cc
-      same f (Some m) (Some g) h = ap Some (sym (ap (λ (x : Excerpt). x.span) (some_same (f m) (excerpt hay g) h)))
+      same f (Some m) (Some g) h = ap Some (sym (ap (λ (x : Excerpt). x.span) (same_Some (f m) (excerpt hay g) h)))
 
   slots_of : (o : Option (List (Option ℕ))) → o ≡ option_map (λ y. y.slots) (option_map (captured r hay) o)
   slots_of None = refl
@@ -146,7 +144,7 @@ module _ (r : Regex) (is : IsCompiled r) (hay : List ℕ) where
   captured_is o None e = (tt, tt)
   captured_is None (Some c) e = let never : Some c ≡ None = e in absurd (cc)
   captured_is (Some l) (Some c) e =
-      let same = some_same c (captured r hay l) e in (ap (λ (x : Captured). x.regex) same, ap (λ (x : Captured). x.haystack) same)
+      let same = same_Some c (captured r hay l) e in (ap (λ (x : Captured). x.regex) same, ap (λ (x : Captured). x.haystack) same)
 
   -- captures are of the regex that found them, in the haystack that was searched
   pub captures_are : {E : Type 0} (o : Option (List (Option ℕ))) (x : Result (Option Captured) E) → IfOk x (λ c. c ≡ option_map (captured r hay) o) →
@@ -197,13 +195,13 @@ module _ (r : Regex) (is : IsCompiled r) (hay : List ℕ) where
       by_result : (x : Run) → anchored_run r.program hay true 0 ≡ Some x → new ≡ take (length old) (slots r.program x) → (b : Bool) → result ≡ b →
           LeavesRun r.program (full_run r hay) b (length old) new
       by_result x e is_new true holds =
-          let end : x.end ≡ length hay = some_same x.end (length hay) (sym (end_of x e is_new) ∙ ends.0 holds) in
+          let end : x.end ≡ length hay = same_Some x.end (length hay) (sym (end_of x e is_new) ∙ ends.0 holds) in
           subst (λ (o : Option Run). LeavesRun r.program o true (length old) new) (sym (longest_full r.program hay is.well_formed x e end)) (refl, is_new)
       by_result x e is_new false missing =
           subst (λ (o : Option Run). LeavesRun r.program o false (length old) new)
           (sym (longest_not_full r.program hay is.well_formed (Some x) e
           (λ y same end.
-          true≢false (sym (ends.1 (end_of x e is_new ∙ ap Some (ap (λ (z : Run). z.end) (some_same x y same) ∙ end))) ∙ missing)))) refl
+          true≢false (sym (ends.1 (end_of x e is_new ∙ ap Some (ap (λ (z : Run). z.end) (same_Some x y same) ∙ end))) ∙ missing)))) refl
 
       by_run : (q : Option Run) → anchored_run r.program hay true 0 ≡ q → Answered r.program q found old new → LeavesRun r.program (full_run r hay) result (length old) new
       by_run None e h = absurd (true≢false (sym holds ∙ h.0))

@@ -10,8 +10,8 @@ use Rattle.bites_spec.specs.Spans.{successive, successive_after}
 use Rattle.bites_spec.specs.Regex.{Regex, run_at, span_at}
 use Rattle.bites_spec.specs.Captured.{excerpt}
 use Rattle.bites_spec.specs.Iteration.{spans_behind, captured_by, captures_behind}
-use Rattle.bites_spec.proofs.PieceTextLemmas.{length-gaps_from}
-use Rattle.bites_spec.proofs.SuccessiveLemmas.{successive-length, successive_after-length, mapped_after, mapped_successive}
+use Rattle.bites_spec.proofs.iteration.PieceTextLemmas.{length-gaps_from}
+use Rattle.bites_spec.proofs.iteration.SuccessiveLemmas.{successive-length, successive_after-length, mapped_after, mapped_successive}
 use Rattle.bites_bytes.specs.Matches.{spans_left, matches_left, captures_to_come}
 use Rattle.bites_bytes.specs.Split.{pieces_by, pieces_left, at_most_left}
 use Rattle.bites_bytes.specs.declared.bytes.matches.Matches.{Matches}

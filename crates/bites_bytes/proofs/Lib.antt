@@ -1,7 +1,7 @@
 pub mod SearchLemmas
 pub mod SettingsLemmas
 pub mod SlotLemmas
-pub mod DueLemmas
+pub mod NextLemmas
 pub mod AnchoredLemmas
 pub mod MatchLemmas
 pub mod SplitLemmas

@@ -8,9 +8,9 @@ use Rattle.bites_spec.specs.Regex.{Regex, IsCompiled}
 use Rattle.bites_spec.specs.Captured.{Captured}
 use Rattle.bites_spec.specs.Iteration.{captures_in, captures_behind, spans_in, spans_behind}
 use Rattle.bites_spec.specs.Replace.{Gave}
-use Rattle.bites_spec.proofs.RegexRuns.{captures_have_spans}
+use Rattle.bites_spec.proofs.regex.RegexRuns.{captures_have_spans}
 use Rattle.bites_spec.specs.Replaced.{span_in, ReplacesIn}
-use Rattle.bites_bytes.specs.Limit.{taken, bound}
+use Rattle.bites_bytes.specs.ReplaceLimit.{taken, bound}
 use Rattle.bites_bytes.specs.Replacing.{spans_to_replace, captures_to_replace, is_nil, replaces_none, with_texts, EndsByText, EndsBy}
 use Rattle.bites_bytes.specs.declared.bytes.replace.Replacing.{Replacing}
 use Rattle.bites_bytes.proofs.ReplacingLemmas.{taken_limited, limited_map}

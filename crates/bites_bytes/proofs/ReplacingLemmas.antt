@@ -8,7 +8,7 @@ use Rattle.bites_spec.specs.Replace.{Gave}
 use Rattle.bites_bytes.specs.Matched.{excerpt_of}
 use Rattle.bites_bytes.specs.Matches.{IsSameSearch, left_from, spans_left}
 use Rattle.bites_spec.specs.Replaced.{span_in}
-use Rattle.bites_bytes.specs.Limit.{taken, bound, Spends}
+use Rattle.bites_bytes.specs.ReplaceLimit.{taken, bound, Spends}
 use Rattle.bites_bytes.specs.Replacing.{spans_to_replace, captures_to_replace, replaces_none, with_texts, Writes, Rests, StepsByText, OnByText, StepsBy, GoesOn}
 use Rattle.bites_bytes.specs.declared.bytes.matched.Match.{Match}
 use Rattle.bites_bytes.specs.declared.bytes.matches.Cursor.{Cursor}

@@ -6,17 +6,17 @@ use Rattle.bites_spec.specs.Run.{slots}
 use Rattle.bites_spec.specs.Slots.{group_in}
 use Rattle.bites_spec.specs.Regex.{IsCompiled}
 use Rattle.bites_spec.specs.Captured.{Captured, captured, Excerpt}
-use Rattle.bites_spec.proofs.RegexRuns.{run_at-whole}
+use Rattle.bites_spec.proofs.regex.RegexRuns.{run_at-whole}
 use Rattle.bites_bytes.specs.Matched.{excerpt_of}
 use Rattle.bites_bytes.specs.Matches.{IsSameSearch, Moves, Advances, left_from, captures_to_come}
 use Rattle.bites_spec.specs.Replaced.{span_in}
-use Rattle.bites_bytes.specs.Limit.{taken, Spends}
+use Rattle.bites_bytes.specs.ReplaceLimit.{taken, Spends}
 use Rattle.bites_bytes.specs.Replacing.{spans_to_replace, captures_to_replace, Rests, StepsByText, StepsBy}
 use Rattle.bites_bytes.specs.declared.bytes.matched.Match.{Match}
 use Rattle.bites_bytes.specs.declared.bytes.matches.Cursor.{Cursor}
 use Rattle.bites_bytes.specs.declared.bytes.replace.Replacing.{Replacing}
-use Rattle.bites_bytes.proofs.DueLemmas.{front_group}
-use Rattle.bites_bytes.proofs.MatchLemmas.{due_place, captures_advance, advance_moves}
+use Rattle.bites_bytes.proofs.NextLemmas.{front_group}
+use Rattle.bites_bytes.proofs.MatchLemmas.{next_place, captures_advance, advance_moves}
 use Rattle.bites_bytes.proofs.ReplacingLemmas.{taken_step, taken_spent, taken_after, taken_nil, spans_yield, spans_end}
 
 -- what is written for a match
@@ -65,7 +65,7 @@ module _ (s t : Replacing) (there : Bool) (spends : Spends s.left there t.left) 
 pub advance_span : (s : Cursor) (m : Match) (t : Cursor) (n : ℕ) (new : List (Option ℕ)) → IsCompiled s.regex.now → 2 ≤ n →
     Advances s (Some m) t n new → group_in new 0 ≡ Some (excerpt_of m).span
 advance_span s m t n new is le step =
-    let r = s.regex.now in let x = step.0 in let place = due_place r is s.haystack.now s.last x step.1 in
+    let r = s.regex.now in let x = step.0 in let place = next_place r is s.haystack.now s.last x step.1 in
     ap (λ l. group_in l 0) step.3 ∙ front_group n (slots r.program x) le ∙ run_at-whole r is s.haystack.now place.0 x place.1
     ∙ ap (λ (e : Excerpt). Some e.span) (sym step.2.0)
 

@@ -7,8 +7,8 @@ use Rattle.bites_spec.specs.Run.{Run, Answered, LeastEnd, slots}
 use Rattle.bites_spec.specs.Slots.{slot_in, group_in, span_of_run, span_between}
 use Rattle.bites_spec.specs.Found.{HasMatch, IsLeastEnd}
 use Rattle.bites_spec.specs.Regex.{Regex, IsCompiled}
-use Rattle.bites_spec.proofs.FoundLemmas.{LeastEnd-IsLeastEnd, group_0_is_span}
-use Rattle.bites_bytes.proofs.DueLemmas.{front_group}
+use Rattle.bites_spec.proofs.programs.FoundLemmas.{LeastEnd-IsLeastEnd, group_0_is_span}
+use Rattle.bites_bytes.proofs.NextLemmas.{front_group}
 
 -- there is a match where there is a least end
 pub least_has : (t : Tree) (hay : List ℕ) (s : ℕ) (o : Option ℕ) (b : Bool) → IsLeastEnd t hay s o → b ≡ is_some o → IsTrue b ↔ HasMatch t hay s

@@ -6,11 +6,11 @@ use Rattle.bites_spec.specs.Program.{IsWellFormed}
 use Rattle.bites_spec.specs.Built.{Built, IsCompilable}
 use Rattle.bites_spec.specs.Contents.{Contents}
 use Rattle.bites_spec.specs.Regex.{Regex, IsCompiled, NamesAreKept}
-use Rattle.bites_spec.proofs.LeftLemmas.{length-left}
+use Rattle.bites_spec.proofs.regex.LeftLemmas.{length-left}
 use Rattle.bites_spec.specs.Pattern.{Text, Flags}
 use Rattle.bites_spec.specs.Grammar.{Reading}
 use Rattle.bites_spec.specs.Measure.{Limits, TreeLimitsWith, groups_kept, groups_opened, groups_left, static_captures_len}
-use Rattle.bites_spec.proofs.WholeOnce.{reads_once, opened_once}
+use Rattle.bites_spec.proofs.grammar.WholeOnce.{reads_once, opened_once}
 use Rattle.bites_text.specs.declared.error.Error.{Error}
 use Rattle.bites_text.specs.declared.error.Error.TheVariants.{TooBig, TooManyStates, TooManySlots, Memory}
 use Rattle.bites_machine.specs.Compiled as compiled

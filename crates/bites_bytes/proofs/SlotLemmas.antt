@@ -11,7 +11,7 @@ use Rattle.bites_spec.specs.Slots.{group_in, span_of_run}
 use Rattle.bites_spec.specs.Regex.{Regex, IsCompiled, run_at, span_at, slots_at}
 use Rattle.bites_spec.specs.Captured.{Excerpt, excerpt, FindsSpan, FindsGroups, AreGroupsFrom, Captured, captured}
 use Rattle.bites_spec.specs.Found.{NoMatch}
-use Rattle.bites_spec.proofs.RegexRuns.{run_at-whole, span_at-lies, found_span, found_groups}
+use Rattle.bites_spec.proofs.regex.RegexRuns.{run_at-whole, span_at-lies, found_span, found_groups}
 
 pub length-slots : (p : Program) (r : Run) → length (slots p r) ≡ p.slots
 length-slots p r = length-map (range_with_len 0 p.slots) (written p r) ∙ length-range_with_len 0 p.slots

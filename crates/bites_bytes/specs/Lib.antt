@@ -3,9 +3,9 @@ pub mod Settings
 pub mod Names
 pub mod Matched
 pub mod Groups
-pub mod Due
+pub mod NextMatch
 pub mod Matches
 pub mod CapturesLeft
 pub mod Split
-pub mod Limit
+pub mod ReplaceLimit
 pub mod Replacing

@@ -6,7 +6,7 @@ use Rattle.bites_spec.specs.Slots.{span_of_run}
 use Rattle.bites_spec.specs.Regex.{Regex}
 use Rattle.bites_spec.specs.Captured.{Captured, Excerpt, excerpt, captured, AreGroups}
 use Rattle.bites_spec.specs.Iteration.{spans_behind, captures_behind}
-use Rattle.bites_bytes.specs.Due.{run_due}
+use Rattle.bites_bytes.specs.NextMatch.{next_run}
 use Rattle.bites_bytes.specs.Matched.{excerpt_of}
 use Rattle.bites_bytes.specs.declared.bytes.matched.Match.{Match}
 use Rattle.bites_bytes.specs.declared.bytes.matches.Cursor.{Cursor}
@@ -55,11 +55,11 @@ IsSameSearch s t = (t.regex.now ≡ s.regex.now) × (t.haystack.now ≡ s.haysta
 abbrev pub IsMatchOf : Cursor → Cursor → Run → Match → Type 0
 IsMatchOf s t x m = (excerpt_of m ≡ excerpt s.haystack.now (span_of_run x)) × (t.last ≡ Some x.end)
 
--- a step to the run that is due, whose slots are left
+-- a step to the next run, whose slots are left
 abbrev pub Advances : Cursor → Option Match → Cursor → ℕ → List (Option ℕ) → Type 0
 Advances s r t n new =
-    MatchOption r ((run_due s.regex.now s.haystack.now s.last ≡ None) × (t.last ≡ s.last))
-    (λ m. (x : Run) × (run_due s.regex.now s.haystack.now s.last ≡ Some x) × IsMatchOf s t x m × (new ≡ take n (slots s.regex.now.program x)))
+    MatchOption r ((next_run s.regex.now s.haystack.now s.last ≡ None) × (t.last ≡ s.last))
+    (λ m. (x : Run) × (next_run s.regex.now s.haystack.now s.last ≡ Some x) × IsMatchOf s t x m × (new ≡ take n (slots s.regex.now.program x)))
 
 -- the match begins where the one before ended or later, and the search goes on where it ends
 abbrev pub Moves : Cursor → Option Match → Cursor → Type 0

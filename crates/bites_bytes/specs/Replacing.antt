@@ -6,7 +6,7 @@ use Rattle.bites_spec.specs.Captured.{Captured}
 use Rattle.bites_spec.specs.Replace.{Gave}
 use Rattle.bites_bytes.specs.Matches.{IsSameSearch, spans_left, captures_to_come}
 use Rattle.bites_spec.specs.Replaced.{span_in}
-use Rattle.bites_bytes.specs.Limit.{taken}
+use Rattle.bites_bytes.specs.ReplaceLimit.{taken}
 use Rattle.bites_bytes.specs.declared.bytes.replace.Replacing.{Replacing}
 
 -- the haystack, and the end of the last match that was replaced

@@ -9,6 +9,7 @@ mod cache;
 mod capture_matches;
 mod captures;
 mod groups;
+mod is_match;
 mod locations;
 mod matched;
 mod matches;

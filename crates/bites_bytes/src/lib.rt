@@ -5,6 +5,5 @@
 #![tactic(auto)]
 
 pub mod bytes;
-pub mod limit;
-pub mod named;
-pub mod shown;
+pub mod debug;
+pub mod replace_limit;

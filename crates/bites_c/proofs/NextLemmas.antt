@@ -1,15 +1,15 @@
--- The match that is due behind another.
+-- The next match after another.
 use Rattle.std.proofs.Common.{◌≡◌, ℕ, ◌+◌, Bool, true, false, cond, if◌then◌else◌, List, map, length, Option, Some, None, option_map, unwrap_or, is_some, refl, sym, ap, subst, ◌∙◌}
 use Rattle.bites_spec.specs.Utf8.{step_len}
 use Rattle.bites_spec.specs.Match.{Span, span}
 use Rattle.bites_spec.specs.Run.{Run, slots}
 use Rattle.bites_spec.specs.Slots.{span_of_run, group_in}
-use Rattle.bites_spec.specs.Spans.{is_empty_at, due_after, followed, successive_after, successive, AnswersLie, LiesFrom}
+use Rattle.bites_spec.specs.Spans.{is_empty_at, next_after, followed, successive_after, successive, AnswersLie, LiesFrom}
 use Rattle.bites_spec.specs.Regex.{Regex, IsCompiled, run_at, span_at, slots_at}
 use Rattle.bites_spec.specs.Captured.{Excerpt, excerpt}
 use Rattle.bites_spec.specs.Iteration.{spans_behind, captures_behind, captured_by}
-use Rattle.bites_spec.proofs.RegexRuns.{run_at-lies, run_at-whole}
-use Rattle.bites_spec.proofs.SuccessiveLemmas.{goes_on}
+use Rattle.bites_spec.proofs.regex.RegexRuns.{run_at-lies, run_at-whole}
+use Rattle.bites_spec.proofs.iteration.SuccessiveLemmas.{goes_on}
 use Rattle.bites_c.specs.Searched.{FindsNext, FindsNextGroups}
 
 module _ (r : Regex) (compiled : IsCompiled r) (hay : List ℕ) where
@@ -48,28 +48,28 @@ module _ (r : Regex) (compiled : IsCompiled r) (hay : List ℕ) where
   unfolding successive
   first_next o e = next_of None o (ap (followed (λ s. s) (successive_after (λ s. s) hay (span_at r hay))) (sym e))
 
-  due_next : (e : ℕ) (o : Option Span) → o ≡ due_after (λ s. s) hay (span_at r hay) e → FindsNext r hay (Some e) o
-  due_next e o same =
+  next_lies : (e : ℕ) (o : Option Span) → o ≡ next_after (λ s. s) hay (span_at r hay) e → FindsNext r hay (Some e) o
+  next_lies e o same =
       next_of (Some e) o
       (goes_on (λ s. s) hay (span_at r hay) span_lies e ∙ ap (followed (λ s. s) (successive_after (λ s. s) hay (span_at r hay))) (sym same))
 
-  due_by : (e : ℕ) (o : Option Span) → o ≡ span_at r hay e →
-      due_after (λ s. s) hay (span_at r hay) e ≡ cond (is_empty_at (λ s. s) e o) (span_at r hay (e + step_len hay e)) o
-  unfolding due_after
-  due_by e o h = ap (λ q. cond (is_empty_at (λ s. s) e q) (span_at r hay (e + step_len hay e)) q) (sym h)
+  next_by : (e : ℕ) (o : Option Span) → o ≡ span_at r hay e →
+      next_after (λ s. s) hay (span_at r hay) e ≡ cond (is_empty_at (λ s. s) e o) (span_at r hay (e + step_len hay e)) o
+  unfolding next_after
+  next_by e o h = ap (λ q. cond (is_empty_at (λ s. s) e q) (span_at r hay (e + step_len hay e)) q) (sym h)
 
   -- what is found where the match before ended, if it is not empty there
   pub found_next : (e : ℕ) (o : Option Span) → o ≡ span_at r hay e → is_empty_at (λ s. s) e o ≡ false → FindsNext r hay (Some e) o
   found_next e o h apart =
-      due_next e o (sym (due_by e o h ∙ ap (λ b. cond b (span_at r hay (e + step_len hay e)) o) apart))
+      next_lies e o (sym (next_by e o h ∙ ap (λ b. cond b (span_at r hay (e + step_len hay e)) o) apart))
 
   -- else what is found one character later
   pub later_next :
       (e step : ℕ) (o later : Option Span) → o ≡ span_at r hay e → is_empty_at (λ s. s) e o ≡ true → step ≡ step_len hay e →
       later ≡ span_at r hay (e + step) → FindsNext r hay (Some e) later
   later_next e step o later h empty is_step again =
-      due_next e later
-      (again ∙ ap (λ k. span_at r hay (e + k)) is_step ∙ sym (due_by e o h ∙ ap (λ b. cond b (span_at r hay (e + step_len hay e)) o) empty))
+      next_lies e later
+      (again ∙ ap (λ k. span_at r hay (e + k)) is_step ∙ sym (next_by e o h ∙ ap (λ b. cond b (span_at r hay (e + step_len hay e)) o) empty))
 
   -- what comes behind a run, if there is one, after the run
   abbrev runs_from : Option Run → List Run
@@ -83,19 +83,19 @@ module _ (r : Regex) (compiled : IsCompiled r) (hay : List ℕ) where
   unfolding successive
   first_captures = refl
 
-  due_captures : (e : ℕ) (o : Option Run) → due_after span_of_run hay (run_at r hay) e ≡ o →
+  next_captures : (e : ℕ) (o : Option Run) → next_after span_of_run hay (run_at r hay) e ≡ o →
       captures_behind r hay (Some e) ≡ map (captured_by r hay) (runs_from o)
-  due_captures e o due =
+  next_captures e o is_next =
       ap (map (captured_by r hay)) (goes_on span_of_run hay (run_at r hay) (run_at-lies r compiled hay) e)
-      ∙ ap (λ q. map (captured_by r hay) (runs_from q)) due
+      ∙ ap (λ q. map (captured_by r hay) (runs_from q)) is_next
 
-  run_now : (e : ℕ) → is_empty_at span_of_run e (run_at r hay e) ≡ false → due_after span_of_run hay (run_at r hay) e ≡ run_at r hay e
-  unfolding due_after
+  run_now : (e : ℕ) → is_empty_at span_of_run e (run_at r hay e) ≡ false → next_after span_of_run hay (run_at r hay) e ≡ run_at r hay e
+  unfolding next_after
   run_now e apart = ap (λ b. cond b (run_at r hay (e + step_len hay e)) (run_at r hay e)) apart
 
   run_later : (e : ℕ) → is_empty_at span_of_run e (run_at r hay e) ≡ true →
-      due_after span_of_run hay (run_at r hay) e ≡ run_at r hay (e + step_len hay e)
-  unfolding due_after
+      next_after span_of_run hay (run_at r hay) e ≡ run_at r hay (e + step_len hay e)
+  unfolding next_after
   run_later e empty = ap (λ b. cond b (run_at r hay (e + step_len hay e)) (run_at r hay e)) empty
 
   groups_of :
@@ -137,7 +137,7 @@ module _ (r : Regex) (compiled : IsCompiled r) (hay : List ℕ) where
       let there : is_empty_at (λ s. s) at (span_at r hay at) ≡ false = ap (is_empty_at (λ s. s) at) (sym same) ∙ apart in
       read_groups (Some at) (run_at r hay at) found old new b same is e
       (groups_of (Some at) (run_at r hay at) (λ x h. run_at-whole r compiled hay at x h)
-      (due_captures at (run_at r hay at) (run_now at (same_empty at (run_at r hay at) ∙ there))) (found_next at (span_at r hay at) refl there))
+      (next_captures at (run_at r hay at) (run_now at (same_empty at (run_at r hay at) ∙ there))) (found_next at (span_at r hay at) refl there))
 
   -- else those of what is found one character later
   pub later_groups :
@@ -148,8 +148,8 @@ module _ (r : Regex) (compiled : IsCompiled r) (hay : List ℕ) where
       FindsNextGroups r hay (Some at) (if b then Some new else None)
   later_groups at step found later old new b same empty stepped again is e =
       let there : is_empty_at (λ s. s) at (span_at r hay at) ≡ true = ap (is_empty_at (λ s. s) at) (sym same) ∙ empty in
-      let due = run_later at (same_empty at (run_at r hay at) ∙ there) ∙ ap (λ k. run_at r hay (at + k)) (sym stepped) in
+      let is_next = run_later at (same_empty at (run_at r hay at) ∙ there) ∙ ap (λ k. run_at r hay (at + k)) (sym stepped) in
       read_groups (Some at) (run_at r hay (at + step)) later old new b again is e
       (groups_of (Some at) (run_at r hay (at + step)) (λ x h. run_at-whole r compiled hay (at + step) x h)
-      (due_captures at (run_at r hay (at + step)) due)
+      (next_captures at (run_at r hay (at + step)) is_next)
       (later_next at step (span_at r hay at) (span_at r hay (at + step)) refl there stepped refl))

@@ -10,7 +10,7 @@ use Rattle.bites_spec.specs.Iteration.{captures_in}
 use Rattle.bites_spec.specs.Template.{byte, plain, expansion}
 use Rattle.bites_spec.specs.Replaced.{span_in}
 use Rattle.bites_spec.specs.Replacer.{expanded, is_plain}
-use Rattle.bites_spec.proofs.TemplateLemmas.{expansion_front, expansion_end}
+use Rattle.bites_spec.proofs.templates.TemplateLemmas.{expansion_front, expansion_end}
 use Rattle.bites_c.specs.Put.{PutsText, PutsMade}
 use Rattle.bites_c.specs.Replaced.{with_template, with_text}
 use Rattle.bites_c.specs.declared.text.BitesSize.{BitesSize}

@@ -8,7 +8,7 @@ use Rattle.bites_spec.specs.Captured.{Captured}
 use Rattle.bites_spec.specs.Iteration.{captures_in, captures_behind, spans_in, spans_behind}
 use Rattle.bites_spec.specs.Replaced.{span_in}
 use Rattle.bites_spec.specs.Replacer.{expanded}
-use Rattle.bites_bytes.specs.Limit.{taken, bound}
+use Rattle.bites_bytes.specs.ReplaceLimit.{taken, bound}
 use Rattle.bites_bytes.specs.Replacing.{replaces_none}
 use Rattle.bites_bytes.proofs.ReplacingLemmas.{taken_limited, limited_map}
 use Rattle.bites_bytes.proofs.ReplacedLemmas.{nothing_iff, limited_none, mapped_none, spans_of_captures}

@@ -6,10 +6,10 @@ use Rattle.bites_syntax.proofs.tree.Tree.TheLaws.TheKnot.{crosses as tree_crosse
 use Rattle.bites_machine.proofs.state.State.TheSendSync as state
 use Rattle.bites_machine.specs.contracts.prefix.StartPrefix as StartPrefix
 use Rattle.bites_machine.proofs.vm.threads.Threads.TheSendSync as threads
-use Rattle.bites_machine.proofs.vm.walk.Desk.TheSendSync as desk
+use Rattle.bites_machine.proofs.vm.closure.Scratch.TheSendSync as scratch
 use Rattle.bites_machine.specs.contracts.program.Program as Program
 use Rattle.bites_machine.specs.contracts.vm.cache.Cache as MachineCache
-use Rattle.bites_machine.specs.contracts.vm.counted.Walked as Walked
+use Rattle.bites_machine.specs.contracts.vm.counted.Trace as Trace
 use Rattle.bites_bytes.proofs.bytes.locations.CaptureLocations.TheSendSync as locations
 use Rattle.bites_bytes.specs.contracts.bytes.cache.Cache as Cache
 use Rattle.bites_bytes.specs.contracts.bytes.regex.Compiled as Compiled
@@ -41,11 +41,11 @@ regex_send = search (sendable, crosses, compiled_send, compiled_sync) depth 20
 pub held_send : IsSend Held.the_row
 held_send = search (sendable, regex_send) depth 20
 
-walked_send : IsSend Walked.the_row
-walked_send = search (sendable, crosses) depth 20
+trace_send : IsSend Trace.the_row
+trace_send = search (sendable, crosses) depth 20
 
 machine_send : IsSend MachineCache.the_row
-machine_send = search (sendable, threads.the_send, desk.the_send, desk.the_field_send, walked_send) depth 20
+machine_send = search (sendable, threads.the_send, scratch.the_send, scratch.the_field_send, trace_send) depth 20
 
 cache_send : IsSend Cache.the_row
 cache_send = search (sendable, machine_send) depth 20

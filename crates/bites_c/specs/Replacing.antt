@@ -5,7 +5,7 @@ use Rattle.bites_spec.specs.Pieces.{replaced_from}
 use Rattle.bites_spec.specs.Regex.{Regex}
 use Rattle.bites_spec.specs.Captured.{Captured}
 use Rattle.bites_spec.specs.Iteration.{spans_behind, captures_behind}
-use Rattle.bites_bytes.specs.Limit.{taken, bound}
+use Rattle.bites_bytes.specs.ReplaceLimit.{taken, bound}
 use Rattle.bites_bytes.specs.Replacing.{replaces_none}
 use Rattle.bites_c.specs.declared.replacing.Replacing.{Replacing}
 

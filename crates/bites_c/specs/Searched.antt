@@ -78,7 +78,7 @@ abbrev pub FindsNext : Regex → List ℕ → Option ℕ → Option Span → Typ
 FindsNext r hay last None = spans_behind r hay last ≡ []
 FindsNext r hay last (Some s) = spans_behind r hay last ≡ s ∷ spans_behind r hay (Some s.end)
 
--- the groups that are found are those of the match that is due behind another, or of the first of all: their match is the first
+-- the groups that are found are those of the next match after another, or of the first of all: their match is the first
 -- that is left, and what is left behind it are the groups of the others
 abbrev pub FindsNextGroups : Regex → List ℕ → Option ℕ → Option (List (Option ℕ)) → Type 0
 FindsNextGroups r hay last None = FindsNext r hay last None × (captures_behind r hay last ≡ [])

@@ -63,8 +63,15 @@ impl BitesCache {
 impl Drop for BitesCache {
     fn drop(self) {
         match self.into_box() {
-            Some(room) => drop(room),
+            Some(room) => free(room),
             None => {}
         }
     }
+}
+
+// Frees what a handle holds. It stands out of line, since a call puts what it took back into a handle that is empty.
+#[cold]
+#[inline(never)]
+fn free(room: Box<Room, Global>) {
+    drop(room);
 }

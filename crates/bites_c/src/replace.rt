@@ -12,6 +12,7 @@ ghost use Rattle.bites_c.specs.Texts.{AreUtf8, AsksGroups, LiesAtBorders};
 
 use crate::codes::{BAD_SPAN, MATCH, NO_MATCH, NO_MEMORY, NOT_BORDER, NOT_UTF8};
 use crate::held::Held;
+use crate::replacing::GROWTH;
 use crate::span::BitesSpan;
 use crate::text::{BitesSize, index_of, put, put_as};
 use crate::texts::refuses;
@@ -54,7 +55,9 @@ pub(crate) fn put_expanded(
     if let Some(code) = fault_of(held.is_text, haystack, groups, template) {
         return BitesSize::refused(code);
     }
-    let mut text = Vec::new(alloc);
+    let Ok(mut text) = Vec::with_capacity(alloc, template.len().saturating_add(GROWTH)) else {
+        return BitesSize::refused(NO_MEMORY);
+    };
     match expand(&held.regex, haystack, groups, template, &mut text) {
         Ok(()) => put(text.as_slice(), out),
         Err(_) => BitesSize::refused(NO_MEMORY),

@@ -11,15 +11,18 @@ ghost use Rattle.bites_spec.specs.Refused.{AppendsUntilRefused};
 ghost use Rattle.bites_spec.specs.Replaced.{span_in};
 ghost use Rattle.bites_spec.specs.Replacer.{answer_text, expanded, is_plain};
 ghost use Rattle.bites_spec.specs.Slots.{group_in};
-ghost use Rattle.bites_bytes.specs.Limit.{bound};
+ghost use Rattle.bites_bytes.specs.ReplaceLimit.{bound};
 ghost use Rattle.bites_c.specs.Replaced.{IsReplaced, with_template, with_text};
 
 use crate::room::{Room, read_next};
 use crate::text::index_of;
 use bites_bytes::bytes::{Cache, CaptureLocations, Regex};
-use bites_bytes::limit::{bound, spend};
+use bites_bytes::replace_limit::{bound, spend};
 use bites_machine::interpolate;
 use std::alloc::{AllocError, Global};
+
+/// How many bytes longer than what is read a text may get before it is moved. That is enough for most short texts.
+pub(crate) const GROWTH: usize = 32;
 
 /// The haystack up to the end of the last match that was replaced, with the new texts.
 #[derive(Drop)]
@@ -55,7 +58,8 @@ impl<'h> Replacing<'h> {
         ensures { OnOk result (Writes (span start end) [] self.old self.new) }
     {
         if self.last.is_none() {
-            self.out.reserve(self.haystack.len())?;
+            self.out
+                .reserve(self.haystack.len().saturating_add(GROWTH))?;
         }
         let begin = self.last.unwrap_or(0);
         self.out.extend_from_slice(&self.haystack[begin..start])?;

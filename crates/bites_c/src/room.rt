@@ -79,6 +79,7 @@ impl Room {
     }
 
     /// Where the first match from `start` on begins and ends.
+    #[inline(always)]
     pub(crate) fn find(
         &mut self,
         regex: &Regex,
@@ -126,6 +127,7 @@ impl Room {
     }
 
     /// Where the match begins and ends that is due behind one that ends at `last`, or the first of all.
+    #[inline(always)]
     pub(crate) fn next(
         &mut self,
         regex: &Regex,

@@ -35,6 +35,7 @@ pub(crate) struct Search {
 }
 
 /// Takes out what the handles hold, if both hold something and the room fits. Else both stay as they were.
+#[inline(always)]
 pub(crate) fn begin(alloc: Global, regex: &mut Bites, cache: &mut BitesCache) -> Result<Search, u32>
     ensures taken { IfOk result (λ s. (regex.old.held ≡ Some s.held.value)
         × (cache.old.room ≡ Some s.room.value)) }
@@ -58,6 +59,7 @@ pub(crate) fn begin(alloc: Global, regex: &mut Bites, cache: &mut BitesCache) ->
 }
 
 /// [`begin`] for a search from `start` on. Where the regex refuses the haystack or the start, both handles stay too.
+#[inline(always)]
 pub(crate) fn begin_from(
     alloc: Global,
     regex: &mut Bites,
@@ -86,6 +88,7 @@ pub(crate) fn begin_from(
 
 /// [`begin`] for a search that goes on behind a match that ends at `last`, or begins at the first of all. Where the regex
 /// refuses the haystack or the place, both handles stay too.
+#[inline(always)]
 pub(crate) fn begin_behind(
     alloc: Global,
     regex: &mut Bites,
@@ -114,6 +117,7 @@ pub(crate) fn begin_behind(
 
 /// [`begin`] for all matches in the haystack, with another text beside it. Where the regex refuses one of them, both handles
 /// stay too.
+#[inline(always)]
 pub(crate) fn begin_over(
     alloc: Global,
     regex: &mut Bites,
@@ -330,6 +334,7 @@ impl Search {
     }
 
     /// Puts back what was taken.
+    #[inline(always)]
     pub(crate) fn end(self, regex: &mut Bites, cache: &mut BitesCache)
         ensures regex { regex.new.held ≡ Some self.held.value }
         ensures room { cache.new.room ≡ Some self.room.value }

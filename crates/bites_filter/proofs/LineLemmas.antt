@@ -1,26 +1,24 @@
 -- Work that goes from line to line.
-use Rattle.std.proofs.Common.{◌≡◌, ℕ, ◌+◌, ◌<◌, Bool, true, false, cond, List, [], ◌∷◌, ◌++◌, ◌⊎◌, length, Option, Some, None, refl, sym, ap, ◌∙◌, subst, inl, inr, ⊎_elim, arith, append_assoc, add_assoc, add-zero, zero-add, IfSome}
+use Rattle.std.proofs.Common.{◌≡◌, ℕ, ◌+◌, ◌<◌, Bool, true, false, cond, List, [], ◌∷◌, ◌++◌, ◌⊎◌, length, Option, Some, None, refl, sym, ap, ◌∙◌, subst, ⊎_elim, arith, append_assoc, add_assoc, add-zero, zero-add, IfSome}
+use Rattle.std.proofs.lemmas.Bool.{cases_Bool}
 use Rattle.std.proofs.lemmas.List.{append-nil}
 use Rattle.std.specs.Prelude.{◌==◌}
 use Rattle.std.specs.Io.BufRead.{take_through, drop_through, DropsThrough}
 use Rattle.std.specs.Io.KnownBytes.{Appends, IsAtEnd}
+use Rattle.bites_filter.proofs.Written.{appends_none, appends_both}
 use Rattle.bites_filter.specs.Lines.{lines_of, put_in_front, ReadsLine, DoesEach}
-
-bool_cases : (b : Bool) → (b ≡ true) ⊎ (b ≡ false)
-bool_cases true = inl refl
-bool_cases false = inr refl
 
 -- a byte in front of what stands up to the first line feed
 in_front : (b : ℕ) (bs : List ℕ) → put_in_front b (lines_of bs) ≡ (b ∷ take_through 10 bs) ∷ lines_of (drop_through 10 bs)
 in_front b [] = refl
 in_front b (c ∷ cs) =
     let first : lines_of (c ∷ cs) ≡ take_through 10 (c ∷ cs) ∷ lines_of (drop_through 10 (c ∷ cs)) =
-    ⊎_elim (λ is. rw is refl) (λ is. rw is (in_front c cs)) (bool_cases (c == 10)) in
+    ⊎_elim (λ is. rw is refl) (λ is. rw is (in_front c cs)) (cases_Bool (c == 10)) in
     ap (put_in_front b) first
 
 -- the first line is what stands up to the first line feed, and the others are the lines after it
 lines_first : (b : ℕ) (bs : List ℕ) → lines_of (b ∷ bs) ≡ take_through 10 (b ∷ bs) ∷ lines_of (drop_through 10 (b ∷ bs))
-lines_first b bs = ⊎_elim (λ is. rw is refl) (λ is. rw is (in_front b bs)) (bool_cases (b == 10))
+lines_first b bs = ⊎_elim (λ is. rw is refl) (λ is. rw is (in_front b bs)) (cases_Bool (b == 10))
 
 line_first : (line ys : List ℕ) → 0 < length line → line ≡ take_through 10 ys → lines_of ys ≡ line ∷ lines_of (drop_through 10 ys)
 line_first line [] some e = let none : length line ≡ 0 = ap length e in absurd (omega (arith, some, none))
@@ -38,16 +36,6 @@ line_read (Some ys) (Some zs) line some is drops =
 pub no_line : (left rest : Option (List ℕ)) (line : List ℕ) → IsAtEnd left → ReadsLine left false line rest
 no_line None rest line end = tt
 no_line (Some ys) rest line end = ap lines_of end
-
-appends_none : (o : Option (List ℕ)) → Appends o o []
-appends_none None = tt
-appends_none (Some xs) = sym (append-nil xs)
-
-appends_both : (a b c : Option (List ℕ)) (x y : List ℕ) → Appends a b x → Appends b c y → Appends a c (x ++ y)
-appends_both None b c x y f g = tt
-appends_both (Some a) None c x y f g = absurd f
-appends_both (Some a) (Some b) None x y f g = absurd g
-appends_both (Some a) (Some b) (Some c) x y f g = g ∙ ap (λ l. l ++ y) f ∙ append_assoc a x y
 
 module _ {S : Type 0} (Does : S → ℕ → List ℕ → List ℕ → Bool → S → Type 0) where
   -- What was written is right so far: with what the other lines write it is right for all.

@@ -1,7 +1,7 @@
 -- Matches replaced by a template, on the tree.
-use Rattle.std.proofs.Common.{◌≡◌, ◌≢◌, ℕ, zero, suc, Bool, true, false, not, cond, List, [], ◌∷◌, ◌++◌, map, Option, Some, None, refl, sym, ap, ◌∙◌, subst, inl, inr, eq-eqb, ◌⊎◌}
+use Rattle.std.proofs.Common.{◌≡◌, ◌≢◌, ℕ, zero, suc, Bool, true, false, not, cond, List, [], ◌∷◌, map, Option, Some, None, refl, ap, ◌∙◌, subst, inl, inr, eq-eqb, ◌⊎◌}
+use Rattle.std.proofs.lemmas.Bool.{cases_Bool}
 use Rattle.std.specs.Prelude.{◌==◌, flat_map, ◌&&◌}
-use Rattle.std.specs.List.{list_all}
 use Rattle.bites_spec.specs.Code.{code}
 use Rattle.bites_spec.specs.Found.{NoMatch}
 use Rattle.bites_spec.specs.Regex.{Regex, IsCompiled}
@@ -12,14 +12,10 @@ use Rattle.bites_spec.specs.Pieces.{limited, replaced}
 use Rattle.bites_spec.specs.Replaced.{span_in, ReplacesIn}
 use Rattle.bites_spec.specs.Replace.{Gave, Served}
 use Rattle.bites_spec.specs.Replacer.{expanded, is_plain, plain_text, GivesExpansion, AnswersPlain}
-use Rattle.bites_spec.specs.Template.{Part, byte, Cuts, plain, ends, stands_for}
+use Rattle.bites_spec.specs.Template.{byte, Cuts, plain, ends, stands_for}
 use Rattle.bites_spec.specs.Expansion.{text_in, index_in}
 use Rattle.bites_spec.specs.TemplateLaws.{ExpandsOnce}
 use Rattle.bites_filter.specs.Substituted.{Substitutes}
-
-bool_cases : (b : Bool) → (b ≡ true) ⊎ (b ≡ false)
-bool_cases true = inl refl
-bool_cases false = inr refl
 
 both_true : (a b : Bool) → a && b ≡ true → (a ≡ true) × (b ≡ true)
 both_true true b e = (refl, e)
@@ -47,7 +43,7 @@ is_other b e = λ same. let equal : (b == code "$") ≡ true = eq-eqb b (code "$
     let never : not true ≡ true = subst (λ x. not x ≡ true) equal e in absurd (cc)
 
 plain_answer : (template x : List ℕ) → Some x ≡ plain_text template → (x ≡ template) × (is_plain template ≡ true)
-plain_answer template x e = elim (bool_cases (is_plain template)) [
+plain_answer template x e = elim (cases_Bool (is_plain template)) [
   | inl is ↦ let some : Some x ≡ Some template = e ∙ ap (λ b. cond b (Some template) None) is in (cc, is)
   | inr is ↦ let never : Some x ≡ None = e ∙ ap (λ b. cond b (Some template) None) is in absurd (cc)
 ]

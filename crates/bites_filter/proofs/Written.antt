@@ -1,5 +1,6 @@
 -- What is written one behind the other.
-use Rattle.std.proofs.Common.{◌≡◌, ℕ, ◌-◌, ◌<◌, Bool, true, false, List, [], ◌∷◌, ◌++◌, length, Option, Some, None, refl, sym, ap, ◌∙◌, inl, inr, ◌⊎◌, eqb-true, append_assoc, arith}
+use Rattle.std.proofs.Common.{◌≡◌, ℕ, ◌-◌, ◌<◌, Bool, true, false, List, [], ◌++◌, length, Option, Some, None, refl, sym, ap, ◌∙◌, inl, inr, ◌⊎◌, eqb-true, append_assoc, arith}
+use Rattle.std.proofs.lemmas.Bool.{cases_Bool}
 use Rattle.std.proofs.lemmas.Grind.{common_steps}
 use Rattle.std.proofs.lemmas.List.{append-nil}
 use borrow.Author.Tests.{ltb-true}
@@ -18,17 +19,13 @@ appends_both (Some a) None c x y f g = absurd f
 appends_both (Some a) (Some b) None x y f g = absurd g
 appends_both (Some a) (Some b) (Some c) x y f g = g ∙ ap (λ l. l ++ y) f ∙ append_assoc a x y
 
-bool_cases : (b : Bool) → (b ≡ true) ⊎ (b ≡ false)
-bool_cases true = inl refl
-bool_cases false = inr refl
-
 both_true : (a b : Bool) → a && b ≡ true → (a ≡ true) × (b ≡ true)
 both_true true b e = (refl, e)
 both_true false b e = let never : false ≡ true = e in absurd (cc)
 
 -- a line is its text and its line feed
 pub line_is : (line : List ℕ) → line ≡ strip_last 10 line ++ line_feed_of line
-line_is line = elim (bool_cases (ends_with_byte 10 line)) [
+line_is line = elim (cases_Bool (ends_with_byte 10 line)) [
   | inl is ↦ let both = both_true (nat_lt 0 (length line)) (slice_index line (length line - 1) == 10) is in
       let some : 0 < length line = ltb-true 0 (length line) both.0 in
       let last : slice_index line (length line - 1) ≡ 10 = eqb-true (slice_index line (length line - 1)) 10 both.1 in

@@ -1,7 +1,10 @@
-//! What the programs that work line by line share: their loop, a regex with its cache, and their faults.
+//! What the programs that work line by line share: their loop, a regex with its cache, rows of values, and their faults.
 #![tactic(auto)]
 
+pub mod csv;
 pub mod fault;
 pub mod lines;
 pub mod program;
 pub mod searcher;
+pub mod table;
+pub mod text_searcher;

@@ -1,6 +1,8 @@
 //! What a program is started with.
 
 use crate::fault::Fault;
+use std::io::Write;
+use std::process::ExitCode;
 use std::rt::Env;
 use std::{env, io};
 
@@ -28,4 +30,20 @@ pub fn open<B>(buffer: io::Result<B>) -> Result<B, Fault> {
         Ok(buffer) => Ok(buffer),
         Err(error) => Err(Fault::of_writing(&error)),
     }
+}
+
+/// Writes what the buffer holds.
+pub fn flush<W: Write>(out: &mut W) -> Result<(), Fault> {
+    match out.flush() {
+        Ok(()) => Ok(()),
+        Err(error) => Err(Fault::of_writing(&error)),
+    }
+}
+
+/// Returns the status of a program that ended so. Of a fault it writes the line.
+pub fn status<E: Write>(program: &str, ended: Result<u8, Fault>, err: &mut E) -> ExitCode {
+    ExitCode::from(match ended {
+        Ok(status) => status,
+        Err(fault) => fault.tell(program, err),
+    })
 }

@@ -1,25 +1,21 @@
 -- What a search from one place answers, as contracts say it.
-use Rattle.std.proofs.Common.{◌≡◌, ℕ, suc, ◌<◌, ◌≤◌, ◌⊎◌, ⊎_elim, Bool, true, false, cond, List, [], length, Option, Some, None, refl, sym, ap, ap₂, subst, inl, inr, arith, le-leb, leb-true}
-use Rattle.std.proofs.lemmas.Bool.{cases_lt}
+use Rattle.std.proofs.Common.{◌≡◌, ℕ, suc, ◌<◌, ◌≤◌, ◌⊎◌, ⊎_elim, Bool, true, false, cond, List, [], length, Option, Some, None, refl, sym, ap, ap₂, subst, arith, le-leb, leb-true}
+use Rattle.std.proofs.lemmas.Bool.{cases_lt, cases_Bool}
 use Rattle.std.specs.Prelude.{is_some, nat_le}
-use Rattle.bites_spec.specs.Program.{Program, Spot, IsWellFormed}
+use Rattle.bites_spec.specs.Program.{Program, Configuration, IsWellFormed}
 use Rattle.bites_spec.specs.Run.{Run, Answered, first_run_from, longest_run_below}
 use Rattle.bites_spec.specs.Counts.{Record, IsBounded}
 use Rattle.bites_spec.specs.Anchored.{anchored_run, LeastEndFrom, VisitedFrom}
 use Rattle.bites_machine.specs.Machine.{Thread}
 use Rattle.bites_machine.specs.Sweep.{left_in}
-use Rattle.bites_machine.specs.Anchored.{SoughtFrom}
+use Rattle.bites_machine.specs.Anchored.{AnchoredResult}
 use Rattle.bites_machine.proofs.MachineAnswers.{record_of, answered, past_counted}
 use Rattle.bites_machine.proofs.AnchoredFirst.{first_from_answer}
 use Rattle.bites_machine.proofs.AnchoredLongest.{longest_from_answer}
 use Rattle.bites_machine.proofs.AnchoredClosed.{all_visited_from, no_run_from, some_visited_from, least_end_from}
 use Rattle.bites_machine.proofs.AnchoredCounts.{stepped_bounded}
 
-bool_cases : (b : Bool) → (b ≡ true) ⊎ (b ≡ false)
-bool_cases true = inl refl
-bool_cases false = inr refl
-
-abbrev recorded : List Spot → ℕ → Record
+abbrev recorded : List Configuration → ℕ → Record
 recorded visits looks = record { visits = visits; looks = looks }
 
 -- within the haystack the run is the one from the start, and past its end there is none
@@ -31,7 +27,7 @@ run_within p hay longest start le =
 run_past : (p : Program) (hay : List ℕ) (longest : Bool) (start : ℕ) → length hay < start → anchored_run p hay longest start ≡ None
 run_past p hay longest start lt =
     ap (λ (b : Bool). cond b (cond longest (longest_run_below p hay (suc (length hay)) start) (first_run_from p hay start)) None)
-    (⊎_elim (λ (e : nat_le start (length hay) ≡ true). let le = leb-true start (length hay) e in absurd (omega arith)) (λ e. e) (bool_cases (nat_le start (length hay))))
+    (⊎_elim (λ (e : nat_le start (length hay) ≡ true). let le = leb-true start (length hay) e in absurd (omega arith)) (λ e. e) (cases_Bool (nat_le start (length hay))))
 
 module _ (p : Program) (hay : List ℕ) (well : IsWellFormed p) (start : ℕ) (answer : Bool) (old new : List (Option ℕ)) (walked : Record) (fits : length old ≤ p.slots) where
   -- nothing was found, and nothing was done
@@ -40,19 +36,19 @@ module _ (p : Program) (hay : List ℕ) (well : IsWellFormed p) (start : ℕ) (a
 
   -- what a search did, if it began within the haystack, and else
   abbrev pub DidFrom : Bool → Bool → Type 0
-  DidFrom longest earliest = (start ≤ length hay → SoughtFrom p hay longest earliest start answer old new walked) × (length hay < start → Rests)
+  DidFrom longest earliest = (start ≤ length hay → AnchoredResult p hay longest earliest start answer old new walked) × (length hay < start → Rests)
 
   nothing_answered : (o : Option Run) → o ≡ None → Rests → Answered p o answer old new
   nothing_answered o none rests =
       subst (λ x. Answered p x answer old new) (sym none)
       (subst (λ b. Answered p None b old new) (sym rests.0) (subst (λ (l : List (Option ℕ)). Answered p None false old l) (sym rests.1) (refl, refl)))
 
-  to_answer : (o : Option Run) (longest earliest : Bool) (s : SoughtFrom p hay longest earliest start answer old new walked) →
+  to_answer : (o : Option Run) (longest earliest : Bool) (s : AnchoredResult p hay longest earliest start answer old new walked) →
       Answered p o (is_some s.last.best) old (left_in s.last.best old) → Answered p o answer old new
   to_answer o longest earliest s base =
       subst (λ b. Answered p o b old new) s.found (subst (λ (l : List (Option ℕ)). Answered p o (is_some s.last.best) old l) s.slots base)
 
-  to_record : (longest earliest : Bool) (s : SoughtFrom p hay longest earliest start answer old new walked) → record_of s.last ≡ walked
+  to_record : (longest earliest : Bool) (s : AnchoredResult p hay longest earliest start answer old new walked) → record_of s.last ≡ walked
   to_record longest earliest s = ap₂ recorded s.visits s.looks
 
   -- the first run from the start
@@ -90,7 +86,7 @@ module _ (p : Program) (hay : List ℕ) (well : IsWellFormed p) (start : ℕ) (a
       (least.0, least.1, to_answer least.0 false true s least.2))
       (cases_lt (length hay) start)
     where
-      by_best : (within : start ≤ length hay) (s : SoughtFrom p hay false true start answer old new walked) (best : Option Thread) → s.last.best ≡ best →
+      by_best : (within : start ≤ length hay) (s : AnchoredResult p hay false true start answer old new walked) (best : Option Thread) → s.last.best ≡ best →
           (o : Option Run) × LeastEndFrom p hay start o × Answered p o (is_some best) old (left_in best old)
       by_best within s None none = (None, no_run_from p hay false (length old) start true within fits s.last s.stepped none, (refl, refl))
       by_best within s (Some b) some =
@@ -109,7 +105,7 @@ module _ (p : Program) (hay : List ℕ) (well : IsWellFormed p) (start : ℕ) (a
       (subst (λ (r : Record). VisitedFrom p hay start (is_some s.last.best) r) (to_record longest earliest s) (by_best within s s.last.best refl)))
       (cases_lt (length hay) start)
     where
-      by_best : (within : start ≤ length hay) (s : SoughtFrom p hay longest earliest start answer old new walked) (best : Option Thread) → s.last.best ≡ best →
+      by_best : (within : start ≤ length hay) (s : AnchoredResult p hay longest earliest start answer old new walked) (best : Option Thread) → s.last.best ≡ best →
           VisitedFrom p hay start (is_some best) (record_of s.last)
       by_best within s None none = all_visited_from p hay longest (length old) start earliest within fits s.last s.stepped none
       by_best within s (Some b) some = some_visited_from p hay longest (length old) start earliest within fits s.last s.stepped b some

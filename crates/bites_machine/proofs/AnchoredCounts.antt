@@ -2,7 +2,7 @@
 use Rattle.std.proofs.Common.{ℕ, ◌+◌, ◌<◌, ◌≤◌, Bool, List, map, length, subst, ⊎_elim, ap, arith}
 use Rattle.bites_spec.specs.Utf8.{piece, places}
 use Rattle.bites_spec.specs.Walks.{Among, AllApart}
-use Rattle.bites_spec.specs.Program.{Program, Spot, at, IsWellFormed}
+use Rattle.bites_spec.specs.Program.{Program, Configuration, at, IsWellFormed}
 use Rattle.bites_spec.specs.Counts.{IsBounded}
 use Rattle.bites_machine.specs.Machine.{Searching}
 use Rattle.bites_machine.specs.Anchored.{resumed, Steps, at_place, SteppedTo, Stepped}
@@ -17,7 +17,7 @@ module _ (p : Program) (hay : List ℕ) (well : IsWellFormed p) (longest : Bool)
   record IsCounting (s : Searching) : Type 0 where
     rooted : AreRooted p hay longest width start fits s
     counted : HasCounted p hay well longest width fits start s 0
-    before : (u : Spot) → Among s.visits u → u.place < s.place
+    before : (u : Configuration) → Among s.visits u → u.place < s.place
 
   counting_start : IsCounting (at_place hay longest p width start)
   counting_start = record {
@@ -50,16 +50,16 @@ module _ (p : Program) (hay : List ℕ) (well : IsWellFormed p) (longest : Bool)
         let visits = ap (λ (x : Searching). x.visits) place.is in record {
           traced = are_traced p hay longest width start fits t (rooted_on p hay longest width start fits s t now.rooted place);
           apart = subst AllApart visits last_counted.apart;
-          inside = subst (λ (l : List Spot). (u : Spot) → Among l u → (u.state < length p.states) × Among (places hay start) u.place) visits last_counted.inside;
+          inside = subst (λ (l : List Configuration). (u : Configuration) → Among l u → (u.state < length p.states) × Among (places hay start) u.place) visits last_counted.inside;
           looks = subst (λ (x : Searching). x.looks + length x.threads + 0 ≤ length (places hay start) + led p hay well longest width fits start x.visits) place.is
               (let a = last_counted.looks in omega arith);
           looked = subst (λ (x : Searching). length x.visits ≤ x.looks) place.is last_counted.looked;
         }
 
-    before_on : 0 < (piece hay s.place).len → (u : Spot) → Among t.visits u → u.place < t.place
+    before_on : 0 < (piece hay s.place).len → (u : Configuration) → Among t.visits u → u.place < t.place
     before_on some =
-        subst (λ (x : Searching). (u : Spot) → Among x.visits u → u.place < x.place) place.is
-        (λ u h. ⊎_elim (λ a. let m = Among-mapped (λ q. at q s.place) place.last.seen u a in let e = ap (λ (x : Spot). x.place) m.2 in omega arith)
+        subst (λ (x : Searching). (u : Configuration) → Among x.visits u → u.place < x.place) place.is
+        (λ u h. ⊎_elim (λ a. let m = Among-mapped (λ q. at q s.place) place.last.seen u a in let e = ap (λ (x : Configuration). x.place) m.2 in omega arith)
         (λ a. let lt = now.before u a in omega arith) (Among-apart (map (λ q. at q s.place) place.last.seen) s.visits u h))
 
   module _ (earliest : Bool) where

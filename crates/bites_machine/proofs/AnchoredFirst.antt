@@ -4,10 +4,10 @@ use Rattle.std.specs.Option.{option_or}
 use Rattle.std.proofs.lemmas.List.{append-nil}
 use Rattle.bites_spec.specs.Utf8.{piece, places, step_len}
 use Rattle.bites_spec.specs.Walks.{Among, first_among}
-use Rattle.bites_spec.specs.Program.{Program, Spot, IsWellFormed}
+use Rattle.bites_spec.specs.Program.{Program, Configuration, IsWellFormed}
 use Rattle.bites_spec.specs.Run.{Run, matches, slots, first_run_from}
-use Rattle.bites_spec.proofs.PieceLemmas.{Among-places}
-use Rattle.bites_spec.proofs.RunLemmas.{found_from_none}
+use Rattle.bites_spec.proofs.utf8.PieceLemmas.{Among-places}
+use Rattle.bites_spec.proofs.runs.RunLemmas.{found_from_none}
 use Rattle.bites_machine.specs.Machine.{Thread, Searching, started}
 use Rattle.bites_machine.specs.Anchored.{resumed, Steps, at_place, Stepped}
 use Rattle.bites_machine.proofs.SweepLemmas.{places-here}
@@ -20,7 +20,7 @@ none_some : {A : Type 0} (x : A) → None ≡ Some x → ⊥
 none_some x e = cc
 
 module _ (p : Program) (hay : List ℕ) (well : IsWellFormed p) (width : ℕ) (fits : width ≤ p.slots) (start : ℕ) (within : start ≤ length hay) where
-  abbrev waits : (Spot → Bool) → List (Spot × (List Spot → Outcome)) → Option Outcome
+  abbrev waits : (Configuration → Bool) → List (Configuration × (List Configuration → Outcome)) → Option Outcome
   waits seen ws = pended p hay well width fits start within seen ws
 
   abbrev answer : Option Outcome
@@ -68,13 +68,13 @@ module _ (p : Program) (hay : List ℕ) (well : IsWellFormed p) (width : ℕ) (f
       abbrev next_place : ℕ
       next_place = s.place + (piece hay s.place).len
 
-      last_value : option_or (waits (λ q. false) (wait_all p hay next_place place.last.next)) (option_map outcome (option_or place.last.hit s.best)) ≡ goal
+      last_value : option_or (waits (λ q. false) (wait_all p hay next_place place.last.next)) (option_map outcome (option_or place.last.first_match s.best)) ≡ goal
       last_value =
           ap₂ option_or
           (sym (pend_later p hay (matches p) (λ s e. e) s.place next_place place.last.seen place.last.next (λ u h. let some = (last_worth.traced.next u h).0 in omega arith))
           ∙ ap (waits (marks p hay s.place place.last.seen)) (sym (append-nil (wait_all p hay next_place place.last.next))
           ∙ ap (λ (l : List Thread). wait_all p hay next_place place.last.next ++ wait_all p hay s.place l) (sym place.over)))
-          (or_map outcome place.last.hit s.best)
+          (or_map outcome place.last.first_match s.best)
           ∙ last_worth.worth_is
 
       answering_on : IsAnswering t

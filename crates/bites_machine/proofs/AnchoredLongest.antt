@@ -5,10 +5,10 @@ use Rattle.std.specs.Option.{option_or}
 use Rattle.std.proofs.lemmas.List.{append-nil}
 use Rattle.bites_spec.specs.Utf8.{piece, places}
 use Rattle.bites_spec.specs.Walks.{Among}
-use Rattle.bites_spec.specs.Program.{Program, Spot, at, IsWellFormed}
+use Rattle.bites_spec.specs.Program.{Program, Configuration, at, IsWellFormed}
 use Rattle.bites_spec.specs.Run.{Run, IsRun, LongestRun, slots, longest_run_below}
-use Rattle.bites_spec.proofs.PieceLemmas.{Among-places}
-use Rattle.bites_spec.proofs.LongestLemmas.{IsLongestBelow, below_some, below_none, ends_below}
+use Rattle.bites_spec.proofs.utf8.PieceLemmas.{Among-places}
+use Rattle.bites_spec.proofs.programs.LongestLemmas.{IsLongestBelow, below_some, below_none, ends_below}
 use Rattle.bites_machine.specs.Machine.{Thread, Walking, Searching, started}
 use Rattle.bites_machine.specs.Anchored.{resumed, Steps, at_place, Stepped}
 use Rattle.bites_machine.proofs.SweepLemmas.{places-here, Runs-forward}
@@ -27,14 +27,14 @@ or_none (Some x) = refl
 
 module _ (p : Program) (hay : List ℕ) (well : IsWellFormed p) (width : ℕ) (fits : width ≤ p.slots) (start : ℕ) (within : start ≤ length hay) where
   module _ (r : Run) (at_start : r.start ≡ start) (longest : LongestRun p hay start (Some r)) where
-    abbrev waits : (Spot → Bool) → List (Spot × (List Spot → Outcome)) → Option Outcome
+    abbrev waits : (Configuration → Bool) → List (Configuration × (List Configuration → Outcome)) → Option Outcome
     waits seen ws = pended p hay well width fits start within r longest seen ws
 
     abbrev goal : Outcome
     goal = the_outcome p hay well width fits start within r longest
 
     forward : start ≤ r.end
-    forward = let on = Runs-forward p hay (at p.start r.start) r.spots r.end longest.0.runs in omega arith
+    forward = let on = Runs-forward p hay (at p.start r.start) r.configurations r.end longest.0.runs in omega arith
 
     -- what waits has the success
     abbrev IsAheadAt : ℕ → List Thread → Type 0
@@ -82,7 +82,7 @@ module _ (p : Program) (hay : List ℕ) (well : IsWellFormed p) (width : ℕ) (f
       none_later None = refl
       none_later (Some h) = refl
 
-      best_is : option_or last.hit s.best ≡ t.best
+      best_is : option_or last.first_match s.best ≡ t.best
       best_is = ap (λ (x : Searching). x.best) place.is
 
       threads_are : last.next ≡ t.threads
@@ -101,7 +101,7 @@ module _ (p : Program) (hay : List ℕ) (well : IsWellFormed p) (width : ℕ) (f
       stays_ahead ahead early =
           sym last_waiting
           ∙ sym (or_none (waits_here last.seen last.next last.stack))
-          ∙ ap (option_or (waits_here last.seen last.next last.stack)) (sym (none_later last.hit))
+          ∙ ap (option_or (waits_here last.seen last.next last.stack)) (sym (none_later last.first_match))
           ∙ walked.ahead
         where
           walked : IsAhead p hay well width fits start within r longest s.place here s.visits known last
@@ -114,7 +114,7 @@ module _ (p : Program) (hay : List ℕ) (well : IsWellFormed p) (width : ℕ) (f
 
       -- at the end it becomes the best
       becomes_best : IsAheadAt s.place s.threads → s.place ≡ r.end → HasBest t
-      becomes_best ahead late = by_hit last.hit refl walked.at_end
+      becomes_best ahead late = by_hit last.first_match refl walked.at_end
         where
           walked : IsAtEnd p hay well width fits start within r longest s.place here s.visits known last
           walked =
@@ -124,7 +124,7 @@ module _ (p : Program) (hay : List ℕ) (well : IsWellFormed p) (width : ℕ) (f
                 at_end = or_none (waits (λ q. false) (wait_all p hay s.place s.threads)) ∙ ahead;
               }
 
-          by_hit : (o : Option Thread) → last.hit ≡ o →
+          by_hit : (o : Option Thread) → last.first_match ≡ o →
               AtEnd p hay well width fits start within r longest s.place here s.visits known o (waits_here last.seen last.next last.stack) → HasBest t
           by_hit (Some h) is now = (h, sym best_is ∙ ap (λ (o : Option Thread). option_or o s.best) is, now)
           by_hit None is now =
@@ -138,15 +138,15 @@ module _ (p : Program) (hay : List ℕ) (well : IsWellFormed p) (width : ℕ) (f
 
       -- and stays it
       stays_best : HasBest s → r.end < s.place → HasBest t
-      stays_best (b, is, same) lt = by_hit last.hit refl
+      stays_best (b, is, same) lt = by_hit last.first_match refl
         where
-          no_hit : (h : Thread) → last.hit ≡ Some h → ⊥
+          no_hit : (h : Thread) → last.first_match ≡ Some h → ⊥
           no_hit h e =
-              let f = last_rooted.hit h e in
+              let f = last_rooted.first_match h e in
               let f_end = f.0.end_is in
-              let most = longest.1 f.0.run.spots f.0.run.end (subst (λ (k : ℕ). IsRun p hay k f.0.run.spots f.0.run.end) (f.1 ∙ sym at_start) f.0.runs) in omega arith
+              let most = longest.1 f.0.run.configurations f.0.run.end (subst (λ (k : ℕ). IsRun p hay k f.0.run.configurations f.0.run.end) (f.1 ∙ sym at_start) f.0.runs) in omega arith
 
-          by_hit : (o : Option Thread) → last.hit ≡ o → HasBest t
+          by_hit : (o : Option Thread) → last.first_match ≡ o → HasBest t
           by_hit None none = (b, sym best_is ∙ ap (λ (o : Option Thread). option_or o s.best) none ∙ is, same)
           by_hit (Some h) some = absurd (no_hit h some)
 
@@ -219,7 +219,7 @@ module _ (p : Program) (hay : List ℕ) (well : IsWellFormed p) (width : ℕ) (f
           let best = best_is_longest r x.start longest t end in
           ap (option_map (λ (b : Thread). b.slots)) best.1
           ∙ ap (λ (y : Outcome). Some y.slots) best.2
-          ∙ ap (λ (l : List (Option ℕ)). Some l) (run_writes p width r fits (runs_to_match p hay well width fits start within (at p.start r.start) r.spots r.end x.runs))
+          ∙ ap (λ (l : List (Option ℕ)). Some l) (run_writes p width r fits (runs_to_match p hay well width fits start within (at p.start r.start) r.configurations r.end x.runs))
       by_run None is =
           ap (option_map (λ (b : Thread). b.slots))
           (nothing_found p hay true width start fits false within t (end_rooted p hay true width start fits false within t end)

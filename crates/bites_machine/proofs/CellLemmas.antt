@@ -1,4 +1,4 @@
--- Cells that are copied within a list.
+-- Slots that are copied within a list.
 use Rattle.std.proofs.Common.{◌≡◌, ℕ, ◌+◌, ◌<◌, ◌≤◌, ◌⊎◌, ⊎_elim, List, ◌++◌, take, drop, length, sym, ap, ap₂, ◌∙◌, arith, append_assoc, length-append, length-drop}
 use Rattle.std.specs.Prelude.{slice_set, slice_index}
 use Rattle.std.proofs.lemmas.List.{get_or-drop, length-take-le, places, drop_at, take_at, take_all}
@@ -8,15 +8,15 @@ use lib.Seq.{paste}
 abbrev Cells : Type 0
 Cells = List ℕ
 
--- a cell before those that were written
+-- a slot before those that were written
 read_below : (d s : Cells) (to k i : ℕ) → i < to → to ≤ length d → slice_index (paste d to s k) i ≡ slice_index d i
 read_below d s to k i below room = grind (arith, places)
 
--- a cell behind those that were written
+-- a slot behind those that were written
 read_above : (d s : Cells) (to k i : ℕ) → to + k ≤ i → to + k ≤ length d → k ≤ length s → slice_index (paste d to s k) i ≡ slice_index d i
 read_above d s to k i above room enough = grind (arith, places)
 
--- one cell more is copied, from a part that does not meet the one that is written
+-- one slot more is copied, from a part that does not meet the one that is written
 pub copied_more : (d xs : Cells) (from to w k : ℕ) → from + w ≤ length d → to + w ≤ length d → (from + w ≤ to) ⊎ (to + w ≤ from) → k < w →
     xs ≡ paste d to (drop from d) k → slice_set xs (to + k) (slice_index xs (from + k)) ≡ paste d to (drop from d) (k + 1)
 copied_more d xs from to w k source target apart lt is =

@@ -8,7 +8,7 @@ use Rattle.bites_spec.specs.Program as program
 use Rattle.bites_spec.specs.Program.{State, state_at, IsWellFormed}
 use Rattle.bites_spec.specs.Built.{Built, HasForm}
 use Rattle.bites_spec.specs.ProgramFaults.{ProgramFault, first_fault}
-use Rattle.bites_spec.proofs.FaultLemmas.{first_fault-IsWellFormed}
+use Rattle.bites_spec.proofs.runs.FaultLemmas.{first_fault-IsWellFormed}
 use Rattle.bites_machine.specs.Emitted.{emit}
 use Rattle.bites_machine.specs.Sizes.{held}
 use Rattle.bites_machine.specs.Compiled.{whole, program_of_tree, LimitsBy, RefusesTree, RefusesBy}

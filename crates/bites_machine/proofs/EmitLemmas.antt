@@ -5,7 +5,7 @@ use Rattle.std.proofs.lemmas.List.{length-set, get_or_append_left, get_or-set_sa
 use Rattle.std.proofs.lemmas.List.Sums.{sum_by-append}
 use Rattle.std.proofs.lemmas.Bool.Decides.{nat_tests}
 use Rattle.std.proofs.Math.Seq.{get_or-append_seam}
-use Rattle.bites_spec.specs.Tree.{Tree, Trees, empty, char, class, look, repetition, group, sequence, alternation, no_tree, tree_and, is_empty_by_form}
+use Rattle.bites_spec.specs.Tree.{Tree, Trees, empty, char, class, look, repetition, group, sequence, alternation, no_tree, tree_and, is_nullable}
 use Rattle.bites_spec.specs.Program as program
 use Rattle.bites_spec.specs.Program.{State, state_at}
 use Rattle.bites_spec.specs.Built.{Fragment, One, Behind, Copies, Options, Loop, Star, OptionalLoop, Bounded, CopiesUpTo, Repeated, HasForm, HasFormAll, HasFormEach}
@@ -324,7 +324,7 @@ mutual
   Forms-emit (class rs) to ss = class_forms rs to ss
   Forms-emit (look l) to ss = Forms-one (λ next. program.goto next (Some l)) to ss
   Forms-emit (repetition min most greedy t) to ss =
-      Forms-repeated (λ l. HasForm l t) (emit t) (Forms-emit t) min most greedy (is_empty_by_form t) to ss
+      Forms-repeated (λ l. HasForm l t) (emit t) (Forms-emit t) min most greedy (is_nullable t) to ss
   Forms-emit (group k name t) to ss = Forms-grouped (λ l. HasForm l t) (emit t) (Forms-emit t) k to ss
   Forms-emit (sequence ts) to ss = Forms-emit_all ts to ss
   Forms-emit (alternation ts) to ss =

@@ -6,13 +6,13 @@ use Rattle.std.specs.Option.{option_or}
 use Rattle.std.proofs.lemmas.List.{length-set}
 use Rattle.std.proofs.lemmas.Bool.Decides.{nat_tests}
 use Rattle.bites_spec.specs.Walks.{first_among}
-use Rattle.bites_spec.specs.Class.{AreGreatest, following}
-use Rattle.bites_spec.specs.Tree.{Tree, Trees, empty, char, class, look, repetition, group, sequence, alternation, no_tree, tree_and, is_empty_by_form, groups_in, groups_in_all, greatest}
+use Rattle.bites_spec.specs.Class.{AreCanonical, following}
+use Rattle.bites_spec.specs.Tree.{Tree, Trees, empty, char, class, look, repetition, group, sequence, alternation, no_tree, tree_and, is_nullable, groups_in, groups_in_all, greatest}
 use Rattle.bites_spec.specs.Program as program
 use Rattle.bites_spec.specs.Program.{State, targets_of}
 use Rattle.bites_spec.specs.Built.{Fragment, HasForm}
 use Rattle.bites_spec.specs.ProgramFaults.{ProgramFault, bad_target, bad_ranges, bad_slot, are_ranges, has_ranges, has_slot, fault_of}
-use Rattle.bites_spec.proofs.FirstLemmas.{or_none}
+use Rattle.bites_spec.proofs.runs.FirstLemmas.{or_none}
 use Rattle.bites_machine.specs.Emitted.{Emitted, Emitter, pushed, in_front, again, choice, options, bounded, around, loop, star, optional_loop, copies_up_to, repeated, class_state, grouped, Branches, emit, emit_all, emit_each}
 use Rattle.bites_machine.specs.Classes.{HasClasses, AllHaveClasses}
 use Rattle.bites_machine.proofs.EmitLemmas.{length_pushed, FormsBody, Forms-emit, Forms-options, Forms-loop, Forms-emit_each}
@@ -43,11 +43,11 @@ greatest-append (x ∷ xs) ys = omega (arith, greatest-append xs ys)
 follows : (c d : ℕ) → following c < d → c < d
 follows c d h = grind (arith, nat_tests)
 
--- greatest ranges are ranges
-greatest_are_ranges : (rs : List (ℕ × ℕ)) → AreGreatest rs → are_ranges rs ≡ true
-greatest_are_ranges [] h = refl
-greatest_are_ranges (r ∷ []) h = le-leb r.0 r.1 h.2
-greatest_are_ranges (r ∷ s ∷ rs) h = both_true _ _ (le-leb r.0 r.1 h.0.2) (both_true _ _ (lt-ltb r.1 s.0 (follows r.1 s.0 h.1)) (greatest_are_ranges (s ∷ rs) h.2))
+-- canonical ranges are ranges
+canonical_are_ranges : (rs : List (ℕ × ℕ)) → AreCanonical rs → are_ranges rs ≡ true
+canonical_are_ranges [] h = refl
+canonical_are_ranges (r ∷ []) h = le-leb r.0 r.1 h.2
+canonical_are_ranges (r ∷ s ∷ rs) h = both_true _ _ (le-leb r.0 r.1 h.0.2) (both_true _ _ (lt-ltb r.1 s.0 (follows r.1 s.0 h.1)) (canonical_are_ranges (s ∷ rs) h.2))
 
 three_tests : (a b c : Bool) → a ≡ true → b ≡ true → c ≡ true →
     cond (not a) (Some bad_target) (cond (not b) (Some bad_ranges) (cond (not c) (Some bad_slot) None)) ≡ None
@@ -199,10 +199,10 @@ module _ (n slots : ℕ) where
     pub entered : list_all (λ q. nat_lt q n) b.rounds ≡ true
     pub fine : AllFine b.states
 
-  class_sound : (rs : List (ℕ × ℕ)) → AreGreatest rs → SoundBody (λ to ss. pushed ss (class_state rs to))
+  class_sound : (rs : List (ℕ × ℕ)) → AreCanonical rs → SoundBody (λ to ss. pushed ss (class_state rs to))
   class_sound [] greatest to ss all h le = Sound-push ss program.fail all refl le
   class_sound (r ∷ rs) greatest to ss all h le =
-      Sound-push ss (program.ranges to (r ∷ rs)) all (fault-none (program.ranges to (r ∷ rs)) (to_one to h) (greatest_are_ranges (r ∷ rs) greatest) refl) le
+      Sound-push ss (program.ranges to (r ∷ rs)) all (fault-none (program.ranges to (r ∷ rs)) (to_one to h) (canonical_are_ranges (r ∷ rs) greatest) refl) le
 
   -- the slots of the groups are there
   abbrev pub HasSlots : List ℕ → Type 0
@@ -226,7 +226,7 @@ module _ (n slots : ℕ) where
     Sound-emit (look l) classes few to ss all h le =
         Sound-push ss (program.goto to (Some l)) all (fault-none (program.goto to (Some l)) (to_one to h) refl refl) le
     Sound-emit (repetition min most greedy t) classes few to ss all h le =
-        Sound-repeated (λ l. HasForm l t) (emit t) (Forms-emit t) (Sound-emit t classes few) min most greedy (is_empty_by_form t) to ss all h le
+        Sound-repeated (λ l. HasForm l t) (emit t) (Forms-emit t) (Sound-emit t classes few) min most greedy (is_nullable t) to ss all h le
     Sound-emit (group k name t) classes few to ss all h le =
         Sound-grouped (λ l. HasForm l t) (emit t) (Forms-emit t) (Sound-emit t classes (omega arith)) k (omega arith) to ss all h le
     Sound-emit (sequence ts) classes few to ss all h le = Sound-emit_all ts classes few to ss all h le

@@ -1,4 +1,4 @@
--- Frames that wait on the stack of a walk.
+-- Frames that wait on the stack of a closure.
 use Rattle.std.proofs.Common.{◌≡◌, ℕ, zero, suc, ◌≤◌, Bool, true, false, List, [], ◌∷◌, drop, length, refl, arith}
 use Rattle.std.proofs.lemmas.List.{length-reverse}
 use Rattle.bites_spec.specs.Program as program

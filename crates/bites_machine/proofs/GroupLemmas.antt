@@ -5,10 +5,10 @@ use Rattle.std.proofs.lemmas.List.{length-set, get_or-set_same, get_or-set_other
 use Rattle.std.proofs.lemmas.List.FromFn.{length-map-range_with_len, get_or-map-range_with_len}
 use Rattle.std.proofs.lemmas.Bool.{cases_lt}
 use Rattle.bites_spec.specs.Walks.{IsNew, AllApart}
-use Rattle.bites_spec.specs.Tree.{Tree, Trees, empty, char, class, look, repetition, group, sequence, alternation, no_tree, tree_and, trees_of, groups_in, groups_in_all, greatest, captures_len, is_empty_by_form, IsCount, IsReduced, AllAreReduced}
+use Rattle.bites_spec.specs.Tree.{Tree, Trees, empty, char, class, look, repetition, group, sequence, alternation, no_tree, tree_and, trees_of, groups_in, groups_in_all, greatest, captures_len, is_nullable, IsCount, IsReduced, AllAreReduced}
 use Rattle.bites_spec.specs.Measure.{Size, groups_of, name_in, group_name, groups_left, size_of, repeated_size}
 use Rattle.bites_machine.specs.Names.{filled}
-use Rattle.bites_spec.proofs.LeftLemmas.{number, groups_in-map}
+use Rattle.bites_spec.proofs.regex.LeftLemmas.{number, groups_in-map}
 use Rattle.bites_machine.proofs.FaultLemmas.{greatest-append}
 use Rattle.bites_machine.proofs.LengthLemmas.{product}
 use Rattle.bites_machine.proofs.EmittedLemmas.{loop-room, exact-room, several-room, ranged_or_once-room}
@@ -40,7 +40,7 @@ mutual
   groups_fit (class rs) reduced = omega arith
   groups_fit (look l) reduced = omega arith
   groups_fit (repetition min most greedy t) reduced =
-      omega (arith, groups_fit t reduced.1, body_fits min most (is_empty_by_form t) (size_of t) reduced.0)
+      omega (arith, groups_fit t reduced.1, body_fits min most (is_nullable t) (size_of t) reduced.0)
   groups_fit (group k name t) reduced = omega (arith, groups_fit t reduced.1)
   groups_fit (sequence ts) reduced = all_groups_fit ts reduced.1
   groups_fit (alternation ts) reduced = omega (arith, all_groups_fit ts reduced.1)

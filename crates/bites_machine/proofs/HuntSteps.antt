@@ -5,12 +5,12 @@ use Rattle.bites_spec.specs.Utf8.{piece}
 use Rattle.bites_spec.specs.Program as program
 use Rattle.bites_spec.specs.Program.{Program}
 use Rattle.bites_spec.specs.Counts.{Record}
-use Rattle.bites_machine.specs.Rows.{Pool}
-use Rattle.bites_machine.specs.Sweep.{IsProgramOf, Passes, PassesIdle, PlaceSearched, PlacesSearched, GoneTo, HasSearched}
+use Rattle.bites_machine.specs.SlotTable.{Pool}
+use Rattle.bites_machine.specs.Sweep.{IsProgramOf, Passes, PassesIdle, PlaceSearched, PlacesSearched, HasReached, HasSearched}
 use Rattle.bites_machine.specs.declared.vm.threads.Thread.{Thread}
-use Rattle.bites_machine.specs.declared.vm.walk.Hit.{Hit}
-use Rattle.bites_machine.specs.declared.vm.walk.Desk.{Desk}
-use Rattle.bites_machine.proofs.PlaceSteps.{has_searched, gone_next, ends_by}
+use Rattle.bites_machine.specs.declared.vm.closure.FirstMatch.{FirstMatch}
+use Rattle.bites_machine.specs.declared.vm.closure.Scratch.{Scratch}
+use Rattle.bites_machine.proofs.PlaceSteps.{has_searched, reached_next, ends_by}
 
 -- a list without a thread is empty
 pub no_threads : (ts : List Thread) → length ts ≤ 0 → ts ≡ []
@@ -19,12 +19,12 @@ no_threads (t ∷ ts) none = absurd (omega arith)
 
 module _ (hay : List ℕ) (longest : Bool) (place : ℕ) (states : List program.State) where
   -- one place was searched
-  pub one_place : (len : ℕ) (begins : Option ℕ) (was now : Record) (old new : Desk) (threads later : List Thread) (slots left : List (Option ℕ)) →
+  pub one_place : (len : ℕ) (begins : Option ℕ) (was now : Record) (old new : Scratch) (threads later : List Thread) (slots left : List (Option ℕ)) →
       len ≡ (piece hay place).len → PlaceSearched hay longest place len states begins was now old new threads later slots left →
       PlacesSearched hay longest place place states begins was now old new threads later slots left
   one_place len begins was now old new threads later slots left lens one = record {
     searches = λ p q is earliest start first found begun same gone.
-        has_searched p hay longest earliest start first place place len q hay states begins found (found || is_some new.hit) was now old new threads later slots left
+        has_searched p hay longest earliest start first place place len q hay states begins found (found || is_some new.first_match) was now old new threads later slots left
         refl refl lens same is begun refl gone one;
   }
 
@@ -32,7 +32,7 @@ module _ (hay : List ℕ) (longest : Bool) (place : ℕ) (states : List program.
     -- The places from one on and before this one were searched; no thread is alive and nothing was found.
     pub record Hunts (here : ℕ) (now : Record) (new : Pool) (left : List (Option ℕ)) : Type 0 where
       pub gone : (p : Program) → IsProgramOf p states q → (earliest : Bool) (start : ℕ) (first : List (Option ℕ)) → length slots ≡ length first →
-          GoneTo p hay longest earliest start first place false was old [] slots → GoneTo p hay longest earliest start first here false now new [] left
+          HasReached p hay longest earliest start first place false was old [] slots → HasReached p hay longest earliest start first here false now new [] left
 
     -- none was searched yet
     pub hunts_first : Hunts place was old slots
@@ -47,22 +47,22 @@ module _ (hay : List ℕ) (longest : Bool) (place : ℕ) (states : List program.
         (subst (λ (b : Bool). Passes text b here later states q mid now) deeps
         (subst (λ (l : List program.State). Passes text deep here later l q mid now) alls passes)) in
         record {
-          gone = λ p is earliest start first width gone. there.gone p is earliest start first left pool (same ∙ width) (hunts.gone p is earliest start first width gone);
+          gone = λ p is earliest start first slots_per_row gone. there.gone p is earliest start first left pool (same ∙ slots_per_row) (hunts.gone p is earliest start first slots_per_row gone);
         }
 
     -- one place more is searched
-    pub hunted : (here len : ℕ) (text : List ℕ) (deep : Bool) (all : List program.State) (mid now : Record) (desk last new : Desk) (later : List Thread) (left more : List (Option ℕ)) →
-        desk.rows ≡ old → text ≡ hay → deep ≡ longest → all ≡ states → len ≡ (piece text here).len → length left ≡ length slots → Hunts here mid last.rows left →
+    pub hunted : (here len : ℕ) (text : List ℕ) (deep : Bool) (all : List program.State) (mid now : Record) (scratch last new : Scratch) (later : List Thread) (left more : List (Option ℕ)) →
+        scratch.rows ≡ old → text ≡ hay → deep ≡ longest → all ≡ states → len ≡ (piece text here).len → length left ≡ length slots → Hunts here mid last.rows left →
         PlaceSearched text deep here len all (Some q) mid now last new [] later left more →
-        PlacesSearched hay longest place here states (Some q) was now desk new [] later slots more
-    hunted here len text deep all mid now desk last new later left more olds texts deeps alls lens same hunts one =
+        PlacesSearched hay longest place here states (Some q) was now scratch new [] later slots more
+    hunted here len text deep all mid now scratch last new later left more olds texts deeps alls lens same hunts one =
         let there : PlaceSearched text longest here len states (Some q) mid now last new [] later left more =
         subst (λ (b : Bool). PlaceSearched text b here len states (Some q) mid now last new [] later left more) deeps
         (subst (λ (l : List program.State). PlaceSearched text deep here len l (Some q) mid now last new [] later left more) alls one) in
         record {
-          searches = λ p r is earliest start first found begun width gone.
+          searches = λ p r is earliest start first found begun slots_per_row gone.
               let qs : Some q ≡ cond found None (Some r) = begun in
-              one_by p r is earliest start first found (started found r qs) qs there width gone;
+              one_by p r is earliest start first found (started found r qs) qs there slots_per_row gone;
         }
       where
         started : (found : Bool) (r : ℕ) → Some q ≡ cond found None (Some r) → (found ≡ false) × (q ≡ r)
@@ -71,20 +71,20 @@ module _ (hay : List ℕ) (longest : Bool) (place : ℕ) (states : List program.
 
         one_by : (p : Program) (r : ℕ) → IsProgramOf p states r → (earliest : Bool) (start : ℕ) (first : List (Option ℕ)) (found : Bool) → (found ≡ false) × (q ≡ r) → Some q ≡ cond found None (Some r) →
             PlaceSearched text longest here len states (Some q) mid now last new [] later left more → length slots ≡ length first →
-            GoneTo p hay longest earliest start first place found was desk.rows [] slots →
-            HasSearched p hay longest earliest start first here (found || is_some new.hit) now new.rows later more
-        one_by p r is earliest start first found by begun there width gone =
+            HasReached p hay longest earliest start first place found was scratch.rows [] slots →
+            HasSearched p hay longest earliest start first here (found || is_some new.first_match) now new.rows later more
+        one_by p r is earliest start first found by begun there slots_per_row gone =
             let mine : IsProgramOf p states q = subst (λ (n : ℕ). IsProgramOf p states n) (sym by.1) is in
-            let from : GoneTo p hay longest earliest start first place false was old [] slots =
-            subst (λ (b : Bool). GoneTo p hay longest earliest start first place b was old [] slots) by.0
-            (subst (λ (pool : Pool). GoneTo p hay longest earliest start first place found was pool [] slots) olds gone) in
-            has_searched p hay longest earliest start first here here len r text states (Some q) found (found || is_some new.hit) mid now last new [] later left more
-            texts refl (lens ∙ ap (λ (h : List ℕ). (piece h here).len) texts) (same ∙ width) is begun refl
-            (subst (λ (b : Bool). GoneTo p hay longest earliest start first here b mid last.rows [] left) (sym by.0) (hunts.gone p mine earliest start first width from)) there
+            let from : HasReached p hay longest earliest start first place false was old [] slots =
+            subst (λ (b : Bool). HasReached p hay longest earliest start first place b was old [] slots) by.0
+            (subst (λ (pool : Pool). HasReached p hay longest earliest start first place found was pool [] slots) olds gone) in
+            has_searched p hay longest earliest start first here here len r text states (Some q) found (found || is_some new.first_match) mid now last new [] later left more
+            texts refl (lens ∙ ap (λ (h : List ℕ). (piece h here).len) texts) (same ∙ slots_per_row) is begun refl
+            (subst (λ (b : Bool). HasReached p hay longest earliest start first here b mid last.rows [] left) (sym by.0) (hunts.gone p mine earliest start first slots_per_row from)) there
 
 -- some places were skipped if no thread is alive, and one was searched
 pub skipped_then_searched : (hay : List ℕ) (longest : Bool) (place : ℕ) (states : List program.State) (begins : Option ℕ) (here len : ℕ) (text : List ℕ) (deep : Bool) (all : List program.State)
-    (was mid now : Record) (old new : Desk) (threads later : List Thread) (slots left : List (Option ℕ)) →
+    (was mid now : Record) (old new : Scratch) (threads later : List Thread) (slots left : List (Option ℕ)) →
     text ≡ hay → deep ≡ longest → all ≡ states → len ≡ (piece text here).len → PassesIdle hay longest place here states begins (length threads) was mid →
     PlaceSearched text deep here len all begins mid now old new threads later slots left →
     PlacesSearched hay longest place here states begins was now old new threads later slots left
@@ -121,14 +121,14 @@ skipped_then_searched hay longest place states begins here len text deep all was
 
 -- some places more were searched
 pub searched_on : (p : Program) (hay : List ℕ) (longest earliest : Bool) (start : ℕ) (old : List (Option ℕ)) (place here last q : ℕ) (text : List ℕ) (deep : Bool) (states : List program.State) (begins : Option ℕ) (is_found found : Bool)
-    (was now : Record) (desk new : Desk) (threads later : List Thread) (slots left : List (Option ℕ)) →
-    text ≡ hay → deep ≡ longest → here ≡ place → length slots ≡ length old → IsProgramOf p states q → begins ≡ cond is_found None (Some q) → found ≡ (is_found || is_some new.hit) →
-    GoneTo p hay longest earliest start old place is_found was desk.rows threads slots → PlacesSearched text deep here last states begins was now desk new threads later slots left →
+    (was now : Record) (scratch new : Scratch) (threads later : List Thread) (slots left : List (Option ℕ)) →
+    text ≡ hay → deep ≡ longest → here ≡ place → length slots ≡ length old → IsProgramOf p states q → begins ≡ cond is_found None (Some q) → found ≡ (is_found || is_some new.first_match) →
+    HasReached p hay longest earliest start old place is_found was scratch.rows threads slots → PlacesSearched text deep here last states begins was now scratch new threads later slots left →
     HasSearched p hay longest earliest start old last found now new.rows later left
-searched_on p hay longest earliest start old place here last q text deep states begins is_found found was now desk new threads later slots left texts deeps heres same is begun founds gone some =
-    let there : PlacesSearched hay longest place last states begins was now desk new threads later slots left =
-    subst (λ (h : List ℕ). PlacesSearched h longest place last states begins was now desk new threads later slots left) texts
-    (subst (λ (b : Bool). PlacesSearched text b place last states begins was now desk new threads later slots left) deeps
-    (subst (λ i. PlacesSearched text deep i last states begins was now desk new threads later slots left) heres some)) in
+searched_on p hay longest earliest start old place here last q text deep states begins is_found found was now scratch new threads later slots left texts deeps heres same is begun founds gone some =
+    let there : PlacesSearched hay longest place last states begins was now scratch new threads later slots left =
+    subst (λ (h : List ℕ). PlacesSearched h longest place last states begins was now scratch new threads later slots left) texts
+    (subst (λ (b : Bool). PlacesSearched text b place last states begins was now scratch new threads later slots left) deeps
+    (subst (λ i. PlacesSearched text deep i last states begins was now scratch new threads later slots left) heres some)) in
     subst (λ (b : Bool). HasSearched p hay longest earliest start old last b now new.rows later left) (sym founds)
     (there.searches p q is earliest start old is_found begun same gone)

@@ -3,15 +3,15 @@ use Rattle.std.proofs.Common.{◌≡◌, ◌≢◌, ℕ, zero, suc, ◌+◌, ◌
 use Rattle.std.specs.List.{prefix_len, take_while}
 use Rattle.std.proofs.lemmas.List.{length-take-le, drop-drop}
 use Rattle.std.proofs.lemmas.Bool.Decides.{nat_tests}
-use Rattle.bites_spec.proofs.EscapeLemmas.{bool_cases}
 use Rattle.std.proofs.lemmas.Str.{IsCharBoundary-end, IsCharBoundary-before_ascii, IsCharBoundary-from_drop}
+use Rattle.std.proofs.lemmas.Bool.{cases_Bool}
 use Rattle.bites_spec.specs.Look.{is_word_byte}
 use Rattle.bites_spec.specs.Walks.{Among, IsNew}
 use Rattle.bites_spec.specs.Template.{byte, name, plain, doubled}
 use Rattle.bites_spec.specs.Cutting.{CutsFront, StandsInBraces}
-use Rattle.bites_spec.proofs.CuttingLemmas.{no_brace, brace_here, good_name, cuts_last, cuts_braced, cuts_unnamed, cuts_alone, cuts_named}
-use Rattle.bites_spec.proofs.TemplateLemmas.{word_at_is}
-use Rattle.bites_spec.proofs.TemplateTexts.{behind_ascii}
+use Rattle.bites_spec.proofs.templates.CuttingLemmas.{no_brace, brace_here, good_name, cuts_last, cuts_braced, cuts_unnamed, cuts_alone, cuts_named}
+use Rattle.bites_spec.proofs.templates.TemplateLemmas.{word_at_is}
+use Rattle.bites_spec.proofs.templates.TemplateTexts.{behind_ascii}
 use Rattle.bites_machine.specs.Interpolate.{BeginsWith}
 
 -- another byte
@@ -197,7 +197,7 @@ word_is_ascii : (b : ℕ) → is_word_byte b ≡ true → b < 128
 word_is_ascii b e =
     ⊎_elim (λ (l : ltb b 128 ≡ true). ltb-true b 128 l)
     (λ (g : ltb b 128 ≡ false). absurd (true≢false (sym e ∙ high (ltb-false b 128 g))))
-    (bool_cases (ltb b 128))
+    (cases_Bool (ltb b 128))
   where
     high : 128 ≤ b → is_word_byte b ≡ false
     high le = grind (arith, nat_tests)

@@ -5,9 +5,9 @@ use Rattle.std.specs.Str.{IsValidUpTo}
 use Rattle.std.proofs.lemmas.List.{append-nil}
 use Rattle.bites_spec.specs.Template.{byte, name, plain, group_named, expansion}
 use Rattle.bites_spec.specs.Cutting.{CutsFront}
-use Rattle.bites_spec.proofs.TemplateLemmas.{expansion_front, expansion_end, bytes_stand}
+use Rattle.bites_spec.proofs.templates.TemplateLemmas.{expansion_front, expansion_end, bytes_stand}
 use Rattle.std.proofs.Math.Seq.{take-append_seam, drop-append_seam}
-use Rattle.bites_spec.proofs.TemplateTexts.{NoFurther, no_further, high_behind, expansion_before}
+use Rattle.bites_spec.proofs.templates.TemplateTexts.{NoFurther, no_further, high_behind, expansion_before}
 use Rattle.bites_spec.specs.Refused.{IsFront, AppendsUntilRefused}
 use Rattle.bites_machine.specs.Interpolate.{IsTextFront}
 

@@ -6,7 +6,7 @@ use Rattle.std.proofs.lemmas.List.Sums.{sum_by-append, sum_by-cons, sum_by-set}
 use Rattle.bites_spec.specs.Walks.{Among, AllApart}
 use Rattle.bites_spec.specs.Tree.{Tree, Trees, empty, char, class, look, repetition, group, sequence, alternation, no_tree, tree_and, groups_in, names_in, names_in_all, captures_len}
 use Rattle.bites_spec.specs.Measure.{name_weight, group_weight, groups_of, groups_left}
-use Rattle.bites_spec.proofs.LeftLemmas.{number, groups_in-map, Among-number, left_has_groups, length-left}
+use Rattle.bites_spec.proofs.regex.LeftLemmas.{number, groups_in-map, Among-number, left_has_groups, length-left}
 use Rattle.bites_machine.specs.Names.{filled}
 use Rattle.bites_machine.proofs.GroupLemmas.{filled-groups_left}
 

@@ -3,7 +3,7 @@ use Rattle.std.proofs.Common.{◌≡◌, ℕ, zero, suc, ◌+◌, ◌-◌, ◌*�
 use Rattle.std.specs.Prelude.{◌==◌}
 use Rattle.std.proofs.lemmas.List.{length-set}
 use Rattle.std.proofs.lemmas.Bool.Decides.{nat_tests}
-use Rattle.bites_spec.specs.Tree.{Tree, Trees, empty, char, class, look, repetition, group, sequence, alternation, no_tree, tree_and, is_empty_by_form, IsCount, IsReduced, AllAreReduced}
+use Rattle.bites_spec.specs.Tree.{Tree, Trees, empty, char, class, look, repetition, group, sequence, alternation, no_tree, tree_and, is_nullable, IsCount, IsReduced, AllAreReduced}
 use Rattle.bites_spec.specs.Measure.{Size, repeated_size, size_of, copies}
 use Rattle.bites_spec.specs.Program as program
 use Rattle.bites_spec.specs.Program.{State}
@@ -163,7 +163,7 @@ mutual
   Grows-emit (class rs) reduced to ss = record { len = omega (arith, length_pushed ss (class_state rs to)) }
   Grows-emit (look l) reduced to ss = record { len = omega (arith, length_pushed ss (program.goto to (Some l))) }
   Grows-emit (repetition min most greedy t) reduced to ss =
-      Grows-repeated (emit t) (size_of t).states (Grows-emit t reduced.1) min most greedy (is_empty_by_form t) to ss (size_of t) refl reduced.0
+      Grows-repeated (emit t) (size_of t).states (Grows-emit t reduced.1) min most greedy (is_nullable t) to ss (size_of t) refl reduced.0
   Grows-emit (group k name t) reduced to ss =
       record { len = omega (arith, (Grows-grouped (emit t) (size_of t).states (Grows-emit t reduced.1) k to ss).len) }
   Grows-emit (sequence ts) reduced to ss = Grows-emit_all ts reduced.1 to ss

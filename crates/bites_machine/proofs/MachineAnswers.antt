@@ -1,5 +1,6 @@
 -- What the machine on lists answers, as contracts say it.
 use Rattle.std.proofs.Common.{◌≡◌, ℕ, ◌<◌, ◌≤◌, Bool, true, false, List, [], length, take, Option, Some, None, option_map, refl, sym, ap, ◌∙◌, subst, arith}
+use Rattle.std.proofs.lemmas.Option.{same_Some}
 use Rattle.std.specs.Prelude.{is_some}
 use Rattle.bites_spec.specs.Walks.{Among, first_among}
 use Rattle.bites_spec.specs.Program.{Program, IsWellFormed}
@@ -16,9 +17,6 @@ use Rattle.bites_machine.proofs.MachineClosed.{all_visited, some_visited, no_run
 none_some : {A : Type 0} (x : A) → None ≡ Some x → ⊥
 none_some x e = cc
 
-same_some : {A : Type 0} (x y : A) → Some x ≡ Some y → x ≡ y
-same_some x y e = cc
-
 -- what was visited, and how often was looked
 abbrev pub record_of : Searching → Record
 record_of t = record { visits = t.visits; looks = t.looks }
@@ -30,7 +28,7 @@ answered p width None (Some b) old len e = absurd (none_some b.slots (sym e))
 answered p width (Some r) None old len e = absurd (none_some (take width (slots p r)) e)
 answered p width (Some r) (Some b) old len e = (
   refl,
-  same_some b.slots (take width (slots p r)) e ∙ ap (λ (n : ℕ). take n (slots p r)) (sym len),
+  same_Some b.slots (take width (slots p r)) e ∙ ap (λ (n : ℕ). take n (slots p r)) (sym len),
 )
 
 module _ (p : Program) (hay : List ℕ) (well : IsWellFormed p) (width : ℕ) (fits : width ≤ p.slots) (start : ℕ) where

@@ -1,19 +1,16 @@
 -- The kinds of a step of the machine on lists, and what every step of a walk keeps.
-use Rattle.std.proofs.Common.{◌≡◌, ℕ, zero, suc, ◌+◌, ◌<◌, Bool, true, false, cond, List, [], ◌∷◌, ◌++◌, Option, Some, None, refl, sym, subst, inl, inr, ⊎_elim, ◌⊎◌, true≢false}
+use Rattle.std.proofs.Common.{◌≡◌, ℕ, zero, suc, ◌+◌, ◌<◌, Bool, true, false, cond, List, [], ◌∷◌, ◌++◌, Option, Some, None, refl, sym, subst, ⊎_elim, ◌⊎◌, true≢false}
 use Rattle.std.specs.Prelude.{◌==◌}
 use Rattle.std.specs.List.{list_any}
 use Rattle.std.specs.Fn.{iterate}
 use Rattle.std.specs.Option.{option_or}
+use Rattle.std.proofs.lemmas.Bool.{cases_Bool}
 use Rattle.bites_spec.specs.Utf8.{piece}
 use Rattle.bites_spec.specs.Walks.{Among}
-use Rattle.bites_spec.specs.Program.{State, Program, Spot, state_at, edges, is_match, char, ranges, splits, goto, capture, fail, match}
+use Rattle.bites_spec.specs.Program.{State, Program, Configuration, state_at, edges, is_match, char, ranges, splits, goto, capture, fail, match}
 use Rattle.bites_machine.specs.Ends.{next_character, targets_over}
 use Rattle.bites_machine.specs.Machine.{Thread, Walking, kept, moved, visited, dropped, stepped, step, WalksTo}
 use Rattle.bites_machine.proofs.EdgeLemmas.{edges_apart}
-
-bool_cases : (b : Bool) → (b ≡ true) ⊎ (b ≡ false)
-bool_cases true = inl refl
-bool_cases false = inr refl
 
 -- the state takes a character
 abbrev pub takes : State → Bool
@@ -34,11 +31,11 @@ over_nothing match e (Some d) x h = h
 module _ (hay : List ℕ) (longest : Bool) (i : ℕ) where
   -- each edge takes the piece
   abbrev pub LeadsOver : State → Type 0
-  LeadsOver st = (v : Spot) → Among (edges hay st i) v → (0 < (piece hay i).len) × (v.place ≡ i + (piece hay i).len)
+  LeadsOver st = (v : Configuration) → Among (edges hay st i) v → (0 < (piece hay i).len) × (v.place ≡ i + (piece hay i).len)
 
   -- each edge stays at the place
   abbrev pub LeadsBeside : State → Type 0
-  LeadsBeside st = (v : Spot) → Among (edges hay st i) v → v.place ≡ i
+  LeadsBeside st = (v : Configuration) → Among (edges hay st i) v → v.place ≡ i
 
   char_over : (q c : ℕ) → LeadsOver (char q c)
   char_over q c v h = ⊎_elim (λ a. absurd a.0) (λ a. (a.1, a.2)) (edges_apart hay i (char q c) v h)
@@ -52,10 +49,10 @@ module _ (hay : List ℕ) (longest : Bool) (i : ℕ) where
   -- a thread at a match
   abbrev pub at_match : Thread → List Thread → Walking → Walking
   at_match t rest w = record {
-    stack = kept hay longest (option_or w.hit (Some t)) rest;
+    stack = kept hay longest (option_or w.first_match (Some t)) rest;
     seen = t.state ∷ w.seen;
     next = w.next;
-    hit = option_or w.hit (Some t);
+    first_match = option_or w.first_match (Some t);
     looks = suc w.looks;
   }
 
@@ -65,7 +62,7 @@ module _ (hay : List ℕ) (longest : Bool) (i : ℕ) where
     stack = rest;
     seen = t.state ∷ w.seen;
     next = w.next ++ moved hay longest i st t;
-    hit = w.hit;
+    first_match = w.first_match;
     looks = suc w.looks;
   }
 
@@ -75,7 +72,7 @@ module _ (hay : List ℕ) (longest : Bool) (i : ℕ) where
     stack = moved hay longest i st t ++ rest;
     seen = t.state ∷ w.seen;
     next = w.next;
-    hit = w.hit;
+    first_match = w.first_match;
     looks = suc w.looks;
   }
 
@@ -125,7 +122,7 @@ module _ (hay : List ℕ) (longest : Bool) (i : ℕ) where
           (λ found. keeps.on_match t rest w is new found now)
           (λ no over. keeps.on_taken t rest w is new no over now)
           (λ no beside. keeps.on_gone t rest w is new no beside now)))
-          (bool_cases (was_seen w.seen t.state))
+          (cases_Bool (was_seen w.seen t.state))
 
       iterate_keeps : (k : ℕ) (w : Walking) → P w → P (iterate (step hay longest p i) k w)
       iterate_keeps zero w now = now

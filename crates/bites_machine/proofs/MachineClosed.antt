@@ -1,32 +1,29 @@
--- Until the machine has a match, every edge of a visited spot leads to a visited spot or to a thread.
+-- Until the machine has a match, every edge of a visited configuration leads to a visited configuration or to a thread.
 use Rattle.std.proofs.Common.{◌≡◌, ℕ, ◌+◌, ◌<◌, ◌≤◌, Bool, true, false, ◌||◌, ◌&&◌, cond, List, [], ◌∷◌, ◌++◌, map, take, length, Option, Some, None, refl, sym, ap, ◌∙◌, subst, inl, inr, ⊎_elim, ◌⊎◌, true≢false, arith, eqb-true}
 use Rattle.std.specs.Prelude.{◌==◌, is_some}
 use Rattle.std.specs.Option.{option_or}
+use Rattle.std.proofs.lemmas.Bool.{cases_Bool}
 use Rattle.bites_spec.specs.Utf8.{piece, places, step_len}
 use Rattle.bites_spec.specs.Walks.{Among}
-use Rattle.bites_spec.specs.Program.{Program, Spot, at, state_at, is_match}
+use Rattle.bites_spec.specs.Program.{Program, Configuration, at, state_at, is_match}
 use Rattle.bites_spec.specs.Run.{Run, leads, matches, Runs, IsRun, NoRun, LeastEnd, slots}
 use Rattle.bites_spec.specs.Counts.{Record, VisitedAll, VisitedSome}
-use Rattle.bites_spec.proofs.PieceLemmas.{Among-places}
-use Rattle.bites_spec.proofs.SlotLemmas.{Among-left, Among-right}
-use Rattle.bites_spec.proofs.ListedLemmas.{Among-under}
+use Rattle.bites_spec.proofs.utf8.PieceLemmas.{Among-places}
+use Rattle.bites_spec.proofs.programs.SlotLemmas.{Among-left, Among-right}
+use Rattle.bites_spec.proofs.programs.ListedLemmas.{Among-under}
 use Rattle.bites_machine.specs.Machine.{Thread, Walking, Searching, with_write, thread_on, moved, dropped, started, begun, Searches, at_start, SearchedTo, Searched, is_empty}
 use Rattle.bites_machine.proofs.SweepLemmas.{places-here, Runs-forward}
 use Rattle.bites_machine.proofs.PathLemmas.{closed_walk}
 use Rattle.bites_machine.proofs.MachineCases.{was_seen, taken, gone, Keeps, walk_keeps}
 use Rattle.bites_machine.proofs.MachineFirst.{nothing_among, places_end}
 use Rattle.bites_machine.proofs.MachineTrace.{Found}
-use Rattle.bites_machine.proofs.MachineSearch.{AreTraced, place_traced, traced_on, searched_place, searched_keeps, searched_traced, goes_on, still_open, spots_of, option_or_cases}
-
-bool_cases : (b : Bool) → (b ≡ true) ⊎ (b ≡ false)
-bool_cases true = inl refl
-bool_cases false = inr refl
+use Rattle.bites_machine.proofs.MachineSearch.{AreTraced, place_traced, traced_on, searched_place, searched_keeps, searched_traced, goes_on, still_open, configurations_of, option_or_cases}
 
 none_some : {A : Type 0} (x : A) → None ≡ Some x → ⊥
 none_some x e = cc
 
--- a thread of the list is at the spot
-abbrev pub Waits : List Thread → ℕ → Spot → Type 0
+-- a thread of the list is at the configuration
+abbrev pub Waits : List Thread → ℕ → Configuration → Type 0
 Waits ts i v = (u : Thread) × Among ts u × (at u.state i ≡ v)
 
 pub seen_among : (hay : List ℕ) (longest : Bool) (p : Program) (i : ℕ) (seen : List ℕ) (q : ℕ) → was_seen hay longest i p seen q ≡ true →
@@ -35,59 +32,59 @@ seen_among hay longest p i [] q was = absurd (true≢false (sym was))
 seen_among hay longest p i (x ∷ seen) q was =
     ⊎_elim (λ (e : (x == q) ≡ true). inl (ap (λ (n : ℕ). at n i) (eqb-true x q e)))
     (λ (e : (x == q) ≡ false). inr (seen_among hay longest p i seen q (ap (λ b. b || was_seen hay longest i p seen q) (sym e) ∙ was)))
-    (bool_cases (x == q))
+    (cases_Bool (x == q))
 
 module _ (p : Program) (hay : List ℕ) (longest : Bool) (width : ℕ) (start : ℕ) where
-  -- No match was visited, and what leads on from the visited spots, or is a start before the later ones, was visited or waits.
-  pub record IsClosed (visits : List Spot) (threads : List Thread) (i later : ℕ) : Type 0 where
-    pub closed : (u : Spot) → Among visits u → (v : Spot) → Among (leads p hay u) v → Among visits v ⊎ Waits threads i v
+  -- No match was visited, and what leads on from the visited configurations, or is a start before the later ones, was visited or waits.
+  pub record IsClosed (visits : List Configuration) (threads : List Thread) (i later : ℕ) : Type 0 where
+    pub closed : (u : Configuration) → Among visits u → (v : Configuration) → Among (leads p hay u) v → Among visits v ⊎ Waits threads i v
     pub starts : (k : ℕ) → Among (places hay start) k → Among visits (at p.start k) ⊎ Among (places hay later) k
-    pub no_match : (u : Spot) → Among visits u → matches p u ≡ false
+    pub no_match : (u : Configuration) → Among visits u → matches p u ≡ false
 
-  module _ (i : ℕ) (old : List Spot) where
+  module _ (i : ℕ) (old : List Configuration) where
     abbrev there : ℕ
     there = i + (piece hay i).len
 
     -- visited, or waiting at the place
-    abbrev pub IsHere : Walking → Spot → Type 0
-    IsHere w v = Among (spots_of i old w.seen) v ⊎ Waits w.stack i v
+    abbrev pub IsHere : Walking → Configuration → Type 0
+    IsHere w v = Among (configurations_of i old w.seen) v ⊎ Waits w.stack i v
 
     -- visited, or waiting in a walk
-    abbrev pub IsMet : Walking → Spot → Type 0
+    abbrev pub IsMet : Walking → Configuration → Type 0
     IsMet w v = IsHere w v ⊎ Waits w.next (i + (piece hay i).len) v
 
     pub record IsClosing (w : Walking) : Type 0 where
-      pub closed : (u : Spot) → Among (spots_of i old w.seen) u → (v : Spot) → Among (leads p hay u) v → IsMet w v
+      pub closed : (u : Configuration) → Among (configurations_of i old w.seen) u → (v : Configuration) → Among (leads p hay u) v → IsMet w v
       pub starts : (k : ℕ) → Among (places hay start) k → IsHere w (at p.start k) ⊎ Among (places hay (i + step_len hay i)) k
-      pub no_match : (u : Spot) → Among (spots_of i old w.seen) u → matches p u ≡ false
+      pub no_match : (u : Configuration) → Among (configurations_of i old w.seen) u → matches p u ≡ false
 
     -- what was met is met, once the first thread of the stack was visited
-    module _ (t : Thread) (rest : List Thread) (w x : Walking) (is : w.stack ≡ t ∷ rest) (here : Among (spots_of i old x.seen) (at t.state i))
-        (visits : (u : Spot) → Among (spots_of i old w.seen) u → Among (spots_of i old x.seen) u) (stack : (u : Thread) → Among rest u → Among x.stack u)
+    module _ (t : Thread) (rest : List Thread) (w x : Walking) (is : w.stack ≡ t ∷ rest) (here : Among (configurations_of i old x.seen) (at t.state i))
+        (visits : (u : Configuration) → Among (configurations_of i old w.seen) u → Among (configurations_of i old x.seen) u) (stack : (u : Thread) → Among rest u → Among x.stack u)
         (next : (u : Thread) → Among w.next u → Among x.next u) where
-      pub here_on : (v : Spot) → IsHere w v → IsHere x v
+      pub here_on : (v : Configuration) → IsHere w v → IsHere x v
       here_on v met =
           ⊎_elim (λ a. inl (visits v a))
           (λ on_stack. ⊎_elim
           (λ (top : t ≡ on_stack.0).
-          inl (subst (λ (y : Spot). Among (spots_of i old x.seen) y) (ap (λ (y : Thread). at y.state i) top ∙ on_stack.2) here))
+          inl (subst (λ (y : Configuration). Among (configurations_of i old x.seen) y) (ap (λ (y : Thread). at y.state i) top ∙ on_stack.2) here))
           (λ below. inr (on_stack.0, stack on_stack.0 below, on_stack.2))
           (subst (λ (l : List Thread). Among l on_stack.0) is on_stack.1))
           met
 
-      met_on : (v : Spot) → IsMet w v → IsMet x v
+      met_on : (v : Configuration) → IsMet w v → IsMet x v
       met_on v met = ⊎_elim (λ a. inl (here_on v a)) (λ in_next. inr (in_next.0, next in_next.0 in_next.1, in_next.2)) met
 
-      closing_on : ((u : Spot) → Among (spots_of i old x.seen) u → (at t.state i ≡ u) ⊎ Among (spots_of i old w.seen) u) →
-          ((v : Spot) → Among (leads p hay (at t.state i)) v → IsMet x v) → is_match (state_at p.states t.state) ≡ false → IsClosing w → IsClosing x
+      closing_on : ((u : Configuration) → Among (configurations_of i old x.seen) u → (at t.state i ≡ u) ⊎ Among (configurations_of i old w.seen) u) →
+          ((v : Configuration) → Among (leads p hay (at t.state i)) v → IsMet x v) → is_match (state_at p.states t.state) ≡ false → IsClosing w → IsClosing x
       closing_on new led none before = record {
         closed = λ u h v edge.
-            ⊎_elim (λ (e : at t.state i ≡ u). led v (subst (λ (y : Spot). Among (leads p hay y) v) (sym e) edge)) (λ a. met_on v (before.closed u a v edge)) (new u h);
+            ⊎_elim (λ (e : at t.state i ≡ u). led v (subst (λ (y : Configuration). Among (leads p hay y) v) (sym e) edge)) (λ a. met_on v (before.closed u a v edge)) (new u h);
         starts = λ k h. ⊎_elim (λ a. inl (here_on (at p.start k) a)) inr (before.starts k h);
-        no_match = λ u h. ⊎_elim (λ (e : at t.state i ≡ u). subst (λ (y : Spot). matches p y ≡ false) e none) (before.no_match u) (new u h);
+        no_match = λ u h. ⊎_elim (λ (e : at t.state i ≡ u). subst (λ (y : Configuration). matches p y ≡ false) e none) (before.no_match u) (new u h);
       }
 
-    moved_waits : (t : Thread) (k : ℕ) (v : Spot) → Among (leads p hay (at t.state i)) v → v.place ≡ k → Waits (moved hay longest i (state_at p.states t.state) t) k v
+    moved_waits : (t : Thread) (k : ℕ) (v : Configuration) → Among (leads p hay (at t.state i)) v → v.place ≡ k → Waits (moved hay longest i (state_at p.states t.state) t) k v
     moved_waits t k v edge is = (
       thread_on t.start (with_write (state_at p.states t.state) i t.slots) v,
       Among-under (thread_on t.start (with_write (state_at p.states t.state) i t.slots)) (leads p hay (at t.state i)) v edge,
@@ -99,7 +96,7 @@ module _ (p : Program) (hay : List ℕ) (longest : Bool) (width : ℕ) (start : 
     never (Some u) t e = none_some u (sym e)
 
     abbrev pub IsClosingYet : Walking → Type 0
-    IsClosingYet w = w.hit ≡ None → IsClosing w
+    IsClosingYet w = w.first_match ≡ None → IsClosing w
 
     on_dropped : (t : Thread) (rest : List Thread) (w : Walking) → w.stack ≡ t ∷ rest → was_seen hay longest i p w.seen t.state ≡ true →
         IsClosing w → IsClosing (dropped hay longest rest w)
@@ -112,7 +109,7 @@ module _ (p : Program) (hay : List ℕ) (longest : Bool) (width : ℕ) (start : 
     pub closing_keeps : Keeps hay longest i p IsClosingYet
     closing_keeps = record {
       on_seen = λ t rest w is was now none. on_dropped t rest w is was (now none);
-      on_match = λ t rest w is new found now none. absurd (never w.hit t none);
+      on_match = λ t rest w is new found now none. absurd (never w.first_match t none);
       on_taken = λ t rest w is new none over now no_hit.
           let later = moved hay longest i (state_at p.states t.state) t in
           closing_on t rest w (taken hay longest i (state_at p.states t.state) t rest w) is (inl refl) (λ u h. inr h) (λ u h. h)
@@ -133,7 +130,7 @@ module _ (p : Program) (hay : List ℕ) (longest : Bool) (width : ℕ) (start : 
     start_thread = started hay longest p width s.place
 
     begun_closing : (best : Option Thread) → s.best ≡ best → best ≡ None → IsClosing s.place s.visits
-        (record { stack = s.threads ++ cond (is_some best) [] (start_thread ∷ []); seen = []; next = []; hit = None; looks = s.looks })
+        (record { stack = s.threads ++ cond (is_some best) [] (start_thread ∷ []); seen = []; next = []; first_match = None; looks = s.looks })
     begun_closing (Some b) is none = absurd (none_some b (sym none))
     begun_closing None is none =
         let before = now is in record {
@@ -147,21 +144,21 @@ module _ (p : Program) (hay : List ℕ) (longest : Bool) (width : ℕ) (start : 
           no_match = before.no_match;
         }
 
-    last_closing : s.best ≡ None → place.last.hit ≡ None → IsClosing s.place s.visits place.last
+    last_closing : s.best ≡ None → place.last.first_match ≡ None → IsClosing s.place s.visits place.last
     last_closing no_best =
-        walk_keeps hay longest s.place p (λ w. w.hit ≡ None → IsClosing s.place s.visits w) (closing_keeps s.place s.visits)
+        walk_keeps hay longest s.place p (λ w. w.first_match ≡ None → IsClosing s.place s.visits w) (closing_keeps s.place s.visits)
         (begun hay longest p width s) place.last place.walks (λ none. begun_closing s.best refl no_best)
 
     both_none : (o q : Option Thread) → option_or o q ≡ None → (o ≡ None) × (q ≡ None)
     both_none None q e = (refl, e)
     both_none (Some u) q e = absurd (none_some u (sym e))
 
-    no_stack : (v : Spot) → Waits place.last.stack s.place v → ⊥
+    no_stack : (v : Configuration) → Waits place.last.stack s.place v → ⊥
     no_stack v waits = subst (λ (l : List Thread). Among l waits.0) place.over waits.1
 
     closed_behind : t.best ≡ None → IsClosed t.visits t.threads (s.place + (piece hay s.place).len) (s.place + step_len hay s.place)
     closed_behind none =
-        let both = both_none place.last.hit s.best (ap (λ (x : Searching). x.best) place.is ∙ none) in
+        let both = both_none place.last.first_match s.best (ap (λ (x : Searching). x.best) place.is ∙ none) in
         let last = last_closing both.1 both.0 in
         subst (λ (x : Searching). IsClosed x.visits x.threads (s.place + (piece hay s.place).len) (s.place + step_len hay s.place)) place.is record {
           closed = λ u h v edge. ⊎_elim (λ here. inl (visited_here v here)) inr (last.closed u h v edge);
@@ -169,7 +166,7 @@ module _ (p : Program) (hay : List ℕ) (longest : Bool) (width : ℕ) (start : 
           no_match = last.no_match;
         }
       where
-        visited_here : (v : Spot) → IsHere s.place s.visits place.last v → Among (spots_of s.place s.visits place.last.seen) v
+        visited_here : (v : Configuration) → IsHere s.place s.visits place.last v → Among (configurations_of s.place s.visits place.last.seen) v
         visited_here v here = ⊎_elim (λ a. a) (λ waits. absurd (no_stack v waits)) here
 
   abbrev IsClosedYet : Searching → Type 0
@@ -183,18 +180,18 @@ module _ (p : Program) (hay : List ℕ) (longest : Bool) (width : ℕ) (start : 
   }
 
   -- no run that begins at a place from the start on ends before the place of a search without a match
-  none_before : (visits : List Spot) (threads : List Thread) (i : ℕ) → IsClosed visits threads i i → (k : ℕ) → Among (places hay start) k →
-      (o : List Spot) (j : ℕ) → IsRun p hay k o j → j < i → ⊥
+  none_before : (visits : List Configuration) (threads : List Thread) (i : ℕ) → IsClosed visits threads i i → (k : ℕ) → Among (places hay start) k →
+      (o : List Configuration) (j : ℕ) → IsRun p hay k o j → j < i → ⊥
   none_before visits threads i closed k among o j runs lt =
       ⊎_elim (λ a. goes (at p.start k) o a runs)
       (λ later. let above = (Among-places hay i k later).0 in let forward = Runs-forward p hay (at p.start k) o j runs in omega arith)
       (closed.starts k among)
     where
-      goes : (s : Spot) (r : List Spot) → Among visits s → Runs p hay s r j → ⊥
+      goes : (s : Configuration) (r : List Configuration) → Among visits s → Runs p hay s r j → ⊥
       goes s [] a runs = true≢false (sym runs.0 ∙ closed.no_match s a)
       goes s (v ∷ r) a runs =
           ⊎_elim (λ b. goes v r b runs.1)
-          (λ waits. let forward = Runs-forward p hay v r j runs.1 in let here = ap (λ (x : Spot). x.place) waits.2 in omega arith)
+          (λ waits. let forward = Runs-forward p hay v r j runs.1 in let here = ap (λ (x : Configuration). x.place) waits.2 in omega arith)
           (closed.closed s a v runs.0)
 
   module _ (earliest : Bool) (within : start ≤ length hay) where
@@ -245,7 +242,7 @@ module _ (p : Program) (hay : List ℕ) (longest : Bool) (width : ℕ) (start : 
           let some = ((place_traced p hay longest width start fits end.before t place_among before_traced end.last).next u h).0 in
           let no_len = no_piece none in omega arith)
 
-      led_visited : t.best ≡ None → (u : Spot) → Among t.visits u → (v : Spot) → Among (leads p hay u) v → Among t.visits v
+      led_visited : t.best ≡ None → (u : Configuration) → Among t.visits u → (v : Configuration) → Among (leads p hay u) v → Among t.visits v
       led_visited none u h v edge =
           ⊎_elim (λ a. a) (λ waits. absurd (subst (λ (l : List Thread). Among l waits.0) (no_threads none) waits.1)) ((behind none).closed u h v edge)
 
@@ -263,7 +260,7 @@ module _ (p : Program) (hay : List ℕ) (longest : Bool) (width : ℕ) (start : 
       pub no_run : t.best ≡ None → NoRun p hay start
       no_run none i among r j runs = goes (at p.start i) r (start_visited none i among) runs
         where
-          goes : (s : Spot) (r : List Spot) → Among t.visits s → Runs p hay s r j → ⊥
+          goes : (s : Configuration) (r : List Configuration) → Among t.visits s → Runs p hay s r j → ⊥
           goes s [] a runs = true≢false (sym runs.0 ∙ (behind none).no_match s a)
           goes s (v ∷ r) a runs = goes v r (led_visited none s a v runs.0) runs.1
 
@@ -299,15 +296,15 @@ module _ (p : Program) (hay : List ℕ) (longest : Bool) (width : ℕ) (start : 
         closed : IsClosed end.before.visits end.before.threads end.before.place end.before.place
         closed = searched_closed true within end.places end.before end.searched none
 
-        hit : end.last.last.hit ≡ Some b
-        hit =
+        first_match : end.last.last.first_match ≡ Some b
+        first_match =
             ⊎_elim (λ here. here) (λ before. absurd (none_some b (sym none ∙ before.1)))
-            (option_or_cases end.last.last.hit end.before.best b (ap (λ (x : Searching). x.best) end.last.is ∙ is))
+            (option_or_cases end.last.last.first_match end.before.best b (ap (λ (x : Searching). x.best) end.last.is ∙ is))
 
-        found : Found p hay longest width start (spots_of end.before.place end.before.visits end.last.last.seen) end.before.place b
+        found : Found p hay longest width start (configurations_of end.before.place end.before.visits end.last.last.seen) end.before.place b
         found =
             (place_traced p hay longest width start fits end.before t (searched_place p hay longest width true start within end.places end.before end.searched)
-            (searched_traced p hay longest width start fits true within end.places end.before end.searched) end.last).hit b hit
+            (searched_traced p hay longest width start fits true within end.places end.before end.searched) end.last).first_match b first_match
 
         below : (j : ℕ) → j < found.run.end → j < end.before.place
         below j lt = let e = found.end_is in omega arith

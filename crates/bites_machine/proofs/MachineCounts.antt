@@ -1,47 +1,44 @@
--- The machine visits no spot twice, and looks no more often than there are edges, and once more at each place.
-use Rattle.std.proofs.Common.{◌≡◌, ℕ, suc, ◌+◌, ◌*◌, ◌<◌, ◌≤◌, Bool, true, false, ◌||◌, cond, List, [], ◌∷◌, ◌++◌, map, length, Option, Some, None, refl, sym, ap, ◌∙◌, subst, inl, inr, ⊎_elim, ◌⊎◌, true≢false, arith, length-append, eq-eqb}
+-- The machine visits no configuration twice, and looks no more often than there are edges, and once more at each place.
+use Rattle.std.proofs.Common.{◌≡◌, ℕ, suc, ◌+◌, ◌*◌, ◌<◌, ◌≤◌, Bool, true, false, ◌||◌, cond, List, [], ◌∷◌, ◌++◌, map, length, Option, Some, None, refl, sym, ap, ◌∙◌, subst, inl, ⊎_elim, ◌⊎◌, true≢false, arith, length-append, eq-eqb}
 use Rattle.std.specs.Prelude.{◌==◌, is_some, nat_le, sum_by}
 use Rattle.std.specs.List.{filter}
 use Rattle.std.specs.Option.{option_or}
 use Rattle.std.proofs.lemmas.List.{length-map}
 use Rattle.std.proofs.lemmas.List.Sums.{sum_by-cons}
+use Rattle.std.proofs.lemmas.Bool.{cases_Bool}
 use Rattle.bites_spec.specs.Utf8.{piece, places, step_len}
 use Rattle.bites_spec.specs.Walks.{Among, IsNew, AllApart}
-use Rattle.bites_spec.specs.Program.{State, Program, Spot, at, state_at, targets, targets_of, IsWellFormed}
+use Rattle.bites_spec.specs.Program.{State, Program, Configuration, at, state_at, targets, targets_of, IsWellFormed}
 use Rattle.bites_spec.specs.Run.{leads}
 use Rattle.bites_spec.specs.Counts.{IsBounded}
-use Rattle.bites_spec.proofs.PieceLemmas.{Among-places}
+use Rattle.bites_spec.proofs.utf8.PieceLemmas.{Among-places}
 use Rattle.bites_machine.specs.Machine.{Thread, Walking, Searching, with_write, thread_on, kept, moved, started, begun, Searches, at_start, SearchedTo, Searched}
 use Rattle.bites_machine.proofs.EdgeLemmas.{Among-apart}
 use Rattle.bites_machine.proofs.SweepLemmas.{places-here}
-use Rattle.bites_machine.proofs.SumLemmas.{sum_of_ones, sum_of_spots}
+use Rattle.bites_machine.proofs.SumLemmas.{sum_of_ones, sum_of_configurations}
 use Rattle.bites_machine.proofs.PathLemmas.{edges_within}
 use Rattle.bites_machine.proofs.MachineCases.{was_seen, Keeps, walk_keeps}
 use Rattle.bites_machine.proofs.MachineTrace.{Among-mapped, trace_inside}
-use Rattle.bites_machine.proofs.MachineSearch.{IsTraced, traced_keeps, begun_traced, AreTraced, traced_start, traced_on, searched_place, searched_keeps, goes_on, spots_of}
-
-bool_cases : (b : Bool) → (b ≡ true) ⊎ (b ≡ false)
-bool_cases true = inl refl
-bool_cases false = inr refl
+use Rattle.bites_machine.proofs.MachineSearch.{IsTraced, traced_keeps, begun_traced, AreTraced, traced_start, traced_on, searched_place, searched_keeps, goes_on, configurations_of}
 
 length-filter : {A : Type 0} (test : A → Bool) (xs : List A) → length (filter test xs) ≤ length xs
 length-filter test [] = omega arith
 length-filter test (x ∷ xs) =
     ⊎_elim (λ (e : test x ≡ true). rw e (omega (arith, length-filter test xs))) (λ (e : test x ≡ false). rw e (omega (arith, length-filter test xs)))
-    (bool_cases (test x))
+    (cases_Bool (test x))
 
 -- a match lets no more threads go on than there were
 pub length-kept : (hay : List ℕ) (longest : Bool) (o : Option Thread) (ts : List Thread) → length (kept hay longest o ts) ≤ length ts
 length-kept hay longest None ts = omega arith
-length-kept hay true (Some hit) ts = length-filter (λ t. nat_le t.start hit.start) ts
-length-kept hay false (Some hit) ts = omega arith
+length-kept hay true (Some first_match) ts = length-filter (λ t. nat_le t.start first_match.start) ts
+length-kept hay false (Some first_match) ts = omega arith
 
 -- a state that was not visited is none of those that were
 pub unseen_here : (hay : List ℕ) (longest : Bool) (p : Program) (i : ℕ) (seen : List ℕ) (q : ℕ) → was_seen hay longest i p seen q ≡ false →
     IsNew (at q i) (map (λ x. at x i) seen)
 unseen_here hay longest p i [] q new h = h
 unseen_here hay longest p i (x ∷ seen) q new h =
-    ⊎_elim (λ (e : at x i ≡ at q i). true≢false (sym (eq-eqb x q (ap (λ (s : Spot). s.state) e)) ∙ (both (x == q) (was_seen hay longest i p seen q) new).0))
+    ⊎_elim (λ (e : at x i ≡ at q i). true≢false (sym (eq-eqb x q (ap (λ (s : Configuration). s.state) e)) ∙ (both (x == q) (was_seen hay longest i p seen q) new).0))
     (unseen_here hay longest p i seen q (both (x == q) (was_seen hay longest i p seen q) new).1) h
   where
     both : (a b : Bool) → (a || b) ≡ false → (a ≡ false) × (b ≡ false)
@@ -49,17 +46,17 @@ unseen_here hay longest p i (x ∷ seen) q new h =
     both false b e = (refl, e)
 
 module _ (p : Program) (hay : List ℕ) (well : IsWellFormed p) (longest : Bool) (width : ℕ) (fits : width ≤ p.slots) (start : ℕ) where
-  abbrev pub led : List Spot → ℕ
+  abbrev pub led : List Configuration → ℕ
   led visits = sum_by (λ u. length (leads p hay u)) visits
 
-  module _ (i : ℕ) (among : Among (places hay start) i) (old : List Spot) (before : (u : Spot) → Among old u → u.place < i) (to_come : ℕ) where
+  module _ (i : ℕ) (among : Among (places hay start) i) (old : List Configuration) (before : (u : Configuration) → Among old u → u.place < i) (to_come : ℕ) where
     -- what was visited, and how often the walk has looked and has still to look, with so many places to come
     pub record IsCounted (w : Walking) : Type 0 where
       pub traced : IsTraced p hay longest width start fits i old w
-      pub apart : AllApart (spots_of i old w.seen)
-      pub inside : (u : Spot) → Among (spots_of i old w.seen) u → (u.state < length p.states) × Among (places hay start) u.place
-      pub looks : w.looks + length w.stack + length w.next + to_come ≤ length (places hay start) + sum_by (λ u. length (leads p hay u)) (spots_of i old w.seen)
-      pub looked : length (spots_of i old w.seen) ≤ w.looks
+      pub apart : AllApart (configurations_of i old w.seen)
+      pub inside : (u : Configuration) → Among (configurations_of i old w.seen) u → (u.state < length p.states) × Among (places hay start) u.place
+      pub looks : w.looks + length w.stack + length w.next + to_come ≤ length (places hay start) + sum_by (λ u. length (leads p hay u)) (configurations_of i old w.seen)
+      pub looked : length (configurations_of i old w.seen) ≤ w.looks
 
     module _ (t : Thread) (rest : List Thread) (w : Walking) (is : w.stack ≡ t ∷ rest) (now : IsCounted w) where
       one_less : length w.stack ≡ suc (length rest)
@@ -68,21 +65,21 @@ module _ (p : Program) (hay : List ℕ) (well : IsWellFormed p) (longest : Bool)
       moved_count : length (moved hay longest i (state_at p.states t.state) t) ≡ length (leads p hay (at t.state i))
       moved_count = length-map (leads p hay (at t.state i)) (thread_on t.start (with_write (state_at p.states t.state) i t.slots))
 
-      led_more : led (spots_of i old (t.state ∷ w.seen)) ≡ length (leads p hay (at t.state i)) + led (spots_of i old w.seen)
-      led_more = sum_by-cons (λ (u : Spot). length (leads p hay u)) (at t.state i) (spots_of i old w.seen)
+      led_more : led (configurations_of i old (t.state ∷ w.seen)) ≡ length (leads p hay (at t.state i)) + led (configurations_of i old w.seen)
+      led_more = sum_by-cons (λ (u : Configuration). length (leads p hay u)) (at t.state i) (configurations_of i old w.seen)
 
-      now_apart : was_seen hay longest i p w.seen t.state ≡ false → AllApart (spots_of i old (t.state ∷ w.seen))
+      now_apart : was_seen hay longest i p w.seen t.state ≡ false → AllApart (configurations_of i old (t.state ∷ w.seen))
       now_apart new = (
         λ h. ⊎_elim (unseen_here hay longest p i w.seen t.state new) (λ (a : Among old (at t.state i)). let lt = before (at t.state i) a in omega arith)
             (Among-apart (map (λ x. at x i) w.seen) old (at t.state i) h),
         now.apart,
       )
 
-      now_inside : (u : Spot) → Among (spots_of i old (t.state ∷ w.seen)) u → (u.state < length p.states) × Among (places hay start) u.place
+      now_inside : (u : Configuration) → Among (configurations_of i old (t.state ∷ w.seen)) u → (u.state < length p.states) × Among (places hay start) u.place
       now_inside u h =
           ⊎_elim
-          (λ (e : at t.state i ≡ u). subst (λ (x : Spot). (x.state < length p.states) × Among (places hay start) x.place) e (
-            (trace_inside p hay longest width start well (spots_of i old w.seen) i t
+          (λ (e : at t.state i ≡ u). subst (λ (x : Configuration). (x.state < length p.states) × Among (places hay start) x.place) e (
+            (trace_inside p hay longest width start well (configurations_of i old w.seen) i t
                 (now.traced.stack t (subst (λ (l : List Thread). Among l t) (sym is) (inl refl)))).0,
             among,
           ))
@@ -103,7 +100,7 @@ module _ (p : Program) (hay : List ℕ) (well : IsWellFormed p) (longest : Bool)
             apart = now_apart t rest w is now new;
             inside = now_inside t rest w is now;
             looks = let a = one_less t rest w is now in let b = now.looks in let c = led_more t rest w is now in
-                let d = length-kept hay longest (option_or w.hit (Some t)) rest in omega arith;
+                let d = length-kept hay longest (option_or w.first_match (Some t)) rest in omega arith;
             looked = let b = now.looked in omega arith;
           };
           on_taken = λ t rest w is new none over now. record {
@@ -128,13 +125,13 @@ module _ (p : Program) (hay : List ℕ) (well : IsWellFormed p) (longest : Bool)
   pub record HasCounted (s : Searching) (to_come : ℕ) : Type 0 where
     pub traced : AreTraced p hay longest width start fits s
     pub apart : AllApart s.visits
-    pub inside : (u : Spot) → Among s.visits u → (u.state < length p.states) × Among (places hay start) u.place
+    pub inside : (u : Configuration) → Among s.visits u → (u.state < length p.states) × Among (places hay start) u.place
     pub looks : s.looks + length s.threads + to_come ≤ length (places hay start) + sum_by (λ u. length (leads p hay u)) s.visits
     pub looked : length s.visits ≤ s.looks
 
   -- one place more
   module _ (s t : Searching) (among : Among (places hay start) s.place) (place : Searches hay longest p width s t) (to_come : ℕ) (now : HasCounted s (suc to_come))
-      (before : (u : Spot) → Among s.visits u → u.place < s.place) where
+      (before : (u : Configuration) → Among s.visits u → u.place < s.place) where
     begin_count : (best : Option Thread) → length (s.threads ++ cond (is_some best) [] (started hay longest p width s.place ∷ [])) ≤ suc (length s.threads)
     begin_count (Some b) = omega (arith, length-append s.threads [])
     begin_count None = omega (arith, length-append s.threads (started hay longest p width s.place ∷ []))
@@ -157,21 +154,21 @@ module _ (p : Program) (hay : List ℕ) (well : IsWellFormed p) (longest : Bool)
         let looks = ap (λ (x : Searching). x.looks) place.is in record {
           traced = traced;
           apart = subst AllApart visits last_counted.apart;
-          inside = subst (λ (l : List Spot). (u : Spot) → Among l u → (u.state < length p.states) × Among (places hay start) u.place) visits last_counted.inside;
+          inside = subst (λ (l : List Configuration). (u : Configuration) → Among l u → (u.state < length p.states) × Among (places hay start) u.place) visits last_counted.inside;
           looks = subst (λ (x : Searching). x.looks + length x.threads + to_come ≤ length (places hay start) + led x.visits) place.is
               (let a = last_counted.looks in omega arith);
           looked = subst (λ (x : Searching). length x.visits ≤ x.looks) place.is last_counted.looked;
         }
 
-    before_behind : 0 < (piece hay s.place).len → (u : Spot) → Among t.visits u → u.place < t.place
+    before_behind : 0 < (piece hay s.place).len → (u : Configuration) → Among t.visits u → u.place < t.place
     before_behind some =
-        subst (λ (x : Searching). (u : Spot) → Among x.visits u → u.place < x.place) place.is
-        (λ u h. ⊎_elim (λ a. let m = Among-mapped (λ q. at q s.place) place.last.seen u a in let e = ap (λ (x : Spot). x.place) m.2 in omega arith)
+        subst (λ (x : Searching). (u : Configuration) → Among x.visits u → u.place < x.place) place.is
+        (λ u h. ⊎_elim (λ a. let m = Among-mapped (λ q. at q s.place) place.last.seen u a in let e = ap (λ (x : Configuration). x.place) m.2 in omega arith)
         (λ a. let lt = before u a in omega arith) (Among-apart (map (λ q. at q s.place) place.last.seen) s.visits u h))
 
   record IsCounting (s : Searching) : Type 0 where
     counted : HasCounted s (length (places hay s.place))
-    before : (u : Spot) → Among s.visits u → u.place < s.place
+    before : (u : Configuration) → Among s.visits u → u.place < s.place
 
   counting_start : IsCounting (at_start hay longest p width start)
   counting_start = record {
@@ -192,8 +189,8 @@ module _ (p : Program) (hay : List ℕ) (well : IsWellFormed p) (longest : Bool)
   -- what was counted keeps to the bounds
   pub counted_bounded : (t : Searching) (to_come : ℕ) → HasCounted t to_come → IsBounded p hay start (record { visits = t.visits; looks = t.looks })
   counted_bounded t to_come done =
-      let ones = sum_of_spots (λ (u : Spot). 1) (λ (st : State). 1) p.states (places hay start) t.visits (λ q i. omega arith) done.apart done.inside in
-      let edges = sum_of_spots (λ (u : Spot). length (leads p hay u)) (λ (st : State). length (targets_of st)) p.states (places hay start) t.visits
+      let ones = sum_of_configurations (λ (u : Configuration). 1) (λ (st : State). 1) p.states (places hay start) t.visits (λ q i. omega arith) done.apart done.inside in
+      let edges = sum_of_configurations (λ (u : Configuration). length (leads p hay u)) (λ (st : State). length (targets_of st)) p.states (places hay start) t.visits
       (λ q i. edges_within hay (state_at p.states q) i) done.apart done.inside in record {
         apart = done.apart;
         visits = let a = sum_of_ones t.visits in

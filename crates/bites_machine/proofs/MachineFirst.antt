@@ -3,25 +3,22 @@ use Rattle.std.proofs.Common.{◌≡◌, ℕ, ◌+◌, ◌<◌, ◌≤◌, Bool,
 use Rattle.std.specs.Prelude.{◌==◌, nat_le, is_some, replicate, option_and_then}
 use Rattle.std.specs.Option.{option_or}
 use Rattle.std.proofs.lemmas.List.{append-nil, map-append}
+use Rattle.std.proofs.lemmas.Bool.{cases_Bool, and_parts}
 use Rattle.bites_spec.specs.Utf8.{piece, places, step_len}
 use Rattle.bites_spec.specs.Walks.{Among, Walk, first_among, last_of}
-use Rattle.bites_spec.specs.Program.{Program, Spot, at, state_at, is_match, IsWellFormed}
-use Rattle.bites_spec.specs.Run.{Run, is_same_spot, leads, matches, enough, slots, run_of, first_run_from, first_run}
-use Rattle.bites_spec.proofs.PieceLemmas.{piece_some, Among-places}
-use Rattle.bites_spec.proofs.RunLemmas.{same_is, same_refl, match_ends}
-use Rattle.bites_spec.proofs.FirstLemmas.{sound}
-use Rattle.bites_spec.proofs.WalkLemmas.{pending}
+use Rattle.bites_spec.specs.Program.{Program, Configuration, at, state_at, is_match, IsWellFormed}
+use Rattle.bites_spec.specs.Run.{Run, is_same_configuration, leads, matches, enough, slots, run_of, first_run_from, first_run}
+use Rattle.bites_spec.proofs.utf8.PieceLemmas.{piece_some, Among-places}
+use Rattle.bites_spec.proofs.runs.RunLemmas.{same_is, same_refl, match_ends}
+use Rattle.bites_spec.proofs.runs.FirstLemmas.{sound}
+use Rattle.bites_spec.proofs.runs.WalkLemmas.{pending}
 use Rattle.bites_machine.specs.Machine.{Thread, Walking, Searching, kept, moved, started, begun, Searches, at_start, is_over, SearchedTo, Searched, is_empty}
 use Rattle.bites_machine.proofs.SweepLemmas.{places-here, places-past}
 use Rattle.bites_machine.proofs.MachineCases.{was_seen, Keeps, walk_keeps}
 use Rattle.bites_machine.proofs.MachineSlots.{run_writes}
 use Rattle.bites_machine.proofs.MachineWaiting.{Outcome, outcome, worth, wait, wait_all, marks, run, pend, pend-append, pend_later, pend_seen, pend_gone, pend_taken, pend_hit}
 use Rattle.bites_machine.proofs.MachineTrace.{trace_inside}
-use Rattle.bites_machine.proofs.MachineSearch.{IsTraced, traced_keeps, begun_traced, AreTraced, traced_start, traced_on, searched_place, searched_keeps, goes_on, spots_of}
-
-bool_cases : (b : Bool) → (b ≡ true) ⊎ (b ≡ false)
-bool_cases true = inl refl
-bool_cases false = inr refl
+use Rattle.bites_machine.proofs.MachineSearch.{IsTraced, traced_keeps, begun_traced, AreTraced, traced_start, traced_on, searched_place, searched_keeps, goes_on, configurations_of}
 
 pub or_assoc : {A : Type 0} (o p q : Option A) → option_or (option_or o p) q ≡ option_or o (option_or p q)
 or_assoc None p q = refl
@@ -38,10 +35,6 @@ or_map f (Some x) q = refl
 pub or_true : (a b : Bool) → (a || b) ≡ true → (a ≡ true) ⊎ (b ≡ true)
 or_true true b e = inl refl
 or_true false b e = inr e
-
-and_true : (a b : Bool) → (a && b) ≡ true → (a ≡ true) × (b ≡ true)
-and_true true b e = (refl, e)
-and_true false b e = absurd (true≢false (sym e))
 
 pub nothing_among : {A : Type 0} (xs : List A) → ((x : A) → Among xs x → ⊥) → xs ≡ []
 nothing_among [] none = refl
@@ -65,13 +58,13 @@ places_end hay i le none =
     (λ (e : nat_le (length hay) i ≡ false).
     let before : length hay ≤ i → ⊥ = (λ le. true≢false (sym (le-leb (length hay) i le) ∙ e)) in
     let some = piece_some hay i (omega (arith, before)) in absurd (omega arith))
-    (bool_cases (nat_le (length hay) i))
+    (cases_Bool (nat_le (length hay) i))
 
 module _ (p : Program) (hay : List ℕ) (well : IsWellFormed p) (width : ℕ) (fits : width ≤ p.slots) (start : ℕ) (within : start ≤ length hay) where
-  abbrev pub pended : (Spot → Bool) → List (Spot × (List Spot → Outcome)) → Option Outcome
+  abbrev pub pended : (Configuration → Bool) → List (Configuration × (List Configuration → Outcome)) → Option Outcome
   pended seen ws = pend p hay (matches p) (λ s e. e) seen ws
 
-  abbrev TracedAt : ℕ → List Spot → Walking → Type 0
+  abbrev TracedAt : ℕ → List Configuration → Walking → Type 0
   TracedAt i old w = IsTraced p hay false width start fits i old w
 
   abbrev AllTraced : Searching → Type 0
@@ -84,56 +77,56 @@ module _ (p : Program) (hay : List ℕ) (well : IsWellFormed p) (width : ℕ) (f
   abbrev pub total : Option Outcome
   total = first_among answer_from (places hay start)
 
-  module _ (i : ℕ) (here : i ≤ length hay) (old : List Spot) (rest : Option Outcome) where
+  module _ (i : ℕ) (here : i ≤ length hay) (old : List Configuration) (rest : Option Outcome) where
     abbrev there : ℕ
     there = i + (piece hay i).len
 
     abbrev pub value : List ℕ → List Thread → List Thread → Option Thread → Option Outcome
-    value seen next stack hit =
-        option_or (pended (marks p hay i seen) (wait_all p hay there next ++ wait_all p hay i stack)) (option_or (option_map outcome hit) rest)
+    value seen next stack first_match =
+        option_or (pended (marks p hay i seen) (wait_all p hay there next ++ wait_all p hay i stack)) (option_or (option_map outcome first_match) rest)
 
-    -- the first success of all that wait, else the hit, else what was there before, is the answer
+    -- the first success of all that wait, else the first match, else what was there before, is the answer
     pub record IsWorth (w : Walking) : Type 0 where
       pub traced : IsTraced p hay false width start fits i old w
-      pub worth_is : value w.seen w.next w.stack w.hit ≡ total
-      pub done : (t : Thread) → w.hit ≡ Some t → w.stack ≡ []
+      pub worth_is : value w.seen w.next w.stack w.first_match ≡ total
+      pub done : (t : Thread) → w.first_match ≡ Some t → w.stack ≡ []
 
     module _ (t : Thread) (others : List Thread) (w : Walking) (is : w.stack ≡ t ∷ others) (now : IsWorth w) where
-      no_hit : w.hit ≡ None
-      no_hit = ⊎_elim (λ none. none) (λ some. absurd (cons_not_empty t others (sym is ∙ now.done some.0 some.1))) (none_or_some w.hit)
+      no_hit : w.first_match ≡ None
+      no_hit = ⊎_elim (λ none. none) (λ some. absurd (cons_not_empty t others (sym is ∙ now.done some.0 some.1))) (none_or_some w.first_match)
 
       behind : (u : Thread) → Among w.next u → i < there
       behind u h = let some = (now.traced.next u h).0 in omega arith
 
       inside : t.state < length p.states
       inside =
-          (trace_inside p hay false width start well (spots_of i old w.seen) i t
+          (trace_inside p hay false width start well (configurations_of i old w.seen) i t
           (now.traced.stack t (subst (λ (l : List Thread). Among l t) (sym is) (inl refl)))).0
 
       -- the value changes as what waits does
       changed : (seen : List ℕ) (next stack : List Thread) →
           pended (marks p hay i w.seen) (wait_all p hay there w.next ++ wait_all p hay i (t ∷ others))
           ≡ pended (marks p hay i seen) (wait_all p hay there next ++ wait_all p hay i stack) →
-          value seen next stack w.hit ≡ total
+          value seen next stack w.first_match ≡ total
       changed seen next stack e =
-          ap (λ (o : Option Outcome). option_or o (option_or (option_map outcome w.hit) rest)) (sym e)
-          ∙ ap (λ (l : List Thread). value w.seen w.next l w.hit) (sym is) ∙ now.worth_is
+          ap (λ (o : Option Outcome). option_or o (option_or (option_map outcome w.first_match) rest)) (sym e)
+          ∙ ap (λ (l : List Thread). value w.seen w.next l w.first_match) (sym is) ∙ now.worth_is
 
-      none_hit : (u : Thread) (l : List Thread) → w.hit ≡ Some u → l ≡ []
+      none_hit : (u : Thread) (l : List Thread) → w.first_match ≡ Some u → l ≡ []
       none_hit u l e = absurd (none_some u (sym no_hit ∙ e))
         where
           none_some : (u : Thread) → None ≡ Some u → ⊥
           none_some u e = cc
 
       hit_value : was_seen hay false i p w.seen t.state ≡ false → is_match (state_at p.states t.state) ≡ true →
-          (o : Option Thread) → w.hit ≡ o → value (t.state ∷ w.seen) w.next (kept hay false (option_or o (Some t)) others) (option_or o (Some t)) ≡ total
+          (o : Option Thread) → w.first_match ≡ o → value (t.state ∷ w.seen) w.next (kept hay false (option_or o (Some t)) others) (option_or o (Some t)) ≡ total
       hit_value new found None none =
-          ap (λ (l : List (Spot × (List Spot → Outcome))). option_or (pended (marks p hay i (t.state ∷ w.seen)) l) (Some (outcome t))) (append-nil (wait_all p hay there w.next))
+          ap (λ (l : List (Configuration × (List Configuration → Outcome))). option_or (pended (marks p hay i (t.state ∷ w.seen)) l) (Some (outcome t))) (append-nil (wait_all p hay there w.next))
           ∙ sym (or_assoc (pended (marks p hay i (t.state ∷ w.seen)) (wait_all p hay there w.next)) (Some (outcome t)) rest)
           ∙ ap (λ (o : Option Outcome). option_or o rest)
           (sym (pend_hit p hay (matches p) (λ s e. e) well false i there here w.seen w.next t others behind new inside found))
           ∙ ap (λ (o : Option Thread). value w.seen w.next (t ∷ others) o) (sym none)
-          ∙ ap (λ (l : List Thread). value w.seen w.next l w.hit) (sym is) ∙ now.worth_is
+          ∙ ap (λ (l : List Thread). value w.seen w.next l w.first_match) (sym is) ∙ now.worth_is
       hit_value new found (Some u) some = absurd (cons_not_empty t others (none_hit u (t ∷ others) some))
 
       kept_none : (o : Option Thread) → kept hay false (option_or o (Some t)) others ≡ []
@@ -151,8 +144,8 @@ module _ (p : Program) (hay : List ℕ) (well : IsWellFormed p) (width : ℕ) (f
           };
           on_match = λ t others w is new found now. record {
             traced = traces.on_match t others w is new found now.traced;
-            worth_is = hit_value t others w is now new found w.hit refl;
-            done = λ u e. kept_none t others w is now w.hit;
+            worth_is = hit_value t others w is now new found w.first_match refl;
+            done = λ u e. kept_none t others w is now w.first_match;
           };
           on_taken = λ t others w is new none over now. record {
             traced = traces.on_taken t others w is new none over now.traced;
@@ -222,14 +215,14 @@ module _ (p : Program) (hay : List ℕ) (well : IsWellFormed p) (width : ℕ) (f
     next_place = s.place + (piece hay s.place).len
 
     last_value : option_or (pended (λ q. false) (wait_all p hay next_place place.last.next))
-        (rest_of (option_or place.last.hit s.best) (s.place + step_len hay s.place)) ≡ total
+        (rest_of (option_or place.last.first_match s.best) (s.place + step_len hay s.place)) ≡ total
     last_value =
         ap₂ option_or
         (sym (pend_later p hay (matches p) (λ s e. e) s.place next_place place.last.seen place.last.next (λ u h. let some = (last_worth.traced.next u h).0 in omega arith))
         ∙ ap (pended (marks p hay s.place place.last.seen)) (sym (append-nil (wait_all p hay next_place place.last.next))
         ∙ ap (λ (l : List Thread). wait_all p hay next_place place.last.next ++ wait_all p hay s.place l) (sym place.over)))
-        (ap (λ (o : Option Outcome). option_or o (first_among answer_from (places hay (s.place + step_len hay s.place)))) (or_map outcome place.last.hit s.best)
-        ∙ or_assoc (option_map outcome place.last.hit) (option_map outcome s.best) (first_among answer_from (places hay (s.place + step_len hay s.place))))
+        (ap (λ (o : Option Outcome). option_or o (first_among answer_from (places hay (s.place + step_len hay s.place)))) (or_map outcome place.last.first_match s.best)
+        ∙ or_assoc (option_map outcome place.last.first_match) (option_map outcome s.best) (first_among answer_from (places hay (s.place + step_len hay s.place))))
         ∙ last_worth.worth_is
 
     pub value_behind : value_at next_place t.threads t.best (s.place + step_len hay s.place) ≡ total
@@ -259,7 +252,7 @@ module _ (p : Program) (hay : List ℕ) (well : IsWellFormed p) (width : ℕ) (f
         ∙ ap (λ (l : List ℕ). option_or (option_map outcome t.best) (first_among answer_from l)) (sym (places_end hay s.place place_within none))
         ∙ nothing_waits (last_threads none))
         (λ (e : (is_some t.best && is_empty t.threads) ≡ true).
-        let both = and_true (is_some t.best) (is_empty t.threads) e in
+        let both = and_parts (is_some t.best) (is_empty t.threads) e in
         best_stays t.best both.0 ∙ nothing_waits (empty_is t.threads both.1))
         (or_true ((piece hay s.place).len == 0) (is_some t.best && is_empty t.threads) over)
       where
@@ -302,19 +295,19 @@ module _ (p : Program) (hay : List ℕ) (well : IsWellFormed p) (width : ℕ) (f
   abbrev pub front_of : Run → List (Option ℕ)
   front_of r = take width (slots p r)
 
-  walk_to_match : (s : Spot) (r : List Spot) → Walk (leads p hay) (λ q. matches p q ≡ true) s r → matches p (last_of s r) ≡ true
+  walk_to_match : (s : Configuration) (r : List Configuration) → Walk (leads p hay) (λ q. matches p q ≡ true) s r → matches p (last_of s r) ≡ true
   walk_to_match s [] walk = walk
   walk_to_match s (t ∷ r) walk = walk_to_match t r walk.1
 
-  from_is : (k : ℕ) (o : Option (List Spot)) → run p hay (matches p) (λ s e. e) (λ q. false) (at p.start k) ≡ o →
+  from_is : (k : ℕ) (o : Option (List Configuration)) → run p hay (matches p) (λ s e. e) (λ q. false) (at p.start k) ≡ o →
       option_map (λ (x : Outcome). x.slots) (option_map (worth p hay 0 (replicate width None)) o) ≡ option_map front_of (option_and_then (run_of p hay k) o)
   from_is k None e = refl
   from_is k (Some l) e =
-      let h = sound is_same_spot (leads p hay) (matches p) same_is same_refl (match_ends p hay) (enough p hay) (λ q. false) (at p.start k) l e in
-      subst (λ (x : List Spot). option_map (λ (y : Outcome). y.slots) (option_map (worth p hay 0 (replicate width None)) (Some x)) ≡ option_map front_of (option_and_then (run_of p hay k) (Some x)))
+      let h = sound is_same_configuration (leads p hay) (matches p) same_is same_refl (match_ends p hay) (enough p hay) (λ q. false) (at p.start k) l e in
+      subst (λ (x : List Configuration). option_map (λ (y : Outcome). y.slots) (option_map (worth p hay 0 (replicate width None)) (Some x)) ≡ option_map front_of (option_and_then (run_of p hay k) (Some x)))
       (sym h.1)
       (ap (λ (x : List (Option ℕ)). Some x)
-      (run_writes p width (record { start = k; spots = h.0; end = (last_of (at p.start k) h.0).place }) fits (walk_to_match (at p.start k) h.0 h.2)))
+      (run_writes p width (record { start = k; configurations = h.0; end = (last_of (at p.start k) h.0).place }) fits (walk_to_match (at p.start k) h.0 h.2)))
 
   pub answer_is : (k : ℕ) → option_map (λ (x : Outcome). x.slots) (answer_from k) ≡ option_map front_of (first_run_from p hay k)
   unfolding first_run_from

@@ -1,36 +1,30 @@
 -- The machine answers the longest run.
 use Rattle.std.proofs.Common.{◌≡◌, ℕ, suc, ◌+◌, ◌<◌, ◌≤◌, Bool, true, false, ◌||◌, ◌&&◌, cond, List, [], ◌∷◌, ◌++◌, take, length, Option, Some, None, option_map, refl, sym, ap, ap₂, ◌∙◌, subst, inl, inr, ⊎_elim, ◌⊎◌, true≢false, arith, eqb-true, eq-eqb, le-leb, leb-true}
+use Rattle.std.proofs.lemmas.Option.{same_Some}
 use Rattle.std.specs.Prelude.{◌==◌, nat_le, is_some, replicate}
 use Rattle.std.specs.List.{filter}
 use Rattle.std.specs.Option.{option_or}
 use Rattle.std.proofs.lemmas.List.{append-nil, map-append}
+use Rattle.std.proofs.lemmas.Bool.{cases_Bool, and_parts}
 use Rattle.bites_spec.specs.Utf8.{piece, places, step_len}
 use Rattle.bites_spec.specs.Walks.{Among, Walk, first_among, last_of}
-use Rattle.bites_spec.specs.Program.{Program, Spot, at, state_at, is_match, IsWellFormed}
-use Rattle.bites_spec.specs.Run.{Run, StartsFirst, Runs, IsRun, LongestRun, is_end_at, is_same_spot, leads, matches, enough, slots, longest_run}
-use Rattle.bites_spec.proofs.PieceLemmas.{Among-places}
-use Rattle.bites_spec.proofs.FirstLemmas.{sound}
-use Rattle.bites_spec.proofs.RunLemmas.{same_is, same_refl, match_ends, first_place, no_place}
-use Rattle.bites_spec.proofs.LongestLemmas.{no_run_to, no_walk_no_run, walk_makes_run, below_found, below_some, one_longest_answer, longest_run-LongestRun}
-use Rattle.bites_spec.proofs.WalkLemmas.{pending}
+use Rattle.bites_spec.specs.Program.{Program, Configuration, at, state_at, is_match, IsWellFormed}
+use Rattle.bites_spec.specs.Run.{Run, StartsFirst, Runs, IsRun, LongestRun, is_end_at, is_same_configuration, leads, matches, enough, slots, longest_run}
+use Rattle.bites_spec.proofs.utf8.PieceLemmas.{Among-places}
+use Rattle.bites_spec.proofs.runs.FirstLemmas.{sound}
+use Rattle.bites_spec.proofs.runs.RunLemmas.{same_is, same_refl, match_ends, first_place, no_place}
+use Rattle.bites_spec.proofs.programs.LongestLemmas.{no_run_to, no_walk_no_run, walk_makes_run, below_found, below_some, one_longest_answer, longest_run-LongestRun}
+use Rattle.bites_spec.proofs.runs.WalkLemmas.{pending}
 use Rattle.bites_machine.specs.Machine.{Thread, Walking, Searching, kept, moved, started, begun, Searches, at_start, is_over, SearchedTo, Searched, is_empty}
 use Rattle.bites_machine.proofs.SweepLemmas.{places-here, Runs-forward}
 use Rattle.bites_machine.proofs.MachineCases.{was_seen, Keeps, walk_keeps}
 use Rattle.bites_machine.proofs.MachineSlots.{run_writes}
 use Rattle.bites_machine.proofs.MachineWaiting.{Outcome, outcome, worth, wait, wait_all, marks, run, pend, pend-append, pend_later, pend_seen, pend_gone, pend_taken, pend_dead, pend_hit}
 use Rattle.bites_machine.proofs.MachineTrace.{Found, trace_inside}
-use Rattle.bites_machine.proofs.MachineSearch.{IsTraced, traced_keeps, begun_traced, AreTraced, traced_start, traced_on, place_traced, searched_place, searched_keeps, goes_on, spots_of}
+use Rattle.bites_machine.proofs.MachineSearch.{IsTraced, traced_keeps, begun_traced, AreTraced, traced_start, traced_on, place_traced, searched_place, searched_keeps, goes_on, configurations_of}
 use Rattle.bites_machine.proofs.MachineClosed.{best_found}
 use Rattle.bites_machine.proofs.MachineFirst.{nothing_among, places_end}
 use Rattle.bites_machine.proofs.MachineOrder.{AreOrdered, ordered_start, ordered_on, place_ordered}
-
-bool_cases : (b : Bool) → (b ≡ true) ⊎ (b ≡ false)
-bool_cases true = inl refl
-bool_cases false = inr refl
-
-and_both : (a b : Bool) → (a && b) ≡ true → (a ≡ true) × (b ≡ true)
-and_both true b e = (refl, e)
-and_both false b e = absurd (true≢false (sym e))
 
 or_cases : {A : Type 0} (o q : Option A) (x : A) → option_or o q ≡ Some x → (o ≡ Some x) ⊎ ((o ≡ None) × (q ≡ Some x))
 or_cases None q x e = inr (refl, e)
@@ -47,9 +41,6 @@ empty_is (t ∷ ts) e = absurd (true≢false (sym e))
 none_some : {A : Type 0} (x : A) → None ≡ Some x → ⊥
 none_some x e = cc
 
-same_some : {A : Type 0} (x y : A) → Some x ≡ Some y → x ≡ y
-same_some x y e = cc
-
 none_or_some : {A : Type 0} (o : Option A) → (o ≡ None) ⊎ ((x : A) × (o ≡ Some x))
 none_or_some None = inl refl
 none_or_some (Some x) = inr (x, refl)
@@ -58,7 +49,7 @@ pub below_or_not : (a b : ℕ) → (a < b) ⊎ (b ≤ a)
 below_or_not a b =
     ⊎_elim (λ (e : nat_le b a ≡ true). inr (leb-true b a e))
     (λ (e : nat_le b a ≡ false). let never : b ≤ a → ⊥ = (λ le. true≢false (sym (le-leb b a le) ∙ e)) in inl (less never))
-    (bool_cases (nat_le b a))
+    (cases_Bool (nat_le b a))
   where
     less : (b ≤ a → ⊥) → a < b
     less never = omega (arith, never)
@@ -75,57 +66,57 @@ module _ (p : Program) (hay : List ℕ) (well : IsWellFormed p) (width : ℕ) (f
     start_within = (Among-places hay start r.start first.from).1
 
     forward : r.start ≤ r.end
-    forward = Runs-forward p hay (at p.start r.start) r.spots r.end first.runs
+    forward = Runs-forward p hay (at p.start r.start) r.configurations r.end first.runs
 
-    abbrev pub is_end : Spot → Bool
+    abbrev pub is_end : Configuration → Bool
     is_end = is_end_at p r.end
 
-    pub end_matches : (s : Spot) → is_end s ≡ true → matches p s ≡ true
-    end_matches s e = (and_both (matches p s) (s.place == r.end) e).0
+    pub end_matches : (s : Configuration) → is_end s ≡ true → matches p s ≡ true
+    end_matches s e = (and_parts (matches p s) (s.place == r.end) e).0
 
-    end_place : (s : Spot) → is_end s ≡ true → s.place ≡ r.end
-    end_place s e = eqb-true s.place r.end (and_both (matches p s) (s.place == r.end) e).1
+    end_place : (s : Configuration) → is_end s ≡ true → s.place ≡ r.end
+    end_place s e = eqb-true s.place r.end (and_parts (matches p s) (s.place == r.end) e).1
 
-    ends_nowhere : (s : Spot) → is_end s ≡ true → leads p hay s ≡ []
+    ends_nowhere : (s : Configuration) → is_end s ≡ true → leads p hay s ≡ []
     ends_nowhere s e = match_ends p hay s (end_matches s e)
 
-    to_runs : (s : Spot) (o : List Spot) → Walk (leads p hay) (λ q. is_end q ≡ true) s o → Runs p hay s o r.end
+    to_runs : (s : Configuration) (o : List Configuration) → Walk (leads p hay) (λ q. is_end q ≡ true) s o → Runs p hay s o r.end
     to_runs s [] walk = (end_matches s walk, end_place s walk)
     to_runs s (t ∷ o) walk = (walk.0, to_runs t o walk.1)
 
-    abbrev pub run_to_end : Spot → Option (List Spot)
+    abbrev pub run_to_end : Configuration → Option (List Configuration)
     run_to_end s = run p hay is_end end_matches (λ q. false) s
 
-    abbrev pub pended : (Spot → Bool) → List (Spot × (List Spot → Outcome)) → Option Outcome
+    abbrev pub pended : (Configuration → Bool) → List (Configuration × (List Configuration → Outcome)) → Option Outcome
     pended seen ws = pend p hay is_end end_matches seen ws
 
     -- what is found is a run to the end
-    found_run : (seen : Spot → Bool) (s : Spot) (l : List Spot) → run p hay is_end end_matches seen s ≡ Some l → (o : List Spot) × (l ≡ s ∷ o) × Runs p hay s o r.end
+    found_run : (seen : Configuration → Bool) (s : Configuration) (l : List Configuration) → run p hay is_end end_matches seen s ≡ Some l → (o : List Configuration) × (l ≡ s ∷ o) × Runs p hay s o r.end
     found_run seen s l e =
-        let h = sound is_same_spot (leads p hay) is_end same_is same_refl ends_nowhere (enough p hay) seen s l e in (h.0, h.1, to_runs s h.0 h.2)
+        let h = sound is_same_configuration (leads p hay) is_end same_is same_refl ends_nowhere (enough p hay) seen s l e in (h.0, h.1, to_runs s h.0 h.2)
 
     -- the longest run is what is found
-    pub longest_found : run_to_end (at p.start r.start) ≡ Some (at p.start r.start ∷ r.spots)
+    pub longest_found : run_to_end (at p.start r.start) ≡ Some (at p.start r.start ∷ r.configurations)
     longest_found = by_answer (run_to_end (at p.start r.start)) refl
       where
-        by_answer : (o : Option (List Spot)) → run_to_end (at p.start r.start) ≡ o → o ≡ Some (at p.start r.start ∷ r.spots)
+        by_answer : (o : Option (List Configuration)) → run_to_end (at p.start r.start) ≡ o → o ≡ Some (at p.start r.start ∷ r.configurations)
         by_answer None e =
-            absurd (no_run_to p hay well r.start r.end (no_walk_no_run p hay r.start r.end e) start_within r.spots first.runs)
+            absurd (no_run_to p hay well r.start r.end (no_walk_no_run p hay r.start r.end e) start_within r.configurations first.runs)
         by_answer (Some l) e =
             let f = found_run (λ q. false) (at p.start r.start) l e in
-            let other : Run = record { start = r.start; spots = f.0; end = r.end } in
+            let other : Run = record { start = r.start; configurations = f.0; end = r.end } in
             let below = below_some p hay well (suc r.end) r.start other
-            (below_found p hay r.start r.end other (walk_makes_run p hay r.start r.end f.0 (e ∙ ap (λ (x : List Spot). Some x) f.1))) start_within in
+            (below_found p hay r.start r.end other (walk_makes_run p hay r.start r.end f.0 (e ∙ ap (λ (x : List Configuration). Some x) f.1))) start_within in
             let same = one_longest_answer p hay start (Some r) (Some other) longest (
               record { runs = below.runs; from = first.from; none_before = first.none_before },
               longest.1,
               below.first_of,
             ) in
-            ap (λ (x : List Spot). Some x) (f.1 ∙ ap (λ (x : Run). at p.start r.start ∷ x.spots) (sym (same_some r other same)))
+            ap (λ (x : List Configuration). Some x) (f.1 ∙ ap (λ (x : Run). at p.start r.start ∷ x.configurations) (sym (same_Some r other same)))
 
     -- what the longest run leaves
     abbrev pub the_outcome : Outcome
-    the_outcome = worth p hay r.start base (at p.start r.start ∷ r.spots)
+    the_outcome = worth p hay r.start base (at p.start r.start ∷ r.configurations)
 
     -- the outcome of the first run from a place to the end
     abbrev answer_from : ℕ → Option Outcome
@@ -138,16 +129,16 @@ module _ (p : Program) (hay : List ℕ) (well : IsWellFormed p) (width : ℕ) (f
     answer_before : (k : ℕ) → Among (places hay start) k → k < r.start → answer_from k ≡ None
     answer_before k among lt = by_answer (run_to_end (at p.start k)) refl
       where
-        by_answer : (o : Option (List Spot)) → run_to_end (at p.start k) ≡ o → option_map (worth p hay k base) o ≡ None
+        by_answer : (o : Option (List Configuration)) → run_to_end (at p.start k) ≡ o → option_map (worth p hay k base) o ≡ None
         by_answer None e = refl
         by_answer (Some l) e = let f = found_run (λ q. false) (at p.start k) l e in absurd (first.none_before k among lt f.0 r.end f.2)
 
     answer_start : (k : ℕ) (y : Outcome) → answer_from k ≡ Some y → y.start ≡ k
     answer_start k y e = by_answer (run_to_end (at p.start k)) e
       where
-        by_answer : (o : Option (List Spot)) → option_map (worth p hay k base) o ≡ Some y → y.start ≡ k
+        by_answer : (o : Option (List Configuration)) → option_map (worth p hay k base) o ≡ Some y → y.start ≡ k
         by_answer None e = absurd (none_some y e)
-        by_answer (Some l) e = sym (ap (λ (x : Outcome). x.start) (same_some (worth p hay k base l) y e))
+        by_answer (Some l) e = sym (ap (λ (x : Outcome). x.start) (same_Some (worth p hay k base l) y e))
 
     answer_first : first_among answer_from (places hay start) ≡ Some the_outcome
     unfolding places
@@ -179,24 +170,24 @@ module _ (p : Program) (hay : List ℕ) (well : IsWellFormed p) (width : ℕ) (f
             (or_cases (answer_from k) (first_among answer_from ks) the_outcome e)
 
     -- from behind the end there is no run to it
-    pub pend_past : (seen : Spot → Bool) (j : ℕ) (ts : List Thread) → r.end < j → pended seen (wait_all p hay j ts) ≡ None
+    pub pend_past : (seen : Configuration → Bool) (j : ℕ) (ts : List Thread) → r.end < j → pended seen (wait_all p hay j ts) ≡ None
     unfolding pending
     pend_past seen j [] lt = refl
     pend_past seen j (t ∷ ts) lt =
         ap₂ option_or (ap (option_map (worth p hay t.start t.slots)) (by_answer (run p hay is_end end_matches seen (at t.state j)) refl)) (pend_past seen j ts lt)
       where
-        by_answer : (o : Option (List Spot)) → run p hay is_end end_matches seen (at t.state j) ≡ o → o ≡ None
+        by_answer : (o : Option (List Configuration)) → run p hay is_end end_matches seen (at t.state j) ≡ o → o ≡ None
         by_answer None e = refl
         by_answer (Some l) e =
             let f = found_run seen (at t.state j) l e in let on = Runs-forward p hay (at t.state j) f.0 r.end f.2 in absurd (omega arith)
 
-    pub pend_after : (seen : Spot → Bool) (j : ℕ) (ts : List Thread) → ((t : Thread) → Among ts t → r.end < j) → pended seen (wait_all p hay j ts) ≡ None
+    pub pend_after : (seen : Configuration → Bool) (j : ℕ) (ts : List Thread) → ((t : Thread) → Among ts t → r.end < j) → pended seen (wait_all p hay j ts) ≡ None
     unfolding pending
     pend_after seen j [] behind = refl
     pend_after seen j (t ∷ ts) behind = pend_past seen j (t ∷ ts) (behind t (inl refl))
 
     -- what a match lets go on has the success, if it started no later
-    pend_filter : (seen : Spot → Bool) (i c : ℕ) (ts : List Thread) → r.start ≤ c → pended seen (wait_all p hay i ts) ≡ Some the_outcome →
+    pend_filter : (seen : Configuration → Bool) (i c : ℕ) (ts : List Thread) → r.start ≤ c → pended seen (wait_all p hay i ts) ≡ Some the_outcome →
         pended seen (wait_all p hay i (filter (λ t. nat_le t.start c) ts)) ≡ Some the_outcome
     unfolding pending
     pend_filter seen i c [] le e = e
@@ -210,9 +201,9 @@ module _ (p : Program) (hay : List ℕ) (well : IsWellFormed p) (width : ℕ) (f
         (λ later. kept_or_not (nat_le t.start c) later.0 (pend_filter seen i c ts le later.1))
         (or_cases (option_map (worth p hay t.start t.slots) (run p hay is_end end_matches seen (at t.state i))) (pended seen (wait_all p hay i ts)) the_outcome e)
       where
-        start_is : (o : Option (List Spot)) → option_map (worth p hay t.start t.slots) o ≡ Some the_outcome → t.start ≡ r.start
+        start_is : (o : Option (List Configuration)) → option_map (worth p hay t.start t.slots) o ≡ Some the_outcome → t.start ≡ r.start
         start_is None e = absurd (none_some the_outcome e)
-        start_is (Some l) e = ap (λ (x : Outcome). x.start) (same_some (worth p hay t.start t.slots l) the_outcome e)
+        start_is (Some l) e = ap (λ (x : Outcome). x.start) (same_Some (worth p hay t.start t.slots l) the_outcome e)
 
         kept_or_not : (b : Bool) → option_map (worth p hay t.start t.slots) (run p hay is_end end_matches seen (at t.state i)) ≡ None →
             pended seen (wait_all p hay i (filter (λ u. nat_le u.start c) ts)) ≡ Some the_outcome →
@@ -225,7 +216,7 @@ module _ (p : Program) (hay : List ℕ) (well : IsWellFormed p) (width : ℕ) (f
     later_at None k = first_among answer_from (places hay k)
     later_at (Some b) k = None
 
-    module _ (i : ℕ) (here : i ≤ length hay) (old : List Spot) (best : Option Thread) where
+    module _ (i : ℕ) (here : i ≤ length hay) (old : List Configuration) (best : Option Thread) where
       abbrev pub there : ℕ
       there = i + (piece hay i).len
 
@@ -242,13 +233,13 @@ module _ (p : Program) (hay : List ℕ) (well : IsWellFormed p) (width : ℕ) (f
       not_later None le e = let a = answer_behind next_step e in omega arith
       not_later (Some b) le e = none_some the_outcome e
 
-      -- a hit has found a run, which begins no earlier than the longest
-      hit_start : (visits : List Spot) (h : Thread) → Found p hay true width start visits i h → (r.start ≤ h.start) × (h.start ≤ i)
+      -- a first match has found a run, which begins no earlier than the longest
+      hit_start : (visits : List Configuration) (h : Thread) → Found p hay true width start visits i h → (r.start ≤ h.start) × (h.start ≤ i)
       hit_start visits h f =
-          let forward = Runs-forward p hay (at p.start f.run.start) f.run.spots f.run.end f.runs in
+          let forward = Runs-forward p hay (at p.start f.run.start) f.run.configurations f.run.end f.runs in
           let is = f.started in
           let end = f.end_is in (
-            ⊎_elim (λ (lt : f.run.start < r.start). absurd (first.none_before f.run.start f.among lt f.run.spots f.run.end f.runs)) (λ (le : r.start ≤ f.run.start). omega arith)
+            ⊎_elim (λ (lt : f.run.start < r.start). absurd (first.none_before f.run.start f.among lt f.run.configurations f.run.end f.runs)) (λ (le : r.start ≤ f.run.start). omega arith)
                 (below_or_not f.run.start r.start),
             omega arith,
           )
@@ -259,7 +250,7 @@ module _ (p : Program) (hay : List ℕ) (well : IsWellFormed p) (width : ℕ) (f
 
         inside : t.state < length p.states
         inside =
-            (trace_inside p hay true width start well (spots_of i old w.seen) i t
+            (trace_inside p hay true width start well (configurations_of i old w.seen) i t
             (traced.stack t (subst (λ (l : List Thread). Among l t) (sym is) (inl refl)))).0
 
         now_waiting : waiting w.seen w.next (t ∷ rest) ≡ waiting w.seen w.next w.stack
@@ -269,13 +260,13 @@ module _ (p : Program) (hay : List ℕ) (well : IsWellFormed p) (width : ℕ) (f
         seen_waiting was = sym (pend_seen p hay is_end end_matches well true i there here w.seen w.next t rest behind was) ∙ now_waiting
 
         taken_waiting : was_seen hay true i p w.seen t.state ≡ false → is_match (state_at p.states t.state) ≡ false →
-            ((v : Spot) → Among (leads p hay (at t.state i)) v → v.place ≡ there) →
+            ((v : Configuration) → Among (leads p hay (at t.state i)) v → v.place ≡ there) →
             waiting (t.state ∷ w.seen) (w.next ++ moved hay true i (state_at p.states t.state) t) rest ≡ waiting w.seen w.next w.stack
         taken_waiting new none over =
             sym (pend_taken p hay is_end end_matches well true i there here w.seen w.next t rest behind new inside none over) ∙ now_waiting
 
         gone_waiting : was_seen hay true i p w.seen t.state ≡ false → is_match (state_at p.states t.state) ≡ false →
-            ((v : Spot) → Among (leads p hay (at t.state i)) v → v.place ≡ i) →
+            ((v : Configuration) → Among (leads p hay (at t.state i)) v → v.place ≡ i) →
             waiting (t.state ∷ w.seen) w.next (moved hay true i (state_at p.states t.state) t ++ rest) ≡ waiting w.seen w.next w.stack
         gone_waiting new none beside =
             sym (pend_gone p hay is_end end_matches well true i there here w.seen w.next t rest behind new inside none beside) ∙ now_waiting
@@ -283,14 +274,14 @@ module _ (p : Program) (hay : List ℕ) (well : IsWellFormed p) (width : ℕ) (f
       -- before the end: what waits has the success
       pub record IsAhead (w : Walking) : Type 0 where
         pub traced : IsTraced p hay true width start fits i old w
-        pub ahead : option_or (waiting w.seen w.next w.stack) (later (option_or w.hit best)) ≡ Some the_outcome
+        pub ahead : option_or (waiting w.seen w.next w.stack) (later (option_or w.first_match best)) ≡ Some the_outcome
 
       module _ (early : i < r.end) (t : Thread) (rest : List Thread) (w : Walking) (is : w.stack ≡ t ∷ rest) (now : IsAhead w)
           (new : was_seen hay true i p w.seen t.state ≡ false) (found : is_match (state_at p.states t.state) ≡ true) where
         not_end : is_end (at t.state i) ≡ false
         not_end =
             ⊎_elim (λ (e : is_end (at t.state i) ≡ true). let x = end_place (at t.state i) e in absurd (omega arith)) (λ (e : is_end (at t.state i) ≡ false). e)
-            (bool_cases (is_end (at t.state i)))
+            (cases_Bool (is_end (at t.state i)))
 
         dead_waiting : waiting (t.state ∷ w.seen) w.next rest ≡ waiting w.seen w.next w.stack
         dead_waiting =
@@ -305,22 +296,22 @@ module _ (p : Program) (hay : List ℕ) (well : IsWellFormed p) (width : ℕ) (f
             (λ two. ap₂ option_or two.0 (pend_filter seen i c rest le two.1))
             (or_cases (pended seen (wait_all p hay there w.next)) (pended seen (wait_all p hay i rest)) the_outcome
             (sym (pend-append p hay is_end end_matches seen (wait_all p hay there w.next) (wait_all p hay i rest)) ∙ waits)))
-            (λ none. absurd (not_later (option_or w.hit best) before none.1))
-            (or_cases (waiting (t.state ∷ w.seen) w.next rest) (later (option_or w.hit best)) the_outcome
-            (ap (λ (o : Option Outcome). option_or o (later (option_or w.hit best))) dead_waiting ∙ now.ahead))
+            (λ none. absurd (not_later (option_or w.first_match best) before none.1))
+            (or_cases (waiting (t.state ∷ w.seen) w.next rest) (later (option_or w.first_match best)) the_outcome
+            (ap (λ (o : Option Outcome). option_or o (later (option_or w.first_match best))) dead_waiting ∙ now.ahead))
           where
-            seen : Spot → Bool
+            seen : Configuration → Bool
             seen = marks p hay i (t.state ∷ w.seen)
 
-        cut_ahead : (visits : List Spot) (o : Option Thread) → ((h : Thread) → o ≡ Some h → Found p hay true width start visits i h) → ((o ≡ None) → ⊥) →
+        cut_ahead : (visits : List Configuration) (o : Option Thread) → ((h : Thread) → o ≡ Some h → Found p hay true width start visits i h) → ((o ≡ None) → ⊥) →
             option_or (waiting (t.state ∷ w.seen) w.next (kept hay true o rest)) (later (option_or o best)) ≡ Some the_outcome
         cut_ahead visits None f some = absurd (some refl)
         cut_ahead visits (Some h) f some =
             let x = hit_start visits h (f h refl) in
             ap (λ (o : Option Outcome). option_or o None) (cut_waiting h.start x.0 (omega arith))
 
-      changed : (w : Walking) → IsAhead w → (o : Option Outcome) → o ≡ waiting w.seen w.next w.stack → option_or o (later (option_or w.hit best)) ≡ Some the_outcome
-      changed w now o e = ap (λ (x : Option Outcome). option_or x (later (option_or w.hit best))) e ∙ now.ahead
+      changed : (w : Walking) → IsAhead w → (o : Option Outcome) → o ≡ waiting w.seen w.next w.stack → option_or o (later (option_or w.first_match best)) ≡ Some the_outcome
+      changed w now o e = ap (λ (x : Option Outcome). option_or x (later (option_or w.first_match best))) e ∙ now.ahead
 
       never_none : (o : Option Thread) (t : Thread) → option_or o (Some t) ≡ None → ⊥
       never_none None t e = none_some t (sym e)
@@ -336,7 +327,7 @@ module _ (p : Program) (hay : List ℕ) (well : IsWellFormed p) (width : ℕ) (f
             on_match = λ t rest w is new found now.
                 let traced = traces.on_match t rest w is new found now.traced in record {
                   traced = traced;
-                  ahead = cut_ahead early t rest w is now new found (spots_of i old (t.state ∷ w.seen)) (option_or w.hit (Some t)) traced.hit (never_none w.hit t);
+                  ahead = cut_ahead early t rest w is now new found (configurations_of i old (t.state ∷ w.seen)) (option_or w.first_match (Some t)) traced.first_match (never_none w.first_match t);
                 };
             on_taken = λ t rest w is new none over now. record {
               traced = traces.on_taken t rest w is new none over now.traced;
@@ -357,17 +348,17 @@ module _ (p : Program) (hay : List ℕ) (well : IsWellFormed p) (width : ℕ) (f
 
       pub record IsAtEnd (w : Walking) : Type 0 where
         pub traced : IsTraced p hay true width start fits i old w
-        pub at_end : AtEnd w.hit (waiting w.seen w.next w.stack)
+        pub at_end : AtEnd w.first_match (waiting w.seen w.next w.stack)
 
-      same_end : (w : Walking) → IsAtEnd w → (o : Option Outcome) → o ≡ waiting w.seen w.next w.stack → AtEnd w.hit o
-      same_end w now o e = subst (λ (x : Option Outcome). AtEnd w.hit x) (sym e) now.at_end
+      same_end : (w : Walking) → IsAtEnd w → (o : Option Outcome) → o ≡ waiting w.seen w.next w.stack → AtEnd w.first_match o
+      same_end w now o e = subst (λ (x : Option Outcome). AtEnd w.first_match x) (sym e) now.at_end
 
       hit_at_end : i ≡ r.end → (t : Thread) (rest : List Thread) (w : Walking) → w.stack ≡ t ∷ rest → was_seen hay true i p w.seen t.state ≡ false →
           is_match (state_at p.states t.state) ≡ true → (traced : IsTraced p hay true width start fits i old w) →
           (o : Option Thread) (x : Option Outcome) → AtEnd o (waiting w.seen w.next w.stack) → AtEnd (option_or o (Some t)) x
       hit_at_end late t rest w is new found traced (Some h) x now = now
       hit_at_end late t rest w is new found traced None x now =
-          same_some (outcome t) the_outcome
+          same_Some (outcome t) the_outcome
           (ap (λ (o : Option Outcome). option_or (option_or o (Some (outcome t))) (later best)) (sym (pend_after (marks p hay i (t.state ∷ w.seen)) there w.next late_next))
           ∙ ap (λ (o : Option Outcome). option_or o (later best))
           (sym (pend_hit p hay is_end end_matches well true i there here w.seen w.next t rest (behind t rest w is traced) new (inside t rest w is traced)
@@ -386,8 +377,8 @@ module _ (p : Program) (hay : List ℕ) (well : IsWellFormed p) (width : ℕ) (f
             };
             on_match = λ t rest w is new found now. record {
               traced = traces.on_match t rest w is new found now.traced;
-              at_end = hit_at_end late t rest w is new found now.traced w.hit
-                  (waiting (t.state ∷ w.seen) w.next (kept hay true (option_or w.hit (Some t)) rest)) now.at_end;
+              at_end = hit_at_end late t rest w is new found now.traced w.first_match
+                  (waiting (t.state ∷ w.seen) w.next (kept hay true (option_or w.first_match (Some t)) rest)) now.at_end;
             };
             on_taken = λ t rest w is new none over now. record {
               traced = traces.on_taken t rest w is new none over now.traced;
@@ -474,7 +465,7 @@ module _ (p : Program) (hay : List ℕ) (well : IsWellFormed p) (width : ℕ) (f
       last_traced : IsTraced p hay true width start fits s.place s.visits last
       last_traced = place_traced p hay true width start fits s t among now.traced place
 
-      best_is : option_or last.hit s.best ≡ t.best
+      best_is : option_or last.first_match s.best ≡ t.best
       best_is = ap (λ (x : Searching). x.best) place.is
 
       threads_are : last.next ≡ t.threads
@@ -503,14 +494,14 @@ module _ (p : Program) (hay : List ℕ) (well : IsWellFormed p) (width : ℕ) (f
 
       -- at the end it becomes the best
       becomes_best : IsAheadAt s.place s.threads s.best s.place → s.place ≡ r.end → HasBest t
-      becomes_best ahead late = by_hit last.hit refl walked.at_end
+      becomes_best ahead late = by_hit last.first_match refl walked.at_end
         where
           walked : IsAtEnd s.place place_within s.visits s.best last
           walked =
               walk_keeps hay true s.place p _ (at_end_keeps s.place place_within s.visits s.best late) (begun hay true p width s) last place.walks
               record { traced = begun_traces; at_end = begun_ahead s place_within s.best ahead }
 
-          by_hit : (o : Option Thread) → last.hit ≡ o → AtEnd s.place place_within s.visits s.best o (waiting s.place place_within s.visits s.best last.seen last.next last.stack) →
+          by_hit : (o : Option Thread) → last.first_match ≡ o → AtEnd s.place place_within s.visits s.best o (waiting s.place place_within s.visits s.best last.seen last.next last.stack) →
               HasBest t
           by_hit (Some h) is now = (h, sym best_is ∙ ap (λ (o : Option Thread). option_or o s.best) is, now)
           by_hit None is now =
@@ -525,20 +516,20 @@ module _ (p : Program) (hay : List ℕ) (well : IsWellFormed p) (width : ℕ) (f
 
       -- and stays it
       stays_best : HasBest s → r.end < s.place → HasBest t
-      stays_best (b, is, same) lt = by_hit last.hit refl
+      stays_best (b, is, same) lt = by_hit last.first_match refl
         where
-          no_hit : (h : Thread) → last.hit ≡ Some h → ⊥
+          no_hit : (h : Thread) → last.first_match ≡ Some h → ⊥
           no_hit h e =
-              let f = last_traced.hit h e in
-              let x = hit_start s.place place_within s.visits s.best (spots_of s.place s.visits last.seen) h f in
+              let f = last_traced.first_match h e in
+              let x = hit_start s.place place_within s.visits s.best (configurations_of s.place s.visits last.seen) h f in
               let upto = (place_ordered p hay width fits start s t now.traced now.ordered place).hit_by_best b is h e in
               let b_start = ap (λ (y : Outcome). y.start) same in
               let f_start = f.started in
               let f_end = f.end_is in
               let at_start : f.run.start ≡ r.start = omega arith in
-              let most = longest.1 f.run.spots f.run.end (subst (λ (k : ℕ). IsRun p hay k f.run.spots f.run.end) at_start f.runs) in omega arith
+              let most = longest.1 f.run.configurations f.run.end (subst (λ (k : ℕ). IsRun p hay k f.run.configurations f.run.end) at_start f.runs) in omega arith
 
-          by_hit : (o : Option Thread) → last.hit ≡ o → HasBest t
+          by_hit : (o : Option Thread) → last.first_match ≡ o → HasBest t
           by_hit None none = (b, sym best_is ∙ ap (λ (o : Option Thread). option_or o s.best) none ∙ is, same)
           by_hit (Some h) some = absurd (no_hit h some)
 
@@ -578,7 +569,7 @@ module _ (p : Program) (hay : List ℕ) (well : IsWellFormed p) (width : ℕ) (f
               let none = eqb-true (piece hay s.place).len 0 e in
               nothing_left (sym threads_are ∙ nothing_among last.next (λ u h. let some = (last_traced.next u h).0 in omega arith)) (no_places t.best none))
               (λ (e : (is_some t.best && is_empty t.threads) ≡ true).
-              let both = and_both (is_some t.best) (is_empty t.threads) e in nothing_left (empty_is t.threads both.1) (has_best t.best both.0))
+              let both = and_parts (is_some t.best) (is_empty t.threads) e in nothing_left (empty_is t.threads both.1) (has_best t.best both.0))
               (or_true ((piece hay s.place).len == 0) (is_some t.best && is_empty t.threads) over)
             where
               nothing_left : t.threads ≡ [] → later_at t.best (s.place + step_len hay s.place) ≡ None → ⊥
@@ -610,7 +601,7 @@ module _ (p : Program) (hay : List ℕ) (well : IsWellFormed p) (width : ℕ) (f
   abbrev pub front_of : Run → List (Option ℕ)
   front_of r = take width (slots p r)
 
-  pub runs_to_match : (s : Spot) (o : List Spot) (j : ℕ) → Runs p hay s o j → matches p (last_of s o) ≡ true
+  pub runs_to_match : (s : Configuration) (o : List Configuration) (j : ℕ) → Runs p hay s o j → matches p (last_of s o) ≡ true
   runs_to_match s [] j runs = runs.0
   runs_to_match s (t ∷ o) j runs = runs_to_match t o j runs.1
 
@@ -623,8 +614,8 @@ module _ (p : Program) (hay : List ℕ) (well : IsWellFormed p) (width : ℕ) (f
           let best = best_is_longest r longest t end in
           ap (option_map (λ (b : Thread). b.slots)) best.1
           ∙ ap (λ (y : Outcome). Some y.slots) best.2
-          ∙ ap (λ (l : List (Option ℕ)). Some l) (run_writes p width r fits (runs_to_match (at p.start r.start) r.spots r.end longest.0.runs))
+          ∙ ap (λ (l : List (Option ℕ)). Some l) (run_writes p width r fits (runs_to_match (at p.start r.start) r.configurations r.end longest.0.runs))
       by_run None none = ap (option_map (λ (b : Thread). b.slots)) (⊎_elim (λ (e : t.best ≡ None). e) (λ some. absurd (no_best some.0 some.1)) (none_or_some t.best))
         where
           no_best : (b : Thread) → t.best ≡ Some b → ⊥
-          no_best b is = let f = (best_found p hay true width start false within fits t end b is).1 in none f.run.start f.among f.run.spots f.run.end f.runs
+          no_best b is = let f = (best_found p hay true width start false within fits t end b is).1 in none f.run.start f.among f.run.configurations f.run.end f.runs

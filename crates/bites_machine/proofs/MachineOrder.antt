@@ -3,19 +3,16 @@ use Rattle.std.proofs.Common.{◌≡◌, ℕ, ◌+◌, ◌≤◌, Bool, true, fa
 use Rattle.std.specs.Prelude.{is_some, nat_le}
 use Rattle.std.specs.List.{filter}
 use Rattle.std.specs.Option.{option_or}
+use Rattle.std.proofs.lemmas.Bool.{cases_Bool}
 use Rattle.bites_spec.specs.Utf8.{piece}
 use Rattle.bites_spec.specs.Walks.{Among, Walk}
-use Rattle.bites_spec.specs.Program.{Program, Spot, at, state_at}
+use Rattle.bites_spec.specs.Program.{Program, Configuration, at, state_at}
 use Rattle.bites_spec.specs.Run.{leads}
 use Rattle.bites_machine.specs.Machine.{Thread, Walking, Searching, with_write, thread_on, kept, moved, started, begun, Searches, at_start}
 use Rattle.bites_machine.proofs.EdgeLemmas.{Among-apart, edges_apart}
 use Rattle.bites_machine.proofs.MachineCases.{Keeps, walk_keeps}
 use Rattle.bites_machine.proofs.MachineTrace.{Trace, Among-mapped, Among-filter, Among-kept}
 use Rattle.bites_machine.proofs.MachineSearch.{AreTraced, option_or_cases}
-
-bool_cases : (b : Bool) → (b ≡ true) ⊎ (b ≡ false)
-bool_cases true = inl refl
-bool_cases false = inr refl
 
 none_some : {A : Type 0} (x : A) → None ≡ Some x → ⊥
 none_some x e = cc
@@ -51,7 +48,7 @@ sorted_filter test (x ∷ xs) sorted =
       sorted_filter test xs sorted.1,
     ))
     (λ (e : test x ≡ false). subst (λ b. AreSorted (cond b (x ∷ filter test xs) (filter test xs))) (sym e) (sorted_filter test xs sorted.1))
-    (bool_cases (test x))
+    (cases_Bool (test x))
 
 sorted_same : (c : ℕ) (xs : List Thread) → ((x : Thread) → Among xs x → x.start ≡ c) → AreSorted xs
 sorted_same c [] same = tt
@@ -74,11 +71,11 @@ filter_upto c (x ∷ xs) t h =
     ⊎_elim (λ (is : x ≡ t). let a = leb-true x.start c e in let b = ap (λ (u : Thread). u.start) is in omega arith) (filter_upto c xs t)
     (subst (λ b. Among (cond b (x ∷ filter (λ u. nat_le u.start c) xs) (filter (λ u. nat_le u.start c) xs)) t) e h))
     (λ (e : nat_le x.start c ≡ false). filter_upto c xs t (subst (λ b. Among (cond b (x ∷ filter (λ u. nat_le u.start c) xs) (filter (λ u. nat_le u.start c) xs)) t) e h))
-    (bool_cases (nat_le x.start c))
+    (cases_Bool (nat_le x.start c))
 
 -- edges lead on
-walk_forward : (p : Program) (hay : List ℕ) (s : Spot) (r : List Spot) (u : Spot) → Walk (leads p hay) (λ v. v ≡ u) s r → s.place ≤ u.place
-walk_forward p hay s [] u walk = let e = ap (λ (v : Spot). v.place) walk in omega arith
+walk_forward : (p : Program) (hay : List ℕ) (s : Configuration) (r : List Configuration) (u : Configuration) → Walk (leads p hay) (λ v. v ≡ u) s r → s.place ≤ u.place
+walk_forward p hay s [] u walk = let e = ap (λ (v : Configuration). v.place) walk in omega arith
 walk_forward p hay s (t ∷ r) u walk =
     let rest = walk_forward p hay t r u walk.1 in
     ⊎_elim (λ beside. let e : t.place ≡ s.place = beside.1 in omega arith)
@@ -86,9 +83,9 @@ walk_forward p hay s (t ∷ r) u walk =
     (edges_apart hay s.place (state_at p.states s.state) t walk.0)
 
 -- a thread was started at its place or before
-trace_before : (p : Program) (hay : List ℕ) (width start : ℕ) (visits : List Spot) (i : ℕ) (t : Thread) → Trace p hay true width start visits i t → t.start ≤ i
+trace_before : (p : Program) (hay : List ℕ) (width start : ℕ) (visits : List Configuration) (i : ℕ) (t : Thread) → Trace p hay true width start visits i t → t.start ≤ i
 trace_before p hay width start visits i t tr =
-    let forward = walk_forward p hay (at p.start tr.from) tr.spots (at t.state i) tr.walk in
+    let forward = walk_forward p hay (at p.start tr.from) tr.configurations (at t.state i) tr.walk in
     let is = tr.started in omega arith
 
 module _ (p : Program) (hay : List ℕ) (width : ℕ) (fits : width ≤ p.slots) (start : ℕ) where
@@ -97,9 +94,9 @@ module _ (p : Program) (hay : List ℕ) (width : ℕ) (fits : width ≤ p.slots)
       pub next : AreSorted w.next
       pub stack : AreSorted w.stack
       pub below : AreBelow w.next w.stack
-      pub by_hit : (h : Thread) → w.hit ≡ Some h → AreUpTo h.start w.next × AreUpTo h.start w.stack
+      pub by_hit : (h : Thread) → w.first_match ≡ Some h → AreUpTo h.start w.next × AreUpTo h.start w.stack
       pub by_best : (b : Thread) → best ≡ Some b → AreUpTo b.start w.next × AreUpTo b.start w.stack
-      pub hit_by_best : (b : Thread) → best ≡ Some b → (h : Thread) → w.hit ≡ Some h → h.start ≤ b.start
+      pub hit_by_best : (b : Thread) → best ≡ Some b → (h : Thread) → w.first_match ≡ Some h → h.start ≤ b.start
 
     module _ (t : Thread) (rest : List Thread) (w : Walking) (is : w.stack ≡ t ∷ rest) (now : IsOrdered w) where
       stack_is : AreSorted (t ∷ rest)
@@ -137,8 +134,8 @@ module _ (p : Program) (hay : List ℕ) (width : ℕ) (fits : width ≤ p.slots)
         on_below : AreBelow on some
         on_below y h u a = let e = on_start u a in let b = stack_is.0 y (among y h) t (inl refl) in omega arith
 
-      -- the hit, or the thread that comes to a match
-      hit_upto : (o : Option Thread) → w.hit ≡ o → (h : Thread) → option_or o (Some t) ≡ Some h → AreUpTo h.start w.next
+      -- the first match, or the thread that comes to one
+      hit_upto : (o : Option Thread) → w.first_match ≡ o → (h : Thread) → option_or o (Some t) ≡ Some h → AreUpTo h.start w.next
       hit_upto None none h e u a = let b = now.below t (of_stack t (inl refl)) u a in let d = same h e in omega arith
         where
           same : (h : Thread) → Some t ≡ Some h → t.start ≡ h.start
@@ -148,7 +145,7 @@ module _ (p : Program) (hay : List ℕ) (width : ℕ) (fits : width ≤ p.slots)
       kept_upto : (o : Option Thread) (h : Thread) → option_or o (Some t) ≡ Some h → AreUpTo h.start (kept hay true (option_or o (Some t)) rest)
       kept_upto o h e = subst (λ (x : Option Thread). AreUpTo h.start (kept hay true x rest)) (sym e) (filter_upto h.start rest)
 
-      new_hit_by_best : (b : Thread) → best ≡ Some b → (o : Option Thread) → w.hit ≡ o → (h : Thread) → option_or o (Some t) ≡ Some h → h.start ≤ b.start
+      new_hit_by_best : (b : Thread) → best ≡ Some b → (o : Option Thread) → w.first_match ≡ o → (h : Thread) → option_or o (Some t) ≡ Some h → h.start ≤ b.start
       new_hit_by_best b e None none h x = let a = (now.by_best b e).1 t (of_stack t (inl refl)) in let d = same h x in omega arith
         where
           same : (h : Thread) → Some t ≡ Some h → t.start ≡ h.start
@@ -166,15 +163,15 @@ module _ (p : Program) (hay : List ℕ) (width : ℕ) (fits : width ≤ p.slots)
         hit_by_best = now.hit_by_best;
       };
       on_match = λ t rest w is new found now.
-          let some = kept hay true (option_or w.hit (Some t)) rest in
-          let sorted : AreSorted some = kept_sorted hay (option_or w.hit (Some t)) rest (stack_is t rest w is now).1 in
-          let among : (u : Thread) → Among some u → Among rest u = Among-kept hay true (option_or w.hit (Some t)) rest in record {
+          let some = kept hay true (option_or w.first_match (Some t)) rest in
+          let sorted : AreSorted some = kept_sorted hay (option_or w.first_match (Some t)) rest (stack_is t rest w is now).1 in
+          let among : (u : Thread) → Among some u → Among rest u = Among-kept hay true (option_or w.first_match (Some t)) rest in record {
             next = now.next;
             stack = sorted;
             below = next_below t rest w is now some sorted among;
-            by_hit = λ h e. (hit_upto t rest w is now w.hit refl h e, kept_upto t rest w is now w.hit h e);
+            by_hit = λ h e. (hit_upto t rest w is now w.first_match refl h e, kept_upto t rest w is now w.first_match h e);
             by_best = λ b e. ((now.by_best b e).0, some_upto t rest w is now some sorted among b.start (now.by_best b e).1);
-            hit_by_best = λ b e h x. new_hit_by_best t rest w is now b e w.hit refl h x;
+            hit_by_best = λ b e h x. new_hit_by_best t rest w is now b e w.first_match refl h x;
           };
       on_taken = λ t rest w is new none over now.
           let sorted = (stack_is t rest w is now).1 in
@@ -252,5 +249,5 @@ module _ (p : Program) (hay : List ℕ) (width : ℕ) (fits : width ≤ p.slots)
       let last = place_ordered s t traced now place in
       subst AreOrdered place.is record {
         sorted = last.next;
-        by_best = λ b e. ⊎_elim (λ here. (last.by_hit b here).0) (λ before. (last.by_best b before.1).0) (option_or_cases place.last.hit s.best b e);
+        by_best = λ b e. ⊎_elim (λ here. (last.by_hit b here).0) (λ before. (last.by_best b before.1).0) (option_or_cases place.last.first_match s.best b e);
       }

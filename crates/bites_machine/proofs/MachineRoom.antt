@@ -5,22 +5,19 @@ use Rattle.std.specs.Fn.{iterate}
 use Rattle.std.specs.Option.{option_or}
 use Rattle.std.proofs.lemmas.List.{length-map}
 use Rattle.std.proofs.lemmas.List.Sums.{sum_by-cons}
+use Rattle.std.proofs.lemmas.Bool.{cases_Bool}
 use Rattle.bites_spec.specs.Walks.{Among, AllApart}
-use Rattle.bites_spec.specs.Program.{State, Program, Spot, at, state_at, edges, is_match, targets, targets_of, char, ranges, splits, goto, capture, fail, match, IsWellFormed}
+use Rattle.bites_spec.specs.Program.{State, Program, Configuration, at, state_at, edges, is_match, targets, targets_of, char, ranges, splits, goto, capture, fail, match, IsWellFormed}
 use Rattle.bites_spec.specs.Run.{leads}
-use Rattle.bites_spec.proofs.RunLemmas.{inside_on}
+use Rattle.bites_spec.proofs.runs.RunLemmas.{inside_on}
 use Rattle.bites_machine.specs.Machine.{Thread, Walking, with_write, thread_on, moved, visited, dropped, step, WalksTo}
 use Rattle.bites_machine.proofs.EdgeLemmas.{Among-apart}
-use Rattle.bites_machine.proofs.SumLemmas.{sum_of_ones, sum_of_spots}
+use Rattle.bites_machine.proofs.SumLemmas.{sum_of_ones, sum_of_configurations}
 use Rattle.bites_machine.proofs.PathLemmas.{edges_within}
 use Rattle.bites_machine.proofs.MachineCases.{takes, was_seen, at_match, taken, gone}
 use Rattle.bites_machine.proofs.MachineCounts.{length-kept, unseen_here}
 use Rattle.bites_machine.proofs.MachineTrace.{Among-mapped, Among-kept}
 use Rattle.bites_machine.proofs.MachineWalks.{stack_cases, step_done, step_seen, step_new, visited_match, visited_taken, visited_gone}
-
-bool_cases : (b : Bool) → (b ≡ true) ⊎ (b ≡ false)
-bool_cases true = inl refl
-bool_cases false = inr refl
 
 module _ (p : Program) where
   -- the targets of these states, all together
@@ -38,16 +35,16 @@ module _ (p : Program) where
   apart_at [] apart = tt
   apart_at (q ∷ seen) apart = (
     λ h. let m = Among-mapped (λ x. at x 0) seen (at q 0) h in
-        apart.0 (subst (λ (x : ℕ). Among seen x) (ap (λ (s : Spot). s.state) m.2) m.1),
+        apart.0 (subst (λ (x : ℕ). Among seen x) (ap (λ (s : Configuration). s.state) m.2) m.1),
     apart_at seen apart.1,
   )
 
-  within_at : (seen : List ℕ) → AreStatesOf seen → (s : Spot) → Among (map (λ q. at q 0) seen) s → (s.state < length p.states) × Among (0 ∷ []) s.place
+  within_at : (seen : List ℕ) → AreStatesOf seen → (s : Configuration) → Among (map (λ q. at q 0) seen) s → (s.state < length p.states) × Among (0 ∷ []) s.place
   within_at seen inside s h =
       let m = Among-mapped (λ x. at x 0) seen s h in
-      subst (λ (x : Spot). (x.state < length p.states) × Among (0 ∷ []) x.place) m.2 (inside m.0 m.1, inl refl)
+      subst (λ (x : Configuration). (x.state < length p.states) × Among (0 ∷ []) x.place) m.2 (inside m.0 m.1, inl refl)
 
-  sum_at : (f : Spot → ℕ) (seen : List ℕ) → sum_by f (map (λ q. at q 0) seen) ≡ sum_by (λ q. f (at q 0)) seen
+  sum_at : (f : Configuration → ℕ) (seen : List ℕ) → sum_by f (map (λ q. at q 0) seen) ≡ sum_by (λ q. f (at q 0)) seen
   sum_at f [] = refl
   sum_at f (q ∷ seen) =
       sum_by-cons f (at q 0) (map (λ x. at x 0) seen) ∙ ap (λ (n : ℕ). f (at q 0) + n) (sum_at f seen) ∙ sym (sum_by-cons (λ (x : ℕ). f (at x 0)) q seen)
@@ -58,15 +55,15 @@ module _ (p : Program) where
   -- each state was seen once: all their targets are no more than those of the program
   pub pushed_within : (seen : List ℕ) → AllApart seen → AreStatesOf seen → pushed seen ≤ targets p
   pushed_within seen apart inside =
-      let fits = sum_of_spots (λ (s : Spot). length (targets_of (state_at p.states s.state))) (λ (st : State). length (targets_of st)) p.states (0 ∷ [])
+      let fits = sum_of_configurations (λ (s : Configuration). length (targets_of (state_at p.states s.state))) (λ (st : State). length (targets_of st)) p.states (0 ∷ [])
       (map (λ q. at q 0) seen) (λ q i. omega arith) (apart_at seen apart) (within_at seen inside) in
-      let same = sum_at (λ (s : Spot). length (targets_of (state_at p.states s.state))) seen in
+      let same = sum_at (λ (s : Configuration). length (targets_of (state_at p.states s.state))) seen in
       let once = times_one (targets p) in omega arith
 
   -- and there are no more of them than states
   pub seen_within : (seen : List ℕ) → AllApart seen → AreStatesOf seen → length seen ≤ length p.states
   seen_within seen apart inside =
-      let fits = sum_of_spots (λ (s : Spot). 1) (λ (st : State). 1) p.states (0 ∷ []) (map (λ q. at q 0) seen) (λ q i. omega arith) (apart_at seen apart) (within_at seen inside) in
+      let fits = sum_of_configurations (λ (s : Configuration). 1) (λ (st : State). 1) p.states (0 ∷ []) (map (λ q. at q 0) seen) (λ q i. omega arith) (apart_at seen apart) (within_at seen inside) in
       let ones = sum_of_ones (map (λ q. at q 0) seen) in
       let all = sum_of_ones p.states in
       let once = times_one (sum_by (λ (st : State). 1) p.states) in
@@ -140,9 +137,9 @@ module _ (p : Program) where
         room_match = record {
           apart = now_apart;
           inside = now_inside;
-          stack = let a = len_is in let b = now.stack in let c = length-kept hay longest (option_or w.hit (Some t)) rest in let d = pushed_more t.state w.seen in omega arith;
+          stack = let a = len_is in let b = now.stack in let c = length-kept hay longest (option_or w.first_match (Some t)) rest in let d = pushed_more t.state w.seen in omega arith;
           next = let b = now.next in omega arith;
-          stack_inside = λ u h. rest_inside u (Among-kept hay longest (option_or w.hit (Some t)) rest u h);
+          stack_inside = λ u h. rest_inside u (Among-kept hay longest (option_or w.first_match (Some t)) rest u h);
           next_inside = now.next_inside;
         }
 
@@ -174,8 +171,8 @@ module _ (p : Program) where
             (λ (e : is_match (st_of t) ≡ false).
             ⊎_elim (λ (f : takes (st_of t) ≡ true). subst HasRoom (sym (visited_taken hay longest p i (st_of t) f t rest w)) (room_taken f))
             (λ (f : takes (st_of t) ≡ false). subst HasRoom (sym (visited_gone hay longest p i (st_of t) e f t rest w)) room_gone)
-            (bool_cases (takes (st_of t))))
-            (bool_cases (is_match (st_of t)))
+            (cases_Bool (takes (st_of t))))
+            (cases_Bool (is_match (st_of t)))
 
     -- a step keeps the room
     pub room_on : (w : Walking) → HasRoom w → HasRoom (step hay longest p i w)
@@ -186,7 +183,7 @@ module _ (p : Program) where
         subst HasRoom (sym (step_seen hay longest p i some.0 some.1 w some.2 was)) (room_seen some.0 some.1 w some.2 now))
         (λ (new : was_seen hay longest i p w.seen some.0.state ≡ false).
         subst HasRoom (sym (step_new hay longest p i some.0 some.1 w some.2 new)) (room_new some.0 some.1 w some.2 now new))
-        (bool_cases (was_seen hay longest i p w.seen some.0.state)))
+        (cases_Bool (was_seen hay longest i p w.seen some.0.state)))
         (stack_cases hay longest p i w.stack)
 
     iterate_room : (k : ℕ) (w : Walking) → HasRoom w → HasRoom (iterate (step hay longest p i) k w)

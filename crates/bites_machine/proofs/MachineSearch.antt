@@ -2,9 +2,10 @@
 use Rattle.std.proofs.Common.{◌≡◌, ℕ, zero, suc, ◌+◌, ◌<◌, ◌≤◌, Bool, true, false, ◌||◌, ◌&&◌, cond, List, [], ◌∷◌, ◌++◌, map, length, Option, Some, None, refl, sym, ◌∙◌, subst, inl, inr, ⊎_elim, ◌⊎◌, true≢false, arith, eq-eqb}
 use Rattle.std.specs.Prelude.{◌==◌, is_some}
 use Rattle.std.specs.Option.{option_or}
+use Rattle.std.proofs.lemmas.Bool.{cases_Bool, or_parts}
 use Rattle.bites_spec.specs.Utf8.{piece, places}
 use Rattle.bites_spec.specs.Walks.{Among}
-use Rattle.bites_spec.specs.Program.{Program, Spot, at, state_at}
+use Rattle.bites_spec.specs.Program.{Program, Configuration, at, state_at}
 use Rattle.bites_spec.specs.Run.{leads}
 use Rattle.bites_machine.specs.Machine.{Thread, Walking, Searching, with_write, thread_on, moved, started, begun, Searches, at_start, is_over, SearchedTo, is_empty}
 use Rattle.bites_machine.proofs.EdgeLemmas.{Among-apart}
@@ -12,15 +13,7 @@ use Rattle.bites_machine.proofs.SweepLemmas.{places-here}
 use Rattle.bites_machine.proofs.PathLemmas.{place_on}
 use Rattle.bites_machine.proofs.MachineCases.{Keeps, walk_keeps}
 use Rattle.bites_machine.proofs.MachineTrace.{Trace, Found, trace_more, found_more, trace_start, trace_on, found_here, Among-mapped, Among-kept}
-use Rattle.bites_spec.proofs.SlotLemmas.{Among-right}
-
-bool_cases : (b : Bool) → (b ≡ true) ⊎ (b ≡ false)
-bool_cases true = inl refl
-bool_cases false = inr refl
-
-or_false : (a b : Bool) → (a || b) ≡ false → (a ≡ false) × (b ≡ false)
-or_false true b e = absurd (true≢false e)
-or_false false b e = (refl, e)
+use Rattle.bites_spec.proofs.programs.SlotLemmas.{Among-right}
 
 some_len : (n : ℕ) → (n == 0) ≡ false → 0 < n
 some_len zero e = absurd (true≢false (sym (eq-eqb 0 0 refl) ∙ e))
@@ -29,11 +22,11 @@ some_len (suc n) e = omega arith
 module _ (p : Program) (hay : List ℕ) (longest : Bool) (width : ℕ) (earliest : Bool) (start : ℕ) (within : start ≤ length hay) where
   -- a search that is not over goes on to a next place
   pub goes_on : (i : ℕ) (t : Searching) → is_over hay longest p width earliest i t ≡ false → 0 < (piece hay i).len
-  goes_on i t on = some_len (piece hay i).len (or_false ((piece hay i).len == 0) (is_some t.best && (earliest || is_empty t.threads)) on).0
+  goes_on i t on = some_len (piece hay i).len (or_parts ((piece hay i).len == 0) (is_some t.best && (earliest || is_empty t.threads)) on).0
 
   -- and there is something to be found there
   pub still_open : (i : ℕ) (t : Searching) → is_over hay longest p width earliest i t ≡ false → (is_some t.best && (earliest || is_empty t.threads)) ≡ false
-  still_open i t on = (or_false ((piece hay i).len == 0) (is_some t.best && (earliest || is_empty t.threads)) on).1
+  still_open i t on = (or_parts ((piece hay i).len == 0) (is_some t.best && (earliest || is_empty t.threads)) on).1
 
   pub start_among : Among (places hay start) start
   start_among = subst (λ l. Among l start) (sym (places-here hay start within)) (inl refl)
@@ -53,9 +46,9 @@ module _ (p : Program) (hay : List ℕ) (longest : Bool) (width : ℕ) (earliest
   searched_keeps P first on (suc n) t (s, before, place, open_) =
       on s t (searched_place n s before) (searched_keeps P first on n s before) place open_
 
--- the spots that were visited, with those of a place
-abbrev pub spots_of : ℕ → List Spot → List ℕ → List Spot
-spots_of i old seen = map (λ q. at q i) seen ++ old
+-- the configurations that were visited, with those of a place
+abbrev pub configurations_of : ℕ → List Configuration → List ℕ → List Configuration
+configurations_of i old seen = map (λ q. at q i) seen ++ old
 
 option_or_some : (o : Option Thread) (t u : Thread) → option_or o (Some t) ≡ Some u → (o ≡ Some u) ⊎ (t ≡ u)
 option_or_some None t u e = inr (same t u e)
@@ -69,14 +62,14 @@ option_or_cases None q u e = inr (refl, e)
 option_or_cases (Some v) q u e = inl e
 
 module _ (p : Program) (hay : List ℕ) (longest : Bool) (width : ℕ) (start : ℕ) (fits : width ≤ p.slots) where
-  abbrev TraceAt : List Spot → ℕ → Thread → Type 0
+  abbrev TraceAt : List Configuration → ℕ → Thread → Type 0
   TraceAt visits i t = Trace p hay longest width start visits i t
 
-  abbrev FoundAt : List Spot → ℕ → Thread → Type 0
+  abbrev FoundAt : List Configuration → ℕ → Thread → Type 0
   FoundAt visits end t = Found p hay longest width start visits end t
 
   -- where a thread goes from its state
-  traced_moved : (visits : List Spot) (i k : ℕ) (t : Thread) → ((v : Spot) → Among (leads p hay (at t.state i)) v → v.place ≡ k) → Among visits (at t.state i) →
+  traced_moved : (visits : List Configuration) (i k : ℕ) (t : Thread) → ((v : Configuration) → Among (leads p hay (at t.state i)) v → v.place ≡ k) → Among visits (at t.state i) →
       TraceAt visits i t → (u : Thread) → Among (moved hay longest i (state_at p.states t.state) t) u → TraceAt visits k u
   traced_moved visits i k t there here tr u h =
       let m = Among-mapped (thread_on t.start (with_write (state_at p.states t.state) i t.slots)) (leads p hay (at t.state i)) u h in
@@ -84,72 +77,72 @@ module _ (p : Program) (hay : List ℕ) (longest : Bool) (width : ℕ) (start : 
       (subst (λ (j : ℕ). TraceAt visits j (thread_on t.start (with_write (state_at p.states t.state) i t.slots) m.0)) (there m.0 m.1)
       (trace_on p hay longest width start visits i t m.0 here m.1 tr))
 
-  module _ (i : ℕ) (old : List Spot) where
+  module _ (i : ℕ) (old : List Configuration) where
     abbrev there : ℕ
     there = i + (piece hay i).len
 
-    -- the threads of a walk have come by walks, and its hit has found a run
+    -- the threads of a walk have come by walks, and its first match has found a run
     pub record IsTraced (w : Walking) : Type 0 where
-      pub stack : (t : Thread) → Among w.stack t → Trace p hay longest width start (spots_of i old w.seen) i t
-      pub next : (t : Thread) → Among w.next t → (0 < (piece hay i).len) × Trace p hay longest width start (spots_of i old w.seen) (i + (piece hay i).len) t
-      pub hit : (t : Thread) → w.hit ≡ Some t → Found p hay longest width start (spots_of i old w.seen) i t
+      pub stack : (t : Thread) → Among w.stack t → Trace p hay longest width start (configurations_of i old w.seen) i t
+      pub next : (t : Thread) → Among w.next t → (0 < (piece hay i).len) × Trace p hay longest width start (configurations_of i old w.seen) (i + (piece hay i).len) t
+      pub first_match : (t : Thread) → w.first_match ≡ Some t → Found p hay longest width start (configurations_of i old w.seen) i t
 
-    top : (w : Walking) (t : Thread) (rest : List Thread) → w.stack ≡ t ∷ rest → IsTraced w → TraceAt (spots_of i old w.seen) i t
+    top : (w : Walking) (t : Thread) (rest : List Thread) → w.stack ≡ t ∷ rest → IsTraced w → TraceAt (configurations_of i old w.seen) i t
     top w t rest is now = now.stack t (subst (λ (l : List Thread). Among l t) (sym is) (inl refl))
 
-    below : (w : Walking) (t : Thread) (rest : List Thread) → w.stack ≡ t ∷ rest → IsTraced w → (u : Thread) → Among rest u → TraceAt (spots_of i old w.seen) i u
+    below : (w : Walking) (t : Thread) (rest : List Thread) → w.stack ≡ t ∷ rest → IsTraced w → (u : Thread) → Among rest u → TraceAt (configurations_of i old w.seen) i u
     below w t rest is now u h = now.stack u (subst (λ (l : List Thread). Among l u) (sym is) (inr h))
 
-    more : (q : ℕ) (seen : List ℕ) (u : Spot) → Among (spots_of i old seen) u → Among (spots_of i old (q ∷ seen)) u
+    more : (q : ℕ) (seen : List ℕ) (u : Configuration) → Among (configurations_of i old seen) u → Among (configurations_of i old (q ∷ seen)) u
     more q seen u h = inr h
 
     module _ (w : Walking) (t : Thread) (rest : List Thread) (is : w.stack ≡ t ∷ rest) (now : IsTraced w) where
-      abbrev visits_now : List Spot
-      visits_now = spots_of i old (t.state ∷ w.seen)
+      abbrev visits_now : List Configuration
+      visits_now = configurations_of i old (t.state ∷ w.seen)
 
       top_now : TraceAt visits_now i t
-      top_now = trace_more p hay longest width start (spots_of i old w.seen) visits_now i t (more t.state w.seen) (top w t rest is now)
+      top_now = trace_more p hay longest width start (configurations_of i old w.seen) visits_now i t (more t.state w.seen) (top w t rest is now)
 
       rest_now : (u : Thread) → Among rest u → TraceAt visits_now i u
-      rest_now u h = trace_more p hay longest width start (spots_of i old w.seen) visits_now i u (more t.state w.seen) (below w t rest is now u h)
+      rest_now u h = trace_more p hay longest width start (configurations_of i old w.seen) visits_now i u (more t.state w.seen) (below w t rest is now u h)
 
       next_now : (u : Thread) → Among w.next u → (0 < (piece hay i).len) × TraceAt visits_now there u
       next_now u h =
-          let r = now.next u h in (r.0, trace_more p hay longest width start (spots_of i old w.seen) visits_now there u (more t.state w.seen) r.1)
+          let r = now.next u h in (r.0, trace_more p hay longest width start (configurations_of i old w.seen) visits_now there u (more t.state w.seen) r.1)
 
-      hit_now : (u : Thread) → w.hit ≡ Some u → FoundAt visits_now i u
-      hit_now u h = found_more p hay longest width start (spots_of i old w.seen) visits_now i u (more t.state w.seen) (now.hit u h)
+      hit_now : (u : Thread) → w.first_match ≡ Some u → FoundAt visits_now i u
+      hit_now u h = found_more p hay longest width start (configurations_of i old w.seen) visits_now i u (more t.state w.seen) (now.first_match u h)
 
     pub traced_keeps : Keeps hay longest i p IsTraced
     traced_keeps = record {
-      on_seen = λ t rest w is was now. record { stack = below w t rest is now; next = now.next; hit = now.hit };
+      on_seen = λ t rest w is was now. record { stack = below w t rest is now; next = now.next; first_match = now.first_match };
       on_match = λ t rest w is new found now. record {
-        stack = λ u h. rest_now w t rest is now u (Among-kept hay longest (option_or w.hit (Some t)) rest u h);
+        stack = λ u h. rest_now w t rest is now u (Among-kept hay longest (option_or w.first_match (Some t)) rest u h);
         next = next_now w t rest is now;
-        hit = λ u h. ⊎_elim (hit_now w t rest is now u)
-            (λ (e : t ≡ u). subst (λ (x : Thread). FoundAt (spots_of i old (t.state ∷ w.seen)) i x) e
-            (found_here p hay longest width start fits (spots_of i old (t.state ∷ w.seen)) i t found (inl refl) (top_now w t rest is now)))
-            (option_or_some w.hit t u h);
+        first_match = λ u h. ⊎_elim (hit_now w t rest is now u)
+            (λ (e : t ≡ u). subst (λ (x : Thread). FoundAt (configurations_of i old (t.state ∷ w.seen)) i x) e
+            (found_here p hay longest width start fits (configurations_of i old (t.state ∷ w.seen)) i t found (inl refl) (top_now w t rest is now)))
+            (option_or_some w.first_match t u h);
       };
       on_taken = λ t rest w is new none over now. record {
         stack = rest_now w t rest is now;
         next = λ u h. ⊎_elim (next_now w t rest is now u)
             (λ a. (
               (over (edge_of t u a).0 (edge_of t u a).1).0,
-              traced_moved (spots_of i old (t.state ∷ w.seen)) i there t (λ v e. (over v e).1) (inl refl) (top_now w t rest is now) u a,
+              traced_moved (configurations_of i old (t.state ∷ w.seen)) i there t (λ v e. (over v e).1) (inl refl) (top_now w t rest is now) u a,
             ))
             (Among-apart w.next (moved hay longest i (state_at p.states t.state) t) u h);
-        hit = hit_now w t rest is now;
+        first_match = hit_now w t rest is now;
       };
       on_gone = λ t rest w is new none beside now. record {
-        stack = λ u h. ⊎_elim (λ a. traced_moved (spots_of i old (t.state ∷ w.seen)) i i t beside (inl refl) (top_now w t rest is now) u a)
+        stack = λ u h. ⊎_elim (λ a. traced_moved (configurations_of i old (t.state ∷ w.seen)) i i t beside (inl refl) (top_now w t rest is now) u a)
             (rest_now w t rest is now u) (Among-apart (moved hay longest i (state_at p.states t.state) t) rest u h);
         next = next_now w t rest is now;
-        hit = hit_now w t rest is now;
+        first_match = hit_now w t rest is now;
       };
     }
       where
-        edge_of : (t u : Thread) → Among (moved hay longest i (state_at p.states t.state) t) u → (v : Spot) × Among (leads p hay (at t.state i)) v
+        edge_of : (t u : Thread) → Among (moved hay longest i (state_at p.states t.state) t) u → (v : Configuration) × Among (leads p hay (at t.state i)) v
             × (thread_on t.start (with_write (state_at p.states t.state) i t.slots) v ≡ u)
         edge_of t u a = Among-mapped (thread_on t.start (with_write (state_at p.states t.state) i t.slots)) (leads p hay (at t.state i)) u a
 
@@ -162,7 +155,7 @@ module _ (p : Program) (hay : List ℕ) (longest : Bool) (width : ℕ) (start : 
   begun_traced s among now = record {
     stack = λ t h. ⊎_elim (now.threads t) (at_begin s.best t) (Among-apart s.threads (cond (is_some s.best) [] (started hay longest p width s.place ∷ [])) t h);
     next = λ t h. absurd h;
-    hit = λ t h. absurd (none_some t h);
+    first_match = λ t h. absurd (none_some t h);
   }
     where
       none_some : (t : Thread) → None ≡ Some t → ⊥
@@ -186,13 +179,13 @@ module _ (p : Program) (hay : List ℕ) (longest : Bool) (width : ℕ) (start : 
       let walk = place_traced s t among now place in
       subst AreTraced place.is record {
         threads = λ u h. (walk.next u h).1;
-        best = λ u h. ⊎_elim (λ here. (s.place, walk.hit u here))
+        best = λ u h. ⊎_elim (λ here. (s.place, walk.first_match u here))
             (λ before. let f = now.best u before.1 in (
               f.0,
-              found_more p hay longest width start s.visits (spots_of s.place s.visits place.last.seen) f.0 u
+              found_more p hay longest width start s.visits (configurations_of s.place s.visits place.last.seen) f.0 u
                   (λ x a. Among-right (map (λ q. at q s.place) place.last.seen) s.visits x a) f.1,
             ))
-            (option_or_cases place.last.hit s.best u h);
+            (option_or_cases place.last.first_match s.best u h);
       }
 
   pub traced_start : AreTraced (at_start hay longest p width start)

@@ -6,9 +6,9 @@ use Rattle.std.specs.List.{range_with_len}
 use Rattle.std.proofs.lemmas.List.{append-nil}
 use Rattle.std.proofs.lemmas.List.FromFn.{take-map-range_with_len}
 use Rattle.bites_spec.specs.Walks.{last_of}
-use Rattle.bites_spec.specs.Program.{State, Program, Spot, at, state_at, is_match, char, ranges, splits, goto, capture, fail, match}
+use Rattle.bites_spec.specs.Program.{State, Program, Configuration, at, state_at, is_match, char, ranges, splits, goto, capture, fail, match}
 use Rattle.bites_spec.specs.Run.{Run, write_of, last_write, writes, matches, slots}
-use Rattle.bites_spec.proofs.SlotLemmas.{last_write-append}
+use Rattle.bites_spec.proofs.programs.SlotLemmas.{last_write-append}
 use Rattle.bites_machine.specs.Machine.{with_write}
 
 -- the slots from a on, after these writes
@@ -58,19 +58,19 @@ one_write fail i ws n = ap (λ (l : List (ℕ × ℕ)). row l 0 n) (sym (append-
 one_write match i ws n = ap (λ (l : List (ℕ × ℕ)). row l 0 n) (sym (append-nil ws))
 
 module _ (p : Program) where
-  abbrev write_at : Spot → List (ℕ × ℕ)
+  abbrev write_at : Configuration → List (ℕ × ℕ)
   write_at s = write_of (state_at p.states s.state) s.place
 
-  -- the slots, with what the states of these spots write, one after the other
-  abbrev pub all_written : List (Option ℕ) → List Spot → List (Option ℕ)
+  -- the slots, with what the states of these configurations write, one after the other
+  abbrev pub all_written : List (Option ℕ) → List Configuration → List (Option ℕ)
   all_written slots [] = slots
   all_written slots (s ∷ r) = all_written (with_write (state_at p.states s.state) s.place slots) r
 
-  abbrev all_writes : List Spot → List (ℕ × ℕ)
+  abbrev all_writes : List Configuration → List (ℕ × ℕ)
   all_writes [] = []
   all_writes (s ∷ r) = write_at s ++ all_writes r
 
-  all_row : (ws : List (ℕ × ℕ)) (n : ℕ) (r : List Spot) → all_written (row ws 0 n) r ≡ row (ws ++ all_writes r) 0 n
+  all_row : (ws : List (ℕ × ℕ)) (n : ℕ) (r : List Configuration) → all_written (row ws 0 n) r ≡ row (ws ++ all_writes r) 0 n
   all_row ws n [] = ap (λ (l : List (ℕ × ℕ)). row l 0 n) (sym (append-nil ws))
   all_row ws n (s ∷ r) =
       ap (λ (l : List (Option ℕ)). all_written l r) (one_write (state_at p.states s.state) s.place ws n)
@@ -87,15 +87,15 @@ module _ (p : Program) where
   match_writes (capture q k) i e = absurd (cc)
   match_writes fail i e = refl
 
-  writes_all : (s : Spot) (r : List Spot) → matches p (last_of s r) ≡ true → all_writes (s ∷ r) ≡ writes p s r
+  writes_all : (s : Configuration) (r : List Configuration) → matches p (last_of s r) ≡ true → all_writes (s ∷ r) ≡ writes p s r
   writes_all s [] e = append-nil (write_at s) ∙ match_writes (state_at p.states s.state) s.place e
   writes_all s (t ∷ r) e = ap (λ (l : List (ℕ × ℕ)). write_at s ++ l) (writes_all t r e)
 
   -- from empty slots on, a run leaves the front of its slots
-  pub run_writes : (width : ℕ) (r : Run) → width ≤ p.slots → matches p (last_of (at p.start r.start) r.spots) ≡ true →
-      all_written (replicate width None) (at p.start r.start ∷ r.spots) ≡ take width (slots p r)
+  pub run_writes : (width : ℕ) (r : Run) → width ≤ p.slots → matches p (last_of (at p.start r.start) r.configurations) ≡ true →
+      all_written (replicate width None) (at p.start r.start ∷ r.configurations) ≡ take width (slots p r)
   run_writes width r le e =
-      ap (λ (l : List (Option ℕ)). all_written l (at p.start r.start ∷ r.spots)) (row_empty 0 width)
-      ∙ all_row [] width (at p.start r.start ∷ r.spots)
-      ∙ ap (λ (ws : List (ℕ × ℕ)). row ws 0 width) (writes_all (at p.start r.start) r.spots e)
-      ∙ sym (take-map-range_with_len (last_write (writes p (at p.start r.start) r.spots)) 0 p.slots width le)
+      ap (λ (l : List (Option ℕ)). all_written l (at p.start r.start ∷ r.configurations)) (row_empty 0 width)
+      ∙ all_row [] width (at p.start r.start ∷ r.configurations)
+      ∙ ap (λ (ws : List (ℕ × ℕ)). row ws 0 width) (writes_all (at p.start r.start) r.configurations e)
+      ∙ sym (take-map-range_with_len (last_write (writes p (at p.start r.start) r.configurations)) 0 p.slots width le)

@@ -5,13 +5,10 @@ use Rattle.std.specs.List.{filter}
 use Rattle.std.specs.Fn.{iterate}
 use Rattle.std.specs.Option.{option_or}
 use Rattle.std.proofs.lemmas.List.Elements.{filter-append}
+use Rattle.std.proofs.lemmas.Bool.{cases_Bool}
 use Rattle.bites_spec.specs.Program.{State, Program, state_at, is_match, char, ranges, splits, goto, capture, fail, match}
 use Rattle.bites_machine.specs.Machine.{Thread, Walking, kept, moved, visited, dropped, stepped, step, WalksTo}
 use Rattle.bites_machine.proofs.MachineCases.{takes, was_seen, at_match, taken, gone, state_of_thread}
-
-bool_cases : (b : Bool) → (b ≡ true) ⊎ (b ≡ false)
-bool_cases true = inl refl
-bool_cases false = inr refl
 
 module _ (hay : List ℕ) (longest : Bool) (p : Program) (i : ℕ) where
   -- no step
@@ -90,9 +87,9 @@ module _ (hay : List ℕ) (longest : Bool) (p : Program) (i : ℕ) where
   visited_gone (char q c) e f t rest w = absurd (true≢false f)
   visited_gone (ranges q rs) e f t rest w = absurd (true≢false f)
 
-  -- the walk with other threads below its own, as far as its hit lets them go on
+  -- the walk with other threads below its own, as far as its first match lets them go on
   abbrev pub above : List Thread → Walking → Walking
-  above below w = record { stack = w.stack ++ kept hay longest w.hit below; seen = w.seen; next = w.next; hit = w.hit; looks = w.looks }
+  above below w = record { stack = w.stack ++ kept hay longest w.first_match below; seen = w.seen; next = w.next; first_match = w.first_match; looks = w.looks }
 
   filter_again : (test : Thread → Bool) (ts : List Thread) → filter test (filter test ts) ≡ filter test ts
   filter_again test [] = refl
@@ -100,7 +97,7 @@ module _ (hay : List ℕ) (longest : Bool) (p : Program) (i : ℕ) where
       ⊎_elim
       (λ (e : test t ≡ true). rw (e, e) (ap (λ (l : List Thread). t ∷ l) (filter_again test ts)))
       (λ (e : test t ≡ false). rw e (filter_again test ts))
-      (bool_cases (test t))
+      (cases_Bool (test t))
 
   kept_above : (longest : Bool) (o : Option Thread) (t : Thread) (rest below : List Thread) →
       kept hay longest (option_or o (Some t)) (rest ++ kept hay longest o below)
@@ -113,17 +110,17 @@ module _ (hay : List ℕ) (longest : Bool) (p : Program) (i : ℕ) where
   kept_above false (Some h) t rest below = refl
 
   abbrev with_stack : Walking → List Thread → Walking
-  with_stack w stack = record { stack = stack; seen = w.seen; next = w.next; hit = w.hit; looks = w.looks }
+  with_stack w stack = record { stack = stack; seen = w.seen; next = w.next; first_match = w.first_match; looks = w.looks }
 
   gone_above : (below : List Thread) (st : State) (t : Thread) (rest : List Thread) (w : Walking) →
-      gone hay longest i st t (rest ++ kept hay longest w.hit below) (above below w) ≡ above below (gone hay longest i st t rest w)
+      gone hay longest i st t (rest ++ kept hay longest w.first_match below) (above below w) ≡ above below (gone hay longest i st t rest w)
   gone_above below st t rest w =
-      ap (with_stack (gone hay longest i st t rest w)) (sym (append_assoc (moved hay longest i st t) rest (kept hay longest w.hit below)))
+      ap (with_stack (gone hay longest i st t rest w)) (sym (append_assoc (moved hay longest i st t) rest (kept hay longest w.first_match below)))
 
   visited_above : (below : List Thread) (st : State) (t : Thread) (rest : List Thread) (w : Walking) →
-      visited hay longest i st t (rest ++ kept hay longest w.hit below) (above below w) ≡ above below (visited hay longest i st t rest w)
+      visited hay longest i st t (rest ++ kept hay longest w.first_match below) (above below w) ≡ above below (visited hay longest i st t rest w)
   unfolding visited
-  visited_above below match t rest w = ap (with_stack (at_match hay longest i t rest w)) (kept_above longest w.hit t rest below)
+  visited_above below match t rest w = ap (with_stack (at_match hay longest i t rest w)) (kept_above longest w.first_match t rest below)
   visited_above below (char q c) t rest w = refl
   visited_above below (ranges q rs) t rest w = refl
   visited_above below (splits qs b) t rest w = gone_above below (splits qs b) t rest w
@@ -137,13 +134,13 @@ module _ (hay : List ℕ) (longest : Bool) (p : Program) (i : ℕ) where
   step_above below t rest w is =
       ⊎_elim
       (λ (was : was_seen hay longest i p w.seen t.state ≡ true).
-      step_seen t (rest ++ kept hay longest w.hit below) (above below w) (ap (λ (l : List Thread). l ++ kept hay longest w.hit below) is) was
+      step_seen t (rest ++ kept hay longest w.first_match below) (above below w) (ap (λ (l : List Thread). l ++ kept hay longest w.first_match below) is) was
       ∙ ap (above below) (sym (step_seen t rest w is was)))
       (λ (new : was_seen hay longest i p w.seen t.state ≡ false).
-      step_new t (rest ++ kept hay longest w.hit below) (above below w) (ap (λ (l : List Thread). l ++ kept hay longest w.hit below) is) new
+      step_new t (rest ++ kept hay longest w.first_match below) (above below w) (ap (λ (l : List Thread). l ++ kept hay longest w.first_match below) is) new
       ∙ visited_above below (state_at p.states t.state) t rest w
       ∙ ap (above below) (sym (step_new t rest w is new)))
-      (bool_cases (was_seen hay longest i p w.seen t.state))
+      (cases_Bool (was_seen hay longest i p w.seen t.state))
 
   pub stack_cases : (ts : List Thread) → (ts ≡ []) ⊎ ((t : Thread) × (rest : List Thread) × (ts ≡ t ∷ rest))
   stack_cases [] = inl refl

@@ -6,13 +6,13 @@ use Rattle.bites_spec.specs.Utf8.{piece, places, step_len, character}
 use Rattle.bites_spec.specs.Look.{Look, holds}
 use Rattle.bites_spec.specs.Range.{in_ranges}
 use Rattle.bites_spec.specs.Walks.{Among, Walk}
-use Rattle.bites_spec.specs.Program.{State, Program, Spot, at, edges, looking, targets_of, char, ranges, splits, goto, capture, fail, match}
+use Rattle.bites_spec.specs.Program.{State, Program, Configuration, at, edges, looking, targets_of, char, ranges, splits, goto, capture, fail, match}
 use Rattle.bites_spec.specs.Run.{leads, Runs, Reaches}
-use Rattle.bites_spec.proofs.PieceLemmas.{piece_within, Among-places}
+use Rattle.bites_spec.proofs.utf8.PieceLemmas.{piece_within, Among-places}
 use Rattle.bites_machine.proofs.SweepLemmas.{places-here, places-past}
 
 -- a state has at each place at most as many edges as targets
-taking_one : (b : Bool) (t : Spot) → length (cond b (t ∷ []) []) ≤ 1
+taking_one : (b : Bool) (t : Configuration) → length (cond b (t ∷ []) []) ≤ 1
 taking_one true t = omega arith
 taking_one false t = omega arith
 
@@ -48,20 +48,20 @@ place_on (suc n) hay s i room h some =
     fits here = let le = (Among-places hay s i h).1 in omega (arith, step here, piece_within hay i le)
 
 module _ (p : Program) (hay : List ℕ) where
-  -- a list that no edge leaves has all that is reached from one of its spots
-  pub closed_walk : (seen : List Spot) → ((u : Spot) → Among seen u → (v : Spot) → Among (leads p hay u) v → Among seen v) →
-      (s : Spot) (r : List Spot) (t : Spot) → Among seen s → Walk (leads p hay) (λ u. u ≡ t) s r → Among seen t
+  -- a list that no edge leaves has all that is reached from one of its configurations
+  pub closed_walk : (seen : List Configuration) → ((u : Configuration) → Among seen u → (v : Configuration) → Among (leads p hay u) v → Among seen v) →
+      (s : Configuration) (r : List Configuration) (t : Configuration) → Among seen s → Walk (leads p hay) (λ u. u ≡ t) s r → Among seen t
   closed_walk seen closed s [] t h walk = subst (λ u. Among seen u) walk h
   closed_walk seen closed s (q ∷ r) t h walk = closed_walk seen closed q r t (closed s h q walk.0) walk.1
 
   -- one edge more
-  pub walk_on : (s : Spot) (r : List Spot) (u v : Spot) → Walk (leads p hay) (λ x. x ≡ u) s r → Among (leads p hay u) v →
+  pub walk_on : (s : Configuration) (r : List Configuration) (u v : Configuration) → Walk (leads p hay) (λ x. x ≡ u) s r → Among (leads p hay u) v →
       Walk (leads p hay) (λ x. x ≡ v) s (r ++ v ∷ [])
   walk_on s [] u v walk edge = (subst (λ x. Among (leads p hay x) v) (sym walk) edge, refl)
   walk_on s (q ∷ r) u v walk edge = (walk.0, walk_on q r u v walk.1 edge)
 
-  -- a run reaches each of its spots
-  pub run_reaches : (s : Spot) (r : List Spot) (j : ℕ) (t : Spot) → Runs p hay s r j → Among (s ∷ r) t → Reaches p hay s t
+  -- a run reaches each of its configurations
+  pub run_reaches : (s : Configuration) (r : List Configuration) (j : ℕ) (t : Configuration) → Runs p hay s r j → Among (s ∷ r) t → Reaches p hay s t
   run_reaches s [] j t runs h = ⊎_elim (λ (e : s ≡ t). ([], e)) (λ (no : ⊥). absurd no) h
   run_reaches s (q ∷ r) j t runs h =
       ⊎_elim (λ (e : s ≡ t). ([], e)) (λ later. let on = run_reaches q r j t runs.1 later in (q ∷ on.0, (runs.0, on.1))) h

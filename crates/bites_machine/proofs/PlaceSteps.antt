@@ -4,18 +4,18 @@ use Rattle.std.specs.Prelude.{◌==◌, is_some, IfSome}
 use Rattle.bites_spec.specs.Utf8.{piece}
 use Rattle.bites_spec.specs.Walks.{Among}
 use Rattle.bites_spec.specs.Program as program
-use Rattle.bites_spec.specs.Program.{Program, Spot}
+use Rattle.bites_spec.specs.Program.{Program, Configuration}
 use Rattle.bites_spec.specs.Counts.{Record, fit_of}
 use Rattle.bites_machine.specs.Machine as machine
 use Rattle.bites_machine.specs.Machine.{Searching, Searches, SearchedTo, at_start, is_over, is_empty}
-use Rattle.bites_machine.specs.Rows.{Pool}
+use Rattle.bites_machine.specs.SlotTable.{Pool}
 use Rattle.bites_machine.specs.Threads.{Listed}
 use Rattle.bites_machine.specs.Used.{IsUsed, slots_at}
-use Rattle.bites_machine.specs.Desk.{thread_of, row_of}
-use Rattle.bites_machine.specs.Sweep.{Sought, IsBetween, HasRoom, IsIdle, IsProgramOf, StandsFor, PlaceSearched, GoneTo, HasSearched}
+use Rattle.bites_machine.specs.Scratch.{thread_of, row_of}
+use Rattle.bites_machine.specs.Sweep.{SearchResult, InvariantBetweenSteps, HasRoom, IsIdle, IsProgramOf, StandsFor, PlaceSearched, HasReached, HasSearched}
 use Rattle.bites_machine.proofs.IdleLemmas.{used_by_none}
 use Rattle.bites_machine.specs.declared.vm.threads.Thread.{Thread}
-use Rattle.bites_machine.specs.declared.vm.walk.Desk.{Desk}
+use Rattle.bites_machine.specs.declared.vm.closure.Scratch.{Scratch}
 
 -- whether a search is over behind a place, as the code tests it
 abbrev pub ends_by : Bool → ℕ → Bool → ℕ → Bool
@@ -26,7 +26,7 @@ pub some_piece : (earliest : Bool) (len : ℕ) (is_found : Bool) (threads : ℕ)
 some_piece earliest zero is_found threads on = absurd (true≢false on)
 some_piece earliest (suc n) is_found threads on = omega arith
 
--- what holds of the state where runs start holds of the one that is walked from, if one is
+-- what holds of the state where runs start holds of the one that is explored, if one is
 pub of_first : (P : ℕ → Type 0) (is_found : Bool) (begins : Option ℕ) (first : ℕ) → begins ≡ cond is_found None (Some first) → P first →
     IfSome begins P
 of_first P is_found begins first is holds = subst (λ (o : Option ℕ). IfSome o P) (sym is) (by_found is_found)
@@ -35,34 +35,34 @@ of_first P is_found begins first is holds = subst (λ (o : Option ℕ). IfSome o
     by_found true = tt
     by_found false = holds
 
--- a program with room for its searches leaves a desk between two places
-pub between_first : (p : Program) (states : List program.State) (place : ℕ) (walked : Record) (desk : Desk) (list : Listed) (width : ℕ) →
-    p.states ≡ states → HasRoom (fit_of p) desk list → IsIdle desk list → walked.visits ≡ [] → width ≡ desk.rows.width →
-    slots_at desk.rows 0 ≡ replicate desk.rows.width None → length desk.rows.rows ≡ length desk.rows.counts →
-    IsBetween states place walked desk list width
-between_first p states place walked desk list width same room idle visits wide nothing even =
-    subst (λ (ss : List program.State). IsBetween ss place walked desk list width) same (record {
-      marks = room.marks;
-      visits = λ v h. absurd (subst (λ (vs : List Spot). Among vs v) visits h);
-      noted = room.noted;
+-- a program with room for its searches leaves a scratch between two places
+pub between_first : (p : Program) (states : List program.State) (place : ℕ) (walked : Record) (scratch : Scratch) (list : Listed) (slots_per_row : ℕ) →
+    p.states ≡ states → HasRoom (fit_of p) scratch list → IsIdle scratch list → walked.visits ≡ [] → slots_per_row ≡ scratch.rows.slots_per_row →
+    slots_at scratch.rows 0 ≡ replicate scratch.rows.slots_per_row None → length scratch.rows.rows ≡ length scratch.rows.ref_counts →
+    InvariantBetweenSteps states place walked scratch list slots_per_row
+between_first p states place walked scratch list slots_per_row same room idle visits wide nothing even =
+    subst (λ (ss : List program.State). InvariantBetweenSteps ss place walked scratch list slots_per_row) same (record {
+      visited_set = room.visited_set;
+      visits = λ v h. absurd (subst (λ (vs : List Configuration). Among vs v) visits h);
+      pending_len = room.pending_len;
       stack = room.stack;
       empty = room.empty;
       more = room.next;
       room = room.threads;
       few = subst (λ (ts : List Thread). length ts ≤ length p.states) (sym idle.threads) (omega arith);
       known = λ t h. absurd (subst (λ (ts : List Thread). Among ts t) idle.threads h);
-      used = subst (λ (ts : List Thread). IsUsed desk.rows (map row_of ts)) (sym idle.threads) (used_by_none desk.rows idle.free even nothing);
+      used = subst (λ (ts : List Thread). IsUsed scratch.rows (map row_of ts)) (sym idle.threads) (used_by_none scratch.rows idle.free even nothing);
       rows = room.rows;
       wide = wide;
     })
 
--- a desk between two places is so at a later place too
-pub between_later : (states : List program.State) (place later : ℕ) (walked : Record) (desk : Desk) (list : Listed) (width : ℕ) →
-    place ≤ later → IsBetween states place walked desk list width → IsBetween states later walked desk list width
-between_later states place later walked desk list width le b = record {
-  marks = b.marks;
+-- a scratch between two places is so at a later place too
+pub between_later : (states : List program.State) (place later : ℕ) (walked : Record) (scratch : Scratch) (list : Listed) (slots_per_row : ℕ) →
+    place ≤ later → InvariantBetweenSteps states place walked scratch list slots_per_row → InvariantBetweenSteps states later walked scratch list slots_per_row
+between_later states place later walked scratch list slots_per_row le b = record {
+  visited_set = b.visited_set;
   visits = λ v h. let lt = b.visits v h in omega arith;
-  noted = b.noted;
+  pending_len = b.pending_len;
   stack = b.stack;
   empty = b.empty;
   more = b.more;
@@ -75,28 +75,28 @@ between_later states place later walked desk list width le b = record {
 }
 
 -- between two places there is room for other searches of the program
-pub room_between : (p : Program) (states : List program.State) (place : ℕ) (walked : Record) (desk : Desk) (list : Listed) (width : ℕ) (rows : Pool) (empty : Listed) →
-    p.states ≡ states → IsBetween states place walked desk list width → p.slots ≤ rows.most → length rows.counts ≡ length desk.rows.counts →
-    rows.notes ≡ desk.rows.notes → empty.room ≡ list.room →
-    HasRoom (fit_of p) (record { marks = desk.marks; stack = desk.stack; rows = rows; next = desk.next; hit = desk.hit }) empty
-room_between p states place walked desk list width rows empty same between most counts notes room =
-    let b = subst (λ (ss : List program.State). IsBetween ss place walked desk list width) (sym same) between in
+pub room_between : (p : Program) (states : List program.State) (place : ℕ) (walked : Record) (scratch : Scratch) (list : Listed) (slots_per_row : ℕ) (rows : Pool) (empty : Listed) →
+    p.states ≡ states → InvariantBetweenSteps states place walked scratch list slots_per_row → p.slots ≤ rows.max_slots → length rows.ref_counts ≡ length scratch.rows.ref_counts →
+    rows.pending ≡ scratch.rows.pending → empty.room ≡ list.room →
+    HasRoom (fit_of p) (record { visited_set = scratch.visited_set; stack = scratch.stack; rows = rows; next = scratch.next; first_match = scratch.first_match }) empty
+room_between p states place walked scratch list slots_per_row rows empty same between max_slots ref_counts pending room =
+    let b = subst (λ (ss : List program.State). InvariantBetweenSteps ss place walked scratch list slots_per_row) (sym same) between in
     record {
-      marks = b.marks;
-      noted = ap length notes ∙ b.noted;
+      visited_set = b.visited_set;
+      pending_len = ap length pending ∙ b.pending_len;
       stack = b.stack;
       empty = b.empty;
       next = b.more;
       threads = room ∙ b.room;
-      rows = counts ∙ b.rows;
-      most = most;
+      rows = ref_counts ∙ b.rows;
+      max_slots = max_slots;
     }
 
 module _ (p : Program) (hay : List ℕ) (longest earliest : Bool) (start : ℕ) (old : List (Option ℕ)) where
   -- a search begins at its start
-  pub gone_first : (walked : Record) (pool : Pool) (threads : List Thread) → walked.visits ≡ [] → walked.looks ≡ 0 → threads ≡ [] →
-      GoneTo p hay longest earliest start old start false walked pool threads old
-  gone_first walked pool threads visits looks none = record {
+  pub reached_first : (walked : Record) (pool : Pool) (threads : List Thread) → walked.visits ≡ [] → walked.looks ≡ 0 → threads ≡ [] →
+      HasReached p hay longest earliest start old start false walked pool threads old
+  reached_first walked pool threads visits looks none = record {
     places = 0;
     now = at_start hay longest p (length old) start;
     searched = refl;
@@ -111,16 +111,16 @@ module _ (p : Program) (hay : List ℕ) (longest earliest : Bool) (start : ℕ) 
   }
 
   -- one place more is searched
-  pub has_searched : (place here len first : ℕ) (text : List ℕ) (states : List program.State) (begins : Option ℕ) (is_found found : Bool) (was now : Record) (desk new : Desk) (threads later : List Thread) (slots left : List (Option ℕ)) →
+  pub has_searched : (place here len first : ℕ) (text : List ℕ) (states : List program.State) (begins : Option ℕ) (is_found found : Bool) (was now : Record) (scratch new : Scratch) (threads later : List Thread) (slots left : List (Option ℕ)) →
       text ≡ hay → here ≡ place → len ≡ (piece hay place).len → length slots ≡ length old → IsProgramOf p states first →
-      begins ≡ cond is_found None (Some first) → found ≡ (is_found || is_some new.hit) →
-      GoneTo p hay longest earliest start old place is_found was desk.rows threads slots → PlaceSearched text longest here len states begins was now desk new threads later slots left →
+      begins ≡ cond is_found None (Some first) → found ≡ (is_found || is_some new.first_match) →
+      HasReached p hay longest earliest start old place is_found was scratch.rows threads slots → PlaceSearched text longest here len states begins was now scratch new threads later slots left →
       HasSearched p hay longest earliest start old place found now new.rows later left
-  has_searched place here len first text states begins is_found found was now desk new threads later slots left texts heres lens same is begun founds gone one =
-      let there : PlaceSearched hay longest place (piece hay place).len states begins was now desk new threads later slots left =
-      subst (λ (h : List ℕ). PlaceSearched h longest place (piece hay place).len states begins was now desk new threads later slots left) texts
-      (subst (λ i. PlaceSearched text longest i (piece hay place).len states begins was now desk new threads later slots left) heres
-      (subst (λ n. PlaceSearched text longest here n states begins was now desk new threads later slots left) lens one)) in
+  has_searched place here len first text states begins is_found found was now scratch new threads later slots left texts heres lens same is begun founds gone one =
+      let there : PlaceSearched hay longest place (piece hay place).len states begins was now scratch new threads later slots left =
+      subst (λ (h : List ℕ). PlaceSearched h longest place (piece hay place).len states begins was now scratch new threads later slots left) texts
+      (subst (λ i. PlaceSearched text longest i (piece hay place).len states begins was now scratch new threads later slots left) heres
+      (subst (λ n. PlaceSearched text longest here n states begins was now scratch new threads later slots left) lens one)) in
       let on = there.searches p is.states gone.now old is_found (begun ∙ ap (λ q. cond is_found None (Some q)) (sym is.start)) gone.stands in
       record {
         places = gone.places;
@@ -145,10 +145,10 @@ module _ (p : Program) (hay : List ℕ) (longest earliest : Bool) (start : ℕ) 
       (ap (λ (ts : List machine.Thread). is_empty ts) h.stands.threads ∙ empty_by pool threads)
 
   -- a search that is not over has gone on to the next place
-  pub gone_next : (place len : ℕ) (is_found : Bool) (walked : Record) (pool : Pool) (threads : List Thread) (slots : List (Option ℕ)) (left : ℕ) →
+  pub reached_next : (place len : ℕ) (is_found : Bool) (walked : Record) (pool : Pool) (threads : List Thread) (slots : List (Option ℕ)) (left : ℕ) →
       HasSearched p hay longest earliest start old place is_found walked pool threads slots → len ≡ (piece hay place).len → left ≡ length threads → ends_by earliest len is_found left ≡ false →
-      GoneTo p hay longest earliest start old (place + len) is_found walked pool threads slots
-  gone_next place len is_found walked pool threads slots left h lens lefts on = record {
+      HasReached p hay longest earliest start old (place + len) is_found walked pool threads slots
+  reached_next place len is_found walked pool threads slots left h lens lefts on = record {
     places = suc h.places;
     now = h.now;
     searched = (
@@ -161,10 +161,10 @@ module _ (p : Program) (hay : List ℕ) (longest earliest : Bool) (start : ℕ) 
   }
 
   -- a search that is over was this one
-  pub sought_by : (place len : ℕ) (is_found : Bool) (walked : Record) (pool : Pool) (threads : List Thread) (slots : List (Option ℕ)) (left : ℕ) →
+  pub result_by : (place len : ℕ) (is_found : Bool) (walked : Record) (pool : Pool) (threads : List Thread) (slots : List (Option ℕ)) (left : ℕ) →
       HasSearched p hay longest earliest start old place is_found walked pool threads slots → len ≡ (piece hay place).len → left ≡ length threads → ends_by earliest len is_found left ≡ true →
-      Sought p hay longest earliest start is_found old slots walked
-  sought_by place len is_found walked pool threads slots left h lens lefts over = record {
+      SearchResult p hay longest earliest start is_found old slots walked
+  result_by place len is_found walked pool threads slots left h lens lefts over = record {
     last = h.now;
     searched = record {
       places = h.places;

@@ -1,26 +1,24 @@
 -- Behind other threads the machine on lists visits those states of the start prefix that were not visited at the place.
-use Rattle.std.proofs.Common.{◌≡◌, ℕ, zero, suc, ◌+◌, Bool, true, false, cond, ◌||◌, List, [], ◌∷◌, ◌++◌, map, length, refl, sym, ap, ap₂, ◌∙◌, subst, inl, inr, ⊎_elim, ◌⊎◌, arith, true≢false, eq-eqb, length-append}
+use Rattle.std.proofs.Common.{◌≡◌, ℕ, zero, suc, ◌+◌, Bool, true, false, cond, ◌||◌, List, [], ◌∷◌, ◌++◌, map, length, Option, Some, IfSome, refl, sym, ap, ap₂, ◌∙◌, subst, inl, inr, ⊎_elim, ◌⊎◌, arith, true≢false, eq-eqb, length-append}
 use Rattle.std.specs.Prelude.{◌==◌}
 use Rattle.std.specs.Fn.{iterate}
 use Rattle.std.specs.List.{list_any}
 use Rattle.std.proofs.lemmas.List.{length-map}
+use Rattle.std.proofs.lemmas.Bool.{cases_Bool}
 use Rattle.bites_spec.specs.Walks.{Among}
-use Rattle.bites_spec.proofs.SlotLemmas.{Among-left, Among-right}
+use Rattle.bites_spec.proofs.programs.SlotLemmas.{Among-left, Among-right}
 use Rattle.bites_machine.proofs.EdgeLemmas.{Among-apart}
-use Rattle.bites_spec.specs.Program.{Program, state_at}
+use Rattle.bites_spec.specs.Program.{Program, state_at, takes}
 use Rattle.bites_machine.specs.Ends.{next_character}
 use Rattle.bites_machine.specs.Machine.{Thread, Walking, WalksTo}
-use Rattle.bites_machine.specs.Prefix.{Blind, blind_step, blind_from, blind_targets, count_of, fresh_of, fresh_sum, IsPrefix, TakesNone, IsApart}
+use Rattle.bites_machine.specs.Prefix.{Blind, blind_step, blind_from, blind_targets, count_of, fresh_of, fresh_sum, IsPrefix, TakesAlone, TakesNone, HasTaken, RestTakesNone, IsApart}
 use Rattle.bites_machine.specs.declared.prefix.StartPrefix.{StartPrefix}
-use Rattle.bites_machine.proofs.LookSteps.{stepped_new, stepped_seen}
+use Rattle.bites_machine.proofs.ExploreSteps.{stepped_new, stepped_seen}
 use Rattle.bites_machine.proofs.MachineWalks.{walks_through}
 use Rattle.bites_machine.proofs.PrefixLemmas.{blind, look_seen, look_new}
+use Rattle.bites_machine.proofs.PrefixSets.{takes-none}
 use Rattle.bites_machine.proofs.ShutWalks.{was_among}
 use Rattle.bites_machine.proofs.PrefixWalks.{numbers, no_numbers, walking, seen_kept, blind_done, from_is, visits, IsQuiet}
-
-bool_cases : (b : Bool) → (b ≡ true) ⊎ (b ≡ false)
-bool_cases true = inl refl
-bool_cases false = inr refl
 
 -- the state is one of these
 abbrev was : List ℕ → ℕ → Bool
@@ -53,7 +51,7 @@ module _ (old : List ℕ) where
       (λ (e : was old x ≡ false).
       subst (λ (rs : List ℕ). Among rs q ⊎ Among old q) (sym (fresh_new x qs e))
       (⊎_elim (λ (is : x ≡ q). inl (inl is)) (λ l. ⊎_elim (λ a. inl (inr a)) (λ b. inr b) (fresh_in q qs l)) h))
-      (bool_cases (was old x))
+      (cases_Bool (was old x))
 
   fresh_from : (q : ℕ) (qs : List ℕ) → Among (fresh_of old qs) q → Among qs q
   fresh_from q [] h = h
@@ -61,7 +59,7 @@ module _ (old : List ℕ) where
       ⊎_elim
       (λ (e : was old x ≡ true). inr (fresh_from q qs (subst (λ (rs : List ℕ). Among rs q) (fresh_old x qs e) h)))
       (λ (e : was old x ≡ false). ⊎_elim (λ (is : x ≡ q). inl is) (λ l. inr (fresh_from q qs l)) (subst (λ (rs : List ℕ). Among rs q) (fresh_new x qs e) h))
-      (bool_cases (was old x))
+      (cases_Bool (was old x))
 
   -- what was visited, or is old, was visited by the walk
   seen_either : (q : ℕ) (qs : List ℕ) → Among qs q ⊎ Among old q → was (fresh_of old qs ++ old) q ≡ true
@@ -77,7 +75,7 @@ module _ (old : List ℕ) where
       (λ b. true≢false (sym (among_was old q b) ∙ other))
       (Among-apart (fresh_of old qs) old q (was_among (fresh_of old qs ++ old) q e))))
       (λ e. e)
-      (bool_cases (was (fresh_of old qs ++ old) q))
+      (cases_Bool (was (fresh_of old qs ++ old) q))
 
   module _ (start : ℕ) where
     -- the state is old, or the start
@@ -97,7 +95,7 @@ module _ (old : List ℕ) where
     over_same [] qs ns over = over
     over_same (t ∷ ts) qs ns over = inr (ts ++ ns, refl, over_same ts qs ns over)
 
-    module _ (hay : List ℕ) (longest : Bool) (i : ℕ) (p : Program) (x : StartPrefix) (out : TakesNone x (next_character hay i)) (apart : IsApart x i)
+    module _ (hay : List ℕ) (longest : Bool) (i : ℕ) (p : Program) (x : StartPrefix) (out : RestTakesNone x old (next_character hay i)) (apart : IsApart x i)
         (closed : (q : ℕ) → Among old q → (r : ℕ) → Among (blind_targets (state_at p.states q)) r → Old r) (next : List Thread) (base : ℕ) where
       abbrev sum_of : List ℕ → ℕ
       sum_of qs = fresh_sum old qs (map (count_of p.states) qs)
@@ -109,7 +107,7 @@ module _ (old : List ℕ) where
       sum_new q qs e = ap (λ b. cond b (sum_of qs) (count_of p.states q + sum_of qs)) e
 
       abbrev Quiet : Blind → Type 0
-      Quiet b = (q : ℕ) → Among b.seen q → IsQuiet hay longest i p x out apart (state_at p.states q)
+      Quiet b = (q : ℕ) → Among b.seen q → was old q ≡ false → IsQuiet hay longest i p x apart (state_at p.states q)
 
       -- A walk is where a closure is that takes nothing, but for what is old.
       record Rests (b : Blind) (w : Walking) : Type 0 where
@@ -129,7 +127,7 @@ module _ (old : List ℕ) where
       at_both : (t : Thread) (rest : List Thread) (qs seen : List ℕ) (n looks : ℕ) → Quiet (blind_step p.states (blind (t.state ∷ qs) seen n)) → Over qs (numbers rest) →
           (was seen t.state ≡ true → Among seen start) → Among (t.state ∷ seen) start → looks + suc (length rest) ≡ suc (base + sum_of seen) →
           Goes (blind_step p.states (blind (t.state ∷ qs) seen n)) (walking next (t ∷ rest) (fresh_of old seen ++ old) looks)
-      at_both t rest qs seen n looks quiet over began begins sum = ⊎_elim again (λ e. ⊎_elim (at_old e) (at_new e) (bool_cases (was old t.state))) (bool_cases (was seen t.state))
+      at_both t rest qs seen n looks quiet over began begins sum = ⊎_elim again (λ e. ⊎_elim (at_old e) (at_new e) (cases_Bool (was old t.state))) (cases_Bool (was seen t.state))
         where
           q : ℕ
           q = t.state
@@ -163,8 +161,8 @@ module _ (old : List ℕ) where
           at_new e other =
               let st = state_at p.states q in
               let looked = look_new p.states q qs seen n e in
-              let mine = quiet q (subst (λ (b : Blind). Among b.seen q) (sym looked) (inl refl)) in
-              let v = visits hay longest i p x out apart next st t rest (fresh_of old seen ++ old) looks mine in
+              let mine = quiet q (subst (λ (b : Blind). Among b.seen q) (sym looked) (inl refl)) other in
+              let v = visits hay longest i p x apart next st t rest (fresh_of old seen ++ old) looks mine in
               let many : length v.threads ≡ count_of p.states q + length rest =
               sym (length-map v.threads (λ (u : Thread). u.state)) ∙ ap length v.stack ∙ length-append (blind_targets st) (numbers rest)
               ∙ ap (λ k. count_of p.states q + k) (length-map rest (λ (u : Thread). u.state)) in
@@ -238,7 +236,7 @@ module _ (old : List ℕ) where
               (λ (e : was b.seen q ≡ false).
               subst (λ (c : Blind). Goes c w) (sym (ap (blind_step p.states) at_top ∙ look_new p.states q qs b.seen b.looks e))
               (skips q qs (⊎_elim (λ a. among_was old q a) (λ (s : q ≡ start). absurd (true≢false (sym (among_was b.seen q (subst (Among b.seen) (sym s) began)) ∙ e))) o.0) o.1))
-              (bool_cases (was b.seen q)))
+              (cases_Bool (was b.seen q)))
               (λ (s : (ms : List ℕ) × (numbers r.threads ≡ q ∷ ms) × Over qs ms). by_threads q qs s.0 is r.threads refl s.1 s.2)
               over
 
@@ -254,6 +252,17 @@ module _ (old : List ℕ) where
           let none : start ∷ [] ≡ [] = ap (λ (b : Blind). b.stack) (sym (ap (blind_from p.states start) is ∙ from_is p.states start 0)) ∙ prefix.stack in cc
       some_looks prefix (suc m) is = (m, is)
 
+      -- a state of the prefix that is not old doesn't take the character that stands here
+      taken_by : IsPrefix p.states start x → (r : ℕ) → Among x.visited.value r → was old r ≡ false → (c : ℕ) → next_character hay i ≡ Some c → takes (state_at p.states r) c ≡ false
+      taken_by prefix r mine new =
+          ⊎_elim
+          (λ (none : TakesNone x (next_character hay i)). takes-none x.ascii x.others (takes (state_at p.states r)) (λ c. prefix.idle.take r c mine) (next_character hay i) none)
+          (λ (has : HasTaken x old). λ c is.
+          let alone : TakesAlone p.states x.visited.value has.0 = subst (λ (o : Option ℕ). IfSome o (TakesAlone p.states x.visited.value)) has.1 prefix.alone in
+          ⊎_elim (λ (e : takes (state_at p.states r) c ≡ true). absurd (true≢false (sym (among_was old r (subst (Among old) (alone r c mine e) has.2)) ∙ new))) (λ e. e)
+          (cases_Bool (takes (state_at p.states r) c)))
+          out
+
       -- the walk from the start, behind others
       pub walks_rest : IsPrefix p.states start x → (t : Thread) → t.state ≡ start →
           WalksTo hay longest p i (walking next (t ∷ []) old base) (walking next [] (fresh_of old x.visited.value ++ old) (suc (base + fresh_sum old x.visited.value x.targets.value)))
@@ -266,7 +275,7 @@ module _ (old : List ℕ) where
           ap (blind_from p.states start) some.1 ∙ from_is p.states start (suc m) ∙ ap (λ n. iterate (blind_step p.states) m (blind_step p.states (blind (n ∷ []) [] 0))) (sym is) in
           let seen : all.seen ≡ x.visited.value = ap (λ (c : Blind). c.seen) (sym same) ∙ prefix.seen in
           let stack : all.stack ≡ [] = ap (λ (c : Blind). c.stack) (sym same) ∙ prefix.stack in
-          let quiet : Quiet all = λ r h. let mine = subst (λ (l : List ℕ). Among l r) seen h in (prefix.idle.stay r mine, λ c. prefix.idle.take r c mine) in
+          let quiet : Quiet all = λ r h new. let mine = subst (λ (l : List ℕ). Among l r) seen h in (prefix.idle.stay r mine, taken_by prefix r mine new) in
           let count : base + suc 0 ≡ suc (base + sum_of []) = omega arith in
           let first = at_both t [] [] [] 0 base (λ q h. quiet q (seen_kept p.states m (blind_step p.states b) q h)) refl (λ e. absurd (true≢false (sym e))) (inl is) count in
           let more = all_rests m (blind_step p.states b) first.last quiet first.rests first.began in

@@ -1,5 +1,5 @@
 -- The characters that the states of a start prefix take.
-use Rattle.std.proofs.Common.{◌≡◌, ℕ, zero, suc, ◌/◌, ◌%◌, ◌<◌, ◌≤◌, Bool, true, false, ◌||◌, cond, List, [], ◌∷◌, refl, sym, ap, ◌∙◌, arith, ⊎_elim, true≢false, slice_index, slice_index_or, bit_or, IfSome, Option, Some, None}
+use Rattle.std.proofs.Common.{◌≡◌, ℕ, zero, suc, ◌/◌, ◌%◌, ◌<◌, ◌≤◌, Bool, true, false, ◌||◌, cond, List, [], ◌∷◌, refl, sym, ap, ◌∙◌, subst, arith, ⊎_elim, true≢false, slice_index, slice_index_or, bit_or, IfSome, Option, Some, None}
 use Rattle.std.specs.Prelude.{nat_lt, ◌==◌}
 use Rattle.std.proofs.lemmas.Bool.{cases_lt}
 use Rattle.std.proofs.lemmas.Bool.Decides.{nat_tests}
@@ -75,13 +75,17 @@ may_stay-more a b match more h = h
 
 -- a character that is not in the set is not taken
 pub takes-none : (words : List ℕ) (others : Bool) (test : ℕ → Bool) → ((c : ℕ) → test c ≡ true → in_set words others c ≡ true) →
-    (o : Option ℕ) → IfSome o (λ c. in_set words others c ≡ false) → takes_by test o ≡ false
-takes-none words others test within None out = refl
-takes-none words others test within (Some c) out = by_test (test c) (within c)
+    (o : Option ℕ) → IfSome o (λ c. in_set words others c ≡ false) → (c : ℕ) → o ≡ Some c → test c ≡ false
+takes-none words others test within o out c is = by_test (test c) (within c) (subst (λ (p : Option ℕ). IfSome p (λ d. in_set words others d ≡ false)) is out)
   where
-    by_test : (b : Bool) → (b ≡ true → in_set words others c ≡ true) → b ≡ false
-    by_test true h = absurd (true≢false (sym (h refl) ∙ out))
-    by_test false h = refl
+    by_test : (b : Bool) → (b ≡ true → in_set words others c ≡ true) → in_set words others c ≡ false → b ≡ false
+    by_test true h e = absurd (true≢false (sym (h refl) ∙ e))
+    by_test false h e = refl
+
+-- what the character that stands somewhere doesn't pass is not taken there
+pub takes-not : (test : ℕ → Bool) (o : Option ℕ) → ((c : ℕ) → o ≡ Some c → test c ≡ false) → takes_by test o ≡ false
+takes-not test None out = refl
+takes-not test (Some c) out = out c refl
 
 none_at : (ws : List ℕ) (k n : ℕ) → k ≤ 1 → slice_index_or ws 0 0 ≡ 0 → slice_index_or ws 1 0 ≡ 0 → has_bit (slice_index ws k) n ≡ false
 none_at ws zero n le first second = ap (λ w. has_bit w n) first ∙ ap (λ b. b == 1) (bit_at-zero n)

@@ -4,19 +4,20 @@ use Rattle.std.specs.Prelude.{◌==◌}
 use Rattle.std.specs.Fn.{iterate}
 use Rattle.std.specs.List.{list_any}
 use Rattle.std.proofs.lemmas.List.{map-append, append-nil}
+use Rattle.std.proofs.lemmas.Bool.{cases_Bool}
 use Rattle.bites_spec.specs.Utf8.{piece}
 use Rattle.bites_spec.specs.Look as look
 use Rattle.bites_spec.specs.Range.{in_ranges}
 use Rattle.bites_spec.specs.Walks.{Among}
-use Rattle.bites_spec.specs.Program.{Program, Spot, State, at, state_at, takes, targets_of, char, ranges, splits, goto, capture, fail, match}
+use Rattle.bites_spec.specs.Program.{Program, Configuration, State, at, state_at, takes, targets_of, char, ranges, splits, goto, capture, fail, match}
 use Rattle.bites_machine.specs.Ends.{next_character}
 use Rattle.bites_machine.specs.Machine.{Thread, Walking, WalksTo, moved, visited, step, thread_on}
-use Rattle.bites_machine.specs.Prefix.{Blind, blind_look, blind_step, blind_from, blind_targets, in_set, may_stay, IsPrefix, TakesNone, IsApart}
+use Rattle.bites_machine.specs.Prefix.{Blind, blind_look, blind_step, blind_from, blind_targets, may_stay, IsPrefix, TakesNone, IsApart}
 use Rattle.bites_machine.specs.declared.prefix.StartPrefix.{StartPrefix}
-use Rattle.bites_machine.proofs.LookSteps.{stepped_new, stepped_seen}
+use Rattle.bites_machine.proofs.ExploreSteps.{stepped_new, stepped_seen}
 use Rattle.bites_machine.proofs.MachineWalks.{step_done, visited_gone}
 use Rattle.bites_machine.proofs.PrefixLemmas.{blind, look_seen, look_new}
-use Rattle.bites_machine.proofs.PrefixSets.{takes-none}
+use Rattle.bites_machine.proofs.PrefixSets.{takes-none, takes-not}
 use Rattle.bites_machine.proofs.VisitLemmas.{taking_by, visited_char, visited_ranges}
 
 -- the states of threads
@@ -29,15 +30,11 @@ no_numbers (t ∷ ts) is = cc
 
 -- a walk behind these threads, which took the piece
 abbrev pub walking : List Thread → List Thread → List ℕ → ℕ → Walking
-walking next ts seen looks = record { stack = ts; seen = seen; next = next; hit = None; looks = looks }
+walking next ts seen looks = record { stack = ts; seen = seen; next = next; first_match = None; looks = looks }
 
 -- a walk that has taken nothing, where no thread had taken the piece before
 abbrev pub idle : List Thread → List ℕ → ℕ → Walking
 idle ts seen looks = walking [] ts seen looks
-
-bool_cases : (b : Bool) → (b ≡ true) ⊎ (b ≡ false)
-bool_cases true = inl refl
-bool_cases false = inr refl
 
 more_looks : (base n : ℕ) → suc (base + n) ≡ base + suc n
 more_looks base n = omega arith
@@ -69,10 +66,10 @@ not_start : (hay : List ℕ) (i : ℕ) → 0 < i → look.holds look.start hay i
 unfolding look.holds
 not_start hay i pos = ne_eqb i 0 (λ e. absurd (omega (arith, pos, e)))
 
-module _ (hay : List ℕ) (longest : Bool) (i : ℕ) (p : Program) (x : StartPrefix) (out : TakesNone x (next_character hay i)) (apart : IsApart x i) where
-  -- the state may stay, and takes characters of the set alone
+module _ (hay : List ℕ) (longest : Bool) (i : ℕ) (p : Program) (x : StartPrefix) (apart : IsApart x i) where
+  -- the state may stay, and doesn't take the character that stands here
   abbrev pub IsQuiet : State → Type 0
-  IsQuiet st = (may_stay x.anchored st ≡ true) × ((c : ℕ) → takes st c ≡ true → in_set x.ascii x.others c ≡ true)
+  IsQuiet st = (may_stay x.anchored st ≡ true) × ((c : ℕ) → next_character hay i ≡ Some c → takes st c ≡ false)
 
   numbers_at : (start : ℕ) (slots : List (Option ℕ)) (qs : List ℕ) → numbers (map (thread_on start slots) (map (λ q. at q i) qs)) ≡ qs
   numbers_at start slots [] = refl
@@ -97,16 +94,16 @@ module _ (hay : List ℕ) (longest : Bool) (i : ℕ) (p : Program) (x : StartPre
   visits next (char q c) t rest seen looks quiet = record {
     threads = rest;
     walk = visited_char hay longest i q c t rest (walking next (t ∷ rest) seen looks)
-        ∙ ap (λ (ss : List Spot). record { stack = rest; seen = t.state ∷ seen; next = next ++ map (thread_on t.start t.slots) ss; hit = None; looks = suc looks })
-        (taking_by hay longest i (λ d. d == c) q ∙ ap (λ b. cond b (at q (i + (piece hay i).len) ∷ []) []) (takes-none x.ascii x.others (λ d. d == c) quiet.1 (next_character hay i) out))
+        ∙ ap (λ (ss : List Configuration). record { stack = rest; seen = t.state ∷ seen; next = next ++ map (thread_on t.start t.slots) ss; first_match = None; looks = suc looks })
+        (taking_by hay longest i (λ d. d == c) q ∙ ap (λ b. cond b (at q (i + (piece hay i).len) ∷ []) []) (takes-not (λ d. d == c) (next_character hay i) quiet.1))
         ∙ ap (λ (ts : List Thread). walking ts rest (t.state ∷ seen) (suc looks)) (append-nil next);
     stack = refl;
   }
   visits next (ranges q rs) t rest seen looks quiet = record {
     threads = rest;
     walk = visited_ranges hay longest i q rs t rest (walking next (t ∷ rest) seen looks)
-        ∙ ap (λ (ss : List Spot). record { stack = rest; seen = t.state ∷ seen; next = next ++ map (thread_on t.start t.slots) ss; hit = None; looks = suc looks })
-        (taking_by hay longest i (in_ranges rs) q ∙ ap (λ b. cond b (at q (i + (piece hay i).len) ∷ []) []) (takes-none x.ascii x.others (in_ranges rs) quiet.1 (next_character hay i) out))
+        ∙ ap (λ (ss : List Configuration). record { stack = rest; seen = t.state ∷ seen; next = next ++ map (thread_on t.start t.slots) ss; first_match = None; looks = suc looks })
+        (taking_by hay longest i (in_ranges rs) q ∙ ap (λ b. cond b (at q (i + (piece hay i).len) ∷ []) []) (takes-not (in_ranges rs) (next_character hay i) quiet.1))
         ∙ ap (λ (ts : List Thread). walking ts rest (t.state ∷ seen) (suc looks)) (append-nil next);
     stack = refl;
   }
@@ -140,7 +137,7 @@ module _ (hay : List ℕ) (longest : Bool) (i : ℕ) (p : Program) (x : StartPre
         walk = step_done hay longest p i w (ap (λ (v : Walking). v.stack) walk) ∙ walk;
         stack = stack;
       })
-      by_threads (t ∷ rest) walk stack = ⊎_elim seen_before new (bool_cases (list_any (λ q. q == t.state) b.seen))
+      by_threads (t ∷ rest) walk stack = ⊎_elim seen_before new (cases_Bool (list_any (λ q. q == t.state) b.seen))
         where
           at_top : b ≡ blind (t.state ∷ numbers rest) b.seen b.looks
           at_top = ap (λ (l : List ℕ). blind l b.seen b.looks) stack
@@ -177,8 +174,8 @@ module _ (hay : List ℕ) (longest : Bool) (i : ℕ) (p : Program) (x : StartPre
       (one_look base w b (λ q h. quiet q (seen_kept p.states n (blind_step p.states b) q h)) s)
 
   -- the walk from the start
-  pub walks_prefix : (q : ℕ) → IsPrefix p.states q x → (t : Thread) → t.state ≡ q → (base : ℕ) → WalksTo hay longest p i (idle (t ∷ []) [] base) (idle [] x.visited.value (base + x.looks.value))
-  walks_prefix q prefix t is base =
+  pub walks_prefix : TakesNone x (next_character hay i) → (q : ℕ) → IsPrefix p.states q x → (t : Thread) → t.state ≡ q → (base : ℕ) → WalksTo hay longest p i (idle (t ∷ []) [] base) (idle [] x.visited.value (base + x.looks.value))
+  walks_prefix out q prefix t is base =
       let none : base ≡ base + 0 = omega arith in
       let all = iterate (blind_step p.states) x.looks.value (blind (q ∷ []) [] 0) in
       let same : blind_from p.states q x.looks.value ≡ all = from_is p.states q x.looks.value in
@@ -187,7 +184,7 @@ module _ (hay : List ℕ) (longest : Bool) (i : ℕ) (p : Program) (x : StartPre
       let stack : all.stack ≡ [] = ap (λ (b : Blind). b.stack) (sym same) ∙ prefix.stack in
       let first : Shadows base (idle (t ∷ []) [] base) (blind (q ∷ []) [] 0) = record { threads = t ∷ []; walk = ap (idle (t ∷ []) []) none; stack = ap (λ n. n ∷ []) (sym is) } in
       let last = all_looks base x.looks.value (idle (t ∷ []) [] base) (blind (q ∷ []) [] 0)
-      (λ r h. let mine = subst (λ (l : List ℕ). Among l r) seen h in (prefix.idle.stay r mine, λ c. prefix.idle.take r c mine)) first in (
+      (λ r h. let mine = subst (λ (l : List ℕ). Among l r) seen h in (prefix.idle.stay r mine, takes-none x.ascii x.others (takes (state_at p.states r)) (λ c. prefix.idle.take r c mine) (next_character hay i) out)) first in (
         x.looks.value,
         last.walk ∙ ap₂ (λ (ts : List Thread) (l : List ℕ). idle ts l (base + all.looks)) (no_numbers last.threads (sym last.stack ∙ stack)) seen
             ∙ ap (λ n. idle [] x.visited.value (base + n)) looks,

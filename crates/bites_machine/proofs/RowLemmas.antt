@@ -1,19 +1,19 @@
--- Rows of cells, and what is noted and written in them.
+-- Rows of slots, and what is pending and written in them.
 use Rattle.std.proofs.Common.{◌≡◌, ℕ, zero, suc, ◌+◌, ◌*◌, ◌<◌, ◌≤◌, List, [], ◌∷◌, ◌++◌, take, drop, length, Option, Some, refl, sym, ap, ap₂, ◌∙◌, arith, append_assoc, length-drop}
 use Rattle.std.specs.Prelude.{slice_set, slice_index_or}
 use Rattle.std.proofs.lemmas.List.{drop-drop, drop_at, drop_all, take_at, take_all, length-take-le, length-set, append-nil}
 use Rattle.std.proofs.Math.Nat.{mul-le-mul_left, mul-le-mul_right}
-use Rattle.bites_machine.specs.Rows.{rows_of, with_notes}
+use Rattle.bites_machine.specs.SlotTable.{rows_of, with_pending}
 
--- one note more, behind the others
-pub with_notes-push : (place : ℕ) (ks : List ℕ) (k : ℕ) (slots : List (Option ℕ)) →
-    with_notes place (ks ++ k ∷ []) slots ≡ slice_set (with_notes place ks slots) k (Some place)
-with_notes-push place [] k slots = refl
-with_notes-push place (j ∷ ks) k slots = with_notes-push place ks k (slice_set slots j (Some place))
+-- one pending slot more, behind the others
+pub with_pending-push : (place : ℕ) (ks : List ℕ) (k : ℕ) (slots : List (Option ℕ)) →
+    with_pending place (ks ++ k ∷ []) slots ≡ slice_set (with_pending place ks slots) k (Some place)
+with_pending-push place [] k slots = refl
+with_pending-push place (j ∷ ks) k slots = with_pending-push place ks k (slice_set slots j (Some place))
 
-pub length-with_notes : (place : ℕ) (ks : List ℕ) (slots : List (Option ℕ)) → length (with_notes place ks slots) ≡ length slots
-length-with_notes place [] slots = refl
-length-with_notes place (k ∷ ks) slots = length-with_notes place ks (slice_set slots k (Some place)) ∙ length-set slots k (Some place)
+pub length-with_pending : (place : ℕ) (ks : List ℕ) (slots : List (Option ℕ)) → length (with_pending place ks slots) ≡ length slots
+length-with_pending place [] slots = refl
+length-with_pending place (k ∷ ks) slots = length-with_pending place ks (slice_set slots k (Some place)) ∙ length-set slots k (Some place)
 
 pub length-rows_of : (w n : ℕ) (cells : List (Option ℕ)) → length (rows_of w n cells) ≡ n
 length-rows_of w zero cells = refl
@@ -22,7 +22,7 @@ length-rows_of w (suc n) cells = ap suc (length-rows_of w n (drop w cells))
 row_step : (w r : ℕ) → suc r * w ≡ w + r * w
 row_step w r = omega (arith)
 
--- a row is a part of the cells
+-- a row is a part of the slots
 pub row_at : (w n r : ℕ) (cells : List (Option ℕ)) → r < n → slice_index_or (rows_of w n cells) r [] ≡ take w (drop (r * w) cells)
 row_at w zero r cells lt = absurd (omega arith)
 row_at w (suc n) zero cells lt = ap (λ k. take w (drop k cells)) (zero_row w)
@@ -70,11 +70,11 @@ row_written w (suc n) (suc r) cells row lt room len =
         pair : (m k : ℕ) → suc m + k ≡ suc (m + k)
         pair m k = omega arith
 
--- the cells of a row are there
-pub row_fits : (w most n r : ℕ) → r < n → w ≤ most → r * w + w ≤ n * most
-row_fits w most n r lt le =
+-- the slots of a row are there
+pub row_fits : (w max_slots n r : ℕ) → r < n → w ≤ max_slots → r * w + w ≤ n * max_slots
+row_fits w max_slots n r lt le =
     let below : suc r ≤ n = omega arith in
-    omega (arith, row_step w r, mul-le-mul_left (suc r) le, mul-le-mul_right most below)
+    omega (arith, row_step w r, mul-le-mul_left (suc r) le, mul-le-mul_right max_slots below)
 
 -- two rows do not meet
 pub rows_apart : (w r s : ℕ) → r < s → r * w + w ≤ s * w
@@ -84,32 +84,32 @@ rows_apart w r s lt = row_fits w w s r lt (omega arith)
 pub whole_again : (n : ℕ) (xs ys : List ℕ) → length xs ≡ length ys → n ≡ length ys → take n (xs ++ drop (length xs) ys) ≡ xs
 whole_again n xs ys len is = take_at xs (drop (length xs) ys) n (omega (arith, len, is))
 
-module _ (w limit taken row place : ℕ) (ks : List ℕ) (cells : List (Option ℕ)) (known : row < taken) (len : length cells ≡ taken * w) where
+module _ (w row_count taken row place : ℕ) (ks : List ℕ) (cells : List (Option ℕ)) (known : row < taken) (len : length cells ≡ taken * w) where
   -- the row, with the place in some slots
   abbrev pub copy : List (Option ℕ)
-  copy = with_notes place ks (take w (drop (row * w) cells))
+  copy = with_pending place ks (take w (drop (row * w) cells))
 
-  length-copy : length (with_notes place ks (take w (drop (row * w) cells))) ≡ w
+  length-copy : length (with_pending place ks (take w (drop (row * w) cells))) ≡ w
   length-copy =
       let fits : row * w + w ≤ taken * w = row_fits w w taken row known (omega arith) in
-      length-with_notes place ks (take w (drop (row * w) cells)) ∙ length-take-le w (drop (row * w) cells) (omega (arith, length-drop (row * w) cells, fits, len))
+      length-with_pending place ks (take w (drop (row * w) cells)) ∙ length-take-le w (drop (row * w) cells) (omega (arith, length-drop (row * w) cells, fits, len))
 
   -- a row that was taken is the copy of another
-  pub row_copied : (fresh : ℕ) → fresh < taken → taken ≤ limit →
-      rows_of w limit (take (fresh * w) cells ++ (copy ++ drop (fresh * w + w) cells))
-      ≡ slice_set (rows_of w limit cells) fresh (with_notes place ks (slice_index_or (rows_of w limit cells) row []))
+  pub row_copied : (fresh : ℕ) → fresh < taken → taken ≤ row_count →
+      rows_of w row_count (take (fresh * w) cells ++ (copy ++ drop (fresh * w + w) cells))
+      ≡ slice_set (rows_of w row_count cells) fresh (with_pending place ks (slice_index_or (rows_of w row_count cells) row []))
   row_copied fresh new few =
       let fits : fresh * w + w ≤ taken * w = row_fits w w taken fresh new (omega arith) in
-      row_written w limit fresh cells copy (omega arith) (omega (arith, fits, len)) length-copy
-      ∙ ap (λ r. slice_set (rows_of w limit cells) fresh (with_notes place ks r)) (sym (row_at w limit row cells (omega arith)))
+      row_written w row_count fresh cells copy (omega arith) (omega (arith, fits, len)) length-copy
+      ∙ ap (λ r. slice_set (rows_of w row_count cells) fresh (with_pending place ks r)) (sym (row_at w row_count row cells (omega arith)))
 
   -- a row that is put behind those that were taken is the copy of another
-  pub row_pushed : taken < limit →
-      rows_of w limit (cells ++ copy) ≡ slice_set (rows_of w limit cells) taken (with_notes place ks (slice_index_or (rows_of w limit cells) row []))
+  pub row_pushed : taken < row_count →
+      rows_of w row_count (cells ++ copy) ≡ slice_set (rows_of w row_count cells) taken (with_pending place ks (slice_index_or (rows_of w row_count cells) row []))
   row_pushed few =
       let behind : cells ++ copy ≡ take (taken * w) cells ++ (copy ++ drop (taken * w + w) cells) =
       ap₂ (λ x y. x ++ y) (sym (take_all (taken * w) cells (omega (arith, len))))
       (sym (append-nil copy) ∙ ap (λ y. copy ++ y) (sym (drop_all (taken * w + w) cells (omega (arith, len))))) in
-      ap (rows_of w limit) behind
-      ∙ row_written w limit taken cells copy few (omega (arith, len)) length-copy
-      ∙ ap (λ r. slice_set (rows_of w limit cells) taken (with_notes place ks r)) (sym (row_at w limit row cells (omega arith)))
+      ap (rows_of w row_count) behind
+      ∙ row_written w row_count taken cells copy few (omega (arith, len)) length-copy
+      ∙ ap (λ r. slice_set (rows_of w row_count cells) taken (with_pending place ks r)) (sym (row_at w row_count row cells (omega arith)))

@@ -1,19 +1,16 @@
 -- Until a walk has a match, each state that a visited one leads to without taking anything was visited or waits.
-use Rattle.std.proofs.Common.{◌≡◌, ℕ, Bool, true, false, ◌||◌, List, [], ◌∷◌, ◌++◌, map, Option, Some, None, refl, sym, ap, ◌∙◌, subst, inl, inr, ⊎_elim, ◌⊎◌, arith, true≢false, eqb-true}
+use Rattle.std.proofs.Common.{◌≡◌, ℕ, Bool, true, false, ◌||◌, List, [], ◌∷◌, ◌++◌, map, Option, Some, None, sym, ap, ◌∙◌, subst, inl, inr, ⊎_elim, ◌⊎◌, arith, true≢false, eqb-true}
 use Rattle.std.specs.Prelude.{◌==◌}
 use Rattle.std.specs.List.{list_any}
 use Rattle.std.specs.Option.{option_or}
+use Rattle.std.proofs.lemmas.Bool.{cases_Bool}
 use Rattle.bites_spec.specs.Walks.{Among}
-use Rattle.bites_spec.specs.Program.{Program, Spot, State, at, state_at, edges, targets_of, char, ranges, splits, goto, capture, fail, match}
-use Rattle.bites_spec.proofs.ListedLemmas.{Among-under}
+use Rattle.bites_spec.specs.Program.{Program, Configuration, State, at, state_at, edges, targets_of, char, ranges, splits, goto, capture, fail, match}
+use Rattle.bites_spec.proofs.programs.ListedLemmas.{Among-under}
 use Rattle.bites_machine.specs.Machine.{Thread, Walking, WalksTo, moved, thread_on, with_write}
 use Rattle.bites_machine.specs.Prefix.{blind_targets}
 use Rattle.bites_machine.proofs.MachineCases.{Keeps, walk_keeps}
 use Rattle.bites_machine.proofs.PrefixWalks.{numbers}
-
-bool_cases : (b : Bool) → (b ≡ true) ⊎ (b ≡ false)
-bool_cases true = inl refl
-bool_cases false = inr refl
 
 never : (o : Option Thread) (t : Thread) → option_or o (Some t) ≡ None → ⊥
 never None t e = cc
@@ -25,7 +22,7 @@ was_among [] q e = absurd (true≢false (sym e))
 was_among (x ∷ seen) q e =
     ⊎_elim (λ (h : (x == q) ≡ true). inl (eqb-true x q h))
     (λ (h : (x == q) ≡ false). inr (was_among seen q (ap (λ b. b || list_any (λ y. y == q) seen) (sym h) ∙ e)))
-    (bool_cases (x == q))
+    (cases_Bool (x == q))
 
 among_numbers : (ts us : List Thread) (r : ℕ) → Among (numbers us) r → Among (numbers (ts ++ us)) r
 among_numbers [] us r h = h
@@ -43,12 +40,12 @@ module _ (hay : List ℕ) (longest : Bool) (i : ℕ) (p : Program) where
   blind_edge fail r h = absurd h
   blind_edge match r h = absurd h
 
-  edge_waits : (start : ℕ) (slots : List (Option ℕ)) (vs : List Spot) (rest : List Thread) (r : ℕ) → Among vs (at r i) → Among (numbers (map (thread_on start slots) vs ++ rest)) r
+  edge_waits : (start : ℕ) (slots : List (Option ℕ)) (vs : List Configuration) (rest : List Thread) (r : ℕ) → Among vs (at r i) → Among (numbers (map (thread_on start slots) vs ++ rest)) r
   edge_waits start slots [] rest r h = absurd h
-  edge_waits start slots (v ∷ vs) rest r h = ⊎_elim (λ (e : v ≡ at r i). inl (ap (λ (s : Spot). s.state) e)) (λ l. inr (edge_waits start slots vs rest r l)) h
+  edge_waits start slots (v ∷ vs) rest r h = ⊎_elim (λ (e : v ≡ at r i). inl (ap (λ (s : Configuration). s.state) e)) (λ l. inr (edge_waits start slots vs rest r l)) h
 
   abbrev pub IsShut : Walking → Type 0
-  IsShut w = w.hit ≡ None → (q r : ℕ) → Among w.seen q → Among (blind_targets (state_at p.states q)) r → Among w.seen r ⊎ Among (numbers w.stack) r
+  IsShut w = w.first_match ≡ None → (q r : ℕ) → Among w.seen q → Among (blind_targets (state_at p.states q)) r → Among w.seen r ⊎ Among (numbers w.stack) r
 
   -- what waited below the first thread still waits
   below : (t : Thread) (rest : List Thread) (w : Walking) (r : ℕ) → w.stack ≡ t ∷ rest → Among w.seen r ⊎ Among (numbers w.stack) r → Among (t.state ∷ w.seen) r ⊎ Among (numbers rest) r
@@ -63,7 +60,7 @@ module _ (hay : List ℕ) (longest : Bool) (i : ℕ) (p : Program) where
         (λ a. ⊎_elim (λ (e : t.state ≡ r). inl (subst (Among w.seen) e (was_among w.seen t.state was))) (λ l. inl l) a)
         (λ b. inr b)
         (below t rest w r is (now none q r hq hr));
-    on_match = λ t rest w is new found now none. absurd (never w.hit t none);
+    on_match = λ t rest w is new found now none. absurd (never w.first_match t none);
     on_taken = λ t rest w is new none over now no_hit q r hq hr.
         ⊎_elim
         (λ (e : t.state ≡ q).

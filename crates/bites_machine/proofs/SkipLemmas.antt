@@ -1,9 +1,9 @@
--- Places where a walk from the start visits the start prefix alone.
+-- Places where the closure of the start visits the start prefix alone.
 use Rattle.std.proofs.Common.{◌≡◌, ℕ, zero, suc, ◌+◌, ◌<◌, ◌≤◌, Bool, true, false, cond, ◌||◌, List, [], ◌∷◌, ◌++◌, map, length, Option, Some, None, refl, sym, ap, ap₂, ◌∙◌, subst, ⊎_elim, arith, ne_eqb}
 use Rattle.std.specs.Prelude.{is_some, if◌then◌else◌, nat_lt}
 use Rattle.bites_spec.specs.Utf8.{piece, character}
 use Rattle.bites_spec.specs.Walks.{Among}
-use Rattle.bites_spec.specs.Program.{Program, Spot, State, at}
+use Rattle.bites_spec.specs.Program.{Program, Configuration, State, at}
 use Rattle.bites_spec.specs.Counts.{Record}
 use Rattle.bites_machine.specs.Ends.{next_character}
 use Rattle.bites_machine.specs.Machine as machine
@@ -11,37 +11,37 @@ use Rattle.bites_machine.specs.Machine.{Walking, Searching, WalksTo, Searches, s
 use Rattle.bites_machine.specs.Prefix.{in_set, IsPrefix, TakesNone, IsApart}
 use Rattle.bites_machine.specs.Skipped.{visited_at, skipped_within, skipped}
 use Rattle.bites_machine.specs.Threads.{Listed}
-use Rattle.bites_machine.specs.Sweep.{PlaceSearched, StandsFor, Passes, IsBetween}
+use Rattle.bites_machine.specs.Sweep.{PlaceSearched, StandsFor, Passes, InvariantBetweenSteps}
 use Rattle.bites_machine.specs.declared.prefix.StartPrefix.{StartPrefix}
-use Rattle.bites_machine.specs.declared.vm.walk.Desk.{Desk}
-use Rattle.bites_machine.specs.declared.vm.walk.Hit.{Hit}
+use Rattle.bites_machine.specs.declared.vm.closure.Scratch.{Scratch}
+use Rattle.bites_machine.specs.declared.vm.closure.FirstMatch.{FirstMatch}
 use Rattle.std.proofs.lemmas.Bool.Decides.{nat_tests}
-use Rattle.bites_spec.proofs.PieceLemmas.{piece_some, piece_within}
-use Rattle.bites_machine.proofs.PlaceSteps.{has_searched, gone_next}
+use Rattle.bites_spec.proofs.utf8.PieceLemmas.{piece_some, piece_within}
+use Rattle.bites_machine.proofs.PlaceSteps.{has_searched, reached_next}
 use Rattle.bites_machine.proofs.PrefixWalks.{idle, walks_prefix}
 
 no_start : (q : ℕ) → Some q ≡ None → ⊥
 no_start q e = cc
 
 -- what was visited is before the next place
-pub visited_behind : (place later : ℕ) (qs : List ℕ) (vs : List Spot) → place < later → ((v : Spot) → Among vs v → v.place < place) →
-    (v : Spot) → Among (map (λ q. at q place) qs ++ vs) v → v.place < later
+pub visited_behind : (place later : ℕ) (qs : List ℕ) (vs : List Configuration) → place < later → ((v : Configuration) → Among vs v → v.place < place) →
+    (v : Configuration) → Among (map (λ q. at q place) qs ++ vs) v → v.place < later
 visited_behind place later [] vs lt before v h = omega (arith, before v h)
 visited_behind place later (q ∷ qs) vs lt before v h =
-    ⊎_elim (λ (e : at q place ≡ v). omega (arith, ap (λ (u : Spot). u.place) e)) (λ l. visited_behind place later qs vs lt before v l) h
+    ⊎_elim (λ (e : at q place ≡ v). omega (arith, ap (λ (u : Configuration). u.place) e)) (λ l. visited_behind place later qs vs lt before v l) h
 
 module _ (hay : List ℕ) (longest : Bool) (place : ℕ) (states : List State) (q : ℕ) (x : StartPrefix) (prefix : IsPrefix states q x) (out : TakesNone x (next_character hay place)) (apart : IsApart x place) where
   -- the machine on lists skips the place
-  place_skipped : (len : ℕ) (was now : Record) (desk : Desk) (slots : List (Option ℕ)) → len ≡ (piece hay place).len → desk.hit ≡ None →
+  place_skipped : (len : ℕ) (was now : Record) (scratch : Scratch) (slots : List (Option ℕ)) → len ≡ (piece hay place).len → scratch.first_match ≡ None →
       now.visits ≡ map (λ r. at r place) x.visited.value ++ was.visits → now.looks ≡ was.looks + x.looks.value →
-      PlaceSearched hay longest place len states (Some q) was now desk desk [] [] slots slots
-  place_skipped len was now desk slots lens hit visits looks = record {
+      PlaceSearched hay longest place len states (Some q) was now scratch scratch [] [] slots slots
+  place_skipped len was now scratch slots lens first_match visits looks = record {
     searches = λ p is s first found begins stands. by_found p is s first found begins stands;
   }
     where
       by_found : (p : Program) → p.states ≡ states → (s : Searching) (first : List (Option ℕ)) (found : Bool) → Some q ≡ (if found then None else Some p.start) →
-          StandsFor s place desk.rows [] was first slots found →
-          (t : Searching) × Searches hay longest p (length slots) s t × StandsFor t (place + len) desk.rows [] now first slots (found || is_some desk.hit)
+          StandsFor s place scratch.rows [] was first slots found →
+          (t : Searching) × Searches hay longest p (length slots) s t × StandsFor t (place + len) scratch.rows [] now first slots (found || is_some scratch.first_match)
       by_found p is s first true begins stands = absurd (no_start q begins)
       by_found p is s first false begins stands =
           let start : q ≡ p.start = cc in
@@ -49,8 +49,8 @@ module _ (hay : List ℕ) (longest : Bool) (place : ℕ) (states : List State) (
           let t = started hay longest p (length slots) s.place in
           let over = idle [] x.visited.value (s.looks + x.looks.value) in
           let begun_is : begun hay longest p (length slots) s ≡ idle (t ∷ []) [] s.looks =
-          ap₂ (λ (ts : List machine.Thread) (b : Bool). record { stack = ts ++ cond b [] (t ∷ []); seen = []; next = []; hit = None; looks = s.looks }) stands.threads stands.found in
-          let walk : WalksTo hay longest p place (idle (t ∷ []) [] s.looks) over = walks_prefix hay longest place p x out apart q mine t (sym start) s.looks in (
+          ap₂ (λ (ts : List machine.Thread) (b : Bool). record { stack = ts ++ cond b [] (t ∷ []); seen = []; next = []; first_match = None; looks = s.looks }) stands.threads stands.found in
+          let walk : WalksTo hay longest p place (idle (t ∷ []) [] s.looks) over = walks_prefix hay longest place p x apart out q mine t (sym start) s.looks in (
             after hay longest p (length slots) s over,
             record {
               last = over;
@@ -61,15 +61,15 @@ module _ (hay : List ℕ) (longest : Bool) (place : ℕ) (states : List State) (
             record {
               place = ap (λ j. j + (piece hay j).len) stands.place ∙ ap (λ m. place + m) (sym lens);
               threads = refl;
-              found = stands.found ∙ sym (ap (λ (h : Option Hit). is_some h) hit);
+              found = stands.found ∙ sym (ap (λ (h : Option FirstMatch). is_some h) first_match);
               slots = stands.slots;
-              visits = ap₂ (λ j (vs : List Spot). map (λ r. at r j) x.visited.value ++ vs) stands.place stands.visits ∙ sym visits;
+              visits = ap₂ (λ j (vs : List Configuration). map (λ r. at r j) x.visited.value ++ vs) stands.place stands.visits ∙ sym visits;
               looks = omega (arith, stands.looks, looks);
             },
           )
 
--- no spot of this place was visited before it
-pub fresh_behind : (place q : ℕ) (vs : List Spot) → ((v : Spot) → Among vs v → v.place < place) → Among vs (at q place) → ⊥
+-- no configuration of this place was visited before it
+pub fresh_behind : (place q : ℕ) (vs : List Configuration) → ((v : Configuration) → Among vs v → v.place < place) → Among vs (at q place) → ⊥
 fresh_behind place q vs before h = let lt = before (at q place) h in absurd (omega arith)
 
 -- a character that stands at a place takes some bytes
@@ -82,7 +82,7 @@ some_taken hay place ch is = by_len (piece hay place).len is
 
 -- no place was skipped yet
 pub skips_first : (hay : List ℕ) (longest : Bool) (place : ℕ) (states : List State) (q : ℕ) (was : Record) → Passes hay longest place place states q was was
-skips_first hay longest place states q was = record { gone = λ p is earliest start first slots pool width gone. gone }
+skips_first hay longest place states q was = record { gone = λ p is earliest start first slots pool slots_per_row gone. gone }
 
 -- places were skipped, and this one is
 pub skips_on : (hay : List ℕ) (longest : Bool) (place here len : ℕ) (states : List State) (q : ℕ) (x : StartPrefix) (was mid now : Record) →
@@ -90,21 +90,21 @@ pub skips_on : (hay : List ℕ) (longest : Bool) (place here len : ℕ) (states 
     now.visits ≡ map (λ r. at r here) x.visited.value ++ mid.visits → now.looks ≡ mid.looks + x.looks.value →
     Passes hay longest place here states q was mid → Passes hay longest place (here + len) states q was now
 skips_on hay longest place here len states q x was mid now prefix out apart lens some visits looks passes = record {
-  gone = λ p is earliest start first slots pool width gone.
-      let desk : Desk = record { marks = []; stack = record { frames = []; room = 0 }; rows = pool; next = record { threads = []; room = 0 }; hit = None } in
-      let did = has_searched p hay longest earliest start first here here len q hay states (Some q) false false mid now desk desk [] [] slots slots
-      refl refl lens width is refl refl (passes.gone p is earliest start first slots pool width gone)
-      (place_skipped hay longest here states q x prefix out apart len mid now desk slots lens refl visits looks) in
-      gone_next p hay longest earliest start first here len false now pool [] slots 0 did lens refl (ap (λ (b : Bool). b || false) (ne_eqb len 0 (λ e. absurd (omega (arith, e)))));
+  gone = λ p is earliest start first slots pool slots_per_row gone.
+      let scratch : Scratch = record { visited_set = []; stack = record { frames = []; room = 0 }; rows = pool; next = record { threads = []; room = 0 }; first_match = None } in
+      let did = has_searched p hay longest earliest start first here here len q hay states (Some q) false false mid now scratch scratch [] [] slots slots
+      refl refl lens slots_per_row is refl refl (passes.gone p is earliest start first slots pool slots_per_row gone)
+      (place_skipped hay longest here states q x prefix out apart len mid now scratch slots lens refl visits looks) in
+      reached_next p hay longest earliest start first here len false now pool [] slots 0 did lens refl (ap (λ (b : Bool). b || false) (ne_eqb len 0 (λ e. absurd (omega (arith, e)))));
 }
 
 -- what holds between two places holds behind the skipped ones too
-pub between_skipped : (states : List State) (place later : ℕ) (was now : Record) (desk : Desk) (list : Listed) (width : ℕ) → ((v : Spot) → Among now.visits v → v.place < later) →
-    IsBetween states place was desk list width → IsBetween states later now desk list width
-between_skipped states place later was now desk list width before b = record {
-  marks = b.marks;
+pub between_skipped : (states : List State) (place later : ℕ) (was now : Record) (scratch : Scratch) (list : Listed) (slots_per_row : ℕ) → ((v : Configuration) → Among now.visits v → v.place < later) →
+    InvariantBetweenSteps states place was scratch list slots_per_row → InvariantBetweenSteps states later now scratch list slots_per_row
+between_skipped states place later was now scratch list slots_per_row before b = record {
+  visited_set = b.visited_set;
   visits = before;
-  noted = b.noted;
+  pending_len = b.pending_len;
   stack = b.stack;
   empty = b.empty;
   more = b.more;
@@ -124,12 +124,12 @@ idle_always x none (Some c) = none c
 -- The places from one on and before the end were skipped, which the record says.
 pub record SkipsAll (hay : List ℕ) (longest : Bool) (place : ℕ) (states : List State) (q : ℕ) (was now : Record) : Type 0 where
   pub passes : Passes hay longest place (length hay) states q was now
-  pub before : (v : Spot) → Among now.visits v → v.place < length hay
+  pub before : (v : Configuration) → Among now.visits v → v.place < length hay
 
 -- some of them were skipped, and so are the others
 skips_within : (hay : List ℕ) (longest : Bool) (place : ℕ) (states : List State) (q : ℕ) (x : StartPrefix) (was : Record) → IsPrefix states q x →
     ((c : ℕ) → in_set x.ascii x.others c ≡ false) → IsApart x place → (n here : ℕ) (mid : Record) → place ≤ here → here ≤ length hay → length hay ≤ here + n →
-    ((v : Spot) → Among mid.visits v → v.place < here) → Passes hay longest place here states q was mid →
+    ((v : Configuration) → Among mid.visits v → v.place < here) → Passes hay longest place here states q was mid →
     SkipsAll hay longest place states q was (skipped_within hay x.visited.value x.looks.value n here mid)
 unfolding skipped_within
 skips_within hay longest place states q x was prefix none apart zero here mid from to fuel before passes =
@@ -161,7 +161,7 @@ skips_within hay longest place states q x was prefix none apart (suc n) here mid
 
 -- where no character is taken all places up to the end are skipped
 pub skips_all : (hay : List ℕ) (longest : Bool) (place : ℕ) (states : List State) (q : ℕ) (x : StartPrefix) (was : Record) → IsPrefix states q x →
-    ((c : ℕ) → in_set x.ascii x.others c ≡ false) → IsApart x place → place ≤ length hay → ((v : Spot) → Among was.visits v → v.place < place) →
+    ((c : ℕ) → in_set x.ascii x.others c ≡ false) → IsApart x place → place ≤ length hay → ((v : Configuration) → Among was.visits v → v.place < place) →
     SkipsAll hay longest place states q was (skipped hay x.visited.value x.looks.value place was)
 skips_all hay longest place states q x was prefix none apart to before =
     skips_within hay longest place states q x was prefix none apart (length hay) place was (omega arith) to (omega arith) before (skips_first hay longest place states q was)

@@ -5,7 +5,7 @@ use Rattle.bites_text.specs.declared.error.Error.{Error}
 use Rattle.bites_spec.specs.Contents.{Contents}
 use Rattle.bites_spec.specs.Program.{Program, IsWellFormed}
 use Rattle.bites_spec.specs.ProgramFaults.{ProgramFault, first_fault}
-use Rattle.bites_spec.proofs.FaultLemmas.{first_fault-IsWellFormed}
+use Rattle.bites_spec.proofs.runs.FaultLemmas.{first_fault-IsWellFormed}
 
 none_is : (o : Option ProgramFault) → IsTrue (is_none o) → o ≡ None
 none_is None h = refl

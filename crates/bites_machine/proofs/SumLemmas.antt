@@ -4,8 +4,8 @@ use Rattle.std.specs.Prelude.{reverse, sum_by, flat_map}
 use Rattle.std.proofs.lemmas.List.Sums.{sum_by-cons, sum_by-append, sum_by_push}
 use mathlib.Core.List.{reverse-cons}
 use Rattle.bites_spec.specs.Walks.{Among, IsNew, AllApart}
-use Rattle.bites_spec.specs.Program.{State, Spot, at, state_at}
-use Rattle.bites_spec.proofs.SlotLemmas.{Among-left, Among-right}
+use Rattle.bites_spec.specs.Program.{State, Configuration, at, state_at}
+use Rattle.bites_spec.proofs.programs.SlotLemmas.{Among-left, Among-right}
 use Rattle.bites_machine.proofs.EdgeLemmas.{Among-apart}
 
 -- the order of a list does not matter to what is among it
@@ -76,12 +76,12 @@ apart_sum {A} f (x ∷ xs) ys apart within =
     omega (arith, sum_by-cons f x xs, w.sum, rest)
 
 -- the states at a place, the first of them with this number
-abbrev pub row : List State → ℕ → ℕ → List Spot
+abbrev pub row : List State → ℕ → ℕ → List Configuration
 row [] q i = []
 row (s ∷ ss) q i = at q i ∷ row ss (suc q) i
 
 -- the states at each of the places
-abbrev pub rows : List State → List ℕ → List Spot
+abbrev pub rows : List State → List ℕ → List Configuration
 rows ss ps = flat_map (row ss 0) ps
 
 Among-row : (ss : List State) (q k i : ℕ) → k < length ss → Among (row ss q i) (at (q + k) i)
@@ -97,7 +97,7 @@ Among-row (s ∷ ss) q (suc k) i lt =
     next q k = omega arith
 
 -- each state stands at each place
-pub Among-rows : (ss : List State) (ps : List ℕ) (t : Spot) → t.state < length ss → Among ps t.place → Among (rows ss ps) t
+pub Among-rows : (ss : List State) (ps : List ℕ) (t : Configuration) → t.state < length ss → Among ps t.place → Among (rows ss ps) t
 Among-rows ss [] t lt h = absurd h
 Among-rows ss (i ∷ ps) t lt h =
     ⊎_elim
@@ -109,8 +109,8 @@ Among-rows ss (i ∷ ps) t lt h =
     from_zero : (n : ℕ) → 0 + n ≡ n
     from_zero n = omega arith
 
--- where each spot weighs at most what its state does, a row weighs at most what the states do
-module _ (f : Spot → ℕ) (w : State → ℕ) where
+-- where each configuration weighs at most what its state does, a row weighs at most what the states do
+module _ (f : Configuration → ℕ) (w : State → ℕ) where
   sum_of_row : (ss : List State) (q i : ℕ) → ((k : ℕ) → f (at (q + k) i) ≤ w (state_at ss k)) → sum_by f (row ss q i) ≤ sum_by w ss
   sum_of_row [] q i le = omega arith
   sum_of_row (s ∷ ss) q i le =
@@ -136,9 +136,9 @@ module _ (f : Spot → ℕ) (w : State → ℕ) where
       times_suc : (m n : ℕ) → m * suc n ≡ m + m * n
       times_suc m n = grind arith
 
-  -- spots apart of these states at these places weigh at most as much as the states, once for each place
-  pub sum_of_spots : (ss : List State) (ps : List ℕ) (ts : List Spot) → ((q i : ℕ) → f (at q i) ≤ w (state_at ss q)) →
-      AllApart ts → ((t : Spot) → Among ts t → (t.state < length ss) × Among ps t.place) → sum_by f ts ≤ sum_by w ss * length ps
-  sum_of_spots ss ps ts le apart within =
+  -- configurations apart of these states at these places weigh at most as much as the states, once for each place
+  pub sum_of_configurations : (ss : List State) (ps : List ℕ) (ts : List Configuration) → ((q i : ℕ) → f (at q i) ≤ w (state_at ss q)) →
+      AllApart ts → ((t : Configuration) → Among ts t → (t.state < length ss) × Among ps t.place) → sum_by f ts ≤ sum_by w ss * length ps
+  sum_of_configurations ss ps ts le apart within =
       let fits = apart_sum f ts (rows ss ps) apart (λ t h. Among-rows ss ps t (within t h).0 (within t h).1) in
       omega (arith, fits, sum_of_rows ss ps le)

@@ -1,19 +1,16 @@
 -- The places from one on, and runs, which never go back.
-use Rattle.std.proofs.Common.{◌≡◌, ℕ, zero, suc, ◌+◌, ◌<◌, ◌≤◌, Bool, true, false, cond, List, [], ◌∷◌, length, le_of_eq, refl, sym, ap, ◌∙◌, inl, inr, ⊎_elim, ◌⊎◌, arith, leb-true, le-leb}
+use Rattle.std.proofs.Common.{◌≡◌, ℕ, zero, suc, ◌+◌, ◌<◌, ◌≤◌, true, false, cond, List, [], ◌∷◌, length, le_of_eq, refl, sym, ap, ◌∙◌, ⊎_elim, ◌⊎◌, arith, leb-true, le-leb}
 use Rattle.std.specs.Prelude.{nat_le}
+use Rattle.std.proofs.lemmas.Bool.{cases_Bool}
 use Rattle.bites_spec.specs.Utf8.{piece, places, places_within, step_len}
-use Rattle.bites_spec.specs.Program.{Program, Spot, state_at}
+use Rattle.bites_spec.specs.Program.{Program, Configuration, state_at}
 use Rattle.bites_spec.specs.Run.{Runs}
 use Rattle.bites_machine.proofs.EdgeLemmas.{edges_apart}
-
-bool_cases : (b : Bool) → (b ≡ true) ⊎ (b ≡ false)
-bool_cases true = inl refl
-bool_cases false = inr refl
 
 past_end : (hay : List ℕ) (s : ℕ) → length hay < s → nat_le s (length hay) ≡ false
 past_end hay s lt =
     ⊎_elim (λ (e : nat_le s (length hay) ≡ true). let le = leb-true s (length hay) e in absurd (omega arith))
-    (λ (e : nat_le s (length hay) ≡ false). e) (bool_cases (nat_le s (length hay)))
+    (λ (e : nat_le s (length hay) ≡ false). e) (cases_Bool (nat_le s (length hay)))
 
 -- fuel beyond the end of the haystack adds no place
 places_enough : (n m : ℕ) (hay : List ℕ) (s : ℕ) → length hay < n + s → length hay < m + s → places_within n hay s ≡ places_within m hay s
@@ -38,7 +35,7 @@ unfolding places
 places-past hay s lt = ap (λ c. cond c (s ∷ places_within (length hay) hay (s + step_len hay s)) []) (past_end hay s lt)
 
 -- a run never goes back
-pub Runs-forward : (p : Program) (hay : List ℕ) (s : Spot) (r : List Spot) (j : ℕ) → Runs p hay s r j → s.place ≤ j
+pub Runs-forward : (p : Program) (hay : List ℕ) (s : Configuration) (r : List Configuration) (j : ℕ) → Runs p hay s r j → s.place ≤ j
 Runs-forward p hay s [] j runs = le_of_eq runs.1
 Runs-forward p hay s (t ∷ r) j runs =
     let rest = Runs-forward p hay t r j runs.1 in

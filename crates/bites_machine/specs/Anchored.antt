@@ -5,15 +5,15 @@ use Rattle.bites_spec.specs.Program as program
 use Rattle.bites_spec.specs.Program.{Program}
 use Rattle.bites_spec.specs.Counts.{Record}
 use Rattle.bites_machine.specs.Machine.{Walking, Searching, WalksTo, started, after, is_empty}
-use Rattle.bites_machine.specs.Rows.{Pool}
+use Rattle.bites_machine.specs.SlotTable.{Pool}
 use Rattle.bites_machine.specs.Sweep.{StandsFor, left_in}
 use Rattle.bites_machine.specs.declared.vm.threads.Thread.{Thread}
-use Rattle.bites_machine.specs.declared.vm.walk.Desk.{Desk}
+use Rattle.bites_machine.specs.declared.vm.closure.Scratch.{Scratch}
 
 module _ (hay : List ℕ) (longest : Bool) (p : Program) (width : ℕ) where
   -- a walk begins with the threads that are there
   abbrev pub resumed : Searching → Walking
-  resumed s = record { stack = s.threads; seen = []; next = []; hit = None; looks = s.looks }
+  resumed s = record { stack = s.threads; seen = []; next = []; first_match = None; looks = s.looks }
 
   -- the threads of one place are walked
   pub record Steps (s t : Searching) : Type 0 where
@@ -45,10 +45,10 @@ module _ (hay : List ℕ) (longest : Bool) (p : Program) (width : ℕ) where
       pub last : Steps before t
       pub over : is_done before.place t ≡ true
 
--- The threads of a place were walked, and the machine on lists does so too.
-pub record ThreadsSearched (hay : List ℕ) (longest : Bool) (place len : ℕ) (states : List program.State) (was now : Record) (old new : Desk) (threads later : List Thread) (slots left : List (Option ℕ)) : Type 0 where
+-- The closures of the threads of a place were explored, and the machine on lists does so too.
+pub record ThreadsSearched (hay : List ℕ) (longest : Bool) (place len : ℕ) (states : List program.State) (was now : Record) (old new : Scratch) (threads later : List Thread) (slots left : List (Option ℕ)) : Type 0 where
   pub steps : (p : Program) → p.states ≡ states → (s : Searching) (first : List (Option ℕ)) (found : Bool) → StandsFor s place old.rows threads was first slots found →
-      (t : Searching) × Steps hay longest p (length slots) s t × StandsFor t (place + len) new.rows later now first left (found || is_some new.hit)
+      (t : Searching) × Steps hay longest p (length slots) s t × StandsFor t (place + len) new.rows later now first left (found || is_some new.first_match)
 
 module _ (p : Program) (hay : List ℕ) (longest earliest : Bool) (start : ℕ) (old : List (Option ℕ)) where
   -- the machine on lists has gone on to this place
@@ -69,7 +69,7 @@ module _ (p : Program) (hay : List ℕ) (longest earliest : Bool) (start : ℕ) 
     pub stands : StandsFor now (place + (piece hay place).len) pool threads walked old slots is_found
 
 -- The machine on lists searched from the start alone, and this is what it found and did.
-pub record SoughtFrom (p : Program) (hay : List ℕ) (longest earliest : Bool) (start : ℕ) (answer : Bool) (old new : List (Option ℕ)) (walked : Record) : Type 0 where
+pub record AnchoredResult (p : Program) (hay : List ℕ) (longest earliest : Bool) (start : ℕ) (answer : Bool) (old new : List (Option ℕ)) (walked : Record) : Type 0 where
   pub last : Searching
   pub stepped : Stepped hay longest p (length old) earliest start last
   pub found : is_some last.best ≡ answer

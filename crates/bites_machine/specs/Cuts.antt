@@ -1,8 +1,8 @@
 -- Which threads a match cuts off.
 use Rattle.std.specs.Prelude.{ℕ, Bool, false, not, ◌||◌, Option, None, Some, nat_lt}
-use Rattle.bites_machine.specs.declared.vm.walk.Hit.{Hit}
+use Rattle.bites_machine.specs.declared.vm.closure.FirstMatch.{FirstMatch}
 
 -- a match lets a thread of that start not go on
-abbrev pub cuts : Bool → ℕ → Option Hit → Bool
+abbrev pub cuts : Bool → ℕ → Option FirstMatch → Bool
 cuts longest start None = false
 cuts longest start (Some h) = not longest || nat_lt h.start start

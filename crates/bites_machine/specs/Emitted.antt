@@ -1,6 +1,6 @@
 -- How the states of a tree are written behind others, from the end of the tree backwards.
 use Rattle.std.specs.Prelude.{ℕ, zero, suc, ◌+◌, ◌-◌, ◌*◌, Bool, true, false, not, List, [], ◌∷◌, ◌++◌, length, slice_set, Option, Some, None}
-use Rattle.bites_spec.specs.Tree.{Tree, Trees, empty, char, class, look, repetition, group, sequence, alternation, no_tree, tree_and, is_empty_by_form}
+use Rattle.bites_spec.specs.Tree.{Tree, Trees, empty, char, class, look, repetition, group, sequence, alternation, no_tree, tree_and, is_nullable}
 use Rattle.bites_spec.specs.Program as program
 use Rattle.bites_spec.specs.Program.{State}
 
@@ -75,7 +75,7 @@ abbrev pub copies_up_to : ℕ → ℕ → Bool → Emitter → Emitter
 copies_up_to n zero greedy body to states = in_front (again n body) (body to states)
 copies_up_to n (suc more) greedy body to states = in_front (again (suc n) body) (bounded (suc more) greedy body to states)
 
--- min, most, whether more is preferred, and whether the body is empty by its form
+-- min, most, whether more is preferred, and whether the body is nullable
 abbrev pub repeated : ℕ → Option ℕ → Bool → Bool → Emitter → Emitter
 repeated zero None greedy true body to states = optional_loop greedy body to states
 repeated zero None greedy false body to states = star greedy body to states
@@ -121,7 +121,7 @@ unfoldable mutual
   emit (char c) to states = pushed states (program.char to c)
   emit (class rs) to states = pushed states (class_state rs to)
   emit (look l) to states = pushed states (program.goto to (Some l))
-  emit (repetition min most greedy t) to states = repeated min most greedy (is_empty_by_form t) (emit t) to states
+  emit (repetition min most greedy t) to states = repeated min most greedy (is_nullable t) (emit t) to states
   emit (group k name t) to states = grouped k (emit t) to states
   emit (sequence ts) to states = emit_all ts to states
   emit (alternation ts) to states = split (emit_each ts (length states) (states ++ program.goto to None ∷ []))

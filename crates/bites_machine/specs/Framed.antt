@@ -1,11 +1,11 @@
--- Frames of the states that a walk has still to look at.
+-- Frames of the states that are still to be explored.
 use Rattle.std.specs.Prelude.{ℕ, List, map}
 use Rattle.bites_machine.specs.declared.vm.stack.Frame.{Frame}
 
 -- a frame
 abbrev pub frame_at : ℕ → ℕ → Frame
-frame_at noted state = record { state = state; noted = noted }
+frame_at pending_len state = record { state = state; pending_len = pending_len }
 
--- a frame of each state, with so many notes
+-- a frame of each state, with so many pending slots
 abbrev pub framed : ℕ → List ℕ → List Frame
-framed noted states = map (frame_at noted) states
+framed pending_len states = map (frame_at pending_len) states

@@ -4,7 +4,7 @@ use Rattle.std.specs.Fn.{iterate}
 use Rattle.std.specs.List.{list_any, filter}
 use Rattle.std.specs.Option.{option_or}
 use Rattle.bites_spec.specs.Utf8.{piece}
-use Rattle.bites_spec.specs.Program.{State, Program, Spot, at, state_at, edges, char, ranges, capture, match}
+use Rattle.bites_spec.specs.Program.{State, Program, Configuration, at, state_at, edges, char, ranges, capture, match}
 
 -- a thread: the state that it is to walk from, the place where it was started, and its slots
 pub record Thread : Type 0 where
@@ -21,7 +21,7 @@ pub record Walking : Type 0 where
   -- the threads that took the piece, in order of preference
   pub next : List Thread
   -- the first thread that came to a match here
-  pub hit : Option Thread
+  pub first_match : Option Thread
   -- the number of looks so far
   pub looks : ℕ
 
@@ -32,8 +32,8 @@ pub record Searching : Type 0 where
   pub threads : List Thread
   -- the thread at the match that is the answer so far
   pub best : Option Thread
-  -- the spots that were visited, the last one first
-  pub visits : List Spot
+  -- the configurations that were visited, the last one first
+  pub visits : List Configuration
   -- the number of looks so far
   pub looks : ℕ
 
@@ -43,7 +43,7 @@ with_write (capture q slot) i slots = slice_set slots slot (Some i)
 with_write _ i slots = slots
 
 -- a thread from that state on
-abbrev pub thread_on : ℕ → List (Option ℕ) → Spot → Thread
+abbrev pub thread_on : ℕ → List (Option ℕ) → Configuration → Thread
 thread_on start slots s = record { state = s.state; start = start; slots = slots }
 
 -- no thread is walked any more
@@ -55,7 +55,7 @@ module _ (hay : List ℕ) (longest : Bool) where
   -- the threads that a match lets go on: none, or for the longest run those that did not start later
   abbrev pub kept : Option Thread → List Thread → List Thread
   kept None ts = ts
-  kept (Some hit) ts = if longest then filter (λ t. nat_le t.start hit.start) ts else []
+  kept (Some first_match) ts = if longest then filter (λ t. nat_le t.start first_match.start) ts else []
 
   -- where a thread goes from its state, the preferred edge first
   abbrev pub moved : ℕ → State → Thread → List Thread
@@ -64,37 +64,37 @@ module _ (hay : List ℕ) (longest : Bool) where
   -- The first thread of the stack visits its state; those behind it are given.
   unfoldable pub visited : ℕ → State → Thread → List Thread → Walking → Walking
   visited i match t rest w = record {
-    stack = kept (option_or w.hit (Some t)) rest;
+    stack = kept (option_or w.first_match (Some t)) rest;
     seen = t.state ∷ w.seen;
     next = w.next;
-    hit = option_or w.hit (Some t);
+    first_match = option_or w.first_match (Some t);
     looks = suc w.looks;
   }
   visited i (char q c) t rest w = record {
     stack = rest;
     seen = t.state ∷ w.seen;
     next = w.next ++ moved i (char q c) t;
-    hit = w.hit;
+    first_match = w.first_match;
     looks = suc w.looks;
   }
   visited i (ranges q rs) t rest w = record {
     stack = rest;
     seen = t.state ∷ w.seen;
     next = w.next ++ moved i (ranges q rs) t;
-    hit = w.hit;
+    first_match = w.first_match;
     looks = suc w.looks;
   }
   visited i st t rest w = record {
     stack = moved i st t ++ rest;
     seen = t.state ∷ w.seen;
     next = w.next;
-    hit = w.hit;
+    first_match = w.first_match;
     looks = suc w.looks;
   }
 
   -- the first thread of the stack is at a state that was visited here
   abbrev pub dropped : List Thread → Walking → Walking
-  dropped rest w = record { stack = rest; seen = w.seen; next = w.next; hit = w.hit; looks = suc w.looks }
+  dropped rest w = record { stack = rest; seen = w.seen; next = w.next; first_match = w.first_match; looks = suc w.looks }
 
   module _ (p : Program) where
     -- a walk goes on with the first thread of the stack, and those behind it
@@ -123,7 +123,7 @@ module _ (hay : List ℕ) (longest : Bool) where
         stack = s.threads ++ (if is_some s.best then [] else started s.place ∷ []);
         seen = [];
         next = [];
-        hit = None;
+        first_match = None;
         looks = s.looks;
       }
 
@@ -132,7 +132,7 @@ module _ (hay : List ℕ) (longest : Bool) where
       after s w = record {
         place = s.place + (piece hay s.place).len;
         threads = w.next;
-        best = option_or w.hit s.best;
+        best = option_or w.first_match s.best;
         visits = map (λ q. at q s.place) w.seen ++ s.visits;
         looks = w.looks;
       }

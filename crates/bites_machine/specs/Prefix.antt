@@ -1,5 +1,5 @@
 -- The start prefix of a program: the states that an epsilon closure from the start visits where no state takes the character.
-use Rattle.std.specs.Prelude.{◌≡◌, ℕ, ◌+◌, suc, ◌<◌, ◌/◌, ◌%◌, Bool, true, false, List, [], ◌∷◌, ◌++◌, map, length, Option, Some, None, IfSome, if◌then◌else◌, nat_lt, ◌==◌, slice_index}
+use Rattle.std.specs.Prelude.{◌≡◌, ℕ, ◌+◌, suc, ◌<◌, ◌/◌, ◌%◌, ◌⊎◌, Bool, true, false, List, [], ◌∷◌, ◌++◌, map, length, Option, Some, None, IfSome, if◌then◌else◌, nat_lt, ◌==◌, slice_index}
 use Rattle.std.specs.Fn.{iterate}
 use Rattle.std.specs.List.{list_any}
 use Rattle.bites_spec.specs.Look as look
@@ -61,6 +61,10 @@ pub record AreIdle (states : List State) (seen words : List ℕ) (others anchore
   pub stay : (q : ℕ) → Among seen q → may_stay anchored (state_at states q) ≡ true
   pub take : (q c : ℕ) → Among seen q → takes (state_at states q) c ≡ true → in_set words others c ≡ true
 
+-- of these states no other one takes a character
+abbrev pub TakesAlone : List State → List ℕ → ℕ → Type 0
+TakesAlone states seen q = (r c : ℕ) → Among seen r → takes (state_at states r) c ≡ true → q ≡ r
+
 -- so many looks from the start visit the states of the prefix, and nothing is left
 pub record IsPrefix (states : List State) (start : ℕ) (x : StartPrefix) : Type 0 where
   pub stack : (blind_from states start x.looks.value).stack ≡ []
@@ -68,6 +72,7 @@ pub record IsPrefix (states : List State) (start : ℕ) (x : StartPrefix) : Type
   pub looks : (blind_from states start x.looks.value).looks ≡ x.looks.value
   pub idle : AreIdle states x.visited.value x.ascii x.others x.anchored
   pub targets : x.targets.value ≡ map (count_of states) x.visited.value
+  pub alone : IfSome x.taker (TakesAlone states x.visited.value)
 
 -- those of the states that are not among the old ones
 abbrev pub fresh_of : List ℕ → List ℕ → List ℕ
@@ -84,22 +89,37 @@ fresh_sum old (q ∷ qs) (c ∷ counts) = if list_any (λ x. x == q) old then fr
 abbrev pub TakesNone : StartPrefix → Option ℕ → Type 0
 TakesNone x taken = IfSome taken (λ c. in_set x.ascii x.others c ≡ false)
 
+-- a state that was visited at this place is the only one of the prefix that takes a character
+abbrev pub HasTaken : StartPrefix → List ℕ → Type 0
+HasTaken x seen = (q : ℕ) × (x.taker ≡ Some q) × Among seen q
+
+-- where these states were visited, what is left of the prefix takes nothing
+abbrev pub RestTakesNone : StartPrefix → List ℕ → Option ℕ → Type 0
+RestTakesNone x seen taken = TakesNone x taken ⊎ HasTaken x seen
+
 -- at a place above 0 its assertions don't hold
 abbrev pub IsApart : StartPrefix → ℕ → Type 0
 IsApart x i = x.anchored ≡ true → 0 < i
 
 -- A visited state was followed: what it leads to is on the stack, and the set has the characters that it takes.
-pub record Follows (st : State) (from onto : List ℕ) (old new : Closure) : Type 0 where
+pub record Follows (number : ℕ) (st : State) (from onto : List ℕ) (old new : Closure) : Type 0 where
   pub stack : onto ≡ blind_targets st ++ from
   pub visited : new.visited ≡ old.visited
   pub targets : new.targets ≡ old.targets
   pub stays : may_stay new.anchored st ≡ true
+  pub alone : new.several ≡ false → (c : ℕ) → takes st c ≡ true → new.taker ≡ Some number
   pub takes : (c : ℕ) → takes st c ≡ true → in_set new.ascii new.others c ≡ true
   pub grows : (c : ℕ) → in_set old.ascii old.others c ≡ true → in_set new.ascii new.others c ≡ true
   pub anchors : old.anchored ≡ true → new.anchored ≡ true
+  pub keeps : new.several ≡ false → (old.several ≡ false) × ((q : ℕ) → old.taker ≡ Some q → new.taker ≡ Some q)
+
+-- Unless several of these states take characters, each one that does is this one.
+abbrev pub IsAlone : List State → List ℕ → Bool → Option ℕ → Type 0
+IsAlone states seen several taker = several ≡ false → (r c : ℕ) → Among seen r → takes (state_at states r) c ≡ true → taker ≡ Some r
 
 -- So many looks from the start have this stack left, and have visited the states of the prefix.
 pub record HasFound (states : List State) (start looks : ℕ) (stack : List ℕ) (x : Closure) : Type 0 where
   pub all : blind_from states start looks ≡ record { stack = stack; seen = x.visited; looks = looks }
   pub idle : AreIdle states x.visited x.ascii x.others x.anchored
   pub targets : x.targets ≡ map (count_of states) x.visited
+  pub alone : IsAlone states x.visited x.several x.taker

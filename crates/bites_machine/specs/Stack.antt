@@ -1,4 +1,4 @@
--- The stack of a walk.
+-- The stack of an epsilon closure.
 use Rattle.std.specs.Prelude.{ℕ, List}
 use Rattle.bites_machine.specs.declared.vm.stack.Frame.{Frame}
 

@@ -1,52 +1,52 @@
--- What a walk of a thread leaves, and a search that goes from place to place.
+-- What the closure of a thread leaves, and a search that goes from place to place.
 use Rattle.std.specs.Prelude.{◌≡◌, ◌≢◌, ℕ, ◌+◌, ◌*◌, ◌<◌, ◌≤◌, ◌⊎◌, Bool, false, ◌||◌, if◌then◌else◌, List, [], ◌∷◌, ◌++◌, map, length, replicate, Option, None, Some, is_some, ◌==◌, slice_index, slice_index_or, sum, sum_by, IfSome}
 use Rattle.std.specs.List.{list_any}
 use Rattle.bites_spec.specs.Walks.{Among}
 use Rattle.bites_spec.specs.Program as program
-use Rattle.bites_spec.specs.Program.{Spot, Program, targets_of, IsWellFormed}
+use Rattle.bites_spec.specs.Program.{Configuration, Program, targets_of, IsWellFormed}
 use Rattle.bites_spec.specs.Counts.{Record, Fit}
 use Rattle.bites_machine.specs.Machine as machine
 use Rattle.bites_spec.specs.Utf8.{piece}
 use Rattle.bites_machine.specs.Machine.{kept, WalksTo, Searching, Searches, SearchedTo, Searched}
-use Rattle.bites_machine.specs.Rows.{Pool}
+use Rattle.bites_machine.specs.SlotTable.{Pool}
 use Rattle.bites_machine.specs.Threads.{Listed}
 use Rattle.bites_machine.specs.Used.{IsUsed, KeepsRows}
-use Rattle.bites_machine.specs.Desk.{thread_of, next_of, hit_of, row_of, users_of}
-use Rattle.bites_machine.specs.Looks.{IsReady, seen_here, visited_before, marked}
+use Rattle.bites_machine.specs.Scratch.{thread_of, next_of, first_match_of, row_of, users_of}
+use Rattle.bites_machine.specs.Explore.{IsReady, seen_here, visited_before, member_count}
 use Rattle.bites_machine.specs.declared.vm.threads.Thread.{Thread}
-use Rattle.bites_machine.specs.declared.vm.walk.Desk.{Desk}
+use Rattle.bites_machine.specs.declared.vm.closure.Scratch.{Scratch}
 
 -- what a slice is left with
 abbrev pub left_in : Option machine.Thread → List (Option ℕ) → List (Option ℕ)
 left_in None old = old
 left_in (Some b) old = b.slots
 
--- a walk at a place with these threads on its stack
-abbrev pub walking_at : ℕ → Desk → List (Option ℕ) → List machine.Thread → Record → machine.Walking
-walking_at place desk slots stack walked = record {
+-- the closures of a place with these threads on the stack
+abbrev pub walking_at : ℕ → Scratch → List (Option ℕ) → List machine.Thread → Record → machine.Walking
+walking_at place scratch slots stack walked = record {
   stack = stack;
   seen = seen_here place walked.visits;
-  next = next_of desk;
-  hit = hit_of desk.hit slots;
+  next = next_of scratch;
+  first_match = first_match_of scratch.first_match slots;
   looks = walked.looks;
 }
 
--- A thread was walked until its frames were gone, and its row was let go.
-pub record WalksOff (hay : List ℕ) (longest : Bool) (place : ℕ) (states : List program.State) (t : Thread) (was now : Record) (old new : Desk) (slots left : List (Option ℕ)) : Type 0 where
+-- The closure of a thread was explored until no frame was left, and its row was released.
+pub record ClosesFrames (hay : List ℕ) (longest : Bool) (place : ℕ) (states : List program.State) (t : Thread) (was now : Record) (old new : Scratch) (slots left : List (Option ℕ)) : Type 0 where
   pub ready : IsReady states place longest now new t [] (length left)
   pub empty : new.stack.frames ≡ []
   pub users : (others : List ℕ) → IsUsed old.rows (users_of old t others) → IsUsed new.rows (map row_of new.next.threads ++ others)
   pub kept : KeepsRows old.rows new.rows
   pub before : visited_before place now.visits ≡ visited_before place was.visits
   pub room : new.stack.room ≡ old.stack.room
-  pub most : new.rows.most ≡ old.rows.most
-  pub rows : length new.rows.counts ≡ length old.rows.counts
+  pub max_slots : new.rows.max_slots ≡ old.rows.max_slots
+  pub rows : length new.rows.ref_counts ≡ length old.rows.ref_counts
   pub len : length left ≡ length slots
-  pub none : new.hit ≡ None → (old.hit ≡ None) × (left ≡ slots)
+  pub none : new.first_match ≡ None → (old.first_match ≡ None) × (left ≡ slots)
   pub walks : (p : Program) → p.states ≡ states → (others : List ℕ) → IsUsed old.rows (users_of old t others) →
       WalksTo hay longest p place (walking_at place old slots (thread_of old.rows t ∷ []) was) (walking_at place new left [] now)
 
--- how many frames the stack holds, and how many rows the pool, where programs take so much
+-- how many frames the stack holds, and how many rows the slot table, where programs take so much
 abbrev pub frames_for : Fit → ℕ
 frames_for fit = fit.targets + 1
 
@@ -57,89 +57,89 @@ rows_for fit = 2 * fit.states + fit.targets + 2
 abbrev pub fit_in : List program.State → Fit
 fit_in states = record { states = length states; slots = 0; targets = sum_by (λ s. length (targets_of s)) states }
 
--- What holds between the walks of two threads at a place.
-pub record IsAmid (states : List program.State) (place : ℕ) (walked : Record) (desk : Desk) (width : ℕ) : Type 0 where
-  pub marks : length desk.marks ≡ length states
-  pub seen : (q : ℕ) → q < length states → slice_index_or desk.marks q false ≡ list_any (λ x. x == q) (seen_here place walked.visits)
-  pub before : (v : Spot) → Among (visited_before place walked.visits) v → v.place < place
-  pub noted : length desk.rows.notes ≡ length states
-  pub stack : desk.stack.room ≡ frames_for (fit_in states)
-  pub empty : desk.stack.frames ≡ []
-  pub next : length desk.next.threads ≤ marked desk.marks
-  pub more : desk.next.room ≡ length states
-  pub sum : sum desk.rows.counts ≤ length states + marked desk.marks
-  pub rows : length desk.rows.counts ≡ rows_for (fit_in states)
-  pub wide : width ≡ desk.rows.width
+-- What holds between the closures of two threads at a place.
+pub record InvariantWithinStep (states : List program.State) (place : ℕ) (walked : Record) (scratch : Scratch) (slots_per_row : ℕ) : Type 0 where
+  pub visited_set : length scratch.visited_set ≡ length states
+  pub seen : (q : ℕ) → q < length states → slice_index_or scratch.visited_set q false ≡ list_any (λ x. x == q) (seen_here place walked.visits)
+  pub before : (v : Configuration) → Among (visited_before place walked.visits) v → v.place < place
+  pub pending_len : length scratch.rows.pending ≡ length states
+  pub stack : scratch.stack.room ≡ frames_for (fit_in states)
+  pub empty : scratch.stack.frames ≡ []
+  pub next : length scratch.next.threads ≤ member_count scratch.visited_set
+  pub more : scratch.next.room ≡ length states
+  pub sum : sum scratch.rows.ref_counts ≤ length states + member_count scratch.visited_set
+  pub rows : length scratch.rows.ref_counts ≡ rows_for (fit_in states)
+  pub wide : slots_per_row ≡ scratch.rows.slots_per_row
 
--- A thread was walked, or let go where a match cut it off; other threads wait below it.
-pub record WalksPast (hay : List ℕ) (longest : Bool) (place : ℕ) (states : List program.State) (t : Thread) (was now : Record) (old new : Desk) (slots left : List (Option ℕ)) : Type 0 where
-  pub amid : IsAmid states place now new (length left)
+-- The closure of a thread was explored, or a match cut it off; other threads wait below it.
+pub record ClosesThread (hay : List ℕ) (longest : Bool) (place : ℕ) (states : List program.State) (t : Thread) (was now : Record) (old new : Scratch) (slots left : List (Option ℕ)) : Type 0 where
+  pub within_step : InvariantWithinStep states place now new (length left)
   pub users : (others : List ℕ) → IsUsed old.rows (users_of old t others) → IsUsed new.rows (map row_of new.next.threads ++ others)
   pub kept : KeepsRows old.rows new.rows
   pub before : visited_before place now.visits ≡ visited_before place was.visits
-  pub most : new.rows.most ≡ old.rows.most
+  pub max_slots : new.rows.max_slots ≡ old.rows.max_slots
   pub len : length left ≡ length slots
-  pub none : new.hit ≡ None → (old.hit ≡ None) × (left ≡ slots)
+  pub none : new.first_match ≡ None → (old.first_match ≡ None) × (left ≡ slots)
   pub walks : (p : Program) → p.states ≡ states → (others : List ℕ) → IsUsed old.rows (users_of old t others) → (below : List machine.Thread) →
-      WalksTo hay longest p place (walking_at place old slots (machine.kept hay longest (hit_of old.hit slots) (thread_of old.rows t ∷ below)) was)
-      (walking_at place new left (machine.kept hay longest (hit_of new.hit left) below) now)
+      WalksTo hay longest p place (walking_at place old slots (machine.kept hay longest (first_match_of old.first_match slots) (thread_of old.rows t ∷ below)) was)
+      (walking_at place new left (machine.kept hay longest (first_match_of new.first_match left) below) now)
 
--- Some threads of a place were walked, or let go; these are left.
-pub record WalksSome (hay : List ℕ) (longest : Bool) (place : ℕ) (states : List program.State) (threads rest : List Thread) (was now : Record) (old new : Desk) (slots left : List (Option ℕ)) : Type 0 where
-  pub amid : IsAmid states place now new (length left)
+-- The closures of some threads of a place were explored, or cut off; these are left.
+pub record ClosesThreads (hay : List ℕ) (longest : Bool) (place : ℕ) (states : List program.State) (threads rest : List Thread) (was now : Record) (old new : Scratch) (slots left : List (Option ℕ)) : Type 0 where
+  pub within_step : InvariantWithinStep states place now new (length left)
   pub users : IsUsed new.rows (map row_of new.next.threads ++ map row_of rest)
   pub before : visited_before place now.visits ≡ visited_before place was.visits
-  pub most : new.rows.most ≡ old.rows.most
+  pub max_slots : new.rows.max_slots ≡ old.rows.max_slots
   pub len : length left ≡ length slots
-  pub none : new.hit ≡ None → (old.hit ≡ None) × (left ≡ slots)
+  pub none : new.first_match ≡ None → (old.first_match ≡ None) × (left ≡ slots)
   pub walks : (p : Program) → p.states ≡ states → (tail : List machine.Thread) →
-      WalksTo hay longest p place (walking_at place old slots (machine.kept hay longest (hit_of old.hit slots) (map (thread_of old.rows) threads ++ tail)) was)
-      (walking_at place new left (machine.kept hay longest (hit_of new.hit left) (map (thread_of new.rows) rest ++ tail)) now)
+      WalksTo hay longest p place (walking_at place old slots (machine.kept hay longest (first_match_of old.first_match slots) (map (thread_of old.rows) threads ++ tail)) was)
+      (walking_at place new left (machine.kept hay longest (first_match_of new.first_match left) (map (thread_of new.rows) rest ++ tail)) now)
 
 -- the start as a thread, if it is one
 abbrev pub starts_of : Bool → ℕ → ℕ → Option ℕ → List machine.Thread
-starts_of longest place width None = []
-starts_of longest place width (Some q) = record { state = q; start = if longest then place else 0; slots = replicate width None } ∷ []
+starts_of longest place slots_per_row None = []
+starts_of longest place slots_per_row (Some q) = record { state = q; start = if longest then place else 0; slots = replicate slots_per_row None } ∷ []
 
--- What holds when all of a place was walked.
-pub record HasWalked (states : List program.State) (place : ℕ) (walked : Record) (desk : Desk) (width : ℕ) : Type 0 where
-  pub marks : length desk.marks ≡ length states
-  pub before : (v : Spot) → Among (visited_before place walked.visits) v → v.place < place
-  pub noted : length desk.rows.notes ≡ length states
-  pub stack : desk.stack.room ≡ frames_for (fit_in states)
-  pub empty : desk.stack.frames ≡ []
-  pub next : length desk.next.threads ≤ marked desk.marks
-  pub more : desk.next.room ≡ length states
-  pub rows : length desk.rows.counts ≡ rows_for (fit_in states)
-  pub wide : width ≡ desk.rows.width
+-- What holds when all closures of a place were explored.
+pub record HasWalked (states : List program.State) (place : ℕ) (walked : Record) (scratch : Scratch) (slots_per_row : ℕ) : Type 0 where
+  pub visited_set : length scratch.visited_set ≡ length states
+  pub before : (v : Configuration) → Among (visited_before place walked.visits) v → v.place < place
+  pub pending_len : length scratch.rows.pending ≡ length states
+  pub stack : scratch.stack.room ≡ frames_for (fit_in states)
+  pub empty : scratch.stack.frames ≡ []
+  pub next : length scratch.next.threads ≤ member_count scratch.visited_set
+  pub more : scratch.next.room ≡ length states
+  pub rows : length scratch.rows.ref_counts ≡ rows_for (fit_in states)
+  pub wide : slots_per_row ≡ scratch.rows.slots_per_row
 
--- All threads of a place were walked, or let go, and behind them the start, if one is given.
-pub record WalksAll (hay : List ℕ) (longest : Bool) (place : ℕ) (states : List program.State) (begins : Option ℕ) (threads : List Thread) (was now : Record) (old new : Desk) (slots left : List (Option ℕ)) : Type 0 where
-  pub amid : HasWalked states place now new (length left)
+-- The closures of all threads of a place were explored, or cut off, and after them that of the start, if one is given.
+pub record ClosesAll (hay : List ℕ) (longest : Bool) (place : ℕ) (states : List program.State) (begins : Option ℕ) (threads : List Thread) (was now : Record) (old new : Scratch) (slots left : List (Option ℕ)) : Type 0 where
+  pub within_step : HasWalked states place now new (length left)
   pub users : IsUsed new.rows (map row_of new.next.threads ++ [])
   pub before : visited_before place now.visits ≡ visited_before place was.visits
-  pub most : new.rows.most ≡ old.rows.most
+  pub max_slots : new.rows.max_slots ≡ old.rows.max_slots
   pub len : length left ≡ length slots
-  pub none : new.hit ≡ None → (old.hit ≡ None) × (left ≡ slots)
+  pub none : new.first_match ≡ None → (old.first_match ≡ None) × (left ≡ slots)
   pub walks : (p : Program) → p.states ≡ states →
       WalksTo hay longest p place
-      (walking_at place old slots (machine.kept hay longest (hit_of old.hit slots) (map (thread_of old.rows) threads ++ starts_of longest place (length slots) begins)) was)
+      (walking_at place old slots (machine.kept hay longest (first_match_of old.first_match slots) (map (thread_of old.rows) threads ++ starts_of longest place (length slots) begins)) was)
       (walking_at place new left [] now)
 
 -- What holds between two places: this one is not searched yet, and nothing behind it.
-pub record IsBetween (states : List program.State) (place : ℕ) (walked : Record) (desk : Desk) (list : Listed) (width : ℕ) : Type 0 where
-  pub marks : length desk.marks ≡ length states
-  pub visits : (v : Spot) → Among walked.visits v → v.place < place
-  pub noted : length desk.rows.notes ≡ length states
-  pub stack : desk.stack.room ≡ frames_for (fit_in states)
-  pub empty : desk.stack.frames ≡ []
-  pub more : desk.next.room ≡ length states
+pub record InvariantBetweenSteps (states : List program.State) (place : ℕ) (walked : Record) (scratch : Scratch) (list : Listed) (slots_per_row : ℕ) : Type 0 where
+  pub visited_set : length scratch.visited_set ≡ length states
+  pub visits : (v : Configuration) → Among walked.visits v → v.place < place
+  pub pending_len : length scratch.rows.pending ≡ length states
+  pub stack : scratch.stack.room ≡ frames_for (fit_in states)
+  pub empty : scratch.stack.frames ≡ []
+  pub more : scratch.next.room ≡ length states
   pub room : list.room ≡ length states
   pub few : length list.threads ≤ length states
   pub known : (t : Thread) → Among list.threads t → t.state < length states
-  pub used : IsUsed desk.rows (map row_of list.threads)
-  pub rows : length desk.rows.counts ≡ rows_for (fit_in states)
-  pub wide : width ≡ desk.rows.width
+  pub used : IsUsed scratch.rows (map row_of list.threads)
+  pub rows : length scratch.rows.ref_counts ≡ rows_for (fit_in states)
+  pub wide : slots_per_row ≡ scratch.rows.slots_per_row
 
 -- A search of the machine on lists stands at a place, with these threads, and this is what it found and did.
 pub record StandsFor (s : Searching) (i : ℕ) (pool : Pool) (list : List Thread) (walked : Record) (first left : List (Option ℕ)) (is_found : Bool) : Type 0 where
@@ -151,14 +151,14 @@ pub record StandsFor (s : Searching) (i : ℕ) (pool : Pool) (list : List Thread
   pub looks : s.looks ≡ walked.looks
 
 -- A place was searched, with the start behind the threads if nothing was found before.
-pub record PlaceSearched (hay : List ℕ) (longest : Bool) (place len : ℕ) (states : List program.State) (begins : Option ℕ) (was now : Record) (old new : Desk) (threads later : List Thread) (slots left : List (Option ℕ)) : Type 0 where
+pub record PlaceSearched (hay : List ℕ) (longest : Bool) (place len : ℕ) (states : List program.State) (begins : Option ℕ) (was now : Record) (old new : Scratch) (threads later : List Thread) (slots left : List (Option ℕ)) : Type 0 where
   pub searches : (p : Program) → p.states ≡ states → (s : Searching) (first : List (Option ℕ)) (found : Bool) →
       begins ≡ (if found then None else Some p.start) → StandsFor s place old.rows threads was first slots found →
-      (t : Searching) × Searches hay longest p (length slots) s t × StandsFor t (place + len) new.rows later now first left (found || is_some new.hit)
+      (t : Searching) × Searches hay longest p (length slots) s t × StandsFor t (place + len) new.rows later now first left (found || is_some new.first_match)
 
 module _ (p : Program) (hay : List ℕ) (longest earliest : Bool) (start : ℕ) (old : List (Option ℕ)) where
   -- the machine on lists has gone on to this place
-  pub record GoneTo (place : ℕ) (is_found : Bool) (walked : Record) (pool : Pool) (threads : List Thread) (slots : List (Option ℕ)) : Type 0 where
+  pub record HasReached (place : ℕ) (is_found : Bool) (walked : Record) (pool : Pool) (threads : List Thread) (slots : List (Option ℕ)) : Type 0 where
     pub places : ℕ
     pub now : Searching
     pub searched : SearchedTo hay longest p (length old) earliest start places now
@@ -179,20 +179,20 @@ abbrev pub IsOfProgram : List program.State → Option ℕ → Type 0
 IsOfProgram states begins = (p : Program) × (p.states ≡ states) × IsWellFormed p × IfSome begins (λ q. q ≡ p.start)
 
 -- There is room for the searches of programs that take so much: no fewer frames and rows, and no more.
-pub record HasRoom (fit : Fit) (desk : Desk) (list : Listed) : Type 0 where
-  pub marks : length desk.marks ≡ fit.states
-  pub noted : length desk.rows.notes ≡ fit.states
-  pub stack : desk.stack.room ≡ frames_for fit
-  pub empty : desk.stack.frames ≡ []
-  pub next : desk.next.room ≡ fit.states
+pub record HasRoom (fit : Fit) (scratch : Scratch) (list : Listed) : Type 0 where
+  pub visited_set : length scratch.visited_set ≡ fit.states
+  pub pending_len : length scratch.rows.pending ≡ fit.states
+  pub stack : scratch.stack.room ≡ frames_for fit
+  pub empty : scratch.stack.frames ≡ []
+  pub next : scratch.next.room ≡ fit.states
   pub threads : list.room ≡ fit.states
-  pub rows : length desk.rows.counts ≡ rows_for fit
-  pub most : fit.slots ≤ desk.rows.most
+  pub rows : length scratch.rows.ref_counts ≡ rows_for fit
+  pub max_slots : fit.slots ≤ scratch.rows.max_slots
 
 -- nothing is held from an earlier search
-pub record IsIdle (desk : Desk) (list : Listed) : Type 0 where
+pub record IsIdle (scratch : Scratch) (list : Listed) : Type 0 where
   pub threads : list.threads ≡ []
-  pub free : (row : ℕ) → row ≢ 0 → slice_index desk.rows.counts row ≡ 0
+  pub free : (row : ℕ) → row ≢ 0 → slice_index scratch.rows.ref_counts row ≡ 0
 
 -- the program has these states and starts at that one
 pub record IsProgramOf (p : Program) (all : List program.State) (first : ℕ) : Type 0 where
@@ -201,16 +201,16 @@ pub record IsProgramOf (p : Program) (all : List program.State) (first : ℕ) : 
   pub well : IsWellFormed p
 
 -- Places from one on were searched, up to the last.
-pub record PlacesSearched (hay : List ℕ) (longest : Bool) (place last : ℕ) (states : List program.State) (begins : Option ℕ) (was now : Record) (old new : Desk) (threads later : List Thread) (slots left : List (Option ℕ)) : Type 0 where
+pub record PlacesSearched (hay : List ℕ) (longest : Bool) (place last : ℕ) (states : List program.State) (begins : Option ℕ) (was now : Record) (old new : Scratch) (threads later : List Thread) (slots left : List (Option ℕ)) : Type 0 where
   pub searches : (p : Program) (q : ℕ) → IsProgramOf p states q → (earliest : Bool) (start : ℕ) (first : List (Option ℕ)) (found : Bool) →
       begins ≡ (if found then None else Some q) → length slots ≡ length first →
-      GoneTo p hay longest earliest start first place found was old.rows threads slots →
-      HasSearched p hay longest earliest start first last (found || is_some new.hit) now new.rows later left
+      HasReached p hay longest earliest start first place found was old.rows threads slots →
+      HasSearched p hay longest earliest start first last (found || is_some new.first_match) now new.rows later left
 
 -- Places from one on and before another were passed: no thread is alive there, nothing is found, and nothing is written.
 pub record Passes (hay : List ℕ) (longest : Bool) (place here : ℕ) (states : List program.State) (q : ℕ) (was now : Record) : Type 0 where
   pub gone : (p : Program) → IsProgramOf p states q → (earliest : Bool) (start : ℕ) (first slots : List (Option ℕ)) (pool : Pool) → length slots ≡ length first →
-      GoneTo p hay longest earliest start first place false was pool [] slots → GoneTo p hay longest earliest start first here false now pool [] slots
+      HasReached p hay longest earliest start first place false was pool [] slots → HasReached p hay longest earliest start first here false now pool [] slots
 
 -- Places were passed if the start is given and no thread is alive; else this is the same place, and nothing more was visited.
 abbrev pub PassesIdle : List ℕ → Bool → ℕ → ℕ → List program.State → Option ℕ → ℕ → Record → Record → Type 0
@@ -218,7 +218,7 @@ PassesIdle hay longest place here states begins threads was now =
     ((here ≡ place) × (now ≡ was)) ⊎ ((threads ≡ 0) × (q : ℕ) × (begins ≡ Some q) × Passes hay longest place here states q was now)
 
 -- The machine on lists searched from the start on, and this is what it found and did.
-pub record Sought (p : Program) (hay : List ℕ) (longest earliest : Bool) (start : ℕ) (answer : Bool) (old new : List (Option ℕ)) (walked : Record) : Type 0 where
+pub record SearchResult (p : Program) (hay : List ℕ) (longest earliest : Bool) (start : ℕ) (answer : Bool) (old new : List (Option ℕ)) (walked : Record) : Type 0 where
   pub last : Searching
   pub searched : Searched hay longest p (length old) earliest start last
   pub found : is_some last.best ≡ answer

@@ -48,9 +48,9 @@ pub fn compile(
     ensures refused { IfErr result (RefusesTree size_limit (groups_left tree.now) tree.now) }
 {
     let captures = captures_len(tree);
-    left_within_limits(tree, captures, size_limit)?;
+    let states = left_within_limits(tree, captures, size_limit)?;
     let names = names_left(alloc, tree, captures)?;
-    with_names(alloc, tree, names, pattern)
+    with_names(alloc, tree, states, names, pattern)
 }
 
 /// The program of a tree that was read from this pattern, with all of these groups, which may be more than
@@ -74,13 +74,13 @@ pub fn compile_with_groups(
     ensures limits { OnOk result (TreeLimitsWith size_limit groups.now tree.now) }
     ensures refused { IfErr result (RefusesTree size_limit groups.now tree.now) }
 {
-    groups_within_limits(tree, groups, size_limit)?;
+    let states = groups_within_limits(tree, groups, size_limit)?;
     let names = names_of(alloc, groups)?;
-    with_names(alloc, tree, names, pattern)
+    with_names(alloc, tree, states, names, pattern)
 }
 
-/// Asks the limits with the groups that are left in the tree.
-fn left_within_limits(tree: &Tree, captures: usize, size_limit: usize) -> Result<(), Error>
+/// Asks the limits with the groups that are left in the tree. Returns the number of states that the program has.
+fn left_within_limits(tree: &Tree, captures: usize, size_limit: usize) -> Result<usize, Error>
     requires compilable { IsCompilable tree.now }
     requires captures { captures ≡ captures_len tree.now }
     ensures limits { OnOk result (TreeLimits size_limit tree.now) }
@@ -90,8 +90,8 @@ fn left_within_limits(tree: &Tree, captures: usize, size_limit: usize) -> Result
     within_limits(tree, captures, weight_left(tree, captures), size_limit)
 }
 
-/// Asks the limits with these groups.
-fn groups_within_limits(tree: &Tree, groups: &Groups, size_limit: usize) -> Result<(), Error>
+/// Asks the limits with these groups. Returns the number of states that the program has.
+fn groups_within_limits(tree: &Tree, groups: &Groups, size_limit: usize) -> Result<usize, Error>
     requires compilable { IsCompilable tree.now }
     requires groups { HasItsGroups groups.now tree.now }
     ensures room { captures_len tree.now ≤ length groups.now }
@@ -102,13 +102,14 @@ fn groups_within_limits(tree: &Tree, groups: &Groups, size_limit: usize) -> Resu
     within_limits(tree, groups.len(), weight_of_groups(groups), size_limit)
 }
 
-/// Asks the limits, the weight first, with so many groups that weigh so much.
+/// Asks the limits, the weight first, with so many groups that weigh so much. Returns the number of states that the
+/// program has.
 fn within_limits(
     tree: &Tree,
     captures: usize,
     weight_of_groups: usize,
     size_limit: usize,
-) -> Result<(), Error>
+) -> Result<usize, Error>
     requires { IsReduced tree.now }
     ensures limits { OnOk result (LimitsBy size_limit captures weight_of_groups tree.now) }
     ensures classes { HasClasses tree.now }
@@ -125,7 +126,7 @@ fn within_limits(
     if captures > 2147483648 {
         return Err(Error::TooManySlots);
     }
-    Ok(())
+    Ok(size.states() + 3)
 }
 
 /// The weight of the tree's program with groups that weigh so much, if a `usize` can hold it.
@@ -143,10 +144,12 @@ fn weight_of(tree: &Tree, size: Size, weight_of_groups: usize) -> Option<usize>
         .checked_add(weight_of_groups)
 }
 
-/// The program of a tree that is within the limits, with two slots for each group of these names.
+/// The program of a tree that is within the limits, with two slots for each group of these names. Room for so many
+/// states is taken at once.
 fn with_names(
     alloc: Global,
     tree: &Tree,
+    capacity: usize,
     names: Vec<Option<String>>,
     pattern: &str,
 ) -> Result<Program, Error>
@@ -164,7 +167,7 @@ fn with_names(
     ensures well_formed { IfOk result (λ p. IsWellFormed p.program) }
     ensures refused { IfErr result (λ e. e ≡ Error.Memory) }
 {
-    let (states, start) = whole_states(alloc, tree)?;
+    let (states, start) = whole_states(alloc, tree, capacity)?;
     let slots = 2 * names.len();
     let pattern = String::from_str(alloc, pattern)?;
     let at_least = static_captures_len(tree, names.len());
@@ -172,14 +175,18 @@ fn with_names(
 }
 
 /// The states of group 0 around the tree and of the match, and the number of the first.
-fn whole_states(alloc: Global, tree: &Tree) -> Result<(Vec<State>, u32), AllocError>
+fn whole_states(
+    alloc: Global,
+    tree: &Tree,
+    capacity: usize,
+) -> Result<(Vec<State>, u32), AllocError>
     requires reduced { IsReduced tree.now }
     requires few_states { states tree.now ≤ 4294967295 }
     requires few_groups { greatest (groups_in tree.now) < 2147483648 }
     ensures { IfOk result (λ made. (n : ℕ) → program_of made.0.items made.1 (2 * n)
         ≡ program_of_tree n tree.now) }
 {
-    let mut states = States::new(alloc);
+    let mut states = States::with_capacity(alloc, capacity)?;
     let last = states.push(State::Match)?;
     let start = states.group(0, tree, last)?;
     Ok((states.into_vec(), start))

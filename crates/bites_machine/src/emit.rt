@@ -2,7 +2,7 @@
 
 ghost use Rattle.std.specs.Prelude.{◌≡◌, ◌+◌, ◌*◌, ◌<◌, ◌≤◌, length, slice_set, None, Some, IfOk};
 ghost use Rattle.bites_spec.specs.Tree as spec;
-ghost use Rattle.bites_spec.specs.Tree.{trees_of, sequence, is_empty_by_form, groups_in, groups_in_all, greatest, IsReduced, AllAreReduced};
+ghost use Rattle.bites_spec.specs.Tree.{trees_of, sequence, is_nullable, groups_in, groups_in_all, greatest, IsReduced, AllAreReduced};
 ghost use Rattle.bites_spec.specs.Measure.{size_of, repeated_size};
 ghost use Rattle.bites_machine.specs.States.{state_of};
 ghost use Rattle.bites_machine.specs.Emitted.{emitted, pushed, class_state, choice, with_choice, again, bounded, loop, star, optional_loop, repeated, grouped, split, emit, emit_all, emit_each};
@@ -10,7 +10,7 @@ ghost use Rattle.bites_machine.specs.Emitted.{emitted, pushed, class_state, choi
 use crate::ranges::Ranges;
 use crate::state::State;
 use crate::targets::Targets;
-use bites_syntax::measure::is_empty_by_form;
+use bites_syntax::measure::is_nullable;
 use bites_syntax::tree::{Class, Kind, Tree};
 use std::alloc::{AllocError, Global};
 use std::marker::Model;
@@ -37,14 +37,12 @@ impl States {
     ghost use Rattle.std.specs.Prelude.{[]};
     ghost use Rattle.bites_machine.specs.States.{states_of};
 
-    /// No state yet.
-    pub fn new(alloc: Global) -> States
-        ensures { result ≡ [] }
+    /// No state yet, with room for so many.
+    pub fn with_capacity(alloc: Global, capacity: usize) -> Result<States, AllocError>
+        ensures { IfOk result (λ states. states ≡ []) }
     {
-        States {
-            alloc,
-            list: Vec::new(alloc),
-        }
+        let list = Vec::with_capacity(alloc, capacity)?;
+        Ok(States { alloc, list })
     }
 
     /// The states as a list.
@@ -189,16 +187,16 @@ impl States {
     fn unbounded(&mut self, min: u32, greedy: bool, sub: &Tree, to: u32) -> Result<u32, AllocError>
         requires reduced { IsReduced sub.now }
         requires room { length self.old +
-            (repeated_size min None (is_empty_by_form sub.now) (size_of sub.now)).states
+            (repeated_size min None (is_nullable sub.now) (size_of sub.now)).states
             ≤ 4294967295 }
         requires slots { 2 * greatest (groups_in sub.now) + 1 < 4294967296 }
         ensures { IfOk result (λ from. emitted self.new from
-            ≡ repeated min None greedy (is_empty_by_form sub.now) (emit sub.now) to self.old) }
+            ≡ repeated min None greedy (is_nullable sub.now) (emit sub.now) to self.old) }
     {
         if min > 0 {
             let from = self.looped(greedy, sub, to)?;
             self.copies(min - 1, sub, from)
-        } else if is_empty_by_form(sub) {
+        } else if is_nullable(sub) {
             self.optional_loop(greedy, sub, to)
         } else {
             self.star(greedy, sub, to)
@@ -219,11 +217,11 @@ impl States {
         requires order { min ≤ max }
         requires some { 1 ≤ max }
         requires room { length self.old +
-            (repeated_size min (Some max) (is_empty_by_form sub.now) (size_of sub.now)).states
+            (repeated_size min (Some max) (is_nullable sub.now) (size_of sub.now)).states
             ≤ 4294967295 }
         requires slots { 2 * greatest (groups_in sub.now) + 1 < 4294967296 }
         ensures { IfOk result (λ from. emitted self.new from
-            ≡ repeated min (Some max) greedy (is_empty_by_form sub.now) (emit sub.now) to
+            ≡ repeated min (Some max) greedy (is_nullable sub.now) (emit sub.now) to
             self.old) }
     {
         if min == max {
@@ -363,7 +361,7 @@ impl States {
             target: to,
             look: None,
         })?;
-        let mut rounds = Vec::new(self.alloc);
+        let mut rounds = Vec::with_capacity(self.alloc, parts.len())?;
         for part in parts {
             rounds.push(self.emit(part, out)?)?;
         }

@@ -119,7 +119,7 @@ fn copy_of_name(alloc: Global, name: &Option<Name>) -> Result<Option<String>, Al
 fn no_names(alloc: Global, count: usize) -> Result<Vec<Option<String>>, AllocError>
     ensures { IfOk result (λ names. bytes_of names.items ≡ replicate count None) }
 {
-    let mut names = Vec::new(alloc);
+    let mut names = Vec::with_capacity(alloc, count)?;
     for _ in 0..count {
         names.push(None)?;
     }
@@ -183,7 +183,7 @@ pub fn weight_of_groups(groups: &Groups) -> usize
 pub fn names_of(alloc: Global, groups: &Groups) -> Result<Vec<Option<String>>, AllocError>
     ensures { IfOk result (λ names. bytes_of names.items ≡ groups.now) }
 {
-    let mut names = Vec::new(alloc);
+    let mut names = Vec::with_capacity(alloc, groups.len())?;
     for i in 0..groups.len() {
         names.push(copy_of_text(alloc, groups.name(i))?)?;
     }

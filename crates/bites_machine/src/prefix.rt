@@ -31,6 +31,8 @@ pub struct StartPrefix {
     /// Whether some state may take another character.
     pub others: bool,
     pub anchored: bool,
+    /// The state that takes characters, if exactly one does.
+    pub taker: Option<u32>,
 }
 
 impl StartPrefix {
@@ -48,6 +50,8 @@ impl StartPrefix {
             ascii: [0, 0],
             others: false,
             anchored: false,
+            taker: None,
+            several: false,
         };
         let mut stack = ShortStack::new();
         stack.push(start)?;
@@ -61,6 +65,7 @@ impl StartPrefix {
                     ascii: found.ascii,
                     others: found.others,
                     anchored: found.anchored,
+                    taker: found.lone_taker(),
                 });
             };
             found.look(states, number, &mut stack)?;
@@ -89,15 +94,22 @@ impl StartPrefix {
         self.ascii[0] == 0 && self.ascii[1] == 0 && !self.others
     }
 
-    /// Returns whether a closure visits the prefix alone at an offset where this character stands, if one does.
+    /// Returns whether a closure at this offset may visit the prefix alone: none of its assertions holds there.
     #[inline(always)]
-    pub(crate) fn is_idle(&self, taken: Option<char>, place: usize) -> bool
-        ensures taken { result ≡ true → TakesNone self.now taken }
-        ensures apart { result ≡ true → IsApart self.now place }
+    pub(crate) fn is_apart(&self, place: usize) -> bool
+        ensures { result ≡ true → IsApart self.now place }
     {
         if self.anchored && place == 0 {
             return false;
         }
+        true
+    }
+
+    /// Returns whether no state takes the character that stands somewhere, if one does.
+    #[inline(always)]
+    pub(crate) fn is_idle(&self, taken: Option<char>) -> bool
+        ensures { result ≡ true → TakesNone self.now taken }
+    {
         match taken {
             None => true,
             Some(ch) => !self.may_take(ch),
@@ -114,9 +126,13 @@ pub struct Closure {
     pub ascii: [u64; 2],
     pub others: bool,
     pub anchored: bool,
+    // The last state that takes characters, and whether it isn't the only one.
+    pub taker: Option<u32>,
+    pub several: bool,
 }
 
 impl Closure {
+    ghost use Rattle.std.specs.Prelude.{Some, None};
     ghost use Rattle.bites_machine.specs.Prefix.{in_set, Follows, HasFound};
     ghost use Rattle.bites_machine.specs.States.{state_of, states_of};
 
@@ -135,23 +151,27 @@ impl Closure {
         self.visited.push(number)?;
         let state = &states[number as usize];
         let before = stack.len();
-        self.follow(state, stack)?;
+        self.follow(number, state, stack)?;
         self.targets.push((stack.len() - before) as u32)
     }
 
     // Follows a visited state as an epsilon closure does that takes nothing. `None` if a match or an assertion
     // other than `\A` stands there, or if there is no room.
-    fn follow(&mut self, state: &State, stack: &mut ShortStack) -> Option<()>
+    fn follow(&mut self, number: u32, state: &State, stack: &mut ShortStack) -> Option<()>
         ensures { IfSome result (λ _.
-            Follows (state_of state.now) stack.old stack.new self.old self.new) }
+            Follows number (state_of state.now) stack.old stack.new self.old self.new) }
     {
         match state {
             State::Char { ch, .. } => {
-                self.add(&words_of(&[(*ch, *ch)]), *ch > '\u{7F}');
+                self.add(number, &words_of(&[(*ch, *ch)]), *ch > '\u{7F}');
                 Some(())
             }
             State::Ranges { ranges, .. } => {
-                self.add(&ranges.ascii(), reaches_past_ascii(ranges.as_slice()));
+                self.add(
+                    number,
+                    &ranges.ascii(),
+                    reaches_past_ascii(ranges.as_slice()),
+                );
                 Some(())
             }
             State::Splits { targets, reverse } => push_all(stack, targets, *reverse),
@@ -170,16 +190,27 @@ impl Closure {
         }
     }
 
-    // Puts these characters into the set.
-    fn add(&mut self, words: &[u64; 2], others: bool)
+    // Puts the characters that this state takes into the set.
+    fn add(&mut self, number: u32, words: &[u64; 2], others: bool)
         ensures set { (c : ℕ) → in_set self.new.ascii self.new.others c
             ≡ (in_set self.old.ascii self.old.others c || in_set words.now others c) }
         ensures visited { self.new.visited ≡ self.old.visited }
         ensures targets { self.new.targets ≡ self.old.targets }
         ensures anchored { self.new.anchored ≡ self.old.anchored }
+        ensures taker { self.new.taker ≡ Some number }
+        ensures alone { self.new.several ≡ false → (self.old.several ≡ false) × (self.old.taker ≡ None) }
     {
+        self.several |= self.taker.is_some();
+        self.taker = Some(number);
         self.ascii = [self.ascii[0] | words[0], self.ascii[1] | words[1]];
         self.others |= others;
+    }
+
+    // The state that takes characters, if exactly one does.
+    fn lone_taker(&self) -> Option<u32>
+        ensures { IfSome result (λ q. (self.now.several ≡ false) × (self.now.taker ≡ Some q)) }
+    {
+        if self.several { None } else { self.taker }
     }
 }
 

@@ -1,12 +1,12 @@
 //! Measures of a tree, taken before any state is made.
 
 ghost use Rattle.std.specs.Prelude.{◌≡◌, ◌≤◌, IfSome};
-ghost use Rattle.bites_spec.specs.Tree.{is_empty_by_form, trees_of, sequence, IsReduced, AllAreReduced};
+ghost use Rattle.bites_spec.specs.Tree.{is_nullable, trees_of, sequence, IsReduced, AllAreReduced};
 ghost use Rattle.bites_spec.specs.Measure as measure;
 ghost use Rattle.bites_machine.specs.Classes.{HasClasses, AllHaveClasses};
 ghost use Rattle.bites_machine.specs.Sizes.{held_size, both_sizes};
 
-use bites_syntax::measure::is_empty_by_form;
+use bites_syntax::measure::is_nullable;
 use bites_syntax::tree::{Kind, Tree};
 use std::marker::Model;
 
@@ -106,7 +106,7 @@ fn size_of_repetition(min: u32, max: Option<u32>, sub: &Tree) -> Size
     requires order { IfSome max (λ most. min ≤ most) }
     ensures size { result
         ≡ held_size
-        (measure.repeated_size min max (is_empty_by_form sub.now) (measure.size_of sub.now)) }
+        (measure.repeated_size min max (is_nullable sub.now) (measure.size_of sub.now)) }
     ensures classes { HasClasses sub.now }
 {
     let body = size_of(sub);
@@ -114,7 +114,7 @@ fn size_of_repetition(min: u32, max: Option<u32>, sub: &Tree) -> Size
     let Some(max) = max else {
         return if least > 0 {
             body.copies(least, 1, 2)
-        } else if is_empty_by_form(sub) {
+        } else if is_nullable(sub) {
             body.copies(1, 3, 4)
         } else {
             body.copies(1, 1, 2)

@@ -1,4 +1,4 @@
-//! The machine: it walks a haystack from place to place with the set of all states that a run may be in.
+//! The Pike VM: it steps through a haystack with the threads of each place.
 
 ghost use Rattle.bites_spec.specs.Counts.{fit_of, IsBounded, VisitedBy};
 ghost use Rattle.bites_spec.specs.Run.{Run, Answered, LeastEnd, first_run, longest_run};
@@ -8,15 +8,15 @@ ghost use Rattle.std.specs.Prelude.{◌⊎◌, Option, true, false, ◌≡◌, l
 
 mod anchored;
 mod cache;
+mod closure;
 mod counted;
 mod idle;
-mod marks;
-mod places;
+mod pikevm;
 mod recorded_bytes;
-mod rows;
+mod slot_table;
 mod stack;
+mod state_set;
 mod threads;
-mod walk;
 
 use crate::program::Program;
 pub use cache::Cache;
@@ -47,15 +47,13 @@ pub fn search(
     ensures visited { VisitedBy program.now.program haystack.now start result cache.new.walked }
 {
     let counted = counted::Counted::new(program.states());
-    let request = places::Request {
+    let request = pikevm::Request {
         haystack,
         start,
         first: program.start(),
         prefix: program.prefix(),
-        asked: places::Asked {
-            earliest,
-            longest: false,
-        },
+        earliest,
+        longest: false,
     };
     cache.search(counted, &request, slots)
 }
@@ -79,15 +77,13 @@ pub fn search_longest(
     ensures visited { VisitedBy program.now.program haystack.now start result cache.new.walked }
 {
     let counted = counted::Counted::new(program.states());
-    let request = places::Request {
+    let request = pikevm::Request {
         haystack,
         start,
         first: program.start(),
         prefix: program.prefix(),
-        asked: places::Asked {
-            earliest: false,
-            longest: true,
-        },
+        earliest: false,
+        longest: true,
     };
     cache.search(counted, &request, slots)
 }
@@ -130,12 +126,13 @@ pub fn search_anchored(
     ensures visited { VisitedFrom program.now.program haystack.now start result cache.new.walked }
 {
     let counted = counted::Counted::new(program.states());
-    let request = places::Request {
+    let request = pikevm::Request {
         haystack,
         start,
         first: program.start(),
         prefix: None,
-        asked: anchored::asked_of(kind),
+        earliest: anchored::is_earliest(kind),
+        longest: anchored::is_longest(kind),
     };
     cache.search_anchored(counted, &request, slots)
 }

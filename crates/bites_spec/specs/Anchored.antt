@@ -4,7 +4,7 @@ use Rattle.bites_spec.specs.Walks.{Among}
 use Rattle.bites_spec.specs.Tree.{Tree, IsPlain}
 use Rattle.bites_spec.specs.Match.{Span, Mark, Matches, Parse, groups, span}
 use Rattle.bites_spec.specs.Preference.{parses}
-use Rattle.bites_spec.specs.Program.{Program, Spot, at}
+use Rattle.bites_spec.specs.Program.{Program, Configuration, at}
 use Rattle.bites_spec.specs.Run.{Run, IsRun, Reaches, first_run_from, first_run_to, longest_run_below, slots}
 use Rattle.bites_spec.specs.Counts.{Record, VisitedRun, IsBounded}
 use Rattle.bites_spec.specs.Found.{Answer, head_of, first_ending, way}
@@ -20,21 +20,21 @@ module _ (p : Program) (hay : List ℕ) where
 
   -- no run begins at s
   abbrev pub NoRunFrom : ℕ → Type 0
-  NoRunFrom s = s ≤ length hay → (r : List Spot) (j : ℕ) → IsRun p hay s r j → ⊥
+  NoRunFrom s = s ≤ length hay → (r : List Configuration) (j : ℕ) → IsRun p hay s r j → ⊥
 
   -- None where no run begins at s, else a run from s whose end is the least of all from there
   abbrev pub LeastEndFrom : ℕ → Option Run → Type 0
   LeastEndFrom s None = NoRunFrom s
   LeastEndFrom s (Some r) =
-      (s ≤ length hay) × (r.start ≡ s) × IsRun p hay r.start r.spots r.end × ((o : List Spot) (j : ℕ) → IsRun p hay s o j → r.end ≤ j)
+      (s ≤ length hay) × (r.start ≡ s) × IsRun p hay r.start r.configurations r.end × ((o : List Configuration) (j : ℕ) → IsRun p hay s o j → r.end ≤ j)
 
-  -- every spot that a walk from the start at place s reaches was visited
+  -- every configuration that a walk from the start at place s reaches was visited
   abbrev pub VisitedAllFrom : ℕ → Record → Type 0
-  VisitedAllFrom s c = s ≤ length hay → (t : Spot) → Reaches p hay (at p.start s) t → Among c.visits t
+  VisitedAllFrom s c = s ≤ length hay → (t : Configuration) → Reaches p hay (at p.start s) t → Among c.visits t
 
   -- some run from s was visited
   abbrev pub VisitedRunFrom : ℕ → Record → Type 0
-  VisitedRunFrom s c = (r : Run) × (r.start ≡ s) × IsRun p hay r.start r.spots r.end × VisitedRun p hay s c r
+  VisitedRunFrom s c = (r : Run) × (r.start ≡ s) × IsRun p hay r.start r.configurations r.end × VisitedRun p hay s c r
 
   -- what a search from s alone that finds something, or finds nothing, has visited
   abbrev pub VisitedFrom : ℕ → Bool → Record → Type 0

@@ -3,7 +3,7 @@ use Rattle.std.specs.Prelude.{◌≡◌, ℕ, ◌/◌, ◌<◌, ◌≤◌, ◌�
 use Rattle.bites_spec.specs.Utf8.{places}
 use Rattle.bites_spec.specs.Walks.{Among}
 use Rattle.bites_spec.specs.Range.{Range, in_ranges}
-use Rattle.bites_spec.specs.Class.{Set, is_letter, none, single, between, union, is_scalar, AreGreatest}
+use Rattle.bites_spec.specs.Class.{Set, is_letter, none, single, between, union, is_scalar, AreCanonical}
 use Rattle.bites_spec.specs.RangesOf.{ranges_of}
 use Rattle.bites_spec.specs.Look.{start, end}
 use Rattle.bites_spec.specs.Tree.{Tree, look, sequence, trees_of, choice_of}
@@ -67,14 +67,14 @@ abbrev pub with_ranges : Set → List Range → Set
 with_ranges set [] = set
 with_ranges set (r ∷ ranges) = with_ranges (union set (range_set r)) ranges
 
--- ranges that rise, with a character between each two, are the greatest ranges of their union
+-- ranges that rise, with a character between each two, are the canonical ranges of their union
 abbrev pub UnionsAreListed : Type 0
-UnionsAreListed = (ranges : List Range) → AreGreatest ranges → ranges_of (with_ranges none ranges) ≡ ranges
+UnionsAreListed = (ranges : List Range) → AreCanonical ranges → ranges_of (with_ranges none ranges) ≡ ranges
 
 -- and of each set that has their characters alone
 abbrev pub RangesAreListed : Type 0
 RangesAreListed =
-    (set : Set) (ranges : List Range) → AreGreatest ranges → ((c : ℕ) → is_scalar c ≡ true → in_ranges ranges c ≡ set c) → ranges_of set ≡ ranges
+    (set : Set) (ranges : List Range) → AreCanonical ranges → ((c : ℕ) → is_scalar c ≡ true → in_ranges ranges c ≡ set c) → ranges_of set ≡ ranges
 
 -- where as many groups participate as there are, each does
 abbrev pub EachParticipates : Type 0

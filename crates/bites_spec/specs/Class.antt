@@ -98,14 +98,14 @@ abbrev pub IsRange : Range → Type 0
 IsRange r = (is_scalar r.0 ≡ true) × (is_scalar r.1 ≡ true) × (r.0 ≤ r.1)
 
 -- ranges that rise, with a scalar value between each two, so that each is as long as it can be
-abbrev pub AreGreatest : List Range → Type 0
-AreGreatest [] = Unit {0}
-AreGreatest (r ∷ []) = IsRange r
-AreGreatest (r ∷ s ∷ ranges) = IsRange r × (following r.1 < s.0) × AreGreatest (s ∷ ranges)
+abbrev pub AreCanonical : List Range → Type 0
+AreCanonical [] = Unit {0}
+AreCanonical (r ∷ []) = IsRange r
+AreCanonical (r ∷ s ∷ ranges) = IsRange r × (following r.1 < s.0) × AreCanonical (s ∷ ranges)
 
--- the list of the greatest ranges of a set
+-- the list of the canonical ranges of a set
 pub record Lists (ranges : List Range) (set : Set) : Type 0 where
-  pub greatest : AreGreatest ranges
+  pub canonical : AreCanonical ranges
   pub same : (c : ℕ) → is_scalar c ≡ true → in_ranges ranges c ≡ set c
 
 -- a set has one list

@@ -2,12 +2,12 @@
 use Rattle.std.specs.Prelude.{◌≡◌, ◌⊎◌, ℕ, ◌+◌, ◌*◌, ◌≤◌, Bool, true, false, List, ◌∷◌, length}
 use Rattle.bites_spec.specs.Utf8.{places}
 use Rattle.bites_spec.specs.Walks.{Among, AllApart}
-use Rattle.bites_spec.specs.Program.{Program, Spot, at, targets}
+use Rattle.bites_spec.specs.Program.{Program, Configuration, at, targets}
 use Rattle.bites_spec.specs.Run.{Run, IsRun, Reaches}
 
--- the spots that were visited, the last one first, and the number of looks
+-- the configurations that were visited, the last one first, and the number of looks
 pub record Record : Type 0 where
-  pub visits : List Spot
+  pub visits : List Configuration
   pub looks : ℕ
 
 -- how much room a search of a program takes: for its states, its slots, and the targets of its states
@@ -21,24 +21,24 @@ abbrev pub fit_of : Program → Fit
 fit_of p = record { states = length p.states; slots = p.slots; targets = targets p }
 
 module _ (p : Program) (hay : List ℕ) (s : ℕ) where
-  -- no spot twice, at most one visit for each state and place, and at most as many looks as edges, and one, at each place
+  -- no configuration twice, at most one visit for each state and place, and at most as many looks as edges, and one, at each place
   pub record IsBounded (c : Record) : Type 0 where
     pub apart : AllApart c.visits
     pub visits : length c.visits ≤ length p.states * length (places hay s)
     pub looks : c.looks ≤ (targets p + 1) * length (places hay s)
     pub looked : length c.visits ≤ c.looks
 
-  -- every spot that a walk from the start, at a place from s on, reaches was visited
+  -- every configuration that a walk from the start, at a place from s on, reaches was visited
   abbrev pub VisitedAll : Record → Type 0
-  VisitedAll c = (i : ℕ) → Among (places hay s) i → (t : Spot) → Reaches p hay (at p.start i) t → Among c.visits t
+  VisitedAll c = (i : ℕ) → Among (places hay s) i → (t : Configuration) → Reaches p hay (at p.start i) t → Among c.visits t
 
-  -- every spot of the run was visited
+  -- every configuration of the run was visited
   abbrev pub VisitedRun : Record → Run → Type 0
-  VisitedRun c r = (t : Spot) → Among (at p.start r.start ∷ r.spots) t → Among c.visits t
+  VisitedRun c r = (t : Configuration) → Among (at p.start r.start ∷ r.configurations) t → Among c.visits t
 
   -- some run from a place from s on was visited
   abbrev pub VisitedSome : Record → Type 0
-  VisitedSome c = (r : Run) × IsRun p hay r.start r.spots r.end × Among (places hay s) r.start × VisitedRun c r
+  VisitedSome c = (r : Run) × IsRun p hay r.start r.configurations r.end × Among (places hay s) r.start × VisitedRun c r
 
   -- what a search that finds something, or finds nothing, has visited
   abbrev pub VisitedBy : Bool → Record → Type 0

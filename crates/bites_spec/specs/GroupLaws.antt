@@ -33,7 +33,7 @@ LeftAreKept = (t : Tree) → IsCompilable t → (length (groups_left t) ≡ capt
 -- in the slots of a run of a tree's program a group that is not in the tree has no place
 abbrev pub DroppedHaveNoPlace : Type 0
 DroppedHaveNoPlace =
-    (t : Tree) (p : Program) (hay : List ℕ) → IsCompilable t → Built t p → (r : Run) → IsRun p hay r.start r.spots r.end →
+    (t : Tree) (p : Program) (hay : List ℕ) → IsCompilable t → Built t p → (r : Run) → IsRun p hay r.start r.configurations r.end →
     (k : ℕ) → 1 ≤ k → (Among (groups_in t) k → ⊥) →
     (slot_in (slots p r) (2 * k) ≡ None) × (slot_in (slots p r) (2 * k + 1) ≡ None) × (group_in (slots p r) k ≡ None)
 

@@ -2,7 +2,7 @@
 use Rattle.std.specs.Prelude.{◌≡◌, ℕ, suc, ◌+◌, ◌-◌, ◌*◌, ◌<◌, ◌≤◌, ◌⊎◌, max, Bool, true, false, not, ◌&&◌, ◌==◌, List, [], ◌∷◌, ◌++◌, length, map, reverse, slice_index_or, sum_by, encode_utf8_all, Option, Some, None, option_map, unwrap_or, if◌then◌else◌}
 use Rattle.std.specs.List.{range_with_len}
 use Rattle.bites_spec.specs.Walks.{Among}
-use Rattle.bites_spec.specs.Tree.{Tree, Trees, empty, char, class, look, repetition, group, sequence, alternation, no_tree, tree_and, count, captures_len, is_empty_by_form}
+use Rattle.bites_spec.specs.Tree.{Tree, Trees, empty, char, class, look, repetition, group, sequence, alternation, no_tree, tree_and, count, captures_len, is_nullable}
 use Rattle.bites_spec.specs.Pattern.{Text, Flags, Front}
 use Rattle.bites_spec.specs.Grammar as grammar
 use Rattle.bites_spec.specs.Grammar.{Reading, Reads, ReadsChoice, ReadsSequence, ReadsItem, one, several, ends, goes_on, atom, operator, directive}
@@ -130,7 +130,7 @@ size s t r = record { states = s; targets = t; ranges = r }
 abbrev pub copies : ℕ → ℕ → ℕ → Size → Size
 copies n s t b = size (n * b.states + s) (n * b.targets + t) (n * b.ranges)
 
--- the size of a repetition, by its bounds and whether the body is empty by form
+-- the size of a repetition, by its bounds and whether the body is nullable
 abbrev pub repeated_size : ℕ → Option ℕ → Bool → Size → Size
 repeated_size min None empty_body b =
     if min == 0 then (if empty_body then copies 1 3 4 b else copies 1 1 2 b) else copies min 1 2 b
@@ -146,7 +146,7 @@ abbrev mutual
   size_of (char c) = size 1 0 0
   size_of (class ranges) = size 1 0 (length ranges)
   size_of (look l) = size 1 0 0
-  size_of (repetition min max greedy t) = repeated_size min max (is_empty_by_form t) (size_of t)
+  size_of (repetition min max greedy t) = repeated_size min max (is_nullable t) (size_of t)
   size_of (group n name t) = copies 1 2 0 (size_of t)
   size_of (sequence ts) = size_of_all ts
   size_of (alternation ts) = size ((size_of_all ts).states + 2) ((size_of_all ts).targets + count ts) (size_of_all ts).ranges

@@ -30,12 +30,12 @@ abbrev pub state_at : List State → ℕ → State
 state_at states q = slice_index_or states q fail
 
 -- a state, read at a place
-pub record Spot : Type 0 where
+pub record Configuration : Type 0 where
   pub state : ℕ
   pub place : ℕ
 
--- a spot by its state and place
-abbrev pub at : ℕ → ℕ → Spot
+-- a configuration by its state and place
+abbrev pub at : ℕ → ℕ → Configuration
 at q i = record { state = q; place = i }
 
 -- the targets of a state, the preferred one first
@@ -65,17 +65,17 @@ is_match _ = false
 
 module _ (hay : List ℕ) where
   -- over the piece at i, if it has a length and its character passes the test
-  abbrev pub taking : (ℕ → Bool) → ℕ → ℕ → List Spot
+  abbrev pub taking : (ℕ → Bool) → ℕ → ℕ → List Configuration
   taking test q i =
       if nat_lt 0 (piece hay i).len && test (character (piece hay i)) then at q (i + (piece hay i).len) ∷ [] else []
 
   -- without taking anything, where the assertion holds or there is none
-  abbrev pub looking : Option Look → ℕ → ℕ → List Spot
+  abbrev pub looking : Option Look → ℕ → ℕ → List Configuration
   looking None q i = at q i ∷ []
   looking (Some look) q i = if holds look hay i then at q i ∷ [] else []
 
   -- where a state leads from a place, the preferred edge first
-  abbrev pub edges : State → ℕ → List Spot
+  abbrev pub edges : State → ℕ → List Configuration
   edges (char q c) i = taking (λ d. d == c) q i
   edges (ranges q rs) i = taking (in_ranges rs) q i
   edges (splits qs is_reversed) i = map (λ q. at q i) (targets_of (splits qs is_reversed))

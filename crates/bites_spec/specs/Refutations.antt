@@ -22,10 +22,10 @@ abbrev pub three_ways : Program
 three_ways = record { states = program.splits (1 ∷ 1 ∷ 1 ∷ []) false ∷ program.match ∷ []; start = 0; slots = 2 }
 
 -- on the empty haystack, by the visits and the number of looks
-abbrev pub KeepsBounds : List program.Spot → ℕ → Type 0
+abbrev pub KeepsBounds : List program.Configuration → ℕ → Type 0
 KeepsBounds visits looks = IsBounded three_ways [] 0 (record { visits = visits; looks = looks })
 
--- the bound on looks is reached; one look more, one visit more, a spot twice, and less looks than visits are too many
+-- the bound on looks is reached; one look more, one visit more, a configuration twice, and less looks than visits are too many
 abbrev pub BoundsAreReached : Type 0
 BoundsAreReached = KeepsBounds (at 1 0 ∷ at 0 0 ∷ []) 4
 
@@ -49,7 +49,7 @@ SearchesReachBounds =
     (length c.visits ≡ length dead_end.states * length (places hay s)) × (c.looks ≡ (targets dead_end + 1) * length (places hay s))
 
 -- what a search on the empty haystack visited
-abbrev pub Visited : program.State → Bool → List program.Spot → Type 0
+abbrev pub Visited : program.State → Bool → List program.Configuration → Type 0
 Visited last found visits = VisitedBy (one_way last) [] 0 found (record { visits = visits; looks = 2 })
 
 -- where something is found, a whole run was visited; where nothing is, all that is reached

@@ -5,11 +5,11 @@ use Rattle.std.specs.List.{range_with_len}
 use Rattle.bites_spec.specs.Utf8.{places}
 use Rattle.bites_spec.specs.Walks.{Among, AllApart, AreOrdered, Walk, Before, first_among, last_of}
 use Rattle.bites_spec.specs.Walks as walks
-use Rattle.bites_spec.specs.Program.{State, Program, Spot, at, state_at, edges, is_match, capture}
+use Rattle.bites_spec.specs.Program.{State, Program, Configuration, at, state_at, edges, is_match, capture}
 
--- the spots are one
-abbrev pub is_same_spot : Spot → Spot → Bool
-is_same_spot s t = (s.state == t.state) && (s.place == t.place)
+-- the configurations are one
+abbrev pub is_same_configuration : Configuration → Configuration → Bool
+is_same_configuration s t = (s.state == t.state) && (s.place == t.place)
 
 -- the slot and the place that a state writes, if it writes
 abbrev pub write_of : State → ℕ → List (ℕ × ℕ)
@@ -21,33 +21,33 @@ abbrev pub last_write : List (ℕ × ℕ) → ℕ → Option ℕ
 last_write [] slot = None
 last_write (w ∷ ws) slot = option_or (last_write ws slot) (if w.0 == slot then Some w.1 else None)
 
--- a run: the place where it starts, the spots behind its first, and the place where it ends
+-- a run: the place where it starts, the configurations behind its first, and the place where it ends
 pub record Run : Type 0 where
   pub start : ℕ
-  pub spots : List Spot
+  pub configurations : List Configuration
   pub end : ℕ
 
 -- a run by its parts
-abbrev pub run : ℕ → List Spot → ℕ → Run
-run i r j = record { start = i; spots = r; end = j }
+abbrev pub run : ℕ → List Configuration → ℕ → Run
+run i r j = record { start = i; configurations = r; end = j }
 
 module _ (p : Program) where
-  -- the spot is at the state that ends a run
-  abbrev pub matches : Spot → Bool
+  -- the configuration is at the state that ends a run
+  abbrev pub matches : Configuration → Bool
   matches s = is_match (state_at p.states s.state)
 
-  -- the spot ends a run at place j
-  abbrev pub is_end_at : ℕ → Spot → Bool
+  -- the configuration ends a run at place j
+  abbrev pub is_end_at : ℕ → Configuration → Bool
   is_end_at j s = matches s && (s.place == j)
 
   -- what the run writes, in order: slots and places
-  abbrev pub writes : Spot → List Spot → List (ℕ × ℕ)
+  abbrev pub writes : Configuration → List Configuration → List (ℕ × ℕ)
   writes s [] = []
   writes s (t ∷ r) = write_of (state_at p.states s.state) s.place ++ writes t r
 
   -- the last place that the run writes to the slot
   abbrev pub written : Run → ℕ → Option ℕ
-  written r slot = last_write (writes (at p.start r.start) r.spots) slot
+  written r slot = last_write (writes (at p.start r.start) r.configurations) slot
 
   -- each slot has the last place that the run writes to it
   abbrev pub slots : Run → List (Option ℕ)
@@ -59,51 +59,51 @@ module _ (p : Program) where
   Answered (Some r) found old new = (found ≡ true) × (new ≡ take (length old) (slots r))
 
 module _ (p : Program) (hay : List ℕ) where
-  -- where a spot leads, the preferred edge first
-  abbrev pub leads : Spot → List Spot
+  -- where a configuration leads, the preferred edge first
+  abbrev pub leads : Configuration → List Configuration
   leads s = edges hay (state_at p.states s.state) s.place
 
-  -- a run may end at the spot, at place j
-  abbrev pub Ends : ℕ → Spot → Type 0
+  -- a run may end at the configuration, at place j
+  abbrev pub Ends : ℕ → Configuration → Type 0
   Ends j s = IsTrue (matches p s) × (s.place ≡ j)
 
-  -- from s the spots lead to a match at place j
-  abbrev pub Runs : Spot → List Spot → ℕ → Type 0
+  -- from s the configurations lead to a match at place j
+  abbrev pub Runs : Configuration → List Configuration → ℕ → Type 0
   Runs s r j = Walk leads (Ends j) s r
 
   -- a run from i to j
-  abbrev pub IsRun : ℕ → List Spot → ℕ → Type 0
+  abbrev pub IsRun : ℕ → List Configuration → ℕ → Type 0
   IsRun i r j = Runs (at p.start i) r j
 
-  -- no spot comes twice
-  abbrev pub IsSimple : ℕ → List Spot → Type 0
+  -- no configuration comes twice
+  abbrev pub IsSimple : ℕ → List Configuration → Type 0
   IsSimple i r = AllApart (at p.start i ∷ r)
 
   -- a walk from s gets to t
-  abbrev pub Reaches : Spot → Spot → Type 0
-  Reaches s t = (r : List Spot) × Walk leads (λ u. u ≡ t) s r
+  abbrev pub Reaches : Configuration → Configuration → Type 0
+  Reaches s t = (r : List Configuration) × Walk leads (λ u. u ≡ t) s r
 
   -- the list has all runs from i, each before those that it is preferred to
   pub record AreAllRuns (i : ℕ) (rs : List Run) : Type 0 where
-    pub runs : (r : Run) → Among rs r → (r.start ≡ i) × IsRun i r.spots r.end
-    pub all : (r : List Spot) (j : ℕ) → IsRun i r j → Among rs (run i r j)
-    pub in_order : AreOrdered (λ r o. Before leads (at p.start i) r.spots o.spots) rs
+    pub runs : (r : Run) → Among rs r → (r.start ≡ i) × IsRun i r.configurations r.end
+    pub all : (r : List Configuration) (j : ℕ) → IsRun i r j → Among rs (run i r j)
+    pub in_order : AreOrdered (λ r o. Before leads (at p.start i) r.configurations o.configurations) rs
 
   -- no run begins at a place from s on
   abbrev pub NoRun : ℕ → Type 0
-  NoRun s = (i : ℕ) → Among (places hay s) i → (r : List Spot) (j : ℕ) → IsRun i r j → ⊥
+  NoRun s = (i : ℕ) → Among (places hay s) i → (r : List Configuration) (j : ℕ) → IsRun i r j → ⊥
 
   -- the run begins at the first place from s on at which a run begins
   pub record StartsFirst (s : ℕ) (r : Run) : Type 0 where
-    pub runs : IsRun r.start r.spots r.end
+    pub runs : IsRun r.start r.configurations r.end
     pub from : Among (places hay s) r.start
-    pub none_before : (i : ℕ) → Among (places hay s) i → i < r.start → (o : List Spot) (j : ℕ) → IsRun i o j → ⊥
+    pub none_before : (i : ℕ) → Among (places hay s) i → i < r.start → (o : List Configuration) (j : ℕ) → IsRun i o j → ⊥
 
   -- the run is simple, and no simple run from its start that passes the test comes before it
   pub record IsFirstOf (Wanted : ℕ → Type 0) (r : Run) : Type 0 where
-    pub simple : IsSimple r.start r.spots
-    pub first : (o : List Spot) (j : ℕ) → IsRun r.start o j → IsSimple r.start o → Wanted j →
-        (o ≡ r.spots) ⊎ Before leads (at p.start r.start) r.spots o
+    pub simple : IsSimple r.start r.configurations
+    pub first : (o : List Configuration) (j : ℕ) → IsRun r.start o j → IsSimple r.start o → Wanted j →
+        (o ≡ r.configurations) ⊎ Before leads (at p.start r.start) r.configurations o
 
   -- None where no place from s on has a run, else the first simple run from the first such place
   abbrev pub FirstRun : ℕ → Option Run → Type 0
@@ -114,28 +114,28 @@ module _ (p : Program) (hay : List ℕ) where
   abbrev pub LeastEnd : ℕ → Option Run → Type 0
   LeastEnd s None = NoRun s
   LeastEnd s (Some r) =
-      IsRun r.start r.spots r.end × Among (places hay s) r.start
-      × ((i : ℕ) → Among (places hay s) i → (o : List Spot) (j : ℕ) → IsRun i o j → r.end ≤ j)
+      IsRun r.start r.configurations r.end × Among (places hay s) r.start
+      × ((i : ℕ) → Among (places hay s) i → (o : List Configuration) (j : ℕ) → IsRun i o j → r.end ≤ j)
 
   -- None where there is no run, else the first of the simple runs from the first place whose end is the greatest there
   abbrev pub LongestRun : ℕ → Option Run → Type 0
   LongestRun s None = NoRun s
   LongestRun s (Some r) =
-      StartsFirst s r × ((o : List Spot) (j : ℕ) → IsRun r.start o j → j ≤ r.end) × IsFirstOf (λ j. j ≡ r.end) r
+      StartsFirst s r × ((o : List Configuration) (j : ℕ) → IsRun r.start o j → j ≤ r.end) × IsFirstOf (λ j. j ≡ r.end) r
 
-  -- as many steps as there are spots, and one
+  -- as many steps as there are configurations, and one
   abbrev pub enough : ℕ
   enough = suc (length p.states * suc (length hay))
 
-  -- a run from i by its spots, the first of them with the start
-  abbrev pub run_of : ℕ → List Spot → Option Run
+  -- a run from i by its configurations, the first of them with the start
+  abbrev pub run_of : ℕ → List Configuration → Option Run
   run_of i [] = None
   run_of i (s ∷ r) = Some (run i r (last_of s r).place)
 
   -- the first simple run from i
   unfoldable pub first_run_from : ℕ → Option Run
   first_run_from i =
-      option_and_then (run_of i) (walks.first_walk is_same_spot leads (matches p) enough (λ s. false) (at p.start i))
+      option_and_then (run_of i) (walks.first_walk is_same_configuration leads (matches p) enough (λ s. false) (at p.start i))
 
   -- what `FirstRun` says, as a function
   unfoldable pub first_run : ℕ → Option Run
@@ -144,7 +144,7 @@ module _ (p : Program) (hay : List ℕ) where
   -- the first simple run from i to j
   unfoldable pub first_run_to : ℕ → ℕ → Option Run
   first_run_to i j =
-      option_and_then (run_of i) (walks.first_walk is_same_spot leads (is_end_at p j) enough (λ s. false) (at p.start i))
+      option_and_then (run_of i) (walks.first_walk is_same_configuration leads (is_end_at p j) enough (λ s. false) (at p.start i))
 
   -- the first simple run from i to the greatest place below n to which one goes
   unfoldable pub longest_run_below : ℕ → ℕ → Option Run

@@ -28,7 +28,7 @@ SlotsAreWritten = (p : Program) → IsWellFormed p → (r : Run) (k : ℕ) → s
 -- group 0 in the slots of a run of a tree's program is the span of the run
 abbrev pub Group0IsSpan : Type 0
 Group0IsSpan =
-    (t : Tree) (p : Program) (hay : List ℕ) → IsCompilable t → Built t p → (r : Run) → IsRun p hay r.start r.spots r.end →
+    (t : Tree) (p : Program) (hay : List ℕ) → IsCompilable t → Built t p → (r : Run) → IsRun p hay r.start r.configurations r.end →
     group_in (slots p r) 0 ≡ Some (span_of_run r)
 
 -- from a start past the end of the haystack there is no place, and a search visits nothing and does not look
@@ -44,7 +44,7 @@ NoFaultIsWellFormed = (p : Program) → (first_fault p ≡ None → IsWellFormed
 -- a run of a well-formed program lies in the haystack and ends at one of the places from its start on, and each slot has a place within it
 abbrev pub RunLies : Type 0
 RunLies =
-    (p : Program) (hay : List ℕ) → IsWellFormed p → (s : ℕ) (r : Run) → Among (places hay s) r.start → IsRun p hay r.start r.spots r.end →
+    (p : Program) (hay : List ℕ) → IsWellFormed p → (s : ℕ) (r : Run) → Among (places hay s) r.start → IsRun p hay r.start r.configurations r.end →
     LiesFrom (length hay) s (span_of_run r) × Among (places hay s) r.end
     × ((k i : ℕ) → slot_in (slots p r) k ≡ Some i → (r.start ≤ i) × (i ≤ r.end))
 
@@ -52,7 +52,7 @@ RunLies =
 abbrev pub ChosenRunLies : Type 0
 ChosenRunLies =
     (p : Program) (hay : List ℕ) → IsWellFormed p → (longest : Bool) (s : ℕ) (r : Run) → chosen_run longest p hay s ≡ Some r →
-    Among (places hay s) r.start × IsRun p hay r.start r.spots r.end × LiesFrom (length hay) s (span_of_run r)
+    Among (places hay s) r.start × IsRun p hay r.start r.configurations r.end × LiesFrom (length hay) s (span_of_run r)
 
 -- the longest run and the first begin at one place, there is one exactly if there is the other, and the longest ends no earlier
 abbrev pub RunsBeginAlike : Type 0
@@ -72,7 +72,7 @@ LeastRunEndIsAtMost =
 abbrev pub StaticLenTakesPart : Type 0
 StaticLenTakesPart =
     (t : Tree) (p : Program) (hay : List ℕ) → IsCompilable t → Built t p → (n : ℕ) → static_captures_len t ≡ Some n →
-    (r : Run) → IsRun p hay r.start r.spots r.end → n ≤ length (taking_part (slots p r))
+    (r : Run) → IsRun p hay r.start r.configurations r.end → n ≤ length (taking_part (slots p r))
 
 -- all runs of a plain tree's program from a place, in their order, are all parses in theirs, by their ends and groups
 abbrev pub RunsAreParsesInOrder : Type 0

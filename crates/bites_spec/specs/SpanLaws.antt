@@ -1,7 +1,7 @@
 -- The laws of successive answers and of the pieces between them, each proved.
 use Rattle.std.specs.Prelude.{◌≡◌, ℕ, ◌+◌, List, ◌∷◌, length, map, Option, option_map}
 use Rattle.bites_spec.specs.Match.{Span}
-use Rattle.bites_spec.specs.Spans.{due_after, followed, successive_after, successive, Successive, AnswersLie, EndsGrow}
+use Rattle.bites_spec.specs.Spans.{next_after, followed, successive_after, successive, Successive, AnswersLie, EndsGrow}
 use Rattle.bites_spec.specs.Pieces.{AreInOrder, gaps, limited, text_at, replaced, joined_by, alternate}
 
 -- the function answers a list of successive answers, and no other list is one
@@ -11,11 +11,11 @@ SuccessiveIsOne B =
     Successive span_of hay (λ s o. A s ≡ o) (successive span_of hay A)
     × ((xs : List B) → Successive span_of hay (λ s o. A s ≡ o) xs → xs ≡ successive span_of hay A)
 
--- what comes behind an item is the item due there, if there is one, and then what comes behind that
+-- what comes after an item is the next item, if there is one, and then what comes after that
 abbrev pub SuccessiveGoesOn : Type 0 → Type 0
 SuccessiveGoesOn B =
     (span_of : B → Span) (hay : List ℕ) (A : ℕ → Option B) → AnswersLie span_of hay A → (e : ℕ) →
-    successive_after span_of hay A e ≡ followed span_of (successive_after span_of hay A) (due_after span_of hay A e)
+    successive_after span_of hay A e ≡ followed span_of (successive_after span_of hay A) (next_after span_of hay A e)
 
 -- the spans of the successive items are the successive spans, and so of all that is read off the items with their spans
 abbrev pub SuccessiveIsMapped : Type 0 → Type 0 → Type 0

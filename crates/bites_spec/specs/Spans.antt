@@ -10,16 +10,16 @@ module _ {B : Type 0} (span_of : B → Span) (hay : List ℕ) (A : ℕ → Optio
   IsEmptyAt e None = ⊥
   IsEmptyAt e (Some x) = ((span_of x).start ≡ e) × ((span_of x).end ≡ e)
 
-  -- what is due behind an item that ends at e: the answer from e, or where that is empty at e the answer from one piece later
-  abbrev pub Due : ℕ → Option B → Type 0
-  Due e o =
+  -- the next item after one that ends at e: the answer from e, or where that is empty at e the answer from one piece later
+  abbrev pub IsNextAfter : ℕ → Option B → Type 0
+  IsNextAfter e o =
       (A e o × (IsEmptyAt e o → ⊥))
       ⊎ ((x : B) × A e (Some x) × IsEmptyAt e (Some x) × A (e + step_len hay e) o)
 
-  -- the list begins with what is due, if that is an item, and goes on with what is due behind it
+  -- the list begins with the next item, if there is one, and goes on with what comes after it
   abbrev pub Follow : (Option B → Type 0) → List B → Type 0
   Follow First [] = First None
-  Follow First (x ∷ xs) = First (Some x) × Follow (Due (span_of x).end) xs
+  Follow First (x ∷ xs) = First (Some x) × Follow (IsNextAfter (span_of x).end) xs
 
   -- these are the successive answers
   abbrev pub Successive : List B → Type 0
@@ -38,16 +38,16 @@ module _ {B : Type 0} (span_of : B → Span) where
   followed behind (Some x) = x ∷ behind (span_of x).end
 
 module _ {B : Type 0} (span_of : B → Span) (hay : List ℕ) (A : ℕ → Option B) where
-  -- the answer due behind an item that ends at e
-  unfoldable pub due_after : ℕ → Option B
-  due_after e = cond (is_empty_at span_of e (A e)) (A (e + step_len hay e)) (A e)
+  -- the next answer after an item that ends at e
+  unfoldable pub next_after : ℕ → Option B
+  next_after e = cond (is_empty_at span_of e (A e)) (A (e + step_len hay e)) (A e)
 
-  -- the items due behind one that ends at e, at most so many
+  -- the items after one that ends at e, at most so many
   unfoldable pub some_after : ℕ → ℕ → List B
   some_after zero e = []
-  some_after (suc n) e = followed span_of (some_after n) (due_after e)
+  some_after (suc n) e = followed span_of (some_after n) (next_after e)
 
-  -- the items due behind one that ends at e; their ends grow, so there are no more of them than the haystack has bytes
+  -- the items after one that ends at e; their ends grow, so there are no more of them than the haystack has bytes
   unfoldable pub successive_after : ℕ → List B
   successive_after e = some_after (length hay) e
 

@@ -49,35 +49,35 @@ repetition_of min (Some max) greedy body =
     else repetition min (Some max) greedy body
 
 abbrev mutual
-  -- the tree matches the empty text by its form alone
-  pub is_empty_by_form : Tree → Bool
-  is_empty_by_form empty = true
-  is_empty_by_form (char c) = false
-  is_empty_by_form (class rs) = false
-  is_empty_by_form (look l) = true
-  is_empty_by_form (repetition min most greedy t) = (min == 0) || is_empty_by_form t
-  is_empty_by_form (group k name t) = is_empty_by_form t
-  is_empty_by_form (sequence ts) = all_are_empty ts
-  is_empty_by_form (alternation ts) = some_is_empty ts
+  -- the tree is nullable: its form alone lets it match the empty text
+  pub is_nullable : Tree → Bool
+  is_nullable empty = true
+  is_nullable (char c) = false
+  is_nullable (class rs) = false
+  is_nullable (look l) = true
+  is_nullable (repetition min most greedy t) = (min == 0) || is_nullable t
+  is_nullable (group k name t) = is_nullable t
+  is_nullable (sequence ts) = all_are_nullable ts
+  is_nullable (alternation ts) = some_is_nullable ts
 
   -- each of the trees is
-  pub all_are_empty : Trees → Bool
-  all_are_empty no_tree = true
-  all_are_empty (tree_and t ts) = is_empty_by_form t && all_are_empty ts
+  pub all_are_nullable : Trees → Bool
+  all_are_nullable no_tree = true
+  all_are_nullable (tree_and t ts) = is_nullable t && all_are_nullable ts
 
   -- one of the trees is
-  pub some_is_empty : Trees → Bool
-  some_is_empty no_tree = false
-  some_is_empty (tree_and t ts) = is_empty_by_form t || some_is_empty ts
+  pub some_is_nullable : Trees → Bool
+  some_is_nullable no_tree = false
+  some_is_nullable (tree_and t ts) = is_nullable t || some_is_nullable ts
 
 abbrev mutual
-  -- no repetition without a bound has a body that is empty by its form
+  -- no repetition without a bound has a nullable body
   pub is_plain : Tree → Bool
   is_plain empty = true
   is_plain (char c) = true
   is_plain (class rs) = true
   is_plain (look l) = true
-  is_plain (repetition min most greedy t) = (is_some most || not (is_empty_by_form t)) && is_plain t
+  is_plain (repetition min most greedy t) = (is_some most || not (is_nullable t)) && is_plain t
   is_plain (group k name t) = is_plain t
   is_plain (sequence ts) = all_are_plain ts
   is_plain (alternation ts) = all_are_plain ts

@@ -14,9 +14,9 @@ use Rattle.bites_spec.specs.Reader.{ReadResult, Reader, ReadChoice, Stop, answer
 use Rattle.bites_spec.specs.Reader as reading
 use Rattle.bites_spec.specs.Tree as tree
 use Rattle.bites_spec.specs.Tree.{Tree}
-use Rattle.bites_spec.proofs.ClassLemmas.{lists_are_ranges_of}
-use Rattle.bites_spec.proofs.EscapeLemmas.{either_side}
-use Rattle.bites_syntax.specs.Atoms.{atom}
+use Rattle.bites_spec.proofs.classes.ClassLemmas.{lists_are_ranges_of}
+use Rattle.bites_spec.proofs.characters.EscapeLemmas.{either_side}
+use Rattle.bites_syntax.specs.Atoms.{atom, begins_atom}
 
 -- the tree of a class that an escape stands for
 pub class_meant : (flags : Flags) (m : escape.Meaning) (ranges : List Range) → ((set : Set) × (m ≡ characters set) × Lists ranges set) → tree.class ranges ≡ node_of ranges_of 0 flags m
@@ -35,7 +35,8 @@ abbrev pub IsLow : ReadResult Tree → Type 0
 IsLow (Ok x) = height x.0 ≡ 0
 IsLow (Err e) = Unit {0}
 
-literal_low : (flags : Flags) (c : ℕ) → height (literal_of flags c) ≡ 0
+-- a character has no parts
+pub literal_low : (flags : Flags) (c : ℕ) → height (literal_of flags c) ≡ 0
 literal_low flags c = by_case (flags.case_insensitive && is_letter c)
   where
     by_case : (b : Bool) → height (if b then tree.class (two_cases c) else tree.char c) ≡ 0
@@ -82,3 +83,18 @@ module _ (limit : ℕ) (go : Reader) (n depth : ℕ) (front : Front) (branches n
       (same_choice g (c == dot) _ _ _ _ refl
       (same_choice g (c == caret) _ _ _ _ refl
       (same_choice g (c == dollar) _ _ _ _ refl refl)))))))))))
+
+  -- a character that begins no other item is read as itself
+  pub item_literal : (c : ℕ) (t : Text) → (c == right_parenthesis) ≡ false → (c == bar) ≡ false → (c == left_parenthesis) ≡ false → (c == question) ≡ false →
+      (c == star) ≡ false → (c == plus) ≡ false → (c == left_brace) ≡ false → begins_atom c ≡ false →
+      at_item ranges_of limit go n depth front branches nodes (c ∷ t) ≡ go depth front branches (nodes ++ literal_of front.flags c ∷ []) t
+  item_literal c t p1 p2 p3 p4 p5 p6 p7 none =
+      let p8 = neither (c == left_bracket) _ none in
+      let p9 = neither (c == backslash) _ p8.1 in
+      let p10 = neither (c == dot) _ p9.1 in
+      let p11 = neither (c == caret) _ p10.1 in
+      rw p1 (rw p2 (rw p3 (rw p4 (rw p5 (rw p6 (rw p7 (rw p8.0 (rw p9.0 (rw p10.0 (rw p11.0 (rw p11.1 refl)))))))))))
+    where
+      neither : (a b : Bool) → (a || b) ≡ false → (a ≡ false) × (b ≡ false)
+      neither false b h = (refl, h)
+      neither true b h = absurd (false≢true (sym h))

@@ -11,8 +11,8 @@ use Rattle.bites_spec.specs.Message as message
 use Rattle.bites_spec.specs.Pattern.{Text, Flags, begins, next_is, one_of, skip, dash, backslash, left_bracket, right_bracket, caret}
 use Rattle.bites_spec.specs.Range.{Range, in_range, in_ranges}
 use Rattle.bites_spec.specs.Reader.{ReadResult, Members, after_dash, after_first, alone, and_then, answer, bracket, class_end, class_members, dashes, escape, finished, member, named, range, stop}
-use Rattle.bites_spec.proofs.ClassLemmas.{in_ranges-append, in_ranges-push}
-use Rattle.bites_spec.proofs.EachLemmas.{skip_shorter}
+use Rattle.bites_spec.proofs.classes.ClassLemmas.{in_ranges-append, in_ranges-push}
+use Rattle.bites_spec.proofs.characters.EachLemmas.{skip_shorter}
 use Rattle.bites_text.specs.Messages.{error_of}
 use Rattle.bites_text.specs.declared.error.Error.{Error}
 use Rattle.bites_text.specs.declared.error.Error.TheVariants.{Memory, UnclosedAfterDash, UnclosedAfterBracket, UnclosedClass}
@@ -80,12 +80,12 @@ Has_folded ranges new set has is = λ c scalar.
 -- the class of the ranges
 pub Lists_set : (found ranges : List Range) (set : Set) → Lists found (in_ranges ranges) → Has ranges set → Lists found set
 unfolding Has
-Lists_set found ranges set lists has = record { greatest = lists.greatest; same = λ c scalar. lists.same c scalar ∙ has c scalar }
+Lists_set found ranges set lists has = record { canonical = lists.canonical; same = λ c scalar. lists.same c scalar ∙ has c scalar }
 
 -- the class of all others
 pub Lists_others : (found others : List Range) (set : Set) → Lists found set → Lists others (complement (in_ranges found)) → Lists others (complement set)
 Lists_others found others set lists negated =
-    record { greatest = negated.greatest; same = λ c scalar. negated.same c scalar ∙ ap (λ b. is_scalar c && not b) (lists.same c scalar) }
+    record { canonical = negated.canonical; same = λ c scalar. negated.same c scalar ∙ ap (λ b. is_scalar c && not b) (lists.same c scalar) }
 
 -- a character alone
 pub add_character : (m : code.Meaning) (a : ℕ) (old new : List Range) → m ≡ Character a → new ≡ old ++ (a, a) ∷ [] →

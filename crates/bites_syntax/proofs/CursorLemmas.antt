@@ -9,7 +9,7 @@ use Rattle.std.proofs.lemmas.Bool.{false≢true}
 use Rattle.bites_spec.specs.Class.{Set, single}
 use Rattle.bites_spec.specs.Pattern.{Text, Flags, begins, next_is, skip, skip_blank, skip_white, hash, line_feed}
 use Rattle.bites_spec.specs.Reader.{each, choose}
-use Rattle.bites_spec.proofs.EachLemmas.{skip_shorter}
+use Rattle.bites_spec.proofs.characters.EachLemmas.{skip_shorter}
 use Rattle.bites_syntax.specs.Steps.{each_of}
 
 -- the first character comes off

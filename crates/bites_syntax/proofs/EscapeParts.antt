@@ -6,7 +6,7 @@ use Rattle.bites_spec.specs.Class.{Set, single}
 use Rattle.bites_spec.specs.Escape.{assertion_of, characters, class_of, control_of, is_boundary_letter}
 use Rattle.bites_spec.specs.Pattern.{Text, Flags, next_is, skip, left_brace}
 use Rattle.bites_spec.specs.Reader.{boundary, boundary_name, escape, meaning_of}
-use Rattle.bites_spec.proofs.EachLemmas.{skip_shorter}
+use Rattle.bites_spec.proofs.characters.EachLemmas.{skip_shorter}
 use Rattle.bites_syntax.specs.Steps.{each_of}
 use Rattle.bites_syntax.proofs.CursorLemmas.{each_by, each_more}
 

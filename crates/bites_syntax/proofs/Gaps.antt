@@ -1,12 +1,12 @@
--- The ranges between the greatest ranges of a set.
+-- The ranges between the canonical ranges of a set.
 use Rattle.std.proofs.Common.{◌≡◌, ◌≢◌, ℕ, zero, suc, ◌+◌, ◌-◌, ◌<◌, ◌≤◌, ◌⊎◌, true, not, ◌&&◌, List, [], ◌∷◌, ◌++◌, length, get_or, drop, append_assoc, subst, inl, inr, refl, sym, ap, ◌∙◌, arith, eq-eqb, ne_eqb, le-leb}
 use Rattle.std.specs.Prelude.{nat_le, nat_lt, ◌==◌, if◌then◌else◌}
 use Rattle.std.proofs.lemmas.Bool.{lt-leb, cases_lt, cases_eq, lt-ltb, le-ltb}
 use Rattle.std.proofs.lemmas.List.{at_drop_more, at_drop_all, drop_more}
 use Rattle.bites_spec.specs.Range.{Range, in_ranges}
-use Rattle.bites_spec.specs.Class.{is_scalar, complement, following, AreGreatest, Lists}
-use Rattle.bites_spec.proofs.RangeLemmas.{Within, is_range, none_below, tail_is_greatest, scalar_within, within_scalar, following_within, after_following, in_first}
-use Rattle.bites_spec.proofs.ClassLemmas.{StartsFrom, none_before, starts_lower, starts_behind, put_before}
+use Rattle.bites_spec.specs.Class.{is_scalar, complement, following, AreCanonical, Lists}
+use Rattle.bites_spec.proofs.classes.RangeLemmas.{Within, is_range, none_below, tail_is_canonical, scalar_within, within_scalar, following_within, after_following, in_first}
+use Rattle.bites_spec.proofs.classes.ClassLemmas.{StartsFrom, none_before, starts_lower, starts_behind, put_before}
 use Rattle.bites_syntax.proofs.Merging.{in_range-within, in_range-above}
 
 -- the scalar value before one, over the surrogates
@@ -71,7 +71,7 @@ precedes s scalar some = elim (cases_eq s 0xE000) [
 ]
 
 record Fills (low : ℕ) (ranges : List Range) (all : List Range) : Type 0 where
-  greatest : AreGreatest all
+  canonical : AreCanonical all
   starts : StartsFrom low all
   same : (c : ℕ) → is_scalar c ≡ true → low ≤ c → in_ranges all c ≡ not (in_ranges ranges c)
 
@@ -86,33 +86,33 @@ below_last c (inr high) = high.1
 
 fills_rest : (low : ℕ) → IsStart low → Fills low [] (gaps low [])
 fills_rest low (inl w) = rw (le-leb low 0x10_FFFF (below_last low w)) record {
-  greatest = (within_scalar low w, refl, below_last low w);
+  canonical = (within_scalar low w, refl, below_last low w);
   starts = omega arith;
   same = λ c scalar from. in_first (low, 0x10_FFFF) [] c from (below_last c (scalar_within c scalar));
 }
 fills_rest low (inr e) = rw (lt-leb low 0x10_FFFF (omega (arith, e))) record {
-  greatest = tt;
+  canonical = tt;
   starts = tt;
   same = λ c scalar from. absurd (omega (arith, below_last c (scalar_within c scalar), from, e));
 }
 
 -- from a range on, the gaps behind it
-behind_first : (r : Range) (ranges all : List Range) → AreGreatest (r ∷ ranges) → Fills (following r.1) ranges all →
+behind_first : (r : Range) (ranges all : List Range) → AreCanonical (r ∷ ranges) → Fills (following r.1) ranges all →
     (c : ℕ) → is_scalar c ≡ true → r.0 ≤ c → in_ranges all c ≡ not (in_ranges (r ∷ ranges) c)
 behind_first r ranges all g f c scalar from = elim (cases_lt r.1 c) [
-  | inr within ↦ rw (in_first r ranges c from within) (none_before (following r.1) c all f.greatest f.starts (omega (arith, within, after_following r.1)))
+  | inr within ↦ rw (in_first r ranges c from within) (none_before (following r.1) c all f.canonical f.starts (omega (arith, within, after_following r.1)))
   | inl above ↦ (let next = following_within r.1 c (scalar_within r.1 (is_range r ranges g).1) (scalar_within c scalar) above in
       rw (in_range-above r c from above) (f.same c scalar next.1))
 ]
 
-fills_gap : (low : ℕ) (r : Range) (ranges all : List Range) → IsStart low → low < r.0 → AreGreatest (r ∷ ranges) → Fills (following r.1) ranges all → Fills low (r ∷ ranges) ((low, preceding r.0) ∷ all)
+fills_gap : (low : ℕ) (r : Range) (ranges all : List Range) → IsStart low → low < r.0 → AreCanonical (r ∷ ranges) → Fills (following r.1) ranges all → Fills low (r ∷ ranges) ((low, preceding r.0) ∷ all)
 fills_gap low r ranges all start less g f =
     let is = is_range r ranges g in
     let w = start_within low r.0 start (scalar_within r.0 is.0) less in
     let p = precedes r.0 is.0 (omega (arith, less)) in
     record {
-      greatest = put_before (low, preceding r.0) (following r.1) all (within_scalar low w, p.scalar, p.most low (within_scalar low w) less)
-          (rw p.next (omega (arith, is.2, after_following r.1))) f.greatest f.starts;
+      canonical = put_before (low, preceding r.0) (following r.1) all (within_scalar low w, p.scalar, p.most low (within_scalar low w) less)
+          (rw p.next (omega (arith, is.2, after_following r.1))) f.canonical f.starts;
       starts = omega arith;
       same = λ c scalar from. elim (cases_lt c r.0) [
         | inl below ↦ rw (none_below r ranges g c below, in_range-within (low, preceding r.0) c from (p.most c scalar below)) refl
@@ -120,15 +120,15 @@ fills_gap low r ranges all start less g f =
       ];
     }
 
-fills : (low : ℕ) (ranges : List Range) → IsStart low → AreGreatest ranges → StartsFrom low ranges → Fills low ranges (gaps low ranges)
+fills : (low : ℕ) (ranges : List Range) → IsStart low → AreCanonical ranges → StartsFrom low ranges → Fills low ranges (gaps low ranges)
 fills low [] start g from = fills_rest low start
 fills low (r ∷ ranges) start g from =
     let is = is_range r ranges g in
-    let f = fills (following r.1) ranges (start_behind r.1 (scalar_within r.1 is.1)) (tail_is_greatest r ranges g) (starts_behind r ranges g) in
+    let f = fills (following r.1) ranges (start_behind r.1 (scalar_within r.1 is.1)) (tail_is_canonical r ranges g) (starts_behind r ranges g) in
     elim (cases_lt low r.0) [
       | inl less ↦ rw (lt-ltb low r.0 less) (fills_gap low r ranges (gaps (following r.1) ranges) start less g f)
       | inr equal ↦ rw (le-ltb low r.0 equal) record {
-        greatest = f.greatest;
+        canonical = f.canonical;
         starts = starts_lower low (following r.1) (gaps (following r.1) ranges) (omega (arith, from, is.2, after_following r.1)) f.starts;
         same = λ c scalar above. behind_first r ranges (gaps (following r.1) ranges) g f c scalar (omega (arith, equal, above));
       }
@@ -138,11 +138,11 @@ starts_anywhere : (ranges : List Range) → StartsFrom 0 ranges
 starts_anywhere [] = tt
 starts_anywhere (r ∷ ranges) = omega arith
 
--- the gaps between the greatest ranges of a set list all other characters
-pub lists_gaps : (ranges : List Range) → AreGreatest ranges → Lists (gaps 0 ranges) (complement (in_ranges ranges))
+-- the gaps between the canonical ranges of a set list all other characters
+pub lists_gaps : (ranges : List Range) → AreCanonical ranges → Lists (gaps 0 ranges) (complement (in_ranges ranges))
 lists_gaps ranges g =
     let f = fills 0 ranges (inl (inl (omega arith))) g (starts_anywhere ranges) in
-    record { greatest = f.greatest; same = λ c scalar. f.same c scalar (omega arith) ∙ sym (ap (λ b. b && not (in_ranges ranges c)) scalar) }
+    record { canonical = f.canonical; same = λ c scalar. f.same c scalar (omega arith) ∙ sym (ap (λ b. b && not (in_ranges ranges c)) scalar) }
 
 after_surrogates : (p s : ℕ) → Within p → p + 1 ≡ s → s ≢ 0xE000
 after_surrogates p s (inl low) next = λ e. omega (arith, low, next, e)
@@ -155,10 +155,10 @@ precedes_once p s scalar e = elim (cases_eq p 0xD7FF) [
       rw (ne_eqb s 0xE000 (after_surrogates p s (scalar_within p scalar) next)) (omega (arith, next)))
 ]
 
-greatest-drop : (i : ℕ) (ranges : List Range) → AreGreatest ranges → AreGreatest (drop i ranges)
-greatest-drop zero ranges g = g
-greatest-drop (suc i) [] g = g
-greatest-drop (suc i) (r ∷ ranges) g = greatest-drop i ranges (tail_is_greatest r ranges g)
+canonical-drop : (i : ℕ) (ranges : List Range) → AreCanonical ranges → AreCanonical (drop i ranges)
+canonical-drop zero ranges g = g
+canonical-drop (suc i) [] g = g
+canonical-drop (suc i) (r ∷ ranges) g = canonical-drop i ranges (tail_is_canonical r ranges g)
 
 -- a step of the walk over the ranges, where there is a gap before this one
 pub gap_before : (done ranges : List Range) (i low p : ℕ) → i < length ranges → low < (get_or ranges i (0, 0)).0 →
@@ -179,15 +179,15 @@ no_gap_before done ranges i low within no_less so_far =
     at_drop_more (gaps low) ranges i (0, 0) within ∙ (rw (le-ltb low r.0 no_less) refl) in
     ap (λ x. done ++ x) (sym step) ∙ so_far
 
-behind_last : (r : Range) (ranges : List Range) → AreGreatest (r ∷ ranges) → r.1 ≡ 0x10_FFFF → gaps (following r.1) ranges ≡ []
+behind_last : (r : Range) (ranges : List Range) → AreCanonical (r ∷ ranges) → r.1 ≡ 0x10_FFFF → gaps (following r.1) ranges ≡ []
 behind_last r [] g last = rw last refl
 behind_last r (s ∷ ranges) g last = absurd (omega (arith, g.1, last, after_following r.1, below_last s.0 (scalar_within s.0 (is_range s ranges g.2).0)))
 
 -- behind a range up to the last character there is no gap
-pub none_behind : (ranges : List Range) (i : ℕ) → AreGreatest ranges → i < length ranges → (get_or ranges i (0, 0)).1 ≡ 0x10_FFFF →
+pub none_behind : (ranges : List Range) (i : ℕ) → AreCanonical ranges → i < length ranges → (get_or ranges i (0, 0)).1 ≡ 0x10_FFFF →
     gaps (following (get_or ranges i (0, 0)).1) (drop (i + 1) ranges) ≡ []
 none_behind ranges i g within last =
-    behind_last (get_or ranges i (0, 0)) (drop (i + 1) ranges) (rw (drop_more ranges i (0, 0) within) at (greatest-drop i ranges g)) last
+    behind_last (get_or ranges i (0, 0)) (drop (i + 1) ranges) (rw (drop_more ranges i (0, 0) within) at (canonical-drop i ranges g)) last
 
 -- behind the last range there is a gap up to the last character
 pub gap_at_end : (done ranges : List Range) (i low : ℕ) → length ranges ≤ i → low ≤ 0x10_FFFF →
@@ -196,7 +196,7 @@ gap_at_end done ranges i low all within so_far =
     ap (λ x. done ++ x) (sym (at_drop_all (gaps low) ranges i all ∙ (rw (le-leb low 0x10_FFFF within) refl))) ∙ so_far
 
 -- what equals the gaps lists all other characters
-pub lists_others : (ranges others : List Range) → AreGreatest ranges → others ≡ gaps 0 ranges → Lists others (complement (in_ranges ranges))
+pub lists_others : (ranges others : List Range) → AreCanonical ranges → others ≡ gaps 0 ranges → Lists others (complement (in_ranges ranges))
 lists_others ranges others g e = subst (λ x. Lists x (complement (in_ranges ranges))) (sym e) (lists_gaps ranges g)
 
 -- below the last character there is one that follows

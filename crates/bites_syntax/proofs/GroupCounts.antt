@@ -1,7 +1,7 @@
 -- The groups of a tree are no more than the states that it takes.
 use Rattle.std.proofs.Common.{ℕ, zero, suc, ◌*◌, ◌≤◌, Bool, true, false, length, Option, Some, None, arith, inl, inr, length-append, eq-eqb, ne_eqb, suc-mul}
 use Rattle.std.proofs.lemmas.Bool.{cases_eq}
-use Rattle.bites_spec.specs.Tree.{Tree, Trees, empty, char, class, look, repetition, group, sequence, alternation, no_tree, tree_and, groups_in, groups_in_all, is_empty_by_form, IsCount, IsReduced, AllAreReduced}
+use Rattle.bites_spec.specs.Tree.{Tree, Trees, empty, char, class, look, repetition, group, sequence, alternation, no_tree, tree_and, groups_in, groups_in_all, is_nullable, IsCount, IsReduced, AllAreReduced}
 use Rattle.bites_spec.specs.Measure.{Size, repeated_size, size_of, size_of_all}
 
 at_least_one : (n x : ℕ) → 1 ≤ n → x ≤ n * x
@@ -30,7 +30,7 @@ mutual
   groups_within_states (class ranges) reduced = omega arith
   groups_within_states (look l) reduced = omega arith
   groups_within_states (repetition min most greedy t) reduced =
-      omega (arith, groups_within_states t reduced.1, repeated_more min most (is_empty_by_form t) (size_of t) reduced.0)
+      omega (arith, groups_within_states t reduced.1, repeated_more min most (is_nullable t) (size_of t) reduced.0)
   groups_within_states (group n name t) reduced = omega (arith, groups_within_states t reduced.1, at_least_one 1 (size_of t).states (omega arith))
   groups_within_states (sequence ts) reduced = all_within_states ts reduced.1
   groups_within_states (alternation ts) reduced = omega (arith, all_within_states ts reduced.1)

@@ -10,7 +10,7 @@ use Rattle.std.proofs.lemmas.Str.{encodes_same, encodes-chars}
 use Rattle.bites_spec.specs.Class.{single}
 use Rattle.bites_spec.specs.OperatorFault.{greatest_number}
 use Rattle.bites_spec.specs.Measure.{opened_by}
-use Rattle.bites_spec.proofs.KeptLemmas.{opened_more}
+use Rattle.bites_spec.proofs.regex.KeptLemmas.{opened_more}
 use Rattle.bites_spec.specs.Pattern.{Text, Front, given, begins, next_is, one_of, question}
 use Rattle.bites_spec.specs.Group.{numbered, unnumbered, changed, ends_with_dash, with_group, begins_look_around}
 use Rattle.bites_spec.specs.Reader.{ReadResult, directive, group, flags_end, flags_from, named_group, name_from, no_name, opened}

@@ -10,7 +10,7 @@ use Rattle.bites_spec.specs.Message as message
 use Rattle.bites_spec.specs.Message.{Message}
 use Rattle.bites_spec.specs.Pattern.{Text, Flags, next_is, number, left_brace, right_brace, skip}
 use Rattle.bites_spec.specs.Reader.{ReadResult, and_then, answer, stop, exactly, between_digits, hexadecimal, in_braces, scalar}
-use Rattle.bites_spec.proofs.EachLemmas.{skip_shorter}
+use Rattle.bites_spec.proofs.characters.EachLemmas.{skip_shorter}
 use Rattle.bites_text.specs.Messages.{error_of}
 use Rattle.bites_text.specs.declared.error.Error.{Error}
 use Rattle.bites_text.specs.declared.error.Error.TheVariants.{FixedHexUnfinished, FixedHexDigit}

@@ -8,7 +8,7 @@ use Rattle.bites_spec.specs.Escape.{Meaning}
 use Rattle.bites_spec.specs.Pattern.{Text, Flags, next_is, one_of, skip, dash, right_bracket}
 use Rattle.bites_spec.specs.Range.{Range}
 use Rattle.bites_spec.specs.Reader.{ReadResult, Members, Stop, after_dash, after_dashes, after_first, alone, and_then, bracket, class_end, class_members, dashes, finished, member, named, range}
-use Rattle.bites_spec.proofs.EachLemmas.{skip_shorter}
+use Rattle.bites_spec.proofs.characters.EachLemmas.{skip_shorter}
 use Rattle.bites_text.specs.declared.error.Error.{Error}
 use Rattle.bites_text.specs.declared.error.Error.TheVariants.{UnclosedAfterDash, UnclosedAfterBracket}
 use Rattle.bites_syntax.specs.Members.{Adds, AnswersLeading, Has, IsOperatorError, leading_set}

@@ -1,11 +1,11 @@
--- Ranges that do not fall are merged into the greatest ones.
+-- Ranges that do not fall are merged into the canonical ones.
 use Rattle.std.proofs.Common.{◌≡◌, ℕ, ◌<◌, ◌≤◌, max, true, false, ◌||◌, List, [], ◌∷◌, Option, Some, None, inl, inr, refl, ap, ◌∙◌, arith, le-leb}
 use Rattle.std.specs.Prelude.{nat_le, if◌then◌else◌}
 use Rattle.std.proofs.lemmas.Bool.{lt-leb, cases_lt}
 use Rattle.bites_spec.specs.Range.{Range, in_range, in_ranges}
-use Rattle.bites_spec.specs.Class.{is_scalar, following, IsRange, AreGreatest, Lists}
-use Rattle.bites_spec.proofs.RangeLemmas.{scalar_within, following_within}
-use Rattle.bites_spec.proofs.ClassLemmas.{StartsFrom, put_before}
+use Rattle.bites_spec.specs.Class.{is_scalar, following, IsRange, AreCanonical, Lists}
+use Rattle.bites_spec.proofs.classes.RangeLemmas.{scalar_within, following_within}
+use Rattle.bites_spec.proofs.classes.ClassLemmas.{StartsFrom, put_before}
 use Rattle.std.proofs.Math.Bool.{or_assoc}
 
 -- ranges that begin no lower than a number and do not fall
@@ -63,17 +63,17 @@ in_longer r s ir low near c scalar = elim (cases_lt c r.0) [
 ]
 
 record Merges (r : Range) (ranges : List Range) (all : List Range) : Type 0 where
-  greatest : AreGreatest all
+  canonical : AreCanonical all
   starts : StartsFrom r.0 all
   same : (c : ℕ) → is_scalar c ≡ true → in_ranges all c ≡ (in_range r c || in_ranges ranges c)
 
 merges : (r : Range) (ranges : List Range) → IsRange r → RiseFrom r.0 ranges → Merges r ranges (merged_behind r ranges)
-merges r [] is rise = record { greatest = is; starts = omega arith; same = λ c scalar. refl }
+merges r [] is rise = record { canonical = is; starts = omega arith; same = λ c scalar. refl }
 merges r (s ∷ ranges) is rise = elim (cases_lt (following r.1) s.0) [
   | inr near ↦ (
       let m = merges (r.0, max r.1 s.1) ranges (longer r s is rise.1) (rise_lower r.0 s.0 ranges rise.0 rise.2) in
       rw (le-leb s.0 (following r.1) near) record {
-        greatest = m.greatest;
+        canonical = m.canonical;
         starts = m.starts;
         same = λ c scalar. m.same c scalar ∙ ap (λ b. b || in_ranges ranges c) (in_longer r s is rise.0 near c scalar)
             ∙ or_assoc (in_range r c) (in_range s c) (in_ranges ranges c);
@@ -81,7 +81,7 @@ merges r (s ∷ ranges) is rise = elim (cases_lt (following r.1) s.0) [
   | inl apart ↦ (
       let m = merges s ranges rise.1 rise.2 in
       rw (lt-leb s.0 (following r.1) apart) record {
-        greatest = put_before r s.0 (merged_behind s ranges) is apart m.greatest m.starts;
+        canonical = put_before r s.0 (merged_behind s ranges) is apart m.canonical m.starts;
         starts = omega arith;
         same = λ c scalar. ap (λ b. in_range r c || b) (m.same c scalar);
       })
@@ -89,5 +89,5 @@ merges r (s ∷ ranges) is rise = elim (cases_lt (following r.1) s.0) [
 
 -- what is merged lists the characters of the ranges
 pub lists_merged : (ranges : List Range) → RiseFrom 0 ranges → Lists (merged None ranges) (in_ranges ranges)
-lists_merged [] rise = record { greatest = tt; same = λ c scalar. refl }
-lists_merged (r ∷ ranges) rise = let m = merges r ranges rise.1 rise.2 in record { greatest = m.greatest; same = m.same }
+lists_merged [] rise = record { canonical = tt; same = λ c scalar. refl }
+lists_merged (r ∷ ranges) rise = let m = merges r ranges rise.1 rise.2 in record { canonical = m.canonical; same = m.same }

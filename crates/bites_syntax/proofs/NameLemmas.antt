@@ -5,7 +5,7 @@ use Rattle.std.specs.List.{list_all}
 use Rattle.std.specs.BTreeSet.{contains_text}
 use Rattle.std.specs.Char.{encode_utf8}
 use Rattle.std.specs.Str.{chars, IsUtf8}
-use Rattle.std.proofs.lemmas.Bool.{false≢true}
+use Rattle.std.proofs.lemmas.Bool.{false≢true, and_parts}
 use Rattle.std.proofs.lemmas.Str.{chars-nil, chars_from_encodes, encodes-append, encodes-chars, IsUtf8-string_bytes}
 use Rattle.bites_spec.specs.Class.{Set, single}
 use Rattle.bites_spec.specs.Group.{is_used, is_name_front, is_name_start, is_name_part}
@@ -38,10 +38,6 @@ unclosed_none bytes none = rw (chars_none bytes none) refl
 pub unclosed_some : (bytes : Text) → IsUtf8 bytes → (length bytes == 0) ≡ false → UnclosedName ≡ error_of (name_unclosed (chars bytes))
 unclosed_some bytes utf8 some = unclosed_by (chars bytes) (chars_some bytes utf8 some)
 
-both_true : (a b : Bool) → (a && b) ≡ true → (a ≡ true) × (b ≡ true)
-both_true true b both = (refl, both)
-both_true false b both = absurd (false≢true both)
-
 with_true : (b : Bool) → (b && true) ≡ b
 with_true true = refl
 with_true false = refl
@@ -54,7 +50,7 @@ module _ (first part : Set) where
   all_push : (name : Text) (c : ℕ) → list_all part name ≡ true → list_all part (name ++ c ∷ []) ≡ part c
   all_push [] c all = with_true (part c)
   all_push (d ∷ name) c all =
-      let both = both_true (part d) (list_all part name) all in
+      let both = and_parts (part d) (list_all part name) all in
       rw both.0 (all_push name c both.1)
 
   front_first : (name : Text) (c : ℕ) → name ≡ [] → front (name ++ c ∷ []) ≡ first c
@@ -63,7 +59,7 @@ module _ (first part : Set) where
   front_push : (name : Text) (c : ℕ) → (name ≡ [] → ⊥) → front name ≡ true → front (name ++ c ∷ []) ≡ part c
   front_push [] c some is = absurd (some refl)
   front_push (d ∷ name) c some is =
-      let both = both_true (first d) (list_all part name) is in
+      let both = and_parts (first d) (list_all part name) is in
       rw both.0 (all_push name c both.1)
 
 -- the first character of a name

@@ -1,17 +1,13 @@
 -- Named classes in brackets.
 use Rattle.std.proofs.Common.{◌≡◌, ◌≤◌, ◌<◌, ◌+◌, ◌⊎◌, ◌++◌, ℕ, zero, suc, Bool, true, false, ◌&&◌, ◌==◌, [], ◌∷◌, List, length, drop, map, get_or, Option, Some, None, inl, inr, refl, sym, ap, ◌∙◌, subst, arith, length-append, length-drop, drop-cons, add-one}
 use Rattle.std.specs.Prelude.{codes, if◌then◌else◌}
-use Rattle.std.proofs.lemmas.Bool.{false≢true}
+use Rattle.std.proofs.lemmas.Bool.{false≢true, cases_Bool}
 use Rattle.std.proofs.lemmas.List.{drop-drop}
 use Rattle.bites_spec.specs.Class.{Set, NamedClass, complement, members, class_name, union}
 use Rattle.bites_spec.specs.Message as message
 use Rattle.bites_spec.specs.Pattern.{Text, begins}
 use Rattle.bites_spec.specs.Reader.{ReadResult, Members, named, stop}
 use Rattle.bites_syntax.specs.Members.{members_named, named_at}
-
-bool_cases : (b : Bool) → (b ≡ true) ⊎ (b ≡ false)
-bool_cases true = inl refl
-bool_cases false = inr refl
 
 and_false : (x : Bool) → (x && false) ≡ false
 and_false true = refl
@@ -99,9 +95,9 @@ some_same e = cc
 pub named_none : (go : Members) (set : Set) (t : Text) (classes : List NamedClass) → named_at t classes ≡ None → named go set t classes ≡ stop message.nested_class t
 unfolding named_at
 named_none go set t [] is = refl
-named_none go set t (k ∷ classes) is = elim (bool_cases (begins (written (codes "[:") k) t)) [
+named_none go set t (k ∷ classes) is = elim (cases_Bool (begins (written (codes "[:") k) t)) [
   | inl here ↦ absurd (let e : Some (k, false, drop (4 + length (class_name k)) t) ≡ None = rw here at is in cc)
-  | inr none ↦ elim (bool_cases (begins (written (codes "[:^") k) t)) [
+  | inr none ↦ elim (cases_Bool (begins (written (codes "[:^") k) t)) [
     | inl here ↦ absurd (let e : Some (k, true, drop (5 + length (class_name k)) t) ≡ None = rw (none, here) at is in cc)
     | inr no_other ↦ rw (none, no_other) (named_none go set t classes (rw (none, no_other) at is))
   ]
@@ -114,9 +110,9 @@ unfolding named_at
 named_some go set t rest [] k negated is = absurd (let e : None ≡ Some (k, negated, rest) = is in cc)
 named_some go set t rest (j ∷ classes) k negated is =
     let follows : NamedClass × Bool × Text → ReadResult Set = λ p. go (union set (members_named p.0 p.1)) p.2 in
-    elim (bool_cases (begins (written (codes "[:") j) t)) [
+    elim (cases_Bool (begins (written (codes "[:") j) t)) [
       | inl here ↦ (let e : Some (j, false, drop (4 + length (class_name j)) t) ≡ Some (k, negated, rest) = rw here at is in rw here (ap follows (some_same e)))
-      | inr none ↦ elim (bool_cases (begins (written (codes "[:^") j) t)) [
+      | inr none ↦ elim (cases_Bool (begins (written (codes "[:^") j) t)) [
         | inl here ↦ (let e : Some (j, true, drop (5 + length (class_name j)) t) ≡ Some (k, negated, rest) = rw (none, here) at is in rw (none, here) (ap follows (some_same e)))
         | inr no_other ↦ rw (none, no_other) (named_some go set t rest classes k negated (rw (none, no_other) at is))
       ]
@@ -132,12 +128,12 @@ unfolding named_at
 named_shorter t rest [] k negated is = absurd (let e : None ≡ Some (k, negated, rest) = is in cc)
 named_shorter t rest (j ∷ classes) k negated is =
     let at_end : NamedClass × Bool × Text → ℕ = λ p. length p.2 in
-    elim (bool_cases (begins (written (codes "[:") j) t)) [
+    elim (cases_Bool (begins (written (codes "[:") j) t)) [
       | inl here ↦ (let e : Some (j, false, drop (4 + length (class_name j)) t) ≡ Some (k, negated, rest) = rw here at is in
           let shorter : length (drop (4 + length (class_name j)) t) ≡ length rest = ap at_end (some_same e) in
           let less : length (drop (4 + length (class_name j)) t) < length t = behind_shorter (4 + length (class_name j)) (omega arith) (58 ∷ class_name j ++ codes ":]") t here in
           omega (arith, shorter, less))
-      | inr none ↦ elim (bool_cases (begins (written (codes "[:^") j) t)) [
+      | inr none ↦ elim (cases_Bool (begins (written (codes "[:^") j) t)) [
         | inl here ↦ (let e : Some (j, true, drop (5 + length (class_name j)) t) ≡ Some (k, negated, rest) = rw (none, here) at is in
             let shorter : length (drop (5 + length (class_name j)) t) ≡ length rest = ap at_end (some_same e) in
             let less : length (drop (5 + length (class_name j)) t) < length t = behind_shorter (5 + length (class_name j)) (omega arith) (58 ∷ 94 ∷ class_name j ++ codes ":]") t here in

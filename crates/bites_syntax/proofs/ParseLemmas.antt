@@ -9,9 +9,9 @@ use Rattle.bites_spec.specs.Built.{IsCompilable}
 use Rattle.bites_spec.specs.Fault.{Fault}
 use Rattle.bites_spec.specs.RangesOf.{ranges_of}
 use Rattle.bites_spec.specs.Reader.{Stop, read}
-use Rattle.bites_spec.proofs.ClassLemmas.{ranges_of_list}
-use Rattle.bites_spec.proofs.CompilableLemmas.{reads_compilable}
-use Rattle.bites_spec.proofs.WholeLaws.{low_is_within, stop_is_fault, tall_is_fault, refused_has_no_tree}
+use Rattle.bites_spec.proofs.classes.ClassLemmas.{ranges_of_list}
+use Rattle.bites_spec.proofs.regex.CompilableLemmas.{reads_compilable}
+use Rattle.bites_spec.proofs.grammar.WholeLaws.{low_is_within, stop_is_fault, tall_is_fault, refused_has_no_tree}
 use Rattle.bites_text.specs.Messages.{error_of}
 use Rattle.bites_text.specs.declared.error.Error.{Error}
 use Rattle.bites_text.specs.declared.error.Error.TheVariants.{Memory, TooMuchNesting}

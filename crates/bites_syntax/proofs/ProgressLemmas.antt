@@ -1,9 +1,8 @@
 -- Steps of the parser, beside the reader.
-use Rattle.std.proofs.Common.{◌≡◌, ◌<◌, ◌≤◌, ◌+◌, ◌⊎◌, ℕ, zero, suc, Bool, true, false, ◌==◌, List, [], ◌∷◌, ◌++◌, length, refl, sym, ap, subst, ◌∙◌, Option, Some, Result, Ok, Err, inl, inr, arith, add-one}
+use Rattle.std.proofs.Common.{◌≡◌, ◌≢◌, ◌||◌, ⊎_elim, ◌<◌, ◌≤◌, ◌+◌, ℕ, zero, suc, true, ◌==◌, List, [], ◌∷◌, ◌++◌, length, refl, sym, ap, subst, ◌∙◌, Some, Result, Ok, Err, inl, inr, arith}
 use Rattle.std.specs.Prelude.{MatchResult}
-use Rattle.std.proofs.lemmas.Bool.{le-ltb, lt-ltb}
+use Rattle.std.proofs.lemmas.Bool.{eqb-true, le-ltb, lt-ltb, ne_eqb}
 use Rattle.bites_spec.specs.Group.{Opening}
-use Rattle.bites_spec.specs.Message as message
 use Rattle.bites_spec.specs.Message.{Message}
 use Rattle.bites_spec.specs.Pattern as pattern
 use Rattle.bites_spec.specs.Pattern.{Text, Flags, skip}
@@ -20,7 +19,9 @@ use Rattle.bites_syntax.specs.declared.parse.Step.{Step}
 use Rattle.bites_syntax.specs.declared.parse.Step.TheVariants.{Item, Group, End}
 use Rattle.bites_syntax.specs.Nodes.{AreNodes}
 use Rattle.bites_syntax.specs.Parts.{error_in, IsErrorOf}
-use Rattle.bites_syntax.specs.Progress.{Enters, HasDepth, IsForward, Steps}
+use Rattle.bites_syntax.specs.Progress.{Enters, GoesOn, GoesOnWithItem, HasDepth, IsForward, ReadsItem, Steps, ends_items}
+use Rattle.bites_syntax.specs.FlagsView.{flags_of}
+use Rattle.bites_syntax.specs.Openings.{IsPatternFront}
 
 -- at least one node stands for at least one tree
 pub record Some_of (ts : List Tree) : Type 0 where
@@ -86,6 +87,10 @@ pub steps_at : (limit depth n : ℕ) (g : pattern.Front) (bs ts : List Tree) (re
     Steps limit depth n g bs ts result p rows b → Steps limit depth n g bs ts result p rows a
 steps_at limit depth n g bs ts result p rows a b e h = subst (λ x. Steps limit depth n g bs ts result p rows x) (sym e) h
 
+pub reads_at : {A : Type 0} → (limit depth n : ℕ) (result : Result A Error) (p : Parser) (rows : Rows) (a b : Result ReadChoice Stop) → a ≡ b →
+    ReadsItem limit depth n result p rows b → ReadsItem limit depth n result p rows a
+reads_at limit depth n result p rows a b e h = subst (λ x. ReadsItem limit depth n result p rows x) (sym e) h
+
 -- the reader goes over a gap to an item
 pub read_item : (limit n depth : ℕ) (f : Flags) (g : pattern.Front) (bs ts : List Tree) (t u : Text) → f ≡ g.flags → u ≡ skip f t →
     inner ranges_of limit (suc n) depth g bs ts t ≡ at_item ranges_of limit (inner ranges_of limit n) n depth g bs ts u
@@ -114,3 +119,40 @@ module _ (limit : ℕ) (go : Reader) (n : ℕ) (g : pattern.Front) (bs ts : List
       at_item ranges_of limit go n depth g bs ts u ≡ Ok (record { branches = bs ++ sequence_of ts ∷ []; behind = g; rest = u })
   close_one zero u v c at is deep = absurd (deep refl)
   close_one (suc depth) u v c at is deep = rw (at, is) refl
+
+  -- an opening parenthesis
+  pub opens_here : (depth : ℕ) (u v : Text) (c : ℕ) → u ≡ c ∷ v → c ≡ 40 →
+      at_item ranges_of limit go n depth g bs ts u ≡ and_then (opened g (skip g.flags v)) (at_opened ranges_of limit go depth g bs ts)
+  opens_here depth u v c at is = rw (at, is) refl
+
+-- where a run of items ends, stands a closing parenthesis or an opening one
+pub closing_of : (u v : Text) (c : ℕ) → u ≡ c ∷ v → ends_items u ≡ true → c ≢ 40 → c ≡ 41
+closing_of u v c at ends other = eqb-true c 41 (let e : ((c == 40) || (c == 41)) ≡ true = subst (λ t. ends_items t ≡ true) at ends in subst (λ b. (b || (c == 41)) ≡ true) (ne_eqb c 40 other) e)
+
+-- behind an item and a gap
+pub item_goes : (limit depth : ℕ) (p : Parser) (rows : Rows) (a : Result ReadChoice Stop) (r : GoesOnWithItem limit depth p rows a) (behind q : Parser) (after : Rows) →
+    GoesOn limit depth r.steps behind after (at_item ranges_of limit (inner ranges_of limit r.steps) r.steps depth r.g r.branches r.nodes p.cursor) →
+    length behind.cursor < length p.cursor → q.front ≡ behind.front → q.cursor ≡ skip (flags_of behind.front.flags) behind.cursor → length q.cursor ≤ length behind.cursor →
+    GoesOnWithItem limit depth q after a
+item_goes limit depth p rows a r behind q after on less front gap shorter = by_steps r.steps refl
+  where
+    by_steps : (m : ℕ) → r.steps ≡ m → GoesOnWithItem limit depth q after a
+    by_steps zero is = absurd (omega (arith, r.room, is, less))
+    by_steps (suc m) is = record {
+      g = on.g;
+      branches = on.branches;
+      nodes = on.nodes;
+      steps = m;
+      is_at = record {
+        front = subst (λ f. IsPatternFront f on.g) (sym front) on.is_at.front;
+        branches_are = on.is_at.branches_are;
+        nodes_are = on.is_at.nodes_are;
+      };
+      room = omega (arith, r.room, is, less, shorter);
+      same = r.same ∙ on.same ∙ ap (λ k. inner ranges_of limit k depth on.g on.branches on.nodes behind.cursor) is
+          ∙ read_item limit m depth (flags_of behind.front.flags) on.g on.branches on.nodes behind.cursor q.cursor on.is_at.front.flags gap;
+    }
+
+-- a fault of what is read next
+pub fault_of_rest : (e : Error) (a b : Result ReadChoice Stop) → a ≡ b → IsErrorOf e b → IsErrorOf e a
+fault_of_rest e a b same fault = ⊎_elim (λ m. inl m) (λ f. inr (ap error_in same ∙ f)) fault

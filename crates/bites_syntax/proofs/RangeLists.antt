@@ -5,15 +5,15 @@ use Rattle.std.specs.List.Sorted.{IsNonDecreasingBy}
 use Rattle.std.proofs.lemmas.List.Elements.{All-nil, All-cons, All-head, All-tail}
 use Rattle.std.proofs.lemmas.List.{at_drop_all}
 use Rattle.bites_spec.specs.Range.{Range, in_ranges}
-use Rattle.bites_spec.specs.Class.{IsRange, AreGreatest, Lists}
-use Rattle.bites_spec.proofs.RangeLemmas.{is_range, tail_is_greatest}
-use Rattle.bites_spec.proofs.ClassLemmas.{StartsFrom}
+use Rattle.bites_spec.specs.Class.{IsRange, AreCanonical, Lists}
+use Rattle.bites_spec.proofs.classes.RangeLemmas.{is_range, tail_is_canonical}
+use Rattle.bites_spec.proofs.classes.ClassLemmas.{StartsFrom}
 use Rattle.bites_syntax.proofs.Merging.{RiseFrom, merged, lists_merged}
 
--- each of the greatest ranges of a set is one
-pub all_are_ranges : (ranges : List Range) → AreGreatest ranges → All IsRange ranges
+-- each of the canonical ranges of a set is one
+pub all_are_ranges : (ranges : List Range) → AreCanonical ranges → All IsRange ranges
 all_are_ranges [] g = All-nil IsRange
-all_are_ranges (r ∷ ranges) g = All-cons IsRange r ranges (is_range r ranges g) (all_are_ranges ranges (tail_is_greatest r ranges g))
+all_are_ranges (r ∷ ranges) g = All-cons IsRange r ranges (is_range r ranges g) (all_are_ranges ranges (tail_is_canonical r ranges g))
 
 sorted_tail : (r : Range) (ranges : List Range) → IsNonDecreasingBy (λ s. s.0) (r ∷ ranges) → IsNonDecreasingBy (λ s. s.0) ranges
 sorted_tail r ranges sorted = λ i j d low high. sorted (suc i) (suc j) d (omega (arith, low)) (omega (arith, high))

@@ -1,10 +1,9 @@
 -- How far a choice is read.
-use Rattle.std.proofs.Common.{◌≡◌, ◌<◌, ◌≤◌, ◌⊎◌, ℕ, zero, suc, List, [], ◌∷◌, ◌++◌, length, drop, refl, sym, ap, subst, ◌∙◌, Option, Some, Result, Ok, Err, inl, inr, ⊎_elim, arith}
+use Rattle.std.proofs.Common.{◌≡◌, ◌<◌, ◌≤◌, ℕ, zero, suc, List, [], ◌∷◌, ◌++◌, length, drop, refl, sym, ap, ◌∙◌, Some, Result, Ok, Err, inl, inr, ⊎_elim, arith}
 use Rattle.bites_spec.specs.Grammar.{at_front, group_of}
-use Rattle.bites_spec.specs.Group.{Opening}
 use Rattle.bites_spec.specs.Pattern as pattern
 use Rattle.bites_spec.specs.RangesOf.{ranges_of}
-use Rattle.bites_spec.specs.Reader.{ReadChoice, Stop, and_found, behind_group, inner, read}
+use Rattle.bites_spec.specs.Reader.{ReadChoice, Stop, and_found, at_item, behind_group, inner, read}
 use Rattle.bites_spec.specs.Tree.{Tree, choice_of, sequence_of}
 use Rattle.bites_text.specs.declared.error.Error.{Error}
 use Rattle.bites_syntax.specs.declared.node.Node.{Node}
@@ -14,7 +13,7 @@ use Rattle.bites_syntax.specs.declared.parse.Rows.{Rows}
 use Rattle.bites_syntax.specs.Nodes.{AreNodes, IsNodeOf}
 use Rattle.bites_syntax.specs.Openings.{IsPatternFront}
 use Rattle.bites_syntax.specs.Parts.{error_in, IsErrorOf}
-use Rattle.bites_syntax.specs.Progress.{IsAt, GoesOn, Enters, EndsReading, ReadsAs}
+use Rattle.bites_syntax.specs.Progress.{IsAt, GoesOn, GoesOnWithItem, Enters, EndsReading, ReadsAs}
 
 -- what the reader is asked at the start, it is asked where the parser is
 pub record Reached (limit depth n : ℕ) (start : pattern.Front) (text : pattern.Text) (p : Parser) (rows : Rows) : Type 0 where
@@ -30,15 +29,30 @@ pub record Reached (limit depth n : ℕ) (start : pattern.Front) (text : pattern
 abbrev pub Reaches : ℕ → ℕ → Parser → Parser → Rows → Type 0
 Reaches limit depth from p rows = (start : pattern.Front) → IsPatternFront from.front start → (n : ℕ) → length from.cursor ≤ n → Reached limit depth n start from.cursor p rows
 
+-- the same behind a run of items and a gap
+abbrev pub ReachesItem : ℕ → ℕ → ℕ → pattern.Front → pattern.Text → Parser → Rows → Type 0
+ReachesItem limit depth n start text p rows = GoesOnWithItem limit depth p rows (inner ranges_of limit (suc n) depth start [] [] text)
+
 -- before the first step
 pub reached_start : (limit depth : ℕ) (p : Parser) (rows : Rows) → rows.branches.items ≡ [] → rows.nodes.items ≡ [] → Reaches limit depth p p rows
 reached_start limit depth p rows no_branches no_nodes = λ start is n room.
     record { g = start; branches = []; nodes = []; steps = n; is_at = record { front = is; branches_are = rw no_branches tt; nodes_are = rw no_nodes tt }; room = room; same = refl }
 
 module _ (limit depth n : ℕ) (start : pattern.Front) (text : pattern.Text) (p : Parser) (rows : Rows) where
-  -- behind an item
-  pub reached_item : (q : Parser) (after : Rows) (r : Reached limit depth n start text p rows) →
-      GoesOn limit depth r.steps q after (inner ranges_of limit (suc r.steps) depth r.g r.branches r.nodes p.cursor) → length q.cursor < length p.cursor →
+  -- behind a run of items
+  pub reached_items : (q : Parser) (after : Rows) (r : Reached limit depth n start text p rows) →
+      GoesOnWithItem limit depth q after (inner ranges_of limit (suc r.steps) depth r.g r.branches r.nodes p.cursor) → ReachesItem limit depth n start text q after
+  reached_items q after r on =
+      record { g = on.g; branches = on.branches; nodes = on.nodes; steps = on.steps; is_at = on.is_at; room = on.room; same = r.same ∙ on.same }
+
+  -- a fault in a run of items
+  pub reached_fault : (e : Error) (r : Reached limit depth n start text p rows) → IsErrorOf e (inner ranges_of limit (suc r.steps) depth r.g r.branches r.nodes p.cursor) →
+      IsErrorOf e (inner ranges_of limit (suc n) depth start [] [] text)
+  reached_fault e r fault = ⊎_elim (λ m. inl m) (λ f. inr (ap error_in r.same ∙ f)) fault
+
+  -- behind a step
+  pub reached_item : (q : Parser) (after : Rows) (r : ReachesItem limit depth n start text p rows) →
+      GoesOn limit depth r.steps q after (at_item ranges_of limit (inner ranges_of limit r.steps) r.steps depth r.g r.branches r.nodes p.cursor) → length q.cursor < length p.cursor →
       Reached limit depth n start text q after
   reached_item q after r on less = by_steps r.steps refl
     where
@@ -55,8 +69,8 @@ module _ (limit depth n : ℕ) (start : pattern.Front) (text : pattern.Text) (p 
       }
 
   -- at the end of the choice
-  pub reached_end : (q : Parser) (after : Rows) (node : Node) (r : Reached limit depth n start text p rows) →
-      EndsReading limit q after r.g (inner ranges_of limit (suc r.steps) depth r.g r.branches r.nodes p.cursor) →
+  pub reached_end : (q : Parser) (after : Rows) (node : Node) (r : ReachesItem limit depth n start text p rows) →
+      EndsReading limit q after r.g (at_item ranges_of limit (inner ranges_of limit r.steps) r.steps depth r.g r.branches r.nodes p.cursor) →
       ((bs ts : List Tree) → AreNodes limit after.branches.items bs → AreNodes limit after.nodes.items ts → IsNodeOf limit node (choice_of (bs ++ sequence_of ts ∷ []))) →
       ReadsAs limit q node (inner ranges_of limit (suc n) depth start [] [] text)
   reached_end q after node r ends stands = record {
@@ -67,10 +81,11 @@ module _ (limit depth n : ℕ) (start : pattern.Front) (text : pattern.Text) (p 
     node_is = stands ends.branches ends.nodes ends.branches_are ends.nodes_are;
   }
 
-  -- a fault
-  pub reached_fault : (e : Error) (r : Reached limit depth n start text p rows) → IsErrorOf e (inner ranges_of limit (suc r.steps) depth r.g r.branches r.nodes p.cursor) →
+  -- a fault of a step
+  pub step_fault : (e : Error) (r : ReachesItem limit depth n start text p rows) →
+      IsErrorOf e (at_item ranges_of limit (inner ranges_of limit r.steps) r.steps depth r.g r.branches r.nodes p.cursor) →
       IsErrorOf e (inner ranges_of limit (suc n) depth start [] [] text)
-  reached_fault e r fault = ⊎_elim (λ m. inl m) (λ f. inr (ap error_in r.same ∙ f)) fault
+  step_fault e r fault = ⊎_elim (λ m. inl m) (λ f. inr (ap error_in r.same ∙ f)) fault
 
 fault_inside : (a : Result ReadChoice Stop) (f : ReadChoice → Result ReadChoice Stop) (e : Error) → error_in a ≡ Some e → error_in (and_found a f) ≡ Some e
 fault_inside (Ok x) f e fault = absurd (let wrong : error_in (Ok x) ≡ Some e = fault in cc)
@@ -84,8 +99,8 @@ inside_by limit depth zero q opens g bs ts a enters P less reads = absurd (omega
 inside_by limit depth (suc k) q opens g bs ts a enters P less reads = reads k (omega arith)
 
 module _ (limit depth n : ℕ) (start : pattern.Front) (text : pattern.Text) (p : Parser) (rows : Rows) (q : Parser) (opens : OpenGroup)
-    (r : Reached limit depth n start text p rows)
-    (enters : Enters limit depth r.steps q opens r.g r.branches r.nodes (inner ranges_of limit (suc r.steps) depth r.g r.branches r.nodes p.cursor))
+    (r : ReachesItem limit depth n start text p rows)
+    (enters : Enters limit depth r.steps q opens r.g r.branches r.nodes (at_item ranges_of limit (inner ranges_of limit r.steps) r.steps depth r.g r.branches r.nodes p.cursor))
     (less : length q.cursor < length p.cursor) where
   -- a fault in a group
   pub fault_in_group : (e : Error) → ((k : ℕ) → length q.cursor ≤ k → IsErrorOf e (inner ranges_of limit (suc k) (suc depth) enters.inside [] [] q.cursor)) →

@@ -1,11 +1,15 @@
 -- Items that are nodes of their own and no groups, as the reader answers them.
-use Rattle.std.specs.Prelude.{ℕ, ◌==◌, ◌∷◌, []}
+use Rattle.std.specs.Prelude.{ℕ, Bool, ◌||◌, ◌==◌}
 use Rattle.bites_spec.specs.Grammar.{literal_of, dot_set, caret_look, dollar_look}
 use Rattle.bites_spec.specs.Pattern.{Text, Flags, skip, dot, caret, dollar, backslash, left_bracket}
 use Rattle.bites_spec.specs.RangesOf.{ranges_of}
 use Rattle.bites_spec.specs.Reader.{ReadResult, answer, and_then, choose, bracket, escape, node_of}
 use Rattle.bites_spec.specs.Tree as tree
 use Rattle.bites_spec.specs.Tree.{Tree}
+
+-- whether a node that is not this character begins with it
+abbrev pub begins_atom : ℕ → Bool
+begins_atom c = (c == left_bracket) || ((c == backslash) || ((c == dot) || ((c == caret) || (c == dollar))))
 
 -- the node that begins with this character, which the text stands behind
 abbrev pub atom : ℕ → Flags → ℕ → Text → ReadResult Tree

@@ -1,10 +1,10 @@
 -- How far a pattern is read, beside the reader.
-use Rattle.std.specs.Prelude.{◌≡◌, ◌<◌, ◌≤◌, ◌++◌, ◌∷◌, length, ℕ, suc, List, [], Result, Ok, Err, MatchResult}
+use Rattle.std.specs.Prelude.{◌≡◌, ◌==◌, ◌||◌, Bool, true, ◌<◌, ◌≤◌, ◌++◌, ◌∷◌, length, ℕ, suc, List, [], Result, Ok, Err, MatchResult}
 use Rattle.bites_spec.specs.Group.{Opening}
 use Rattle.bites_spec.specs.Pattern as pattern
-use Rattle.bites_spec.specs.Pattern.{Text}
+use Rattle.bites_spec.specs.Pattern.{Text, left_parenthesis, right_parenthesis}
 use Rattle.bites_spec.specs.RangesOf.{ranges_of}
-use Rattle.bites_spec.specs.Reader.{ReadChoice, Stop, and_found, behind_group, inner}
+use Rattle.bites_spec.specs.Reader.{ReadChoice, Stop, and_found, at_item, behind_group, inner}
 use Rattle.bites_spec.specs.Tree.{Tree, choice_of, sequence_of}
 use Rattle.bites_text.specs.declared.error.Error.{Error}
 use Rattle.bites_syntax.specs.declared.node.Node.{Node}
@@ -31,6 +31,31 @@ pub record GoesOn (limit depth n : ℕ) (p : Parser) (rows : Rows) (a : Result R
   pub nodes : List Tree
   pub is_at : IsAt limit p rows g branches nodes
   pub same : a ≡ inner ranges_of limit n depth g branches nodes p.cursor
+
+-- what an item of the parser is to the reader
+abbrev pub ReadsItem : {A : Type 0} → ℕ → ℕ → ℕ → Result A Error → Parser → Rows → Result ReadChoice Stop → Type 0
+ReadsItem limit depth n (Ok x) p rows a = GoesOn limit depth n p rows a
+ReadsItem limit depth n (Err e) p rows a = IsErrorOf e a
+
+-- the reader goes on from where the parser is, behind a gap, and this number of steps is enough for the text
+pub record GoesOnWithItem (limit depth : ℕ) (p : Parser) (rows : Rows) (a : Result ReadChoice Stop) : Type 0 where
+  pub g : pattern.Front
+  pub branches : List Tree
+  pub nodes : List Tree
+  pub steps : ℕ
+  pub is_at : IsAt limit p rows g branches nodes
+  pub room : length p.cursor ≤ steps
+  pub same : a ≡ at_item ranges_of limit (inner ranges_of limit steps) steps depth g branches nodes p.cursor
+
+-- what a run of items of the parser is to the reader
+abbrev pub ReadsItems : {A : Type 0} → ℕ → ℕ → Result A Error → Parser → Rows → Result ReadChoice Stop → Type 0
+ReadsItems limit depth (Ok x) p rows a = GoesOnWithItem limit depth p rows a
+ReadsItems limit depth (Err e) p rows a = IsErrorOf e a
+
+-- a run of items ends here
+abbrev pub ends_items : Text → Bool
+ends_items [] = true
+ends_items (c ∷ t) = (c == left_parenthesis) || (c == right_parenthesis)
 
 -- the reader goes on inside a group, and behind it from this front, branches and nodes
 pub record Enters (limit depth n : ℕ) (p : Parser) (group : OpenGroup) (g : pattern.Front) (branches nodes : List Tree) (a : Result ReadChoice Stop) : Type 0 where

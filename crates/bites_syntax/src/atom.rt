@@ -25,7 +25,7 @@ use bites_text::error::Error;
 use std::alloc::Global;
 
 /// The tree of a character, by the flags in force.
-fn literal(flags: Flags, c: char) -> Tree
+pub(crate) fn literal(flags: Flags, c: char) -> Tree
     ensures { result ≡ literal_of (flags_of flags) c }
 {
     if flags.case_insensitive && c.is_ascii_alphabetic() {

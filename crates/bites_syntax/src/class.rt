@@ -2,7 +2,7 @@
 
 ghost use Rattle.std.specs.Prelude.{◌≡◌, ◌<◌, true, codes, if◌then◌else◌, IsTrue, [], IfOk, MatchOption};
 ghost use Rattle.bites_spec.specs.Range.{in_ranges};
-ghost use Rattle.bites_spec.specs.Class.{AreGreatest, Lists, complement, following, is_scalar, is_letter, members, none, single};
+ghost use Rattle.bites_spec.specs.Class.{AreCanonical, Lists, complement, following, is_scalar, is_letter, members, none, single};
 ghost use Rattle.bites_spec.specs.Grammar.{two_cases};
 ghost use Rattle.bites_spec.specs.Pattern.{one_of};
 ghost use Rattle.bites_syntax.specs.Ranges.{constant_set};
@@ -13,7 +13,7 @@ use crate::range_list::{Constant, RangeList};
 use std::alloc::{AllocError, Global};
 use std::marker::Model;
 
-/// A set of characters. A contract sees the list of its greatest ranges.
+/// A set of characters. A contract sees the list of its canonical ranges.
 #[derive(Drop)]
 pub struct Class {
     ranges: RangeList,
@@ -22,13 +22,13 @@ pub struct Class {
 impl Model for Class {
     ghost use Rattle.std.specs.Prelude.{List};
     ghost use Rattle.bites_spec.specs.Range.{Range};
-    ghost use Rattle.bites_spec.specs.Class.{AreGreatest};
+    ghost use Rattle.bites_spec.specs.Class.{AreCanonical};
 
     ghost Value = { List Range };
 
     ghost view = { λ a. a.ranges };
 
-    ghost invariant = { λ a. AreGreatest a.ranges };
+    ghost invariant = { λ a. AreCanonical a.ranges };
 }
 
 impl Class {
@@ -39,9 +39,9 @@ impl Class {
         Class::from_ranges(Vec::new(alloc))
     }
 
-    /// The class with these greatest ranges.
+    /// The class with these canonical ranges.
     pub fn from_ranges(ranges: Vec<(char, char)>) -> Class
-        requires { AreGreatest ranges.items }
+        requires { AreCanonical ranges.items }
         ensures { result ≡ ranges.items }
     {
         Class {
@@ -72,10 +72,10 @@ impl Class {
         Class::constant(Constant::Others(name))
     }
 
-    /// The class of all characters that lie in none of these greatest ranges. It refuses only for
+    /// The class of all characters that lie in none of these canonical ranges. It refuses only for
     /// memory.
     pub fn all_but(alloc: Global, ranges: &[(char, char)]) -> Result<Class, AllocError>
-        requires { AreGreatest ranges.now }
+        requires { AreCanonical ranges.now }
         ensures { IfOk result (λ class. Lists class (complement (in_ranges ranges.now))) }
     {
         Ok(Class::from_ranges(gaps(alloc, ranges)?))
@@ -113,18 +113,18 @@ impl Class {
         }
     }
 
-    /// The greatest ranges of the class, from the lowest to the highest.
+    /// The canonical ranges of the class, from the lowest to the highest.
     pub fn ranges(&self) -> &[(char, char)]
         ensures ranges { result.now ≡ self.now }
-        ensures greatest { AreGreatest self.now }
+        ensures greatest { AreCanonical self.now }
     {
         self.ranges.as_slice()
     }
 
-    /// The list of the greatest ranges.
+    /// The list of the canonical ranges.
     pub fn list(&self) -> &RangeList
         ensures ranges { result.now ≡ self.now }
-        ensures greatest { AreGreatest self.now }
+        ensures greatest { AreCanonical self.now }
     {
         &self.ranges
     }
@@ -144,9 +144,9 @@ impl Class {
     }
 }
 
-/// The ranges that lie between these greatest ranges.
+/// The ranges that lie between these canonical ranges.
 fn gaps(alloc: Global, ranges: &[(char, char)]) -> Result<Vec<(char, char)>, AllocError>
-    requires { AreGreatest ranges.now }
+    requires { AreCanonical ranges.now }
     ensures { IfOk result (λ others. Lists others.items (complement (in_ranges ranges.now))) }
 {
     let mut others = Vec::new(alloc);

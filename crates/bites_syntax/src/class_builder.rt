@@ -3,7 +3,7 @@
 ghost use Rattle.std.specs.Prelude.{◌≡◌, ℕ, ◌+◌, ◌-◌, ◌≤◌, ◌&&◌, ◌||◌, nat_le, [], ◌∷◌, ◌++◌, All, IfOk, OnOk, OnErr};
 ghost use Rattle.std.specs.List.Sorted.{IsNonDecreasingBy};
 ghost use Rattle.bites_spec.specs.Range.{in_range, in_ranges};
-ghost use Rattle.bites_spec.specs.Class.{AreGreatest, IsRange, Lists, folded, following, is_lower, is_upper};
+ghost use Rattle.bites_spec.specs.Class.{AreCanonical, IsRange, Lists, folded, following, is_lower, is_upper};
 ghost use Rattle.bites_syntax.specs.Cases.{other_case};
 
 use crate::class::{Class, following};
@@ -49,10 +49,10 @@ impl ClassBuilder {
         Ok(())
     }
 
-    /// Adds the characters of greatest ranges, as those of a class. A refusal for memory leaves
+    /// Adds the characters of canonical ranges, as those of a class. A refusal for memory leaves
     /// the builder as it was.
     pub fn extend(&mut self, ranges: &[(char, char)]) -> Result<(), AllocError>
-        requires { AreGreatest ranges.now }
+        requires { AreCanonical ranges.now }
         ensures added { OnOk result (self.new ≡ self.old ++ ranges.now) }
         ensures kept { OnErr result (self.new ≡ self.old) }
     {
@@ -120,7 +120,7 @@ fn other_cases(alloc: Global, ranges: &[(char, char)]) -> Result<ClassBuilder, A
     Ok(others)
 }
 
-/// The greatest ranges of the characters in these ranges, which do not fall.
+/// The canonical ranges of the characters in these ranges, which do not fall.
 fn merged(alloc: Global, ranges: &[(char, char)]) -> Result<Vec<(char, char)>, AllocError>
     requires ranges { All IsRange ranges.now }
     requires sorted { IsNonDecreasingBy (λ range. range.0) ranges.now }

@@ -2,7 +2,7 @@
 
 ghost use Rattle.std.specs.Prelude.{◌≡◌, ◌<◌, ◌^◌, min, length};
 ghost use Rattle.bites_spec.specs.Measure.{height, tallest, static_count, static_sum, static_agreed};
-ghost use Rattle.bites_spec.specs.Tree.{is_empty_by_form, all_are_empty, some_is_empty, groups_in, groups_in_all, greatest, captures_len, trees_of};
+ghost use Rattle.bites_spec.specs.Tree.{is_nullable, all_are_nullable, some_is_nullable, groups_in, groups_in_all, greatest, captures_len, trees_of};
 
 use crate::tree::{Kind, Tree};
 
@@ -31,41 +31,41 @@ fn tallest(parts: &[Tree]) -> u32
     most
 }
 
-/// Whether the tree matches the empty text by its form alone.
+/// Whether the tree is nullable: its form alone lets it match the empty text.
 #[cycle(empty)]
-pub fn is_empty_by_form(tree: &Tree) -> bool
-    ensures { result ≡ is_empty_by_form tree.now }
+pub fn is_nullable(tree: &Tree) -> bool
+    ensures { result ≡ is_nullable tree.now }
 {
     match tree.kind() {
         Kind::Empty | Kind::Look(_) => true,
         Kind::Char(_) | Kind::Class(_) => false,
-        Kind::Repetition { min, sub, .. } => *min == 0 || is_empty_by_form(sub),
-        Kind::Capture { sub, .. } => is_empty_by_form(sub),
-        Kind::Concat(parts) => all_are_empty(parts),
-        Kind::Alternation(parts) => some_is_empty(parts),
+        Kind::Repetition { min, sub, .. } => *min == 0 || is_nullable(sub),
+        Kind::Capture { sub, .. } => is_nullable(sub),
+        Kind::Concat(parts) => all_are_nullable(parts),
+        Kind::Alternation(parts) => some_is_nullable(parts),
     }
 }
 
-/// Whether all trees match the empty text by their form.
+/// Whether all trees are nullable.
 #[cycle(empty)]
-fn all_are_empty(parts: &[Tree]) -> bool
-    ensures { result ≡ all_are_empty (trees_of parts.now) }
+fn all_are_nullable(parts: &[Tree]) -> bool
+    ensures { result ≡ all_are_nullable (trees_of parts.now) }
 {
     for part in parts {
-        if !is_empty_by_form(part) {
+        if !is_nullable(part) {
             return false;
         }
     }
     true
 }
 
-/// Whether one of the trees matches the empty text by its form.
+/// Whether one of the trees is nullable.
 #[cycle(empty)]
-fn some_is_empty(parts: &[Tree]) -> bool
-    ensures { result ≡ some_is_empty (trees_of parts.now) }
+fn some_is_nullable(parts: &[Tree]) -> bool
+    ensures { result ≡ some_is_nullable (trees_of parts.now) }
 {
     for part in parts {
-        if is_empty_by_form(part) {
+        if is_nullable(part) {
             return true;
         }
     }

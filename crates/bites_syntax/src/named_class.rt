@@ -2,7 +2,7 @@
 
 ghost use Rattle.std.specs.Prelude.{◌≡◌, ℕ};
 ghost use Rattle.bites_spec.specs.Range.{in_ranges};
-ghost use Rattle.bites_spec.specs.Class.{AreGreatest, Lists, complement, members, class_name};
+ghost use Rattle.bites_spec.specs.Class.{AreCanonical, Lists, complement, members, class_name};
 ghost use Rattle.bites_syntax.specs.View.{named_of};
 
 /// A class of ASCII characters that has a name: those of POSIX, and `word`.
@@ -65,9 +65,9 @@ impl NamedClass {
         }
     }
 
-    /// The greatest ranges of the class.
+    /// The canonical ranges of the class.
     pub fn ranges(self) -> &'static [(char, char)]
-        ensures greatest { AreGreatest result.now }
+        ensures greatest { AreCanonical result.now }
         ensures members { (c : ℕ) → in_ranges result.now c ≡ members (named_of self) c }
     {
         match self {
@@ -88,7 +88,7 @@ impl NamedClass {
         }
     }
 
-    /// The greatest ranges of all characters that are not in the class.
+    /// The canonical ranges of all characters that are not in the class.
     pub fn others(self) -> &'static [(char, char)]
         ensures { Lists result.now (complement (members (named_of self))) }
     {

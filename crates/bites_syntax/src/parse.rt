@@ -1,18 +1,18 @@
 //! Reading a pattern.
 
-ghost use Rattle.std.specs.Prelude.{◌≡◌, ◌≢◌, ◌++◌, ◌≤◌, ◌<◌, ◌⊎◌, ◌∷◌, [], ℕ, suc, List, length, chars, IfOk, IfErr, MatchResult, Ok};
+ghost use Rattle.std.specs.Prelude.{◌≡◌, ◌≢◌, ◌++◌, ◌≤◌, ◌<◌, ◌⊎◌, ◌∷◌, [], ℕ, suc, List, length, chars, true, IfOk, IfErr, MatchResult, Ok, OnOk};
 ghost use Rattle.bites_spec.specs.Message as message;
 ghost use Rattle.bites_spec.specs.Pattern as pattern;
-ghost use Rattle.bites_spec.specs.Pattern.{Text, right_parenthesis, skip};
+ghost use Rattle.bites_spec.specs.Pattern.{Text, left_parenthesis, right_parenthesis, skip};
 ghost use Rattle.bites_spec.specs.RangesOf.{ranges_of};
 ghost use Rattle.bites_spec.specs.Reader.{and_then, at_item, at_opened, at_operator, counted, inner, lazy, opened, plain_operator, read, repeat_last};
-ghost use Rattle.bites_spec.specs.Grammar.{Reading, group_of};
+ghost use Rattle.bites_spec.specs.Grammar.{Reading, group_of, literal_of};
 ghost use Rattle.bites_spec.specs.Group.{Opening};
 ghost use Rattle.bites_spec.specs.Tree as spec;
 ghost use Rattle.bites_spec.specs.Tree.{choice_of, sequence_of};
-ghost use Rattle.bites_syntax.specs.Atoms.{atom};
+ghost use Rattle.bites_syntax.specs.Atoms.{atom, begins_atom};
 ghost use Rattle.bites_syntax.specs.Nodes.{AreNodes, IsNumbered, IsNodeOf};
-ghost use Rattle.bites_syntax.specs.Progress.{HasDepth, IsAt, IsChoice, IsForward, Steps};
+ghost use Rattle.bites_syntax.specs.Progress.{HasDepth, IsAt, IsChoice, IsForward, ReadsItem, ReadsItems, Steps, ends_items};
 ghost use Rattle.bites_syntax.specs.Operators.{bounds_of};
 ghost use Rattle.bites_syntax.specs.Parts.{IsErrorOf, WithSteps};
 ghost use Rattle.bites_syntax.specs.Openings.{IsPatternFront};
@@ -23,7 +23,7 @@ ghost use Rattle.bites_spec.specs.Fault.{Fault};
 ghost use Rattle.bites_spec.specs.Measure.{groups_opened, height, IsTooTall, Limits};
 ghost use Rattle.bites_text.specs.Messages.{error_of};
 
-use crate::atom::atom;
+use crate::atom::{atom, literal};
 use crate::cursor::Cursor;
 pub use crate::flags::Flags;
 use crate::group::{Front, Opened, open_group};
@@ -83,6 +83,17 @@ impl Rows {
             branches: Vec::new(alloc),
             nodes: Vec::new(alloc),
         }
+    }
+
+    /// Adds the node of a character that stands for itself.
+    fn push_literal(&mut self, flags: Flags, c: char) -> Result<(), AllocError>
+        ensures branches { self.new.branches.items ≡ self.old.branches.items }
+        ensures nodes { OnOk result ((limit : ℕ) → (ts : List spec.Tree) →
+            AreNodes limit self.old.nodes.items ts →
+            AreNodes limit self.new.nodes.items (ts ++ literal_of (flags_of flags) c ∷ [])) }
+    {
+        self.nodes.push(Node::leaf(literal(flags, c)))?;
+        Ok(())
     }
 
     /// Makes the nodes a branch before another one.
@@ -156,6 +167,13 @@ fn close_group(
     Ok(group.flags)
 }
 
+/// Whether an item that is more than one character, or stands for another, begins with the character.
+fn begins_atom(c: char) -> bool
+    ensures { result ≡ begins_atom c }
+{
+    matches!(c, '[' | '\\' | '.' | '^' | '$')
+}
+
 /// Opens a group, unless too many are open.
 fn enter(depth: u32, limit: u32, group: OpenGroup) -> Result<Step, Error>
     ensures { MatchResult result
@@ -178,15 +196,14 @@ impl Parser<'_> {
         rows: &mut Rows,
         min: u32,
         max: Option<u32>,
-    ) -> Result<Step, Error>
-        ensures steps { (g : pattern.Front) → (bs ts : List spec.Tree) →
+    ) -> Result<(), Error>
+        ensures reads { (g : pattern.Front) → (bs ts : List spec.Tree) →
             IsAt limit self.old rows.old g bs ts →
             (depth n : ℕ) → (at : Text) →
-            Steps limit depth n g bs ts result self.new rows.new
+            ReadsItem limit depth n result self.new rows.new
             (at_operator ranges_of limit (inner ranges_of limit n) depth g bs ts
             message.nothing_to_repeat at
             (plain_operator g.flags min max (lazy self.old.cursor))) }
-        ensures room { (depth : ℕ) → HasDepth limit depth result }
         ensures forward { length self.new.cursor ≤ length self.old.cursor }
     {
         if rows.nodes.is_empty() {
@@ -194,21 +211,20 @@ impl Parser<'_> {
         }
         let bounds = plain_operator(&mut self.cursor, self.front.flags, min, max);
         rows.repeat(alloc, limit, bounds)?;
-        Ok(Step::Item)
+        Ok(())
     }
 
     /// Reads an operator in braces from behind its brace, and repeats the last node.
-    fn repeat_counted(&mut self, alloc: Global, limit: u32, rows: &mut Rows) -> Result<Step, Error>
-        ensures steps { (g : pattern.Front) → (bs ts : List spec.Tree) →
+    fn repeat_counted(&mut self, alloc: Global, limit: u32, rows: &mut Rows) -> Result<(), Error>
+        ensures reads { (g : pattern.Front) → (bs ts : List spec.Tree) →
             IsAt limit self.old rows.old g bs ts →
             (depth : ℕ) → (at : Text) →
             WithSteps self.old.cursor
             (λ n.
-            Steps limit depth n g bs ts result self.new rows.new
+            ReadsItem limit depth n result self.new rows.new
             (at_operator ranges_of limit (inner ranges_of limit n) depth g bs ts
             message.nothing_to_count at
             (counted n g.flags (skip g.flags self.old.cursor)))) }
-        ensures room { (depth : ℕ) → HasDepth limit depth result }
         ensures forward { length self.new.cursor ≤ length self.old.cursor }
     {
         if rows.nodes.is_empty() {
@@ -217,7 +233,7 @@ impl Parser<'_> {
         self.cursor.skip(self.front.flags);
         let bounds = counted(&mut self.cursor, self.front.flags)?;
         rows.repeat(alloc, limit, bounds)?;
-        Ok(Step::Item)
+        Ok(())
     }
 
     /// Reads what opens a group or is a directive, from behind its parenthesis.
@@ -259,90 +275,102 @@ impl Parser<'_> {
         }
     }
 
-    /// Reads an item or a bar from behind its first character.
-    fn item(
-        &mut self,
-        alloc: Global,
-        limit: u32,
-        depth: u32,
-        rows: &mut Rows,
-        c: char,
-    ) -> Result<Step, Error>
-        requires { c ≢ right_parenthesis }
-        ensures steps { (g : pattern.Front) → (bs ts : List spec.Tree) →
-            IsAt limit self.old rows.old g bs ts →
+    /// Reads an item or a bar from behind its first character, which is no parenthesis.
+    fn item(&mut self, alloc: Global, limit: u32, rows: &mut Rows, c: char) -> Result<(), Error>
+        requires closing { c ≢ right_parenthesis }
+        requires opening { c ≢ left_parenthesis }
+        ensures reads { (g : pattern.Front) → (bs ts : List spec.Tree) →
+            IsAt limit self.old rows.old g bs ts → (depth : ℕ) →
             WithSteps self.old.cursor
             (λ n.
-            Steps limit depth n g bs ts result self.new rows.new
+            ReadsItem limit depth n result self.new rows.new
             (at_item ranges_of limit (inner ranges_of limit n) n depth g bs ts
             (c ∷ self.old.cursor))) }
-        ensures room { HasDepth limit depth result }
         ensures forward { length self.new.cursor ≤ length self.old.cursor }
     {
         match c {
             '|' => {
                 rows.end_branch(alloc, limit)?;
-                Ok(Step::Item)
+                Ok(())
             }
-            '(' => self.open(alloc, limit, depth),
             '?' => self.repeat(alloc, limit, rows, 0, Some(1)),
             '*' => self.repeat(alloc, limit, rows, 0, None),
             '+' => self.repeat(alloc, limit, rows, 1, None),
             '{' => self.repeat_counted(alloc, limit, rows),
-            _ => self.push_atom(alloc, rows, c),
+            _ => {
+                if begins_atom(c) {
+                    return self.push_atom(alloc, rows, c);
+                }
+                rows.push_literal(self.front.flags, c)?;
+                Ok(())
+            }
         }
     }
 
     /// Reads an item that is a node, from behind its first character.
-    fn push_atom(&mut self, alloc: Global, rows: &mut Rows, c: char) -> Result<Step, Error>
-        ensures steps { (limit : ℕ) → (g : pattern.Front) → (bs ts : List spec.Tree) →
+    fn push_atom(&mut self, alloc: Global, rows: &mut Rows, c: char) -> Result<(), Error>
+        ensures reads { (limit : ℕ) → (g : pattern.Front) → (bs ts : List spec.Tree) →
             IsAt limit self.old rows.old g bs ts → (depth : ℕ) →
             WithSteps self.old.cursor
-            (λ n. Steps limit depth n g bs ts result self.new rows.new
+            (λ n. ReadsItem limit depth n result self.new rows.new
             (and_then (atom n g.flags c self.old.cursor)
             (λ node rest. inner ranges_of limit n depth g bs (ts ++ node ∷ []) rest))) }
-        ensures room { (limit depth : ℕ) → HasDepth limit depth result }
         ensures forward { length self.new.cursor ≤ length self.old.cursor }
     {
         let tree = atom(alloc, &mut self.cursor, self.front.flags, c)?;
         rows.nodes.push(Node::leaf(tree))?;
-        Ok(Step::Item)
+        Ok(())
     }
 }
 
 impl Parser<'_> {
-    /// Reads a step of a choice: a gap, and an item, a bar, what opens a group, or nothing where
-    /// the choice ends.
-    fn step(
-        &mut self,
-        alloc: Global,
-        limit: u32,
-        depth: u32,
-        rows: &mut Rows,
-    ) -> Result<Step, Error>
-        ensures steps { (g : pattern.Front) → (bs ts : List spec.Tree) →
-            IsAt limit self.old rows.old g bs ts →
+    /// Reads the items and bars that stand here, with the gaps between them, up to a parenthesis or to the end of the
+    /// pattern.
+    fn items(&mut self, alloc: Global, limit: u32, rows: &mut Rows) -> Result<(), Error>
+        ensures reads { (g : pattern.Front) → (bs ts : List spec.Tree) →
+            IsAt limit self.old rows.old g bs ts → (depth : ℕ) →
             WithSteps self.old.cursor
             (λ n.
-            Steps limit depth n g bs ts result self.new rows.new
+            ReadsItems limit depth result self.new rows.new
             (inner ranges_of limit (suc n) depth g bs ts self.old.cursor)) }
-        ensures forward { IsForward limit depth result self.old.cursor self.new.cursor }
+        ensures ends { OnOk result (ends_items self.new.cursor ≡ true) }
+        ensures forward { length self.new.cursor ≤ length self.old.cursor }
     {
         self.cursor.skip(self.front.flags);
+        while let Some(c) = self.cursor.peek() {
+            if c == '(' || c == ')' {
+                break;
+            }
+            self.cursor.bump();
+            self.item(alloc, limit, rows, c)?;
+            self.cursor.skip(self.front.flags);
+        }
+        Ok(())
+    }
+
+    /// Reads what stands behind the items: what opens a group or is a directive, or nothing where the choice ends.
+    fn step(&mut self, alloc: Global, limit: u32, depth: u32) -> Result<Step, Error>
+        requires { ends_items self.old.cursor ≡ true }
+        ensures steps { (rows : Rows) → (g : pattern.Front) → (bs ts : List spec.Tree) →
+            IsAt limit self.old rows g bs ts → (n : ℕ) →
+            Steps limit depth n g bs ts result self.new rows
+            (at_item ranges_of limit (inner ranges_of limit n) n depth g bs ts self.old.cursor) }
+        ensures forward { IsForward limit depth result self.old.cursor self.new.cursor }
+    {
         let Some(c) = self.cursor.peek() else {
             if depth > 0 {
                 return Err(Error::UnclosedGroup);
             }
             return Ok(Step::End);
         };
-        if c == ')' {
-            if depth == 0 {
-                return Err(Error::UnopenedGroup);
-            }
-            return Ok(Step::End);
+        if c == '(' {
+            self.cursor.bump();
+            return self.open(alloc, limit, depth);
         }
-        self.cursor.bump();
-        self.item(alloc, limit, depth, rows, c)
+        if depth == 0 {
+            return Err(Error::UnopenedGroup);
+        }
+        Ok(Step::End)
     }
 }
 
@@ -359,7 +387,8 @@ impl Parser<'_> {
     {
         let mut rows = Rows::new(alloc);
         loop {
-            match self.step(alloc, limit, depth, &mut rows)? {
+            self.items(alloc, limit, &mut rows)?;
+            match self.step(alloc, limit, depth)? {
                 Step::Item => {}
                 Step::Group(group) => {
                     let choice = self.choice(alloc, limit, depth + 1)?;

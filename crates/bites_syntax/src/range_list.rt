@@ -21,7 +21,7 @@ pub enum Constant {
 }
 
 impl Constant {
-    /// The greatest ranges of the set.
+    /// The canonical ranges of the set.
     fn ranges(self) -> &'static [(char, char)]
         ensures { Lists result.now (constant_set self) }
     {

@@ -1,7 +1,7 @@
 //! Faults of the program `bites`: which comes first, and what is told of it.
 
 use crate::words::{expect_faults, run_on};
-use bites_run::{refuse_words, run};
+use bites_cli::{refuse_words, run};
 use std::alloc::{AllocError, Global};
 use std::io::{self, Read, Write};
 

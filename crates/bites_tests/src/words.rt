@@ -1,6 +1,6 @@
 //! Runs of the program `bites` on the words of a line.
 
-use bites_run::run;
+use bites_cli::run;
 use std::alloc::{AllocError, Global};
 use std::io::{Read, Write};
 use std::process::Abort;

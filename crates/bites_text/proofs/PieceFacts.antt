@@ -2,16 +2,16 @@
 use Rattle.std.proofs.Common.{◌≡◌, ℕ, zero, suc, ◌<◌, ◌≤◌, max, List, [], ◌∷◌, ◌-◌, length, length-drop, take, drop, ap, arith, ⊎_elim}
 use Rattle.std.specs.Prelude.{◌==◌}
 use Rattle.std.proofs.lemmas.List.{take_all}
-use Rattle.bites_spec.proofs.PieceLemmas.{piece_within, piece_some}
+use Rattle.std.proofs.lemmas.Bool.{cases_Bool}
+use Rattle.bites_spec.proofs.utf8.PieceLemmas.{piece_within, piece_some}
 use Rattle.bites_spec.specs.Range.{Range, in_range}
 use Rattle.bites_spec.specs.Utf8.{piece, front_piece, piece_by, fitting, whole_len, begun_len, well_formed_rows}
-use Rattle.bites_text.proofs.RowLemmas.{bool_cases}
 
 fitting-short : (row : List Range) (bytes : List ℕ) → fitting row bytes ≤ length row
 fitting-short [] bytes = omega arith
 fitting-short (r ∷ row) [] = omega arith
 fitting-short (r ∷ row) (b ∷ bytes) =
-    ⊎_elim (λ is. rw is (omega (arith, fitting-short row bytes))) (λ is. rw is (omega arith)) (bool_cases (in_range r b))
+    ⊎_elim (λ is. rw is (omega (arith, fitting-short row bytes))) (λ is. rw is (omega arith)) (cases_Bool (in_range r b))
 
 -- no row has more than four bytes
 AreShort : List (List Range) → Type 0
@@ -22,7 +22,7 @@ whole_len-short : (rows : List (List Range)) (bytes : List ℕ) → AreShort row
 unfolding AreShort
 whole_len-short [] bytes short = omega arith
 whole_len-short (row ∷ rows) bytes short =
-    ⊎_elim (λ is. rw is (omega (arith, fitting-short row bytes, short.0))) (λ is. rw is (whole_len-short rows bytes short.1)) (bool_cases (fitting row bytes == length row))
+    ⊎_elim (λ is. rw is (omega (arith, fitting-short row bytes, short.0))) (λ is. rw is (whole_len-short rows bytes short.1)) (cases_Bool (fitting row bytes == length row))
 
 begun_len-short : (rows : List (List Range)) (bytes : List ℕ) → AreShort rows → begun_len rows bytes ≤ 4
 unfolding AreShort

@@ -2,15 +2,12 @@
 use Rattle.std.proofs.Common.{◌≡◌, ℕ, suc, ◌<◌, ◌≤◌, Bool, true, false, cond, max, List, [], ◌∷◌, length, take, Some, None, refl, sym, ap, ◌∙◌, subst, arith, ◌⊎◌, inl, inr, ⊎_elim}
 use Rattle.std.specs.Prelude.{◌==◌, filter}
 use Rattle.std.proofs.lemmas.Bool.Decides.{nat_tests}
+use Rattle.std.proofs.lemmas.Bool.{cases_Bool}
 use Rattle.bites_spec.specs.Range.{Range, in_range}
 use Rattle.bites_spec.specs.Utf8.{Piece, front_piece, piece_by, fitting, whole_len, begun_len, well_formed_rows, continuation, scalar_value}
 use Rattle.bites_text.specs.Rows.{second_range}
 
 -- a test is true or false
-pub bool_cases : (t : Bool) → (t ≡ true) ⊎ (t ≡ false)
-bool_cases true = inl refl
-bool_cases false = inr refl
-
 -- the first byte of the row may be this one; an empty row is kept too
 begins : ℕ → List Range → Bool
 begins b [] = true
@@ -39,7 +36,7 @@ whole_len-filter ((r ∷ row) ∷ rows) b rest =
     ⊎_elim
     (λ is. ap (λ w. cond (fitting (r ∷ row) (b ∷ rest) == suc (length row)) (fitting (r ∷ row) (b ∷ rest)) w) later ∙ sym (ap (λ left. whole_len left (b ∷ rest)) (kept r row rows b is)))
     (λ is. ap (λ f. cond (f == suc (length row)) f (whole_len rows (b ∷ rest))) (unfit r row b rest is) ∙ ap (λ t. cond t 0 (whole_len rows (b ∷ rest))) (zero-unlike (length row)) ∙ later ∙ sym (ap (λ left. whole_len left (b ∷ rest)) (dropped r row rows b is)))
-    (bool_cases (in_range r b))
+    (cases_Bool (in_range r b))
 
 begun_len-filter : (rows : List (List Range)) (b : ℕ) (rest : List ℕ) → begun_len rows (b ∷ rest) ≡ begun_len (filter (begins b) rows) (b ∷ rest)
 unfolding begins
@@ -50,7 +47,7 @@ begun_len-filter ((r ∷ row) ∷ rows) b rest =
     ⊎_elim
     (λ is. ap (λ n. max (fitting (r ∷ row) (b ∷ rest)) n) later ∙ sym (ap (λ left. begun_len left (b ∷ rest)) (kept r row rows b is)))
     (λ is. ap (λ f. max f (begun_len rows (b ∷ rest))) (unfit r row b rest is) ∙ max-zero (begun_len rows (b ∷ rest)) ∙ later ∙ sym (ap (λ left. begun_len left (b ∷ rest)) (dropped r row rows b is)))
-    (bool_cases (in_range r b))
+    (cases_Bool (in_range r b))
   where
     max-zero : (n : ℕ) → max 0 n ≡ n
     max-zero n = omega arith
@@ -89,7 +86,7 @@ one_row r row b rest is only =
     ap (λ w. piece_by w (b ∷ rest)) (whole ∙ ap (λ t. cond t (suc (fitting row rest)) 0) all ∙ ap suc n) ∙ sym (ap (chosen row b rest) all))
     (λ part.
     ap (λ w. piece_by w (b ∷ rest)) (whole ∙ ap (λ t. cond t (suc (fitting row rest)) 0) part) ∙ ap (λ n. let p : Piece = record { decoded = None; len = max 1 n } in p) begun ∙ ap (λ n. let p : Piece = record { decoded = None; len = n } in p) (max-one (fitting row rest)) ∙ sym (ap (chosen row b rest) part))
-    (bool_cases (fitting row rest == length row))
+    (cases_Bool (fitting row rest == length row))
   where
     whole : whole_len well_formed_rows (b ∷ rest) ≡ cond (fitting row rest == length row) (suc (fitting row rest)) 0
     whole = whole_len-filter well_formed_rows b rest ∙ ap (λ rows. whole_len rows (b ∷ rest)) only ∙ whole_len-one r row b rest is

@@ -1,3 +1,2 @@
 mod PatternLemmas
-mod EntryLemmas
 mod ExtractLemmas

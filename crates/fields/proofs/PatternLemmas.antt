@@ -7,16 +7,10 @@ use Rattle.ucd_derived.specs.AlphabeticRanges.{alphabetic_ranges}
 use Rattle.ucd_table.specs.Rows.{in_ranges}
 use Rattle.bites_spec.specs.RangesOf.{ranges_of}
 use Rattle.bites_spec.specs.Reader.{read, inner}
-use Rattle.bites_spec.specs.Tree.{Tree}
-use Rattle.bites_spec.specs.CallerLaws.{LiteralIsRead}
-use Rattle.bites_spec.specs.Settings.{Accepts, by_default, no_flags}
-use Rattle.fields.specs.Entry.{pattern, line_tree}
+use Rattle.bites_spec.specs.Settings.{no_flags}
+use Rattle.fields.specs.Entry.{pattern, entry_tree}
 
 -- reading computes, through the tables of Unicode for the letters of the names
-pub pattern_read : read ranges_of 50 (chars pattern) no_flags ≡ Ok line_tree
+pub pattern_read : read ranges_of 50 (chars pattern) no_flags ≡ Ok entry_tree
 unfolding chars inner encode is_alphabetic in_ranges alphabetic_ranges
 pattern_read = refl
-
--- the pattern is accepted with this tree alone
-pub tree_is : (law : LiteralIsRead) (t : Tree) → Accepts (by_default pattern) t → t ≡ line_tree
-tree_is law t accepts = (law (chars pattern) no_flags 50 line_tree pattern_read).1 t accepts.read.reading

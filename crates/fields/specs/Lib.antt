@@ -1,4 +1,2 @@
 pub mod Entry
-pub mod Parts
-pub mod Fields
 pub mod Rows

@@ -3,9 +3,10 @@
 ghost use Rattle.std.specs.Prelude.{◌≡◌, ℕ, List, IfOk, IfSome};
 ghost use Rattle.std.specs.Io.KnownBytes.{Appends};
 ghost use Rattle.bites_filter.specs.Lines.{lines_of};
-ghost use Rattle.fields.specs.Rows.{row, told, IsOutcome, AreExtracted};
+ghost use Rattle.fields.specs.Rows.{told, AreExtracted};
 
-use crate::entry::{Entry, Log};
+use crate::entry::Log;
+use bites_filter::csv::write_row;
 use bites_filter::fault::Fault;
 use bites_filter::lines::{LineTask, each_line, without_line_feed};
 use std::alloc::Global;
@@ -20,27 +21,23 @@ pub struct Extractor<E: Drop> {
 }
 
 impl<E: Write + Drop> LineTask for Extractor<E> {
-    ghost use Rattle.fields.specs.Rows.{IsOutcome};
-    ghost use Rattle.std.specs.Io.BufRead.{strip_last};
+    ghost use Rattle.fields.specs.Rows.{Extracts};
 
     ghost does = { λ s number line text bad t.
-        IsOutcome number (strip_last 10 line) text bad (E.contents s.err) (E.contents t.err) };
+        Extracts number line text bad (E.contents s.err) (E.contents t.err) };
 
     fn line<W: Write>(&mut self, number: u64, line: &[u8], out: &mut W) -> io::Result<bool> {
+        let mut fields = [""; 7];
         let Ok(text) = str::from_utf8(without_line_feed(line)) else {
             tell(number, &mut self.err)?;
             return Ok(true);
         };
-        match self.log.entry(text)? {
-            Some(entry) => {
-                write_row(&entry, out)?;
-                Ok(false)
-            }
-            None => {
-                tell(number, &mut self.err)?;
-                Ok(true)
-            }
+        if self.log.entry(text, &mut fields)? {
+            write_row(fields.as_slice(), out)?;
+            return Ok(false);
         }
+        tell(number, &mut self.err)?;
+        Ok(true)
     }
 }
 
@@ -49,19 +46,6 @@ fn tell<E: Write>(number: u64, err: &mut E) -> io::Result<()>
     ensures { IfOk result (λ _. Appends (E.contents err.old) (E.contents err.new) (told number)) }
 {
     writeln!(err, "fields: line {number} is not in the common log format")
-}
-
-// Writes the fields of an entry on one line, each between quotes.
-fn write_row<W: Write>(entry: &Entry<'_>, out: &mut W) -> io::Result<()>
-    ensures { IfOk result (λ _. Appends (W.contents out.old) (W.contents out.new) (row entry.now)) }
-{
-    write!(
-        out,
-        "\"{}\",\"{}\",\"{}\",",
-        entry.host, entry.ident, entry.user
-    )?;
-    write!(out, "\"{}\",\"{}\",", entry.time, entry.request)?;
-    writeln!(out, "\"{}\",\"{}\"", entry.status, entry.size)
 }
 
 /// Writes the fields of each line of the input that has the format, and tells of each other line. Returns how many other
@@ -74,10 +58,10 @@ pub fn extract_fields<R: BufRead, W: Write, E: Write + Drop>(
     input: &mut R,
     out: &mut W,
 ) -> Result<u64, Fault>
-    ensures { IfOk result (λ bad. IfSome (R.Read.remaining input.old) (λ bytes. (text : List ℕ) × (lines : List ℕ)
-        × AreExtracted 0 (lines_of bytes) text lines bad
+    ensures { IfOk result (λ bad. IfSome (R.Read.remaining input.old) (λ bytes. (text : List ℕ) × (reports : List ℕ)
+        × AreExtracted 0 (lines_of bytes) text reports bad
         × Appends (W.contents out.old) (W.contents out.new) text
-        × Appends (E.contents extractor.old.err) (E.contents extractor.new.err) lines)) }
+        × Appends (E.contents extractor.old.err) (E.contents extractor.new.err) reports)) }
 {
     let bad = each_line(alloc, extractor, input, out)?;
     Ok(bad)

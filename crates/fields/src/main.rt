@@ -10,49 +10,38 @@ mod entry;
 mod extract;
 
 use bites_filter::fault::Fault;
-use bites_filter::program::{open, words};
+use bites_filter::program::{flush, open, status, words};
 use entry::Log;
 use extract::{Extractor, extract_fields};
-use std::alloc::Global;
-use std::io::{BufReader, BufWriter, Read, Write};
+use std::io::{BufReader, BufWriter, Write};
 use std::process::ExitCode;
 
 const USAGE: &str = "fields < LOG > CSV";
 
 fn main(rt: HostRuntime) -> ExitCode {
-    let mut err = rt.stderr();
-    let done = match words(&rt, USAGE) {
-        Ok(words) if words.is_empty() => run(rt.alloc(), rt.stdin(), rt.stdout(), rt.stderr()),
-        Ok(_) => Err(Fault::Usage(USAGE)),
-        Err(fault) => Err(fault),
-    };
-    ExitCode::from(match done {
-        Ok(0) => 0,
-        Ok(bad) => {
-            // The status is the same where the line can't be written.
-            let _written = writeln!(err, "fields: {bad} lines are not in the common log format");
-            1
-        }
-        Err(fault) => fault.tell("fields", &mut err),
-    })
+    status("fields", run(&rt), &mut rt.stderr())
 }
 
-// Writes the fields of each line, and returns how many lines have none.
-fn run<R: Read + Drop, W: Write + Drop, E: Write + Drop>(
-    alloc: Global,
-    input: R,
-    out: W,
-    err: E,
-) -> Result<u64, Fault> {
-    let mut extractor = Extractor {
-        log: Log::new(alloc)?,
-        err,
-    };
-    let mut input = open(BufReader::new(alloc, input))?;
-    let mut out = open(BufWriter::new(alloc, out))?;
-    let bad = extract_fields(alloc, &mut extractor, &mut input, &mut out)?;
-    match out.flush() {
-        Ok(()) => Ok(bad),
-        Err(error) => Err(Fault::of_writing(&error)),
+// Writes the fields of each line. Returns the status: 0 if all lines have the format, else 1.
+fn run(rt: &HostRuntime) -> Result<u8, Fault> {
+    if words(rt, USAGE)?.len() > 0 {
+        return Err(Fault::Usage(USAGE));
     }
+    let mut extractor = Extractor {
+        log: Log::new(rt.alloc())?,
+        err: rt.stderr(),
+    };
+    let mut input = open(BufReader::new(rt.alloc(), rt.stdin()))?;
+    let mut out = open(BufWriter::new(rt.alloc(), rt.stdout()))?;
+    let bad = extract_fields(rt.alloc(), &mut extractor, &mut input, &mut out)?;
+    flush(&mut out)?;
+    if bad == 0 {
+        return Ok(0);
+    }
+    // The status is the same where the line can't be written.
+    let _written = writeln!(
+        extractor.err,
+        "fields: {bad} lines are not in the common log format"
+    );
+    Ok(1)
 }

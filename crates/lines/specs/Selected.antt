@@ -54,4 +54,4 @@ pub record IsFiltered (t : Tree) (invert : Bool) (show : Show) (lines : List (Li
   pub found : List Selected
   pub selected : AreSelected t invert 0 lines found
   pub count_is : count ≡ length found
-  pub written : Appends old new (all_shown show found ++ ending show (length found))
+  pub written : Appends old new (all_shown show found ++ ending show count)

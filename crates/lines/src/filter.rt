@@ -29,11 +29,11 @@ impl LineTask for Filter {
     ghost does = { Filters };
 
     fn line<W: Write>(&mut self, number: u64, line: &[u8], out: &mut W) -> io::Result<bool> {
-        let selected = self.searcher.is_match(without_line_feed(line)) != self.invert;
-        if selected {
-            write_shown(self.show, number, line, out)?;
+        if self.searcher.is_match(without_line_feed(line)) == self.invert {
+            return Ok(false);
         }
-        Ok(selected)
+        write_shown(self.show, number, line, out)?;
+        Ok(true)
     }
 }
 

@@ -11,55 +11,35 @@ mod options;
 
 use bites_bytes::bytes::RegexBuilder;
 use bites_filter::fault::Fault;
-use bites_filter::program::{open, words};
+use bites_filter::program::{flush, open, status, words};
 use bites_filter::searcher::Searcher;
 use filter::{Filter, write_lines};
 use options::Options;
-use std::alloc::Global;
-use std::io::{BufReader, BufWriter, Read, Write};
+use std::io::{BufReader, BufWriter};
 use std::process::ExitCode;
 
 const USAGE: &str = "lines [-c] [-i] [-n] [-v] PATTERN";
 
 fn main(rt: HostRuntime) -> ExitCode {
-    let done = match words(&rt, USAGE) {
-        Ok(words) => run(rt.alloc(), words.as_slice(), rt.stdin(), rt.stdout()),
-        Err(fault) => Err(fault),
-    };
-    ExitCode::from(match done {
-        Ok(0) => 1,
-        Ok(_) => 0,
-        Err(fault) => fault.tell("lines", &mut rt.stderr()),
-    })
+    status("lines", run(&rt), &mut rt.stderr())
 }
 
-// Does what the words ask for, and returns how many lines were selected.
-fn run<R: Read + Drop, W: Write + Drop>(
-    alloc: Global,
-    words: &[String],
-    input: R,
-    out: W,
-) -> Result<u64, Fault> {
-    let Some(options) = Options::read(words) else {
+// Does what the words ask for. Returns the status: 0 if a line was selected, else 1.
+fn run(rt: &HostRuntime) -> Result<u8, Fault> {
+    let words = words(rt, USAGE)?;
+    let Some(options) = Options::read(words.as_slice()) else {
         return Err(Fault::Usage(USAGE));
     };
-    let mut filter = filter_of(alloc, options)?;
-    let mut input = open(BufReader::new(alloc, input))?;
-    let mut out = open(BufWriter::new(alloc, out))?;
-    let count = write_lines(alloc, &mut filter, &mut input, &mut out)?;
-    match out.flush() {
-        Ok(()) => Ok(count),
-        Err(error) => Err(Fault::of_writing(&error)),
-    }
-}
-
-// The filter that the options ask for.
-fn filter_of(alloc: Global, options: Options<'_>) -> Result<Filter, Fault> {
-    let mut builder = RegexBuilder::new(alloc, options.pattern)?;
+    let mut builder = RegexBuilder::new(rt.alloc(), options.pattern)?;
     builder.case_insensitive(options.case_insensitive);
-    Ok(Filter {
+    let mut filter = Filter {
         searcher: Searcher::new(builder.build()?)?,
         invert: options.invert,
         show: options.show,
-    })
+    };
+    let mut input = open(BufReader::new(rt.alloc(), rt.stdin()))?;
+    let mut out = open(BufWriter::new(rt.alloc(), rt.stdout()))?;
+    let count = write_lines(rt.alloc(), &mut filter, &mut input, &mut out)?;
+    flush(&mut out)?;
+    Ok(if count > 0 { 0 } else { 1 })
 }

@@ -1,5 +1,6 @@
 -- What searches of a text from one place return begins and ends at borders.
 use Rattle.std.proofs.Common.{◌≡◌, ℕ, List, Option, Some, None, option_map, refl, sym, subst, IsUtf8}
+use Rattle.std.proofs.lemmas.Option.{same_Some}
 use Rattle.std.specs.Prelude.{IfSome, unwrap_or}
 use Rattle.bites_spec.specs.Match.{Span}
 use Rattle.bites_spec.specs.TextLaws.{HasBorders}
@@ -8,9 +9,9 @@ use Rattle.bites_spec.specs.Slots.{span_of_run, answer_of}
 use Rattle.bites_spec.specs.Regex.{Regex, IsCompiled}
 use Rattle.bites_spec.specs.Captured.{Excerpt, excerpt, Captured, captured}
 use Rattle.bites_spec.specs.Anchored.{FindsFrom, FoundFull, anchored_run_at, anchored_span_at, anchored_slots_at, full_run, full_slots}
-use Rattle.bites_spec.proofs.AnchoredLemmas.{anchored_starts, anchored_run_is_found, full_run_found, anchored_has_borders}
+use Rattle.bites_spec.proofs.regex.AnchoredLemmas.{anchored_starts, anchored_run_is_found, full_run_found, anchored_has_borders}
 use Rattle.regex_bites.specs.Borders.{IsPart, HaveBorders, AreGroupsOf}
-use Rattle.regex_bites.proofs.BorderLemmas.{some_same, none_some, MayStart, captured_of, part_at}
+use Rattle.regex_bites.proofs.BorderLemmas.{none_some, MayStart, captured_of, part_at}
 
 module _ (hay : List ℕ) (utf8 : IsUtf8 hay) (r : Regex) (is : IsCompiled r) where
   -- the run that a search from one place answers begins and ends at borders, and so do its groups
@@ -29,11 +30,11 @@ module _ (hay : List ℕ) (utf8 : IsUtf8 hay) (r : Regex) (is : IsCompiled r) wh
 
   span_of : (s : ℕ) → MayStart hay s → (o : Option Run) → anchored_run_at r hay s ≡ o → (g : Span) → option_map span_of_run o ≡ Some g → HasBorders hay g
   span_of s may None e g h = none_some g h
-  span_of s may (Some x) e g h = subst (HasBorders hay) (some_same (span_of_run x) g h) (run_borders s may x e).0
+  span_of s may (Some x) e g h = subst (HasBorders hay) (same_Some (span_of_run x) g h) (run_borders s may x e).0
 
   slots_of : (o : Option Run) → ((x : Run) → o ≡ Some x → HaveBorders hay (slots r.program x)) → (l : List (Option ℕ)) → option_map (slots r.program) o ≡ Some l → HaveBorders hay l
   slots_of None borders l h = none_some l h
-  slots_of (Some x) borders l h = subst (HaveBorders hay) (some_same (slots r.program x) l h) (borders x refl)
+  slots_of (Some x) borders l h = subst (HaveBorders hay) (same_Some (slots r.program x) l h) (borders x refl)
 
   -- the groups that such a search answers are those of a match in the text
   pub groups_from : (s : ℕ) → MayStart hay s → (c : Captured) → Some c ≡ option_map (captured r hay) (anchored_slots_at r hay s) → AreGroupsOf hay c

@@ -1,12 +1,14 @@
 -- What searches of a text hand out begins and ends at borders.
 use Rattle.std.proofs.Common.{◌≡◌, ℕ, zero, suc, ◌+◌, ◌≤◌, Bool, true, false, cond, List, [], ◌∷◌, map, length, Option, Some, None, option_map, refl, sym, subst, ⊎_elim, arith, ltb, ltb-true, ltb-false, IsUtf8, IsCharBoundary}
+use Rattle.std.proofs.lemmas.Option.{same_Some}
 use Rattle.std.specs.Prelude.{IfSome, unwrap_or, option_and_then}
 use Rattle.std.specs.List.{AllByRecursion}
 use Rattle.std.proofs.lemmas.Str.{IsCharBoundary-start}
+use Rattle.std.proofs.lemmas.Bool.{cases_Bool}
 use Rattle.bites_spec.specs.Utf8.{piece, places, step_len}
 use Rattle.bites_spec.specs.Walks.{Among}
 use Rattle.bites_spec.specs.Match.{Span}
-use Rattle.bites_spec.specs.Spans.{is_empty_at, due_after, followed, some_after, successive, successive_after}
+use Rattle.bites_spec.specs.Spans.{is_empty_at, next_after, followed, some_after, successive, successive_after}
 use Rattle.bites_spec.specs.Tree.{Tree}
 use Rattle.bites_spec.specs.Found.{Finds, IsLeastEnd}
 use Rattle.bites_spec.specs.TextLaws.{HasBorders}
@@ -16,20 +18,16 @@ use Rattle.bites_spec.specs.Regex.{Regex, IsCompiled, run_at, span_at, slots_at}
 use Rattle.bites_spec.specs.Captured.{Excerpt, excerpt, Captured, captured}
 use Rattle.bites_spec.specs.Pieces.{AreInOrder}
 use Rattle.bites_spec.specs.Iteration.{spans_in, captured_by, captures_in}
-use Rattle.bites_spec.proofs.EscapeLemmas.{bool_cases}
-use Rattle.bites_spec.proofs.PieceLemmas.{piece_some, Among-places_within}
-use Rattle.bites_spec.proofs.TextPlaces.{border_behind}
-use Rattle.bites_spec.proofs.TextMatches.{found_borders, least_end_border}
-use Rattle.bites_spec.proofs.FoundSomeLemmas.{finds_some}
-use Rattle.bites_spec.proofs.RegexLemmas.{run_is_found}
-use Rattle.bites_spec.proofs.SpanLemmas.{Successive-in_order}
-use Rattle.bites_spec.proofs.SuccessiveLemmas.{successive_follow}
-use Rattle.bites_spec.proofs.RegexRuns.{run_at-lies, span_at-lies}
+use Rattle.bites_spec.proofs.utf8.PieceLemmas.{piece_some, Among-places_within}
+use Rattle.bites_spec.proofs.parses.TextPlaces.{border_behind}
+use Rattle.bites_spec.proofs.parses.TextMatches.{found_borders, least_end_border}
+use Rattle.bites_spec.proofs.regex.FoundSomeLemmas.{finds_some}
+use Rattle.bites_spec.proofs.regex.RegexLemmas.{run_is_found}
+use Rattle.bites_spec.proofs.iteration.SpanLemmas.{Successive-in_order}
+use Rattle.bites_spec.proofs.iteration.SuccessiveLemmas.{successive_follow}
+use Rattle.bites_spec.proofs.regex.RegexRuns.{run_at-lies, span_at-lies}
 use Rattle.regex_bites.specs.Order.{BeginFrom}
 use Rattle.regex_bites.specs.Borders.{IsPart, HaveBorders, AreGroupsOf}
-
-pub some_same : {A : Type 0} (a b : A) → Some a ≡ Some b → a ≡ b
-some_same a b e = cc
 
 pub none_some : {A B : Type 0} (a : A) → None ≡ Some a → B
 none_some a e = absurd (cc)
@@ -49,14 +47,14 @@ module _ (hay : List ℕ) (utf8 : IsUtf8 hay) where
       let same : (piece hay e).len ≡ step_len hay e = omega (arith, some) in
       subst (λ (k : ℕ). IsCharBoundary hay (e + k)) same (border_behind hay e utf8 border))
       (λ (h : ltb e (length hay) ≡ false). let past = ltb-false e (length hay) h in absurd (omega (arith, past, le)))
-      (bool_cases (ltb e (length hay)))
+      (cases_Bool (ltb e (length hay)))
 
   -- successive answers, where each answer of a search from a border has P and ends at a border
   module _ {B : Type 0} (span_of : B → Span) (A : ℕ → Option B) (P : B → Type 0)
       (answers : (s : ℕ) → MayStart hay s → (x : B) → A s ≡ Some x → P x × IsCharBoundary hay (span_of x).end) where
-    due_answers : (e : ℕ) → IsCharBoundary hay e → (x : B) → due_after span_of hay A e ≡ Some x → P x × IsCharBoundary hay (span_of x).end
-    unfolding due_after
-    due_answers e border x h = chosen (is_empty_at span_of e (A e)) h
+    next_answers : (e : ℕ) → IsCharBoundary hay e → (x : B) → next_after span_of hay A e ≡ Some x → P x × IsCharBoundary hay (span_of x).end
+    unfolding next_after
+    next_answers e border x h = chosen (is_empty_at span_of e (A e)) h
       where
         chosen : (b : Bool) → cond b (A (e + step_len hay e)) (A e) ≡ Some x → P x × IsCharBoundary hay (span_of x).end
         chosen true h = answers (e + step_len hay e) (step_border e border) x h
@@ -70,7 +68,7 @@ module _ (hay : List ℕ) (utf8 : IsUtf8 hay) where
     each_after : (n e : ℕ) → IsCharBoundary hay e → AllByRecursion P (some_after span_of hay A n e)
     unfolding some_after
     each_after zero e border = tt
-    each_after (suc n) e border = each_followed (some_after span_of hay A n) (due_after span_of hay A e) (due_answers e border) (each_after n)
+    each_after (suc n) e border = each_followed (some_after span_of hay A n) (next_after span_of hay A e) (next_answers e border) (each_after n)
 
     pub each_successive : AllByRecursion P (successive span_of hay A)
     unfolding successive successive_after
@@ -99,19 +97,19 @@ module _ (hay : List ℕ) (utf8 : IsUtf8 hay) where
 
     span_of : (s : ℕ) → MayStart hay s → (o : Option Run) → run_at r hay s ≡ o → (g : Span) → option_map span_of_run o ≡ Some g → HasBorders hay g
     span_of s may None e g h = none_some g h
-    span_of s may (Some x) e g h = subst (HasBorders hay) (some_same (span_of_run x) g h) (run_borders s may x e).0
+    span_of s may (Some x) e g h = subst (HasBorders hay) (same_Some (span_of_run x) g h) (run_borders s may x e).0
 
     pub span_borders : (s : ℕ) → MayStart hay s → (g : Span) → span_at r hay s ≡ Some g → HasBorders hay g
     span_borders s may g h = span_of s may (run_at r hay s) refl g h
 
     slots_of : (s : ℕ) → MayStart hay s → (o : Option Run) → run_at r hay s ≡ o → (l : List (Option ℕ)) → option_map (slots r.program) o ≡ Some l → HaveBorders hay l
     slots_of s may None e l h = none_some l h
-    slots_of s may (Some x) e l h = subst (HaveBorders hay) (some_same (slots r.program x) l h) (run_borders s may x e).1
+    slots_of s may (Some x) e l h = subst (HaveBorders hay) (same_Some (slots r.program x) l h) (run_borders s may x e).1
 
     pub captured_of : (o : Option (List (Option ℕ))) → ((l : List (Option ℕ)) → o ≡ Some l → HaveBorders hay l) → (c : Captured) →
         Some c ≡ option_map (captured r hay) o → AreGroupsOf hay c
     captured_of None borders c e = none_some c (sym e)
-    captured_of (Some l) borders c e = subst (AreGroupsOf hay) (sym (some_same c (captured r hay l) e)) (refl, (borders l refl).groups)
+    captured_of (Some l) borders c e = subst (AreGroupsOf hay) (sym (same_Some c (captured r hay l) e)) (refl, (borders l refl).groups)
 
     -- the groups that a search answers are those of a match in the text
     pub found_groups : (s : ℕ) → MayStart hay s → (c : Captured) → Some c ≡ option_map (captured r hay) (slots_at r hay s) → AreGroupsOf hay c
@@ -135,8 +133,8 @@ module _ (hay : List ℕ) (utf8 : IsUtf8 hay) where
     part_at f None q borders e m is = none_some m is
     part_at f (Some n) None borders e m is = none_some (f n) (sym e)
     part_at f (Some n) (Some g) borders e m is =
-        subst (λ k. IsPart hay (f k)) (some_same n m is)
-        (subst (IsPart hay) (sym (some_same (f n) (excerpt hay g) e)) (refl, borders g refl))
+        subst (λ k. IsPart hay (f k)) (same_Some n m is)
+        (subst (IsPart hay) (sym (same_Some (f n) (excerpt hay g) e)) (refl, borders g refl))
 
     -- and so it is a part of the text
     pub found_part : {M : Type 0} (f : M → Excerpt) (s : ℕ) → MayStart hay s → (o : Option M) →
@@ -182,8 +180,8 @@ module _ (hay : List ℕ) (c : Captured) (of : AreGroupsOf hay c) where
   part_of f None q borders e m is = none_some m is
   part_of f (Some n) None borders e m is = none_some (f n) (sym e)
   part_of f (Some n) (Some g) borders e m is =
-      subst (λ k. IsPart hay (f k)) (some_same n m is)
-      (subst (IsPart hay) (sym (some_same (f n) (excerpt c.haystack g) e)) (of.0, borders g refl))
+      subst (λ k. IsPart hay (f k)) (same_Some n m is)
+      (subst (IsPart hay) (sym (same_Some (f n) (excerpt c.haystack g) e)) (of.0, borders g refl))
 
   pub group_part : {M : Type 0} (f : M → Excerpt) (k : ℕ) (o : Option M) →
       option_map f o ≡ option_map (excerpt c.haystack) (group_in c.slots k) → (m : M) → o ≡ Some m → IsPart hay (f m)

@@ -4,7 +4,7 @@ use Rattle.std.proofs.lemmas.List.{length-map, length-take}
 use Rattle.bites_spec.specs.Match.{Span}
 use Rattle.bites_spec.specs.Pieces.{gaps_from, text_at}
 use Rattle.bites_spec.specs.Captured.{Excerpt}
-use Rattle.bites_spec.proofs.PieceTextLemmas.{length-gaps_from}
+use Rattle.bites_spec.proofs.iteration.PieceTextLemmas.{length-gaps_from}
 use Rattle.regex_bites.specs.Matches.{matches_left, spans_left}
 use Rattle.regex_bites.specs.Split.{pieces_by, pieces_left, at_most_left}
 use Rattle.regex_bites.specs.declared.string.split.Split.{Split}

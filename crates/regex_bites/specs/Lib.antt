@@ -5,5 +5,5 @@ pub mod Groups
 pub mod Matches
 pub mod CapturesLeft
 pub mod Split
-pub mod Replacing
+pub mod ReplacedText
 pub mod Replaced

@@ -119,7 +119,7 @@
 //!   haystack ([`Regex::is_full_match`], [`Regex::captures_full`]).
 //! - Some faults of the Rust code are mended: `docs/DIFFERENCES.md` names them all, each with the smallest input that shows it.
 //!
-//! The contract of each call says what it promises. The page `headline` of the crate `bites_promises` has it all in one place.
+//! The contract of each call says what it promises. The page `headline` of the crate `bites_theorems` has it all in one place.
 //! The modules below are those that texts and byte strings share.
 #![tactic(auto)]
 

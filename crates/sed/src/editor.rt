@@ -28,17 +28,15 @@ impl<'t> LineTask for Editor<'t> {
     ghost does = { Edits };
 
     fn line<W: Write>(&mut self, _number: u64, line: &[u8], out: &mut W) -> io::Result<bool> {
-        let edited = self
-            .searcher
-            .replacen(without_line_feed(line), self.limit, self.template)?;
+        let text = without_line_feed(line);
+        let edited = self.searcher.replacen(text, self.limit, self.template)?;
         out.write_all(edited.as_slice())?;
         out.write_all(line_feed(line))?;
         Ok(true)
     }
 }
 
-/// Writes each line of the input with its matches replaced, as many as the editor says. What was written before a fault
-/// stays.
+/// Writes each line with as many of its matches replaced as the editor says. What was written before a fault stays.
 pub fn edit_lines<R: BufRead, W: Write>(
     alloc: Global,
     editor: &mut Editor<'_>,

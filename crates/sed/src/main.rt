@@ -11,49 +11,35 @@ mod options;
 
 use bites_bytes::bytes::RegexBuilder;
 use bites_filter::fault::Fault;
-use bites_filter::program::{open, words};
+use bites_filter::program::{flush, open, status, words};
 use bites_filter::searcher::Searcher;
 use editor::{Editor, edit_lines};
 use options::Options;
-use std::alloc::Global;
-use std::io::{BufReader, BufWriter, Read, Write};
+use std::io::{BufReader, BufWriter};
 use std::process::ExitCode;
 
 const USAGE: &str = "sed [-g] [-i] PATTERN TEMPLATE";
 
 fn main(rt: HostRuntime) -> ExitCode {
-    let done = match words(&rt, USAGE) {
-        Ok(words) => run(rt.alloc(), words.as_slice(), rt.stdin(), rt.stdout()),
-        Err(fault) => Err(fault),
-    };
-    ExitCode::from(match done {
-        Ok(()) => 0,
-        Err(fault) => fault.tell("sed", &mut rt.stderr()),
-    })
+    status("sed", run(&rt), &mut rt.stderr())
 }
 
-// Does what the words ask for.
-fn run<R: Read + Drop, W: Write + Drop>(
-    alloc: Global,
-    words: &[String],
-    input: R,
-    out: W,
-) -> Result<(), Fault> {
-    let Some(options) = Options::read(words) else {
+// Does what the words ask for. Returns the status 0.
+fn run(rt: &HostRuntime) -> Result<u8, Fault> {
+    let words = words(rt, USAGE)?;
+    let Some(options) = Options::read(words.as_slice()) else {
         return Err(Fault::Usage(USAGE));
     };
-    let mut builder = RegexBuilder::new(alloc, options.pattern)?;
+    let mut builder = RegexBuilder::new(rt.alloc(), options.pattern)?;
     builder.case_insensitive(options.case_insensitive);
     let mut editor = Editor {
         searcher: Searcher::new(builder.build()?)?,
         template: options.template.as_bytes(),
         limit: if options.all { 0 } else { 1 },
     };
-    let mut input = open(BufReader::new(alloc, input))?;
-    let mut out = open(BufWriter::new(alloc, out))?;
-    edit_lines(alloc, &mut editor, &mut input, &mut out)?;
-    match out.flush() {
-        Ok(()) => Ok(()),
-        Err(error) => Err(Fault::of_writing(&error)),
-    }
+    let mut input = open(BufReader::new(rt.alloc(), rt.stdin()))?;
+    let mut out = open(BufWriter::new(rt.alloc(), rt.stdout()))?;
+    edit_lines(rt.alloc(), &mut editor, &mut input, &mut out)?;
+    flush(&mut out)?;
+    Ok(0)
 }

@@ -1,2 +1,1 @@
-mod LexerLemmas
-mod LongestLemmas
+mod TokenLemmas

@@ -1,26 +1,39 @@
--- How a text is cut into tokens: at each place the longest that a rule matches, by the first rule that matches it.
-use Rattle.std.specs.Prelude.{◌≡◌, ℕ, ◌<◌, ◌≤◌, List, [], ◌∷◌, Some, slice_get}
-use Rattle.bites_spec.specs.Tree.{Tree}
-use Rattle.bites_spec.specs.Match.{Matches}
-use Rattle.tokens.specs.declared.lexer.Token.{Token}
+-- How a text is cut into tokens, and what is written of them.
+use Rattle.std.specs.Prelude.{◌≡◌, ◌==◌, ℕ, ◌+◌, ◌-◌, ◌<◌, ◌≤◌, List, [], ◌∷◌, ◌++◌, length, take, drop, count_by, Option, option_map, unwrap_or, slice_get}
+use Rattle.std.specs.Io.KnownBytes.{Appends}
+use Rattle.bites_filter.specs.Table.{NamedRegex, Reads, IsFurthest}
+use Rattle.bites_filter.specs.declared.table.Reading.{Reading}
 
-module _ (rules : List Tree) (text : List ℕ) where
-  -- the rule of this number matches from i to j
-  abbrev pub Reads : ℕ → ℕ → ℕ → Type 0
-  Reads k i j = (t : Tree) × (slice_get rules k ≡ Some t) × Matches text t i j
+-- the line of a token: the name of its rule, a tab and its text
+abbrev pub token_line : List ℕ → List ℕ → List ℕ
+token_line name text = ((name ++ 9 ∷ []) ++ text) ++ 10 ∷ []
 
-  -- Rule k reads from i up to j, which is behind i; no rule reads further from i, and no earlier rule as far.
-  pub record IsLongest (i k j : ℕ) : Type 0 where
-    pub some : i < j
-    pub reads : Reads k i j
-    pub longest : (l e : ℕ) → Reads l i e → e ≤ j
-    pub first : (l : ℕ) → Reads l i j → k ≤ l
+module _ (rules : List NamedRegex) (text : List ℕ) where
+  -- The tokens stand one after another from i on. Each is the longest that a rule reads there, by the first rule that reads so far; where
+  -- they stop no rule reads anything.
+  abbrev pub AreTokens : ℕ → List Reading → ℕ → Type 0
+  AreTokens i [] stop = (stop ≡ i) × ((k j : ℕ) → Reads rules text k i j → j ≤ i)
+  AreTokens i (t ∷ ts) stop = (i < t.end) × IsFurthest rules text i t.rule t.end × AreTokens t.end ts stop
 
-  -- no rule reads anything from i
-  abbrev pub IsStuck : ℕ → Type 0
-  IsStuck i = (k j : ℕ) → Reads k i j → j ≤ i
+  -- their lines, the first token beginning at i
+  abbrev pub token_lines : ℕ → List Reading → List ℕ
+  token_lines i [] = []
+  token_lines i (t ∷ ts) =
+      token_line (unwrap_or (option_map (λ r. r.name) (slice_get rules t.rule)) []) (take (t.end - i) (drop i text)) ++ token_lines t.end ts
 
-  -- The tokens stand one behind another from i on, each the longest; where they stop no rule reads anything.
-  abbrev pub AreTokens : ℕ → List Token → ℕ → Type 0
-  AreTokens i [] stop = (stop ≡ i) × IsStuck i
-  AreTokens i (t ∷ ts) stop = (t.start ≡ i) × IsLongest i t.rule t.end × AreTokens t.end ts stop
+  -- the tokens of the whole text up to where they stop, and their lines after the old output
+  pub record AreWritten (old new : Option (List ℕ)) (stop : ℕ) : Type 0 where
+    pub tokens : List Reading
+    pub are : AreTokens 0 tokens stop
+    pub within : stop ≤ length text
+    pub written : Appends old new (token_lines 0 tokens)
+
+-- no text has two lists of tokens
+abbrev pub TokensAreOneList : Type 0
+TokensAreOneList =
+    (rules : List NamedRegex) (text : List ℕ) (i : ℕ) (ts us : List Reading) (m n : ℕ) → AreTokens rules text i ts m →
+    AreTokens rules text i us n → (ts ≡ us) × (m ≡ n)
+
+-- the line of an offset, the first being 1
+abbrev pub line_at : List ℕ → ℕ → ℕ
+line_at text i = count_by (λ b. b == 10) (take i text) + 1

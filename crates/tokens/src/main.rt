@@ -2,57 +2,38 @@
 //!
 //! Each line of the file RULES is a name, a space and a pattern. At each place the longest token that a rule reads is
 //! taken, by the first rule that reads so far, and a line with the name of the rule and the text is written. Where no rule
-//! reads anything, the number of the byte and of its line are reported on standard error. The status is 0 if all of the input is
-//! read, 1 if not, and 2 for a fault, which is one line on standard error. That nobody reads the output any more is no
-//! fault.
+//! reads anything, the number of the byte and of its line are reported on standard error. The status is 0 if all of the
+//! input is read, 1 if not, and 2 for a fault, which is one line on standard error. That nobody reads the output any more
+//! is no fault.
+//!
+//! The input is held whole, since a token may be as long as the input. The output isn't held.
 #![tactic(auto)]
 
 mod lexer;
-mod longest;
-mod rules;
 
 use bites_filter::fault::Fault;
-use bites_filter::program::{open, words};
-use rules::Rules;
+use bites_filter::program::open;
+use bites_filter::table::{read_file, read_rules};
+use lexer::{Stop, stop_at, write_tokens};
 use std::alloc::Global;
-use std::fs;
-use std::io::{self, BufWriter, Read, Write};
+use std::io::{BufWriter, Read, Write};
 use std::process::ExitCode;
-
-const USAGE: &str = "tokens RULES";
 
 fn main(rt: HostRuntime) -> ExitCode {
     let mut err = rt.stderr();
-    let done = match words(&rt, USAGE) {
-        Ok(words) => match words.as_slice() {
-            [name] => match fs::read(&rt, name.as_str()) {
-                Ok(table) => run(rt.alloc(), table.as_slice(), &mut rt.stdin(), rt.stdout()),
-                Err(_) => Err(Fault::File("the rules")),
-            },
-            _ => Err(Fault::Usage(USAGE)),
-        },
+    let done = match read_file(&rt, "tokens RULES") {
+        Ok(table) => run(rt.alloc(), &table, &mut rt.stdin(), rt.stdout()),
         Err(fault) => Err(fault),
     };
     ExitCode::from(match done {
         Ok(None) => 0,
-        Ok(Some(stop)) => {
+        Ok(Some(Stop { line, byte })) => {
             // The status is the same where the line can't be written.
-            let _written = writeln!(
-                err,
-                "tokens: no rule reads on line {}, at byte {}",
-                stop.line, stop.byte
-            );
+            let _written = writeln!(err, "tokens: no rule reads on line {line}, at byte {byte}");
             1
         }
         Err(fault) => fault.tell("tokens", &mut err),
     })
-}
-
-// Where the tokens stop before the end of the input: the line, from 1, and the byte, from 0.
-#[derive(Clone, Copy)]
-struct Stop {
-    line: usize,
-    byte: usize,
 }
 
 // Writes the tokens of the input, and returns where they stop before its end.
@@ -62,36 +43,14 @@ fn run<R: Read, W: Write + Drop>(
     input: &mut R,
     out: W,
 ) -> Result<Option<Stop>, Fault> {
-    let rules = Rules::read(alloc, table)?;
+    let mut rules = read_rules(alloc, table)?;
     let mut text = Vec::new(alloc);
     if let Err(error) = input.read_to_end(&mut text) {
         return Err(Fault::of_reading(&error));
     }
-    let (tokens, stop) = rules.lexer.tokens(&text)?;
     let mut out = open(BufWriter::new(alloc, out))?;
-    for token in &tokens {
-        if let Err(error) = rules.write_token(*token, &text, &mut out) {
-            return Err(Fault::of_writing(&error));
-        }
+    match write_tokens(&mut rules, &text, &mut out) {
+        Ok(end) => Ok(stop_at(&text, end)),
+        Err(error) => Err(Fault::of_writing(&error)),
     }
-    if let Err(error) = out.flush() {
-        return Err(Fault::of_writing(&error));
-    }
-    Ok(stop_at(&text, stop))
-}
-
-// Returns the line of a place, unless it is the end of the text.
-fn stop_at(text: &[u8], stop: usize) -> Option<Stop> {
-    if stop >= text.len() {
-        return None;
-    }
-    let feeds = text
-        .iter()
-        .take(stop)
-        .filter(|byte| **byte == b'\n')
-        .count();
-    Some(Stop {
-        line: feeds.saturating_add(1),
-        byte: stop,
-    })
 }

@@ -170,6 +170,11 @@ impl<'h> Captures<'h> {
     }
 
     #[inline]
+    pub(super) fn groups_mut(&mut self) -> &mut [BitesSpan] {
+        self.locations.groups_mut()
+    }
+
+    #[inline]
     pub(super) fn whole(&self) -> BitesSpan {
         self.locations.groups()[0]
     }

@@ -14,18 +14,26 @@
 
 use crate::builder::regex_builder;
 use crate::engine::{Engine, Settings, ABSENT};
-use crate::sys;
+use crate::sys::{self, BitesSpan};
 use std::borrow::Cow;
 use std::fmt;
-use std::iter;
 use std::str::FromStr;
 use std::sync::Arc;
 
 pub use crate::error::Error;
 
 mod captures;
-mod iterators;
-mod replacer;
+
+mod iterators {
+    crate::iterators::iterators!([u8]);
+}
+
+mod replacer {
+    crate::replacer::replacer! {
+        [u8], Vec<u8>, extend_from_slice,
+        /// Bytes that stand for themselves, also where they would mean something as a template.
+    }
+}
 
 pub use captures::{CaptureLocations, Captures, Match};
 pub use iterators::{CaptureMatches, CaptureNames, Matches, Split, SplitN, SubCaptureMatches};
@@ -183,18 +191,22 @@ impl Regex {
         limit: usize,
         rep: &mut impl Replacer,
     ) -> Cow<'h, [u8]> {
-        let mut all = self.captures_iter(haystack);
-        let Some(first) = all.next() else {
+        let mut matches = CaptureMatches::new(self, haystack);
+        let Some(mut captures) = matches.next() else {
             return Cow::Borrowed(haystack);
         };
-        let limit = if limit == 0 { usize::MAX } else { limit };
         let mut new = Vec::with_capacity(haystack.len());
         let mut last = 0;
-        for captures in iter::once(first).chain(all).take(limit) {
+        let mut count = 0;
+        loop {
             let whole = captures.whole();
             new.extend_from_slice(&haystack[last..whole.start]);
             rep.replace_append(&captures, &mut new);
             last = whole.end;
+            count += 1;
+            if count == limit || !matches.read_next(&mut captures) {
+                break;
+            }
         }
         new.extend_from_slice(&haystack[last..]);
         Cow::Owned(new)
@@ -231,10 +243,8 @@ impl Regex {
     /// Returns the groups of the leftmost match at or after `start`.
     #[inline]
     pub fn captures_at<'h>(&self, haystack: &'h [u8], start: usize) -> Option<Captures<'h>> {
-        let mut locations = self.capture_locations();
-        let groups = locations.groups_mut();
-        let found = self.engine.captures_at(haystack, start, groups);
-        found.then(|| Captures::new(haystack, locations, Arc::clone(self.engine.program())))
+        let groups = self.engine.captures_at(haystack, start)?;
+        Some(self.captures_of(haystack, groups))
     }
 
     /// Returns the leftmost match and writes its groups to `locs`, which is unchanged if nothing matches.
@@ -259,7 +269,7 @@ impl Regex {
         start: usize,
     ) -> Option<Match<'h>> {
         let groups = locs.groups_mut();
-        let found = self.engine.captures_at(haystack, start, groups);
+        let found = self.engine.captures_read_at(haystack, start, groups);
         found.then(|| Match::new(haystack, groups[0]))
     }
 }
@@ -297,10 +307,8 @@ impl Regex {
         haystack: &'h [u8],
         start: usize,
     ) -> Option<Captures<'h>> {
-        let mut locations = self.capture_locations();
-        let groups = locations.groups_mut();
-        let found = self.engine.captures_anchored_at(haystack, start, groups);
-        found.then(|| Captures::new(haystack, locations, Arc::clone(self.engine.program())))
+        let groups = self.engine.captures_anchored_at(haystack, start)?;
+        Some(self.captures_of(haystack, groups))
     }
 
     /// Returns whether the pattern matches the whole haystack, also where it prefers a shorter match.
@@ -346,6 +354,14 @@ impl Regex {
     #[inline]
     pub fn capture_locations(&self) -> CaptureLocations {
         CaptureLocations::new(vec![ABSENT; self.captures_len()])
+    }
+}
+
+impl Regex {
+    #[inline]
+    fn captures_of<'h>(&self, haystack: &'h [u8], groups: Vec<BitesSpan>) -> Captures<'h> {
+        let program = Arc::clone(self.engine.program());
+        Captures::new(haystack, CaptureLocations::new(groups), program)
     }
 }
 

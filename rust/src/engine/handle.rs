@@ -2,7 +2,8 @@
 
 use super::text::{give_up, text_of, written};
 use crate::error::Error;
-use crate::sys::{self, Bites, BitesCache};
+use crate::sys::{self, Bites, BitesCache, BitesSpan};
+use std::mem;
 
 /// The flags and limits of a pattern.
 #[derive(Clone, Copy, Debug)]
@@ -114,6 +115,8 @@ impl Drop for Handle {
 pub(super) struct Searcher {
     pub(super) regex: Handle,
     pub(super) cache: BitesCache,
+    /// Memory for the groups of a match, which the next search that finds one hands out. It is empty.
+    spare: Vec<BitesSpan>,
 }
 
 // SAFETY: the header says that handles may go to another thread.
@@ -126,7 +129,11 @@ impl Searcher {
         // SAFETY: the handle is borrowed exclusively, and the cache an empty local.
         let code = unsafe { sys::bites_cache_new(&mut regex.0, &mut cache) };
         match code {
-            sys::DONE => Searcher { regex, cache },
+            sys::DONE => Searcher {
+                regex,
+                cache,
+                spare: Vec::new(),
+            },
             code => give_up(code),
         }
     }
@@ -141,6 +148,28 @@ impl Searcher {
             sys::NO_MATCH => false,
             code => give_up(code),
         }
+    }
+
+    /// Returns the groups of the match that the call finds. A call that finds none leaves their memory to the next one.
+    ///
+    /// # Safety
+    ///
+    /// A call that finds a match writes so many groups.
+    #[inline]
+    pub(super) unsafe fn captures(
+        &mut self,
+        count: usize,
+        ask: impl FnOnce(&mut Bites, &mut BitesCache, *mut BitesSpan) -> u32,
+    ) -> Option<Vec<BitesSpan>> {
+        self.spare.reserve_exact(count);
+        let room = self.spare.as_mut_ptr();
+        if !self.search(|regex, cache| ask(regex, cache, room)) {
+            return None;
+        }
+        let mut groups = mem::take(&mut self.spare);
+        // SAFETY: there is room for so many groups, and as the caller says they are written.
+        unsafe { groups.set_len(count) };
+        Some(groups)
     }
 }
 

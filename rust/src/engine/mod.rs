@@ -14,13 +14,13 @@ use crate::sys::{self, Bites, BitesCache, BitesSize, BitesSpan};
 use handle::{Handle, Searcher};
 use std::str;
 use std::sync::{Arc, Mutex, OnceLock};
-use text::{append, give_up, written};
+use text::{append, give_up, made_text, text_of, written};
 
 mod handle;
 mod text;
 
 pub(crate) use handle::Settings;
-pub(crate) use text::{message, text_of};
+pub(crate) use text::message;
 
 /// A compiled regex, which any number of threads may read.
 pub(crate) struct Program {
@@ -46,9 +46,10 @@ static UNNAMED: [Option<Box<str>>; 32] = [NO_NAME; 32];
 const NO_NAME: Option<Box<str>> = None;
 
 impl Names {
-    /// Reads the names of a regex of this pattern. One without `<` names no group.
+    /// Reads the names of a regex of this pattern. Group 0 has none, and a pattern without `<` names no group.
     fn read(pattern: &str, handle: &mut Handle, groups: usize) -> Names {
-        if groups <= UNNAMED.len() && !pattern.as_bytes().contains(&b'<') {
+        let names_none = groups == 1 || !pattern.as_bytes().contains(&b'<');
+        if names_none && groups <= UNNAMED.len() {
             return Names::Unnamed(groups);
         }
         Names::Each((0..groups).map(|group| handle.name(group)).collect())
@@ -130,11 +131,16 @@ impl Program {
         template: &str,
         to: &mut String,
     ) {
+        let is_border = |at: usize| at == sys::NONE || haystack.is_char_boundary(at);
+        let are_texts = groups
+            .iter()
+            .all(|group| is_border(group.start) && is_border(group.end));
         let old = to.len();
-        // SAFETY: what is appended is taken away again if it is not UTF-8, and nothing unwinds before that is known.
+        // SAFETY: what is appended is UTF-8 where the template and all groups are. Else it is taken away again if it is not, and
+        // nothing unwinds before that is known.
         let bytes = unsafe { to.as_mut_vec() };
         self.expand(haystack.as_bytes(), groups, template.as_bytes(), bytes);
-        if str::from_utf8(&bytes[old..]).is_err() {
+        if !are_texts && str::from_utf8(&bytes[old..]).is_err() {
             bytes.truncate(old);
             panic!("a group begins or ends within a character");
         }
@@ -222,9 +228,38 @@ impl Engine {
         self.search(|regex, cache| unsafe { sys::bites_is_full_match(regex, cache, text, len) })
     }
 
+    /// Returns the groups of the first match.
+    pub(crate) fn captures_at(&self, haystack: &[u8], start: usize) -> Option<Vec<BitesSpan>> {
+        let (text, len) = (haystack.as_ptr(), haystack.len());
+        let count = self.program.captures_len();
+        // SAFETY: both handles are borrowed exclusively, the haystack is a slice, and there is room for all groups. A match
+        // writes each of them.
+        self.with_searcher(|own| unsafe {
+            own.captures(count, |regex, cache, groups| {
+                sys::bites_captures_at(regex, cache, text, len, start, groups, count).code
+            })
+        })
+    }
+
+    /// Returns the groups of the match that [`Engine::find_anchored_at`] returns.
+    pub(crate) fn captures_anchored_at(
+        &self,
+        haystack: &[u8],
+        start: usize,
+    ) -> Option<Vec<BitesSpan>> {
+        let (text, len) = (haystack.as_ptr(), haystack.len());
+        let count = self.program.captures_len();
+        // SAFETY: as in `captures_at`.
+        self.with_searcher(|own| unsafe {
+            own.captures(count, |regex, cache, groups| {
+                sys::bites_captures_anchored_at(regex, cache, text, len, start, groups, count).code
+            })
+        })
+    }
+
     /// Writes the groups of the first match, as many as `groups` has room for. `groups` is unchanged if nothing matches; a span
     /// that the regex has no group for becomes [`ABSENT`].
-    pub(crate) fn captures_at(
+    pub(crate) fn captures_read_at(
         &self,
         haystack: &[u8],
         start: usize,
@@ -232,7 +267,7 @@ impl Engine {
     ) -> bool {
         let own = self.program.captures_len();
         if groups.len() < own {
-            return self.some_captures_at(haystack, start, groups);
+            return self.some_captures_read_at(haystack, start, groups);
         }
         let (text, len) = (haystack.as_ptr(), haystack.len());
         let (spans, count) = (groups.as_mut_ptr(), groups.len());
@@ -246,30 +281,19 @@ impl Engine {
         found
     }
 
-    /// Like [`Engine::captures_at`], where `groups` has room for some of the groups only.
+    /// Like [`Engine::captures_read_at`], where `groups` has room for some of the groups only.
     #[cold]
-    fn some_captures_at(&self, haystack: &[u8], start: usize, groups: &mut [BitesSpan]) -> bool {
-        let mut all = vec![ABSENT; self.program.captures_len()];
-        let found = self.captures_at(haystack, start, &mut all);
-        if found {
-            groups.copy_from_slice(&all[..groups.len()]);
-        }
-        found
-    }
-
-    /// Writes the groups of the match that [`Engine::find_anchored_at`] returns to `groups`, which has room for all of them.
-    pub(crate) fn captures_anchored_at(
+    fn some_captures_read_at(
         &self,
         haystack: &[u8],
         start: usize,
         groups: &mut [BitesSpan],
     ) -> bool {
-        let (text, len) = (haystack.as_ptr(), haystack.len());
-        let (spans, count) = (groups.as_mut_ptr(), groups.len());
-        // SAFETY: both handles are borrowed exclusively, and both pointers are of slices.
-        self.search(|regex, cache| unsafe {
-            sys::bites_captures_anchored_at(regex, cache, text, len, start, spans, count).code
-        })
+        let all = self.captures_at(haystack, start);
+        if let Some(all) = &all {
+            groups.copy_from_slice(&all[..groups.len()]);
+        }
+        all.is_some()
     }
 
     #[inline]
@@ -323,8 +347,25 @@ impl Searches<'_> {
         (piece, found)
     }
 
-    /// Writes the groups of the match that [`Searches::find_next`] returns to `groups`, which has room for all of them.
+    /// Returns the groups of the match that [`Searches::find_next`] returns.
     pub(crate) fn captures_next(
+        &mut self,
+        program: &Program,
+        haystack: &[u8],
+        last: usize,
+    ) -> Option<Vec<BitesSpan>> {
+        let (text, len) = (haystack.as_ptr(), haystack.len());
+        let count = program.captures_len();
+        // SAFETY: as in `Engine::captures_at`.
+        unsafe {
+            self.0.value().captures(count, |regex, cache, groups| {
+                sys::bites_captures_next(regex, cache, text, len, last, groups, count).code
+            })
+        }
+    }
+
+    /// Writes the groups of the match that [`Searches::find_next`] returns to `groups`, which has room for all of them.
+    pub(crate) fn captures_read_next(
         &mut self,
         haystack: &[u8],
         last: usize,
@@ -342,6 +383,7 @@ impl Searches<'_> {
 impl Engine {
     /// Returns the haystack with its first `limit` matches replaced by what the template stands for, or all for 0; `None` if
     /// nothing matches.
+    #[inline]
     pub(crate) fn replace(
         &self,
         haystack: &[u8],
@@ -352,6 +394,7 @@ impl Engine {
     }
 
     /// Like [`Engine::replace`], by a text that stands for itself.
+    #[inline]
     pub(crate) fn replace_literal(
         &self,
         haystack: &[u8],
@@ -359,6 +402,32 @@ impl Engine {
         text: &[u8],
     ) -> Option<Vec<u8>> {
         self.replace_by(sys::bites_replace_literal, haystack, limit, text)
+    }
+
+    /// Like [`Engine::replace`], over texts.
+    #[inline]
+    pub(crate) fn replace_text(
+        &self,
+        haystack: &str,
+        limit: usize,
+        template: &str,
+    ) -> Option<String> {
+        let new = self.replace(haystack.as_bytes(), limit, template.as_bytes())?;
+        // SAFETY: the haystack and the template are UTF-8, and a search from its start finds whole characters.
+        Some(unsafe { made_text(new) })
+    }
+
+    /// Like [`Engine::replace_literal`], over texts.
+    #[inline]
+    pub(crate) fn replace_text_literal(
+        &self,
+        haystack: &str,
+        limit: usize,
+        text: &str,
+    ) -> Option<String> {
+        let new = self.replace_literal(haystack.as_bytes(), limit, text.as_bytes())?;
+        // SAFETY: as in `replace_text`.
+        Some(unsafe { made_text(new) })
     }
 
     fn replace_by(
@@ -371,13 +440,15 @@ impl Engine {
         let (text, len) = (haystack.as_ptr(), haystack.len());
         let (by, by_len) = (template.as_ptr(), template.len());
         let guess = len.saturating_add(len / 2).saturating_add(by_len);
+        let mut searches = self.searches();
+        let own = searches.0.value();
+        let (regex, cache) = (&mut own.regex.0, &mut own.cache);
         // SAFETY: both handles are borrowed exclusively, two pointers are of slices, and the last of a buffer.
-        let new = self.with_searcher(|own| unsafe {
-            let (regex, cache) = (&mut own.regex.0, &mut own.cache);
+        let new = unsafe {
             written(guess, sys::MATCH, |out, room| {
                 call(regex, cache, text, len, limit, by, by_len, out, room)
             })
-        });
+        };
         match new {
             Ok(new) => Some(new),
             Err(sys::NO_MATCH) => None,

@@ -15,6 +15,7 @@ const SHORT: usize = 1024;
 /// # Safety
 ///
 /// Where the call returns `wanted`, it wrote as many bytes as it says.
+#[inline]
 pub(super) unsafe fn written(
     guess: usize,
     wanted: u32,
@@ -93,8 +94,20 @@ fn text_into(code: u32, text: &mut [u8]) -> usize {
 }
 
 /// Returns these bytes as a text. They are UTF-8, since all that the engine was given was.
-pub(crate) fn text_of(bytes: Vec<u8>) -> String {
+pub(super) fn text_of(bytes: Vec<u8>) -> String {
     String::from_utf8(bytes).expect("the engine writes UTF-8 where all that it reads is UTF-8")
+}
+
+/// Returns these bytes as a text, without a look at each of them.
+///
+/// # Safety
+///
+/// The engine made them of UTF-8 alone, so that it is proved that they are UTF-8.
+#[inline]
+pub(super) unsafe fn made_text(bytes: Vec<u8>) -> String {
+    debug_assert!(std::str::from_utf8(&bytes).is_ok());
+    // SAFETY: as the caller says.
+    unsafe { String::from_utf8_unchecked(bytes) }
 }
 
 /// Ends the program, as the collections of `std` do where memory is out: no signature here can return that. Nothing unwinds,

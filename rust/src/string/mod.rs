@@ -1,18 +1,31 @@
 //! Searches of texts.
 
 use crate::builder::regex_builder;
-use crate::engine::{text_of, Engine, Settings, ABSENT};
+use crate::engine::{Engine, Settings, ABSENT};
 use crate::error::Error;
-use crate::sys;
+use crate::sys::{self, BitesSpan};
 use std::borrow::Cow;
 use std::fmt;
-use std::iter;
 use std::str::FromStr;
 use std::sync::Arc;
 
 mod captures;
-mod iterators;
-mod replacer;
+
+mod iterators {
+    crate::iterators::iterators!(str);
+}
+
+mod replacer {
+    crate::replacer::replacer! {
+        str, String, push_str,
+        /// A text that stands for itself, also where it would mean something as a template.
+        ///
+        /// ```
+        /// let price = regex_bites::Regex::new(r"\d+").unwrap();
+        /// assert_eq!("for $1", price.replace("for 20", regex_bites::NoExpand("$1")));
+        /// ```
+    }
+}
 
 pub use captures::{CaptureLocations, Captures, Match};
 pub use iterators::{CaptureMatches, CaptureNames, Matches, Split, SplitN, SubCaptureMatches};
@@ -153,16 +166,14 @@ impl Regex {
         limit: usize,
         mut rep: R,
     ) -> Cow<'h, str> {
-        let bytes = haystack.as_bytes();
         let new = if let Some(literal) = rep.no_expansion() {
-            self.engine
-                .replace_literal(bytes, limit, literal.as_bytes())
+            self.engine.replace_text_literal(haystack, limit, &literal)
         } else if let Some(template) = rep.__regex_bites_template() {
-            self.engine.replace(bytes, limit, template.as_bytes())
+            self.engine.replace_text(haystack, limit, &template)
         } else {
             return self.replace_by(haystack, limit, &mut rep);
         };
-        new.map_or(Cow::Borrowed(haystack), |new| Cow::Owned(text_of(new)))
+        new.map_or(Cow::Borrowed(haystack), Cow::Owned)
     }
 
     /// Asks the replacer for each match in turn.
@@ -172,18 +183,22 @@ impl Regex {
         limit: usize,
         rep: &mut impl Replacer,
     ) -> Cow<'h, str> {
-        let mut all = self.captures_iter(haystack);
-        let Some(first) = all.next() else {
+        let mut matches = CaptureMatches::new(self, haystack);
+        let Some(mut captures) = matches.next() else {
             return Cow::Borrowed(haystack);
         };
-        let limit = if limit == 0 { usize::MAX } else { limit };
         let mut new = String::with_capacity(haystack.len());
         let mut last = 0;
-        for captures in iter::once(first).chain(all).take(limit) {
+        let mut count = 0;
+        loop {
             let whole = captures.whole();
             new.push_str(&haystack[last..whole.start]);
             rep.replace_append(&captures, &mut new);
             last = whole.end;
+            count += 1;
+            if count == limit || !matches.read_next(&mut captures) {
+                break;
+            }
         }
         new.push_str(&haystack[last..]);
         Cow::Owned(new)
@@ -223,10 +238,8 @@ impl Regex {
     /// Returns the groups of the leftmost match at or after `start`.
     #[inline]
     pub fn captures_at<'h>(&self, haystack: &'h str, start: usize) -> Option<Captures<'h>> {
-        let mut locations = self.capture_locations();
-        let groups = locations.groups_mut();
-        let found = self.engine.captures_at(haystack.as_bytes(), start, groups);
-        found.then(|| Captures::new(haystack, locations, Arc::clone(self.engine.program())))
+        let groups = self.engine.captures_at(haystack.as_bytes(), start)?;
+        Some(self.captures_of(haystack, groups))
     }
 
     /// Returns the leftmost match and writes its groups to `locs`, which is unchanged if nothing matches.
@@ -251,7 +264,9 @@ impl Regex {
         start: usize,
     ) -> Option<Match<'h>> {
         let groups = locs.groups_mut();
-        let found = self.engine.captures_at(haystack.as_bytes(), start, groups);
+        let found = self
+            .engine
+            .captures_read_at(haystack.as_bytes(), start, groups);
         found.then(|| Match::new(haystack, groups[0]))
     }
 }
@@ -291,12 +306,10 @@ impl Regex {
         haystack: &'h str,
         start: usize,
     ) -> Option<Captures<'h>> {
-        let mut locations = self.capture_locations();
-        let groups = locations.groups_mut();
-        let found = self
+        let groups = self
             .engine
-            .captures_anchored_at(haystack.as_bytes(), start, groups);
-        found.then(|| Captures::new(haystack, locations, Arc::clone(self.engine.program())))
+            .captures_anchored_at(haystack.as_bytes(), start)?;
+        Some(self.captures_of(haystack, groups))
     }
 
     /// Returns whether the pattern matches the whole haystack, also where it prefers a shorter match.
@@ -342,6 +355,14 @@ impl Regex {
     #[inline]
     pub fn capture_locations(&self) -> CaptureLocations {
         CaptureLocations::new(vec![ABSENT; self.captures_len()])
+    }
+}
+
+impl Regex {
+    #[inline]
+    fn captures_of<'h>(&self, haystack: &'h str, groups: Vec<BitesSpan>) -> Captures<'h> {
+        let program = Arc::clone(self.engine.program());
+        Captures::new(haystack, CaptureLocations::new(groups), program)
     }
 }
 

@@ -1,6 +1,6 @@
 //! Searches for a match that begins at one offset, and for matches of the whole haystack.
 
-ghost use Rattle.std.specs.Prelude.{◌≡◌, ◌↔◌, length, option_map, is_some, unwrap_or, MatchOption, IsTrue, IfOk, IfSome};
+ghost use Rattle.std.specs.Prelude.{◌≡◌, ◌↔◌, length, option_map, is_some, unwrap_or, MatchOption, OnOk, IsTrue, IfOk, IfSome};
 ghost use Rattle.bites_spec.specs.Counts.{fit_of, IsBounded};
 ghost use Rattle.bites_spec.specs.Captured.{captured, excerpt};
 ghost use Rattle.bites_spec.specs.Anchored.{HasMatchFrom, IsFullMatch, IsWalkedFrom, anchored_span_at, anchored_slots_at, full_slots, FindsSpanFrom, FindsGroupsFrom, FindsGroupsFull, AreGroupsAt};
@@ -121,6 +121,7 @@ impl Regex {
         ensures regex { IfOk result (λ c. IfSome c (λ x. x.regex ≡ self.now)) }
         ensures haystack { IfOk result (λ c. IfSome c (λ x. x.haystack ≡ haystack.now)) }
         ensures fits { cache.new.fits ≡ cache.old.fits }
+        ensures walked { IfOk result (λ c. IsWalkedFrom self.now.program haystack.now start (is_some c) cache.new.walked) }
     {
         // What every regex is: its tree finds what its program answers.
         let _pattern = self.as_str();
@@ -213,6 +214,7 @@ impl Regex {
         ensures regex { IfOk result (λ c. IfSome c (λ x. x.regex ≡ self.now)) }
         ensures haystack { IfOk result (λ c. IfSome c (λ x. x.haystack ≡ haystack.now)) }
         ensures fits { cache.new.fits ≡ cache.old.fits }
+        ensures bounded { OnOk result (IsBounded self.now.program haystack.now 0 cache.new.walked) }
     {
         // What every regex is: its tree finds what its program answers.
         let _pattern = self.as_str();

@@ -11,7 +11,7 @@ ghost use Rattle.bites_spec.specs.Found.{HasMatch, IsLeastEnd};
 ghost use Rattle.bites_spec.specs.Anchored.{HasMatchFrom, IsFullMatch, IsWalkedFrom, anchored_run_at, anchored_span_at, full_run};
 ghost use Rattle.bites_spec.specs.Utf8.{step_len};
 ghost use Rattle.bites_spec.specs.Spans.{is_empty_at};
-ghost use Rattle.bites_bytes.specs.Due.{run_due, LeavesRun};
+ghost use Rattle.bites_bytes.specs.NextMatch.{next_run, LeavesRun};
 
 use crate::bytes::Regex;
 use crate::bytes::regex::Compiled;
@@ -139,9 +139,9 @@ impl Cache {
         end_in(&slots)
     }
 
-    // The run that is due after a match that ends at `last`, or the first of all: it is put into the slots. Where none is
-    // due, the slots may be written too.
-    pub(super) fn due(
+    // Writes the slots of the next match after one that ends at `last`, or of the first of all, and returns whether there is
+    // one. Where there is none, the slots may be written too.
+    pub(super) fn next_match(
         &mut self,
         compiled: &Compiled,
         haystack: &[u8],
@@ -152,7 +152,7 @@ impl Cache {
         requires slots { IsSlotCount compiled.now.program (length slots.old) }
         requires whole { 2 ≤ length slots.old }
         requires last { ForSome last (λ e. e ≤ length haystack.now) }
-        ensures due { LeavesRun compiled.now.program (run_due compiled.now haystack.now last)
+        ensures next { LeavesRun compiled.now.program (next_run compiled.now haystack.now last)
             result (length slots.old) slots.new }
         ensures compiled { IsCompiled compiled.now }
         ensures fits { self.new.fits ≡ self.old.fits }

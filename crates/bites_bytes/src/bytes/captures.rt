@@ -1,17 +1,17 @@
 //! The groups of a match.
 
-ghost use Rattle.std.specs.Prelude.{◌≡◌, ◌+◌, ◌/◌, length, map, take, drop, IfOk, IfSome, IsSome, Some, option_map, option_and_then};
+ghost use Rattle.std.specs.Prelude.{◌≡◌, ◌+◌, ◌/◌, length, map, take, drop, is_some, IfOk, IfSome, IsSome, OnOk, Some, option_map, option_and_then};
 ghost use Rattle.bites_spec.specs.Measure.{static_captures_len};
 ghost use Rattle.bites_spec.specs.Slots.{group_in, taking_part};
-ghost use Rattle.bites_spec.specs.Counts.{fit_of};
+ghost use Rattle.bites_spec.specs.Counts.{fit_of, IsBounded, IsWalked};
 ghost use Rattle.bites_spec.specs.Pieces.{text_at};
 ghost use Rattle.bites_spec.specs.Regex.{slots_at};
-ghost use Rattle.bites_spec.specs.Anchored.{anchored_slots_at, full_slots};
+ghost use Rattle.bites_spec.specs.Anchored.{IsWalkedFrom, anchored_slots_at, full_slots};
 ghost use Rattle.bites_spec.specs.Captured.{AreGroups, captured, excerpt, FindsGroups};
 
 use crate::bytes::regex::Compiled;
 use crate::bytes::{Cache, CaptureLocations, CaptureNames, Match, Regex, SubCaptureMatches};
-use crate::shown::{Key, Part};
+use crate::debug::{Key, Part};
 use bites_machine::interpolate;
 use std::alloc::AllocError;
 use std::fmt;
@@ -71,6 +71,7 @@ impl<'h> Captures<'h> {
         ensures found { IfOk result (λ c. c
             ≡ option_map (captured regex.now haystack.now) (slots_at regex.now haystack.now start)) }
         ensures fits { cache.new.fits ≡ cache.old.fits }
+        ensures walked { IfOk result (λ c. IsWalked regex.now.program haystack.now start (is_some c) cache.new.walked) }
     {
         let mut locations = regex.capture_locations()?;
         let compiled = regex.compiled().clone()?;
@@ -95,6 +96,7 @@ impl<'h> Captures<'h> {
         ensures found { IfOk result (λ c. c ≡ option_map (captured regex.now haystack.now)
             (anchored_slots_at regex.now haystack.now start)) }
         ensures fits { cache.new.fits ≡ cache.old.fits }
+        ensures walked { IfOk result (λ c. IsWalkedFrom regex.now.program haystack.now start (is_some c) cache.new.walked) }
     {
         let mut locations = regex.capture_locations()?;
         let compiled = regex.compiled().clone()?;
@@ -118,6 +120,7 @@ impl<'h> Captures<'h> {
         ensures found { IfOk result (λ c. c ≡ option_map (captured regex.now haystack.now)
             (full_slots regex.now haystack.now)) }
         ensures fits { cache.new.fits ≡ cache.old.fits }
+        ensures bounded { OnOk result (IsBounded regex.now.program haystack.now 0 cache.new.walked) }
     {
         let mut locations = regex.capture_locations()?;
         let compiled = regex.compiled().clone()?;
@@ -162,28 +165,28 @@ impl<'h> Captures<'h> {
         ensures { option_map excerpt_of result ≡ option_map (excerpt self.now.haystack)
             (option_and_then (group_in self.now.slots) (index_in self.now.regex.names name.now)) }
     {
-        match self.number_named(name) {
+        match self.group_index(name) {
             Some(group) => self.get(group),
             None => None,
         }
     }
 
-    // The number of the first group of this name; None if no group has it.
-    pub(crate) fn number_named(&self, name: &str) -> Option<usize>
+    /// Returns the number of the first group with this name, or `None` if no group has it.
+    pub fn group_index(&self, name: &str) -> Option<usize>
         ensures { result ≡ index_in self.now.regex.names name.now }
     {
-        self.compiled.number_named(name)
+        self.compiled.group_index(name)
     }
 
-    // The name of each group, if it has one, from group 0 on, which has none.
-    pub(crate) fn capture_names(&self) -> CaptureNames<'_>
+    /// Returns an iterator over the names of the groups, from group 0 on, which has none.
+    pub fn capture_names(&self) -> CaptureNames<'_>
         ensures { result ≡ self.now.regex.names }
     {
         CaptureNames::new(self.compiled.program())
     }
 
     // The bytes of the group of this number, if it participates.
-    fn text_of(&self, group: usize) -> Option<&'h [u8]>
+    fn group_bytes(&self, group: usize) -> Option<&'h [u8]>
         ensures { answer_text result ≡ text_in self.now.slots self.now.haystack group }
     {
         match self.get(group) {
@@ -202,8 +205,8 @@ impl<'h> Captures<'h> {
     {
         interpolate::bytes(
             template,
-            |group: usize| self.text_of(group),
-            |name: &str| self.number_named(name),
+            |group: usize| self.group_bytes(group),
+            |name: &str| self.group_index(name),
             dst,
         )
     }
@@ -253,7 +256,7 @@ impl<'h> Captures<'h> {
             if filled == parts.len() {
                 break;
             }
-            if let Some(text) = self.text_of(group) {
+            if let Some(text) = self.group_bytes(group) {
                 parts[filled] = text;
                 filled += 1;
             }
@@ -271,7 +274,7 @@ impl<'c, 'h> fmt::Debug for Groups<'c, 'h> {
         let captures = self.0;
         let mut map = f.debug_map();
         for (number, name) in captures.capture_names().enumerate() {
-            map.entry(&Key { number, name }, &captures.shown(number));
+            map.entry(&Key { number, name }, &captures.debug_part(number));
         }
         map.finish()
     }
@@ -285,7 +288,7 @@ impl<'h> fmt::Debug for Captures<'h> {
 
 impl<'h> Captures<'h> {
     // Where a group participates, and its bytes.
-    fn shown(&self, group: usize) -> Part<&'h [u8]> {
+    fn debug_part(&self, group: usize) -> Part<&'h [u8]> {
         match self.get(group) {
             Some(found) => Part(Some((found.start(), found.end(), found.as_bytes()))),
             None => Part(None),
@@ -349,6 +352,7 @@ impl Regex {
         ensures regex { IfOk result (λ c. IfSome c (λ x. x.regex ≡ self.now)) }
         ensures haystack { IfOk result (λ c. IfSome c (λ x. x.haystack ≡ haystack.now)) }
         ensures fits { cache.new.fits ≡ cache.old.fits }
+        ensures walked { IfOk result (λ c. IsWalked self.now.program haystack.now 0 (is_some c) cache.new.walked) }
     {
         self.captures_at_with(cache, haystack, 0)
     }
@@ -367,6 +371,7 @@ impl Regex {
         ensures regex { IfOk result (λ c. IfSome c (λ x. x.regex ≡ self.now)) }
         ensures haystack { IfOk result (λ c. IfSome c (λ x. x.haystack ≡ haystack.now)) }
         ensures fits { cache.new.fits ≡ cache.old.fits }
+        ensures walked { IfOk result (λ c. IsWalked self.now.program haystack.now start (is_some c) cache.new.walked) }
     {
         // What every regex is: its tree finds what its program answers.
         let _pattern = self.as_str();

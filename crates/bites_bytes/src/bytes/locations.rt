@@ -3,7 +3,7 @@
 ghost use Rattle.std.specs.Prelude.{◌≡◌, ◌≤◌, ◌/◌, ◌↔◌, None, replicate, length, option_map, is_some, unwrap_or, IsTrue, IfOk, IfSome, Some, true, false};
 ghost use Rattle.bites_spec.specs.Match.{span};
 ghost use Rattle.bites_spec.specs.Slots.{group_in};
-ghost use Rattle.bites_spec.specs.Counts.{fit_of, IsWalked};
+ghost use Rattle.bites_spec.specs.Counts.{fit_of, IsBounded, IsWalked};
 ghost use Rattle.bites_spec.specs.Regex.{IsCompiled, run_at, span_at, slots_at};
 ghost use Rattle.bites_spec.specs.Anchored.{IsWalkedFrom, anchored_run_at, anchored_span_at, anchored_slots_at, full_slots};
 
@@ -169,6 +169,7 @@ impl CaptureLocations {
         ensures none { result ≡ false → full_slots compiled.now haystack.now ≡ None }
         ensures compiled { IsCompiled compiled.now }
         ensures cache { cache.new.fits ≡ cache.old.fits }
+        ensures bounded { IsBounded compiled.now.program haystack.now 0 cache.new.walked }
     {
         cache.search_full(compiled, haystack, &mut self.slots)
     }

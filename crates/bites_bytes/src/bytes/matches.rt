@@ -83,7 +83,7 @@ impl<'r, 'h> Cursor<'r, 'h> {
         ensures compiled { IsCompiled (regex_of self.old) }
         ensures fits { cache.new.fits ≡ cache.old.fits }
     {
-        if !cache.due(self.regex.compiled(), self.haystack, self.last, slots) {
+        if !cache.next_match(self.regex.compiled(), self.haystack, self.last, slots) {
             return None;
         }
         match ends_in(slots) {

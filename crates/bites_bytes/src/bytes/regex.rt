@@ -70,7 +70,7 @@ impl Compiled {
     }
 
     // The number of the first group of this name.
-    pub(super) fn number_named(&self, name: &str) -> Option<usize>
+    pub(super) fn group_index(&self, name: &str) -> Option<usize>
         ensures { result ≡ index_in self.now.names name.now }
     {
         self.program.index_of(name)

@@ -6,11 +6,11 @@ ghost use Rattle.bites_spec.specs.Counts.{fit_of};
 ghost use Rattle.bites_spec.specs.Iteration.{captures_in};
 ghost use Rattle.bites_bytes.specs.Matches.{regex_of, last_of};
 ghost use Rattle.bites_spec.specs.Replaced.{ReplacesIn};
-ghost use Rattle.bites_bytes.specs.Limit.{bound};
+ghost use Rattle.bites_bytes.specs.ReplaceLimit.{bound};
 
 use crate::bytes::matches::Cursor;
 use crate::bytes::{Cache, CaptureLocations, Captures, Regex, Replacer};
-use crate::limit::{bound, spend};
+use crate::replace_limit::{bound, spend};
 use std::alloc::AllocError;
 use std::borrow::CowSlice;
 

@@ -6,35 +6,31 @@ ghost use Rattle.bites_spec.specs.Counts.{fit_of};
 ghost use Rattle.bites_machine.specs.States.{states_of};
 ghost use Rattle.bites_machine.specs.Used.{slots_at};
 ghost use Rattle.bites_machine.specs.Sweep.{IsProgramOf, HasRoom, IsIdle};
-ghost use Rattle.bites_machine.specs.Anchored.{SoughtFrom};
+ghost use Rattle.bites_machine.specs.Anchored.{AnchoredResult};
 ghost use Rattle.bites_machine.specs.declared.vm.MatchKind.TheVariants.{First, Earliest, Longest};
 
 use super::MatchKind;
+use super::closure::Scratch;
 use super::counted::Counted;
-use super::places::{Asked, Request, is_found_with, piece_at, release_all, search_place};
+use super::pikevm::{Request, is_found_with, piece_at, release_all, step_threads};
 use super::threads::{Thread, Threads};
-use super::walk::Desk;
 
-/// What a search for that match asks.
-pub(super) fn asked_of(kind: MatchKind) -> Asked
-    ensures first { kind ≡ First → result ≡ record { earliest = false; longest = false } }
-    ensures least { kind ≡ Earliest → result ≡ record { earliest = true; longest = false } }
-    ensures longest { kind ≡ Longest → result ≡ record { earliest = false; longest = true } }
+/// Whether a match with the least end is asked for.
+pub(super) fn is_earliest(kind: MatchKind) -> bool
+    ensures first { kind ≡ First → result ≡ false }
+    ensures least { kind ≡ Earliest → result ≡ true }
+    ensures longest { kind ≡ Longest → result ≡ false }
 {
-    match kind {
-        MatchKind::First => Asked {
-            earliest: false,
-            longest: false,
-        },
-        MatchKind::Earliest => Asked {
-            earliest: true,
-            longest: false,
-        },
-        MatchKind::Longest => Asked {
-            earliest: false,
-            longest: true,
-        },
-    }
+    matches!(kind, MatchKind::Earliest)
+}
+
+/// Whether a match with the greatest end is asked for.
+pub(super) fn is_longest(kind: MatchKind) -> bool
+    ensures first { kind ≡ First → result ≡ false }
+    ensures least { kind ≡ Earliest → result ≡ false }
+    ensures longest { kind ≡ Longest → result ≡ true }
+{
+    matches!(kind, MatchKind::Longest)
 }
 
 // The thread of the search, at its start. Only the longest run asks where a thread was started.
@@ -62,7 +58,7 @@ fn is_done(len: usize, threads: usize, is_found: bool, earliest: bool) -> bool
 /// whether there is one, whose slots are then in the slice.
 pub(super) fn search(
     counted: &mut Counted<'_>,
-    desk: &mut Desk,
+    scratch: &mut Scratch,
     threads: &mut Threads,
     request: &Request<'_>,
     slots: &mut [Option<usize>],
@@ -71,39 +67,40 @@ pub(super) fn search(
     requires visits { counted.old.walked.visits ≡ [] }
     requires looks { counted.old.walked.looks ≡ 0 }
     requires program { (p : program.Program) × IsProgramOf p (states_of counted.old.states.now)
-        request.now.first × HasRoom (fit_of p) desk.old threads.old }
-    requires idle { IsIdle desk.old threads.old }
-    requires width { length slots.old ≡ desk.old.rows.width }
-    requires nothing { slots_at desk.old.rows 0 ≡ replicate desk.old.rows.width None }
-    requires even { length desk.old.rows.rows ≡ length desk.old.rows.counts }
-    ensures sought { (p : program.Program) →
+        request.now.first × HasRoom (fit_of p) scratch.old threads.old }
+    requires idle { IsIdle scratch.old threads.old }
+    requires slots_per_row { length slots.old ≡ scratch.old.rows.slots_per_row }
+    requires nothing { slots_at scratch.old.rows 0 ≡ replicate scratch.old.rows.slots_per_row None }
+    requires even { length scratch.old.rows.rows ≡ length scratch.old.rows.ref_counts }
+    ensures search_result { (p : program.Program) →
         IsProgramOf p (states_of counted.old.states.now) request.now.first →
-        SoughtFrom p request.now.haystack.now request.now.asked.longest request.now.asked.earliest
+        AnchoredResult p request.now.haystack.now request.now.longest request.now.earliest
         request.now.start result slots.old slots.new counted.new.walked }
     ensures room { (p : program.Program) →
         IsProgramOf p (states_of counted.old.states.now) request.now.first →
-        HasRoom (fit_of p) desk.old threads.old → HasRoom (fit_of p) desk.new threads.new }
-    ensures idle { IsIdle desk.new threads.new }
+        HasRoom (fit_of p) scratch.old threads.old → HasRoom (fit_of p) scratch.new threads.new }
+    ensures idle { IsIdle scratch.new threads.new }
 {
     let Request {
         haystack,
         start,
         first,
-        asked,
+        earliest,
+        longest,
         ..
     } = *request;
-    threads.push(start_thread(first, start, asked.longest));
+    threads.push(start_thread(first, start, longest));
     let mut is_found = false;
     let mut place = start;
     'places: loop {
-        let here = piece_at(haystack, place, asked.longest);
-        search_place(counted, desk, threads, &here, None, None, slots);
-        is_found = is_found_with(is_found, &desk.hit);
-        if is_done(here.len, threads.len(), is_found, asked.earliest) {
+        let here = piece_at(haystack, place, longest);
+        step_threads(counted, scratch, threads, &here, None, None, slots);
+        is_found = is_found_with(is_found, &scratch.first_match);
+        if is_done(here.ch_len, threads.len(), is_found, earliest) {
             break;
         }
-        place += here.len;
+        place += here.ch_len;
     }
-    release_all(&mut desk.rows, threads);
+    release_all(&mut scratch.rows, threads);
     is_found
 }

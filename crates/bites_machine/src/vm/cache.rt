@@ -5,18 +5,18 @@ ghost use Rattle.bites_spec.specs.Program as program;
 ghost use Rattle.bites_spec.specs.Counts.{fit_of};
 ghost use Rattle.bites_machine.specs.Prefix.{IsPrefix};
 ghost use Rattle.bites_machine.specs.States.{states_of};
-ghost use Rattle.bites_machine.specs.Sweep.{HasRoom, IsIdle, IsProgramOf, Sought, frames_for, rows_for};
-ghost use Rattle.bites_machine.specs.Anchored.{SoughtFrom};
+ghost use Rattle.bites_machine.specs.Sweep.{HasRoom, IsIdle, IsProgramOf, SearchResult, frames_for, rows_for};
+ghost use Rattle.bites_machine.specs.Anchored.{AnchoredResult};
 ghost use Rattle.bites_machine.specs.Used.{slots_at};
 
-use super::counted::{Counted, Walked};
-use super::marks::Marks;
-use super::places::{Asked, Request};
-use super::rows::Rows;
+use super::closure::Scratch;
+use super::counted::{Counted, Trace};
+use super::pikevm::Request;
+use super::slot_table::SlotTable;
 use super::stack::Stack;
+use super::state_set::StateSet;
 use super::threads::Threads;
-use super::walk::Desk;
-use super::{anchored, places};
+use super::{anchored, pikevm};
 use crate::program::Program;
 use std::alloc::AllocError;
 use std::marker::Model;
@@ -25,15 +25,15 @@ use std::marker::Model;
 const ANY: usize = 3;
 
 /// The room for searches of a program and of those with as many states, slots and targets: the threads of
-/// two places, a stack, marks, and rows of slots. No search takes more.
+/// two places, a stack, a visited set, and rows of slots. No search takes more.
 #[derive(Drop)]
 pub struct Cache {
     states: usize,
     slots: usize,
     targets: usize,
-    desk: Desk,
+    scratch: Scratch,
     threads: Threads,
-    walked: Walked,
+    walked: Trace,
 }
 
 impl Model for Cache {
@@ -48,8 +48,8 @@ impl Model for Cache {
     } };
 
     ghost invariant = { λ a.
-        HasRoom (record { states = a.states; slots = a.slots; targets = a.targets }) a.desk a.threads
-        × IsIdle a.desk a.threads };
+        HasRoom (record { states = a.states; slots = a.slots; targets = a.targets }) a.scratch a.threads
+        × IsIdle a.scratch a.threads };
 }
 
 impl Cache {
@@ -68,20 +68,20 @@ impl Cache {
         let threads = states.checked_mul(2).ok_or(AllocError)?;
         let rows = frames.checked_add(threads).ok_or(AllocError)?;
         let rows = rows.checked_add(1).ok_or(AllocError)?;
-        let desk = Desk {
-            marks: Marks::new(alloc, states)?,
+        let scratch = Scratch {
+            visited_set: StateSet::new(alloc, states)?,
             stack: Stack::new(alloc, frames)?,
-            rows: Rows::new(alloc, rows, slots, states)?,
+            rows: SlotTable::new(alloc, rows, slots, states)?,
             next: Threads::new(alloc, states)?,
-            hit: None,
+            first_match: None,
         };
         Ok(Cache {
             states,
             slots,
             targets,
-            desk,
+            scratch,
             threads: Threads::new(alloc, states)?,
-            walked: Walked::new(),
+            walked: Trace::new(),
         })
     }
 
@@ -90,15 +90,15 @@ impl Cache {
     pub fn rows(&self) -> usize
         ensures { result ≡ rows_for self.now.fits }
     {
-        self.desk.rows.len()
+        self.scratch.rows.len()
     }
 
-    /// Returns the number of frames that the stack of a walk holds: one for each target, and one more. No search
+    /// Returns the number of frames that the stack of a closure holds: one for each target, and one more. No search
     /// changes it.
     pub fn frames(&self) -> usize
         ensures { result ≡ frames_for self.now.fits }
     {
-        self.desk.stack.room()
+        self.scratch.stack.room()
     }
 
     /// Whether the cache was made for a program of as many states, slots and targets.
@@ -124,13 +124,13 @@ impl Cache {
             × (self.old.fits ≡ fit_of p) }
         requires prefix { IfSome request.now.prefix (λ x.
             IsPrefix (states_of counted.states.now) request.now.first x.now) }
-        requires width { length slots.old ≤ self.old.fits.slots }
-        ensures sought { request.now.start ≤ length request.now.haystack.now →
+        requires slots_per_row { length slots.old ≤ self.old.fits.slots }
+        ensures search_result { request.now.start ≤ length request.now.haystack.now →
             (p : program.Program) →
             IsProgramOf p (states_of counted.entry.states.now) request.now.first →
             self.old.fits ≡ fit_of p →
-            Sought p request.now.haystack.now request.now.asked.longest
-            request.now.asked.earliest request.now.start result slots.old slots.new
+            SearchResult p request.now.haystack.now request.now.longest
+            request.now.earliest request.now.start result slots.old slots.new
             self.new.walked }
         ensures past { length request.now.haystack.now < request.now.start →
             (result ≡ false) × (slots.new ≡ slots.old)
@@ -138,21 +138,21 @@ impl Cache {
         ensures fits { self.new.fits ≡ self.old.fits }
     {
         let found = if request.start <= request.haystack.len() {
-            self.desk.rows.begin(slots.len());
-            let (desk, threads) = (&mut self.desk, &mut self.threads);
-            // One body for each width that is asked, each with loops over so many slots.
+            self.scratch.rows.setup_search(slots.len());
+            let (scratch, threads) = (&mut self.scratch, &mut self.threads);
+            // One body for each width, each with loops over so many slots.
             match slots.len() {
-                _ if request.asked.longest => {
-                    search_width::<ANY, true>(&mut counted, desk, threads, request, slots)
+                _ if request.longest => {
+                    search_width::<ANY, true>(&mut counted, scratch, threads, request, slots)
                 }
-                0 => search_width::<0, false>(&mut counted, desk, threads, request, slots),
-                2 => search_width::<2, false>(&mut counted, desk, threads, request, slots),
-                _ => search_width::<ANY, false>(&mut counted, desk, threads, request, slots),
+                0 => search_width::<0, false>(&mut counted, scratch, threads, request, slots),
+                2 => search_width::<2, false>(&mut counted, scratch, threads, request, slots),
+                _ => search_width::<ANY, false>(&mut counted, scratch, threads, request, slots),
             }
         } else {
             false
         };
-        self.walked = counted.into_walked();
+        self.walked = counted.into_trace();
         found
     }
 
@@ -168,13 +168,13 @@ impl Cache {
         requires fits { (p : program.Program)
             × IsProgramOf p (states_of counted.states.now) request.now.first
             × (self.old.fits ≡ fit_of p) }
-        requires width { length slots.old ≤ self.old.fits.slots }
-        ensures sought { request.now.start ≤ length request.now.haystack.now →
+        requires slots_per_row { length slots.old ≤ self.old.fits.slots }
+        ensures search_result { request.now.start ≤ length request.now.haystack.now →
             (p : program.Program) →
             IsProgramOf p (states_of counted.entry.states.now) request.now.first →
             self.old.fits ≡ fit_of p →
-            SoughtFrom p request.now.haystack.now request.now.asked.longest
-            request.now.asked.earliest request.now.start result slots.old slots.new
+            AnchoredResult p request.now.haystack.now request.now.longest
+            request.now.earliest request.now.start result slots.old slots.new
             self.new.walked }
         ensures past { length request.now.haystack.now < request.now.start →
             (result ≡ false) × (slots.new ≡ slots.old)
@@ -182,10 +182,10 @@ impl Cache {
         ensures fits { self.new.fits ≡ self.old.fits }
     {
         let found = if request.start <= request.haystack.len() {
-            self.desk.rows.begin(slots.len());
+            self.scratch.rows.setup_search(slots.len());
             anchored::search(
                 &mut counted,
-                &mut self.desk,
+                &mut self.scratch,
                 &mut self.threads,
                 request,
                 slots,
@@ -193,7 +193,7 @@ impl Cache {
         } else {
             false
         };
-        self.walked = counted.into_walked();
+        self.walked = counted.into_trace();
         found
     }
 }
@@ -203,7 +203,7 @@ impl Cache {
 #[inline(never)]
 fn search_width<const WIDTH: usize, const LONGEST: bool>(
     counted: &mut Counted<'_>,
-    desk: &mut Desk,
+    scratch: &mut Scratch,
     threads: &mut Threads,
     request: &Request<'_>,
     slots: &mut [Option<usize>],
@@ -212,31 +212,30 @@ fn search_width<const WIDTH: usize, const LONGEST: bool>(
     requires visits { counted.old.walked.visits ≡ [] }
     requires looks { counted.old.walked.looks ≡ 0 }
     requires program { (p : program.Program) × IsProgramOf p (states_of counted.old.states.now)
-        request.now.first × HasRoom (fit_of p) desk.old threads.old }
+        request.now.first × HasRoom (fit_of p) scratch.old threads.old }
     requires prefix { IfSome request.now.prefix (λ x.
         IsPrefix (states_of counted.old.states.now) request.now.first x.now) }
-    requires idle { IsIdle desk.old threads.old }
-    requires width { length slots.old ≡ desk.old.rows.width }
+    requires idle { IsIdle scratch.old threads.old }
+    requires slots_per_row { length slots.old ≡ scratch.old.rows.slots_per_row }
     requires one { WIDTH < 3 → length slots.old ≡ WIDTH }
-    requires kind { request.now.asked.longest ≡ LONGEST }
-    requires nothing { slots_at desk.old.rows 0 ≡ replicate desk.old.rows.width None }
-    requires even { length desk.old.rows.rows ≡ length desk.old.rows.counts }
-    ensures sought { (p : program.Program) →
+    requires kind { request.now.longest ≡ LONGEST }
+    requires nothing { slots_at scratch.old.rows 0 ≡ replicate scratch.old.rows.slots_per_row None }
+    requires even { length scratch.old.rows.rows ≡ length scratch.old.rows.ref_counts }
+    ensures search_result { (p : program.Program) →
         IsProgramOf p (states_of counted.old.states.now) request.now.first →
-        Sought p request.now.haystack.now request.now.asked.longest request.now.asked.earliest
+        SearchResult p request.now.haystack.now request.now.longest request.now.earliest
         request.now.start result slots.old slots.new counted.new.walked }
     ensures room { (p : program.Program) →
         IsProgramOf p (states_of counted.old.states.now) request.now.first →
-        HasRoom (fit_of p) desk.old threads.old → HasRoom (fit_of p) desk.new threads.new }
-    ensures idle { IsIdle desk.new threads.new }
+        HasRoom (fit_of p) scratch.old threads.old → HasRoom (fit_of p) scratch.new threads.new }
+    ensures idle { IsIdle scratch.new threads.new }
 {
     if WIDTH < ANY && slots.len() != WIDTH {
         unreachable!()
     }
-    let asked = Asked {
-        earliest: request.asked.earliest,
+    let request = Request {
         longest: LONGEST,
+        ..*request
     };
-    let request = Request { asked, ..*request };
-    places::search(counted, desk, threads, &request, slots)
+    pikevm::search(counted, scratch, threads, &request, slots)
 }

@@ -1,9 +1,9 @@
-//! The states of a program as a walk reads them: once at most at each place, and each reading is counted.
+//! The states of a program as a search reads them: at most once at each place, and each visit is recorded.
 
 ghost use Rattle.std.specs.Prelude.{◌≡◌, ℕ, ◌<◌, ◌+◌, [], ◌∷◌, ◌++◌, map, length};
 ghost use Rattle.bites_spec.specs.Walks.{Among, IsNew};
-ghost use Rattle.bites_spec.specs.Program.{Spot, state_at, at};
-ghost use Rattle.bites_machine.specs.Looks.{seen_here, visited_before};
+ghost use Rattle.bites_spec.specs.Program.{Configuration, state_at, at};
+ghost use Rattle.bites_machine.specs.Explore.{seen_here, visited_before};
 ghost use Rattle.bites_machine.specs.Prefix.{fresh_of, fresh_sum};
 ghost use Rattle.bites_machine.specs.Skipped.{skipped};
 ghost use Rattle.bites_machine.specs.States.{state_of, states_of};
@@ -40,36 +40,36 @@ enum History {
         haystack: RecordedBytes,
         from: usize,
     },
-    Look {
+    Step {
         earlier: Snapshot<History>,
     },
 }
 
-/// What a walk has visited, and how often it looked. It takes no bytes: contracts alone see it.
+/// The visits and the number of steps of a search. It takes no bytes: contracts alone see it.
 #[derive(Drop)]
-pub struct Walked {
+pub struct Trace {
     history: Snapshot<History>,
 }
 
-impl Model for Walked {
+impl Model for Trace {
     ghost use Rattle.bites_spec.specs.Counts.{Record};
 
     ghost Value = { Record };
 
-    ghost use Rattle.bites_machine.specs.Walked.{record_of};
+    ghost use Rattle.bites_machine.specs.Trace.{record_of};
 
     ghost view = { λ a. record_of a.history.value };
 }
 
-const _: () = prove!(size_of::<Walked>() == 0);
+const _: () = prove!(size_of::<Trace>() == 0);
 
-impl Walked {
+impl Trace {
     /// Nothing was visited.
-    pub(super) fn new() -> Walked
+    pub(super) fn new() -> Trace
         ensures visits { result.visits ≡ [] }
         ensures looks { result.looks ≡ 0 }
     {
-        Walked {
+        Trace {
             history: Snapshot::of(&History::Nothing),
         }
     }
@@ -130,23 +130,23 @@ impl Walked {
         self.history = Snapshot::of(&skip);
     }
 
-    fn look(&mut self)
+    fn step(&mut self)
         ensures visits { self.new.visits ≡ self.old.visits }
         ensures looks { self.new.looks ≡ self.old.looks + 1 }
     {
         let earlier = mem::replace(&mut self.history, Snapshot::of(&History::Nothing));
-        let look = History::Look { earlier };
-        self.history = Snapshot::of(&look);
+        let step = History::Step { earlier };
+        self.history = Snapshot::of(&step);
     }
 }
 
-/// The states of a program during one walk, with the record of what was read of them.
+/// The states of a program during one search, with the record of what was read of them.
 ///
-/// It alone has the states, and lends one until the next call, for a spot that was not visited before.
+/// It alone has the states, and lends one until the next call, for a configuration that was not visited before.
 #[derive(Drop)]
 pub struct Counted<'p> {
     states: &'p [State],
-    walked: Walked,
+    walked: Trace,
 }
 
 impl<'p> Counted<'p> {
@@ -161,17 +161,17 @@ impl<'p> Counted<'p> {
     {
         Counted {
             states,
-            walked: Walked::new(),
+            walked: Trace::new(),
         }
     }
 
-    /// Counts a look: a try to visit a state.
-    pub(super) fn look(&mut self)
+    /// Counts a step: a try to visit a state.
+    pub(super) fn step(&mut self)
         ensures states { self.new.states ≡ self.old.states }
         ensures visits { self.new.walked.visits ≡ self.old.walked.visits }
         ensures looks { self.new.walked.looks ≡ self.old.walked.looks + 1 }
     {
-        self.walked.look();
+        self.walked.step();
     }
 
     /// Visits a state at a place where it was not visited before, and lends it until the next call.
@@ -202,7 +202,7 @@ impl<'p> Counted<'p> {
     /// reads no state.
     #[inline(always)]
     pub(super) fn visit_rest(&mut self, prefix: &StartPrefix, place: usize)
-        requires last { (v : Spot) → Among (visited_before place self.old.walked.visits) v
+        requires last { (v : Configuration) → Among (visited_before place self.old.walked.visits) v
             → v.place < place }
         ensures states { self.new.states ≡ self.old.states }
         ensures visits { self.new.walked.visits ≡ map (λ q. at q place)
@@ -219,7 +219,7 @@ impl<'p> Counted<'p> {
     /// reads no state and no byte: the record alone names the places, and it takes no time.
     #[inline(always)]
     pub(super) fn skip_to_end(&mut self, prefix: &StartPrefix, haystack: &[u8], from: usize)
-        requires fresh { (v : Spot) → Among self.old.walked.visits v → v.place < from }
+        requires fresh { (v : Configuration) → Among self.old.walked.visits v → v.place < from }
         ensures states { self.new.states ≡ self.old.states }
         ensures walked { self.new.walked ≡ skipped haystack.now prefix.now.visited.value
             prefix.now.looks.value from self.old.walked }
@@ -228,7 +228,7 @@ impl<'p> Counted<'p> {
     }
 
     /// What was visited.
-    pub(super) fn into_walked(self) -> Walked
+    pub(super) fn into_trace(self) -> Trace
         ensures { result ≡ self.entry.walked }
     {
         let Counted { states: _, walked } = self;

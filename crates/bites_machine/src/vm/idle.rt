@@ -1,6 +1,6 @@
-//! Places where a walk from the start visits the start prefix alone, and leaves nothing.
+//! Places where the closure of the start visits the start prefix alone, and leaves nothing.
 
-ghost use Rattle.std.specs.Prelude.{◌≡◌, ◌+◌, ◌<◌, ◌≤◌, Bool, IfSome, Some, None, length};
+ghost use Rattle.std.specs.Prelude.{◌≡◌, ◌⊎◌, ℕ, ◌+◌, ◌<◌, ◌≤◌, Bool, IfSome, Some, None, false, length, slice_index_or, true};
 ghost use Rattle.bites_spec.specs.Utf8.{piece};
 ghost use Rattle.bites_spec.specs.Walks.{Among};
 ghost use Rattle.bites_spec.specs.Program as program;
@@ -9,33 +9,52 @@ ghost use Rattle.bites_machine.specs.States.{states_of};
 ghost use Rattle.bites_machine.specs.Prefix.{IsApart, IsPrefix, TakesNone};
 ghost use Rattle.bites_machine.specs.Sweep.{Passes};
 
+use super::closure::{Position, Scratch};
 use super::counted::Counted;
-use super::places::piece_at;
-use super::walk::{Here, Hit};
+use super::pikevm::piece_at;
+use super::state_set::StateSet;
 use crate::prefix::StartPrefix;
 
-/// The prefix, if a walk from the start visits it alone here and nothing was found.
+/// The prefix, if the closure of the start visits only what is left of it here, takes nothing, and nothing was found.
+/// It takes nothing if no state of the prefix takes the character, or if the only one that takes any was visited.
 #[inline(always)]
 pub(super) fn idle_prefix<'p>(
     prefix: Option<&'p StartPrefix>,
-    here: &Here<'_>,
-    hit: &Option<Hit>,
+    here: &Position<'_>,
+    scratch: &Scratch,
 ) -> Option<&'p StartPrefix>
     ensures one { IfSome result (λ x. prefix.entry ≡ Some x) }
-    ensures idle { IfSome result (λ x. TakesNone x.now here.now.taken) }
+    ensures idle { IfSome result (λ x. (TakesNone x.now here.now.ch)
+        ⊎ ((q : ℕ) × (x.now.taker ≡ Some q)
+        × (slice_index_or scratch.now.visited_set q false ≡ true))) }
     ensures apart { IfSome result (λ x. IsApart x.now here.now.place) }
-    ensures hit { IfSome result (λ x. hit.now ≡ None) }
+    ensures first_match { IfSome result (λ x. scratch.now.first_match ≡ None) }
 {
     let prefix = prefix?;
-    if hit.is_none() && prefix.is_idle(here.taken, here.place) {
+    if scratch.first_match.is_some() || !prefix.is_apart(here.place) {
+        return None;
+    }
+    if is_visited(&scratch.visited_set, prefix.taker) || prefix.is_idle(here.ch) {
         Some(prefix)
     } else {
         None
     }
 }
 
-// Skips the places from this one on where no state of the prefix takes the character: a walk there visits the
-// prefix and leaves nothing. Returns the first place where it may leave something. A prefix that never takes one
+// Whether a state is given and was visited.
+#[inline(always)]
+fn is_visited(visited_set: &StateSet, state: Option<u32>) -> bool
+    ensures { result ≡ true → (q : ℕ) × (state ≡ Some q)
+        × (slice_index_or visited_set.now q false ≡ true) }
+{
+    match state {
+        None => false,
+        Some(state) => visited_set.contains(state),
+    }
+}
+
+// Skips the places from this one on where no state of the prefix takes the character: the closure of the start
+// visits the prefix there and leaves nothing. Returns the first place where it may leave something. A prefix that never takes one
 // leads to the end of the haystack at once.
 //
 // It is not inlined, so that its loop has all registers.
@@ -50,11 +69,11 @@ fn skip_until_candidate(
     requires place { from ≤ length haystack.now }
     requires prefix { IsPrefix (states_of counted.old.states.now) first prefix.now }
     requires apart { IsApart prefix.now from }
-    requires before { (v : program.Spot) → Among counted.old.walked.visits v → v.place < from }
+    requires before { (v : program.Configuration) → Among counted.old.walked.visits v → v.place < from }
     ensures states { counted.new.states ≡ counted.old.states }
     ensures onward { from ≤ result }
     ensures within { result ≤ length haystack.now }
-    ensures before { (v : program.Spot) → Among counted.new.walked.visits v → v.place < result }
+    ensures before { (v : program.Configuration) → Among counted.new.walked.visits v → v.place < result }
     ensures passes { (longest : Bool) → Passes haystack.now longest from result
         (states_of counted.old.states.now) first counted.old.walked counted.new.walked }
 {
@@ -65,43 +84,43 @@ fn skip_until_candidate(
     let mut place = from;
     'places: loop {
         let here = piece_at(haystack, place, false);
-        let Some(ch) = here.taken else {
+        let Some(ch) = here.ch else {
             break;
         };
         if prefix.may_take(ch) {
             break;
         }
         counted.visit_prefix(prefix, place);
-        place += here.len;
+        place += here.ch_len;
     }
     place
 }
 
-/// Skips the places from this one on where the prefix takes no character. Returns the first place where a walk
-/// may leave something.
+/// Skips the places from this one on where the prefix takes no character. Returns the first place where the
+/// closure of the start may leave something.
 #[inline(always)]
 pub(super) fn skip<'h>(
     counted: &mut Counted<'_>,
-    from: Here<'h>,
+    from: Position<'h>,
     first: u32,
     prefix: Option<&StartPrefix>,
-) -> Here<'h>
+) -> Position<'h>
     requires place { from.place ≤ length from.haystack.now }
-    requires within { from.place + from.len ≤ length from.haystack.now }
-    requires taken { from.taken ≡ next_character from.haystack.now from.place }
-    requires len { from.len ≡ (piece from.haystack.now from.place).len }
+    requires within { from.place + from.ch_len ≤ length from.haystack.now }
+    requires ch { from.ch ≡ next_character from.haystack.now from.place }
+    requires len { from.ch_len ≡ (piece from.haystack.now from.place).len }
     requires prefix { IfSome prefix (λ x.
         IsPrefix (states_of counted.old.states.now) first x.now) }
-    requires before { (v : program.Spot) → Among counted.old.walked.visits v
+    requires before { (v : program.Configuration) → Among counted.old.walked.visits v
         → v.place < from.place }
     ensures states { counted.new.states ≡ counted.old.states }
     ensures haystack { result.haystack.now ≡ from.entry.haystack.now }
     ensures longest { result.longest ≡ from.entry.longest }
     ensures onward { from.entry.place ≤ result.place }
-    ensures within { result.place + result.len ≤ length from.entry.haystack.now }
-    ensures taken { result.taken ≡ next_character from.entry.haystack.now result.place }
-    ensures len { result.len ≡ (piece from.entry.haystack.now result.place).len }
-    ensures before { (v : program.Spot) → Among counted.new.walked.visits v
+    ensures within { result.place + result.ch_len ≤ length from.entry.haystack.now }
+    ensures ch { result.ch ≡ next_character from.entry.haystack.now result.place }
+    ensures len { result.ch_len ≡ (piece from.entry.haystack.now result.place).len }
+    ensures before { (v : program.Configuration) → Among counted.new.walked.visits v
         → v.place < result.place }
     ensures passes { Passes from.entry.haystack.now from.entry.longest from.entry.place result.place
         (states_of counted.old.states.now) first counted.old.walked counted.new.walked }

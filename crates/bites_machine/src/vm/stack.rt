@@ -1,15 +1,15 @@
-//! The stack of a walk.
+//! The stack of an epsilon closure.
 
 ghost use Rattle.std.specs.Prelude.{◌≡◌, ◌<◌, [], ◌∷◌, IfOk, MatchOption, length};
 
 use std::alloc::{AllocError, Global};
 use std::marker::Model;
 
-/// A state that a walk has still to look at, with the number of notes on the way to it.
+/// A state that is still to be explored, with the number of slots that are pending on the way to it.
 #[derive(Clone, Copy, Drop)]
 pub struct Frame {
     pub state: u32,
-    pub noted: usize,
+    pub pending_len: usize,
 }
 
 /// A stack that holds so many frames at most. Contracts see its frames, the uppermost first, and its room.
@@ -39,7 +39,10 @@ impl Stack {
         ensures empty { IfOk result (λ s. s.frames ≡ []) }
         ensures room { IfOk result (λ s. s.room ≡ room) }
     {
-        let none = Frame { state: 0, noted: 0 };
+        let none = Frame {
+            state: 0,
+            pending_len: 0,
+        };
         Ok(Stack {
             frames: vec![in alloc; none; room]?,
             len: 0,

@@ -6,7 +6,7 @@ use std::alloc::{AllocError, Global};
 use std::marker::Model;
 use std::mem;
 
-/// A thread that has taken its piece: the state that it is to walk from, its row, and the place where it
+/// A thread that has taken its character: the state that it continues from, its row of slots, and the place where it
 /// was started.
 #[derive(Clone, Copy, Drop)]
 pub struct Thread {

@@ -11,7 +11,7 @@ ghost use Rattle.regex_bites.specs.Order.{BeginFrom};
 
 use crate::string::{Captures, Regex};
 use bites_bytes::bytes;
-use bites_bytes::limit::spend;
+use bites_bytes::replace_limit::spend;
 use std::alloc::AllocError;
 use std::fmt;
 use std::iter::FusedIterator;
@@ -28,9 +28,9 @@ pub struct CaptureMatches<'r, 'h> {
 
 impl<'r, 'h> CaptureMatches<'r, 'h> {
     ghost use Rattle.bites_spec.specs.Refused.{YieldsUntilRefused};
-    ghost use Rattle.bites_bytes.specs.Limit.{taken};
+    ghost use Rattle.bites_bytes.specs.ReplaceLimit.{taken};
     ghost use Rattle.regex_bites.specs.CapturesLeft.{captures_left, haystack_of_captures};
-    ghost use Rattle.regex_bites.specs.Replacing.{TakesUntilRefused};
+    ghost use Rattle.regex_bites.specs.ReplacedText.{TakesUntilRefused};
 
     pub(super) fn new(
         regex: &'r Regex,

@@ -1,18 +1,17 @@
 //! The groups of a match in a text.
 
-ghost use Rattle.std.specs.Prelude.{◌≡◌, ◌≤◌, ◌+◌, ◌/◌, length, map, take, drop, IfOk, IfSome, IsSome, Some, option_map, option_and_then, IsCharBoundary};
+ghost use Rattle.std.specs.Prelude.{◌≡◌, ◌≤◌, ◌+◌, ◌/◌, length, map, take, drop, is_some, IfOk, IfSome, IsSome, Some, option_map, option_and_then, IsCharBoundary};
 ghost use Rattle.bites_spec.specs.Measure.{static_captures_len};
 ghost use Rattle.bites_spec.specs.Slots.{group_in, taking_part};
 ghost use Rattle.bites_spec.specs.Pieces.{text_at};
-ghost use Rattle.bites_spec.specs.Counts.{fit_of};
+ghost use Rattle.bites_spec.specs.Counts.{fit_of, IsWalked};
 ghost use Rattle.bites_spec.specs.Regex.{slots_at};
 ghost use Rattle.bites_spec.specs.Captured.{AreGroups, captured, excerpt, FindsGroups};
 ghost use Rattle.bites_spec.specs.Expansion.{index_in};
 
 use crate::string::{Cache, Match, Regex};
 use bites_bytes::bytes;
-use bites_bytes::named::{names_of, number_named};
-use bites_bytes::shown::{Key, Part};
+use bites_bytes::debug::{Key, Part};
 use bites_machine::interpolate;
 use std::alloc::AllocError;
 use std::fmt;
@@ -108,7 +107,7 @@ impl<'h> Captures<'h> {
     }
 
     // The text of the group of this number, if it participates.
-    fn text_of(&self, group: usize) -> Option<&'h str>
+    fn group_text(&self, group: usize) -> Option<&'h str>
         ensures { answer_text result ≡ text_in self.now.slots self.now.haystack group }
     {
         match self.get(group) {
@@ -136,8 +135,8 @@ impl<'h> Captures<'h> {
     {
         interpolate::string(
             template,
-            |group: usize| self.text_of(group),
-            |name: &str| number_named(&self.captures, name),
+            |group: usize| self.group_text(group),
+            |name: &str| self.captures.group_index(name),
             dst,
         )
     }
@@ -187,7 +186,7 @@ impl<'h> Captures<'h> {
             if filled == parts.len() {
                 break;
             }
-            if let Some(text) = self.text_of(group) {
+            if let Some(text) = self.group_text(group) {
                 parts[filled] = text;
                 filled += 1;
             }
@@ -196,7 +195,7 @@ impl<'h> Captures<'h> {
     }
 
     // Where a group participates, and its text.
-    fn shown(&self, group: usize) -> Part<&'h str> {
+    fn debug_part(&self, group: usize) -> Part<&'h str> {
         match self.get(group) {
             Some(found) => Part(Some((found.start(), found.end(), found.as_str()))),
             None => Part(None),
@@ -212,8 +211,8 @@ impl<'c, 'h> fmt::Debug for Groups<'c, 'h> {
     fn fmt<W: fmt::Write>(&self, f: &mut fmt::Formatter<W>) -> fmt::Result {
         let captures = self.0;
         let mut map = f.debug_map();
-        for (number, name) in names_of(&captures.captures).enumerate() {
-            map.entry(&Key { number, name }, &captures.shown(number));
+        for (number, name) in captures.captures.capture_names().enumerate() {
+            map.entry(&Key { number, name }, &captures.debug_part(number));
         }
         map.finish()
     }
@@ -283,6 +282,7 @@ impl Regex {
         ensures regex { IfOk result (λ c. IfSome c (λ x. x.regex ≡ self.now)) }
         ensures haystack { IfOk result (λ c. IfSome c (λ x. x.haystack ≡ haystack.now)) }
         ensures fits { cache.new.fits ≡ cache.old.fits }
+        ensures walked { IfOk result (λ c. IsWalked self.now.program haystack.now 0 (is_some c) cache.new.walked) }
     {
         self.captures_at_with(cache, haystack, 0)
     }
@@ -302,6 +302,7 @@ impl Regex {
         ensures regex { IfOk result (λ c. IfSome c (λ x. x.regex ≡ self.now)) }
         ensures haystack { IfOk result (λ c. IfSome c (λ x. x.haystack ≡ haystack.now)) }
         ensures fits { cache.new.fits ≡ cache.old.fits }
+        ensures walked { IfOk result (λ c. IsWalked self.now.program haystack.now start (is_some c) cache.new.walked) }
     {
         match self
             .over_bytes()

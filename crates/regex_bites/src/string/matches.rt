@@ -12,7 +12,7 @@ ghost use Rattle.regex_bites.specs.Order.{BeginFrom};
 
 use crate::string::{Match, Regex};
 use bites_bytes::bytes;
-use bites_bytes::limit::spend;
+use bites_bytes::replace_limit::spend;
 use std::alloc::AllocError;
 use std::fmt;
 use std::iter::FusedIterator;
@@ -31,9 +31,9 @@ pub struct Matches<'r, 'h> {
 impl<'r, 'h> Matches<'r, 'h> {
     ghost use Rattle.std.specs.Iterator.{YieldsFirstBy};
     ghost use Rattle.regex_bites.specs.Matched.{excerpt_of};
-    ghost use Rattle.bites_bytes.specs.Limit.{taken};
+    ghost use Rattle.bites_bytes.specs.ReplaceLimit.{taken};
     ghost use Rattle.regex_bites.specs.Matches.{matches_left, spans_left, haystack_of_matches};
-    ghost use Rattle.regex_bites.specs.Replacing.{TakesFirst};
+    ghost use Rattle.regex_bites.specs.ReplacedText.{TakesFirst};
 
     pub(super) fn new(regex: &'r Regex, haystack: &'h str) -> Result<Matches<'r, 'h>, AllocError>
         ensures left { IfOk result (λ m. matches_left m

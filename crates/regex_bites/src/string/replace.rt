@@ -8,13 +8,13 @@ ghost use Rattle.bites_spec.specs.Replaced.{span_in, ReplacesIn};
 ghost use Rattle.regex_bites.specs.Replaced.{ReplacesEach};
 
 use crate::string::{CaptureMatches, Captures, Match, Matches, Regex, Replacer};
-use bites_bytes::limit::bound;
+use bites_bytes::replace_limit::bound;
 use std::alloc::{AllocError, Global};
 use std::borrow::CowStr;
 
 // A text whose matches are being replaced, from left to right.
 #[derive(Drop)]
-struct Replacing<'h> {
+struct ReplacedText<'h> {
     haystack: &'h str,
     // Where the last match that was replaced ends, if one was.
     last: Option<usize>,
@@ -24,18 +24,18 @@ struct Replacing<'h> {
     ghost fresh: { last ≡ None → string_bytes out ≡ [] },
 }
 
-impl<'h> Replacing<'h> {
+impl<'h> ReplacedText<'h> {
     ghost use Rattle.regex_bites.specs.Matched.{excerpt_of};
     ghost use Rattle.regex_bites.specs.Borders.{IsPart};
-    ghost use Rattle.regex_bites.specs.Replacing.{KeepsUpTo, Writes, WritesBy};
+    ghost use Rattle.regex_bites.specs.ReplacedText.{KeepsUpTo, Writes, WritesBy};
 
     // Nothing is replaced yet.
-    fn new(alloc: Global, haystack: &'h str) -> Replacing<'h>
+    fn new(alloc: Global, haystack: &'h str) -> ReplacedText<'h>
         ensures haystack { result.haystack.now ≡ haystack.now }
         ensures last { result.last ≡ None }
         ensures out { string_bytes result.out ≡ [] }
     {
-        Replacing {
+        ReplacedText {
             haystack,
             last: None,
             out: String::new(alloc),
@@ -110,11 +110,11 @@ impl Regex {
     {
         let mut matches = Matches::new(self, haystack)?;
         let mut left = bound(limit);
-        let mut replacing = Replacing::new(self.alloc(), haystack);
+        let mut out = ReplacedText::new(self.alloc(), haystack);
         while let Some(found) = matches.step_of(&mut left) {
-            replacing.by_text(found, text)?;
+            out.by_text(found, text)?;
         }
-        replacing.finish()
+        out.finish()
     }
 
     // The same, by what the replacer gives for each match.
@@ -131,11 +131,11 @@ impl Regex {
     {
         let mut matches = CaptureMatches::new(self, haystack)?;
         let mut left = bound(limit);
-        let mut replacing = Replacing::new(self.alloc(), haystack);
+        let mut out = ReplacedText::new(self.alloc(), haystack);
         while let Some(captures) = matches.step_of(&mut left) {
-            replacing.by(&captures?, replacer)?;
+            out.by(&captures?, replacer)?;
         }
-        replacing.finish()
+        out.finish()
     }
 
     // The haystack with at most `limit` matches replaced, or all for 0.

@@ -1,4 +1,4 @@
-use Rattle.std.proofs.Common.{◌≡◌, ℕ, ◌+◌, List, Bool, cond, ap, ◌∙◌, subst, arith, add-zero}
+use Rattle.std.proofs.Common.{ℕ, ◌+◌, List, cond, ap, ◌∙◌, subst, arith, add-zero}
 use Rattle.std.specs.Io.KnownBytes.{Appends}
 use Rattle.bites_filter.specs.Lines.{ReadsLine}
 use Rattle.bites_filter.proofs.LineLemmas.{IsSoFar, so_far_more, all_so_far}

@@ -1,7 +1,7 @@
 use Rattle.std.proofs.Common.{◌≡◌, ◌*◌, ap, subst, length, option_map, string_bytes, IfOk, arith}
 use Rattle.std.proofs.lemmas.List.{length-map}
 use Rattle.bites_spec.specs.Tree.{captures_len}
-use Rattle.bites_spec.proofs.LeftLemmas.{length-left}
+use Rattle.bites_spec.proofs.regex.LeftLemmas.{length-left}
 use Rattle.bites_machine.proofs.compiler.compile.Goals as goal
 
 pub with_names-requires-clause-room : goal.with_names-requires-clause-room

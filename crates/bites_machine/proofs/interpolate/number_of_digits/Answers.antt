@@ -1,6 +1,6 @@
 use Rattle.std.proofs.Common.{◌∙◌, sym, arith, length}
 use Rattle.std.proofs.lemmas.Bool.{eqb-false}
-use Rattle.bites_spec.proofs.DigitLemmas.{digits_too_large, digits_whole}
+use Rattle.bites_spec.proofs.characters.DigitLemmas.{digits_too_large, digits_whole}
 use Rattle.bites_machine.proofs.interpolate.number_of_digits.Goals as goal
 
 pub returns-in-None : goal.returns-in-None

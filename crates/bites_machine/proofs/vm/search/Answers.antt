@@ -1,7 +1,7 @@
 use Rattle.std.proofs.Common.{false, length, sym, ap, ◌∙◌, subst}
 use Rattle.bites_machine.specs.States.{states_of}
-use Rattle.bites_machine.specs.Sweep.{IsProgramOf, Sought}
-use Rattle.bites_machine.proofs.SoughtLemmas.{slots_fit, did_first, did_least, did_visit, did_bounded}
+use Rattle.bites_machine.specs.Sweep.{IsProgramOf, SearchResult}
+use Rattle.bites_machine.proofs.SearchResultLemmas.{slots_fit, did_first, did_least, did_visit, did_bounded}
 use Rattle.bites_machine.proofs.vm.search.Goals as goal
 
 pub returns-clause-first : goal.returns-clause-first
@@ -17,7 +17,7 @@ returns-clause-first c asked =
     let is : IsProgramOf p (states_of c.new-counted.result.states.now) c.start.result =
     record { states = sym c.states.ensures ∙ ap (λ s. states_of s.now) (sym c.new-counted.ensures.states); start = sym c.start.ensures.start; well = well } in
     did_first p hay well start c.search.result old new walked fits
-    (λ within. subst (λ e. Sought p hay false e start c.search.result old new walked) asked (c.search.ensures.sought within p is c.requires.fits), c.search.ensures.past)
+    (λ within. subst (λ e. SearchResult p hay false e start c.search.result old new walked) asked (c.search.ensures.search_result within p is c.requires.fits), c.search.ensures.past)
 
 pub returns-clause-least : goal.returns-clause-least
 returns-clause-least c asked =
@@ -32,7 +32,7 @@ returns-clause-least c asked =
     let is : IsProgramOf p (states_of c.new-counted.result.states.now) c.start.result =
     record { states = sym c.states.ensures ∙ ap (λ s. states_of s.now) (sym c.new-counted.ensures.states); start = sym c.start.ensures.start; well = well } in
     did_least p hay well start c.search.result old new walked fits
-    (λ within. subst (λ e. Sought p hay false e start c.search.result old new walked) asked (c.search.ensures.sought within p is c.requires.fits), c.search.ensures.past)
+    (λ within. subst (λ e. SearchResult p hay false e start c.search.result old new walked) asked (c.search.ensures.search_result within p is c.requires.fits), c.search.ensures.past)
 
 pub returns-clause-bounded : goal.returns-clause-bounded
 returns-clause-bounded c =
@@ -47,7 +47,7 @@ returns-clause-bounded c =
     let is : IsProgramOf p (states_of c.new-counted.result.states.now) c.start.result =
     record { states = sym c.states.ensures ∙ ap (λ s. states_of s.now) (sym c.new-counted.ensures.states); start = sym c.start.ensures.start; well = well } in
     did_bounded p hay well start c.search.result old new walked fits false c.args.earliest
-    (λ within. c.search.ensures.sought within p is c.requires.fits, c.search.ensures.past)
+    (λ within. c.search.ensures.search_result within p is c.requires.fits, c.search.ensures.past)
 
 pub returns-clause-visited : goal.returns-clause-visited
 returns-clause-visited c =
@@ -62,4 +62,4 @@ returns-clause-visited c =
     let is : IsProgramOf p (states_of c.new-counted.result.states.now) c.start.result =
     record { states = sym c.states.ensures ∙ ap (λ s. states_of s.now) (sym c.new-counted.ensures.states); start = sym c.start.ensures.start; well = well } in
     did_visit p hay well start c.search.result old new walked fits false c.args.earliest
-    (λ within. c.search.ensures.sought within p is c.requires.fits, c.search.ensures.past)
+    (λ within. c.search.ensures.search_result within p is c.requires.fits, c.search.ensures.past)

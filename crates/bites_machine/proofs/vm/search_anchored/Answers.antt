@@ -1,9 +1,8 @@
-use Rattle.std.proofs.Common.{length, sym, ap, ◌∙◌, subst}
+use Rattle.std.proofs.Common.{Bool, true, false, length, sym, ap, ◌∙◌, subst}
 use Rattle.bites_machine.specs.States.{states_of}
 use Rattle.bites_machine.specs.Sweep.{IsProgramOf}
-use Rattle.bites_machine.specs.Anchored.{SoughtFrom}
-use Rattle.bites_machine.specs.declared.vm.places.Asked.{Asked}
-use Rattle.bites_machine.proofs.SoughtLemmas.{slots_fit}
+use Rattle.bites_machine.specs.Anchored.{AnchoredResult}
+use Rattle.bites_machine.proofs.SearchResultLemmas.{slots_fit}
 use Rattle.bites_machine.proofs.AnchoredAnswers.{did_first_from, did_longest_from, did_least_from, did_visit_from, did_bounded_from}
 use Rattle.bites_machine.proofs.vm.search_anchored.Goals as goal
 
@@ -19,8 +18,11 @@ returns-clause-first c kind =
     let fits = slots_fit (length old) p.slots well.slots c.requires.slots in
     let is : IsProgramOf p (states_of c.new-counted.result.states.now) c.start.result =
     record { states = sym c.states.ensures ∙ ap (λ s. states_of s.now) (sym c.new-counted.ensures.states); start = sym c.start.ensures.start; well = well } in
-    did_first_from p hay well start c.search_anchored.result old new walked fits
-    (λ within. subst (λ (a : Asked). SoughtFrom p hay a.longest a.earliest start c.search_anchored.result old new walked) (c.asked_of.ensures.first kind) (c.search_anchored.ensures.sought within p is c.requires.fits), c.search_anchored.ensures.past)
+    did_first_from p hay well start c.search_anchored.result old new walked fits (
+      λ within. subst (λ (e : Bool). AnchoredResult p hay false e start c.search_anchored.result old new walked) (c.is_earliest.ensures.first kind)
+          (subst (λ (l : Bool). AnchoredResult p hay l c.is_earliest.result start c.search_anchored.result old new walked) (c.is_longest.ensures.first kind) (c.search_anchored.ensures.search_result within p is c.requires.fits)),
+      c.search_anchored.ensures.past,
+    )
 
 pub returns-clause-least : goal.returns-clause-least
 returns-clause-least c kind =
@@ -34,8 +36,11 @@ returns-clause-least c kind =
     let fits = slots_fit (length old) p.slots well.slots c.requires.slots in
     let is : IsProgramOf p (states_of c.new-counted.result.states.now) c.start.result =
     record { states = sym c.states.ensures ∙ ap (λ s. states_of s.now) (sym c.new-counted.ensures.states); start = sym c.start.ensures.start; well = well } in
-    did_least_from p hay well start c.search_anchored.result old new walked fits
-    (λ within. subst (λ (a : Asked). SoughtFrom p hay a.longest a.earliest start c.search_anchored.result old new walked) (c.asked_of.ensures.least kind) (c.search_anchored.ensures.sought within p is c.requires.fits), c.search_anchored.ensures.past)
+    did_least_from p hay well start c.search_anchored.result old new walked fits (
+      λ within. subst (λ (e : Bool). AnchoredResult p hay false e start c.search_anchored.result old new walked) (c.is_earliest.ensures.least kind)
+          (subst (λ (l : Bool). AnchoredResult p hay l c.is_earliest.result start c.search_anchored.result old new walked) (c.is_longest.ensures.least kind) (c.search_anchored.ensures.search_result within p is c.requires.fits)),
+      c.search_anchored.ensures.past,
+    )
 
 pub returns-clause-longest : goal.returns-clause-longest
 returns-clause-longest c kind =
@@ -49,8 +54,11 @@ returns-clause-longest c kind =
     let fits = slots_fit (length old) p.slots well.slots c.requires.slots in
     let is : IsProgramOf p (states_of c.new-counted.result.states.now) c.start.result =
     record { states = sym c.states.ensures ∙ ap (λ s. states_of s.now) (sym c.new-counted.ensures.states); start = sym c.start.ensures.start; well = well } in
-    did_longest_from p hay well start c.search_anchored.result old new walked fits
-    (λ within. subst (λ (a : Asked). SoughtFrom p hay a.longest a.earliest start c.search_anchored.result old new walked) (c.asked_of.ensures.longest kind) (c.search_anchored.ensures.sought within p is c.requires.fits), c.search_anchored.ensures.past)
+    did_longest_from p hay well start c.search_anchored.result old new walked fits (
+      λ within. subst (λ (e : Bool). AnchoredResult p hay true e start c.search_anchored.result old new walked) (c.is_earliest.ensures.longest kind)
+          (subst (λ (l : Bool). AnchoredResult p hay l c.is_earliest.result start c.search_anchored.result old new walked) (c.is_longest.ensures.longest kind) (c.search_anchored.ensures.search_result within p is c.requires.fits)),
+      c.search_anchored.ensures.past,
+    )
 
 pub returns-clause-bounded : goal.returns-clause-bounded
 returns-clause-bounded c =
@@ -64,8 +72,8 @@ returns-clause-bounded c =
     let fits = slots_fit (length old) p.slots well.slots c.requires.slots in
     let is : IsProgramOf p (states_of c.new-counted.result.states.now) c.start.result =
     record { states = sym c.states.ensures ∙ ap (λ s. states_of s.now) (sym c.new-counted.ensures.states); start = sym c.start.ensures.start; well = well } in
-    did_bounded_from p hay well start c.search_anchored.result old new walked fits c.asked_of.result.longest c.asked_of.result.earliest
-    (λ within. c.search_anchored.ensures.sought within p is c.requires.fits, c.search_anchored.ensures.past)
+    did_bounded_from p hay well start c.search_anchored.result old new walked fits c.is_longest.result c.is_earliest.result
+    (λ within. c.search_anchored.ensures.search_result within p is c.requires.fits, c.search_anchored.ensures.past)
 
 pub returns-clause-visited : goal.returns-clause-visited
 returns-clause-visited c =
@@ -79,5 +87,5 @@ returns-clause-visited c =
     let fits = slots_fit (length old) p.slots well.slots c.requires.slots in
     let is : IsProgramOf p (states_of c.new-counted.result.states.now) c.start.result =
     record { states = sym c.states.ensures ∙ ap (λ s. states_of s.now) (sym c.new-counted.ensures.states); start = sym c.start.ensures.start; well = well } in
-    did_visit_from p hay well start c.search_anchored.result old new walked fits c.asked_of.result.longest c.asked_of.result.earliest
-    (λ within. c.search_anchored.ensures.sought within p is c.requires.fits, c.search_anchored.ensures.past)
+    did_visit_from p hay well start c.search_anchored.result old new walked fits c.is_longest.result c.is_earliest.result
+    (λ within. c.search_anchored.ensures.search_result within p is c.requires.fits, c.search_anchored.ensures.past)

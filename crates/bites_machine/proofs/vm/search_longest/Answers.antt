@@ -1,7 +1,7 @@
 use Rattle.std.proofs.Common.{true, false, length, sym, ap, ◌∙◌}
 use Rattle.bites_machine.specs.States.{states_of}
 use Rattle.bites_machine.specs.Sweep.{IsProgramOf}
-use Rattle.bites_machine.proofs.SoughtLemmas.{slots_fit, did_longest, did_visit, did_bounded}
+use Rattle.bites_machine.proofs.SearchResultLemmas.{slots_fit, did_longest, did_visit, did_bounded}
 use Rattle.bites_machine.proofs.vm.search_longest.Goals as goal
 
 pub returns-clause-longest : goal.returns-clause-longest
@@ -17,7 +17,7 @@ returns-clause-longest c =
     let is : IsProgramOf p (states_of c.new-counted.result.states.now) c.start.result =
     record { states = sym c.states.ensures ∙ ap (λ s. states_of s.now) (sym c.new-counted.ensures.states); start = sym c.start.ensures.start; well = well } in
     did_longest p hay well start c.search.result old new walked fits
-    (λ within. c.search.ensures.sought within p is c.requires.fits, c.search.ensures.past)
+    (λ within. c.search.ensures.search_result within p is c.requires.fits, c.search.ensures.past)
 
 pub returns-clause-bounded : goal.returns-clause-bounded
 returns-clause-bounded c =
@@ -32,7 +32,7 @@ returns-clause-bounded c =
     let is : IsProgramOf p (states_of c.new-counted.result.states.now) c.start.result =
     record { states = sym c.states.ensures ∙ ap (λ s. states_of s.now) (sym c.new-counted.ensures.states); start = sym c.start.ensures.start; well = well } in
     did_bounded p hay well start c.search.result old new walked fits true false
-    (λ within. c.search.ensures.sought within p is c.requires.fits, c.search.ensures.past)
+    (λ within. c.search.ensures.search_result within p is c.requires.fits, c.search.ensures.past)
 
 pub returns-clause-visited : goal.returns-clause-visited
 returns-clause-visited c =
@@ -47,4 +47,4 @@ returns-clause-visited c =
     let is : IsProgramOf p (states_of c.new-counted.result.states.now) c.start.result =
     record { states = sym c.states.ensures ∙ ap (λ s. states_of s.now) (sym c.new-counted.ensures.states); start = sym c.start.ensures.start; well = well } in
     did_visit p hay well start c.search.result old new walked fits true false
-    (λ within. c.search.ensures.sought within p is c.requires.fits, c.search.ensures.past)
+    (λ within. c.search.ensures.search_result within p is c.requires.fits, c.search.ensures.past)

@@ -1,7 +1,7 @@
 use Rattle.std.proofs.Common.{◌∙◌, ap}
 use Rattle.bites_spec.specs.Grammar.{dot_set}
 use Rattle.bites_spec.specs.Tree.{class}
-use Rattle.bites_spec.proofs.ClassLemmas.{lists_are_ranges_of}
+use Rattle.bites_spec.proofs.classes.ClassLemmas.{lists_are_ranges_of}
 use Rattle.bites_syntax.specs.FlagsView.{flags_of}
 use Rattle.bites_syntax.proofs.atom.any.Goals as goal
 

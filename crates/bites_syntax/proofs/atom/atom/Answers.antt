@@ -2,7 +2,7 @@ use Rattle.std.proofs.Common.{◌∙◌, ap, arith}
 use Rattle.bites_spec.specs.RangesOf.{ranges_of}
 use Rattle.bites_spec.specs.Reader.{node_of}
 use Rattle.bites_spec.specs.Tree.{class}
-use Rattle.bites_spec.proofs.ClassLemmas.{lists_are_ranges_of}
+use Rattle.bites_spec.proofs.classes.ClassLemmas.{lists_are_ranges_of}
 use Rattle.bites_syntax.specs.FlagsView.{flags_of}
 use Rattle.bites_syntax.proofs.AtomLemmas.{atom_class, atom_escape}
 use Rattle.bites_syntax.proofs.atom.atom.Goals as goal

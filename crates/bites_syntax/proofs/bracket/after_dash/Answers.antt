@@ -1,7 +1,7 @@
 use Rattle.std.proofs.Common.{◌≡◌, ◌≤◌, drop, suc, length, arith, ap, ◌∙◌}
 use Rattle.std.proofs.lemmas.Result.{err_from_is_err_and}
 use Rattle.bites_spec.specs.Pattern.{skip}
-use Rattle.bites_spec.proofs.EachLemmas.{skip_shorter}
+use Rattle.bites_spec.proofs.characters.EachLemmas.{skip_shorter}
 use Rattle.bites_syntax.specs.FlagsView.{flags_of}
 use Rattle.bites_syntax.proofs.MemberParts.{Adds_by, dash_alone, dash_fault, dash_range}
 use Rattle.bites_syntax.proofs.bracket.after_dash.Goals as goal

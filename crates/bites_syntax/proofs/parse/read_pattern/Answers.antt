@@ -5,8 +5,8 @@ use Rattle.bites_spec.specs.RangesOf.{ranges_of}
 use Rattle.bites_spec.specs.Reader.{inner}
 use Rattle.bites_spec.specs.Measure.{opened_by}
 use Rattle.bites_spec.specs.Tree.{choice_of}
-use Rattle.bites_spec.proofs.ClassLemmas.{ranges_of_list}
-use Rattle.bites_spec.proofs.WholeLaws.{behind_found}
+use Rattle.bites_spec.proofs.classes.ClassLemmas.{ranges_of_list}
+use Rattle.bites_spec.proofs.grammar.WholeLaws.{behind_found}
 use Rattle.bites_syntax.specs.declared.node.Node.TheVariants.{Kept}
 use Rattle.bites_syntax.specs.FlagsView.{flags_of}
 use Rattle.bites_syntax.specs.Nodes.{IsNodeOf}

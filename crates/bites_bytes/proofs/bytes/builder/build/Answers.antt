@@ -1,7 +1,7 @@
 use Rattle.std.proofs.Common.{refl, sym, subst}
 use Rattle.bites_spec.specs.Measure.{HasItsGroups}
 use Rattle.bites_spec.specs.Settings.{settings}
-use Rattle.bites_spec.proofs.KeptLemmas.{opened_has_groups}
+use Rattle.bites_spec.proofs.regex.KeptLemmas.{opened_has_groups}
 use Rattle.bites_syntax.specs.FlagsView.{flags_of}
 use Rattle.bites_bytes.specs.Parts.{regex_of}
 use Rattle.bites_bytes.specs.Settings.{fault, limit}

@@ -1,6 +1,6 @@
 use Rattle.std.proofs.Common.{◌≡◌, ◌*◌, sym, subst, length, IfOk}
 use Rattle.bites_spec.specs.Tree.{captures_len}
-use Rattle.bites_spec.proofs.LeftLemmas.{length-left}
+use Rattle.bites_spec.proofs.regex.LeftLemmas.{length-left}
 use Rattle.bites_bytes.specs.Parts.{chosen}
 use Rattle.bites_bytes.proofs.bytes.builder.compile_kept.Goals as goal
 

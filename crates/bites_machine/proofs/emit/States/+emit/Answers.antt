@@ -1,5 +1,5 @@
 use Rattle.std.proofs.Common.{◌≡◌, ◌≤◌, ◌-◌, ◌∙◌, List, None, Some, length, IfOk, ap, sym, subst, arith}
-use Rattle.bites_spec.specs.Tree.{Tree, Trees, repetition, group, sequence, trees_of, is_empty_by_form}
+use Rattle.bites_spec.specs.Tree.{Tree, Trees, repetition, group, sequence, trees_of, is_nullable}
 use Rattle.bites_spec.specs.Measure.{size_of, repeated_size}
 use Rattle.bites_machine.specs.Emitted.{Emitted, emitted, emit, emit_all, emit_each}
 use Rattle.bites_syntax.proofs.TreeParts.{read_below, parts_from}
@@ -57,15 +57,15 @@ optional_loop-choose-requires t c =
 pub counted-copies-requires : goal.counted-copies-requires
 counted-copies-requires t c =
     let body = emit-length c.args.sub.now c.requires.reduced c.args.to c.args.self.now c.emit.new.self c.in_ok-from.from c.in_ok-from.ensures in
-    let room = exact-room (is_empty_by_form c.args.sub.now) (size_of c.args.sub.now) c.args.min c.args.max (omega arith) (omega arith) in
+    let room = exact-room (is_nullable c.args.sub.now) (size_of c.args.sub.now) c.args.min c.args.max (omega arith) (omega arith) in
     (omega (arith, c.decreases), (c.requires.reduced, (omega (arith, body, room, c.requires.room), c.requires.slots)))
 
 pub counted-push-requires : goal.counted-push-requires
 counted-push-requires t c =
     let body = bounded-length c.args.sub.now c.requires.reduced c.args.to c.args.self.now c.bounded.new.self c.in_ok-from-2.from c.args.max c.args.greedy c.in_ok-from-2.ensures in
-    let room = several-room (is_empty_by_form c.args.sub.now) (size_of c.args.sub.now) c.args.max c.if-max-gt1.true in
+    let room = several-room (is_nullable c.args.sub.now) (size_of c.args.sub.now) c.args.max c.if-max-gt1.true in
     let least : c.args.min ≡ 0 = omega arith in
-    let same = ap (λ m. (repeated_size m (Some c.args.max) (is_empty_by_form c.args.sub.now) (size_of c.args.sub.now)).states) least in
+    let same = ap (λ m. (repeated_size m (Some c.args.max) (is_nullable c.args.sub.now) (size_of c.args.sub.now)).states) least in
     omega (arith, body, room, same, c.requires.room)
 
 pub counted-copies-requires-else-min-eq0 : goal.counted-copies-requires-else-min-eq0
@@ -77,13 +77,13 @@ counted-copies-requires-else-min-eq0 t c =
       | counted-else-min-eq0-via-then-min-eq0+else-max-gt1 w ↦ omega (arith, w.if-max-gt1.false)
       | counted-else-min-eq0-via-else-min-eq0 w ↦ absurd (w.if-min-eq0.false e)
     ] in
-    let room = ranged_or_once-room (is_empty_by_form c.args.sub.now) (size_of c.args.sub.now) c.args.min c.args.max (omega arith) few in
+    let room = ranged_or_once-room (is_nullable c.args.sub.now) (size_of c.args.sub.now) c.args.min c.args.max (omega arith) few in
     (omega (arith, c.decreases), (c.requires.reduced, (omega (arith, body, room, c.requires.room), c.requires.slots)))
 
 pub unbounded-copies-requires : goal.unbounded-copies-requires
 unbounded-copies-requires t c =
     let body = loop-length c.args.sub.now c.requires.reduced c.args.to c.args.self.now c.looped.new.self c.in_ok-from.from c.args.greedy c.in_ok-from.ensures in
-    let room = loop-room (is_empty_by_form c.args.sub.now) (size_of c.args.sub.now) c.args.min (omega arith) in
+    let room = loop-room (is_nullable c.args.sub.now) (size_of c.args.sub.now) c.args.min (omega arith) in
     (omega (arith, c.decreases), (c.requires.reduced, (omega (arith, body, room, c.requires.room), c.requires.slots)))
 
 pub sequence-loop-i-init : goal.sequence-loop-i-init

@@ -22,14 +22,14 @@ returns c =
     let number = c.args.number in
     let on = c.follow.new.self in
     let count = c.len.result - c.len-before.result in
-    let pushed : Closure = record { visited = c.push.new.self; targets = old.targets; ascii = old.ascii; others = old.others; anchored = old.anchored } in
-    let last : Closure = record { visited = on.visited; targets = c.push-2.new.self; ascii = on.ascii; others = on.others; anchored = on.anchored } in
+    let pushed : Closure = record { visited = c.push.new.self; targets = old.targets; ascii = old.ascii; others = old.others; anchored = old.anchored; taker = old.taker; several = old.several } in
+    let last : Closure = record { visited = on.visited; targets = c.push-2.new.self; ascii = on.ascii; others = on.others; anchored = on.anchored; taker = on.taker; several = on.several } in
     let is : state_of c.index-states-number.result ≡ program.state_at (states_of states) number =
     ap state_of c.index-states-number.is ∙ sym (get_or-map state_of states number _ program.fail (omega (arith, c.if-number-states.false))) in
     some_on c.push-2.result
     (λ (more : c.push-2.new.self ≡ count ∷ on.targets). λ start looks found.
     found_new (states_of states) start looks number count c.args.stack.now c.follow.new.stack old pushed on last (sym c.contains.ensures ∙ c.if-contains.false)
-    c.in_ok-push.ensures refl refl refl refl
-    (subst (λ (st : program.State). Follows st c.args.stack.now c.follow.new.stack pushed on) is c.in_ok-follow.ensures)
-    (omega (arith, c.len.ensures.len, c.len-before.ensures.len)) more refl refl refl refl found)
+    c.in_ok-push.ensures refl refl refl refl refl refl
+    (subst (λ (st : program.State). Follows number st c.args.stack.now c.follow.new.stack pushed on) is c.in_ok-follow.ensures)
+    (omega (arith, c.len.ensures.len, c.len-before.ensures.len)) more refl refl refl refl refl refl found)
     c.push-2.ensures

@@ -14,5 +14,6 @@ loop-looks-init c = record {
     stay = λ q h. absurd (subst (λ (v : List ℕ). Among v q) c.new.ensures h);
     take = λ q n h. absurd (subst (λ (v : List ℕ). Among v q) c.new.ensures h);
   };
+  alone = λ none q n h. absurd (subst (λ (v : List ℕ). Among v q) c.new.ensures h);
   targets = c.new-2.ensures ∙ ap (map (count_of (states_of c.args.states.now))) (sym c.new.ensures);
 }

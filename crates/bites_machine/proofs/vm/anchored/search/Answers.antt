@@ -1,51 +1,51 @@
 use Rattle.std.proofs.Common.{◌≡◌, ◌≤◌, ◌<◌, ◌+◌, false, List, length, refl, sym, ap, ◌∙◌, subst, arith}
 use Rattle.bites_spec.specs.Program as program
 use Rattle.bites_machine.specs.States.{states_of}
-use Rattle.bites_machine.specs.Sweep.{IsBetween}
+use Rattle.bites_machine.specs.Sweep.{InvariantBetweenSteps}
 use Rattle.bites_machine.proofs.PlaceSteps.{between_later}
-use Rattle.bites_machine.proofs.AnchoredSteps.{ends_after, some_piece, has_stepped, stepped_next, sought_from}
+use Rattle.bites_machine.proofs.AnchoredSteps.{ends_after, some_piece, has_stepped, stepped_next, anchored_result_by}
 use Rattle.bites_machine.proofs.vm.anchored.search.Goals as goal
 
 pub places-preserved : goal.places-preserved
 places-preserved c =
     let e = c.piece_at-here.ensures in
     let inv = c.places.invariant in
-    let done = c.search_place.ensures in
-    let new = c.search_place.new in
+    let done = c.step_threads.ensures in
+    let new = c.step_threads.new in
     let here = c.piece_at-here.result in
     let states = ap (λ s. states_of s.now) inv.states in
-    let on : ends_after c.args.request.now.asked.earliest here.len c.is_found_with-is_found.result c.len.result ≡ false = sym c.is_done.ensures ∙ c.if-is_done.false in
-    let some : 0 < here.len = some_piece c.args.request.now.asked.earliest here.len c.is_found_with-is_found.result c.len.result on in
-    let later : here.place + 1 ≤ c.places.place + here.len = omega (arith, some, e.place) in
+    let on : ends_after c.args.request.now.earliest here.ch_len c.is_found_with-is_found.result c.len.result ≡ false = sym c.is_done.ensures ∙ c.if-is_done.false in
+    let some : 0 < here.ch_len = some_piece c.args.request.now.earliest here.ch_len c.is_found_with-is_found.result c.len.result on in
+    let later : here.place + 1 ≤ c.places.place + here.ch_len = omega (arith, some, e.place) in
     record {
       within = e.within;
       len = done.len ∙ inv.len;
       states = done.states ∙ inv.states;
-      most = done.most ∙ inv.most;
-      between = subst (λ (l : List program.State). IsBetween l (c.places.place + here.len) new.counted.walked new.desk new.threads (length new.slots)) states
-          (between_later (states_of c.places.counted.states.now) (here.place + 1) (c.places.place + here.len) new.counted.walked new.desk new.threads (length new.slots) later done.between);
+      max_slots = done.max_slots ∙ inv.max_slots;
+      between = subst (λ (l : List program.State). InvariantBetweenSteps l (c.places.place + here.ch_len) new.counted.walked new.scratch new.threads (length new.slots)) states
+          (between_later (states_of c.places.counted.states.now) (here.place + 1) (c.places.place + here.ch_len) new.counted.walked new.scratch new.threads (length new.slots) later done.between);
       gone = λ p is.
-          stepped_next p c.args.request.now.haystack.now c.args.request.now.asked.longest c.args.request.now.asked.earliest c.args.request.now.start c.args.slots.now c.places.place here.len c.is_found_with-is_found.result
-          new.counted.walked new.desk.rows new.threads.threads new.slots c.len.result
-          (has_stepped p c.args.request.now.haystack.now c.args.request.now.asked.longest c.args.request.now.asked.earliest c.args.request.now.start c.args.slots.now c.places.place here.place here.len
+          stepped_next p c.args.request.now.haystack.now c.args.request.now.longest c.args.request.now.earliest c.args.request.now.start c.args.slots.now c.places.place here.ch_len c.is_found_with-is_found.result
+          new.counted.walked new.scratch.rows new.threads.threads new.slots c.len.result
+          (has_stepped p c.args.request.now.haystack.now c.args.request.now.longest c.args.request.now.earliest c.args.request.now.start c.args.slots.now c.places.place here.place here.ch_len
           here.haystack.now here.longest (states_of c.places.counted.states.now) c.places.is_found c.is_found_with-is_found.result
-          c.places.counted.walked new.counted.walked c.places.desk new.desk c.places.threads.threads new.threads.threads c.places.slots new.slots
+          c.places.counted.walked new.counted.walked c.places.scratch new.scratch c.places.threads.threads new.threads.threads c.places.slots new.slots
           e.haystack e.longest e.place e.len inv.len (is.states ∙ sym states) c.is_found_with-is_found.ensures (inv.gone p is) (done.alone refl))
           e.len c.len.ensures on;
     }
 
-pub returns-clause-sought : goal.returns-clause-sought
-returns-clause-sought c p is =
+pub returns-clause-search_result : goal.returns-clause-search_result
+returns-clause-search_result c p is =
     let e = c.piece_at-here.ensures in
     let inv = c.places.invariant in
-    let done = c.search_place.ensures in
-    let new = c.search_place.new in
+    let done = c.step_threads.ensures in
+    let new = c.step_threads.new in
     let here = c.piece_at-here.result in
     let states = ap (λ s. states_of s.now) inv.states in
-    sought_from p c.args.request.now.haystack.now c.args.request.now.asked.longest c.args.request.now.asked.earliest c.args.request.now.start c.args.slots.now c.places.place here.len c.is_found_with-is_found.result
-    new.counted.walked new.desk.rows new.threads.threads new.slots c.len.result
-    (has_stepped p c.args.request.now.haystack.now c.args.request.now.asked.longest c.args.request.now.asked.earliest c.args.request.now.start c.args.slots.now c.places.place here.place here.len
+    anchored_result_by p c.args.request.now.haystack.now c.args.request.now.longest c.args.request.now.earliest c.args.request.now.start c.args.slots.now c.places.place here.ch_len c.is_found_with-is_found.result
+    new.counted.walked new.scratch.rows new.threads.threads new.slots c.len.result
+    (has_stepped p c.args.request.now.haystack.now c.args.request.now.longest c.args.request.now.earliest c.args.request.now.start c.args.slots.now c.places.place here.place here.ch_len
     here.haystack.now here.longest (states_of c.places.counted.states.now) c.places.is_found c.is_found_with-is_found.result
-    c.places.counted.walked new.counted.walked c.places.desk new.desk c.places.threads.threads new.threads.threads c.places.slots new.slots
+    c.places.counted.walked new.counted.walked c.places.scratch new.scratch c.places.threads.threads new.threads.threads c.places.slots new.slots
     e.haystack e.longest e.place e.len inv.len (is.states ∙ sym states) c.is_found_with-is_found.ensures (inv.gone p is) (done.alone refl))
     e.len c.len.ensures (sym c.is_done.ensures ∙ c.if-is_done.true)

@@ -1,7 +1,7 @@
 use Rattle.std.proofs.Common.{◌≡◌, ◌≤◌, ◌-◌, length}
 use Rattle.bites_spec.specs.Program as program
 use Rattle.bites_machine.specs.States.{states_of}
-use Rattle.bites_machine.specs.Sweep.{IsBetween, IsProgramOf}
+use Rattle.bites_machine.specs.Sweep.{InvariantBetweenSteps, IsProgramOf}
 use Rattle.bites_machine.specs.Anchored.{HasSteppedTo}
 use Rattle.bites_machine.proofs.vm.anchored.search.Given as goal
 
@@ -10,10 +10,10 @@ invariant-places l = record {
   within : l.place ≤ length l.request.haystack.now;
   len : length l.slots ≡ length l.fn.slots;
   states : l.counted.states ≡ l.fn.counted.states;
-  most : l.desk.rows.most ≡ l.fn.desk.rows.most;
-  between : IsBetween (states_of l.fn.counted.states.now) l.place l.counted.walked l.desk l.threads (length l.slots);
+  max_slots : l.scratch.rows.max_slots ≡ l.fn.scratch.rows.max_slots;
+  between : InvariantBetweenSteps (states_of l.fn.counted.states.now) l.place l.counted.walked l.scratch l.threads (length l.slots);
   gone : (p : program.Program) → IsProgramOf p (states_of l.fn.counted.states.now) l.request.first →
-      HasSteppedTo p l.request.haystack.now l.request.asked.longest l.request.asked.earliest l.request.start l.fn.slots l.place l.is_found l.counted.walked l.desk.rows l.threads.threads l.slots;
+      HasSteppedTo p l.request.haystack.now l.request.longest l.request.earliest l.request.start l.fn.slots l.place l.is_found l.counted.walked l.scratch.rows l.threads.threads l.slots;
 }
 
 abbrev pub decreases-places : goal.decreases-places

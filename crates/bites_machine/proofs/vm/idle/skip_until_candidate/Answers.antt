@@ -22,17 +22,17 @@ places-preserved c =
     let states = states_of c.args.counted.now.states.now in
     let was = c.places.counted.walked in
     let now = c.visit_prefix.new.self.walked in
-    let stands : next_character hay place ≡ Some c.in-Some.ch = sym e.taken ∙ c.in-Some.is in
-    let some : 0 < here.len = subst (λ n. 0 < n) (sym e.len) (some_taken hay place c.in-Some.ch stands) in
-    let later : place < place + here.len = omega (arith, some) in
+    let stands : next_character hay place ≡ Some c.in-Some.ch = sym e.ch ∙ c.in-Some.is in
+    let some : 0 < here.ch_len = subst (λ n. 0 < n) (sym e.len) (some_taken hay place c.in-Some.ch stands) in
+    let later : place < place + here.ch_len = omega (arith, some) in
     let out : TakesNone x (next_character hay place) = subst (λ (o : Option ℕ). TakesNone x o) (sym stands) (sym c.may_take.ensures ∙ c.if-may_take.false) in
     record {
       onward = omega (arith, inv.onward);
       within = omega (arith, e.within, e.place, ap length e.haystack);
       states = c.visit_prefix.ensures.states ∙ inv.states;
-      before = λ v h. visited_behind place (place + here.len) x.visited.value was.visits later inv.before v
+      before = λ v h. visited_behind place (place + here.ch_len) x.visited.value was.visits later inv.before v
           (subst (λ vs. Among vs v) c.visit_prefix.ensures.visits h);
-      passes = λ longest. skips_on hay longest c.args.from place here.len states c.args.first x c.args.counted.now.walked was now
+      passes = λ longest. skips_on hay longest c.args.from place here.ch_len states c.args.first x c.args.counted.now.walked was now
           c.requires.prefix out (λ a. let from = c.requires.apart a in omega (arith, from, inv.onward)) e.len some c.visit_prefix.ensures.visits c.visit_prefix.ensures.looks (inv.passes longest);
     }
 

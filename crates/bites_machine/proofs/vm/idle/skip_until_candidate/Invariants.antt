@@ -1,6 +1,6 @@
 use Rattle.std.proofs.Common.{◌≡◌, ◌≤◌, ◌<◌, ◌-◌, Bool, length}
 use Rattle.bites_spec.specs.Walks.{Among}
-use Rattle.bites_spec.specs.Program.{Spot}
+use Rattle.bites_spec.specs.Program.{Configuration}
 use Rattle.bites_machine.specs.States.{states_of}
 use Rattle.bites_machine.specs.Sweep.{Passes}
 use Rattle.bites_machine.proofs.vm.idle.skip_until_candidate.Given as goal
@@ -10,7 +10,7 @@ invariant-places l = record {
   onward : l.from ≤ l.place;
   within : l.place ≤ length l.haystack;
   states : l.counted.states ≡ l.fn.counted.states;
-  before : (v : Spot) → Among l.counted.walked.visits v → v.place < l.place;
+  before : (v : Configuration) → Among l.counted.walked.visits v → v.place < l.place;
   passes : (longest : Bool) → Passes l.haystack longest l.from l.place (states_of l.fn.counted.states.now) l.first l.fn.counted.walked l.counted.walked;
 }
 

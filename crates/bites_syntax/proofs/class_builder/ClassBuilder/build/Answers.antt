@@ -2,7 +2,7 @@ use Rattle.std.proofs.Common.{rules, ◌∙◌, sym, ap}
 use Rattle.std.proofs.lemmas.List.Sorted.{All-permutation, IsNonDecreasingBy-from_sort_by_key, list_any-IsPermutation}
 use Rattle.bites_spec.specs.Range.{in_range, in_ranges}
 use Rattle.bites_spec.specs.Class.{IsRange}
-use Rattle.bites_spec.proofs.ClassLemmas.{lists_same}
+use Rattle.bites_spec.proofs.classes.ClassLemmas.{lists_same}
 use Rattle.bites_syntax.proofs.class_builder.ClassBuilder.build.Goals as goal
 
 pub merged-requires-clause-ranges : goal.merged-requires-clause-ranges

@@ -1,6 +1,6 @@
 use Rattle.std.proofs.Common.{◌||◌, ap, ◌∙◌}
 use Rattle.bites_spec.specs.Range.{in_ranges}
-use Rattle.bites_spec.proofs.ClassLemmas.{in_ranges-push}
+use Rattle.bites_spec.proofs.classes.ClassLemmas.{in_ranges-push}
 use Rattle.bites_syntax.proofs.CaseLemmas.{in_upper_case}
 use Rattle.bites_syntax.proofs.class_builder.ClassBuilder.push_upper_case.Goals as goal
 

@@ -15,8 +15,8 @@ leaf-requires c =
     let low : height read.0 ≡ 0 = subst IsLow read.1 (atom_low n (flags_of c.args.self.now.front.flags) c.args.c c.args.self.now.cursor) in
     rw read.2 low
 
-pub returns-clause-steps : goal.returns-clause-steps
-returns-clause-steps c = λ limit g bs ts is depth n room.
+pub returns-clause-reads : goal.returns-clause-reads
+returns-clause-reads c = λ limit g bs ts is depth n room.
     let read = c.in_ok-tree.ensures.reads n room in
     let reads : atom n g.flags c.args.c c.args.self.now.cursor ≡ Ok (read.0, c.atom.new.cursor) =
     subst (λ f. atom n f c.args.c c.args.self.now.cursor ≡ Ok (read.0, c.atom.new.cursor)) is.front.flags read.1 in

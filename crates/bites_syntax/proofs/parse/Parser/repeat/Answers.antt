@@ -9,8 +9,8 @@ use Rattle.bites_syntax.specs.Operators.{bounds_of}
 use Rattle.bites_syntax.proofs.ProgressLemmas.{some_of, operator_goes}
 use Rattle.bites_syntax.proofs.parse.Parser.repeat.Goals as goal
 
-pub returns-clause-steps : goal.returns-clause-steps
-returns-clause-steps c = λ g bs ts is depth n at.
+pub returns-clause-reads : goal.returns-clause-reads
+returns-clause-reads c = λ g bs ts is depth n at.
     let some : vec_len c.args.rows.now.nodes ≢ 0 = eqb-false (vec_len c.args.rows.now.nodes) 0 (sym c.if-is_empty.ensures) in
     let filled : 0 < length c.args.rows.now.nodes.items = omega (arith, c.args.rows.now.nodes.ok.0) in
     let one = some_of c.args.limit c.args.rows.now.nodes.items ts filled is.nodes_are in

@@ -1,11 +1,10 @@
-use Rattle.std.proofs.Common.{◌≡◌, ◌<◌, ◌∷◌, ◌≢◌, ◌∙◌, arith, sym, ap, subst, inr, Ok, Some, length}
+use Rattle.std.proofs.Common.{◌<◌, ◌∷◌, ◌≢◌, ◌∙◌, arith, sym, ap, subst, inr, length}
 use Rattle.std.specs.Prelude.{vec_len}
 use Rattle.std.proofs.lemmas.Bool.{eqb-false}
 use Rattle.std.proofs.lemmas.Result.{err_from_is_err_and}
 use Rattle.bites_spec.specs.Message as message
-use Rattle.bites_spec.specs.Pattern.{skip}
 use Rattle.bites_spec.specs.RangesOf.{ranges_of}
-use Rattle.bites_spec.specs.Reader.{inner, counted, repeat_last}
+use Rattle.bites_spec.specs.Reader.{inner, repeat_last}
 use Rattle.bites_syntax.specs.FlagsView.{flags_of}
 use Rattle.bites_syntax.specs.Nodes.{AreNodes}
 use Rattle.bites_syntax.specs.Operators.{bounds_of}
@@ -13,8 +12,8 @@ use Rattle.bites_syntax.specs.Parts.{error_in}
 use Rattle.bites_syntax.proofs.ProgressLemmas.{some_of, operator_goes, operator_fault, counted_at}
 use Rattle.bites_syntax.proofs.parse.Parser.repeat_counted.Goals as goal
 
-pub returns-in_err-bounds-clause-steps : goal.returns-in_err-bounds-clause-steps
-returns-in_err-bounds-clause-steps c = λ g bs ts is depth at n room.
+pub returns-in_err-bounds-clause-reads : goal.returns-in_err-bounds-clause-reads
+returns-in_err-bounds-clause-reads c = λ g bs ts is depth at n room.
     let p = err_from_is_err_and c.from_residual.result c.from_residual.ensures.1 in
     let some : vec_len c.args.rows.now.nodes ≢ 0 = eqb-false (vec_len c.args.rows.now.nodes) 0 (sym c.if-is_empty.ensures) in
     let filled : 0 < length c.args.rows.now.nodes.items = omega (arith, c.args.rows.now.nodes.ok.0) in
@@ -24,8 +23,8 @@ returns-in_err-bounds-clause-steps c = λ g bs ts is depth at n room.
     (inr (operator_fault c.args.limit (inner ranges_of c.args.limit n) depth g bs ts one.more one.first message.nothing_to_count at _ _ one.are
     (ap error_in same ∙ c.in_err-bounds.ensures.reads n (omega arith))))
 
-pub returns-clause-steps : goal.returns-clause-steps
-returns-clause-steps c = λ g bs ts is depth at n room.
+pub returns-clause-reads : goal.returns-clause-reads
+returns-clause-reads c = λ g bs ts is depth at n room.
     let some : vec_len c.args.rows.now.nodes ≢ 0 = eqb-false (vec_len c.args.rows.now.nodes) 0 (sym c.if-is_empty.ensures) in
     let filled : 0 < length c.args.rows.now.nodes.items = omega (arith, c.args.rows.now.nodes.ok.0) in
     let one = some_of c.args.limit c.args.rows.now.nodes.items ts filled is.nodes_are in

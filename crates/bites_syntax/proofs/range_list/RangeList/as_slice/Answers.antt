@@ -1,5 +1,5 @@
 use Rattle.std.proofs.Common.{◌∙◌, ap, sym}
-use Rattle.bites_spec.proofs.ClassLemmas.{lists_are_ranges_of}
+use Rattle.bites_spec.proofs.classes.ClassLemmas.{lists_are_ranges_of}
 use Rattle.bites_syntax.specs.Ranges.{constant_set, kept_ranges}
 use Rattle.bites_syntax.proofs.range_list.RangeList.as_slice.Goals as goal
 

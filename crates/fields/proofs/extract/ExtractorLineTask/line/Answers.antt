@@ -1,13 +1,33 @@
-use Rattle.std.proofs.Common.{◌≡◌, ◌∙◌, [], refl, subst, MatchOption}
+use Rattle.std.proofs.Common.{◌≡◌, ◌∙◌, ℕ, List, [], map, refl, subst}
+use Rattle.std.specs.Borrow.{Bor}
 use Rattle.std.specs.Io.BufRead.{strip_last}
-use Rattle.fields.specs.Entry.{NoEntry}
-use Rattle.fields.specs.Fields.{IsEntry}
-use Rattle.fields.proofs.ExtractLemmas.{appends_none}
+use Rattle.std.specs.Io.KnownBytes.{Appends}
+use Rattle.bites_filter.specs.Csv.{row}
+use Rattle.bites_filter.specs.Parts.{AreParts, Extracts}
+use Rattle.bites_filter.proofs.Written.{appends_none}
+use Rattle.fields.specs.Entry.{entry_tree, NoEntry}
+use Rattle.fields.specs.Rows.{told}
 use Rattle.fields.proofs.extract.ExtractorLineTask.line.Goals as goal
 
-pub returns-in_ok-tell-in-None : goal.returns-in_ok-tell-in-None
-returns-in_ok-tell-in-None g c =
-    let text = c.in-Ok.text.now in
-    let none : NoEntry text = subst (λ o. MatchOption o (NoEntry text) (IsEntry text)) c.in-None.is c.in_ok-entry.ensures in
-    let same : text ≡ strip_last 10 c.args.line.now = c.in-Ok.ensures.cases.0 ∙ c.without_line_feed.ensures in
-    ([], ((λ utf8. subst NoEntry same none), refl, c.in_ok-tell-in-None.ensures), appends_none (g.W.Write.contents c.args.out.now))
+pub returns-then-branch : goal.returns-then-branch
+returns-then-branch g c =
+    let fields = map (λ f. f.now) c.entry.new.fields in let text = strip_last 10 c.args.line.now in
+    let contents = g.W.Write.contents in
+    let same : c.in-Ok.text.now ≡ text = c.in-Ok.ensures.cases.0 ∙ c.without_line_feed.ensures in
+    let parts : AreParts entry_tree text fields =
+    subst (λ found. Extracts entry_tree text found fields) c.if-branch.true
+    (subst (λ t. Extracts entry_tree t c.in_ok-entry.field-0 fields) same c.in_ok-entry.ensures.found) in (
+      row fields,
+      ([], ((fields, (c.entry.ensures.seven, parts), refl), refl), appends_none (g.E.Write.contents c.args.self.now.err)),
+      subst (λ (fs : List (Bor (List ℕ))). Appends (contents c.args.out.now) (contents c.write_row.new.out) (row (map (λ f. f.now) fs)))
+          c.as_slice.ensures c.in_ok-write_row.ensures,
+    )
+
+pub returns : goal.returns
+returns g c =
+    let fields = map (λ f. f.now) c.entry.new.fields in let text = strip_last 10 c.args.line.now in
+    let same : c.in-Ok.text.now ≡ text = c.in-Ok.ensures.cases.0 ∙ c.without_line_feed.ensures in
+    let none : NoEntry text =
+    subst (λ found. Extracts entry_tree text found fields) c.if-branch.false
+    (subst (λ t. Extracts entry_tree t c.in_ok-entry.field-0 fields) same c.in_ok-entry.ensures.found) in
+    ([], (told c.args.number, ((λ _. none), refl, refl), c.in_ok-tell-2.ensures), appends_none (g.W.Write.contents c.args.out.now))

@@ -14,9 +14,9 @@ returns g c =
     let s = c.args.self.now in let line = c.args.line.now in let new = cow_slice_items c.in_ok-edited.edited in
     let contents = g.W.Write.contents in let before = contents c.args.out.now in let between = contents c.write_all.new.self in
     let substitutes : Substitutes s.searcher s.template.now s.limit (strip_last 10 line) new =
-    subst (λ h. Substitutes s.searcher s.template.now s.limit h new) c.without_line_feed.ensures c.in_ok-edited.ensures.substitutes in
+    subst (λ h. Substitutes s.searcher s.template.now s.limit h new) c.without_line_feed-text.ensures c.in_ok-edited.ensures.substitutes in
     let same : NoMatch s.searcher.tree (strip_last 10 line) 0 → new ≡ strip_last 10 line =
-    subst (λ h. NoMatch s.searcher.tree h 0 → new ≡ h) c.without_line_feed.ensures c.in_ok-edited.ensures.unchanged in (
+    subst (λ h. NoMatch s.searcher.tree h 0 → new ≡ h) c.without_line_feed-text.ensures c.in_ok-edited.ensures.unchanged in (
       new ++ line_feed_of line,
       (is_edited s.searcher s.template.now s.limit line new substitutes same, same_editor s c.replacen.new.self c.replacen.ensures.same),
       appends_both before between (contents c.write_all-2.new.self) new (line_feed_of line)

@@ -15,19 +15,19 @@ bounds-parts-filled c = omega (arith, c.loop-group.invariant.fits, c.if-filled-p
 
 pub loop-group-preserved : goal.loop-group-preserved
 loop-group-preserved c =
-    let slots = c.args.self.now.slots in let hay = c.args.self.now.haystack in let l = c.loop-group in let m = c.match-text_of in
+    let slots = c.args.self.now.slots in let hay = c.args.self.now.haystack in let l = c.loop-group in let m = c.match-group_bytes in
     let len : c.len-group-end.result ≡ length slots / 2 = c.len-group-end.ensures ∙ ap (λ (v : Captured). length v.slots / 2) c.self.view_is in
     let less : l.group < length slots / 2 = omega (arith, len, c.loop-group-test.true) in
-    elim c.match-text_of.branch [
+    elim c.match-group_bytes.branch [
       | in-Some w ↦
           subst (λ n. Written slots hay n (l.group + 1) m.parts) (sym w.filled-is)
           (subst (λ ps. Written slots hay (l.filled + 1) (l.group + 1) ps) (sym w.parts-is)
           (one_written slots hay l.filled l.group l.parts w.in-Some.text less (omega (arith, l.invariant.fits, c.if-filled-parts.false))
-          (sym (ap answer_text w.in-Some.is) ∙ c.text_of.ensures) l.invariant))
+          (sym (ap answer_text w.in-Some.is) ∙ c.group_bytes.ensures) l.invariant))
       | in_default w ↦
           subst (λ n. Written slots hay n (l.group + 1) m.parts) (sym w.filled-is)
           (subst (λ ps. Written slots hay l.filled (l.group + 1) ps) (sym w.parts-is)
-          (passed_over slots hay l.filled l.group l.parts less (sym (ap answer_text w.in_default.is) ∙ c.text_of.ensures) l.invariant))
+          (passed_over slots hay l.filled l.group l.parts less (sym (ap answer_text w.in_default.is) ∙ c.group_bytes.ensures) l.invariant))
     ]
 
 pub returns-clause-parts : goal.returns-clause-parts

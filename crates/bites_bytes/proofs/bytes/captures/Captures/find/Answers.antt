@@ -1,6 +1,6 @@
 use Rattle.std.proofs.Common.{subst}
 use Rattle.bites_spec.specs.Captured.{AreGroups}
-use Rattle.bites_spec.proofs.RegexRuns.{slots_are_groups}
+use Rattle.bites_spec.proofs.regex.RegexRuns.{slots_are_groups}
 use Rattle.bites_bytes.proofs.SlotLemmas.{slots_there}
 use Rattle.bites_bytes.proofs.bytes.captures.Captures.find.Goals as goal
 

@@ -1,7 +1,7 @@
 use Rattle.std.proofs.Common.{subst}
 use Rattle.bites_spec.specs.Captured.{AreGroups}
 use Rattle.bites_spec.specs.Anchored.{anchored_run_at}
-use Rattle.bites_spec.proofs.AnchoredLemmas.{anchored_begins, anchored_slots_are_groups}
+use Rattle.bites_spec.proofs.regex.AnchoredLemmas.{anchored_begins, anchored_slots_are_groups}
 use Rattle.bites_bytes.proofs.AnchoredLemmas.{slots_known}
 use Rattle.bites_bytes.proofs.bytes.captures.Captures.find_anchored.Goals as goal
 

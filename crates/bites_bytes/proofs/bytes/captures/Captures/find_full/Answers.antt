@@ -1,6 +1,6 @@
 use Rattle.std.proofs.Common.{subst}
 use Rattle.bites_spec.specs.Captured.{AreGroups}
-use Rattle.bites_spec.proofs.AnchoredLemmas.{anchored_slots_are_groups}
+use Rattle.bites_spec.proofs.regex.AnchoredLemmas.{anchored_slots_are_groups}
 use Rattle.bites_bytes.proofs.bytes.captures.Captures.find_full.Goals as goal
 
 pub invariant_of-result : goal.invariant_of-result

@@ -1,7 +1,7 @@
 use Rattle.std.proofs.Common.{◌≡◌, ◌∙◌, subst}
 use Rattle.std.specs.Prelude.{option_map}
 use Rattle.bites_spec.specs.Anchored.{IsWalkedFrom, anchored_run_at, anchored_span_at}
-use Rattle.bites_spec.proofs.AnchoredLemmas.{anchored_begins}
+use Rattle.bites_spec.proofs.regex.AnchoredLemmas.{anchored_begins}
 use Rattle.bites_bytes.proofs.SlotLemmas.{ends}
 use Rattle.bites_bytes.proofs.AnchoredLemmas.{all_slots_span, known_lie, known_found}
 use Rattle.bites_bytes.proofs.bytes.locations.CaptureLocations.read_anchored.Goals as goal

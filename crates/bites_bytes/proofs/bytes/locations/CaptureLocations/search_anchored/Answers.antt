@@ -1,6 +1,6 @@
 use Rattle.std.proofs.Common.{sym}
 use Rattle.bites_spec.specs.Anchored.{anchored_run_at}
-use Rattle.bites_spec.proofs.AnchoredLemmas.{anchored_begins}
+use Rattle.bites_spec.proofs.regex.AnchoredLemmas.{anchored_begins}
 use Rattle.bites_bytes.proofs.SlotLemmas.{slots_written}
 use Rattle.bites_bytes.proofs.AnchoredLemmas.{answered_some}
 use Rattle.bites_bytes.proofs.bytes.locations.CaptureLocations.search_anchored.Goals as goal

@@ -1,7 +1,7 @@
 use Rattle.std.proofs.Common.{rules, sym, subst, string_bytes}
 use Rattle.bites_spec.specs.Expansion.{text_in, index_in}
 use Rattle.bites_spec.specs.Refused.{AppendsUntilRefused}
-use Rattle.bites_spec.proofs.TemplateTexts.{expansion_of_text}
+use Rattle.bites_spec.proofs.templates.TemplateTexts.{expansion_of_text}
 use Rattle.regex_bites.proofs.string.captures.Captures.expand.Goals as goal
 
 pub returns : goal.returns

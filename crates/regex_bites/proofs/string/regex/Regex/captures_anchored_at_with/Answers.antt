@@ -1,8 +1,10 @@
-use Rattle.std.proofs.Common.{◌∙◌, ap, sym, option_map}
+use Rattle.std.proofs.Common.{◌∙◌, ap, sym, subst, option_map, is_some, Bool, true, false}
 use Rattle.bites_spec.specs.Captured.{captured}
-use Rattle.bites_spec.specs.Anchored.{anchored_slots_at}
+use Rattle.bites_spec.specs.Anchored.{IsWalkedFrom, anchored_slots_at}
+use Rattle.bites_spec.specs.Regex.{Regex}
 use Rattle.regex_bites.proofs.AnchoredBorders.{groups_from}
 use Rattle.regex_bites.proofs.string.regex.Regex.captures_anchored_at_with.Goals as goal
+use Rattle.regex_bites.proofs.string.regex.Regex.captures_anchored_at_with.Goals.{in-Some, in-None}
 
 pub of-requires : goal.of-requires
 of-requires c =
@@ -10,3 +12,17 @@ of-requires c =
     (sym c.in-Some.is ∙ c.in_ok-captures.ensures.found
     ∙ ap (λ hay. option_map (captured c.over_bytes.result.now hay) (anchored_slots_at c.over_bytes.result.now hay c.args.start)) c.as_bytes.ensures.value
     ∙ ap (λ r. option_map (captured r c.args.haystack.now) (anchored_slots_at r c.args.haystack.now c.args.start)) c.over_bytes.ensures.same)
+
+pub returns-clause-walked : goal.returns-clause-walked
+returns-clause-walked c =
+    let s = c.args.start in let r = c.over_bytes.result.now in let hay = c.as_bytes.result.now in
+    let after = c.captures_anchored_at_with.new.cache.walked in
+    let over_text = λ (found : Bool) (over : IsWalkedFrom r.program hay s found after).
+    subst (λ (q : Regex). IsWalkedFrom q.program c.args.haystack.now s found after) c.over_bytes.ensures.same
+    (subst (λ h. IsWalkedFrom r.program h s found after) c.as_bytes.ensures.value over) in
+    elim c.match-branch-2.branch [
+      | in-Some w ↦ rw w.result-is
+          (over_text true (subst (λ o. IsWalkedFrom r.program hay s (is_some o) after) w.in-Some.is c.in_ok-captures.ensures.walked))
+      | in-None w ↦ rw w.result-is
+          (over_text false (subst (λ o. IsWalkedFrom r.program hay s (is_some o) after) w.in-None.is c.in_ok-captures.ensures.walked))
+    ]

@@ -3,7 +3,7 @@ use Rattle.std.specs.Prelude.{slice_range, unwrap_or}
 use Rattle.bites_spec.specs.Pieces.{limited}
 use Rattle.bites_spec.specs.Captured.{Excerpt, excerpt}
 use Rattle.bites_spec.specs.Iteration.{spans_in}
-use Rattle.bites_bytes.specs.Limit.{taken}
+use Rattle.bites_bytes.specs.ReplaceLimit.{taken}
 use Rattle.bites_bytes.proofs.ReplacingLemmas.{taken_limited}
 use Rattle.bites_bytes.proofs.ReplacedLemmas.{if_ok}
 use Rattle.regex_bites.specs.Matched.{excerpt_of}
@@ -15,7 +15,7 @@ use Rattle.regex_bites.proofs.string.regex.Regex.replace_by_text.Goals as goal
 pub loop-found-init : goal.loop-found-init
 loop-found-init c =
     let hay = c.args.haystack.now in let n = c.args.limit in let e = c.in_ok-matches.ensures in let m = c.in_ok-matches.matches in
-    let all = to_replace c.args.self.now hay n in let s = c.new-replacing.result in let begun = c.new-replacing.ensures in
+    let all = to_replace c.args.self.now hay n in let s = c.new-out.result in let begun = c.new-out.ensures in
     let gives = GivesText c.args.text.now {C = Excerpt} in
     let rest : taken c.bound-left.result (matches_left m) ≡ all =
     ap (λ o. taken o (matches_left m)) c.bound-left.ensures ∙ taken_limited n (matches_left m) ∙ ap (limited n) e.left in
@@ -31,7 +31,7 @@ loop-found-init c =
 pub loop-found-preserved : goal.loop-found-preserved
 loop-found-preserved c =
     let hay = c.args.haystack.now in let all = to_replace c.args.self.now hay c.args.limit in
-    let s = c.loop-found.replacing in let on = c.loop-found.invariant in let t = c.by_text.new.self in let e = c.in_ok-by_text.ensures in
+    let s = c.loop-found.out in let on = c.loop-found.invariant in let t = c.by_text.new.self in let e = c.in_ok-by_text.ensures in
     let gives = GivesText c.args.text.now {C = Excerpt} in let x = excerpt_of c.in-Some.found in
     let rest = taken c.step_of.new.left (matches_left c.step_of.new.self) in
     record {
@@ -47,7 +47,7 @@ loop-found-preserved c =
 pub returns-clause-replaces : goal.returns-clause-replaces
 returns-clause-replaces c =
     let hay = c.args.haystack.now in let r = c.args.self.now in let all = to_replace r hay c.args.limit in
-    let s = c.loop-found.replacing in let on = c.loop-found.invariant in
+    let s = c.loop-found.out in let on = c.loop-found.invariant in
     let gives = GivesText c.args.text.now {C = Excerpt} in
     let end = on_end gives NoAnswers span_of hay all tt (string_bytes s.out) s.last _ tt on.on c.in_default.ensures.steps in
     if_ok c.finish.result _ _ c.finish.ensures.bytes
@@ -57,7 +57,7 @@ returns-clause-replaces c =
 pub returns-clause-borrowed : goal.returns-clause-borrowed
 returns-clause-borrowed c =
     let hay = c.args.haystack.now in let r = c.args.self.now in let all = to_replace r hay c.args.limit in
-    let s = c.loop-found.replacing in let on = c.loop-found.invariant in
+    let s = c.loop-found.out in let on = c.loop-found.invariant in
     let gives = GivesText c.args.text.now {C = Excerpt} in
     let is =
     text_borrows r c.in_ok-matches.ensures.compiled hay c.args.limit s.last

@@ -1,14 +1,14 @@
 use Rattle.std.proofs.Common.{◌≡◌, length, string_bytes}
-use Rattle.bites_bytes.specs.Limit.{taken}
+use Rattle.bites_bytes.specs.ReplaceLimit.{taken}
 use Rattle.regex_bites.specs.Matches.{matches_left, haystack_of_matches}
 use Rattle.regex_bites.proofs.ReplacingLemmas.{IsOn, GivesText, NoAnswers, span_of, to_replace}
 use Rattle.regex_bites.proofs.string.regex.Regex.replace_by_text.Given as goal
 
 abbrev pub invariant-loop-found : goal.invariant-loop-found
 invariant-loop-found l = record {
-  on : IsOn (GivesText l.text) NoAnswers (λ e. e.span) l.haystack (to_replace l.self l.haystack l.limit) tt (string_bytes l.replacing.out) l.replacing.last
+  on : IsOn (GivesText l.text) NoAnswers (λ e. e.span) l.haystack (to_replace l.self l.haystack l.limit) tt (string_bytes l.out.out) l.out.last
       (taken l.left (matches_left l.matches)) tt;
-  haystack : l.replacing.haystack.now ≡ l.haystack;
+  haystack : l.out.haystack.now ≡ l.haystack;
   same : haystack_of_matches l.matches ≡ l.haystack;
 }
 

@@ -3,7 +3,7 @@ use Rattle.std.specs.Prelude.{slice_range, unwrap_or, MatchResult}
 use Rattle.bites_spec.specs.Pieces.{limited, replaced_from}
 use Rattle.bites_spec.specs.Iteration.{captures_in}
 use Rattle.bites_spec.specs.Replaced.{span_in}
-use Rattle.bites_bytes.specs.Limit.{taken}
+use Rattle.bites_bytes.specs.ReplaceLimit.{taken}
 use Rattle.bites_bytes.proofs.ReplacingLemmas.{taken_limited, limited_map}
 use Rattle.bites_bytes.proofs.ReplacedLemmas.{if_ok, limited_none}
 use Rattle.regex_bites.specs.CapturesLeft.{captures_left}
@@ -15,7 +15,7 @@ pub loop-captures-init : goal.loop-captures-init
 loop-captures-init g c =
     let R = g.R.Replacer in let hay = c.args.haystack.now in let n = c.args.limit in let e = c.in_ok-matches.ensures in
     let m = c.in_ok-matches.matches in let cs = captures_in c.args.self.now hay in
-    let s = c.new-replacing.result in let begun = c.new-replacing.ensures in let r = c.args.replacer.now in
+    let s = c.new-out.result in let begun = c.new-out.ensures in let r = c.args.replacer.now in
     let rest : taken c.bound-left.result (captures_left m) ≡ limited n cs =
     ap (λ o. taken o (captures_left m)) c.bound-left.ensures ∙ taken_limited n (captures_left m) ∙ ap (limited n) e.left in
     record {
@@ -30,7 +30,7 @@ loop-captures-init g c =
 pub loop-captures-preserved : goal.loop-captures-preserved
 loop-captures-preserved g c =
     let R = g.R.Replacer in let hay = c.args.haystack.now in let all = limited c.args.limit (captures_in c.args.self.now hay) in
-    let l = c.loop-captures in let s = l.replacing in let on = l.invariant in let t = c.by.new.self in
+    let l = c.loop-captures in let s = l.out in let on = l.invariant in let t = c.by.new.self in
     let d = c.in_ok-captures.field-0 in let r = c.args.replacer.now in
     let cs = taken l.left (captures_left l.matches) in let rest = taken c.step_of.new.left (captures_left c.step_of.new.self) in
     let steps : cs ≡ d ∷ rest =
@@ -49,7 +49,7 @@ loop-captures-preserved g c =
 pub returns-clause-replaces : goal.returns-clause-replaces
 returns-clause-replaces g c =
     let R = g.R.Replacer in let hay = c.args.haystack.now in let cs = captures_in c.args.self.now hay in let n = c.args.limit in
-    let l = c.loop-captures in let s = l.replacing in let on = l.invariant in
+    let l = c.loop-captures in let s = l.out in let on = l.invariant in
     let end = on_end R.replaces R.answers span_in hay (limited n cs) c.args.replacer.now (string_bytes s.out) s.last _ l.replacer on.on c.in_default.ensures.steps in
     if_ok c.finish.result _ _ c.finish.ensures.bytes
     (λ x written. (
@@ -62,7 +62,7 @@ returns-clause-replaces g c =
 pub returns-clause-borrowed : goal.returns-clause-borrowed
 returns-clause-borrowed g c =
     let R = g.R.Replacer in let hay = c.args.haystack.now in let cs = captures_in c.args.self.now hay in let n = c.args.limit in
-    let l = c.loop-captures in let s = l.replacing in
+    let l = c.loop-captures in let s = l.out in
     let is =
     on_borrows R.replaces R.answers span_in hay (limited n cs) c.args.replacer.now (string_bytes s.out) s.last _ l.replacer l.invariant.on
     c.in_default.ensures.steps in

@@ -1,0 +1,61 @@
+-- Tables of named patterns, and which of them reads furthest from a place.
+use Rattle.std.specs.Prelude.{◌≡◌, ◌≢◌, ℕ, ◌<◌, ◌≤◌, true, false, List, [], ◌∷◌, ◌++◌, length, Some, get_or, slice_get, if◌then◌else◌}
+use Rattle.std.specs.Io.BufRead.{strip_last, ends_with_byte}
+use Rattle.bites_spec.specs.Tree.{Tree}
+use Rattle.bites_spec.specs.Match.{Matches}
+use Rattle.bites_spec.specs.Regex.{Regex}
+use Rattle.bites_spec.specs.Settings.{Accepts, settings, no_flags}
+
+-- a regex by its name
+pub record NamedRegex : Type 0 where
+  pub name : List ℕ
+  pub regex : Regex
+
+-- by its parts
+abbrev pub named : List ℕ → Regex → NamedRegex
+named name regex = record { name = name; regex = regex }
+
+-- The regex is built from the pattern without flags, under the limits that a builder begins with, and searches for the longest match.
+pub record IsRule (name pattern : List ℕ) (rule : NamedRegex) : Type 0 where
+  pub name_is : rule.name ≡ name
+  pub accepted : Accepts (settings pattern no_flags 10485760 50 false true) rule.regex.tree
+  pub longest : rule.regex.leftmost_longest ≡ true
+
+-- the line without the line feed that ends it, and without a carriage return before that
+abbrev pub without_end : List ℕ → List ℕ
+without_end line = if ends_with_byte 10 line then strip_last 13 (strip_last 10 line) else line
+
+module _ {S : Type 0} (Is : List ℕ → List ℕ → S → Type 0) where
+  -- The line is a name, in which no space stands, then a space and a pattern; the entry is that of both.
+  pub record IsEntry (line : List ℕ) (entry : S) : Type 0 where
+    pub name : List ℕ
+    pub pattern : List ℕ
+    pub line_is : line ≡ name ++ 32 ∷ pattern
+    pub no_space : (i : ℕ) → i < length name → get_or name i 0 ≢ 32
+    pub entry_is : Is name pattern entry
+
+  -- an entry for each line, what ends the line left out
+  abbrev pub AreEntries : List (List ℕ) → List S → Type 0
+  AreEntries [] entries = entries ≡ []
+  AreEntries (l ∷ ls) entries =
+      (e : S) × (es : List S) × IsEntry (without_end l) e × AreEntries ls es × (entries ≡ e ∷ es)
+
+-- j is the greatest end of a match from i, or i if none ends after it
+pub record IsReach (t : Tree) (text : List ℕ) (i j : ℕ) : Type 0 where
+  pub from : i ≤ j
+  pub within : j ≤ length text
+  pub greatest : (l : ℕ) → Matches text t i l → l ≤ j
+  pub matches : i < j → Matches text t i j
+
+module _ (rules : List NamedRegex) (text : List ℕ) where
+  -- the rule of this number matches from i to j
+  abbrev pub Reads : ℕ → ℕ → ℕ → Type 0
+  Reads k i j = (r : NamedRegex) × (slice_get rules k ≡ Some r) × Matches text r.regex.tree i j
+
+  -- No rule reads further from i than to j. Where j is after i, rule k reads so far, and no rule before it does.
+  pub record IsFurthest (i k j : ℕ) : Type 0 where
+    pub from : i ≤ j
+    pub within : j ≤ length text
+    pub greatest : (l e : ℕ) → Reads l i e → e ≤ j
+    pub reads : i < j → Reads k i j
+    pub first : i < j → (l : ℕ) → Reads l i j → k ≤ l

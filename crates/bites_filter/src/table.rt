@@ -1,0 +1,206 @@
+//! Tables of patterns: each line is a name, a space and a pattern.
+
+ghost use Rattle.std.specs.Prelude.{◌≡◌, ◌≤◌, ℕ, List, true, length, All, IfOk};
+ghost use Rattle.std.specs.Io.BufRead.{strip_last};
+ghost use Rattle.bites_filter.specs.Table.{IsRule, IsEntry, AreEntries, IsReach, IsFurthest, without_end};
+ghost use Rattle.bites_filter.specs.Lines.{lines_of};
+
+use crate::fault::Fault;
+use crate::lines::next_line;
+use crate::program::words;
+use bites_bytes::bytes::{Cache, Error, Regex, RegexBuilder};
+use std::alloc::Global;
+use std::marker::Model;
+use std::rt::{Env, Files};
+use std::{fs, io, str};
+
+/// What a line of a table stands for.
+pub trait Entry: Sized {
+    /// Relates a name, a pattern and the entry of both.
+    ghost is: { List ℕ → List ℕ → Self → Type 0 };
+
+    /// Makes the entry of a name and a pattern. The fault is that the pattern is not accepted, or that memory ran out.
+    fn read(alloc: Global, name: &str, pattern: &str) -> Result<Self, Fault>
+        ensures { IfOk result (is name.now pattern.now) };
+}
+
+/// A pattern by its name, with the one cache of all its searches.
+///
+/// A contract sees the name and the regex.
+#[derive(Drop)]
+pub struct Rule {
+    name: String,
+    regex: Regex,
+    cache: Cache,
+}
+
+impl Model for Rule {
+    ghost use Rattle.std.specs.Coded.{codes};
+    ghost use Rattle.std.specs.Prelude.{◌≡◌, string_bytes};
+    ghost use Rattle.bites_syntax.specs.TreeCode.{tree_code};
+    ghost use Rattle.bites_spec.specs.Counts.{fit_of};
+    ghost use Rattle.bites_filter.specs.Table.{NamedRegex, named};
+
+    ghost Value = { NamedRegex };
+
+    ghost coded = { Prim.hlevel (codes, tree_code) };
+
+    ghost view = { λ a. named (string_bytes a.name) a.regex };
+
+    ghost invariant = { λ a. a.cache.fits ≡ fit_of a.regex.program };
+}
+
+impl Entry for Rule {
+    ghost is = { IsRule };
+
+    fn read(alloc: Global, name: &str, pattern: &str) -> Result<Rule, Fault> {
+        let mut builder = RegexBuilder::new(alloc, pattern)?;
+        let regex = builder.leftmost_longest(true).build()?;
+        let cache = regex.cache()?;
+        Ok(Rule {
+            name: String::from_str(alloc, name)?,
+            regex,
+            cache,
+        })
+    }
+}
+
+impl Rule {
+    /// Returns the name.
+    pub fn name(&self) -> &str
+        ensures { result.now ≡ self.now.name }
+    {
+        &self.name
+    }
+
+    /// Returns where the longest match that begins at `start` ends, or `start` if none does. It takes no memory.
+    pub fn reach(&mut self, text: &[u8], start: usize) -> usize
+        requires longest { self.old.regex.leftmost_longest ≡ true }
+        requires within { start ≤ length text.now }
+        ensures reach { IsReach self.old.regex.tree text.now start result }
+        ensures same { self.new ≡ self.old }
+    {
+        bites_spec::match_is_parse();
+        bites_spec::found_lies();
+        bites_spec::finds_some();
+        bites_spec::anchored_is_found();
+        match self
+            .regex
+            .find_anchored_at_with(&mut self.cache, text, start)
+        {
+            Some(found) => found.end(),
+            None => start,
+        }
+    }
+}
+
+/// Returns the bytes of the one file that the words of the command line name. The fault is that there is another number of
+/// words, which the usage tells, that the file can't be read, or that memory ran out.
+pub fn read_file(
+    rt: &(impl Env + Files + AllocGlobal),
+    usage: &'static str,
+) -> Result<Vec<u8>, Fault> {
+    let words = words(rt, usage)?;
+    let [name] = words.as_slice() else {
+        return Err(Fault::Usage(usage));
+    };
+    match fs::read(rt, name.as_str()) {
+        Ok(bytes) => Ok(bytes),
+        Err(error) if error.kind() == io::ErrorKind::OutOfMemory => {
+            Err(Fault::Pattern(Error::Memory))
+        }
+        Err(_) => Err(Fault::File("the table")),
+    }
+}
+
+/// Reads a table. The fault is that a line has no space or is not UTF-8, that a pattern is not accepted, or that memory ran
+/// out.
+pub fn read_table<E: Entry + Drop>(alloc: Global, table: &[u8]) -> Result<Vec<E>, Fault>
+    ensures { IfOk result (λ entries. AreEntries E.is (lines_of table.now) entries.items) }
+{
+    let mut left = table;
+    let mut line = Vec::new(alloc);
+    let mut entries = Vec::new(alloc);
+    for _ in 0..u64::MAX {
+        if !next_line(&mut left, &mut line)? {
+            return Ok(entries);
+        }
+        let entry = read_entry(alloc, without_line_end(&line))?;
+        match entries.push(entry) {
+            Ok(()) => {}
+            Err(_) => return Err(Fault::Pattern(Error::Memory)),
+        }
+    }
+    // So long a table does not exist.
+    Err(Fault::Read)
+}
+
+// Reads the entry of a line without its end.
+fn read_entry<E: Entry>(alloc: Global, line: &[u8]) -> Result<E, Fault>
+    ensures { IfOk result (IsEntry E.is line.now) }
+{
+    let Ok(text) = str::from_utf8(line) else {
+        return Err(Fault::File("the table"));
+    };
+    let Some((name, pattern)) = text.split_once(' ') else {
+        return Err(Fault::File("the table"));
+    };
+    let entry = E::read(alloc, name, pattern)?;
+    Ok(entry)
+}
+
+// Returns the line without the line feed that ends it, and without a carriage return before that.
+fn without_line_end(line: &[u8]) -> &[u8]
+    ensures { result.now ≡ without_end line.now }
+{
+    match line {
+        [rest @ .., b'\n'] => without_carriage_return(rest),
+        _ => line,
+    }
+}
+
+fn without_carriage_return(text: &[u8]) -> &[u8]
+    ensures { result.now ≡ strip_last 13 text.now }
+{
+    match text {
+        [rest @ .., b'\r'] => rest,
+        _ => text,
+    }
+}
+
+/// Reads a table of rules, which find the longest match. The faults are those of [`read_table`].
+pub fn read_rules(alloc: Global, table: &[u8]) -> Result<Vec<Rule>, Fault>
+    ensures rules { IfOk result (λ rules. AreEntries IsRule (lines_of table.now) rules.items) }
+    ensures longest { IfOk result (λ rules. All (λ r. r.regex.leftmost_longest ≡ true) rules.items) }
+{
+    let rules = read_table(alloc, table)?;
+    Ok(rules)
+}
+
+/// What is read from one place: the number of a rule, and where its match ends.
+#[derive(Clone, Copy, Debug)]
+pub struct Reading {
+    pub rule: usize,
+    pub end: usize,
+}
+
+/// Returns the rule whose longest match from `start` ends last, and of several such rules the first. If no rule reads
+/// anything from there, the end is `start`.
+pub fn furthest(rules: &mut [Rule], text: &[u8], start: usize) -> Reading
+    requires longest { All (λ r. r.regex.leftmost_longest ≡ true) rules.old }
+    requires within { start ≤ length text.now }
+    ensures furthest { IsFurthest rules.old text.now start result.rule result.end }
+    ensures same { rules.new ≡ rules.old }
+{
+    let mut reading = Reading {
+        rule: 0,
+        end: start,
+    };
+    for (number, rule) in rules.iter_mut().enumerate() {
+        let end = rule.reach(text, start);
+        if end > reading.end {
+            reading = Reading { rule: number, end };
+        }
+    }
+    reading
+}

@@ -1,0 +1,114 @@
+use Rattle.std.specs.Prelude.{IfSome}
+use Rattle.std.proofs.Common.{◌≡◌, ◌≤◌, ◌<◌, ◌+◌, ℕ, false, List, length, refl, sym, ap, ap₂, ◌∙◌, subst, arith, Bor}
+use Rattle.bites_spec.specs.Utf8.{piece}
+use Rattle.bites_spec.specs.Program as program
+use Rattle.bites_machine.specs.States.{states_of}
+use Rattle.bites_machine.specs.Prefix.{IsPrefix}
+use Rattle.bites_machine.specs.declared.prefix.StartPrefix.{StartPrefix}
+use Rattle.bites_machine.specs.Ends.{next_character}
+use Rattle.bites_machine.specs.Sweep.{InvariantBetweenSteps}
+use Rattle.bites_machine.proofs.PlaceSteps.{ends_by, some_piece, of_first, between_first, between_later, room_between, reached_first, reached_next, result_by}
+use Rattle.bites_machine.proofs.HuntSteps.{searched_on}
+use Rattle.bites_machine.proofs.vm.pikevm.search.Goals as goal
+
+pub places-init : goal.places-init
+places-init c =
+    let states = states_of c.args.counted.now.states.now in
+    let p = c.requires.program.0 in
+    let is = c.requires.program.1 in
+    record {
+      within = c.requires.start;
+      len = refl;
+      states = refl;
+      max_slots = refl;
+      between = between_first p states c.args.request.now.start c.args.counted.now.walked c.args.scratch.now c.args.threads.now (length c.args.slots.now)
+          is.states c.requires.program.2 c.requires.idle c.requires.visits c.requires.slots_per_row c.requires.nothing c.requires.even;
+      gone = λ q same. reached_first q c.args.request.now.haystack.now c.args.request.now.longest c.args.request.now.earliest c.args.request.now.start c.args.slots.now c.args.counted.now.walked
+          c.args.scratch.now.rows c.args.threads.now.threads c.requires.visits c.requires.looks c.requires.idle.threads;
+    }
+
+pub step-last-requires : goal.step-last-requires
+step-last-requires c =
+    let p = c.requires.program.0 in
+    let is = c.requires.program.1 in
+    let e = c.piece_at-here.ensures in
+    let inv = c.places.invariant in
+    let states = ap (λ s. states_of s.now) inv.states in
+    record {
+      place = subst (λ i. i ≤ length c.piece_at-here.result.haystack.now) (sym e.place)
+          (subst (λ (h : List ℕ). c.places.place ≤ length h) (sym e.haystack) inv.within);
+      within = omega (arith, e.within, e.place, ap length e.haystack);
+      ch = e.ch ∙ sym (ap₂ next_character e.haystack e.place);
+      len = e.len ∙ sym (ap₂ (λ h i. (piece h i).len) e.haystack e.place);
+      program = (p, is.states ∙ sym states, is.well, of_first (λ q. q ≡ p.start) c.places.is_found c.first_of-begins.result c.args.request.now.first c.first_of-begins.ensures (sym is.start));
+      prefix = of_first (λ q. IfSome c.args.request.now.prefix (λ (x : Bor StartPrefix). IsPrefix (states_of c.places.counted.states.now) q x.now))
+          c.places.is_found c.first_of-begins.result c.args.request.now.first c.first_of-begins.ensures
+          (subst (λ (s : List program.State). IfSome c.args.request.now.prefix (λ (x : Bor StartPrefix). IsPrefix s c.args.request.now.first x.now)) (sym states) c.requires.prefix);
+      between = subst (λ i. InvariantBetweenSteps (states_of c.places.counted.states.now) i c.places.counted.walked c.places.scratch c.places.threads (length c.places.slots)) (sym e.place)
+          (subst (λ (l : List program.State). InvariantBetweenSteps l c.places.place c.places.counted.walked c.places.scratch c.places.threads (length c.places.slots)) (sym states) inv.between);
+    }
+
+pub places-preserved : goal.places-preserved
+places-preserved c =
+    let e = c.piece_at-here.ensures in
+    let inv = c.places.invariant in
+    let done = c.step-last.ensures in
+    let new = c.step-last.new in
+    let last = c.step-last.result in
+    let states = ap (λ s. states_of s.now) inv.states in
+    let lens = done.len ∙ ap (λ (h : List ℕ). (piece h last.place).len) e.haystack in
+    let on : ends_by c.args.request.now.earliest last.ch_len c.is_found_with-is_found.result c.len.result ≡ false = sym c.is_over.ensures ∙ c.if-is_over.false in
+    let some : 0 < last.ch_len = some_piece c.args.request.now.earliest last.ch_len c.is_found_with-is_found.result c.len.result on in
+    let later : last.place + 1 ≤ last.place + last.ch_len = omega (arith, some) in
+    record {
+      within = omega (arith, done.within, ap length e.haystack);
+      len = done.slots ∙ inv.len;
+      states = done.states ∙ inv.states;
+      max_slots = done.max_slots ∙ inv.max_slots;
+      between = subst (λ (l : List program.State). InvariantBetweenSteps l (last.place + last.ch_len) new.counted.walked new.scratch new.threads (length new.slots)) states
+          (between_later (states_of c.places.counted.states.now) (last.place + 1) (last.place + last.ch_len) new.counted.walked new.scratch new.threads (length new.slots) later done.between);
+      gone = λ p is.
+          reached_next p c.args.request.now.haystack.now c.args.request.now.longest c.args.request.now.earliest c.args.request.now.start c.args.slots.now last.place last.ch_len c.is_found_with-is_found.result
+          new.counted.walked new.scratch.rows new.threads.threads new.slots c.len.result
+          (searched_on p c.args.request.now.haystack.now c.args.request.now.longest c.args.request.now.earliest c.args.request.now.start c.args.slots.now c.places.place c.piece_at-here.result.place last.place c.args.request.now.first
+          c.piece_at-here.result.haystack.now c.piece_at-here.result.longest (states_of c.places.counted.states.now) c.first_of-begins.result c.places.is_found c.is_found_with-is_found.result
+          c.places.counted.walked new.counted.walked c.places.scratch new.scratch c.places.threads.threads new.threads.threads c.places.slots new.slots
+          e.haystack e.longest e.place inv.len (record { states = is.states ∙ sym states; start = is.start; well = is.well }) c.first_of-begins.ensures c.is_found_with-is_found.ensures
+          (inv.gone p is) done.searched)
+          lens c.len.ensures on;
+    }
+
+pub returns-clause-search_result : goal.returns-clause-search_result
+returns-clause-search_result c p is =
+    let e = c.piece_at-here.ensures in
+    let inv = c.places.invariant in
+    let done = c.step-last.ensures in
+    let new = c.step-last.new in
+    let last = c.step-last.result in
+    let states = ap (λ s. states_of s.now) inv.states in
+    let lens = done.len ∙ ap (λ (h : List ℕ). (piece h last.place).len) e.haystack in
+    result_by p c.args.request.now.haystack.now c.args.request.now.longest c.args.request.now.earliest c.args.request.now.start c.args.slots.now last.place last.ch_len c.is_found_with-is_found.result
+    new.counted.walked new.scratch.rows new.threads.threads new.slots c.len.result
+    (searched_on p c.args.request.now.haystack.now c.args.request.now.longest c.args.request.now.earliest c.args.request.now.start c.args.slots.now c.places.place c.piece_at-here.result.place last.place c.args.request.now.first
+    c.piece_at-here.result.haystack.now c.piece_at-here.result.longest (states_of c.places.counted.states.now) c.first_of-begins.result c.places.is_found c.is_found_with-is_found.result
+    c.places.counted.walked new.counted.walked c.places.scratch new.scratch c.places.threads.threads new.threads.threads c.places.slots new.slots
+    e.haystack e.longest e.place inv.len (record { states = is.states ∙ sym states; start = is.start; well = is.well }) c.first_of-begins.ensures c.is_found_with-is_found.ensures
+    (inv.gone p is) done.searched)
+    lens c.len.ensures (sym c.is_over.ensures ∙ c.if-is_over.true)
+
+pub returns-clause-room : goal.returns-clause-room
+returns-clause-room c p is room =
+    let inv = c.places.invariant in
+    let done = c.step-last.ensures in
+    let new = c.step-last.new in
+    let end = c.release_all.ensures in
+    room_between p (states_of c.places.counted.states.now) (c.step-last.result.place + 1) new.counted.walked new.scratch new.threads (length new.slots)
+    c.release_all.new.rows c.release_all.new.threads (is.states ∙ sym (ap (λ s. states_of s.now) inv.states)) done.between
+    (subst (λ n. p.slots ≤ n) (sym (end.max_slots ∙ done.max_slots ∙ inv.max_slots)) room.max_slots) end.rows end.pending end.room
+
+pub places-smaller : goal.places-smaller
+places-smaller c =
+    let last = c.step-last.result in
+    let on : ends_by c.args.request.now.earliest last.ch_len c.is_found_with-is_found.result c.len.result ≡ false = sym c.is_over.ensures ∙ c.if-is_over.false in
+    let some : 0 < last.ch_len = some_piece c.args.request.now.earliest last.ch_len c.is_found_with-is_found.result c.len.result on in
+    omega (arith, some, c.step-last.ensures.within, c.step-last.ensures.onward, c.piece_at-here.ensures.place, ap length c.piece_at-here.ensures.haystack)

@@ -1,7 +1,0 @@
-use Rattle.std.proofs.Common.{◌≡◌, map}
-use lib.Seq.{paste}
-use Rattle.bites_machine.specs.Rows.{slot_of}
-use Rattle.bites_machine.proofs.vm.rows.copy_slots.Given as goal
-
-abbrev pub invariant-loop-k : goal.invariant-loop-k
-invariant-loop-k l = l.slots ≡ paste l.initial.slots 0 (map slot_of l.row) l.k

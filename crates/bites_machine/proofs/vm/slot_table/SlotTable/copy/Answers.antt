@@ -1,0 +1,190 @@
+use Rattle.std.proofs.Common.{◌≡◌, ◌≢◌, ◌<◌, ◌≤◌, ◌+◌, ◌*◌, ◌⊎◌, inl, inr, ⊎_elim, [], ◌∷◌, length, sum, take, drop, arith, ap, ap₂, sym, ◌∙◌, ◌++◌, subst, cond, map, ℕ, List, vec_len, vec_capacity}
+use Rattle.std.specs.Prelude.{slice_index, slice_index_or, slice_set}
+use Rattle.std.proofs.lemmas.List.{length-set, length-take-le, nil_from_length}
+use Rattle.std.proofs.Common.{length-drop}
+use Rattle.bites_machine.specs.SlotTable.{AreFree, AreTaken, ref_counts_of, slot_of, with_pending, with_words, rows_of}
+use Rattle.bites_machine.proofs.RowLemmas.{row_fits, rows_apart, whole_again}
+use Rattle.bites_machine.proofs.WordLemmas.{length-with_words, words_copied, words_pushed}
+use Rattle.bites_machine.proofs.FreeLemmas.{is_taken, taken, taken_more, some_left, last_free, count_at, count_set, count_pushed, length-ref_counts_of}
+use Rattle.bites_machine.proofs.vm.slot_table.SlotTable.copy.Goals as goal
+use Rattle.bites_machine.proofs.vm.slot_table.SlotTable.copy.Goals.{After-copy_row, After-pop, After-push, After-push_row, In-Some, In_default}
+
+known : (c : After-pop) → c.args.row < length c.self.inside.ref_counts.items
+known c =
+    is_taken c.self.inside.row_count c.self.inside.free.items c.self.inside.ref_counts.items c.args.row c.self.invariant.0.free
+    (λ other. subst (λ p. 0 < slice_index p.ref_counts c.args.row) (sym c.self.view_is) (c.requires.used other))
+
+-- where no row is free
+
+none_free : (c : In_default) → c.self.inside.free.items ≡ []
+none_free c = nil_from_length c.self.inside.free.items (omega (arith, c.in_default.ensures.cases.0, c.self.inside.free.ok.0))
+
+none_left : (c : In_default) → c.pop.new.self.items ≡ []
+none_left c = nil_from_length c.pop.new.self.items (omega (arith, c.in_default.ensures.cases.1, c.pop.new.self.ok.0))
+
+are_taken : (c : In_default) → AreTaken c.self.inside.row_count c.self.inside.slots_per_row c.self.inside.max_slots c.self.inside.slots.items c.self.inside.ref_counts.items []
+are_taken c =
+    subst (λ xs. AreTaken c.self.inside.row_count c.self.inside.slots_per_row c.self.inside.max_slots c.self.inside.slots.items c.self.inside.ref_counts.items xs) (none_free c) c.self.invariant.0
+
+few : (c : In_default) → length c.self.inside.ref_counts.items < c.self.inside.row_count
+few c =
+    some_left c.self.inside.row_count c.self.inside.ref_counts.items (are_taken c).free c.self.invariant.0.few
+    (subst (λ p. sum p.ref_counts + 1 < length p.ref_counts) (sym c.self.view_is) c.requires.room)
+
+pushed : (c : After-push) → length c.self.inside.ref_counts.items < c.self.inside.row_count → c.push.new.self.items ≡ c.self.inside.ref_counts.items ++ 1 ∷ []
+pushed c lt =
+    let room : vec_len c.self.inside.ref_counts < vec_capacity c.self.inside.ref_counts = omega (arith, lt, c.self.invariant.2, c.self.inside.ref_counts.ok.0) in
+    c.push.ensures.items ∙ ap (λ b. cond b (c.self.inside.ref_counts.items ++ 1 ∷ []) c.self.inside.ref_counts.items) (c.push.ensures.succeeds room)
+
+fresh_is : (c : After-push) → c.len-fresh.result ≡ length c.self.inside.ref_counts.items
+fresh_is c = c.len-fresh.ensures ∙ c.self.inside.ref_counts.ok.0
+
+pub push_row-requires-clause-room : goal.push_row-requires-clause-room
+push_row-requires-clause-room c =
+    let fits = row_fits c.self.inside.slots_per_row c.self.inside.max_slots c.self.inside.row_count (length c.self.inside.ref_counts.items) (few (goal.at.push_row-requires-clause-room c).In_default) c.self.invariant.0.wide in
+    omega (arith, fits, c.self.invariant.0.slots, c.self.invariant.1)
+
+length-more : (c : After-push_row) → c.args.row < length c.self.inside.ref_counts.items →
+    length (with_words c.args.place (take c.args.pending_len c.self.inside.pending.items) (take c.self.inside.slots_per_row (drop (c.args.row * c.self.inside.slots_per_row) c.self.inside.slots.items))) ≡ c.self.inside.slots_per_row
+length-more c lt =
+    let w = c.self.inside.slots_per_row in
+    let from = c.args.row * c.self.inside.slots_per_row in
+    let fits : from + w ≤ length c.self.inside.ref_counts.items * w = row_fits w w (length c.self.inside.ref_counts.items) c.args.row lt (omega arith) in
+    length-with_words c.args.place (take c.args.pending_len c.self.inside.pending.items) (take w (drop from c.self.inside.slots.items))
+    ∙ length-take-le w (drop from c.self.inside.slots.items) (omega (arith, length-drop from c.self.inside.slots.items, fits, c.self.invariant.0.slots))
+
+cells_are : (c : After-push_row) → c.push_row.new.slots.items ≡ c.self.inside.slots.items
+    ++ with_words c.args.place (take c.args.pending_len c.self.inside.pending.items) (take c.self.inside.slots_per_row (drop (c.args.row * c.self.inside.slots_per_row) c.self.inside.slots.items))
+cells_are c =
+    c.push_row.ensures.items
+    ∙ ap (λ ks. c.self.inside.slots.items ++ with_words c.args.place (take c.args.pending_len ks) (take c.self.inside.slots_per_row (drop (c.args.row * c.self.inside.slots_per_row) c.self.inside.slots.items))) c.deref.ensures.value
+
+pub invariant_of-self : goal.invariant_of-self
+invariant_of-self c =
+    rw (cells_are (goal.at.invariant_of-self c).After-push_row, pushed (goal.at.invariant_of-self c).After-push (few (goal.at.invariant_of-self c).In_default), none_left (goal.at.invariant_of-self c).In_default) (
+      taken_more c.self.inside.row_count c.self.inside.slots_per_row c.self.inside.max_slots _ _ _ (are_taken (goal.at.invariant_of-self c).In_default) (few (goal.at.invariant_of-self c).In_default) (length-more (goal.at.invariant_of-self c).After-push_row (known (goal.at.invariant_of-self c).After-pop)),
+      omega (arith, c.self.invariant.1, c.push_row.ensures.capacity),
+      omega (arith, c.self.invariant.2, c.push.ensures.capacity),
+      omega (arith, c.self.invariant.3, c.pop.ensures.capacity),
+    )
+
+pub returns-in_default-clause-known : goal.returns-in_default-clause-known
+returns-in_default-clause-known c =
+    subst (λ p. c.len-fresh.result < length p.ref_counts) c.self.view_is
+    (omega (arith, few (goal.at.returns-in_default-clause-known c).In_default, fresh_is (goal.at.returns-in_default-clause-known c).After-push, length-ref_counts_of c.self.inside.row_count c.self.inside.ref_counts.items c.self.invariant.0.few))
+
+pub returns-in_default-clause-ref_counts : goal.returns-in_default-clause-ref_counts
+returns-in_default-clause-ref_counts c =
+    ap (ref_counts_of c.self.inside.row_count) (pushed (goal.at.returns-in_default-clause-ref_counts c).After-push (few (goal.at.returns-in_default-clause-ref_counts c).In_default))
+    ∙ count_pushed c.self.inside.row_count c.self.inside.ref_counts.items 1 (few (goal.at.returns-in_default-clause-ref_counts c).In_default)
+    ∙ ap (λ n. slice_set (ref_counts_of c.self.inside.row_count c.self.inside.ref_counts.items) n 1) (sym (fresh_is (goal.at.returns-in_default-clause-ref_counts c).After-push))
+    ∙ ap (λ p. slice_set p.ref_counts c.len-fresh.result 1) c.self.view_is
+
+pub returns-in_default-clause-rows : goal.returns-in_default-clause-rows
+returns-in_default-clause-rows c =
+    let w = c.self.inside.slots_per_row in
+    let row_count = c.self.inside.row_count in
+    ap (λ slots. rows_of w row_count (map slot_of slots)) (cells_are (goal.at.returns-in_default-clause-rows c).After-push_row)
+    ∙ words_pushed w row_count (length c.self.inside.ref_counts.items) c.args.row c.args.place (take c.args.pending_len c.self.inside.pending.items) c.self.inside.slots.items
+    c.requires.place (known (goal.at.returns-in_default-clause-rows c).After-pop) c.self.invariant.0.slots (few (goal.at.returns-in_default-clause-rows c).In_default)
+    ∙ ap (λ n. slice_set (rows_of w row_count (map slot_of c.self.inside.slots.items)) n
+    (with_pending c.args.place (take c.args.pending_len c.self.inside.pending.items) (slice_index_or (rows_of w row_count (map slot_of c.self.inside.slots.items)) c.args.row []))) (sym (fresh_is (goal.at.returns-in_default-clause-rows c).After-push))
+    ∙ ap (λ p. slice_set p.rows c.len-fresh.result (with_pending c.args.place (take c.args.pending_len p.pending) (slice_index_or p.rows c.args.row []))) c.self.view_is
+
+-- where the last row that lost its users is taken
+
+mine : (c : In-Some) → (c.in-Some.fresh < length c.self.inside.ref_counts.items) × (c.in-Some.fresh ≢ 0) × (slice_index c.self.inside.ref_counts.items c.in-Some.fresh ≡ 0)
+mine c = last_free _ _ c.in-Some.fresh _ c.in-Some.ensures.items c.self.invariant.0.free
+
+fits : (c : In-Some) → c.in-Some.fresh * c.self.inside.slots_per_row + c.self.inside.slots_per_row ≤ length c.self.inside.slots.items
+fits c =
+    let le = row_fits c.self.inside.slots_per_row c.self.inside.slots_per_row (length c.self.inside.ref_counts.items) c.in-Some.fresh (mine c).0 (omega arith) in
+    omega (arith, le, c.self.invariant.0.slots)
+
+pub index_mut-requires : goal.index_mut-requires
+index_mut-requires c = omega (arith, (mine (goal.at.index_mut-requires c).In-Some).0, c.self.inside.ref_counts.ok.0)
+
+pub overflow_mul-to : goal.overflow_mul-to
+overflow_mul-to c = omega (arith, fits (goal.at.overflow_mul-to c).In-Some, c.self.inside.slots.ok.0)
+
+pub copy_row-requires-clause-from : goal.copy_row-requires-clause-from
+copy_row-requires-clause-from c =
+    let w = c.self.inside.slots_per_row in
+    let le : c.args.row * w + w ≤ length c.self.inside.ref_counts.items * w = row_fits w w (length c.self.inside.ref_counts.items) c.args.row (known (goal.at.copy_row-requires-clause-from c).After-pop) (omega arith) in
+    omega (arith, le, c.self.invariant.0.slots, ap length c.deref_mut.ensures.value)
+
+pub copy_row-requires-clause-to : goal.copy_row-requires-clause-to
+copy_row-requires-clause-to c = omega (arith, fits (goal.at.copy_row-requires-clause-to c).In-Some, ap length c.deref_mut.ensures.value)
+
+pub copy_row-requires-clause-apart : goal.copy_row-requires-clause-apart
+copy_row-requires-clause-apart c =
+    let used : c.args.row ≢ 0 → 0 < slice_index c.self.inside.ref_counts.items c.args.row =
+    λ other. subst (λ n. 0 < n) (count_at c.self.inside.row_count c.self.inside.ref_counts.items c.args.row)
+    (subst (λ p. 0 < slice_index p.ref_counts c.args.row) (sym c.self.view_is) (c.requires.used other)) in
+    rows_meet c.self.inside.ref_counts.items c.self.inside.slots_per_row c.args.row c.in-Some.fresh used (mine (goal.at.copy_row-requires-clause-apart c).In-Some).1 (mine (goal.at.copy_row-requires-clause-apart c).In-Some).2
+  where
+    from_other : (ref_counts : List ℕ) (row fresh : ℕ) → (row ≢ 0 → 0 < slice_index ref_counts row) → fresh ≢ 0 → slice_index ref_counts fresh ≡ 0 → row ≡ fresh → ⊥
+    from_other ref_counts row fresh used other none e =
+        absurd (omega (arith, used (λ z. other (sym e ∙ z)), none, ap (slice_index ref_counts) e))
+
+    rows_meet : (ref_counts : List ℕ) (w row fresh : ℕ) → (row ≢ 0 → 0 < slice_index ref_counts row) → fresh ≢ 0 → slice_index ref_counts fresh ≡ 0 →
+        (row * w + w ≤ fresh * w) ⊎ (fresh * w + w ≤ row * w)
+    rows_meet ref_counts w row fresh used other none =
+        ⊎_elim (λ (a : row < fresh). inl (rows_apart w row fresh a))
+        (λ b. ⊎_elim (λ (d : fresh < row). inr (rows_apart w fresh row d)) (λ e. absurd (from_other ref_counts row fresh used other none e)) b)
+        (order row fresh)
+      where
+        order : (a b : ℕ) → (a < b) ⊎ ((b < a) ⊎ (a ≡ b))
+        order a b = grind (arith)
+
+same : (c : After-copy_row) → take c.self.inside.slots.len (c.copy_row.new.slots ++ drop (length c.copy_row.new.slots) c.self.inside.slots.items) ≡ c.copy_row.new.slots
+same c =
+    whole_again c.self.inside.slots.len c.copy_row.new.slots c.self.inside.slots.items (c.copy_row.auto.slots ∙ ap length c.deref_mut.ensures.value) c.self.inside.slots.ok.0
+
+pub invariant_of-self-2 : goal.invariant_of-self-2
+invariant_of-self-2 c =
+    let free : AreFree (c.pop.new.self.items ++ c.in-Some.fresh ∷ []) c.self.inside.ref_counts.items =
+    subst (λ xs. AreFree xs c.self.inside.ref_counts.items) c.in-Some.ensures.items c.self.invariant.0.free in
+    let len : length c.copy_row.new.slots ≡ length c.self.inside.slots.items = c.copy_row.auto.slots ∙ ap length c.deref_mut.ensures.value in
+    rw (same (goal.at.invariant_of-self-2 c).After-copy_row) (
+      record {
+        free = taken c.pop.new.self.items c.self.inside.ref_counts.items c.in-Some.fresh free;
+        few = subst (λ n. n ≤ c.self.inside.row_count) (sym (length-set _ _ _)) c.self.invariant.0.few;
+        slots = len ∙ c.self.invariant.0.slots ∙ ap (λ n. n * c.self.inside.slots_per_row) (sym (length-set _ _ _));
+        wide = c.self.invariant.0.wide;
+      },
+      c.self.invariant.1,
+      c.self.invariant.2,
+      omega (arith, c.self.invariant.3, c.pop.ensures.capacity),
+    )
+
+pub returns-clause-known : goal.returns-clause-known
+returns-clause-known c =
+    subst (λ p. c.in-Some.fresh < length p.ref_counts) c.self.view_is
+    (omega (arith, (mine (goal.at.returns-clause-known c).In-Some).0, c.self.invariant.0.few, length-ref_counts_of c.self.inside.row_count c.self.inside.ref_counts.items c.self.invariant.0.few))
+
+pub returns-clause-fresh : goal.returns-clause-fresh
+returns-clause-fresh c =
+    subst (λ p. slice_index p.ref_counts c.in-Some.fresh ≡ 0) c.self.view_is
+    (count_at c.self.inside.row_count c.self.inside.ref_counts.items c.in-Some.fresh ∙ (mine (goal.at.returns-clause-fresh c).In-Some).2)
+
+pub returns-clause-other : goal.returns-clause-other
+returns-clause-other c = (mine (goal.at.returns-clause-other c).In-Some).1
+
+pub returns-clause-ref_counts : goal.returns-clause-ref_counts
+returns-clause-ref_counts c =
+    count_set c.self.inside.row_count c.self.inside.ref_counts.items c.in-Some.fresh 1 (mine (goal.at.returns-clause-ref_counts c).In-Some).0
+    ∙ ap (λ p. slice_set p.ref_counts c.in-Some.fresh 1) c.self.view_is
+
+pub returns-clause-rows : goal.returns-clause-rows
+returns-clause-rows c =
+    let w = c.self.inside.slots_per_row in
+    let row_count = c.self.inside.row_count in
+    let to = c.in-Some.fresh * c.self.inside.slots_per_row in
+    let from = c.args.row * c.self.inside.slots_per_row in
+    ap (λ slots. rows_of w row_count (map slot_of slots)) (same (goal.at.returns-clause-rows c).After-copy_row ∙ c.copy_row.ensures)
+    ∙ ap₂ (λ (d : List ℕ) (ks : List ℕ). rows_of w row_count (map slot_of (take to d ++ (with_words c.args.place (take c.args.pending_len ks) (take w (drop from d)) ++ drop (to + w) d))))
+    c.deref_mut.ensures.value c.deref-2.ensures.value
+    ∙ words_copied w row_count (length c.self.inside.ref_counts.items) c.args.row c.args.place (take c.args.pending_len c.self.inside.pending.items) c.self.inside.slots.items
+    c.requires.place (known (goal.at.returns-clause-rows c).After-pop) c.self.invariant.0.slots c.in-Some.fresh (mine (goal.at.returns-clause-rows c).In-Some).0 c.self.invariant.0.few
+    ∙ ap (λ p. slice_set p.rows c.in-Some.fresh (with_pending c.args.place (take c.args.pending_len p.pending) (slice_index_or p.rows c.args.row []))) c.self.view_is

@@ -1,0 +1,59 @@
+use Rattle.std.proofs.Common.{◌≡◌, ◌<◌, ◌-◌, ◌∷◌, ◌++◌, [], ap, sym, ◌∙◌, subst, length, arith, cond, vec_len, vec_capacity}
+use Rattle.std.specs.Prelude.{slice_index, slice_set}
+use Rattle.std.proofs.lemmas.List.{get_or_default}
+use Rattle.bites_machine.specs.SlotTable.{one_less}
+use Rattle.bites_machine.proofs.FreeLemmas.{is_taken, count_at, count_less, taken_set, recounted, freed}
+use Rattle.bites_machine.proofs.vm.slot_table.SlotTable.release.Goals as goal
+use Rattle.bites_machine.proofs.vm.slot_table.SlotTable.release.Goals.{After-index_mut}
+
+known : (c : After-index_mut) → c.args.row < length c.self.inside.ref_counts.items
+known c =
+    is_taken c.self.inside.row_count c.self.inside.free.items c.self.inside.ref_counts.items c.args.row c.self.invariant.0.free
+    (λ other. subst (λ p. 0 < slice_index p.ref_counts c.args.row) (sym c.self.view_is) (c.requires.used other))
+
+used : (c : After-index_mut) → 0 < slice_index c.self.inside.ref_counts.items c.args.row
+used c =
+    subst (λ n. 0 < n) (count_at c.self.inside.row_count c.self.inside.ref_counts.items c.args.row)
+    (subst (λ p. 0 < slice_index p.ref_counts c.args.row) (sym c.self.view_is) (c.requires.used c.if-row-eq0.false))
+
+was : (c : After-index_mut) → c.index.result.now ≡ slice_index c.self.inside.ref_counts.items c.args.row
+was c = c.index.ensures ∙ get_or_default c.self.inside.ref_counts.items c.args.row c.index.result.now 0 (known c)
+
+has_room : (c : goal.After-push) → vec_len c.self.inside.free < vec_capacity c.self.inside.free
+has_room c = omega (arith, c.self.invariant.0.free.number, c.self.invariant.0.few, c.self.invariant.3, c.self.inside.free.ok.0)
+
+push_items : (c : goal.After-push) → c.push.new.self.items ≡ c.self.inside.free.items ++ c.args.row ∷ []
+push_items c =
+    c.push.ensures.items ∙ ap (λ b. cond b (c.self.inside.free.items ++ c.args.row ∷ []) c.self.inside.free.items) (c.push.ensures.succeeds (has_room c))
+
+pub invariant_of-self : goal.invariant_of-self
+invariant_of-self c =
+    let count : slice_set c.self.inside.ref_counts.items c.args.row (c.index.result.now - 1) ≡ slice_set c.self.inside.ref_counts.items c.args.row 0 =
+    ap (slice_set c.self.inside.ref_counts.items c.args.row) c.if-count-eq0.true in
+    rw (count, push_items c) (
+      taken_set c.self.inside.row_count c.self.inside.slots_per_row c.self.inside.max_slots c.args.row 0 _ _ _ _ c.self.invariant.0
+          (freed _ _ _ c.self.invariant.0.free (known (goal.at.invariant_of-self c).After-index_mut) c.if-row-eq0.false (used (goal.at.invariant_of-self c).After-index_mut)),
+      c.self.invariant.1,
+      c.self.invariant.2,
+      omega (arith, c.self.invariant.3, c.push.ensures.capacity),
+    )
+
+pub invariant_of-self-else-count-eq0 : goal.invariant_of-self-else-count-eq0
+invariant_of-self-else-count-eq0 c =
+    let some : 0 < c.index.result.now - 1 = omega (arith, c.if-count-eq0.false) in (
+      taken_set c.self.inside.row_count c.self.inside.slots_per_row c.self.inside.max_slots c.args.row _ _ _ _ _ c.self.invariant.0
+          (recounted _ _ _ _ c.self.invariant.0.free (known (goal.at.invariant_of-self-else-count-eq0 c).After-index_mut) c.if-row-eq0.false (used (goal.at.invariant_of-self-else-count-eq0 c).After-index_mut) some),
+      c.self.invariant.1,
+      c.self.invariant.2,
+      c.self.invariant.3,
+    )
+
+pub returns-then-count-eq0-clause-ref_counts : goal.returns-then-count-eq0-clause-ref_counts
+returns-then-count-eq0-clause-ref_counts c =
+    count_less c.self.inside.row_count c.self.inside.ref_counts.items c.args.row c.index.result.now c.if-row-eq0.false (known (goal.at.returns-then-count-eq0-clause-ref_counts c).After-index_mut) (was (goal.at.returns-then-count-eq0-clause-ref_counts c).After-index_mut)
+    ∙ ap (λ p. one_less p.ref_counts c.args.row) c.self.view_is
+
+pub returns-else-count-eq0-clause-ref_counts : goal.returns-else-count-eq0-clause-ref_counts
+returns-else-count-eq0-clause-ref_counts c =
+    count_less c.self.inside.row_count c.self.inside.ref_counts.items c.args.row c.index.result.now c.if-row-eq0.false (known (goal.at.returns-else-count-eq0-clause-ref_counts c).After-index_mut) (was (goal.at.returns-else-count-eq0-clause-ref_counts c).After-index_mut)
+    ∙ ap (λ p. one_less p.ref_counts c.args.row) c.self.view_is

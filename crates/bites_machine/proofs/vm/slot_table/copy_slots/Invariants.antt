@@ -1,0 +1,7 @@
+use Rattle.std.proofs.Common.{◌≡◌, map}
+use lib.Seq.{paste}
+use Rattle.bites_machine.specs.SlotTable.{slot_of}
+use Rattle.bites_machine.proofs.vm.slot_table.copy_slots.Given as goal
+
+abbrev pub invariant-loop-k : goal.invariant-loop-k
+invariant-loop-k l = l.slots ≡ paste l.initial.slots 0 (map slot_of l.row) l.k

@@ -1,0 +1,66 @@
+-- What the code of the machine works with, as the machine on lists has it.
+use Rattle.std.specs.Prelude.{◌≡◌, ℕ, ◌+◌, ◌≤◌, List, [], ◌∷◌, ◌++◌, map, take, length, Option, option_map, sum}
+use Rattle.bites_spec.specs.Walks.{Among}
+use Rattle.bites_machine.specs.Machine as machine
+use Rattle.bites_machine.specs.SlotTable.{Pool, with_pending}
+use Rattle.bites_machine.specs.Used.{IsUsed, KeepsRows, slots_at}
+use Rattle.bites_machine.specs.declared.vm.threads.Thread.{Thread}
+use Rattle.bites_machine.specs.declared.vm.stack.Frame.{Frame}
+use Rattle.bites_machine.specs.declared.vm.closure.FirstMatch.{FirstMatch}
+use Rattle.bites_machine.specs.declared.vm.closure.Scratch.{Scratch}
+
+-- a thread with its row
+abbrev pub thread_of : Pool → Thread → machine.Thread
+thread_of pool t = record { state = t.state; start = t.start; slots = slots_at pool t.row }
+
+-- the threads that took the piece
+abbrev pub next_of : Scratch → List machine.Thread
+next_of scratch = map (thread_of scratch.rows) scratch.next.threads
+
+-- a thread that was explored as far as a frame
+abbrev pub frame_of : ℕ → Pool → Thread → Frame → machine.Thread
+frame_of place pool t f = record { state = f.state; start = t.start; slots = with_pending place (take f.pending_len pool.pending) (slots_at pool t.row) }
+
+-- the thread that came to a match, with what it left in the slice
+abbrev pub first_match_of : Option FirstMatch → List (Option ℕ) → Option machine.Thread
+first_match_of first_match slots = option_map (λ h. record { state = h.state; start = h.start; slots = slots }) first_match
+
+-- The closures of a place: the frames of the thread that is explored, the first of them now, and the threads behind it.
+abbrev pub walking_of : ℕ → Thread → Scratch → List (Option ℕ) → List Frame → List machine.Thread → List ℕ → ℕ → machine.Walking
+walking_of place t scratch slots frames rest seen looks = record {
+  stack = map (frame_of place scratch.rows t) frames ++ rest;
+  seen = seen;
+  next = next_of scratch;
+  first_match = first_match_of scratch.first_match slots;
+  looks = looks;
+}
+
+-- the row of a thread
+abbrev pub row_of : Thread → ℕ
+row_of t = t.row
+
+-- the rows that are used while a thread is explored: its own, those of the threads that took the piece, and others
+abbrev pub users_of : Scratch → Thread → List ℕ → List ℕ
+users_of scratch t others = t.row ∷ (map row_of scratch.next.threads ++ others)
+
+-- nothing but rows and the threads that took the piece has changed
+pub record OnlyForks (old new : Scratch) : Type 0 where
+  pub visited_set : new.visited_set ≡ old.visited_set
+  pub stack : new.stack ≡ old.stack
+  pub first_match : new.first_match ≡ old.first_match
+  pub room : new.next.room ≡ old.next.room
+  pub pending : new.rows.pending ≡ old.rows.pending
+  pub slots_per_row : new.rows.slots_per_row ≡ old.rows.slots_per_row
+  pub max_slots : new.rows.max_slots ≡ old.rows.max_slots
+  pub kept : KeepsRows old.rows new.rows
+  pub rows : length new.rows.ref_counts ≡ length old.rows.ref_counts
+  pub sum : sum new.rows.ref_counts ≤ sum old.rows.ref_counts + 1
+
+-- the thread, explored as far as the frame, took the piece and continues from the target
+pub record AddsThread (place target pending_len : ℕ) (t : Thread) (old new : Scratch) : Type 0 where
+  pub only : OnlyForks old new
+  pub users : (others : List ℕ) → IsUsed old.rows (users_of old t others) → IsUsed new.rows (users_of new t others)
+  pub next : (others : List ℕ) → IsUsed old.rows (users_of old t others) →
+      next_of new ≡ next_of old ++ record { state = target; start = t.start; slots = with_pending place (take pending_len old.rows.pending) (slots_at old.rows t.row) } ∷ []
+  pub len : length new.next.threads ≡ length old.next.threads + 1
+  pub threads : (row : ℕ) → Among (map row_of old.next.threads) row → Among (map row_of new.next.threads) row

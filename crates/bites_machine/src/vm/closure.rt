@@ -1,0 +1,360 @@
+//! The epsilon closure of one thread at one place.
+
+ghost use Rattle.bites_machine.specs.Used.{IsUsed, slots_at};
+ghost use Rattle.bites_machine.specs.SlotTable.{no_slot, with_pending};
+ghost use Rattle.bites_machine.specs.Visits.{lets_on};
+ghost use Rattle.bites_syntax.specs.View.{look_of};
+ghost use Rattle.std.specs.Option.{option_or};
+ghost use Rattle.bites_machine.specs.Scratch.{users_of, AddsThread};
+ghost use Rattle.bites_machine.specs.Visits.{takes_by, ArePending, IsStarted, VisitsTo};
+ghost use Rattle.bites_machine.specs.Explore.{AreSound, IsReady, Explores};
+ghost use Rattle.bites_machine.specs.Sweep.{ClosesFrames};
+ghost use Rattle.bites_machine.specs.Ends.{next_character};
+ghost use Rattle.bites_spec.specs.Utf8.{piece};
+ghost use Rattle.bites_machine.specs.States.{states_of};
+ghost use Rattle.bites_spec.specs.Range.{in_ranges};
+ghost use Rattle.bites_spec.specs.Walks.{IsNew};
+ghost use Rattle.std.specs.Bool.{MatchBool};
+ghost use Rattle.bites_machine.specs.Framed.{framed, frame_at};
+ghost use Rattle.std.specs.Prelude.{◌≡◌, ◌≢◌, ℕ, ◌+◌, ◌++◌, ◌∷◌, ◌<◌, ◌≤◌, ◌==◌, List, [], drop, take, length, Some, if◌then◌else◌, is_some, option_map, sum, slice_index, option_to_list};
+ghost use Rattle.bites_spec.specs.Program as program;
+ghost use Rattle.bites_spec.specs.Program.{targets_of, at, state_at, HasRanges, AreRanges};
+
+use super::counted::Counted;
+use super::slot_table::SlotTable;
+use super::stack::{Frame, Stack};
+use super::state_set::StateSet;
+use super::threads::{Thread, Threads};
+use crate::ranges::Ranges;
+use crate::state::State;
+use crate::targets::Targets;
+use bites_syntax::look::Look;
+use std::alloc::{AllocError, Global};
+
+/// A place of the haystack, with the character of its piece, the length of the piece, and whether the longest run is
+/// asked for.
+#[derive(Clone, Copy, Drop)]
+pub struct Position<'h> {
+    pub haystack: &'h [u8],
+    pub place: usize,
+    pub ch: Option<char>,
+    pub ch_len: usize,
+    pub longest: bool,
+}
+
+/// The first thread that reached a match at a place: its state, and the place where it was started.
+#[derive(Clone, Copy, Drop)]
+pub struct FirstMatch {
+    pub state: u32,
+    pub start: usize,
+}
+
+/// What the closures of one place work with. All but the rows of slots is empty when a place begins.
+#[derive(Drop)]
+pub struct Scratch {
+    pub visited_set: StateSet,
+    pub stack: Stack,
+    pub rows: SlotTable,
+    pub next: Threads,
+    pub first_match: Option<FirstMatch>,
+}
+
+// Visits a state that was not visited at this place, and follows it. Returns the frame that is explored next, if the state
+// leads to one.
+#[inline(always)]
+fn follow(
+    counted: &mut Counted<'_>,
+    scratch: &mut Scratch,
+    here: &Position<'_>,
+    thread: Thread,
+    frame: Frame,
+    slots: &mut [Option<usize>],
+) -> Option<Frame>
+    requires known { frame.state < length counted.old.states.now }
+    requires fresh { IsNew (at frame.state here.now.place) counted.old.walked.visits }
+    requires place { here.now.place ≤ length here.now.haystack.now }
+    requires ch { here.now.ch ≡ next_character here.now.haystack.now here.now.place }
+    requires ranges { HasRanges (state_at (states_of counted.old.states.now) frame.state) }
+    requires stack { length scratch.old.stack.frames + length (targets_of
+        (state_at (states_of counted.old.states.now) frame.state)) ≤ scratch.old.stack.room }
+    requires next { length scratch.old.next.threads < scratch.old.next.room }
+    requires used { (others : List ℕ) × IsUsed scratch.old.rows (users_of scratch.old thread others) }
+    requires pending_len { frame.pending_len < length scratch.old.rows.pending }
+    requires pending { ArePending scratch.old.rows frame.pending_len (frame ∷ scratch.old.stack.frames) }
+    requires rows { sum scratch.old.rows.ref_counts + 1 < length scratch.old.rows.ref_counts }
+    requires slots_per_row { length slots.old ≡ scratch.old.rows.slots_per_row }
+    requires starts { IsStarted here.now.longest thread.start scratch.old.first_match }
+    ensures visits { counted.new.walked.visits
+        ≡ at frame.state here.now.place ∷ counted.old.walked.visits }
+    ensures looks { counted.new.walked.looks ≡ counted.old.walked.looks }
+    ensures states { counted.new.states ≡ counted.old.states }
+    ensures moves { VisitsTo here.now.haystack.now here.now.longest here.now.place
+        (state_at (states_of counted.old.states.now) frame.state)
+        thread frame scratch.old scratch.new slots.old slots.new result }
+{
+    let pending_len = frame.pending_len;
+    match counted.visit(frame.state, here.place) {
+        State::Char { target, ch } => {
+            let takes = takes_char(here.ch, *ch);
+            step_char(scratch, here.place, thread, pending_len, *target, takes);
+            None
+        }
+        State::Ranges { target, ranges } => {
+            let takes = takes_range(here.ch, ranges);
+            step_char(scratch, here.place, thread, pending_len, *target, takes);
+            None
+        }
+        State::Splits { targets, reverse } => {
+            split(&mut scratch.stack, targets, *reverse, pending_len)
+        }
+        State::Goto { target, look } => {
+            let state = *target;
+            if holds(look, here) {
+                Some(Frame { state, pending_len })
+            } else {
+                None
+            }
+        }
+        State::Capture { target, slot } => {
+            let state = *target;
+            let pending_len = scratch.rows.set_pending(pending_len, *slot, slots.len());
+            Some(Frame { state, pending_len })
+        }
+        State::Fail => None,
+        State::Match => {
+            record_match(scratch, here.place, thread, frame, here.longest, slots);
+            None
+        }
+    }
+}
+
+// Whether the character is the one that stands here.
+#[inline(always)]
+fn takes_char(taken: Option<char>, ch: char) -> bool
+    ensures { result ≡ takes_by (λ d. d == ch) taken }
+{
+    match taken {
+        None => false,
+        Some(here) => here == ch,
+    }
+}
+
+// Whether the character that stands here is in the ranges.
+#[inline(always)]
+fn takes_range(taken: Option<char>, ranges: &Ranges) -> bool
+    requires { AreRanges ranges.now }
+    ensures { result ≡ takes_by (in_ranges ranges.now) taken }
+{
+    match taken {
+        None => false,
+        Some(here) => ranges.takes(here),
+    }
+}
+
+// Adds a thread to those of the next place, if the character is taken.
+#[inline(always)]
+fn step_char(
+    scratch: &mut Scratch,
+    place: usize,
+    thread: Thread,
+    pending_len: usize,
+    target: u32,
+    takes: bool,
+)
+    requires room { length scratch.old.next.threads < scratch.old.next.room }
+    requires used { (others : List ℕ) × IsUsed scratch.old.rows (users_of scratch.old thread others) }
+    requires pending_len { pending_len ≤ length scratch.old.rows.pending }
+    requires slots { (k : ℕ) → k < pending_len →
+        slice_index scratch.old.rows.pending k < scratch.old.rows.slots_per_row }
+    requires rows { sum scratch.old.rows.ref_counts + 1 < length scratch.old.rows.ref_counts }
+    requires place { place < no_slot }
+    ensures { MatchBool takes (AddsThread place target pending_len thread scratch.old scratch.new)
+        (scratch.new ≡ scratch.old) }
+{
+    if takes {
+        add_thread(scratch, place, thread, pending_len, target);
+    }
+}
+
+// Whether the assertion holds here, if there is one.
+#[inline(always)]
+fn holds(look: &Option<Look>, here: &Position<'_>) -> bool
+    requires { here.now.place ≤ length here.now.haystack.now }
+    ensures { result ≡ lets_on (option_map look_of look.now)
+        here.now.haystack.now here.now.place }
+{
+    match look {
+        None => true,
+        Some(look) => look.is_match(here.haystack, here.place),
+    }
+}
+
+// Where a split leads: to the preferred target, and the others wait on the stack.
+#[inline(always)]
+fn split(stack: &mut Stack, targets: &Targets, reverse: bool, pending_len: usize) -> Option<Frame>
+    requires { length stack.old.frames + length targets.now ≤ stack.old.room }
+    ensures frames { option_to_list result ++ stack.new.frames
+        ≡ framed pending_len (targets_of (program.splits targets.now reverse)) ++ stack.old.frames }
+    ensures room { stack.new.room ≡ stack.old.room }
+{
+    if targets.len() == 0 {
+        return None;
+    }
+    push_others(stack, targets, reverse, pending_len);
+    let state = targets.preferred(reverse);
+    Some(Frame { state, pending_len })
+}
+
+// All targets but the preferred one, so that of these the preferred one is uppermost.
+#[inline(always)]
+fn push_others(stack: &mut Stack, targets: &Targets, reverse: bool, pending_len: usize)
+    requires { length stack.old.frames + length targets.now ≤ stack.old.room }
+    ensures frames { stack.new.frames ≡ framed pending_len
+        (drop 1 (targets_of (program.splits targets.now reverse))) ++ stack.old.frames }
+    ensures room { stack.new.room ≡ stack.old.room }
+{
+    if targets.len() == 2 {
+        let state = targets.least_preferred(reverse);
+        stack.push(Frame { state, pending_len });
+    } else {
+        push_each(stack, targets, reverse, pending_len);
+    }
+}
+
+#[inline(never)]
+fn push_each(stack: &mut Stack, targets: &Targets, reverse: bool, pending_len: usize)
+    requires { length stack.old.frames + length targets.now ≤ stack.old.room }
+    ensures frames { stack.new.frames ≡ framed pending_len
+        (drop 1 (targets_of (program.splits targets.now reverse))) ++ stack.old.frames }
+    ensures room { stack.new.room ≡ stack.old.room }
+{
+    let mut number = targets.len();
+    while number > 1 {
+        number -= 1;
+        let state = targets.in_order(reverse, number);
+        stack.push(Frame { state, pending_len });
+    }
+}
+
+// Adds a thread to those of the next place: it took the character and continues from the target.
+#[inline(always)]
+fn add_thread(scratch: &mut Scratch, place: usize, thread: Thread, pending_len: usize, target: u32)
+    requires room { length scratch.old.next.threads < scratch.old.next.room }
+    requires used { (others : List ℕ) × IsUsed scratch.old.rows (users_of scratch.old thread others) }
+    requires pending_len { pending_len ≤ length scratch.old.rows.pending }
+    requires slots { (k : ℕ) → k < pending_len →
+        slice_index scratch.old.rows.pending k < scratch.old.rows.slots_per_row }
+    requires rows { sum scratch.old.rows.ref_counts + 1 < length scratch.old.rows.ref_counts }
+    requires place { place < no_slot }
+    ensures { AddsThread place target pending_len thread scratch.old scratch.new }
+{
+    let row = scratch.rows.fork(thread.row, pending_len, place);
+    scratch.next.push(Thread {
+        state: target,
+        row,
+        start: thread.start,
+    });
+}
+
+// Records that the thread reached a match. Its slots are written if it is the first one at this place.
+#[inline(always)]
+fn record_match(
+    scratch: &mut Scratch,
+    place: usize,
+    thread: Thread,
+    frame: Frame,
+    longest: bool,
+    slots: &mut [Option<usize>],
+)
+    requires known { thread.row < length scratch.old.rows.ref_counts }
+    requires used { thread.row ≢ 0 → 0 < slice_index scratch.old.rows.ref_counts thread.row }
+    requires pending_len { frame.pending_len ≤ length scratch.old.rows.pending }
+    requires pending { (k : ℕ) → k < frame.pending_len →
+        slice_index scratch.old.rows.pending k < scratch.old.rows.slots_per_row }
+    requires slots_per_row { length slots.old ≡ scratch.old.rows.slots_per_row }
+    ensures first_match { scratch.new.first_match ≡ option_or scratch.old.first_match
+        (Some (record { state = frame.state; start = thread.start })) }
+    ensures slots { slots.new ≡ (if is_some scratch.old.first_match then slots.old
+        else with_pending place (take frame.pending_len scratch.old.rows.pending)
+        (slots_at scratch.old.rows thread.row)) }
+    ensures frames { scratch.new.stack.frames ≡ (if longest then scratch.old.stack.frames else []) }
+    ensures room { scratch.new.stack.room ≡ scratch.old.stack.room }
+    ensures visited_set { scratch.new.visited_set ≡ scratch.old.visited_set }
+    ensures rows { scratch.new.rows ≡ scratch.old.rows }
+    ensures next { scratch.new.next ≡ scratch.old.next }
+{
+    if scratch.first_match.is_none() {
+        scratch
+            .rows
+            .write_match(thread.row, frame.pending_len, place, slots);
+        scratch.first_match = Some(FirstMatch {
+            state: frame.state,
+            start: thread.start,
+        });
+    }
+    if !longest {
+        scratch.stack.clear();
+    }
+}
+
+// One step: explores a state, and visits it if it was not visited at this place. Returns the frame that is explored next.
+#[inline(always)]
+fn explore(
+    counted: &mut Counted<'_>,
+    scratch: &mut Scratch,
+    here: &Position<'_>,
+    thread: Thread,
+    frame: Frame,
+    slots: &mut [Option<usize>],
+) -> Option<Frame>
+    requires place { here.now.place ≤ length here.now.haystack.now }
+    requires ch { here.now.ch ≡ next_character here.now.haystack.now here.now.place }
+    requires sound { AreSound (states_of counted.old.states.now) }
+    requires ready { IsReady (states_of counted.old.states.now) here.now.place here.now.longest
+        counted.old.walked scratch.old thread (frame ∷ scratch.old.stack.frames) (length slots.old) }
+    requires used { (others : List ℕ) × IsUsed scratch.old.rows (users_of scratch.old thread others) }
+    ensures states { counted.new.states ≡ counted.old.states }
+    ensures looks { Explores here.now.haystack.now here.now.longest here.now.place
+        (states_of counted.old.states.now) thread frame
+        counted.old.walked counted.new.walked scratch.old scratch.new slots.old slots.new result }
+{
+    counted.step();
+    if !scratch.visited_set.insert(frame.state) {
+        return scratch.stack.pop();
+    }
+    match follow(counted, scratch, here, thread, frame, slots) {
+        Some(frame) => Some(frame),
+        None => scratch.stack.pop(),
+    }
+}
+
+// Explores all states that a thread reaches without taking a character, and releases its row.
+#[inline(always)]
+pub(super) fn epsilon_closure(
+    counted: &mut Counted<'_>,
+    scratch: &mut Scratch,
+    here: &Position<'_>,
+    thread: Thread,
+    slots: &mut [Option<usize>],
+)
+    requires place { here.now.place ≤ length here.now.haystack.now }
+    requires ch { here.now.ch ≡ next_character here.now.haystack.now here.now.place }
+    requires sound { AreSound (states_of counted.old.states.now) }
+    requires empty { scratch.old.stack.frames ≡ [] }
+    requires ready { IsReady (states_of counted.old.states.now) here.now.place here.now.longest
+        counted.old.walked scratch.old thread (frame_at 0 thread.state ∷ []) (length slots.old) }
+    requires used { (others : List ℕ) × IsUsed scratch.old.rows (users_of scratch.old thread others) }
+    ensures states { counted.new.states ≡ counted.old.states }
+    ensures walks { ClosesFrames here.now.haystack.now here.now.longest here.now.place
+        (states_of counted.old.states.now) thread counted.old.walked counted.new.walked
+        scratch.old scratch.new slots.old slots.new }
+{
+    let mut next = Some(Frame {
+        state: thread.state,
+        pending_len: 0,
+    });
+    while let Some(frame) = next {
+        next = explore(counted, scratch, here, thread, frame, slots);
+    }
+    scratch.rows.release(thread.row);
+}

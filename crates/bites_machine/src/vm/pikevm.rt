@@ -1,0 +1,401 @@
+//! The search: one step at each place, with its threads in order of preference.
+
+ghost use Rattle.std.specs.Prelude.{◌≡◌, ◌≢◌, ℕ, ◌+◌, ◌++◌, ◌∷◌, ◌<◌, ◌≤◌, ◌==◌, ◌||◌, ◌&&◌, if◌then◌else◌, Bool, List, [], IfSome, drop, length, None, Some, false, is_some, map, replicate, slice_index, sum};
+ghost use Rattle.bites_spec.specs.Utf8.{piece};
+ghost use Rattle.bites_spec.specs.Walks.{Among};
+ghost use Rattle.bites_spec.specs.Program as program;
+ghost use Rattle.bites_spec.specs.Program.{IsWellFormed};
+ghost use Rattle.bites_spec.specs.Counts.{Record, fit_of};
+ghost use Rattle.bites_machine.specs.Ends.{next_character};
+ghost use Rattle.bites_machine.specs.States.{states_of};
+ghost use Rattle.bites_machine.specs.Used.{IsUsed, slots_at};
+ghost use Rattle.bites_machine.specs.Scratch.{users_of, row_of};
+ghost use Rattle.bites_machine.specs.declared.vm.threads.Thread as thread;
+ghost use Rattle.bites_machine.specs.Explore.{AreSound};
+ghost use Rattle.bites_machine.specs.Cuts.{cuts};
+ghost use Rattle.bites_machine.specs.Anchored.{ThreadsSearched};
+ghost use Rattle.bites_machine.specs.Prefix.{IsPrefix};
+ghost use Rattle.bites_machine.specs.Sweep.{InvariantWithinStep, ClosesThread, ClosesThreads, ClosesAll, InvariantBetweenSteps, PassesIdle, PlaceSearched, PlacesSearched, IsOfProgram, HasRoom, IsIdle, IsProgramOf, SearchResult};
+
+use super::closure::{FirstMatch, Position, Scratch, epsilon_closure};
+use super::counted::Counted;
+use super::idle::{idle_prefix, skip};
+use super::slot_table::SlotTable;
+use super::threads::{Thread, Threads};
+use crate::prefix::StartPrefix;
+use bites_text::utf8::decode_lossy;
+
+/// What is searched for: runs that start in a state, from a place of the haystack on, and of these one with the least
+/// end, the longest of the first place, or else the first. The prefix is that of the state.
+#[derive(Clone, Copy, Drop)]
+pub struct Request<'h> {
+    pub haystack: &'h [u8],
+    pub start: usize,
+    pub first: u32,
+    pub prefix: Option<&'h StartPrefix>,
+    pub earliest: bool,
+    pub longest: bool,
+}
+
+// The place, with the character of its piece.
+#[inline(always)]
+#[tactic(auto, unfolding(bites_spec::specs::Utf8::piece))]
+pub(super) fn piece_at(haystack: &[u8], place: usize, longest: bool) -> Position<'_>
+    requires { place ≤ length haystack.now }
+    ensures haystack { result.haystack.now ≡ haystack.now }
+    ensures place { result.place ≡ place }
+    ensures longest { result.longest ≡ longest }
+    ensures ch { result.ch ≡ next_character haystack.now place }
+    ensures len { result.ch_len ≡ (piece haystack.now place).len }
+    ensures within { place + result.ch_len ≤ length haystack.now }
+{
+    let (ch, ch_len) = decode_lossy(&haystack[place..]);
+    let ch = if ch_len > 0 { Some(ch) } else { None };
+    Position {
+        haystack,
+        place,
+        ch,
+        ch_len,
+        longest,
+    }
+}
+
+// The thread that starts here in that state. Only the longest run asks where a thread was started.
+#[inline(always)]
+fn started(state: u32, here: &Position<'_>) -> Thread
+    ensures { result ≡ record {
+      state = state;
+      row = 0;
+      start = if here.now.longest then here.now.place else 0;
+    } }
+{
+    let start = if here.longest { here.place } else { 0 };
+    Thread {
+        state,
+        row: 0,
+        start,
+    }
+}
+
+// Whether a match that was found here cuts off a thread of that start.
+#[inline(always)]
+fn is_cut(first_match: &Option<FirstMatch>, longest: bool, start: usize) -> bool
+    ensures { result ≡ cuts longest start first_match.now }
+{
+    match first_match {
+        None => false,
+        Some(first_match) => !longest || start > first_match.start,
+    }
+}
+
+// Explores the closure of a thread at a place, unless a match that was found here cuts it off, and releases its row.
+#[inline(always)]
+fn close_thread(
+    counted: &mut Counted<'_>,
+    scratch: &mut Scratch,
+    here: &Position<'_>,
+    thread: Thread,
+    slots: &mut [Option<usize>],
+)
+    requires place { here.now.place ≤ length here.now.haystack.now }
+    requires ch { here.now.ch ≡ next_character here.now.haystack.now here.now.place }
+    requires sound { AreSound (states_of counted.old.states.now) }
+    requires known { thread.state < length counted.old.states.now }
+    requires within_step { InvariantWithinStep (states_of counted.old.states.now) here.now.place
+        counted.old.walked scratch.old (length slots.old) }
+    requires used { (others : List ℕ) × IsUsed scratch.old.rows (users_of scratch.old thread others) }
+    ensures states { counted.new.states ≡ counted.old.states }
+    ensures walks { ClosesThread here.now.haystack.now here.now.longest here.now.place
+        (states_of counted.old.states.now) thread counted.old.walked counted.new.walked
+        scratch.old scratch.new slots.old slots.new }
+{
+    if is_cut(&scratch.first_match, here.longest, thread.start) {
+        scratch.rows.release(thread.row);
+    } else {
+        epsilon_closure(counted, scratch, here, thread, slots);
+    }
+}
+
+// Explores the closures of the threads of a place, the preferred one first.
+#[inline(always)]
+fn close_threads(
+    counted: &mut Counted<'_>,
+    scratch: &mut Scratch,
+    here: &Position<'_>,
+    threads: &Threads,
+    slots: &mut [Option<usize>],
+)
+    requires place { here.now.place ≤ length here.now.haystack.now }
+    requires ch { here.now.ch ≡ next_character here.now.haystack.now here.now.place }
+    requires sound { AreSound (states_of counted.old.states.now) }
+    requires known { (t : thread.Thread) → Among threads.now.threads t
+        → t.state < length counted.old.states.now }
+    requires within_step { InvariantWithinStep (states_of counted.old.states.now) here.now.place
+        counted.old.walked scratch.old (length slots.old) }
+    requires used { IsUsed scratch.old.rows
+        (map row_of scratch.old.next.threads ++ map row_of threads.now.threads) }
+    ensures states { counted.new.states ≡ counted.old.states }
+    ensures walks { ClosesThreads here.now.haystack.now here.now.longest here.now.place
+        (states_of counted.old.states.now) threads.now.threads []
+        counted.old.walked counted.new.walked scratch.old scratch.new slots.old slots.new }
+{
+    let mut index = 0;
+    while index < threads.len() {
+        close_thread(counted, scratch, here, threads.at(index), slots);
+        index += 1;
+    }
+}
+
+// Explores the closures of the threads of a place, and after them that of the start, if it is given. Where the start
+// takes nothing its closure is not explored: what is left of its prefix is visited.
+#[inline(always)]
+fn close_all(
+    counted: &mut Counted<'_>,
+    scratch: &mut Scratch,
+    here: &Position<'_>,
+    threads: &Threads,
+    first: Option<u32>,
+    prefix: Option<&StartPrefix>,
+    slots: &mut [Option<usize>],
+)
+    requires place { here.now.place ≤ length here.now.haystack.now }
+    requires ch { here.now.ch ≡ next_character here.now.haystack.now here.now.place }
+    requires sound { AreSound (states_of counted.old.states.now) }
+    requires known { (t : thread.Thread) → Among threads.now.threads t
+        → t.state < length counted.old.states.now }
+    requires first { IfSome first (λ q. q < length counted.old.states.now) }
+    requires prefix { IfSome first (λ q. IfSome prefix (λ x.
+        IsPrefix (states_of counted.old.states.now) q x.now)) }
+    requires before { (v : program.Configuration) → Among counted.old.walked.visits v
+        → v.place < here.now.place }
+    requires within_step { InvariantWithinStep (states_of counted.old.states.now) here.now.place
+        counted.old.walked scratch.old (length slots.old) }
+    requires used { IsUsed scratch.old.rows
+        (map row_of scratch.old.next.threads ++ map row_of threads.now.threads) }
+    ensures states { counted.new.states ≡ counted.old.states }
+    ensures walks { ClosesAll here.now.haystack.now here.now.longest here.now.place
+        (states_of counted.old.states.now) first threads.now.threads
+        counted.old.walked counted.new.walked scratch.old scratch.new slots.old slots.new }
+{
+    close_threads(counted, scratch, here, threads, slots);
+    let Some(state) = first else {
+        return;
+    };
+    match idle_prefix(prefix, here, scratch) {
+        Some(prefix) => counted.visit_rest(prefix, here.place),
+        None => close_thread(counted, scratch, here, started(state, here), slots),
+    }
+}
+
+// Searches one place: its threads, and after them the start while nothing is found. The threads are then those of
+// the next place.
+#[inline(always)]
+pub(super) fn step_threads(
+    counted: &mut Counted<'_>,
+    scratch: &mut Scratch,
+    threads: &mut Threads,
+    here: &Position<'_>,
+    first: Option<u32>,
+    prefix: Option<&StartPrefix>,
+    slots: &mut [Option<usize>],
+)
+    requires place { here.now.place ≤ length here.now.haystack.now }
+    requires ch { here.now.ch ≡ next_character here.now.haystack.now here.now.place }
+    requires len { here.now.ch_len ≡ (piece here.now.haystack.now here.now.place).len }
+    requires program { IsOfProgram (states_of counted.old.states.now) first }
+    requires prefix { IfSome first (λ q. IfSome prefix (λ x.
+        IsPrefix (states_of counted.old.states.now) q x.now)) }
+    requires between { InvariantBetweenSteps (states_of counted.old.states.now) here.now.place
+        counted.old.walked scratch.old threads.old (length slots.old) }
+    ensures states { counted.new.states ≡ counted.old.states }
+    ensures searched { PlaceSearched here.now.haystack.now here.now.longest here.now.place
+        here.now.ch_len (states_of counted.old.states.now) first counted.old.walked
+        counted.new.walked scratch.old scratch.new threads.old.threads threads.new.threads
+        slots.old slots.new }
+    ensures alone { first ≡ None → ThreadsSearched here.now.haystack.now here.now.longest
+        here.now.place here.now.ch_len (states_of counted.old.states.now) counted.old.walked
+        counted.new.walked scratch.old scratch.new threads.old.threads threads.new.threads
+        slots.old slots.new }
+    ensures between { InvariantBetweenSteps (states_of counted.old.states.now) (here.now.place + 1)
+        counted.new.walked scratch.new threads.new (length slots.new) }
+    ensures max_slots { scratch.new.rows.max_slots ≡ scratch.old.rows.max_slots }
+    ensures len { length slots.new ≡ length slots.old }
+{
+    scratch.visited_set.clear();
+    scratch.next.clear();
+    scratch.first_match = None;
+    scratch.rows.first_is_free();
+    close_all(counted, scratch, here, threads, first, prefix, slots);
+    threads.swap(&mut scratch.next);
+}
+
+// Skips the places where the closure of the start leaves nothing, if the start is given and no thread is alive.
+#[inline(always)]
+fn skip_idle<'h>(
+    counted: &mut Counted<'_>,
+    from: Position<'h>,
+    first: Option<u32>,
+    threads: usize,
+    prefix: Option<&StartPrefix>,
+) -> Position<'h>
+    requires place { from.place ≤ length from.haystack.now }
+    requires within { from.place + from.ch_len ≤ length from.haystack.now }
+    requires ch { from.ch ≡ next_character from.haystack.now from.place }
+    requires len { from.ch_len ≡ (piece from.haystack.now from.place).len }
+    requires prefix { IfSome first (λ q. IfSome prefix (λ x.
+        IsPrefix (states_of counted.old.states.now) q x.now)) }
+    requires before { (v : program.Configuration) → Among counted.old.walked.visits v
+        → v.place < from.place }
+    ensures states { counted.new.states ≡ counted.old.states }
+    ensures haystack { result.haystack.now ≡ from.entry.haystack.now }
+    ensures longest { result.longest ≡ from.entry.longest }
+    ensures onward { from.entry.place ≤ result.place }
+    ensures within { result.place + result.ch_len ≤ length from.entry.haystack.now }
+    ensures ch { result.ch ≡ next_character from.entry.haystack.now result.place }
+    ensures len { result.ch_len ≡ (piece from.entry.haystack.now result.place).len }
+    ensures before { (v : program.Configuration) → Among counted.new.walked.visits v
+        → v.place < result.place }
+    ensures passes { PassesIdle from.entry.haystack.now from.entry.longest from.entry.place
+        result.place (states_of counted.old.states.now) first threads
+        counted.old.walked counted.new.walked }
+{
+    match first {
+        Some(state) if threads == 0 => skip(counted, from, state, prefix),
+        _ => from,
+    }
+}
+
+// Skips places if no thread is alive and nothing is found, and searches the next one. Returns the place that was searched.
+// The threads are then those of the place after it.
+#[inline(always)]
+fn step<'h>(
+    counted: &mut Counted<'_>,
+    scratch: &mut Scratch,
+    threads: &mut Threads,
+    here: Position<'h>,
+    first: Option<u32>,
+    prefix: Option<&StartPrefix>,
+    slots: &mut [Option<usize>],
+) -> Position<'h>
+    requires place { here.place ≤ length here.haystack.now }
+    requires within { here.place + here.ch_len ≤ length here.haystack.now }
+    requires ch { here.ch ≡ next_character here.haystack.now here.place }
+    requires len { here.ch_len ≡ (piece here.haystack.now here.place).len }
+    requires program { IsOfProgram (states_of counted.old.states.now) first }
+    requires prefix { IfSome first (λ q. IfSome prefix (λ x.
+        IsPrefix (states_of counted.old.states.now) q x.now)) }
+    requires between { InvariantBetweenSteps (states_of counted.old.states.now) here.place
+        counted.old.walked scratch.old threads.old (length slots.old) }
+    ensures states { counted.new.states ≡ counted.old.states }
+    ensures onward { here.entry.place ≤ result.place }
+    ensures within { result.place + result.ch_len ≤ length here.entry.haystack.now }
+    ensures len { result.ch_len ≡ (piece here.entry.haystack.now result.place).len }
+    ensures searched { PlacesSearched here.entry.haystack.now here.entry.longest here.entry.place
+        result.place (states_of counted.old.states.now) first counted.old.walked
+        counted.new.walked scratch.old scratch.new threads.old.threads threads.new.threads
+        slots.old slots.new }
+    ensures between { InvariantBetweenSteps (states_of counted.old.states.now) (result.place + 1)
+        counted.new.walked scratch.new threads.new (length slots.new) }
+    ensures max_slots { scratch.new.rows.max_slots ≡ scratch.old.rows.max_slots }
+    ensures slots { length slots.new ≡ length slots.old }
+{
+    let here = skip_idle(counted, here, first, threads.len(), prefix);
+    step_threads(counted, scratch, threads, &here, first, prefix, slots);
+    here
+}
+
+// The state where runs start, while nothing is found.
+#[inline(always)]
+fn first_of(is_found: bool, first: u32) -> Option<u32>
+    ensures { result ≡ (if is_found then None else Some first) }
+{
+    if is_found { None } else { Some(first) }
+}
+
+// Whether a match was found, at this place or before.
+#[inline(always)]
+pub(super) fn is_found_with(is_found: bool, first_match: &Option<FirstMatch>) -> bool
+    ensures { result ≡ (is_found || is_some first_match.now) }
+{
+    is_found || first_match.is_some()
+}
+
+// Whether a search is over behind a place with a piece of that length, where so many threads are left.
+#[inline(always)]
+fn is_over(len: usize, is_found: bool, earliest: bool, threads: usize) -> bool
+    ensures { result ≡ ((len == 0) || (is_found && (earliest || (threads == 0)))) }
+{
+    len == 0 || (is_found && (earliest || threads == 0))
+}
+
+/// Searches from a place on, with the threads of each place in turn. Answers whether a match was found,
+/// whose slots are then in the slice.
+#[inline(always)]
+pub(super) fn search(
+    counted: &mut Counted<'_>,
+    scratch: &mut Scratch,
+    threads: &mut Threads,
+    request: &Request<'_>,
+    slots: &mut [Option<usize>],
+) -> bool
+    requires start { request.now.start ≤ length request.now.haystack.now }
+    requires visits { counted.old.walked.visits ≡ [] }
+    requires looks { counted.old.walked.looks ≡ 0 }
+    requires program { (p : program.Program) × IsProgramOf p (states_of counted.old.states.now)
+        request.now.first × HasRoom (fit_of p) scratch.old threads.old }
+    requires prefix { IfSome request.now.prefix (λ x.
+        IsPrefix (states_of counted.old.states.now) request.now.first x.now) }
+    requires idle { IsIdle scratch.old threads.old }
+    requires slots_per_row { length slots.old ≡ scratch.old.rows.slots_per_row }
+    requires nothing { slots_at scratch.old.rows 0 ≡ replicate scratch.old.rows.slots_per_row None }
+    requires even { length scratch.old.rows.rows ≡ length scratch.old.rows.ref_counts }
+    ensures search_result { (p : program.Program) →
+        IsProgramOf p (states_of counted.old.states.now) request.now.first →
+        SearchResult p request.now.haystack.now request.now.longest request.now.earliest
+        request.now.start result slots.old slots.new counted.new.walked }
+    ensures room { (p : program.Program) →
+        IsProgramOf p (states_of counted.old.states.now) request.now.first →
+        HasRoom (fit_of p) scratch.old threads.old → HasRoom (fit_of p) scratch.new threads.new }
+    ensures idle { IsIdle scratch.new threads.new }
+{
+    let Request {
+        haystack,
+        start,
+        first,
+        prefix,
+        earliest,
+        longest,
+    } = *request;
+    let mut is_found = false;
+    let mut place = start;
+    'places: loop {
+        let here = piece_at(haystack, place, longest);
+        let begins = first_of(is_found, first);
+        let last = step(counted, scratch, threads, here, begins, prefix, slots);
+        is_found = is_found_with(is_found, &scratch.first_match);
+        if is_over(last.ch_len, is_found, earliest, threads.len()) {
+            break;
+        }
+        place = last.place + last.ch_len;
+    }
+    release_all(&mut scratch.rows, threads);
+    is_found
+}
+
+// Releases the threads that are left.
+pub(super) fn release_all(rows: &mut SlotTable, threads: &mut Threads)
+    requires { IsUsed rows.old (map row_of threads.old.threads) }
+    ensures threads { threads.new.threads ≡ [] }
+    ensures room { threads.new.room ≡ threads.old.room }
+    ensures free { (row : ℕ) → row ≢ 0 → slice_index rows.new.ref_counts row ≡ 0 }
+    ensures rows { length rows.new.ref_counts ≡ length rows.old.ref_counts }
+    ensures pending { rows.new.pending ≡ rows.old.pending }
+    ensures max_slots { rows.new.max_slots ≡ rows.old.max_slots }
+{
+    let mut index = 0;
+    while index < threads.len() {
+        rows.release(threads.at(index).row);
+        index += 1;
+    }
+    threads.clear();
+}

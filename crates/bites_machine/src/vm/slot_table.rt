@@ -1,0 +1,359 @@
+//! The table of slots: a thread names a row of it, which it may share with other threads.
+
+ghost use Rattle.std.specs.Prelude.{◌≡◌, ◌≢◌, ◌++◌, List, ◌∷◌, [], drop, map, replicate, ◌⊎◌, ℕ, ◌+◌, ◌<◌, ◌≤◌, None, IfOk, length, sum, take, if◌then◌else◌, nat_lt, slice_index, slice_index_or, slice_set, vec_capacity};
+ghost use lib.Seq.{paste};
+ghost use Rattle.bites_machine.specs.SlotTable.{no_slot, slot_of, with_pending, with_words, one_more, one_less};
+ghost use Rattle.bites_machine.specs.Used.{IsUsed, ForksTo};
+
+use std::alloc::{AllocError, Global};
+use std::marker::Model;
+
+// The word of a slot where nothing was written. No offset is as great, since a slice has fewer than 2^63 bytes.
+const NONE: usize = usize::MAX;
+
+/// Rows of slots, whose room is reserved at once. Each row counts its users.
+///
+/// Row 0 is the one where nothing was written: it is never written, never counted, and any number of
+/// threads may name it. The other rows are taken in order, and one that has lost its users before one that was
+/// never taken. So the memory of a row that no search needs is never touched.
+#[derive(Drop)]
+pub struct SlotTable {
+    // How many rows there are, how many slots one may have, and how many it has in this search.
+    row_count: usize,
+    max_slots: usize,
+    slots_per_row: usize,
+    // The slots of the rows that were taken in this search, one row behind another.
+    slots: Vec<usize>,
+    // How many users each of these has.
+    ref_counts: Vec<usize>,
+    // Those of them that have no user.
+    free: Vec<usize>,
+    // The slots that the present closure has written so far.
+    pending: Vec<u32>,
+}
+
+impl Model for SlotTable {
+    ghost use Rattle.std.specs.Prelude.{◌*◌, ◌≤◌, map, vec_capacity};
+    ghost use Rattle.bites_machine.specs.SlotTable.{Pool, rows_of, slot_of, ref_counts_of, AreTaken};
+
+    ghost Value = { Pool };
+
+    ghost view = { λ a. record {
+      rows = rows_of a.slots_per_row a.row_count (map slot_of a.slots.items);
+      ref_counts = ref_counts_of a.row_count a.ref_counts.items;
+      pending = a.pending.items;
+      slots_per_row = a.slots_per_row;
+      max_slots = a.max_slots;
+    } };
+
+    ghost invariant = { λ a. AreTaken a.row_count a.slots_per_row a.max_slots a.slots.items a.ref_counts.items a.free.items
+        × (a.row_count * a.max_slots ≤ vec_capacity a.slots)
+        × (a.row_count ≤ vec_capacity a.ref_counts)
+        × (a.row_count ≤ vec_capacity a.free) };
+}
+
+impl SlotTable {
+    /// So many rows of at most so many slots, with room for so many pending slots.
+    pub(super) fn new(
+        alloc: Global,
+        rows: usize,
+        max_slots: usize,
+        pending: usize,
+    ) -> Result<SlotTable, AllocError>
+        requires { 0 < rows }
+        ensures ref_counts { IfOk result (λ r. r.ref_counts ≡ replicate rows 0) }
+        ensures pending { IfOk result (λ r. length r.pending ≡ pending) }
+        ensures max_slots { IfOk result (λ r. r.max_slots ≡ max_slots) }
+    {
+        let slots = rows.checked_mul(max_slots).ok_or(AllocError)?;
+        let slots = Vec::with_capacity(alloc, slots)?;
+        let mut ref_counts = Vec::with_capacity(alloc, rows)?;
+        ref_counts.push(0)?;
+        Ok(SlotTable {
+            row_count: rows,
+            max_slots,
+            slots_per_row: 0,
+            slots,
+            ref_counts,
+            free: Vec::with_capacity(alloc, rows)?,
+            pending: vec![in alloc; 0; pending]?,
+        })
+    }
+
+    /// Rows of so many slots from now on, none of them with a user; nothing is written in row 0.
+    pub(super) fn setup_search(&mut self, slots_per_row: usize)
+        requires { slots_per_row ≤ self.old.max_slots }
+        ensures slots_per_row { self.new.slots_per_row ≡ slots_per_row }
+        ensures nothing { slice_index_or self.new.rows 0 [] ≡ replicate slots_per_row None }
+        ensures even { length self.new.rows ≡ length self.new.ref_counts }
+        ensures free { (row : ℕ) → slice_index self.new.ref_counts row ≡ 0 }
+        ensures count { length self.new.ref_counts ≡ length self.old.ref_counts }
+        ensures pending { self.new.pending ≡ self.old.pending }
+        ensures max_slots { self.new.max_slots ≡ self.old.max_slots }
+    {
+        self.slots_per_row = slots_per_row;
+        self.free.clear();
+        self.ref_counts.truncate(1);
+        self.slots.clear();
+        let _ = self.slots.resize(slots_per_row, NONE);
+    }
+
+    /// How many rows there are.
+    pub(super) fn len(&self) -> usize
+        ensures { result ≡ length self.now.ref_counts }
+    {
+        self.row_count
+    }
+
+    /// Row 0 has no users that are counted.
+    #[inline(always)]
+    pub(super) fn first_is_free(&self)
+        ensures { slice_index self.now.ref_counts 0 ≡ 0 }
+    {
+        let _ = &self.ref_counts;
+    }
+
+    /// Makes the slot pending, after so many others, if rows have that slot. Returns how many are pending then.
+    #[inline(always)]
+    pub(super) fn set_pending(
+        &mut self,
+        pending_len: usize,
+        slot: u32,
+        slots_per_row: usize,
+    ) -> usize
+        requires room { pending_len < length self.old.pending }
+        requires slots_per_row { slots_per_row ≡ self.old.slots_per_row }
+        ensures count { result ≡ (if nat_lt slot self.old.slots_per_row then pending_len + 1 else pending_len) }
+        ensures pending { self.new.pending ≡ (if nat_lt slot self.old.slots_per_row
+            then slice_set self.old.pending pending_len slot else self.old.pending) }
+        ensures rows { self.new.rows ≡ self.old.rows }
+        ensures ref_counts { self.new.ref_counts ≡ self.old.ref_counts }
+        ensures slots_per_row { self.new.slots_per_row ≡ self.old.slots_per_row }
+        ensures max_slots { self.new.max_slots ≡ self.old.max_slots }
+    {
+        if (slot as usize) < slots_per_row {
+            self.pending[pending_len] = slot;
+            pending_len + 1
+        } else {
+            pending_len
+        }
+    }
+
+    /// Adds a user to the row.
+    #[inline(always)]
+    pub(super) fn retain(&mut self, row: usize)
+        requires known { row < length self.old.ref_counts }
+        requires fits { slice_index self.old.ref_counts row < length self.old.ref_counts }
+        requires used { row ≢ 0 → 0 < slice_index self.old.ref_counts row }
+        ensures ref_counts { self.new.ref_counts ≡ one_more self.old.ref_counts row }
+        ensures rows { self.new.rows ≡ self.old.rows }
+        ensures pending { self.new.pending ≡ self.old.pending }
+        ensures slots_per_row { self.new.slots_per_row ≡ self.old.slots_per_row }
+        ensures max_slots { self.new.max_slots ≡ self.old.max_slots }
+    {
+        if row != 0 {
+            self.ref_counts[row] += 1;
+        }
+    }
+
+    /// Returns a row for a thread that continues from a thread of this row, with so many pending slots: the row itself
+    /// where none is pending, else a copy.
+    #[inline(always)]
+    pub(super) fn fork(&mut self, row: usize, pending_len: usize, place: usize) -> usize
+        requires used { (users : List ℕ) × IsUsed self.old (row ∷ users) }
+        requires pending_len { pending_len ≤ length self.old.pending }
+        requires slots { (k : ℕ) → k < pending_len → slice_index self.old.pending k < self.old.slots_per_row }
+        requires room { sum self.old.ref_counts + 1 < length self.old.ref_counts }
+        requires place { place < no_slot }
+        ensures { ForksTo place row pending_len result self.old self.new }
+    {
+        if pending_len == 0 {
+            self.retain(row);
+            row
+        } else {
+            self.copy(row, pending_len, place)
+        }
+    }
+
+    /// Removes a user from the row.
+    #[inline(always)]
+    pub(super) fn release(&mut self, row: usize)
+        requires known { row < length self.old.ref_counts }
+        requires used { row ≢ 0 → 0 < slice_index self.old.ref_counts row }
+        ensures ref_counts { self.new.ref_counts ≡ one_less self.old.ref_counts row }
+        ensures rows { self.new.rows ≡ self.old.rows }
+        ensures pending { self.new.pending ≡ self.old.pending }
+        ensures slots_per_row { self.new.slots_per_row ≡ self.old.slots_per_row }
+        ensures max_slots { self.new.max_slots ≡ self.old.max_slots }
+    {
+        if row == 0 {
+            return;
+        }
+        let count = self.ref_counts[row] - 1;
+        self.ref_counts[row] = count;
+        if count == 0 {
+            let _ = self.free.push(row);
+        }
+    }
+
+    /// Returns a new row of one user: a copy of the row, with the place in the first so many pending slots.
+    #[inline(never)]
+    pub(super) fn copy(&mut self, row: usize, pending_len: usize, place: usize) -> usize
+        requires known { row < length self.old.ref_counts }
+        requires pending_len { pending_len ≤ length self.old.pending }
+        requires slots { (k : ℕ) → k < pending_len → slice_index self.old.pending k < self.old.slots_per_row }
+        requires used { row ≢ 0 → 0 < slice_index self.old.ref_counts row }
+        requires room { sum self.old.ref_counts + 1 < length self.old.ref_counts }
+        requires place { place < no_slot }
+        ensures known { result < length self.old.ref_counts }
+        ensures fresh { slice_index self.old.ref_counts result ≡ 0 }
+        ensures other { result ≢ 0 }
+        ensures ref_counts { self.new.ref_counts ≡ slice_set self.old.ref_counts result 1 }
+        ensures rows { self.new.rows ≡ slice_set self.old.rows result
+            (with_pending place (take pending_len self.old.pending) (slice_index_or self.old.rows row [])) }
+        ensures pending { self.new.pending ≡ self.old.pending }
+        ensures slots_per_row { self.new.slots_per_row ≡ self.old.slots_per_row }
+        ensures max_slots { self.new.max_slots ≡ self.old.max_slots }
+    {
+        let from = row * self.slots_per_row;
+        let Some(fresh) = self.free.pop() else {
+            let fresh = self.ref_counts.len();
+            let _ = self.ref_counts.push(1);
+            push_row(
+                &mut self.slots,
+                from,
+                self.slots_per_row,
+                &self.pending[..pending_len],
+                place,
+            );
+            return fresh;
+        };
+        self.ref_counts[fresh] = 1;
+        let to = fresh * self.slots_per_row;
+        copy_row(
+            &mut self.slots,
+            from,
+            to,
+            self.slots_per_row,
+            &self.pending[..pending_len],
+            place,
+        );
+        fresh
+    }
+
+    /// Writes the row into the slice, with the place in the first so many pending slots.
+    #[inline(always)]
+    pub(super) fn write_match(
+        &self,
+        row: usize,
+        pending_len: usize,
+        place: usize,
+        slots: &mut [Option<usize>],
+    )
+        requires known { row < length self.now.ref_counts }
+        requires used { row ≢ 0 → 0 < slice_index self.now.ref_counts row }
+        requires pending_len { pending_len ≤ length self.now.pending }
+        requires slots { (k : ℕ) → k < pending_len → slice_index self.now.pending k < self.now.slots_per_row }
+        requires slots_per_row { length slots.old ≡ self.now.slots_per_row }
+        ensures { slots.new ≡ with_pending place (take pending_len self.now.pending)
+            (slice_index_or self.now.rows row []) }
+    {
+        let from = row * self.slots_per_row;
+        copy_slots(slots, &self.slots[from..from + slots.len()]);
+        write_pending(slots, &self.pending[..pending_len], place);
+    }
+}
+
+// The slot that a word stands for.
+#[inline(always)]
+fn slot(word: usize) -> Option<usize>
+    ensures { result ≡ slot_of word }
+{
+    if word == NONE { None } else { Some(word) }
+}
+
+// Copies so many slots from one index to another.
+fn copy_within(slots: &mut [usize], from: usize, to: usize, slots_per_row: usize)
+    requires from { from + slots_per_row ≤ length slots.old }
+    requires to { to + slots_per_row ≤ length slots.old }
+    requires apart { (from + slots_per_row ≤ to) ⊎ (to + slots_per_row ≤ from) }
+    ensures { slots.new ≡ paste slots.old to (drop from slots.old) slots_per_row }
+{
+    for k in 0..slots_per_row {
+        slots[to + k] = slots[from + k];
+    }
+}
+
+// The slots become those that a row has. Rows are short, so that a loop costs less than a call that copies memory.
+#[inline(always)]
+fn copy_slots(slots: &mut [Option<usize>], row: &[usize])
+    requires { length slots.old ≡ length row.now }
+    ensures { slots.new ≡ map slot_of row.now }
+{
+    for k in 0..slots.len() {
+        slots[k] = slot(row[k]);
+    }
+}
+
+// Appends a copy of a row, with the place of the haystack in the pending slots.
+fn push_row(
+    slots: &mut Vec<usize>,
+    from: usize,
+    slots_per_row: usize,
+    pending: &[u32],
+    place: usize,
+)
+    requires from { from + slots_per_row ≤ length slots.old.items }
+    requires room { length slots.old.items + slots_per_row ≤ vec_capacity slots.old }
+    requires pending { (k : ℕ) → k < length pending.now → slice_index pending.now k < slots_per_row }
+    ensures items { slots.new.items ≡ slots.old.items
+        ++ with_words place pending.now (take slots_per_row (drop from slots.old.items)) }
+    ensures capacity { vec_capacity slots.old ≤ vec_capacity slots.new }
+{
+    let to = slots.len();
+    let _ = slots.extend_from_within(from..from + slots_per_row);
+    write_words(&mut slots[to..], pending, place);
+}
+
+// Copies a row to an index, with the place of the haystack in the pending slots.
+fn copy_row(
+    slots: &mut [usize],
+    from: usize,
+    to: usize,
+    slots_per_row: usize,
+    pending: &[u32],
+    place: usize,
+)
+    requires from { from + slots_per_row ≤ length slots.old }
+    requires to { to + slots_per_row ≤ length slots.old }
+    requires apart { (from + slots_per_row ≤ to) ⊎ (to + slots_per_row ≤ from) }
+    requires pending { (k : ℕ) → k < length pending.now → slice_index pending.now k < slots_per_row }
+    ensures { slots.new ≡ take to slots.old
+        ++ (with_words place pending.now (take slots_per_row (drop from slots.old))
+        ++ drop (to + slots_per_row) slots.old) }
+{
+    copy_within(slots, from, to, slots_per_row);
+    write_words(&mut slots[to..to + slots_per_row], pending, place);
+}
+
+// Writes the place to each of the pending slots of a row.
+#[inline(always)]
+fn write_words(slots: &mut [usize], pending: &[u32], place: usize)
+    requires { (k : ℕ) → k < length pending.now → slice_index pending.now k < length slots.old }
+    ensures { slots.new ≡ with_words place pending.now slots.old }
+{
+    for slot in pending {
+        slots[*slot as usize] = place;
+    }
+}
+
+// Writes the place to each of the pending slots.
+#[inline(always)]
+fn write_pending(slots: &mut [Option<usize>], pending: &[u32], place: usize)
+    requires { (k : ℕ) → k < length pending.now → slice_index pending.now k < length slots.old }
+    ensures { slots.new ≡ with_pending place pending.now slots.old }
+{
+    for slot in pending {
+        slots[*slot as usize] = Some(place);
+    }
+}

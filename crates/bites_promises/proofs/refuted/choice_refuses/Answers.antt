@@ -1,5 +1,0 @@
-use Rattle.bites_promises.proofs.RefutationLemmas as lemmas
-use Rattle.bites_promises.proofs.refuted.choice_refuses.Goals as goal
-
-pub returns : goal.returns
-returns c = lemmas.choice_refuses

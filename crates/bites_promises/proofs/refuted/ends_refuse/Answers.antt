@@ -1,5 +1,0 @@
-use Rattle.bites_promises.proofs.RefutationLemmas as lemmas
-use Rattle.bites_promises.proofs.refuted.ends_refuse.Goals as goal
-
-pub returns : goal.returns
-returns c = lemmas.ends_refuse

@@ -1,8 +1,0 @@
-use Rattle.bites_spec.specs.Iteration.{captures_in}
-use Rattle.regex_bites.specs.Matched.{excerpt_of}
-use Rattle.regex_bites.specs.CapturesLeft.{captures_left}
-use Rattle.bites_promises.proofs.SuccessiveLemmas.{WithRest}
-use Rattle.bites_promises.proofs.successive.over_texts.matches_and_groups_0.Given as goal
-
-abbrev pub invariant-loop-captures : goal.invariant-loop-captures
-invariant-loop-captures l = WithRest excerpt_of l.wholes.items (captures_left l.captures-iterator) (captures_in l.regex l.haystack)

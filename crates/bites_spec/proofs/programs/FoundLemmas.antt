@@ -1,0 +1,198 @@
+-- The first run of a tree's program is what a search of the tree finds.
+use Rattle.std.specs.Prelude.{◌==◌, if◌then◌else◌}
+use Rattle.std.proofs.Common.{cond, eq-eqb, eqb-true, ◌≡◌, ℕ, ◌≤◌, Bool, true, false, List, [], ◌∷◌, ◌++◌, map, Option, Some, None, option_map, refl, sym, ap, ap₂, ◌∙◌, subst, ⊎_elim, true≢false, ◌⊎◌}
+use Rattle.std.proofs.lemmas.Option.{none-some, same_Some}
+use Rattle.std.proofs.lemmas.Bool.{cases_Bool}
+use Rattle.bites_spec.specs.Walks.{Before}
+use Rattle.bites_spec.specs.Tree.{Tree, is_plain}
+use Rattle.bites_spec.specs.Match.{Span, Mark, Matches, Parse, groups}
+use Rattle.bites_spec.specs.Preference.{Way, parses}
+use Rattle.bites_spec.specs.Program.{Program, Configuration, at, IsWellFormed}
+use Rattle.bites_spec.specs.Run.{Run, run, writes, leads, IsRun, IsSimple, NoRun, StartsFirst, FirstRun, LeastEnd, LongestRun, first_run}
+use Rattle.bites_spec.specs.Built.{Built, IsCompilable}
+use Rattle.bites_spec.specs.Found.{NoMatch, IsFirstPlace, FoundSome, Found, FoundLongest, IsLeastEnd, head_of, first_ending, way}
+use Rattle.bites_spec.specs.Slots.{HasGroups, answer_of, span_between}
+use Rattle.bites_spec.specs.RunLaws.{Group0IsSpan}
+use Rattle.bites_spec.proofs.parses.EventLemmas.{Event, opened, closed, writes_of, marks_of, Steps, Steps-Parse}
+use Rattle.bites_spec.proofs.programs.OrderLemmas.{Trip, Tour, tour_of, wrap, ways, Every}
+use Rattle.bites_spec.proofs.programs.WayLemmas.{ways_are, way_of, ways-parses}
+use Rattle.bites_spec.proofs.programs.FormOrderLemmas.{all_runs}
+use Rattle.bites_spec.proofs.programs.PlainLemmas.{pick, tour, first_is_head, ends_at, simple}
+use Rattle.bites_spec.proofs.programs.BuiltLemmas.{run_is_parse, run_is_match, match_is_run, has_groups, whole}
+use Rattle.bites_spec.proofs.runs.RunLemmas.{first_run-FirstRun}
+
+span_between-ends : (g : Option Span) (a b : Option ℕ) → a ≡ option_map (λ s. s.start) g → b ≡ option_map (λ s. s.end) g → span_between a b ≡ g
+span_between-ends None a b e f = ap₂ span_between e f
+span_between-ends (Some s) a b e f = ap₂ span_between e f
+
+-- the first parse of the list whose end passes the test
+abbrev pick_way : (ℕ → Bool) → List Way → Option Way
+pick_way ok [] = None
+pick_way ok (w ∷ ws) = if ok w.end then Some w else pick_way ok ws
+
+pick_head : (ws : List Way) → pick_way (λ j. true) ws ≡ head_of ws
+pick_head [] = refl
+pick_head (w ∷ ws) = refl
+
+pick_ending : (j : ℕ) (ws : List Way) → pick_way (λ k. k == j) ws ≡ first_ending j ws
+pick_ending j [] = refl
+pick_ending j (w ∷ ws) = ap (λ o. if w.end == j then Some w else o) (pick_ending j ws)
+
+-- the listed way that a picked tour is
+pub record Picked (ok : ℕ → Bool) (hay : List ℕ) (t : Tree) (i : ℕ) (ws : List Trip) (o : Tour) : Type 0 where
+  pub way : Trip
+  pub steps : Steps hay t i way.end way.events
+  pub same : tour_of (wrap 0 i way) ≡ o
+  pub first : pick_way ok (map (way_of hay) ws) ≡ Some (way_of hay way)
+
+pick_ways : (ok : ℕ → Bool) (hay : List ℕ) (t : Tree) (i : ℕ) (ws : List Trip) (o : Tour) → Every (λ w. Steps hay t i w.end w.events) ws →
+    pick ok (map tour_of (map (wrap 0 i) ws)) ≡ Some o → Picked ok hay t i ws o
+pick_ways ok hay t i [] o are e = absurd (none-some o e)
+pick_ways ok hay t i (w ∷ ws) o are e =
+    ⊎_elim
+    (λ (b : ok w.end ≡ true). record {
+      way = w;
+      steps = are.0;
+      same = same_Some _ _ (sym (ap (λ c. cond c (Some (tour_of (wrap 0 i w))) (pick ok (map tour_of (map (wrap 0 i) ws)))) b) ∙ e);
+      first = ap (λ c. cond c (Some (way_of hay w)) (pick_way ok (map (way_of hay) ws))) b;
+    })
+    (λ (b : ok w.end ≡ false).
+    let m = pick_ways ok hay t i ws o are.1 (sym (ap (λ c. cond c (Some (tour_of (wrap 0 i w))) (pick ok (map tour_of (map (wrap 0 i) ws)))) b) ∙ e) in
+    record {
+      way = m.way;
+      steps = m.steps;
+      same = m.same;
+      first = ap (λ c. cond c (Some (way_of hay w)) (pick_way ok (map (way_of hay) ws))) b ∙ m.first;
+    })
+    (cases_Bool (ok w.end))
+
+pub unfold_whole : (t : Tree) (p : Program) (hay : List ℕ) (fit : IsCompilable t) (built : Built t p) (i j : ℕ) (inner : List Event) (ws : List (ℕ × ℕ)) →
+    ws ≡ writes_of (opened 0 i ∷ (inner ++ closed 0 i j ∷ [])) → ws ≡ writes_of (whole t p hay fit built i j inner)
+unfolding whole
+unfold_whole t p hay fit built i j inner ws e = e
+
+module _ (t : Tree) (p : Program) (hay : List ℕ) (fit : IsCompilable t) (built : Built t p) where
+  -- from a place on the tree matches where the program has a run
+  no_match : (s : ℕ) → NoRun p hay s → NoMatch t hay s
+  no_match s none i among j matches = let x = match_is_run t p hay fit built i j matches in none i among x.0 j x.1
+
+  first_place : (s : ℕ) (r : Run) → StartsFirst p hay s r → IsFirstPlace t hay s r.start
+  first_place s r starts = record {
+    place = starts.from;
+    matches = (r.end, run_is_match t p hay fit built r.start r.end r.configurations starts.runs);
+    none_before = λ k among lt j matches. let x = match_is_run t p hay fit built k j matches in starts.none_before k among lt x.0 j x.1;
+  }
+
+  pub same_groups : (r : Run) (ms : List Mark) → HasGroups p r ms → (k : ℕ) → (answer_of p r).group k ≡ groups r.start r.end ms k
+  same_groups r ms has k = span_between-ends (groups r.start r.end ms k) _ _ (has k).0 (has k).1
+
+  -- of a plain tree, the first run whose end passes the test is the first parse whose end does
+  pub record Preferred (ok : ℕ → Bool) (r : Run) : Type 0 where
+    pub marks : List Mark
+    pub parse : Parse hay t r.start r.end marks
+    pub has : HasGroups p r marks
+    pub first : pick_way ok (parses hay t r.start) ≡ Some (way r.end marks)
+
+  preferred : (ok : ℕ → Bool) (r : Run) → is_plain t ≡ true → IsRun p hay r.start r.configurations r.end → ok r.end ≡ true →
+      ((o : List Configuration) (k : ℕ) → IsRun p hay r.start o k → IsSimple p hay r.start o → ok k ≡ true →
+      (o ≡ r.configurations) ⊎ Before (leads p hay) (at p.start r.start) r.configurations o) → Preferred ok r
+  preferred ok r plain runs counts first =
+      at_ways (pick_ways ok hay t r.start (ways hay t r.start) (tour p hay (at p.start r.start) r.configurations) (ways_are hay t fit.reduced r.start)
+      (first_is_head p hay ok (at p.start r.start) (map tour_of (map (wrap 0 r.start) (ways hay t r.start))) r.configurations r.end
+      (all_runs p hay t fit.reduced plain built r.start) runs counts first))
+    where
+      at_ways : Picked ok hay t r.start (ways hay t r.start) (tour p hay (at p.start r.start) r.configurations) → Preferred ok r
+      at_ways x =
+          let w = x.way in
+          let end : w.end ≡ r.end = ap (λ x. x.end) x.same ∙ ends_at p hay (at p.start r.start) r.configurations r.end runs in
+          record {
+            marks = marks_of w.events;
+            parse = Steps-Parse hay t r.start r.end w.events (subst (λ j. Steps hay t r.start j w.events) end x.steps);
+            has = subst (λ j. HasGroups p (run r.start r.configurations j) (marks_of w.events)) end
+                (has_groups t p hay fit built r.start w.end r.configurations w.events x.steps
+                (unfold_whole t p hay fit built r.start w.end w.events (writes p (at p.start r.start) r.configurations) (sym (ap (λ x. x.writes) x.same))));
+            first = ap (pick_way ok) (sym (ways-parses hay t r.start)) ∙ x.first ∙ ap (λ j. Some (way j (marks_of w.events))) end;
+          }
+
+  -- What `FirstRun` says of the program, `Found` says of the tree.
+  pub FirstRun-Found : (s : ℕ) (o : Option Run) → FirstRun p hay s o → Found t hay s (option_map (answer_of p) o)
+  FirstRun-Found s None none = no_match s none
+  FirstRun-Found s (Some r) (starts, first) =
+      ⊎_elim
+      (λ (plain : is_plain t ≡ true).
+      let x = preferred (λ j. true) r plain starts.runs refl (λ o k runs simple u. first.first o k runs simple tt) in record {
+        first = first_place s r starts;
+        marks = x.marks;
+        parse = x.parse;
+        groups = same_groups r x.marks x.has;
+        chosen = λ u. sym (pick_head (parses hay t r.start)) ∙ x.first;
+      })
+      (λ (other : is_plain t ≡ false).
+      let x = run_is_parse t p hay fit built r.start r.end r.configurations starts.runs in record {
+        first = first_place s r starts;
+        marks = x.0;
+        parse = x.1;
+        groups = same_groups r x.0 x.2;
+        chosen = λ plain. absurd (true≢false (sym plain ∙ other));
+      })
+      (cases_Bool (is_plain t))
+
+  -- What `LongestRun` says of the program, `FoundLongest` says of the tree.
+  pub LongestRun-FoundLongest : (s : ℕ) (o : Option Run) → LongestRun p hay s o → FoundLongest t hay s (option_map (answer_of p) o)
+  LongestRun-FoundLongest s None none = no_match s none
+  LongestRun-FoundLongest s (Some r) (starts, longest, first) =
+      ⊎_elim
+      (λ (plain : is_plain t ≡ true).
+      let x = preferred (λ k. k == r.end) r plain starts.runs (eq-eqb r.end r.end refl)
+      (λ o k runs simple counts. first.first o k runs simple (eqb-true k r.end counts)) in record {
+        first = first_place s r starts;
+        marks = x.marks;
+        parse = x.parse;
+        groups = same_groups r x.marks x.has;
+        chosen = (greatest r longest, λ u. sym (pick_ending r.end (parses hay t r.start)) ∙ x.first);
+      })
+      (λ (other : is_plain t ≡ false).
+      let x = run_is_parse t p hay fit built r.start r.end r.configurations starts.runs in record {
+        first = first_place s r starts;
+        marks = x.0;
+        parse = x.1;
+        groups = same_groups r x.0 x.2;
+        chosen = (greatest r longest, λ plain. absurd (true≢false (sym plain ∙ other)));
+      })
+      (cases_Bool (is_plain t))
+    where
+      greatest : (r : Run) → ((o : List Configuration) (j : ℕ) → IsRun p hay r.start o j → j ≤ r.end) → (l : ℕ) → Matches hay t r.start l → l ≤ r.end
+      greatest r longest l matches = let m = match_is_run t p hay fit built r.start l matches in longest m.0 l m.1
+
+  -- any run from the first place is some parse there
+  pub StartsFirst-FoundSome : (s : ℕ) (r : Run) → StartsFirst p hay s r → FoundSome t hay s (Some (answer_of p r))
+  StartsFirst-FoundSome s r starts =
+      let x = run_is_parse t p hay fit built r.start r.end r.configurations starts.runs in record {
+        first = first_place s r starts;
+        marks = x.0;
+        parse = x.1;
+        groups = same_groups r x.0 x.2;
+        chosen = tt;
+      }
+
+  -- the least end of a run is the least end of a match
+  pub LeastEnd-IsLeastEnd : (s : ℕ) (o : Option Run) → LeastEnd p hay s o → IsLeastEnd t hay s (option_map (λ r. r.end) o)
+  LeastEnd-IsLeastEnd s None none = no_match s none
+  LeastEnd-IsLeastEnd s (Some r) (runs, among, least) = (
+    (r.start, among, run_is_match t p hay fit built r.start r.end r.configurations runs),
+    λ i among l matches. let x = match_is_run t p hay fit built i l matches in least i among x.0 l x.1,
+  )
+
+  -- every run of a plain tree's program is simple
+  pub plain_simple : is_plain t ≡ true → (i j : ℕ) (r : List Configuration) → IsRun p hay i r j → IsSimple p hay i r
+  plain_simple plain i j r runs =
+      let are = all_runs p hay t fit.reduced plain built i in simple p hay (at p.start i) are.bound are.short r j runs
+
+  -- The first run of a tree's program, cycles or not, is what a search of the tree finds.
+  pub first_run-Found : IsWellFormed p → (s : ℕ) → Found t hay s (option_map (answer_of p) (first_run p hay s))
+  first_run-Found well s = FirstRun-Found s (first_run p hay s) (first_run-FirstRun p hay well s)
+
+-- in the slots of a run of a tree's program, group 0 is its span
+pub group_0_is_span : Group0IsSpan
+group_0_is_span t p hay fit built r runs =
+    let x = run_is_parse t p hay fit built r.start r.end r.configurations runs in same_groups t p hay fit built r x.0 x.2 0

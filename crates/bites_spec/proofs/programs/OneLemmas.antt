@@ -1,0 +1,49 @@
+-- Only one run is the first.
+use Rattle.std.proofs.Common.{◌≡◌, ℕ, true, false, List, Option, Some, None, refl, sym, ap, ◌∙◌, subst, ⊎_elim, arith, ◌⊎◌, ltb-true, ltb-false}
+use Rattle.std.specs.Prelude.{nat_lt}
+use Rattle.std.proofs.lemmas.Bool.{cases_Bool}
+use Rattle.bites_spec.specs.Walks.{Before}
+use Rattle.bites_spec.specs.Program.{Program, Configuration, at, IsWellFormed}
+use Rattle.bites_spec.specs.Run.{Run, leads, IsRun, StartsFirst, IsSimple, FirstRun, first_run}
+use Rattle.bites_spec.proofs.programs.PlainLemmas.{Before-asym, ends_at}
+use Rattle.bites_spec.proofs.runs.RunLemmas.{first_run-FirstRun}
+
+pub same_run : (i j k l : ℕ) (a b : List Configuration) → i ≡ j → a ≡ b → k ≡ l → ◌≡◌ {A = Run} (record { start = i; configurations = a; end = k }) (record { start = j; configurations = b; end = l })
+same_run i j k l a b e f g = λ x. record { start = e x; configurations = f x; end = g x }
+
+module _ (p : Program) (hay : List ℕ) where
+  -- two first places are the same
+  pub same_start : (s : ℕ) (a b : Run) → StartsFirst p hay s a → StartsFirst p hay s b → a.start ≡ b.start
+  same_start s a b x y =
+      ⊎_elim (λ (lt : nat_lt a.start b.start ≡ true). absurd (y.none_before a.start x.from (ltb-true a.start b.start lt) a.configurations a.end x.runs))
+      (λ (ge : nat_lt a.start b.start ≡ false).
+      ⊎_elim (λ (lt : nat_lt b.start a.start ≡ true). absurd (x.none_before b.start y.from (ltb-true b.start a.start lt) b.configurations b.end y.runs))
+      (λ (le : nat_lt b.start a.start ≡ false).
+      let one = ltb-false a.start b.start ge in let two = ltb-false b.start a.start le in omega (arith, one, two))
+      (cases_Bool (nat_lt b.start a.start)))
+      (cases_Bool (nat_lt a.start b.start))
+
+  pub one_first : (s : ℕ) (a b : Run) → FirstRun p hay s (Some a) → FirstRun p hay s (Some b) → a ≡ b
+  one_first s a b (x, f) (y, g) =
+      let start = same_start s a b x y in
+      let theirs : IsRun p hay a.start b.configurations b.end = subst (λ i. IsRun p hay i b.configurations b.end) (sym start) y.runs in
+      let mine : IsRun p hay b.start a.configurations a.end = subst (λ i. IsRun p hay i a.configurations a.end) start x.runs in
+      let configurations : a.configurations ≡ b.configurations =
+      ⊎_elim (λ (e : b.configurations ≡ a.configurations). sym e)
+      (λ bef. ⊎_elim (λ (e : a.configurations ≡ b.configurations). e)
+      (λ also. absurd (Before-asym (leads p hay) (at p.start a.start) a.configurations b.configurations bef
+      (subst (λ i. Before (leads p hay) (at p.start i) b.configurations a.configurations) (sym start) also)))
+      (g.first a.configurations a.end mine (subst (λ i. IsSimple p hay i a.configurations) start f.simple) tt))
+      (f.first b.configurations b.end theirs (subst (λ i. IsSimple p hay i b.configurations) (sym start) g.simple) tt) in
+      same_run a.start b.start a.end b.end a.configurations b.configurations start configurations
+      (sym (ends_at p hay (at p.start a.start) a.configurations a.end x.runs)
+      ∙ ends_at p hay (at p.start a.start) a.configurations b.end (subst (λ r. IsRun p hay a.start r b.end) (sym configurations) theirs))
+
+  one_answer : (s : ℕ) (o q : Option Run) → FirstRun p hay s o → FirstRun p hay s q → o ≡ q
+  one_answer s None None x y = refl
+  one_answer s None (Some b) x y = absurd (x b.start y.0.from b.configurations b.end y.0.runs)
+  one_answer s (Some a) None x y = absurd (y a.start x.0.from a.configurations a.end x.0.runs)
+  one_answer s (Some a) (Some b) x y = ap Some (one_first s a b x y)
+
+  pub FirstRun-first_run : IsWellFormed p → (s : ℕ) (o : Option Run) → FirstRun p hay s o → o ≡ first_run p hay s
+  FirstRun-first_run well s o x = one_answer s o (first_run p hay s) x (first_run-FirstRun p hay well s)

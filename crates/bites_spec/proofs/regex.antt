@@ -1,0 +1,19 @@
+-- Regexes: what a search finds, in terms of the pattern's tree and its groups.
+pub mod FoundSomeLemmas
+pub mod AlikeLemmas
+pub mod PartCountLemmas
+pub mod CompilableNames
+pub mod CompilableLemmas
+pub mod KeptLemmas
+pub mod LeftLemmas
+pub mod RegexLemmas
+pub mod RegexRuns
+pub mod TwinForms
+pub mod TwinRuns
+pub mod AnchoredLemmas
+pub mod WrappedLemmas
+pub mod BegunLemmas
+pub mod CallerLemmas
+pub mod EscapedReading
+pub mod EscapedMatches
+pub mod AllMatchesLemmas

@@ -1,0 +1,134 @@
+-- A search from the start of the haystack alone finds what a search for `\A(?:p)` finds.
+use Rattle.std.proofs.Common.{◌≡◌, ◌↔◌, ℕ, ◌≤◌, Bool, true, false, ◌&&◌, List, [], ◌∷◌, ◌++◌, map, Option, Some, None, refl, sym, ap, ap₂, ◌∙◌, subst, arith}
+use Rattle.std.proofs.lemmas.List.{append-nil}
+use Rattle.bites_spec.specs.Utf8.{places}
+use Rattle.bites_spec.specs.Walks.{Among}
+use Rattle.bites_spec.specs.Look.{holds}
+use Rattle.bites_spec.specs.Tree.{Tree, IsPlain, is_plain}
+use Rattle.bites_spec.specs.Match.{Mark, Matches, Parse, groups}
+use Rattle.bites_spec.specs.Preference.{Way, here, joined, then_each, parses}
+use Rattle.bites_spec.specs.Found.{Answer, IsFoundBy, Finds, NoMatch, head_of, first_ending, way}
+use Rattle.bites_spec.specs.Anchored.{HasMatchFrom, IsFoundFromBy, FindsFrom}
+use Rattle.bites_spec.specs.CallerLaws.{begun, AnchoredIsBegun}
+use Rattle.bites_spec.proofs.regex.CallerLemmas.{start_is_place, at_start, holds_start}
+use Rattle.bites_spec.proofs.parses.EventLemmas.{Parse-Matches}
+
+-- ## Matches, parses and their order
+
+module _ (hay : List ℕ) (t : Tree) where
+  matches_to : (i j : ℕ) → Matches hay (begun t) i j → (i ≡ 0) × Matches hay t 0 j
+  matches_to i j (l, begins, (k, m, same)) =
+      let zero_is : i ≡ 0 = at_start hay i begins.0 in (
+        zero_is,
+        subst (λ (b : ℕ). Matches hay t 0 b) (sym same) (subst (λ (a : ℕ). Matches hay t a k) (begins.1 ∙ zero_is) m),
+      )
+
+  matches_of : (j : ℕ) → Matches hay t 0 j → Matches hay (begun t) 0 j
+  matches_of j m = (0, (holds_start hay, refl), (j, m, refl))
+
+  parse_to : (j : ℕ) (ms : List Mark) → Parse hay (begun t) 0 j ms → Parse hay t 0 j ms
+  parse_to j ms (l, none, rest, begins, (k, inner, last, p, ends, joins), all) =
+      let marks : inner ≡ ms = sym (all ∙ ap₂ (λ (a b : List Mark). a ++ b) begins.2 (joins ∙ ap (λ (b : List Mark). inner ++ b) ends.1 ∙ append-nil inner)) in
+      subst (λ (b : List Mark). Parse hay t 0 j b) marks
+      (subst (λ (b : ℕ). Parse hay t 0 b inner) (sym ends.0) (subst (λ (a : ℕ). Parse hay t a k inner) begins.1 p))
+
+  parse_of : (j : ℕ) (ms : List Mark) → Parse hay t 0 j ms → Parse hay (begun t) 0 j ms
+  parse_of j ms p = (0, [], ms, (holds_start hay, refl, refl), (j, ms, [], p, (refl, refl), sym (append-nil ms)), refl)
+
+  and_here : (ws : List Way) → then_each ws (λ i. here i ∷ []) ≡ ws
+  and_here [] = refl
+  and_here (w ∷ ws) = ap₂ (λ (ms : List Mark) (vs : List Way). way w.end ms ∷ vs) (append-nil w.marks) (and_here ws)
+
+  behind_here : (i : ℕ) (ws : List Way) → map (joined (here i)) ws ≡ ws
+  behind_here i [] = refl
+  behind_here i (w ∷ ws) = ap (λ (vs : List Way). w ∷ vs) (behind_here i ws)
+
+  same_parses : parses hay (begun t) 0 ≡ parses hay t 0
+  unfolding parses holds
+  same_parses = append-nil _ ∙ behind_here 0 _ ∙ and_here (parses hay t 0)
+
+  plain_of : IsPlain t → IsPlain (begun t)
+  plain_of plain = ap (λ (b : Bool). b && true) plain
+
+  plain_to : IsPlain (begun t) → IsPlain t
+  plain_to plain = by (is_plain t) plain
+    where
+      by : (b : Bool) → (b && true) ≡ true → b ≡ true
+      by true e = e
+      by false e = e
+
+  -- ## What is found
+
+  none_to : (HasMatchFrom t hay 0 → ⊥) → NoMatch (begun t) hay 0
+  none_to none i place j m = none (omega arith, j, (matches_to i j m).1)
+
+  none_of : NoMatch (begun t) hay 0 → HasMatchFrom t hay 0 → ⊥
+  none_of none (within, j, m) = none 0 (start_is_place hay 0 (omega arith)) j (matches_of j m)
+
+  some_to : (Q : ℕ → List Mark → Type 0) (R : (i j : ℕ) → List Mark → Type 0) → ((j : ℕ) (ms : List Mark) → Q j ms → R 0 j ms) → (a : Answer) →
+      IsFoundFromBy t hay Q 0 a → IsFoundBy (begun t) hay R 0 a
+  some_to Q R each a f = record {
+    first = record {
+      place = subst (λ (i : ℕ). Among (places hay 0) i) (sym f.start) (start_is_place hay 0 (omega arith));
+      matches = (a.end, subst (λ (i : ℕ). Matches hay (begun t) i a.end) (sym f.start) (matches_of a.end (Parse-Matches hay t 0 a.end f.marks f.parse)));
+      none_before = λ k among lt. let e = f.start in absurd (omega arith);
+    };
+    marks = f.marks;
+    parse = subst (λ (i : ℕ). Parse hay (begun t) i a.end f.marks) (sym f.start) (parse_of a.end f.marks f.parse);
+    groups = λ k. f.groups k ∙ sym (ap (λ (i : ℕ). groups i a.end f.marks k) f.start);
+    chosen = subst (λ (i : ℕ). R i a.end f.marks) (sym f.start) (each a.end f.marks f.chosen);
+  }
+
+  some_of : (Q : ℕ → List Mark → Type 0) (R : (i j : ℕ) → List Mark → Type 0) → ((j : ℕ) (ms : List Mark) → R 0 j ms → Q j ms) → (a : Answer) →
+      IsFoundBy (begun t) hay R 0 a → IsFoundFromBy t hay Q 0 a
+  some_of Q R each a f =
+      let e : a.start ≡ 0 = (matches_to a.start f.first.matches.0 f.first.matches.1).0 in
+      let first = f.first in
+      record {
+        within = omega arith;
+        start = e;
+        marks = f.marks;
+        parse = parse_to a.end f.marks (subst (λ (i : ℕ). Parse hay (begun t) i a.end f.marks) e f.parse);
+        groups = λ k. f.groups k ∙ ap (λ (i : ℕ). groups i a.end f.marks k) e;
+        chosen = each a.end f.marks (subst (λ (i : ℕ). R i a.end f.marks) e f.chosen);
+      }
+
+  abbrev First : (i j : ℕ) → List Mark → Type 0
+  First i j ms = IsPlain (begun t) → head_of (parses hay (begun t) i) ≡ Some (way j ms)
+
+  abbrev FirstFrom : (j : ℕ) → List Mark → Type 0
+  FirstFrom j ms = IsPlain t → head_of (parses hay t 0) ≡ Some (way j ms)
+
+  abbrev Last : (i j : ℕ) → List Mark → Type 0
+  Last i j ms =
+      ((l : ℕ) → Matches hay (begun t) i l → l ≤ j) × (IsPlain (begun t) → first_ending j (parses hay (begun t) i) ≡ Some (way j ms))
+
+  abbrev LastFrom : (j : ℕ) → List Mark → Type 0
+  LastFrom j ms = ((l : ℕ) → Matches hay t 0 l → l ≤ j) × (IsPlain t → first_ending j (parses hay t 0) ≡ Some (way j ms))
+
+  first_to : (j : ℕ) (ms : List Mark) → FirstFrom j ms → First 0 j ms
+  first_to j ms chosen plain = ap head_of same_parses ∙ chosen (plain_to plain)
+
+  first_of : (j : ℕ) (ms : List Mark) → First 0 j ms → FirstFrom j ms
+  first_of j ms chosen plain = ap head_of (sym same_parses) ∙ chosen (plain_of plain)
+
+  last_to : (j : ℕ) (ms : List Mark) → LastFrom j ms → Last 0 j ms
+  last_to j ms chosen = (
+    λ l m. chosen.0 l (matches_to 0 l m).1,
+    λ plain. ap (first_ending j) same_parses ∙ chosen.1 (plain_to plain),
+  )
+
+  last_of : (j : ℕ) (ms : List Mark) → Last 0 j ms → LastFrom j ms
+  last_of j ms chosen = (
+    λ l m. chosen.0 l (matches_of l m),
+    λ plain. ap (first_ending j) (sym same_parses) ∙ chosen.1 (plain_of plain),
+  )
+
+  both : (longest : Bool) (o : Option Answer) → FindsFrom longest t hay 0 o ↔ Finds longest (begun t) hay 0 o
+  both true None = (none_to, none_of)
+  both false None = (none_to, none_of)
+  both true (Some a) = (some_to LastFrom Last last_to a, some_of LastFrom Last last_of a)
+  both false (Some a) = (some_to FirstFrom First first_to a, some_of FirstFrom First first_of a)
+
+pub anchored_is_begun : AnchoredIsBegun
+anchored_is_begun longest t hay o = both hay t longest o

@@ -1,0 +1,3 @@
+-- UTF-8: pieces, places and borders.
+pub mod PieceLemmas
+pub mod ScalarPieces

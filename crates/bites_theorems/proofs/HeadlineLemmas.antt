@@ -1,0 +1,161 @@
+-- What the clauses of searches say of the headline's words.
+use Rattle.std.proofs.Common.{◌≡◌, ◌↔◌, ℕ, ◌≤◌, true, false, List, Option, Some, None, option_map, refl, sym, ap, ◌∙◌, subst, true≢false, length, arith, IsUtf8, IsCharBoundary}
+use Rattle.std.specs.Prelude.{IsSome, IfSome, unwrap_or}
+use Rattle.bites_spec.specs.Tree.{Tree, IsPlain}
+use Rattle.bites_spec.specs.Match.{Span, span, Mark, Matches}
+use Rattle.bites_spec.specs.Found.{Answer, FoundBy, FoundSome, Finds, NoMatch, HasMatch, IsFirstPlace}
+use Rattle.bites_spec.specs.Run.{Run, slots}
+use Rattle.bites_spec.specs.Slots.{group_in, span_of_run}
+use Rattle.bites_spec.specs.Regex.{Regex, IsCompiled, run_at, span_at, slots_at}
+use Rattle.bites_spec.specs.Captured.{Captured, captured, Excerpt, excerpt, FindsSpan, FindsGroups, IsMatchFrom, IsInSlots}
+use Rattle.bites_spec.proofs.Laws as laws
+use Rattle.bites_spec.specs.TextLaws.{HasBorders}
+use Rattle.regex_bites.specs.Borders.{GroupsAtBorders}
+use Rattle.bites_theorems.specs.Headline.{MatchesOver, IsFirstMatch, EndsAsPreferred, EndsLast, MatchHeadline, Headline, AreFirstGroups, AreOfParse, AreOfOneParse, AreOfPreferredParse, AreOfLongestParse, AreOfPreferredLongestParse}
+
+-- over texts, from a border on, an answer begins and ends at borders, and so do its groups
+answer_borders : (t : Tree) (hay : List ℕ) (s : ℕ) → IsUtf8 hay → (s ≤ length hay → IsCharBoundary hay s) → (a : Answer) →
+    FoundSome t hay s (Some a) → HasBorders hay (span a.start a.end) × ((k : ℕ) (g : Span) → a.group k ≡ Some g → HasBorders hay g)
+answer_borders t hay s utf8 border a f =
+    let lies = (laws.found_lies t hay s a f).0 in let one = lies.0 in let two = lies.1 in let three = lies.2 in
+    laws.what_is_found_in_texts_has_borders t hay s a utf8 (border (omega (arith, one, two, three))) f
+
+-- what a search finds, read off its clauses on the tree
+module _ (r : Regex) (hay : List ℕ) (s : ℕ) where
+  some_parse : (a : Answer) → Finds r.leftmost_longest r.tree hay s (Some a) → FoundSome r.tree hay s (Some a)
+  some_parse a = laws.finds_some r.leftmost_longest r.tree hay s (Some a)
+
+  matches_from : (a : Answer) → FoundSome r.tree hay s (Some a) → Matches hay r.tree a.start a.end
+  matches_from a f = laws.match_is_parse.1 hay r.tree a.start a.end f.marks f.parse
+
+  preferred_end : (a : Answer) → Finds false r.tree hay s (Some a) → IsPlain r.tree → EndsAsPreferred r.tree hay (span a.start a.end)
+  preferred_end a f plain = (f.marks, f.chosen plain)
+
+  longest_end : (a : Answer) → Finds true r.tree hay s (Some a) → EndsLast r.tree hay (span a.start a.end)
+  longest_end a f = f.chosen.0
+
+  first_match : (g : Span) → IsMatchFrom r hay s g → IsFirstMatch r hay s g
+  first_match g m =
+      let a = m.answer in let f = some_parse a m.found in let same = sym m.is_span in
+      record {
+        first = subst (λ (x : Span). IsFirstPlace r.tree hay s x.start) same f.first;
+        matches = subst (MatchesOver r.tree hay) same (matches_from a f);
+        preferred = λ off plain.
+            subst (EndsAsPreferred r.tree hay) same (preferred_end a (subst (λ b. Finds b r.tree hay s (Some a)) off m.found) plain);
+        longest = λ on. subst (EndsLast r.tree hay) same (longest_end a (subst (λ b. Finds b r.tree hay s (Some a)) on m.found));
+      }
+
+  -- where a match is read as a span
+  module _ {M : Type 0} (at : M → Span) where
+    pub found_exactly : (o : Option M) → FindsSpan r hay s (option_map at o) → IsSome o ↔ HasMatch r.tree hay s
+    found_exactly None none = (λ h. absurd (true≢false (sym h)), λ has. absurd (none has.0 has.2 has.1 has.3))
+    found_exactly (Some m) found =
+        let a = found.answer in let f = some_parse a found.found in
+        (λ h. (a.start, a.end, f.first.place, matches_from a f), λ has. refl)
+
+    pub match_headline : (o : Option M) → FindsSpan r hay s (option_map at o) → MatchHeadline r hay s (option_map at o)
+    match_headline None none = none
+    match_headline (Some m) found = first_match (at m) found
+
+    -- over texts it begins and ends at borders
+    pub found_at_borders : IsUtf8 hay → (s ≤ length hay → IsCharBoundary hay s) → (o : Option M) → FindsSpan r hay s (option_map at o) →
+        IfSome o (λ x. HasBorders hay (at x))
+    found_at_borders utf8 border None none = tt
+    found_at_borders utf8 border (Some m) found =
+        let a = found.answer in
+        subst (HasBorders hay) (sym found.is_span) (answer_borders r.tree hay s utf8 border a (some_parse a found.found)).0
+
+  -- the groups in slots
+  module _ (l : List (Option ℕ)) where
+    -- over texts each begins and ends at borders
+    pub of_borders : IsUtf8 hay → (s ≤ length hay → IsCharBoundary hay s) → FindsGroups r hay s (Some l) → GroupsAtBorders hay l
+    of_borders utf8 border found = λ k g e.
+        (answer_borders r.tree hay s utf8 border found.answer (some_parse found.answer found.found)).1 k g (sym (found.in_slots.1 k) ∙ e)
+
+    of_parse : (Q R : (i j : ℕ) → List Mark → Type 0) (a : Answer) → ((i j : ℕ) (ms : List Mark) → Q i j ms → R i j ms) →
+        FoundBy r.tree hay Q s (Some a) → IsInSlots (Some a) (Some l) → AreOfParse r.tree hay s R l
+    of_parse Q R a weaker f is = record {
+      start = a.start;
+      end = a.end;
+      marks = f.marks;
+      first = f.first;
+      parse = f.parse;
+      groups = λ k. is.1 k ∙ f.groups k;
+      chosen = weaker a.start a.end f.marks f.chosen;
+    }
+
+    -- the groups are the headline's
+    pub first_groups : FindsGroups r hay s (Some l) → AreFirstGroups r hay s l
+    first_groups found =
+        let a = found.answer in
+        record {
+          one_parse = of_parse _ _ a (λ i j ms h. tt) (some_parse a found.found) found.in_slots;
+          preferred = λ off plain.
+              of_parse _ _ a (λ i j ms h. h plain) (subst (λ b. Finds b r.tree hay s (Some a)) off found.found) found.in_slots;
+          longest = λ on. of_parse _ _ a (λ i j ms h. h.0) (subst (λ b. Finds b r.tree hay s (Some a)) on found.found) found.in_slots;
+          preferred_longest = λ on plain.
+              of_parse _ _ a (λ i j ms h. (h.0, h.1 plain)) (subst (λ b. Finds b r.tree hay s (Some a)) on found.found) found.in_slots;
+        }
+
+  pub captured_by : (o : Option (List (Option ℕ))) (c : Captured) → Some c ≡ option_map (captured r hay) o → (c.regex ≡ r) × (c.haystack ≡ hay)
+  captured_by None c e = let never : Some c ≡ None = e in absurd (cc)
+  captured_by (Some l) c e =
+      let some : Some c ≡ Some (captured r hay l) = e in
+      let same : c ≡ captured r hay l = cc in
+      (ap (λ (d : Captured). d.regex) same, ap (λ (d : Captured). d.haystack) same)
+
+  -- captures are the headline's
+  pub headline : (o : Option Captured) → o ≡ option_map (captured r hay) (slots_at r hay s) → FindsGroups r hay s (option_map (λ c. c.slots) o) →
+      Headline r hay s o
+  headline None e none = none
+  headline (Some c) e found =
+      let by = captured_by (slots_at r hay s) c e in
+      record { regex_is = by.0; haystack_is = by.1; groups = first_groups c.slots found }
+
+  -- what holds of slots with the groups that a search finds holds of captures
+  pub on_captures : (P : List (Option ℕ) → Type 0) → ((l : List (Option ℕ)) → FindsGroups r hay s (Some l) → P l) →
+      (o : Option Captured) → FindsGroups r hay s (option_map (λ c. c.slots) o) → IfSome o (λ c. P c.slots)
+  on_captures P of None f = tt
+  on_captures P of (Some c) f = of c.slots f
+
+  -- and of locations into which the search has written
+  module _ (is : IsCompiled r) {M : Type 0} (f : M → Excerpt) where
+    written_by : (P : List (Option ℕ) → Type 0) → ((l : List (Option ℕ)) → FindsGroups r hay s (Some l) → P l) →
+        (x : Option Run) → run_at r hay s ≡ x → (o : Option M) → option_map f o ≡ option_map (excerpt hay) (option_map span_of_run x) →
+        (old new : List (Option ℕ)) → new ≡ unwrap_or (option_map (slots r.program) x) old → IfSome o (λ m. P new)
+    written_by P of x e None same old new w = tt
+    written_by P of None e (Some m) same old new w = let never : Some (f m) ≡ None = same in absurd (cc)
+    written_by P of (Some x) e (Some m) same old new w =
+        subst P (sym w)
+        (of (slots r.program x) (subst (λ q. FindsGroups r hay s (option_map (slots r.program) q)) e (laws.slots_are_found r is hay s).0))
+
+    written_whole_by : (x : Option Run) → run_at r hay s ≡ x → (o : Option M) → option_map f o ≡ option_map (excerpt hay) (option_map span_of_run x) →
+        (old new : List (Option ℕ)) → new ≡ unwrap_or (option_map (slots r.program) x) old → IfSome o (λ m. group_in new 0 ≡ Some (f m).span)
+    written_whole_by x e None same old new w = tt
+    written_whole_by None e (Some m) same old new w = let never : Some (f m) ≡ None = same in absurd (cc)
+    written_whole_by (Some x) e (Some m) same old new w =
+        ap (λ l. group_in l 0) w ∙ laws.answers_have_group_0 r is hay s x e ∙ sym (ap (option_map (λ (y : Excerpt). y.span)) same)
+
+    -- the match is group 0 in the locations
+    pub written_whole : (o : Option M) → option_map f o ≡ option_map (excerpt hay) (span_at r hay s) →
+        (old new : List (Option ℕ)) → new ≡ unwrap_or (slots_at r hay s) old → IfSome o (λ m. group_in new 0 ≡ Some (f m).span)
+    written_whole = written_whole_by (run_at r hay s) refl
+
+    written_is : (x : Option Run) (o : Option M) → option_map f o ≡ option_map (excerpt hay) (option_map span_of_run x) →
+        option_map (λ m. (f m).span) o ≡ option_map span_of_run x
+    written_is None None e = refl
+    written_is None (Some m) e = let never : Some (f m) ≡ None = e in absurd (cc)
+    written_is (Some x) None e = let never : None ≡ Some (excerpt hay (span_of_run x)) = e in absurd (cc)
+    written_is (Some x) (Some m) e = ap (option_map (λ (y : Excerpt). y.span)) e
+
+    written_span : (o : Option M) → option_map f o ≡ option_map (excerpt hay) (span_at r hay s) → FindsSpan r hay s (option_map (λ m. (f m).span) o)
+    written_span o e = subst (FindsSpan r hay s) (sym (written_is (run_at r hay s) o e)) (laws.slots_are_found r is hay s).1
+
+    -- a search that writes locations finds something exactly if the tree matches
+    pub written_exactly : (o : Option M) → option_map f o ≡ option_map (excerpt hay) (span_at r hay s) → IsSome o ↔ HasMatch r.tree hay s
+    written_exactly o e = found_exactly (λ m. (f m).span) o (written_span o e)
+
+    pub on_written : (P : List (Option ℕ) → Type 0) → ((l : List (Option ℕ)) → FindsGroups r hay s (Some l) → P l) →
+        (o : Option M) → option_map f o ≡ option_map (excerpt hay) (span_at r hay s) →
+        (old new : List (Option ℕ)) → new ≡ unwrap_or (slots_at r hay s) old → IfSome o (λ m. P new)
+    on_written P of = written_by P of (run_at r hay s) refl

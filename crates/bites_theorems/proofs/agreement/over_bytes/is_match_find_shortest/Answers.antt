@@ -1,0 +1,8 @@
+use Rattle.bites_bytes.specs.Matched.{excerpt_of}
+use Rattle.bites_theorems.proofs.AgreementLemmas.{soonest_is_no_later}
+use Rattle.bites_theorems.proofs.agreement.over_bytes.is_match_find_shortest.Goals as goal
+
+pub returns-clause-soonest : goal.returns-clause-soonest
+returns-clause-soonest c =
+    soonest_is_no_later c.args.regex.now c.args.haystack.now c.args.start (λ m. (excerpt_of m).span) c.in_ok-first.first
+    c.in_ok-first.ensures.on_tree c.in_ok-soonest.soonest c.in_ok-soonest.ensures

@@ -1,0 +1,18 @@
+use Rattle.std.proofs.Common.{option_map, subst}
+use Rattle.bites_spec.specs.Slots.{group_in}
+use Rattle.bites_spec.specs.Captured.{FindsGroups}
+use Rattle.regex_bites.specs.Matched.{excerpt_of}
+use Rattle.bites_theorems.proofs.GroupLemmas.{group_of_part, group_within}
+use Rattle.bites_theorems.proofs.agreement.over_texts.match_and_group.Goals as goal
+
+pub returns-in-Some-Some : goal.returns-in-Some-Some
+returns-in-Some-Some c =
+    let slots = c.in-Some.captures.slots in
+    let hay = c.in-Some.captures.haystack in
+    let whole = excerpt_of c.in-Some-Some.whole in
+    let part = excerpt_of c.in-Some-Some.part in
+    group_within c.args.regex.now c.args.haystack.now c.args.start slots
+    (subst (λ o. FindsGroups c.args.regex.now c.args.haystack.now c.args.start (option_map (λ x. x.slots) o)) c.in-Some.is c.in_ok-captures.ensures.on_tree)
+    whole.span part.span c.args.group
+    (group_of_part hay (group_in slots 0) whole c.in-Some-Some.ensures)
+    (group_of_part hay (group_in slots c.args.group) part c.in-Some-Some.ensures')

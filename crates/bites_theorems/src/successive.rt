@@ -1,0 +1,130 @@
+//! The successive matches, the pieces between them, and the haystack with all of them replaced.
+//!
+//! `as_str` is called for its contract: it says that the regex is compiled, which the laws of its answers ask.
+
+ghost use Rattle.std.specs.Prelude.{◌≡◌, ◌+◌, Some, map, option_map, IfOk, vec_len};
+ghost use Rattle.std.specs.Cow.{cow_slice_items, cow_str_bytes};
+ghost use Rattle.bites_spec.specs.Pieces.{joined_by, alternate};
+ghost use Rattle.bites_spec.specs.Captured.{text_of};
+ghost use Rattle.bites_bytes.specs.Matched as bytes;
+ghost use Rattle.regex_bites.specs.Matched as texts;
+
+/// Over byte strings.
+pub mod over_bytes {
+    use regex_bites::bytes::{Match, NoExpand, Regex};
+    use std::alloc::{AllocError, Global};
+    use std::borrow::CowSlice;
+
+    /// All matches, and group 0 of the groups of all matches: they are the same.
+    pub fn matches_and_groups_0<'h>(
+        alloc: Global,
+        regex: &Regex,
+        haystack: &'h [u8],
+    ) -> Result<(Vec<Match<'h>>, Vec<Option<Match<'h>>>), AllocError>
+        ensures { IfOk result (λ r. map (option_map bytes.excerpt_of) r.1.items
+            ≡ map (λ m. Some (bytes.excerpt_of m)) r.0.items) }
+    {
+        // Its contract says that the regex is compiled, which no field shows to a caller. So do the calls below.
+        regex.as_str();
+        let matches = regex.find_iter(haystack)?.collect(alloc)?;
+        let mut wholes = Vec::new(alloc);
+        for captures in regex.captures_iter(haystack)? {
+            wholes.push(captures?.get(0))?;
+        }
+        Ok((matches, wholes))
+    }
+
+    /// All matches, and the pieces between them: there is one piece more than there are matches, and pieces and matches in
+    /// turn are the haystack.
+    pub fn matches_and_pieces<'h>(
+        alloc: Global,
+        regex: &Regex,
+        haystack: &'h [u8],
+    ) -> Result<(Vec<Match<'h>>, Vec<&'h [u8]>), AllocError>
+        ensures one_more { IfOk result (λ r. vec_len r.1 ≡ vec_len r.0 + 1) }
+        ensures whole { IfOk result (λ r. alternate (map (λ p. p.now) r.1.items)
+            (map (λ m. text_of (bytes.excerpt_of m)) r.0.items) ≡ haystack.now) }
+    {
+        regex.as_str();
+        let matches = regex.find_iter(haystack)?.collect(alloc)?;
+        let pieces = regex.split(haystack)?.collect(alloc)?;
+        Ok((matches, pieces))
+    }
+
+    /// The haystack with each match replaced by a text, and the pieces between the matches: the first is the pieces joined
+    /// by the text.
+    pub fn replaced_and_pieces<'h>(
+        alloc: Global,
+        regex: &Regex,
+        haystack: &'h [u8],
+        text: &[u8],
+    ) -> Result<(CowSlice<'h, u8>, Vec<&'h [u8]>), AllocError>
+        ensures { IfOk result
+            (λ r. cow_slice_items r.0 ≡ joined_by text.now (map (λ p. p.now) r.1.items)) }
+    {
+        regex.as_str();
+        let pieces = regex.split(haystack)?.collect(alloc)?;
+        let replaced = regex.replace_all(haystack, NoExpand(text))?;
+        Ok((replaced, pieces))
+    }
+}
+
+/// Over texts.
+pub mod over_texts {
+    use regex_bites::{Match, NoExpand, Regex};
+    use std::alloc::{AllocError, Global};
+    use std::borrow::CowStr;
+
+    /// All matches, and group 0 of the groups of all matches: they are the same.
+    pub fn matches_and_groups_0<'h>(
+        alloc: Global,
+        regex: &Regex,
+        haystack: &'h str,
+    ) -> Result<(Vec<Match<'h>>, Vec<Option<Match<'h>>>), AllocError>
+        ensures { IfOk result (λ r. map (option_map texts.excerpt_of) r.1.items
+            ≡ map (λ m. Some (texts.excerpt_of m)) r.0.items) }
+    {
+        // Its contract says that the regex is compiled, which no field shows to a caller. So do the calls below.
+        regex.as_str();
+        let matches = regex.find_iter(haystack)?.collect(alloc)?;
+        let mut wholes = Vec::new(alloc);
+        for captures in regex.captures_iter(haystack)? {
+            wholes.push(captures?.get(0))?;
+        }
+        Ok((matches, wholes))
+    }
+
+    /// All matches, and the pieces between them: there is one piece more than there are matches, and pieces and matches in
+    /// turn are the haystack.
+    pub fn matches_and_pieces<'h>(
+        alloc: Global,
+        regex: &Regex,
+        haystack: &'h str,
+    ) -> Result<(Vec<Match<'h>>, Vec<&'h str>), AllocError>
+        ensures one_more { IfOk result (λ r. vec_len r.1 ≡ vec_len r.0 + 1) }
+        ensures whole { IfOk result (λ r. alternate (map (λ p. p.now) r.1.items)
+            (map (λ m. text_of (texts.excerpt_of m)) r.0.items) ≡ haystack.now) }
+    {
+        regex.as_str();
+        let matches = regex.find_iter(haystack)?.collect(alloc)?;
+        let pieces = regex.split(haystack)?.collect(alloc)?;
+        Ok((matches, pieces))
+    }
+
+    /// The haystack with each match replaced by a text, and the pieces between the matches: the first is the pieces joined
+    /// by the text.
+    pub fn replaced_and_pieces<'h>(
+        alloc: Global,
+        regex: &Regex,
+        haystack: &'h str,
+        text: &str,
+    ) -> Result<(CowStr<'h>, Vec<&'h str>), AllocError>
+        ensures { IfOk result
+            (λ r. cow_str_bytes r.0 ≡ joined_by text.now (map (λ p. p.now) r.1.items)) }
+    {
+        regex.as_str();
+        let pieces = regex.split(haystack)?.collect(alloc)?;
+        let replaced = regex.replace_all(haystack, NoExpand(text))?;
+        Ok((replaced, pieces))
+    }
+}
