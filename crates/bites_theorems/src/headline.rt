@@ -5,10 +5,10 @@
 //! are those of one parse there: of the preferred one where the tree is plain. Iterators return all matches of the tree in
 //! turn, and nothing matches between two of them. And no state is visited twice at a place.**
 //!
-//! [`over_bytes`] and [`over_texts`] are a page each: a pattern, a search, all matches, replacement. Each function makes a
-//! call or two of the public surface, and its contract is a part of these sentences. The proofs rest on the contracts of
-//! these calls and on the laws of `bites_spec` alone. The places of a haystack are those where its characters begin, and its
-//! end; `docs/STATEMENT.md` reads each word of the contracts aloud.
+//! [`over_bytes`] and [`over_texts`] are a page each: a pattern, a search, and all matches. [`super::calls`] says it of
+//! every other call. Each function makes a call or two of the public surface, and its contract is a part of these sentences.
+//! The proofs rest on the contracts of these calls and on the laws of `bites_spec` alone. The places of a haystack are those
+//! where its characters begin, and its end; `docs/STATEMENT.md` reads each word of the contracts aloud.
 //!
 //! Where a call can fail, memory may be refused, and nothing is promised then. The calls with a cache cannot fail.
 

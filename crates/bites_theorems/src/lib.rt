@@ -6,6 +6,7 @@
 
 pub mod agreement;
 pub mod bounds;
+pub mod calls;
 pub mod escaped;
 pub mod headline;
 pub mod refuted;

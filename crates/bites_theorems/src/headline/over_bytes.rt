@@ -1,25 +1,19 @@
 //! The headline over byte strings.
 
-ghost use Rattle.std.specs.Prelude.{◌≡◌, ◌≢◌, ◌↔◌, false, length, map, option_map, is_some, Some, IsTrue, IsSome, IfOk, IfErr, IfSome};
-ghost use Rattle.std.specs.Cow.{cow_slice_items};
+ghost use Rattle.std.specs.Prelude.{◌≡◌, ◌≢◌, ◌↔◌, length, map, is_some, Some, IsSome, IfOk, IfErr, IfSome};
 ghost use Rattle.bites_spec.specs.Tree.{Tree};
-ghost use Rattle.bites_spec.specs.Found.{HasMatch, IsLeastEnd};
-ghost use Rattle.bites_spec.specs.Anchored.{HasMatchFrom, IsFullMatch, IsWalkedFrom};
+ghost use Rattle.bites_spec.specs.Found.{HasMatch};
 ghost use Rattle.bites_spec.specs.Slots.{group_in};
 ghost use Rattle.bites_spec.specs.Counts.{fit_of, IsBounded, VisitedBy};
-ghost use Rattle.bites_spec.specs.Settings.{Accepts, by_default, no_flags};
-ghost use Rattle.bites_spec.specs.AllMatches.{AreMatches, AreCaptures, LeaveNoneOut};
+ghost use Rattle.bites_spec.specs.Settings.{Accepts};
+ghost use Rattle.bites_spec.specs.AllMatches.{AreMatches, LeaveNoneOut};
 ghost use Rattle.bites_bytes.specs.Settings.{Refuses};
 ghost use Rattle.bites_bytes.specs.Matched.{excerpt_of};
-ghost use Rattle.bites_theorems.specs.Headline.{MatchHeadline, Headline, AreFirstGroups, AnchoredMatchHeadline, AnchoredHeadline, AreGroupsHere, FullHeadline};
-ghost use Rattle.bites_theorems.specs.OnTree.{ArePieces, ArePiecesUpTo, IsReplaced, ReplacesMatches};
+ghost use Rattle.bites_theorems.specs.Headline.{AreFirstGroups};
 ghost use Rattle.bites_theorems.specs.Promises.{StandApart};
 
-use regex_bites::bytes::{
-    Cache, CaptureLocations, Captures, Error, Match, NoExpand, Regex, RegexBuilder, Replacer,
-};
+use regex_bites::bytes::{Cache, CaptureLocations, Error, Match, Regex, RegexBuilder};
 use std::alloc::{AllocError, Global};
-use std::borrow::CowSlice;
 
 /// Builds a regex. A pattern is accepted exactly if the grammar reads it under the builder's flags as a tree, and all limits
 /// hold: the regex has that tree. Otherwise the error is the message of the pattern's first fault, or of the first limit that
@@ -35,101 +29,12 @@ pub fn build(builder: &RegexBuilder) -> Result<Regex, Error>
     builder.build()
 }
 
-/// Like [`build`], but without flags and under the limits that a builder begins with.
-pub fn new(alloc: Global, pattern: &str) -> Result<Regex, Error>
-    ensures kept { IfOk result (λ r. (r.pattern ≡ pattern.now)
-        × (r.flags ≡ no_flags) × (r.leftmost_longest ≡ false)) }
-    ensures accepted { IfOk result (λ r. Accepts (by_default pattern.now) r.tree) }
-    ensures refused { IfErr result (λ e. e ≢ Error.Memory → (t : Tree) → Accepts (by_default pattern.now) t → ⊥) }
-    ensures message { IfErr result (λ e. e ≢ Error.Memory → Refuses (by_default pattern.now) e) }
-{
-    Regex::new(alloc, pattern)
-}
-
-/// Returns whether something matches: exactly if the tree matches at a place from the start on.
-pub fn is_match(regex: &Regex, haystack: &[u8], start: usize) -> Result<bool, AllocError>
-    ensures { IfOk result (λ found. IsTrue found ↔ HasMatch regex.now.tree haystack.now start) }
-{
-    regex.is_match_at(haystack, start)
-}
-
-/// Returns the first match. It begins at the first such place, and is what the tree matches there. Where the tree is plain, it
-/// ends where the preferred parse there does; where the longest match is asked for, no match there ends after it.
-pub fn find<'h>(
-    regex: &Regex,
-    haystack: &'h [u8],
-    start: usize,
-) -> Result<Option<Match<'h>>, AllocError>
-    ensures { IfOk result (λ m. MatchHeadline regex.now haystack.now start
-        (option_map (λ x. (excerpt_of x).span) m)) }
-{
-    regex.find_at(haystack, start)
-}
-
-/// Returns the groups of the first match. Its end and its groups are those of one parse at the first place that has one. Where
-/// the tree is plain, it is the parse that the pattern prefers. Where the longest match is asked for, it goes to the greatest
-/// end, and is the one that the pattern prefers of those that do.
-pub fn captures<'h>(
-    regex: &Regex,
-    haystack: &'h [u8],
-    start: usize,
-) -> Result<Option<Captures<'h>>, AllocError>
-    ensures { IfOk result (Headline regex.now haystack.now start) }
-{
-    let found = regex.captures_at(haystack, start)?;
-    Ok(found)
-}
-
-/// Returns the least end of all matches from the start on.
-pub fn shortest_match(
-    regex: &Regex,
-    haystack: &[u8],
-    start: usize,
-) -> Result<Option<usize>, AllocError>
-    ensures { IfOk result (λ end. IsLeastEnd regex.now.tree haystack.now start end) }
-{
-    regex.shortest_match_at(haystack, start)
-}
-
-/// Returns whether something matches. No state is visited twice at a place, and so there are at most as many visits as states
-/// times places. Where nothing is found, all that can be reached was visited; otherwise all of one run was.
-pub fn is_match_visits(regex: &Regex, cache: &mut Cache, haystack: &[u8], start: usize) -> bool
-    requires { cache.old.fits ≡ fit_of regex.now.program }
-    ensures once { IsBounded regex.now.program haystack.now start cache.new.walked }
-    ensures reached { VisitedBy regex.now.program haystack.now start result cache.new.walked }
-{
-    regex.is_match_at_with(cache, haystack, start)
-}
-
-/// Visits no state twice at a place in a search for the least end.
-pub fn shortest_match_visits(
-    regex: &Regex,
-    cache: &mut Cache,
-    haystack: &[u8],
-    start: usize,
-) -> Option<usize>
-    requires { cache.old.fits ≡ fit_of regex.now.program }
-    ensures once { IsBounded regex.now.program haystack.now start cache.new.walked }
-    ensures reached { VisitedBy regex.now.program haystack.now start (is_some result) cache.new.walked }
-{
-    regex.shortest_match_at_with(cache, haystack, start)
-}
-
-/// Visits no state twice at a place in a search for the match.
-pub fn find_visits<'h>(
-    regex: &Regex,
-    cache: &mut Cache,
-    haystack: &'h [u8],
-    start: usize,
-) -> Option<Match<'h>>
-    requires { cache.old.fits ≡ fit_of regex.now.program }
-    ensures once { IsBounded regex.now.program haystack.now start cache.new.walked }
-    ensures reached { VisitedBy regex.now.program haystack.now start (is_some result) cache.new.walked }
-{
-    regex.find_at_with(cache, haystack, start)
-}
-
-/// Says all of this of one call, a search for the groups. It takes no memory, so it cannot fail.
+/// Returns the first match, exactly if the tree matches at a place from the start on, and puts its groups into the locations.
+/// It begins at the first such place. Its end and its groups are those of one parse there: of the preferred one where the tree
+/// is plain, and of one with the greatest end where the longest match is asked for.
+///
+/// It visits no state twice at a place. Where nothing is found, all that can be reached was visited; otherwise all of one run
+/// was. It takes no memory, so it cannot fail.
 pub fn search<'h>(
     regex: &Regex,
     cache: &mut Cache,
@@ -145,84 +50,9 @@ pub fn search<'h>(
     ensures once { IsBounded regex.now.program haystack.now start cache.new.walked }
     ensures reached { VisitedBy regex.now.program haystack.now start (is_some result) cache.new.walked }
 {
-    // Its contract says that the regex is compiled, which no field shows to a caller. So do the calls below.
+    // Its contract says that the regex is compiled, which no field shows to a caller. So does the call below.
     regex.as_str();
     regex.captures_read_at_with(cache, locations, haystack, start)
-}
-
-/// Returns whether something matches from the start itself.
-pub fn is_match_anchored(regex: &Regex, haystack: &[u8], start: usize) -> Result<bool, AllocError>
-    ensures { IfOk result (λ found. IsTrue found ↔ HasMatchFrom regex.now.tree haystack.now start) }
-{
-    regex.is_match_anchored_at(haystack, start)
-}
-
-/// Returns the match that begins at the start itself, which is what the tree matches there. Where the tree is plain, it ends
-/// where the preferred parse there does; where the longest match is asked for, no match there ends after it.
-pub fn find_anchored<'h>(
-    regex: &Regex,
-    haystack: &'h [u8],
-    start: usize,
-) -> Result<Option<Match<'h>>, AllocError>
-    ensures { IfOk result (λ m. AnchoredMatchHeadline regex.now haystack.now start
-        (option_map (λ x. (excerpt_of x).span) m)) }
-{
-    regex.find_anchored_at(haystack, start)
-}
-
-/// Returns the groups of this match: its end and its groups are those of one parse from the start. Where the tree is plain, it is
-/// the parse that the pattern prefers. Where the longest match is asked for, it goes to the greatest end, and is the one that
-/// the pattern prefers of those that do.
-pub fn captures_anchored<'h>(
-    regex: &Regex,
-    haystack: &'h [u8],
-    start: usize,
-) -> Result<Option<Captures<'h>>, AllocError>
-    ensures { IfOk result (AnchoredHeadline regex.now haystack.now start) }
-{
-    regex.as_str();
-    let found = regex.captures_anchored_at(haystack, start)?;
-    Ok(found)
-}
-
-/// Says all of this of one call. It takes no memory, so it cannot fail. It visits no state twice at a place; where nothing is
-/// found, all that can be reached from the start was visited, and otherwise all of one run.
-pub fn search_anchored<'h>(
-    regex: &Regex,
-    cache: &mut Cache,
-    locations: &mut CaptureLocations,
-    haystack: &'h [u8],
-    start: usize,
-) -> Option<Match<'h>>
-    requires cache { cache.old.fits ≡ fit_of regex.now.program }
-    requires locations { length locations.old ≡ regex.now.program.slots }
-    ensures exactly { IsSome result ↔ HasMatchFrom regex.now.tree haystack.now start }
-    ensures whole { IfSome result (λ x. group_in locations.new 0 ≡ Some (excerpt_of x).span) }
-    ensures headline { IfSome result (λ x. AreGroupsHere regex.now haystack.now start locations.new) }
-    ensures walked { IsWalkedFrom regex.now.program haystack.now start (is_some result) cache.new.walked }
-{
-    regex.as_str();
-    regex.captures_read_anchored_at_with(cache, locations, haystack, start)
-}
-
-/// Returns whether the tree matches the whole haystack.
-pub fn is_full_match(regex: &Regex, haystack: &[u8]) -> Result<bool, AllocError>
-    ensures { IfOk result (λ found. IsTrue found ↔ IsFullMatch regex.now.tree haystack.now) }
-{
-    regex.is_full_match(haystack)
-}
-
-/// Returns the groups of a match of the whole haystack: those of one parse of it, and where the tree is plain of the one that the
-/// pattern prefers.
-pub fn captures_full<'h>(
-    regex: &Regex,
-    haystack: &'h [u8],
-) -> Result<Option<Captures<'h>>, AllocError>
-    ensures { IfOk result (FullHeadline regex.now haystack.now) }
-{
-    regex.as_str();
-    let found = regex.captures_full(haystack)?;
-    Ok(found)
 }
 
 /// Returns all matches: what the tree finds from the start, and then what it finds after each. Nothing matches between two of
@@ -240,77 +70,4 @@ pub fn all_matches<'h>(
     regex.as_str();
     let matches = regex.find_iter(haystack)?.collect(alloc)?;
     Ok(matches)
-}
-
-/// Returns the groups of all matches: those of one parse each, as the tree finds them.
-pub fn all_captures<'h>(
-    alloc: Global,
-    regex: &Regex,
-    haystack: &'h [u8],
-) -> Result<Vec<Captures<'h>>, AllocError>
-    ensures { IfOk result (λ v. AreCaptures regex.now haystack.now v.items) }
-{
-    regex.as_str();
-    let mut all = Vec::new(alloc);
-    for captures in regex.captures_iter(haystack)? {
-        all.push(captures?)?;
-    }
-    Ok(all)
-}
-
-/// Returns the pieces between all matches of the tree.
-pub fn pieces<'h>(
-    alloc: Global,
-    regex: &Regex,
-    haystack: &'h [u8],
-) -> Result<Vec<&'h [u8]>, AllocError>
-    ensures { IfOk result (λ v. ArePieces regex.now haystack.now (map (λ p. p.now) v.items)) }
-{
-    regex.as_str();
-    let pieces = regex.split(haystack)?.collect(alloc)?;
-    Ok(pieces)
-}
-
-/// Returns at most `limit` of these pieces; the last of them has the whole rest.
-pub fn pieces_up_to<'h>(
-    alloc: Global,
-    regex: &Regex,
-    haystack: &'h [u8],
-    limit: usize,
-) -> Result<Vec<&'h [u8]>, AllocError>
-    ensures { IfOk result (λ v. ArePiecesUpTo regex.now haystack.now limit (map (λ p. p.now) v.items)) }
-{
-    regex.as_str();
-    let pieces = regex.splitn(haystack, limit)?.collect(alloc)?;
-    Ok(pieces)
-}
-
-/// Returns the haystack with the first `limit` matches of the tree, or all for 0, replaced by a text.
-pub fn replaced_by_text<'h>(
-    regex: &Regex,
-    haystack: &'h [u8],
-    limit: usize,
-    text: &[u8],
-) -> Result<CowSlice<'h, u8>, AllocError>
-    ensures { IfOk result (λ bytes. IsReplaced regex.now haystack.now limit (λ c. text.now) (cow_slice_items bytes)) }
-{
-    regex.as_str();
-    let replaced = regex.replacen(haystack, limit, NoExpand(text))?;
-    Ok(replaced)
-}
-
-/// Returns the haystack with the first `limit` matches of the tree, or all for 0, replaced as a replacer says.
-pub fn replaced_by<'h, R: Replacer + Drop>(
-    regex: &Regex,
-    haystack: &'h [u8],
-    limit: usize,
-    replacer: R,
-) -> Result<CowSlice<'h, u8>, AllocError>
-    requires { (state : R) → R.can_replace state }
-    ensures { IfOk result (λ bytes. (end : R) × ReplacesMatches regex.now haystack.now R.replaces R.answers
-        limit replacer (cow_slice_items bytes) end) }
-{
-    regex.as_str();
-    let replaced = regex.replacen(haystack, limit, replacer)?;
-    Ok(replaced)
 }

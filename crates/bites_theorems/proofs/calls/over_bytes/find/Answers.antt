@@ -1,0 +1,8 @@
+use Rattle.std.proofs.lemmas.Result.{IfOk-weaker}
+use Rattle.bites_bytes.specs.Matched.{excerpt_of}
+use Rattle.bites_theorems.proofs.HeadlineLemmas.{match_headline}
+use Rattle.bites_theorems.proofs.calls.over_bytes.find.Goals as goal
+
+pub returns : goal.returns
+returns c =
+    IfOk-weaker c.find_at.result _ _ (match_headline c.args.regex.now c.args.haystack.now c.args.start (λ m. (excerpt_of m).span)) c.find_at.ensures.on_tree

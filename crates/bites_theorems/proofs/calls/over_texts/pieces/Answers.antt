@@ -1,0 +1,13 @@
+use Rattle.std.specs.Prelude.{Ok}
+use Rattle.std.proofs.lemmas.Iterator.Consumers.{YieldsList-from_first, map_from_collect}
+use Rattle.bites_spec.specs.Iteration.{spans_in, pieces_in}
+use Rattle.bites_spec.proofs.Laws as laws
+use Rattle.regex_bites.specs.Split.{pieces_left, text_now}
+use Rattle.bites_theorems.proofs.calls.over_texts.pieces.Goals as goal
+
+pub returns : goal.returns
+returns c =
+    let r = c.args.regex.now in let hay = c.args.haystack.now in
+    let pieces = map_from_collect {E = Unit {0}} (Ok c.in_ok-pieces.pieces) c.in_ok-pieces.ensures.ran
+    (YieldsList-from_first text_now pieces_left (pieces_in r hay) c.in_ok-split.ensures) in
+    (spans_in r hay, laws.finds_are_successive r c.as_str.ensures.compiled hay, pieces)
