@@ -1,10 +1,13 @@
 -- Places where the closure of the start visits the start prefix alone.
 use Rattle.std.proofs.Common.{◌≡◌, ℕ, zero, suc, ◌+◌, ◌<◌, ◌≤◌, Bool, true, false, cond, ◌||◌, List, [], ◌∷◌, ◌++◌, map, length, Option, Some, None, refl, sym, ap, ap₂, ◌∙◌, subst, ⊎_elim, arith, ne_eqb}
-use Rattle.std.specs.Prelude.{is_some, if◌then◌else◌, nat_lt}
-use Rattle.bites_spec.specs.Utf8.{piece, character}
+use Rattle.std.specs.Prelude.{◌/◌, ◌%◌, ◌==◌, drop, get_or, is_some, if◌then◌else◌, nat_lt, slice_index}
+use Rattle.std.proofs.Math.Seq.{drop-cons}
+use Rattle.bites_spec.specs.Range.{in_range}
+use Rattle.bites_spec.specs.Utf8.{Piece, piece, character, front_piece, piece_by, whole_len, well_formed_rows}
 use Rattle.bites_spec.specs.Walks.{Among}
 use Rattle.bites_spec.specs.Program.{Program, Configuration, State, at}
 use Rattle.bites_spec.specs.Counts.{Record}
+use Rattle.bites_machine.specs.Bits.{has_bit}
 use Rattle.bites_machine.specs.Ends.{next_character}
 use Rattle.bites_machine.specs.Machine as machine
 use Rattle.bites_machine.specs.Machine.{Walking, Searching, WalksTo, Searches, started, begun, after}
@@ -80,6 +83,34 @@ some_taken hay place ch is = by_len (piece hay place).len is
     by_len zero e = cc
     by_len (suc n) e = omega arith
 
+-- a character of ASCII is a piece of its own
+ascii_piece : (b : ℕ) (rest : List ℕ) → b < 128 → front_piece (b ∷ rest) ≡ record { decoded = Some b; len = 1 }
+unfolding front_piece
+ascii_piece b rest small =
+    let in_row : in_range (0x00, 0x7F) b ≡ true = grind (arith, nat_tests) in
+    let one : whole_len well_formed_rows (b ∷ rest) ≡ 1 =
+    ap (λ (t : Bool). cond (cond t 1 0 == 1) (cond t 1 0) (whole_len (drop 1 well_formed_rows) (b ∷ rest))) in_row in
+    ap (λ (n : ℕ). piece_by n (b ∷ rest)) one
+
+-- the same at a place
+pub ascii_at : (hay : List ℕ) (place : ℕ) → place < length hay → get_or hay place 0 < 128 →
+    piece hay place ≡ record { decoded = Some (get_or hay place 0); len = 1 }
+unfolding piece
+ascii_at hay place lt small =
+    ap front_piece (drop-cons hay place 0 lt) ∙ ascii_piece (get_or hay place 0) (drop (suc place) hay) small
+
+not_false : true ≡ false → ⊥
+not_false e = cc
+
+-- a byte that can't be taken is a character of ASCII, and no state takes it
+pub byte_idle : (words : List ℕ) (others : Bool) (b : ℕ) → in_set words true b ≡ false → (b < 128) × (in_set words others b ≡ false)
+byte_idle words others b e = by_test (nat_lt b 128) refl e
+  where
+    by_test : (t : Bool) → nat_lt b 128 ≡ t → cond t (has_bit (slice_index words (b / 64)) (b % 64)) true ≡ false →
+        (b < 128) × (cond (nat_lt b 128) (has_bit (slice_index words (b / 64)) (b % 64)) others ≡ false)
+    by_test true is bit = (grind (arith, nat_tests), rw is bit)
+    by_test false is bit = absurd (not_false bit)
+
 -- no place was skipped yet
 pub skips_first : (hay : List ℕ) (longest : Bool) (place : ℕ) (states : List State) (q : ℕ) (was : Record) → Passes hay longest place place states q was was
 skips_first hay longest place states q was = record { gone = λ p is earliest start first slots pool slots_per_row gone. gone }
@@ -96,6 +127,27 @@ skips_on hay longest place here len states q x was mid now prefix out apart lens
       refl refl lens slots_per_row is refl refl (passes.gone p is earliest start first slots pool slots_per_row gone)
       (place_skipped hay longest here states q x prefix out apart len mid now scratch slots lens refl visits looks) in
       reached_next p hay longest earliest start first here len false now pool [] slots 0 did lens refl (ap (λ (b : Bool). b || false) (ne_eqb len 0 (λ e. absurd (omega (arith, e)))));
+}
+
+-- places were skipped, and an ASCII character that no state takes stands behind them
+pub skips_byte : (hay : List ℕ) (longest : Bool) (place here : ℕ) (states : List State) (q : ℕ) (x : StartPrefix) (was mid now : Record) →
+    IsPrefix states q x → here < length hay → in_set x.ascii true (get_or hay here 0) ≡ false → IsApart x here →
+    now.visits ≡ map (λ r. at r here) x.visited.value ++ mid.visits → now.looks ≡ mid.looks + x.looks.value →
+    Passes hay longest place here states q was mid → Passes hay longest place (here + 1) states q was now
+skips_byte hay longest place here states q x was mid now prefix lt out apart visits looks passes =
+    let b = get_or hay here 0 in
+    let idle = byte_idle x.ascii x.others b out in
+    let is : piece hay here ≡ record { decoded = Some b; len = 1 } = ascii_at hay here lt idle.0 in
+    let stands : next_character hay here ≡ Some b = ap (λ (p : Piece). cond (nat_lt 0 p.len) (Some (character p)) None) is in
+    skips_on hay longest place here 1 states q x was mid now prefix (subst (λ (o : Option ℕ). TakesNone x o) (sym stands) idle.1) apart
+    (sym (ap (λ (p : Piece). p.len) is)) (omega arith) visits looks passes
+
+-- places were passed, and then others
+pub passes_further : (hay : List ℕ) (longest : Bool) (place here later : ℕ) (states : List State) (q : ℕ) (was mid now : Record) →
+    Passes hay longest place here states q was mid → Passes hay longest here later states q mid now → Passes hay longest place later states q was now
+passes_further hay longest place here later states q was mid now first second = record {
+  gone = λ p is earliest start slots_first slots pool per_row gone.
+      second.gone p is earliest start slots_first slots pool per_row (first.gone p is earliest start slots_first slots pool per_row gone);
 }
 
 -- what holds between two places holds behind the skipped ones too

@@ -86,6 +86,19 @@ impl StartPrefix {
         }
     }
 
+    /// Returns whether some state may take the ASCII character of this byte. Any other byte may be part of one that is taken.
+    #[inline(always)]
+    pub(crate) fn may_take_byte(&self, byte: u8) -> bool
+        ensures { result ≡ in_set self.now.ascii true byte }
+    {
+        let number = byte as u32;
+        if number < 128 {
+            (self.ascii[(number / 64) as usize] >> (number % 64)) & 1 == 1
+        } else {
+            true
+        }
+    }
+
     /// Returns whether no state takes a character.
     #[inline(always)]
     pub(crate) fn takes_none(&self) -> bool

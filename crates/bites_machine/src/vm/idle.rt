@@ -53,6 +53,38 @@ fn is_visited(visited_set: &StateSet, state: Option<u32>) -> bool
     }
 }
 
+// Skips the ASCII characters from this place on that no state of the prefix takes: one look at each byte. Returns the first
+// place where another byte stands, or the end.
+#[inline(always)]
+fn skip_ascii(
+    counted: &mut Counted<'_>,
+    haystack: &[u8],
+    from: usize,
+    first: u32,
+    prefix: &StartPrefix,
+) -> usize
+    requires place { from ≤ length haystack.now }
+    requires prefix { IsPrefix (states_of counted.old.states.now) first prefix.now }
+    requires apart { IsApart prefix.now from }
+    requires before { (v : program.Configuration) → Among counted.old.walked.visits v → v.place < from }
+    ensures states { counted.new.states ≡ counted.old.states }
+    ensures onward { from ≤ result }
+    ensures within { result ≤ length haystack.now }
+    ensures before { (v : program.Configuration) → Among counted.new.walked.visits v → v.place < result }
+    ensures passes { (longest : Bool) → Passes haystack.now longest from result
+        (states_of counted.old.states.now) first counted.old.walked counted.new.walked }
+{
+    let mut end = from;
+    'places: while end < haystack.len() {
+        if prefix.may_take_byte(haystack[end]) {
+            break;
+        }
+        counted.visit_prefix(prefix, end);
+        end += 1;
+    }
+    end
+}
+
 // Skips the places from this one on where no state of the prefix takes the character: the closure of the start
 // visits the prefix there and leaves nothing. Returns the first place where it may leave something. A prefix that never takes one
 // leads to the end of the haystack at once.
@@ -83,6 +115,7 @@ fn skip_until_candidate(
     }
     let mut place = from;
     'places: loop {
+        place = skip_ascii(counted, haystack, place, first, prefix);
         let here = piece_at(haystack, place, false);
         let Some(ch) = here.ch else {
             break;
