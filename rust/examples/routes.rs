@@ -18,12 +18,15 @@ fn read_table(table: &str) -> Result<Vec<(&str, Regex)>, Box<dyn std::error::Err
 fn run(table: &str) -> Result<(), Box<dyn std::error::Error>> {
     let table = std::fs::read_to_string(table)?;
     let routes = read_table(&table)?;
-    let mut out = io::BufWriter::new(io::stdout().lock());
-    for path in io::stdin().lock().lines() {
-        let path = path?;
-        let served = routes
-            .iter()
-            .find_map(|(name, regex)| Some((name, regex.captures(&path)?)));
+    let (mut input, mut out) = (io::stdin().lock(), io::BufWriter::new(io::stdout().lock()));
+    let mut line = Vec::new();
+    while input.read_until(b'\n', &mut line)? > 0 {
+        // A path that is not UTF-8 has no route.
+        let path = std::str::from_utf8(line.strip_suffix(b"\n").unwrap_or(&line)).ok();
+        let served = path.and_then(|path| {
+            let mut routes = routes.iter();
+            routes.find_map(|(name, regex)| Some((name, regex.captures(path)?)))
+        });
         match served {
             Some((name, captures)) => {
                 write!(out, "{name}")?;
@@ -34,6 +37,7 @@ fn run(table: &str) -> Result<(), Box<dyn std::error::Error>> {
             }
             None => writeln!(out, "-")?,
         }
+        line.clear();
     }
     out.flush()?;
     Ok(())

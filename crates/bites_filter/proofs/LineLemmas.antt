@@ -6,7 +6,7 @@ use Rattle.std.specs.Prelude.{◌==◌}
 use Rattle.std.specs.Io.BufRead.{take_through, drop_through, DropsThrough}
 use Rattle.std.specs.Io.KnownBytes.{Appends, IsAtEnd}
 use Rattle.bites_filter.proofs.Written.{appends_none, appends_both}
-use Rattle.bites_filter.specs.Lines.{lines_of, put_in_front, ReadsLine, DoesEach}
+use Rattle.bites_filter.specs.Lines.{lines_of, put_in_front, ReadsLine, DoesEach, AreWritten, WritesLine}
 
 -- a byte in front of what stands up to the first line feed
 in_front : (b : ℕ) (bs : List ℕ) → put_in_front b (lines_of bs) ≡ (b ∷ take_through 10 bs) ∷ lines_of (drop_through 10 bs)
@@ -87,3 +87,17 @@ module _ {S : Type 0} (Does : S → ℕ → List ℕ → List ℕ → Bool → S
             (subst (λ k. DoesEach Does 0 (lines_of xs) first (written ++ []) k s) (add-zero count) each),
         a,
       )
+
+module _ {S X : Type 0} (seen : S → X) (Writes : X → List ℕ → List ℕ → Type 0) where
+  each_written : (n : ℕ) (ls : List (List ℕ)) (s : S) (text : List ℕ) (count : ℕ) (t : S) →
+      DoesEach (WritesLine seen Writes) n ls s text count t → AreWritten (Writes (seen s)) ls text
+  each_written n [] s text count t does = does.0
+  each_written n (l ∷ ls) s text count t (first, counts, m, rest, others, (writes, same), does, text_is, count_is) =
+      (first, rest, writes, subst (λ x. AreWritten (Writes x) ls rest) same (each_written (n + 1) ls m rest others t does), text_is)
+
+  -- each line being written in turn, all are
+  pub lines_written : (input old new : Option (List ℕ)) (s : S) (count : ℕ) (t : S) →
+      IfSome input (λ bytes. (text : List ℕ) × DoesEach (WritesLine seen Writes) 0 (lines_of bytes) s text count t × Appends old new text) →
+      IfSome input (λ bytes. (text : List ℕ) × AreWritten (Writes (seen s)) (lines_of bytes) text × Appends old new text)
+  lines_written None old new s count t does = tt
+  lines_written (Some xs) old new s count t (text, does, appends) = (text, each_written 0 (lines_of xs) s text count t does, appends)

@@ -1,10 +1,12 @@
 -- Tables of named patterns, and which of them reads furthest.
-use Rattle.std.proofs.Common.{◌≡◌, ℕ, ◌+◌, ◌<◌, ◌≤◌, zero, suc, true, List, [], ◌∷◌, ◌++◌, length, All, Some, refl, sym, ◌∙◌, subst, arith, ap, slice_get, slice_set, append_assoc, below_more}
+use Rattle.std.proofs.Common.{◌≡◌, ℕ, ◌+◌, ◌<◌, ◌≤◌, zero, suc, true, List, [], ◌∷◌, ◌++◌, length, take, drop, All, Option, Some, None, option_map, unwrap_or, refl, sym, ◌∙◌, subst, arith, ap, get_or, slice_get, slice_set, append_assoc, below_more}
 use Rattle.std.proofs.lemmas.List.{append-nil}
 use Rattle.std.proofs.lemmas.List.Elements.{All-nil, All-cons}
-use Rattle.std.proofs.lemmas.Option.{slice_get_within}
+use Rattle.std.proofs.lemmas.Option.{slice_get_read, slice_get_within}
 use Rattle.bites_spec.specs.Match.{Matches}
-use Rattle.bites_filter.specs.Table.{NamedRegex, IsRule, IsEntry, AreEntries, without_end, IsReach, Reads, IsFurthest}
+use Rattle.bites_spec.specs.Anchored.{IsFullMatch, FindsGroupsFull}
+use Rattle.bites_filter.specs.declared.table.Reading.{Reading}
+use Rattle.bites_filter.specs.Table.{NamedRegex, IsRule, IsEntry, AreEntries, without_end, IsReach, Reads, IsFurthest, AreReadings, MatchesFull, NoneMatches, name_at}
 
 module _ {S : Type 0} (Is : List ℕ → List ℕ → S → Type 0) (lines : List (List ℕ)) where
   -- the entries so far, and all that may follow for the lines that are left
@@ -87,7 +89,69 @@ module _ (rules : List NamedRegex) (text : List ℕ) (i : ℕ) where
   }
 
 -- what stands there is written there
-pub written_back : {S : Type 0} (rows : List S) (n : ℕ) (r : S) → slice_get rows n ≡ Some r → slice_set rows n r ≡ rows
+written_back : {S : Type 0} (rows : List S) (n : ℕ) (r : S) → slice_get rows n ≡ Some r → slice_set rows n r ≡ rows
 written_back [] n r at = refl
 written_back (q ∷ rows) zero r at = let both : Some q ≡ Some r = at in let same : r ≡ q = cc in ap (λ x. x ∷ rows) same
 written_back (q ∷ rows) (suc n) r at = ap (λ rs. q ∷ rs) (written_back rows n r at)
+
+-- what a search gives back is put where it stood
+pub put_back : {S : Type 0} (before rows : List S) (n : ℕ) (r new : S) → before ≡ rows → n < length rows → r ≡ get_or before n r →
+    new ≡ get_or before n r → (slice_get rows n ≡ Some r) × (slice_set before n new ≡ rows)
+put_back before rows n r new same within is back =
+    let there = rw same at is in
+    let at = slice_get_read rows (length rows) n r refl within there in
+    let given : new ≡ r = cc in
+    (at, ap (λ rs. slice_set rs n new) same ∙ ap (slice_set rows n) given ∙ written_back rows n r at)
+
+take_all : {S : Type 0} (xs ys : List S) → take (length xs) (xs ++ ys) ≡ xs
+take_all [] [] = refl
+take_all [] (y ∷ ys) = refl
+take_all (x ∷ xs) ys = ap (λ l. x ∷ l) (take_all xs ys)
+
+-- rows that are given back as they were
+pub kept_items : {S : Type 0} (items given new : List S) (n : ℕ) → n ≡ length given → new ≡ given → given ≡ items →
+    take n (new ++ drop (length new) items) ≡ items
+kept_items items given new n len same value =
+    ap (λ k. take k (new ++ drop (length new) items)) (len ∙ ap length (sym same)) ∙ take_all new (drop (length new) items) ∙ same ∙ value
+
+-- the name of the rule that stands there
+pub name_is : (rules : List NamedRegex) (k : ℕ) (r : NamedRegex) → k < length rules → r ≡ get_or rules k r → r.name ≡ name_at rules k
+name_is rules k r within is =
+    let at = slice_get_read rules (length rules) k r refl within is in
+    sym (ap (λ o. unwrap_or (option_map (λ (q : NamedRegex). q.name) o) []) at)
+
+module _ (rules : List NamedRegex) (text : List ℕ) where
+  -- where both are furthest, they are one
+  same_reading : (i : ℕ) (t u : Reading) → i < t.end → i < u.end → IsFurthest rules text i t.rule t.end →
+      IsFurthest rules text i u.rule u.end → (t.rule ≡ u.rule) × (t.end ≡ u.end)
+  same_reading i t u some_t some_u a b =
+      let le : t.end ≤ u.end = b.greatest t.rule t.end (a.reads some_t) in
+      let ge : u.end ≤ t.end = a.greatest u.rule u.end (b.reads some_u) in
+      let ends : t.end ≡ u.end = omega (arith, le, ge) in
+      let first : t.rule ≤ u.rule = a.first some_t u.rule (subst (Reads rules text u.rule i) (sym ends) (b.reads some_u)) in
+      let second : u.rule ≤ t.rule = b.first some_u t.rule (subst (Reads rules text t.rule i) ends (a.reads some_t)) in
+      (omega (arith, first, second), ends)
+
+  pub one_list : (i : ℕ) (ts us : List Reading) (m n : ℕ) → AreReadings rules text i ts m → AreReadings rules text i us n →
+      (ts ≡ us) × (m ≡ n)
+  one_list i [] [] m n a b = (refl, a.0 ∙ sym b.0)
+  one_list i [] (u ∷ us) m n a b =
+      let le : u.end ≤ i = a.1 u.rule u.end (b.1.reads b.0) in let lt : i < u.end = b.0 in absurd (omega (arith, le, lt))
+  one_list i (t ∷ ts) [] m n a b =
+      let le : t.end ≤ i = b.1 t.rule t.end (a.1.reads a.0) in let lt : i < t.end = a.0 in absurd (omega (arith, le, lt))
+  one_list i (t ∷ ts) (u ∷ us) m n a b =
+      let same = same_reading i t u a.0 b.0 a.1 b.1 in
+      let rest = one_list t.end ts us m n a.2 (subst (λ j. AreReadings rules text j us n) (sym same.1) b.2) in
+      (rw (same.0, same.1, rest.0) refl, rest.1)
+
+  -- a rule at which nothing is found does not match
+  pub none_more : (n : ℕ) (r : NamedRegex) → slice_get rules n ≡ Some r → FindsGroupsFull r.regex text None →
+      ((k : ℕ) → k < n → MatchesFull rules text k → ⊥) → (k : ℕ) → k < n + 1 → MatchesFull rules text k → ⊥
+  none_more n r at none before =
+      below_more (λ k. MatchesFull rules text k → ⊥) n before (λ (q, is, full).
+      let both : Some q ≡ Some r = sym is ∙ at in
+      let same : q ≡ r = cc in
+      none (subst (λ (x : NamedRegex). IsFullMatch x.regex.tree text) same full))
+
+  pub none_matches : (n : ℕ) → length rules ≤ n → ((k : ℕ) → k < n → MatchesFull rules text k → ⊥) → NoneMatches rules text
+  none_matches n all none k (r, at, full) = none k (omega (arith, all, slice_get_within rules k r at)) (r, at, full)

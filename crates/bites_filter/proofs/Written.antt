@@ -6,7 +6,7 @@ use Rattle.std.proofs.lemmas.List.{append-nil}
 use borrow.Author.Tests.{ltb-true}
 use Rattle.std.specs.Prelude.{◌==◌, ◌&&◌, nat_lt, slice_index}
 use Rattle.std.specs.Io.BufRead.{strip_last, ends_with_byte}
-use Rattle.std.specs.Io.KnownBytes.{Appends}
+use Rattle.std.specs.Io.KnownBytes.{Appends, Keeps}
 use Rattle.bites_filter.specs.Lines.{line_feed_of}
 
 pub appends_none : (o : Option (List ℕ)) → Appends o o []
@@ -18,6 +18,12 @@ appends_both None b c x y f g = tt
 appends_both (Some a) None c x y f g = absurd f
 appends_both (Some a) (Some b) None x y f g = absurd g
 appends_both (Some a) (Some b) (Some c) x y f g = g ∙ ap (λ l. l ++ y) f ∙ append_assoc a x y
+
+pub appends_kept : (a b c : Option (List ℕ)) (x : List ℕ) → Appends a b x → Keeps b c → Appends a c x
+appends_kept None b c x f k = tt
+appends_kept (Some a) None c x f k = absurd f
+appends_kept (Some a) (Some b) None x f k = absurd k
+appends_kept (Some a) (Some b) (Some c) x f k = k ∙ f
 
 both_true : (a b : Bool) → a && b ≡ true → (a ≡ true) × (b ≡ true)
 both_true true b e = (refl, e)

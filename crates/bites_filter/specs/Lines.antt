@@ -32,3 +32,14 @@ module _ {S : Type 0} (Does : S → ℕ → List ℕ → List ℕ → Bool → S
       (first : List ℕ) × (counts : Bool) × (m : S) × (rest : List ℕ) × (others : ℕ)
       × Does s (n + 1) l first counts m × DoesEach (n + 1) ls m rest others t
       × (text ≡ first ++ rest) × (count ≡ cond counts 1 0 + others)
+
+-- each line is written as `Writes` says, and what is written for them stands in their order
+abbrev pub AreWritten : (List ℕ → List ℕ → Type 0) → List (List ℕ) → List ℕ → Type 0
+AreWritten Writes [] text = text ≡ []
+AreWritten Writes (l ∷ ls) text =
+    (first : List ℕ) × (rest : List ℕ) × Writes l first × AreWritten Writes ls rest × (text ≡ first ++ rest)
+
+module _ {S X : Type 0} (seen : S → X) (Writes : X → List ℕ → List ℕ → Type 0) where
+  -- a line is written as `Writes` says by what is seen of the state, and that stays
+  abbrev pub WritesLine : S → ℕ → List ℕ → List ℕ → Bool → S → Type 0
+  WritesLine s number line text counts t = Writes (seen s) line text × (seen t ≡ seen s)

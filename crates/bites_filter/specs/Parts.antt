@@ -1,5 +1,5 @@
 -- The texts of the groups of a match of a whole text.
-use Rattle.std.specs.Prelude.{◌≡◌, ℕ, ◌+◌, ◌<◌, Bool, true, false, List, length, Some, option_map, slice_get}
+use Rattle.std.specs.Prelude.{◌≡◌, ℕ, ◌+◌, ◌<◌, Bool, true, false, List, length, Some, option_map, slice_get, IsUtf8}
 use Rattle.bites_spec.specs.Tree.{Tree}
 use Rattle.bites_spec.specs.Match.{Mark, Parse, groups}
 use Rattle.bites_spec.specs.Measure.{groups_left, static_captures_len}
@@ -23,3 +23,8 @@ pub record AreParts (t : Tree) (text : List ℕ) (parts : List (List ℕ)) : Typ
 abbrev pub Extracts : Tree → List ℕ → Bool → List (List ℕ) → Type 0
 Extracts t text true parts = AreParts t text parts
 Extracts t text false parts = IsFullMatch t text → ⊥
+
+-- these are the parts of the whole text, or it is not UTF-8 or the tree does not match it
+abbrev pub ExtractsBytes : Tree → List ℕ → Bool → List (List ℕ) → Type 0
+ExtractsBytes t text true parts = AreParts t text parts
+ExtractsBytes t text false parts = IsUtf8 text → IsFullMatch t text → ⊥

@@ -1,10 +1,12 @@
 -- Tables of named patterns, and which of them reads furthest from a place.
-use Rattle.std.specs.Prelude.{◌≡◌, ◌≢◌, ℕ, ◌<◌, ◌≤◌, true, false, List, [], ◌∷◌, ◌++◌, length, Some, get_or, slice_get, if◌then◌else◌}
+use Rattle.std.specs.Prelude.{◌≡◌, ◌≢◌, ℕ, ◌<◌, ◌≤◌, true, false, List, [], ◌∷◌, ◌++◌, length, Option, Some, option_map, unwrap_or, get_or, slice_get, if◌then◌else◌}
 use Rattle.std.specs.Io.BufRead.{strip_last, ends_with_byte}
+use Rattle.bites_filter.specs.declared.table.Reading.{Reading}
 use Rattle.bites_spec.specs.Tree.{Tree}
 use Rattle.bites_spec.specs.Match.{Matches}
 use Rattle.bites_spec.specs.Regex.{Regex}
-use Rattle.bites_spec.specs.Settings.{Accepts, settings, no_flags}
+use Rattle.bites_spec.specs.Anchored.{IsFullMatch, FindsGroupsFull}
+use Rattle.bites_spec.specs.Settings.{Accepts, settings, no_flags, by_default}
 
 -- a regex by its name
 pub record NamedRegex : Type 0 where
@@ -15,11 +17,19 @@ pub record NamedRegex : Type 0 where
 abbrev pub named : List ℕ → Regex → NamedRegex
 named name regex = record { name = name; regex = regex }
 
+-- the name of the rule with this number
+abbrev pub name_at : List NamedRegex → ℕ → List ℕ
+name_at rules k = unwrap_or (option_map (λ r. r.name) (slice_get rules k)) []
+
 -- The regex is built from the pattern without flags, under the limits that a builder begins with, and searches for the longest match.
 pub record IsRule (name pattern : List ℕ) (rule : NamedRegex) : Type 0 where
   pub name_is : rule.name ≡ name
   pub accepted : Accepts (settings pattern no_flags 10485760 50 false true) rule.regex.tree
   pub longest : rule.regex.leftmost_longest ≡ true
+
+-- the rule has the name, and the regex of the pattern by default
+abbrev pub IsTextRule : List ℕ → List ℕ → NamedRegex → Type 0
+IsTextRule name pattern rule = (rule.name ≡ name) × Accepts (by_default pattern) rule.regex.tree
 
 -- the line without the line feed that ends it, and without a carriage return before that
 abbrev pub without_end : List ℕ → List ℕ
@@ -59,3 +69,29 @@ module _ (rules : List NamedRegex) (text : List ℕ) where
     pub greatest : (l e : ℕ) → Reads l i e → e ≤ j
     pub reads : i < j → Reads k i j
     pub first : i < j → (l : ℕ) → Reads l i j → k ≤ l
+
+  -- These readings stand one after another from i on. Each reads furthest from where it begins, and where they stop no rule reads anything.
+  abbrev pub AreReadings : ℕ → List Reading → ℕ → Type 0
+  AreReadings i [] stop = (stop ≡ i) × ((k j : ℕ) → Reads k i j → j ≤ i)
+  AreReadings i (t ∷ ts) stop = (i < t.end) × IsFurthest i t.rule t.end × AreReadings t.end ts stop
+
+  -- the rule of this number matches the whole text
+  abbrev pub MatchesFull : ℕ → Type 0
+  MatchesFull k = (r : NamedRegex) × (slice_get rules k ≡ Some r) × IsFullMatch r.regex.tree text
+
+  -- no rule matches the whole text
+  abbrev pub NoneMatches : Type 0
+  NoneMatches = (k : ℕ) → MatchesFull k → ⊥
+
+  -- the rule of this number is the first that matches the whole text, and in the slots stand the groups of a parse of it
+  pub record IsFirst (k : ℕ) (slots : List (Option ℕ)) : Type 0 where
+    pub rule : NamedRegex
+    pub at : slice_get rules k ≡ Some rule
+    pub groups : FindsGroupsFull rule.regex text (Some slots)
+    pub first : (l : ℕ) → l < k → MatchesFull l → ⊥
+
+-- from no place of a text two lists of readings begin
+abbrev pub ReadingsAreOneList : Type 0
+ReadingsAreOneList =
+    (rules : List NamedRegex) (text : List ℕ) (i : ℕ) (ts us : List Reading) (m n : ℕ) → AreReadings rules text i ts m →
+    AreReadings rules text i us n → (ts ≡ us) × (m ≡ n)

@@ -7,4 +7,6 @@ pub mod lines;
 pub mod program;
 pub mod searcher;
 pub mod table;
+pub mod tabs;
 pub mod text_searcher;
+pub mod text_table;

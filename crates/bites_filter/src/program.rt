@@ -1,7 +1,8 @@
 //! What a program is started with.
 
 use crate::fault::Fault;
-use std::io::Write;
+use std::alloc::Global;
+use std::io::{BufReader, BufWriter, Read, Write};
 use std::process::ExitCode;
 use std::rt::Env;
 use std::{env, io};
@@ -16,12 +17,33 @@ pub fn words(rt: &(impl Env + AllocGlobal), usage: &'static str) -> Result<Vec<S
     }
 }
 
+/// Returns the fault that tells the usage, if there are words behind the program's name.
+pub fn no_words(rt: &(impl Env + AllocGlobal), usage: &'static str) -> Result<(), Fault> {
+    if words(rt, usage)?.is_empty() {
+        Ok(())
+    } else {
+        Err(Fault::Usage(usage))
+    }
+}
+
 fn read_words(rt: &(impl Env + AllocGlobal)) -> io::Result<Vec<String>> {
     let mut words = Vec::new(rt.alloc());
     for word in env::args(rt)?.skip(1) {
         words.push(word)?;
     }
     Ok(words)
+}
+
+/// Returns buffers over an input and an output. The fault is that memory ran out.
+pub fn buffers<R: Read + Drop, W: Write + Drop>(
+    alloc: Global,
+    input: R,
+    out: W,
+) -> Result<(BufReader<R>, BufWriter<W>), Fault> {
+    Ok((
+        open(BufReader::new(alloc, input))?,
+        open(BufWriter::new(alloc, out))?,
+    ))
 }
 
 /// Returns the buffer, or the fault that there is no memory for it.
@@ -46,4 +68,14 @@ pub fn status<E: Write>(program: &str, ended: Result<u8, Fault>, err: &mut E) ->
         Ok(status) => status,
         Err(fault) => fault.tell(program, err),
     })
+}
+
+/// Writes how many lines are not in the form that the program takes, if any. Returns the status: 0 if there are none, else 1.
+pub fn tell_bad<E: Write>(program: &str, bad: u64, form: &str, err: &mut E) -> u8 {
+    if bad == 0 {
+        return 0;
+    }
+    // The status is the same where the line can't be written.
+    let _written = writeln!(err, "{program}: {bad} lines are not in {form}");
+    1
 }

@@ -1,8 +1,8 @@
 //! Tables of patterns: each line is a name, a space and a pattern.
 
-ghost use Rattle.std.specs.Prelude.{◌≡◌, ◌≤◌, ℕ, List, true, length, All, IfOk};
+ghost use Rattle.std.specs.Prelude.{◌≡◌, ◌<◌, ◌≤◌, ℕ, List, true, length, All, IfOk};
 ghost use Rattle.std.specs.Io.BufRead.{strip_last};
-ghost use Rattle.bites_filter.specs.Table.{IsRule, IsEntry, AreEntries, IsReach, IsFurthest, without_end};
+ghost use Rattle.bites_filter.specs.Table.{IsRule, IsEntry, AreEntries, IsReach, IsFurthest, ReadingsAreOneList, name_at, without_end};
 ghost use Rattle.bites_filter.specs.Lines.{lines_of};
 
 use crate::fault::Fault;
@@ -177,6 +177,14 @@ pub fn read_rules(alloc: Global, table: &[u8]) -> Result<Vec<Rule>, Fault>
     Ok(rules)
 }
 
+/// Returns the name of the rule with this number.
+pub fn name_of(rules: &[Rule], rule: usize) -> &str
+    requires { rule < length rules.now }
+    ensures { result.now ≡ name_at rules.now rule }
+{
+    rules[rule].name()
+}
+
 /// What is read from one place: the number of a rule, and where its match ends.
 #[derive(Clone, Copy, Debug)]
 pub struct Reading {
@@ -204,3 +212,8 @@ pub fn furthest(rules: &mut [Rule], text: &[u8], start: usize) -> Reading
     }
     reading
 }
+
+/// The law that the readings of a text from one place on are one list.
+pub fn readings_are_one_list()
+    ensures { ReadingsAreOneList }
+{}

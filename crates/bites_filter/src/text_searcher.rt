@@ -2,11 +2,12 @@
 
 ghost use Rattle.std.specs.Prelude.{◌≡◌, ◌+◌, length, map, option_map, IfOk, IfSome};
 ghost use Rattle.bites_spec.specs.Anchored.{FindsGroupsFull};
-ghost use Rattle.bites_filter.specs.Parts.{HasGroups, Extracts};
+ghost use Rattle.bites_filter.specs.Parts.{HasGroups, Extracts, ExtractsBytes};
 
 use regex_bites::{Cache, Captures, Regex};
 use std::alloc::AllocError;
 use std::marker::Model;
+use std::str;
 
 /// A regex over texts that keeps one cache for all its searches.
 ///
@@ -81,5 +82,22 @@ impl TextSearcher {
             parts[k] = captures.part(k + 1);
         }
         Ok(true)
+    }
+
+    /// Does as [`TextSearcher::extract_full`] with bytes. They are no match if they are not UTF-8.
+    pub fn extract_full_bytes<'h>(
+        &mut self,
+        haystack: &'h [u8],
+        parts: &mut [&'h str],
+    ) -> Result<bool, AllocError>
+        requires { HasGroups self.old (length parts.old + 1) }
+        ensures found { IfOk result (λ found.
+            ExtractsBytes self.old.tree haystack.now found (map (λ part. part.now) parts.new)) }
+        ensures same { self.new ≡ self.old }
+    {
+        match str::from_utf8(haystack) {
+            Ok(text) => self.extract_full(text, parts),
+            Err(_) => Ok(false),
+        }
     }
 }

@@ -6,10 +6,7 @@ use Rattle.bites_filter.proofs.Written.{appends_none, appends_both}
 use Rattle.fields.specs.Rows.{Extracts, AreExtracted}
 
 module _ {S : Type 0} (contents : S → Option (List ℕ)) where
-  abbrev Does : S → ℕ → List ℕ → List ℕ → Bool → S → Type 0
-  Does s number line text bad t = Extracts number line text bad (contents s) (contents t)
-
-  extracts : (n : ℕ) (ls : List (List ℕ)) (s : S) (text : List ℕ) (bad : ℕ) (t : S) → DoesEach Does n ls s text bad t →
+  extracts : (n : ℕ) (ls : List (List ℕ)) (s : S) (text : List ℕ) (bad : ℕ) (t : S) → DoesEach (Extracts contents) n ls s text bad t →
       (reports : List ℕ) × AreExtracted n ls text reports bad × Appends (contents s) (contents t) reports
   extracts n [] s text bad t does =
       ([], (does.0, refl, does.1), subst (λ u. Appends (contents s) (contents u) []) (sym does.2) (appends_none (contents s)))
@@ -21,7 +18,7 @@ module _ {S : Type 0} (contents : S → Option (List ℕ)) where
       )
 
   pub all_extracted : (input old new : Option (List ℕ)) (s : S) (bad : ℕ) (t : S) →
-      IfSome input (λ bytes. (text : List ℕ) × DoesEach Does 0 (lines_of bytes) s text bad t × Appends old new text) →
+      IfSome input (λ bytes. (text : List ℕ) × DoesEach (Extracts contents) 0 (lines_of bytes) s text bad t × Appends old new text) →
       IfSome input (λ bytes. (text : List ℕ) × (reports : List ℕ) × AreExtracted 0 (lines_of bytes) text reports bad
       × Appends old new text × Appends (contents s) (contents t) reports)
   all_extracted None old new s bad t does = tt

@@ -15,10 +15,10 @@ IsOutcome number line text report true = (IsUtf8 line → NoEntry line) × (text
 IsOutcome number line text report false =
     ((fields : List (List ℕ)) × IsEntry line fields × (text ≡ row fields)) × (report ≡ [])
 
--- so it is with this line, the line feed left out, and the report is written
-abbrev pub Extracts : ℕ → List ℕ → List ℕ → Bool → (old new : Option (List ℕ)) → Type 0
-Extracts number line text bad old new =
-    (report : List ℕ) × IsOutcome number (strip_last 10 line) text report bad × Appends old new report
+-- so it is with this line, the line feed left out, and the report is written where the state has its reports
+abbrev pub Extracts : {S : Type 0} → (S → Option (List ℕ)) → S → ℕ → List ℕ → List ℕ → Bool → S → Type 0
+Extracts reports s number line text bad t =
+    (report : List ℕ) × IsOutcome number (strip_last 10 line) text report bad × Appends (reports s) (reports t) report
 
 -- Of these lines, which come after the first n, each has its outcome, the line feed left out. What is written and what is reported
 -- stand in their order, and so many are bad.

@@ -33,7 +33,7 @@ impl Model for Log {
 
 impl Log {
     ghost use Rattle.std.specs.Prelude.{◌≡◌, length, map, IfOk};
-    ghost use Rattle.bites_filter.specs.Parts.{Extracts};
+    ghost use Rattle.bites_filter.specs.Parts.{ExtractsBytes};
     ghost use Rattle.fields.specs.Entry.{entry_tree};
 
     /// The error is that memory ran out, since the pattern is accepted.
@@ -44,17 +44,13 @@ impl Log {
         Ok(Log { searcher })
     }
 
-    /// Fills `fields` with the fields of the line in the order of the pattern. Returns whether the line has the format; it
+    /// Fills `into` with the fields of the line in the order of the pattern. Returns whether the line has the format; it
     /// has all fields then. The error is that memory ran out.
-    pub fn entry<'h>(
-        &mut self,
-        line: &'h str,
-        fields: &mut [&'h str; 7],
-    ) -> Result<bool, AllocError>
+    pub fn entry<'h>(&mut self, line: &'h [u8], into: &mut [&'h str; 7]) -> Result<bool, AllocError>
         ensures found { IfOk result (λ found.
-            Extracts entry_tree line.now found (map (λ field. field.now) fields.new)) }
-        ensures seven { length (map (λ field. field.now) fields.new) ≡ 7 }
+            ExtractsBytes entry_tree line.now found (map (λ field. field.now) into.new)) }
+        ensures seven { length (map (λ field. field.now) into.new) ≡ 7 }
     {
-        self.searcher.extract_full(line, fields)
+        self.searcher.extract_full_bytes(line, into)
     }
 }

@@ -11,7 +11,6 @@ use bites_filter::fault::Fault;
 use bites_filter::lines::{LineTask, each_line, without_line_feed};
 use std::alloc::Global;
 use std::io::{self, BufRead, Write};
-use std::str;
 
 /// A reader of entries, and where it tells of lines that are none.
 #[derive(Drop)]
@@ -23,16 +22,11 @@ pub struct Extractor<E: Drop> {
 impl<E: Write + Drop> LineTask for Extractor<E> {
     ghost use Rattle.fields.specs.Rows.{Extracts};
 
-    ghost does = { λ s number line text bad t.
-        Extracts number line text bad (E.contents s.err) (E.contents t.err) };
+    ghost does = { Extracts (λ s. E.contents s.err) };
 
     fn line<W: Write>(&mut self, number: u64, line: &[u8], out: &mut W) -> io::Result<bool> {
         let mut fields = [""; 7];
-        let Ok(text) = str::from_utf8(without_line_feed(line)) else {
-            tell(number, &mut self.err)?;
-            return Ok(true);
-        };
-        if self.log.entry(text, &mut fields)? {
+        if self.log.entry(without_line_feed(line), &mut fields)? {
             write_row(fields.as_slice(), out)?;
             return Ok(false);
         }

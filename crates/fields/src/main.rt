@@ -10,13 +10,10 @@ mod entry;
 mod extract;
 
 use bites_filter::fault::Fault;
-use bites_filter::program::{flush, open, status, words};
+use bites_filter::program::{buffers, flush, no_words, status, tell_bad};
 use entry::Log;
 use extract::{Extractor, extract_fields};
-use std::io::{BufReader, BufWriter, Write};
 use std::process::ExitCode;
-
-const USAGE: &str = "fields < LOG > CSV";
 
 fn main(rt: HostRuntime) -> ExitCode {
     status("fields", run(&rt), &mut rt.stderr())
@@ -24,24 +21,11 @@ fn main(rt: HostRuntime) -> ExitCode {
 
 // Writes the fields of each line. Returns the status: 0 if all lines have the format, else 1.
 fn run(rt: &HostRuntime) -> Result<u8, Fault> {
-    if words(rt, USAGE)?.len() > 0 {
-        return Err(Fault::Usage(USAGE));
-    }
-    let mut extractor = Extractor {
-        log: Log::new(rt.alloc())?,
-        err: rt.stderr(),
-    };
-    let mut input = open(BufReader::new(rt.alloc(), rt.stdin()))?;
-    let mut out = open(BufWriter::new(rt.alloc(), rt.stdout()))?;
+    no_words(rt, "fields < LOG > CSV")?;
+    let (log, err) = (Log::new(rt.alloc())?, rt.stderr());
+    let mut extractor = Extractor { log, err };
+    let (mut input, mut out) = buffers(rt.alloc(), rt.stdin(), rt.stdout())?;
     let bad = extract_fields(rt.alloc(), &mut extractor, &mut input, &mut out)?;
     flush(&mut out)?;
-    if bad == 0 {
-        return Ok(0);
-    }
-    // The status is the same where the line can't be written.
-    let _written = writeln!(
-        extractor.err,
-        "fields: {bad} lines are not in the common log format"
-    );
-    Ok(1)
+    Ok(tell_bad("fields", bad, "the common log format", &mut extractor.err))
 }

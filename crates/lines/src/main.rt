@@ -11,11 +11,10 @@ mod options;
 
 use bites_bytes::bytes::RegexBuilder;
 use bites_filter::fault::Fault;
-use bites_filter::program::{flush, open, status, words};
+use bites_filter::program::{buffers, flush, status, words};
 use bites_filter::searcher::Searcher;
 use filter::{Filter, write_lines};
 use options::Options;
-use std::io::{BufReader, BufWriter};
 use std::process::ExitCode;
 
 const USAGE: &str = "lines [-c] [-i] [-n] [-v] PATTERN";
@@ -37,8 +36,7 @@ fn run(rt: &HostRuntime) -> Result<u8, Fault> {
         invert: options.invert,
         show: options.show,
     };
-    let mut input = open(BufReader::new(rt.alloc(), rt.stdin()))?;
-    let mut out = open(BufWriter::new(rt.alloc(), rt.stdout()))?;
+    let (mut input, mut out) = buffers(rt.alloc(), rt.stdin(), rt.stdout())?;
     let count = write_lines(rt.alloc(), &mut filter, &mut input, &mut out)?;
     flush(&mut out)?;
     Ok(if count > 0 { 0 } else { 1 })

@@ -9,39 +9,24 @@
 #![tactic(auto)]
 
 mod paths;
-mod router;
 
 use bites_filter::fault::Fault;
-use bites_filter::program::{flush, open};
-use bites_filter::table::{read_file, read_table};
+use bites_filter::program::{buffers, flush, status};
+use bites_filter::table::read_file;
+use bites_filter::text_table::TextTable;
 use paths::{Router, write_routes};
-use std::alloc::Global;
-use std::io::{BufReader, BufWriter, Read, Write};
 use std::process::ExitCode;
 
 fn main(rt: HostRuntime) -> ExitCode {
-    let done = match read_file(&rt, "routes TABLE") {
-        Ok(table) => run(rt.alloc(), &table, rt.stdin(), rt.stdout()),
-        Err(fault) => Err(fault),
-    };
-    ExitCode::from(match done {
-        Ok(()) => 0,
-        Err(fault) => fault.tell("routes", &mut rt.stderr()),
-    })
+    status("routes", run(&rt), &mut rt.stderr())
 }
 
-// Writes the route of each path.
-fn run<R: Read + Drop, W: Write + Drop>(
-    alloc: Global,
-    table: &[u8],
-    input: R,
-    out: W,
-) -> Result<(), Fault> {
-    let mut router = Router {
-        routes: read_table(alloc, table)?,
-    };
-    let mut input = open(BufReader::new(alloc, input))?;
-    let mut out = open(BufWriter::new(alloc, out))?;
-    write_routes(alloc, &mut router, &mut input, &mut out)?;
-    flush(&mut out)
+// Writes the route of each path. Returns the status 0.
+fn run(rt: &HostRuntime) -> Result<u8, Fault> {
+    let table = read_file(rt, "routes TABLE")?;
+    let routes = TextTable::read(rt.alloc(), &table)?;
+    let (mut input, mut out) = buffers(rt.alloc(), rt.stdin(), rt.stdout())?;
+    write_routes(rt.alloc(), &mut Router { routes }, &mut input, &mut out)?;
+    flush(&mut out)?;
+    Ok(0)
 }

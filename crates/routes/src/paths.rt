@@ -1,44 +1,36 @@
-//! The routes of the paths of an input.
+//! The routes of the paths of an input. The first whose pattern matches a whole path serves it.
 
-ghost use Rattle.std.specs.Prelude.{◌≡◌, ℕ, List, option_map, IfOk, IfSome, OnOk};
+ghost use Rattle.std.specs.Prelude.{◌≡◌, ℕ, List, IfOk, IfSome, OnOk};
 ghost use Rattle.std.specs.Io.KnownBytes.{Appends};
-ghost use Rattle.std.specs.Io.BufRead.{strip_last};
 ghost use Rattle.bites_filter.specs.Lines.{lines_of};
-ghost use Rattle.regex_bites.specs.Matched.{excerpt_of};
-ghost use Rattle.routes.specs.Served.{tabbed, served_line, AreServed};
+ghost use Rattle.routes.specs.Served.{served_line, AreServed};
 
-use crate::router::{Route, route_of};
 use bites_filter::fault::Fault;
 use bites_filter::lines::{LineTask, each_line, without_line_feed};
-use regex_bites::{Captures, Match};
+use bites_filter::tabs::write_groups;
+use bites_filter::text_table::TextTable;
+use regex_bites::Captures;
 use std::alloc::Global;
 use std::io::{self, BufRead, Write};
-use std::str;
 
 /// The routes of a table, in its order.
 #[derive(Drop)]
 pub struct Router {
-    pub routes: Vec<Route>,
+    pub routes: TextTable,
 }
 
 impl LineTask for Router {
+    ghost use Rattle.bites_filter.specs.Lines.{WritesLine};
     ghost use Rattle.routes.specs.Served.{IsServed};
 
-    ghost does = { λ s number line text counts t.
-        IsServed s.routes.items (strip_last 10 line) text × (t.routes.items ≡ s.routes.items) };
+    ghost does = { WritesLine (λ s. s.routes) IsServed };
 
     fn line<W: Write>(&mut self, _number: u64, line: &[u8], out: &mut W) -> io::Result<bool> {
-        let Ok(path) = str::from_utf8(without_line_feed(line)) else {
+        let Some(served) = self.routes.first_full(without_line_feed(line))? else {
             out.write_all(b"-\n")?;
             return Ok(true);
         };
-        let routes = self.routes.as_mut_slice();
-        let Some(served) = route_of(routes, path)? else {
-            out.write_all(b"-\n")?;
-            return Ok(true);
-        };
-        let routes = &*routes;
-        write_served(&routes[served.number].name, &served.groups, out)?;
+        write_served(self.routes.name(served.rule), &served.groups, out)?;
         Ok(true)
     }
 }
@@ -49,23 +41,8 @@ fn write_served<W: Write>(name: &str, groups: &Captures<'_>, out: &mut W) -> io:
         (served_line name.now groups.now.haystack groups.now.slots)) }
 {
     out.write_all(name.as_bytes())?;
-    for group in 1..groups.len() {
-        write_group(groups.get(group), out)?;
-    }
-    out.write_all(b"\n")?;
-    Ok(())
-}
-
-// Writes a tab and the text of the group, if it participates.
-fn write_group<W: Write>(group: Option<Match<'_>>, out: &mut W) -> io::Result<()>
-    ensures { IfOk result (λ _. Appends (W.contents out.old) (W.contents out.new)
-        (tabbed (option_map excerpt_of group.entry))) }
-{
-    if let Some(found) = group {
-        out.write_all(b"\t")?;
-        out.write_all(found.as_str().as_bytes())?;
-    }
-    Ok(())
+    write_groups(groups, out)?;
+    out.write_all(b"\n")
 }
 
 /// Writes a line for each path of the input: the name of its route, and a tab and the text of each group that participates,
@@ -77,7 +54,7 @@ pub fn write_routes<R: BufRead, W: Write>(
     out: &mut W,
 ) -> Result<(), Fault>
     ensures { OnOk result (IfSome (R.Read.remaining input.old) (λ bytes. (text : List ℕ)
-        × AreServed router.old.routes.items (lines_of bytes) text
+        × AreServed router.old.routes (lines_of bytes) text
         × Appends (W.contents out.old) (W.contents out.new) text)) }
 {
     each_line(alloc, router, input, out)?;

@@ -1,7 +1,7 @@
 -- Lines with matches replaced.
-use Rattle.std.specs.Prelude.{◌≡◌, ℕ, List, [], ◌∷◌, ◌++◌}
+use Rattle.std.specs.Prelude.{◌≡◌, ℕ, List, ◌++◌}
 use Rattle.std.specs.Io.BufRead.{strip_last}
-use Rattle.bites_filter.specs.Lines.{line_feed_of}
+use Rattle.bites_filter.specs.Lines.{line_feed_of, AreWritten}
 use Rattle.bites_spec.specs.Found.{NoMatch}
 use Rattle.bites_spec.specs.Regex.{Regex}
 use Rattle.bites_filter.specs.Substituted.{Substitutes}
@@ -15,6 +15,4 @@ pub record IsEdited (r : Regex) (template : List ℕ) (n : ℕ) (line written : 
 
 -- each line is edited, and what is written for them stands in their order
 abbrev pub AreEdited : Regex → List ℕ → ℕ → List (List ℕ) → List ℕ → Type 0
-AreEdited r template n [] text = text ≡ []
-AreEdited r template n (l ∷ ls) text =
-    (first : List ℕ) × (rest : List ℕ) × IsEdited r template n l first × AreEdited r template n ls rest × (text ≡ first ++ rest)
+AreEdited r template n = AreWritten (IsEdited r template n)

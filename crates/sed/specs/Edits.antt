@@ -1,8 +1,8 @@
--- What an editor does with a line.
-use Rattle.std.specs.Prelude.{◌≡◌, ℕ, Bool, List}
+-- What an editor writes for a line.
+use Rattle.std.specs.Prelude.{ℕ, List}
 use Rattle.sed.specs.declared.editor.Editor.{Editor}
 use Rattle.sed.specs.Edited.{IsEdited}
 
--- it writes the edited line, and stays as it is
-abbrev pub Edits : Editor → ℕ → List ℕ → List ℕ → Bool → Editor → Type 0
-Edits s number line text counts t = IsEdited s.searcher s.template.now s.limit line text × (t ≡ s)
+-- the edited line
+abbrev pub Edits : Editor → List ℕ → List ℕ → Type 0
+Edits s line text = IsEdited s.searcher s.template.now s.limit line text

@@ -23,9 +23,10 @@ pub struct Editor<'t> {
 }
 
 impl<'t> LineTask for Editor<'t> {
+    ghost use Rattle.bites_filter.specs.Lines.{WritesLine};
     ghost use Rattle.sed.specs.Edits.{Edits};
 
-    ghost does = { Edits };
+    ghost does = { WritesLine (λ s. s) Edits };
 
     fn line<W: Write>(&mut self, _number: u64, line: &[u8], out: &mut W) -> io::Result<bool> {
         let text = without_line_feed(line);

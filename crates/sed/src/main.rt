@@ -11,11 +11,10 @@ mod options;
 
 use bites_bytes::bytes::RegexBuilder;
 use bites_filter::fault::Fault;
-use bites_filter::program::{flush, open, status, words};
+use bites_filter::program::{buffers, flush, status, words};
 use bites_filter::searcher::Searcher;
 use editor::{Editor, edit_lines};
 use options::Options;
-use std::io::{BufReader, BufWriter};
 use std::process::ExitCode;
 
 const USAGE: &str = "sed [-g] [-i] PATTERN TEMPLATE";
@@ -37,8 +36,7 @@ fn run(rt: &HostRuntime) -> Result<u8, Fault> {
         template: options.template.as_bytes(),
         limit: if options.all { 0 } else { 1 },
     };
-    let mut input = open(BufReader::new(rt.alloc(), rt.stdin()))?;
-    let mut out = open(BufWriter::new(rt.alloc(), rt.stdout()))?;
+    let (mut input, mut out) = buffers(rt.alloc(), rt.stdin(), rt.stdout())?;
     edit_lines(rt.alloc(), &mut editor, &mut input, &mut out)?;
     flush(&mut out)?;
     Ok(0)

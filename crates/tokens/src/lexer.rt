@@ -2,9 +2,9 @@
 
 ghost use Rattle.std.specs.Prelude.{◌≡◌, ◌≤◌, true, length, All, MatchOption, IfOk};
 ghost use Rattle.std.specs.Io.KnownBytes.{Appends};
-ghost use Rattle.tokens.specs.Tokens.{AreWritten, TokensAreOneList, line_at, token_line};
+ghost use Rattle.tokens.specs.Tokens.{AreWritten, line_at, token_line};
 
-use bites_filter::table::{Rule, furthest};
+use bites_filter::table::{Rule, furthest, name_of};
 use std::io::{self, Write};
 
 /// Where the tokens stop: the line, from 1, and the byte, from 0.
@@ -23,7 +23,7 @@ pub fn write_tokens<W: Write>(rules: &mut [Rule], text: &[u8], out: &mut W) -> i
     let mut start = 0;
     let mut token = furthest(rules, text, 0);
     while token.end > start {
-        write_token(&rules[token.rule], &text[start..token.end], out)?;
+        write_token(name_of(rules, token.rule), &text[start..token.end], out)?;
         start = token.end;
         token = furthest(rules, text, start);
     }
@@ -31,11 +31,11 @@ pub fn write_tokens<W: Write>(rules: &mut [Rule], text: &[u8], out: &mut W) -> i
     Ok(start)
 }
 
-// Writes the name of the rule, a tab and the text.
-fn write_token<W: Write>(rule: &Rule, text: &[u8], out: &mut W) -> io::Result<()>
-    ensures { IfOk result (λ _. Appends (W.contents out.old) (W.contents out.new) (token_line rule.now.name text.now)) }
+// Writes the name, a tab and the text.
+fn write_token<W: Write>(name: &str, text: &[u8], out: &mut W) -> io::Result<()>
+    ensures { IfOk result (λ _. Appends (W.contents out.old) (W.contents out.new) (token_line name.now text.now)) }
 {
-    out.write_all(rule.name().as_bytes())?;
+    out.write_all(name.as_bytes())?;
     out.write_all(b"\t")?;
     out.write_all(text)?;
     out.write_all(b"\n")
@@ -55,8 +55,3 @@ pub fn stop_at(text: &[u8], end: usize) -> Option<Stop>
         byte: end,
     })
 }
-
-/// The law that a text has one list of tokens.
-pub fn tokens_are_one_list()
-    ensures { TokensAreOneList }
-{}

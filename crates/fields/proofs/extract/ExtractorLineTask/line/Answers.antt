@@ -1,22 +1,21 @@
-use Rattle.std.proofs.Common.{◌≡◌, ◌∙◌, ℕ, List, [], map, refl, subst}
+use Rattle.std.proofs.Common.{ℕ, List, [], map, refl, subst}
 use Rattle.std.specs.Borrow.{Bor}
 use Rattle.std.specs.Io.BufRead.{strip_last}
 use Rattle.std.specs.Io.KnownBytes.{Appends}
 use Rattle.bites_filter.specs.Csv.{row}
-use Rattle.bites_filter.specs.Parts.{AreParts, Extracts}
+use Rattle.bites_filter.specs.Parts.{AreParts, ExtractsBytes}
 use Rattle.bites_filter.proofs.Written.{appends_none}
-use Rattle.fields.specs.Entry.{entry_tree, NoEntry}
+use Rattle.fields.specs.Entry.{entry_tree}
 use Rattle.fields.specs.Rows.{told}
 use Rattle.fields.proofs.extract.ExtractorLineTask.line.Goals as goal
 
 pub returns-then-branch : goal.returns-then-branch
 returns-then-branch g c =
-    let fields = map (λ f. f.now) c.entry.new.fields in let text = strip_last 10 c.args.line.now in
+    let fields = map (λ f. f.now) c.entry.new.into in let text = strip_last 10 c.args.line.now in
     let contents = g.W.Write.contents in
-    let same : c.in-Ok.text.now ≡ text = c.in-Ok.ensures.cases.0 ∙ c.without_line_feed.ensures in
     let parts : AreParts entry_tree text fields =
-    subst (λ found. Extracts entry_tree text found fields) c.if-branch.true
-    (subst (λ t. Extracts entry_tree t c.in_ok-entry.field-0 fields) same c.in_ok-entry.ensures.found) in (
+    subst (λ found. ExtractsBytes entry_tree text found fields) c.if-branch.true
+    (subst (λ t. ExtractsBytes entry_tree t c.in_ok-entry.field-0 fields) c.without_line_feed.ensures c.in_ok-entry.ensures.found) in (
       row fields,
       ([], ((fields, (c.entry.ensures.seven, parts), refl), refl), appends_none (g.E.Write.contents c.args.self.now.err)),
       subst (λ (fs : List (Bor (List ℕ))). Appends (contents c.args.out.now) (contents c.write_row.new.out) (row (map (λ f. f.now) fs)))
@@ -25,9 +24,8 @@ returns-then-branch g c =
 
 pub returns : goal.returns
 returns g c =
-    let fields = map (λ f. f.now) c.entry.new.fields in let text = strip_last 10 c.args.line.now in
-    let same : c.in-Ok.text.now ≡ text = c.in-Ok.ensures.cases.0 ∙ c.without_line_feed.ensures in
-    let none : NoEntry text =
-    subst (λ found. Extracts entry_tree text found fields) c.if-branch.false
-    (subst (λ t. Extracts entry_tree t c.in_ok-entry.field-0 fields) same c.in_ok-entry.ensures.found) in
-    ([], (told c.args.number, ((λ _. none), refl, refl), c.in_ok-tell-2.ensures), appends_none (g.W.Write.contents c.args.out.now))
+    let fields = map (λ f. f.now) c.entry.new.into in let text = strip_last 10 c.args.line.now in
+    let none =
+    subst (λ found. ExtractsBytes entry_tree text found fields) c.if-branch.false
+    (subst (λ t. ExtractsBytes entry_tree t c.in_ok-entry.field-0 fields) c.without_line_feed.ensures c.in_ok-entry.ensures.found) in
+    ([], (told c.args.number, (none, refl, refl), c.in_ok-tell.ensures), appends_none (g.W.Write.contents c.args.out.now))
