@@ -1,7 +1,7 @@
 //! The engine for C: a regex and the room for its searches are held by pointers between calls.
 //!
 //! A function that answers a `u32` answers one of the numbers of `c/bites.h`: 0 where what was asked is done, 100 and 101
-//! for a match and none, 1 to 57 for the messages of refused patterns, 58 for want of memory, and from 102 on what was
+//! for a match and none, 1 to 57 for the messages of refused patterns, 58 for out of memory, and from 102 on what was
 //! wrong with the call.
 //!
 //! Over texts, which the bit 256 of the flags asks for, each call that takes a haystack asks that it is UTF-8 and that the place
@@ -47,7 +47,7 @@ pub use span::BitesSpan;
 use std::alloc::Global;
 pub use text::BitesSize;
 
-/// Makes a regex of the pattern and puts it into `out`, in the place of the one that it held.
+/// Makes a regex of the pattern and puts it into `out`, instead of the one that it held.
 ///
 /// The bits 1, 2, 4, 8, 16 and 32 of `flags` set the flags i, m, s, R, U and x; under 64 searches answer the longest match,
 /// under 128 groups that the tree drops are kept, and under 256 its searches are over texts. Other bits say nothing. Where the
@@ -87,9 +87,9 @@ pub extern "C" fn bites_free(alloc: Global, regex: &mut Bites)
     *regex = Bites::empty(alloc);
 }
 
-/// Makes `out` hold a regex that shares the program of `regex`, in the place of the one that it held.
+/// Makes `out` hold a regex that shares the program of `regex`, instead of the one that it held.
 ///
-/// The answer is 0, 58 for want of memory, or 103 where there is no regex; where it is not 0, `out` holds none.
+/// The answer is 0, 58 for out of memory, or 103 where there is no regex; where it is not 0, `out` holds none.
 #[unsafe(no_mangle)]
 pub extern "C" fn bites_clone(alloc: Global, regex: &mut Bites, out: &mut Bites) -> u32
     ensures same { regex.new.held ≡ regex.old.held }
@@ -113,9 +113,9 @@ pub extern "C" fn bites_clone(alloc: Global, regex: &mut Bites, out: &mut Bites)
     }
 }
 
-/// Makes room for searches with the regex and puts it into `out`, in the place of that which it held.
+/// Makes room for searches with the regex and puts it into `out`, instead of the one that it held.
 ///
-/// The answer is 0, 58 for want of memory, or 103 where there is no regex; where it is not 0, `out` holds none.
+/// The answer is 0, 58 for out of memory, or 103 where there is no regex; where it is not 0, `out` holds none.
 #[unsafe(no_mangle)]
 pub extern "C" fn bites_cache_new(alloc: Global, regex: &mut Bites, out: &mut BitesCache) -> u32
     ensures same { regex.new.held ≡ regex.old.held }
@@ -464,7 +464,7 @@ pub extern "C" fn bites_captures_len(alloc: Global, regex: &mut Bites) -> usize
     len
 }
 
-/// How many groups take part in every match, group 0 counted, and 0 where the form of the pattern does not say so or there
+/// How many groups participate in every match, group 0 counted, and 0 where the form of the pattern does not say so or there
 /// is no regex.
 #[unsafe(no_mangle)]
 pub extern "C" fn bites_static_captures_len(alloc: Global, regex: &mut Bites) -> usize

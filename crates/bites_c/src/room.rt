@@ -43,7 +43,7 @@ impl Model for Room {
 }
 
 impl Room {
-    /// The room for searches with this regex. The error is want of memory.
+    /// The room for searches with this regex. The error is that memory ran out.
     pub(crate) fn new(regex: &Regex) -> Result<Room, AllocError>
         ensures { IfOk result (λ c. c.fits ≡ fit_of regex.now.program) }
     {

@@ -1,6 +1,6 @@
 //! What each word of the program writes. A place is a number of bytes from the start of the haystack.
 //!
-//! The error of each is that of the writer, or want of memory.
+//! The error of each is that of the writer, or that memory ran out.
 
 use crate::request::Task;
 use bites_bytes::bytes::{Captures, Regex};

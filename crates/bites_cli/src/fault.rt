@@ -14,7 +14,7 @@ pub(crate) enum Fault {
 }
 
 impl Fault {
-    /// Why the words could not be had: want of memory, or else a word that is no UTF-8, which can't be a pattern here.
+    /// Why the words could not be had: out of memory, or else a word that is no UTF-8, which can't be a pattern here.
     pub(crate) fn of_words(error: &io::Error) -> Fault {
         Fault::memory_or(error, Fault::Usage)
     }

@@ -20,7 +20,7 @@ use std::io::{self, BufWriter, Read, Write};
 /// space; `replace` writes the input with each match replaced by what the template stands for, and nothing else.
 ///
 /// Answers the status: 0 if something matched, 1 if nothing did, 2 for a fault. Faults are found in this order: the
-/// words, the pattern, reading, writing; want of memory where it comes, and what was written before stays. A fault is
+/// words, the pattern, reading, writing; out of memory where it comes, and what was written before stays. A fault is
 /// one line on `err`, and the status is 2 also where that line can't be written.
 pub fn run<R: Read, W: Write, E: Write>(
     alloc: Global,
@@ -36,7 +36,7 @@ pub fn run<R: Read, W: Write, E: Write>(
     }
 }
 
-/// Tells on one line of `err` why the program has no words: want of memory, or else a word that is no UTF-8, which can't
+/// Tells on one line of `err` why the program has no words: out of memory, or else a word that is no UTF-8, which can't
 /// be a pattern here and answers the usage line. The status is 2.
 pub fn refuse_words<E: Write>(error: &io::Error, err: &mut E) -> u8 {
     tell(&Fault::of_words(error), err)

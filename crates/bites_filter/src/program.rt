@@ -7,8 +7,7 @@ use std::process::ExitCode;
 use std::rt::Env;
 use std::{env, io};
 
-/// Returns the words behind the program's name. The fault is that memory ran out, or else that a word is not UTF-8, which
-/// the usage tells.
+/// Returns the words after the program's name. The fault is that memory ran out, or the usage if a word is not UTF-8.
 pub fn words(rt: &(impl Env + AllocGlobal), usage: &'static str) -> Result<Vec<String>, Fault> {
     match read_words(rt) {
         Ok(words) => Ok(words),
@@ -17,7 +16,7 @@ pub fn words(rt: &(impl Env + AllocGlobal), usage: &'static str) -> Result<Vec<S
     }
 }
 
-/// Returns the fault that tells the usage, if there are words behind the program's name.
+/// Returns a fault with the usage if there are words after the program's name.
 pub fn no_words(rt: &(impl Env + AllocGlobal), usage: &'static str) -> Result<(), Fault> {
     if words(rt, usage)?.is_empty() {
         Ok(())

@@ -94,8 +94,8 @@ impl Rule {
     }
 }
 
-/// Returns the bytes of the one file that the words of the command line name. The fault is that there is another number of
-/// words, which the usage tells, that the file can't be read, or that memory ran out.
+/// Returns the bytes of the one file that the words of the command line name. The fault is the usage if there is another
+/// number of words. Otherwise it is that the file can't be read, or that memory ran out.
 pub fn read_file(
     rt: &(impl Env + Files + AllocGlobal),
     usage: &'static str,

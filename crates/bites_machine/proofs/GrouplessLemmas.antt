@@ -1,4 +1,4 @@
--- Trees of which no group but group 0 is known.
+-- Trees whose only known group is group 0.
 use Rattle.std.proofs.Common.{◌≡◌, ℕ, suc, ◌≤◌, ◌==◌, Bool, true, false, [], ◌∷◌, ◌++◌, map, Option, Some, None, refl, ap, ap₂, ◌∙◌, arith}
 use Rattle.std.specs.Prelude.{option_map, ◌&&◌, if◌then◌else◌}
 use Rattle.std.specs.List.{range_with_len}
@@ -63,6 +63,6 @@ groupless-left t reduced one =
     ap (λ n. map (group_name t) (range_with_len 0 n)) len
     ∙ ap (λ gs. name_in gs 0 ∷ []) (no_groups t reduced (omega (arith, one)))
 
--- It takes part in each match.
+-- It participates in each match.
 pub groupless-count : (t : Tree) → IsReduced t → captures_len t ≤ 1 → static_captures_len t ≡ Some 1
 groupless-count t reduced one = ap (option_map suc) (no_count t reduced (omega (arith, one)))

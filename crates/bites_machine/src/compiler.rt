@@ -54,7 +54,7 @@ pub fn compile(
 }
 
 /// The program of a tree that was read from this pattern, with all of these groups, which may be more than
-/// those that are left in the tree. They are weighed in the place of those; all else is as with [`compile`].
+/// those that are left in the tree. They are weighed instead of those; all else is as with [`compile`].
 pub fn compile_with_groups(
     alloc: Global,
     tree: &Tree,

@@ -54,7 +54,7 @@ fn weight_of_text(text: &str) -> usize
     text.len().saturating_add(4)
 }
 
-/// How many groups take part in every match, with group 0, if the form of the tree says so. The tree has groups
+/// How many groups participate in every match, with group 0, if the form of the tree says so. The tree has groups
 /// below this number; where group 0 alone is, no walk is needed.
 pub fn static_captures_len(tree: &Tree, captures: usize) -> Option<usize>
     requires reduced { IsReduced tree.now }

@@ -215,7 +215,7 @@ impl Program {
         None
     }
 
-    /// How many groups take part in every match, if the form of the pattern says so. Group 0 is counted.
+    /// How many groups participate in every match, if the form of the pattern says so. Group 0 is counted.
     pub fn static_captures_len(&self) -> Option<usize>
         ensures { result ≡ self.now.static_captures_len }
     {

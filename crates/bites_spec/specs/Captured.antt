@@ -1,4 +1,4 @@
--- What contracts see of the parts of a haystack that a search hands out.
+-- What contracts see of the parts of a haystack that a search returns.
 use Rattle.std.specs.Prelude.{◌≡◌, ◌≤◌, ℕ, List, length, Option, Some, None, IsSome}
 use Rattle.bites_spec.specs.Match.{Span, span}
 use Rattle.bites_spec.specs.Pieces.{text_at}

@@ -8,7 +8,7 @@ pub record Contents : Type 0 where
   pub pattern : List ℕ
   -- the name of each group, from group 0 on, if it has one
   pub names : List (Option (List ℕ))
-  -- how many groups take part in every match, with group 0
+  -- how many groups participate in every match, with group 0
   pub static_captures_len : Option ℕ
 
 -- what is in a program that was made of states alone

@@ -32,7 +32,7 @@ abbrev pub TakePartAtLeast : ℕ → (ℕ → Option Span) → Type 0
 TakePartAtLeast n group =
     (ks : List ℕ) × (length ks ≡ n) × AllApart ks × ((k : ℕ) → Among ks k → IsSome (group k))
 
--- where the form says how many groups take part at least, so many do in each answer, group 0 with them
+-- where the form says how many groups participate at least, so many do in each answer, group 0 with them
 abbrev pub StaticLenIsLeast : Type 0
 StaticLenIsLeast =
     (t : Tree) → IsCompilable t → (n : ℕ) → static_captures_len t ≡ Some n →

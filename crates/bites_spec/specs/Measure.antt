@@ -90,7 +90,7 @@ repeated_count min None = None
 repeated_count min (Some n) = if (min == 0) && not (n == 0) then None else Some n
 
 abbrev mutual
-  -- how many groups take part at least, where the form says so
+  -- how many groups participate at least, where the form says so
   pub static_count : Tree → Option ℕ
   static_count empty = Some 0
   static_count (char c) = Some 0
@@ -112,7 +112,7 @@ abbrev mutual
   static_agreed (tree_and t no_tree) = static_count t
   static_agreed (tree_and t (tree_and u ts)) = agreed (static_count t) (static_agreed (tree_and u ts))
 
--- how many groups take part at least, where the form says so, with group 0
+-- how many groups participate at least, where the form says so, with group 0
 abbrev pub static_captures_len : Tree → Option ℕ
 static_captures_len t = option_map suc (static_count t)
 

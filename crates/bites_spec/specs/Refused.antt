@@ -15,7 +15,7 @@ abbrev pub AppendsUntilRefused : {E : Type 0} → Result (Unit {0}) E → (old n
 AppendsUntilRefused r old new text =
     MatchResult r (λ done. new ≡ old ++ text) (λ e. (front : List ℕ) × IsFront front text × (new ≡ old ++ front))
 
--- What an iterator hands out where each item is a result: C is what is handed out, and B what is seen of it.
+-- What an iterator returns where each item is a result: C is what is returned, and B what is seen of it.
 module _ {S B C E : Type 0} (view : C → B) (left : S → List B) where
   -- a call gives the first item that is left, or in its place a refusal, behind which nothing is left
   abbrev pub YieldsUntilRefused : S → Option (Result C E) → S → Type 0
@@ -23,7 +23,7 @@ module _ {S B C E : Type 0} (view : C → B) (left : S → List B) where
       MatchOption r ((left s ≡ []) × (left t ≡ []))
       (λ x. MatchResult x (λ c. left s ≡ view c ∷ left t) (λ e. (0 < length (left s)) × (left t ≡ [])))
 
--- each item in turn, or a front of them and a refusal in the place of the next one, and then nothing
+-- each item in turn, or a front of them and a refusal instead of the next one, and then nothing
 abbrev pub GivenUntilRefused : {B C E : Type 0} → (C → B) → List B → List (Result C E) → Type 0
 GivenUntilRefused view [] [] = Unit {0}
 GivenUntilRefused view [] (r ∷ rs) = ⊥
@@ -31,7 +31,7 @@ GivenUntilRefused view (x ∷ xs) [] = ⊥
 GivenUntilRefused view (x ∷ xs) (Ok c ∷ rs) = (view c ≡ x) × GivenUntilRefused view xs rs
 GivenUntilRefused view (x ∷ xs) (Err e ∷ rs) = rs ≡ []
 
--- all that such an iterator hands out are the items that were left, until memory is refused
+-- all that such an iterator returns are the items that were left, until memory is refused
 abbrev pub IterationsEnd : Type 0 → Type 0 → Type 0 → Type 0 → Type 0
 IterationsEnd S B C E =
     (view : C → B) (left : S → List B) (s : S) (rs : List (Result C E)) →

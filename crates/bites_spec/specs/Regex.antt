@@ -11,7 +11,7 @@ use Rattle.bites_spec.specs.Run.{Run, slots, chosen_run}
 use Rattle.bites_spec.specs.Slots.{span_of_run}
 
 -- the bytes of the pattern, the flags that it was read under, its tree, the program of that tree with the names of its
--- groups and how many of them take part in every match, whether groups that the tree dropped were kept, and whether searches
+-- groups and how many of them participate in every match, whether groups that the tree dropped were kept, and whether searches
 -- answer the longest match
 pub record Regex : Type 0 where
   pub pattern : List ℕ

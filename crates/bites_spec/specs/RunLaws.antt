@@ -68,7 +68,7 @@ LeastRunEndIsAtMost =
     (is_some o ≡ is_some (chosen_run longest p hay s))
     × ((l r : Run) → o ≡ Some l → chosen_run longest p hay s ≡ Some r → l.end ≤ r.end)
 
--- where the form of a tree says how many groups take part at least, so many stand in the slots of each run of its program
+-- where the form of a tree says how many groups participate at least, so many stand in the slots of each run of its program
 abbrev pub StaticLenTakesPart : Type 0
 StaticLenTakesPart =
     (t : Tree) (p : Program) (hay : List ℕ) → IsCompilable t → Built t p → (n : ℕ) → static_captures_len t ≡ Some n →

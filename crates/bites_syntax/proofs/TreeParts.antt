@@ -80,7 +80,7 @@ at_length : (o : Option ℕ) (m n : ℕ) → m ≡ n → Within o m → Within o
 at_length o m n e w = subst (λ k. Within o k) e w
 
 mutual
-  -- no more groups take part in every match than there are
+  -- no more groups participate in every match than there are
   pub count_within : (t : Tree) → Within (static_count t) (length (groups_in t))
   count_within empty = omega arith
   count_within (char c) = omega arith

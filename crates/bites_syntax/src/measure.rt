@@ -104,7 +104,7 @@ fn greatest_group_of(parts: &[Tree]) -> u32
     most
 }
 
-/// How many groups of the tree take part at least in a match, where its form says so.
+/// How many groups of the tree participate at least in a match, where its form says so.
 #[cycle(count)]
 pub fn static_count(tree: &Tree) -> Option<usize>
     requires { length (groups_in tree.now) < 2 ^ 64 }

@@ -405,7 +405,7 @@ impl Parser<'_> {
 ///
 /// It answers a tree exactly if the grammar reads the pattern within the limits: at most `nest_limit` groups open at
 /// once, a tree no taller than `nest_limit` and of a height below 4294967295, and counts and group numbers of at most
-/// 4294967295. Else the error is the message of the pattern's first fault, or want of memory. It takes time linear in
+/// 4294967295. Else the error is the message of the pattern's first fault, or out of memory. It takes time linear in
 /// the pattern, but for the sorting of classes, and its recursion goes only into groups, so as deep as `nest_limit`; no
 /// taller tree is held meanwhile.
 pub fn parse(alloc: Global, pattern: &str, flags: Flags, nest_limit: u32) -> Result<Tree, Error>

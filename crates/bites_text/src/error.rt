@@ -7,7 +7,7 @@ ghost use Rattle.bites_text.specs.declared.error.Error.TheVariants.{Memory};
 use std::alloc::{AllocError, AllocFailed};
 use std::fmt;
 
-/// Why a pattern was refused: one message of the parser or the compiler, or want of memory.
+/// Why a pattern was refused: one message of the parser or the compiler, or out of memory.
 ///
 /// A copy or a clone takes no memory.
 #[derive(Clone, Copy, Debug, PartialEq, Eq)]

@@ -83,7 +83,7 @@ pub mod over_bytes {
         }
     }
 
-    /// The number of groups that take part in every match, where the form of the pattern says it, and the first groups: at
+    /// The number of groups that participate in every match, where the form of the pattern says it, and the first groups: at
     /// least so many took part, and group 0 is one of them.
     pub fn static_len_and_captures<'h>(
         regex: &Regex,
@@ -180,7 +180,7 @@ pub mod over_texts {
         }
     }
 
-    /// The number of groups that take part in every match, where the form of the pattern says it, and the first groups: at
+    /// The number of groups that participate in every match, where the form of the pattern says it, and the first groups: at
     /// least so many took part, and group 0 is one of them.
     pub fn static_len_and_captures<'h>(
         regex: &Regex,

@@ -11,7 +11,7 @@ use std::alloc::Global;
 
 /// The regex of the pattern that `escape` makes of a text: its tree is the characters of the text, one behind another.
 ///
-/// It is refused only where the tree is too large, or for want of memory.
+/// It is refused only where the tree is too large, or if memory runs out.
 pub fn regex_of_text(alloc: Global, text: &str) -> Result<Regex, Error>
     ensures tree { IfOk result (λ r. r.tree ≡ text_tree (chars text.now)) }
     ensures refused { IfErr result (λ e. e ≢ Error.Memory →

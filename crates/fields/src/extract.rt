@@ -12,7 +12,7 @@ use bites_filter::lines::{LineTask, each_line, without_line_feed};
 use std::alloc::Global;
 use std::io::{self, BufRead, Write};
 
-/// A reader of entries, and where it tells of lines that are none.
+/// A reader of entries, and where it reports lines that are none.
 #[derive(Drop)]
 pub struct Extractor<E: Drop> {
     pub log: Log,
@@ -35,14 +35,14 @@ impl<E: Write + Drop> LineTask for Extractor<E> {
     }
 }
 
-// Tells that the line of this number does not have the format.
+// Reports that the line of this number does not have the format.
 fn tell<E: Write>(number: u64, err: &mut E) -> io::Result<()>
     ensures { IfOk result (λ _. Appends (E.contents err.old) (E.contents err.new) (told number)) }
 {
     writeln!(err, "fields: line {number} is not in the common log format")
 }
 
-/// Writes the fields of each line of the input that has the format, and tells of each other line. Returns how many other
+/// Writes the fields of each line of the input that has the format, and reports each other line. Returns how many other
 /// lines there are.
 ///
 /// What was written before a fault stays.

@@ -9,7 +9,7 @@ abbrev pub token_line : List ℕ → List ℕ → List ℕ
 token_line name text = ((name ++ 9 ∷ []) ++ text) ++ 10 ∷ []
 
 module _ (rules : List NamedRegex) (text : List ℕ) where
-  -- the lines of tokens, the first of which begins at i
+  -- the lines of tokens; the first token begins at i
   abbrev pub token_lines : ℕ → List Reading → List ℕ
   token_lines i [] = []
   token_lines i (t ∷ ts) =

@@ -115,7 +115,7 @@ impl Drop for Handle {
 pub(super) struct Searcher {
     pub(super) regex: Handle,
     pub(super) cache: BitesCache,
-    /// Memory for the groups of a match, which the next search that finds one hands out. It is empty.
+    /// Empty memory for the groups of a match. The next search that finds one returns it.
     spare: Vec<BitesSpan>,
 }
 

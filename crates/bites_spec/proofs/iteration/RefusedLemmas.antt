@@ -1,4 +1,4 @@
--- An iterator that hands out results.
+-- An iterator that returns results.
 use Rattle.std.proofs.Common.{◌≡◌, ◌<◌, List, [], ◌∷◌, length, Ok, Err, Result, refl, sym, ◌∙◌, subst, arith}
 use Rattle.std.specs.Iterator.{Yields}
 use Rattle.bites_spec.specs.Refused.{YieldsUntilRefused, GivenUntilRefused}

@@ -1,4 +1,4 @@
--- As many groups as the form says take part in each parse.
+-- As many groups as the form says participate in each parse.
 use Rattle.std.proofs.Common.{◌≡◌, ℕ, zero, suc, ◌+◌, ◌≤◌, Bool, true, false, not, ◌&&◌, List, [], ◌∷◌, ◌++◌, length, Option, Some, None, refl, sym, subst, ap, ap₂, ◌∙◌, inl, inr, ⊎_elim, ◌⊎◌, arith, eqb-true}
 use Rattle.std.proofs.lemmas.Bool.{eqb-false}
 use Rattle.std.proofs.lemmas.List.{length-append}
@@ -191,7 +191,7 @@ module _ (hay : List ℕ) where
         (λ b. wider hs (gs ++ hs) n ms (λ k c. among_right gs hs k c) (witness_one (tree_and u ts) (second_apart gs hs apart) n r.1 i j ms b))
         h
 
--- as many different groups take part as the form says
+-- as many different groups participate as the form says
 pub static_least : (hay : List ℕ) (t : Tree) → AllApart (groups_in t) → (n : ℕ) → static_count t ≡ Some n →
     (i j : ℕ) (ms : List Mark) → Parse hay t i j ms → MarksAtLeast n ms
 static_least hay t apart n e i j ms h = let w = witness hay t apart n e i j ms h in (w.ks, w.many, w.apart, w.marked)
