@@ -8,7 +8,7 @@ use Rattle.bites_spec.specs.Run.{Run, IsRun, Answered, slots}
 use Rattle.bites_spec.specs.Slots.{slot_in, group_in, span_of_run, span_between, answer_of}
 use Rattle.bites_spec.specs.Regex.{Regex, IsCompiled}
 use Rattle.bites_spec.specs.Captured.{Excerpt, excerpt, Captured, captured}
-use Rattle.bites_spec.specs.Anchored.{anchored_run, LeastEndFrom, HasMatchFrom, IsFullMatch, AreGroupsAt, anchored_run_at, anchored_span_at, anchored_slots_at, full_run, full_slots, FindsSpanFrom, FindsGroupsFrom, FindsGroupsFull}
+use Rattle.bites_spec.specs.Anchored.{anchored_run, LeastEndFrom, HasMatchFrom, IsFullMatch, AreGroupsAt, anchored_run_at, anchored_span_at, anchored_slots_at, full_run, full_slots, FindsSpanFrom, FindsMatchFrom, FindsGroupsFrom, FindsGroupsFull}
 use Rattle.bites_spec.proofs.regex.AnchoredLemmas.{longest_full, longest_not_full, anchored_starts, run-whole, run-lies, found_groups_from, found_span_from, found_groups_full, full_run_found, least_end_from_is_least, anchored_finds_some}
 use Rattle.bites_bytes.specs.NextMatch.{LeavesRun}
 use Rattle.bites_bytes.proofs.NextLemmas.{front_group}
@@ -93,17 +93,16 @@ pub two_at_least : (r : Regex) → IsCompiled r → (n : ℕ) → (n ≡ 2) ⊎ 
 two_at_least r is n h = ⊎_elim (λ (e : n ≡ 2). omega arith) (λ (e : n ≡ r.program.slots). let two = is.well_formed.slots in omega arith) h
 
 module _ (r : Regex) (is : IsCompiled r) (hay : List ℕ) where
-  -- a match with its span
-  pub span_on_tree : {M : Type 0} (s : ℕ) (f : M → Excerpt) (o : Option M) → option_map f o ≡ option_map (excerpt hay) (anchored_span_at r hay s) →
-      FindsSpanFrom r hay s (option_map (λ m. (f m).span) o)
-  span_on_tree s f o h = subst (FindsSpanFrom r hay s) (same f o (anchored_span_at r hay s) h) (found_span_from r is hay s)
+  -- the part of the haystack that such a search finds
+  pub match_from : (s : ℕ) (m : Option Excerpt) → m ≡ option_map (excerpt hay) (anchored_span_at r hay s) → FindsMatchFrom r hay s m
+  match_from s m h = record {
+    span = h;
+    on_tree = subst (FindsSpanFrom r hay s) (spans (anchored_span_at r hay s) ∙ ap (option_map (λ (x : Excerpt). x.span)) (sym h)) (found_span_from r is hay s);
+  }
     where
-      same : {M : Type 0} (f : M → Excerpt) (o : Option M) (q : Option Span) → option_map f o ≡ option_map (excerpt hay) q →
-          q ≡ option_map (λ m. (f m).span) o
-      same f None None h = refl
-      same f None (Some g) h = let never : None ≡ Some (excerpt hay g) = h in cc
-      same f (Some m) None h = let never : Some (f m) ≡ None = h in cc
-      same f (Some m) (Some g) h = ap Some (sym (ap (λ (x : Excerpt). x.span) (same_Some (f m) (excerpt hay g) h)))
+      spans : (o : Option Span) → o ≡ option_map (λ x. x.span) (option_map (excerpt hay) o)
+      spans None = refl
+      spans (Some g) = refl
 
   slots_of : (o : Option (List (Option ℕ))) → o ≡ option_map (λ y. y.slots) (option_map (captured r hay) o)
   slots_of None = refl

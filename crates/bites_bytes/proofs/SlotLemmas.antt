@@ -9,7 +9,7 @@ use Rattle.bites_spec.specs.Program.{Program}
 use Rattle.bites_spec.specs.Run.{Run, Answered, slots, written}
 use Rattle.bites_spec.specs.Slots.{group_in, span_of_run}
 use Rattle.bites_spec.specs.Regex.{Regex, IsCompiled, run_at, span_at, slots_at}
-use Rattle.bites_spec.specs.Captured.{Excerpt, excerpt, FindsSpan, FindsGroups, AreGroupsFrom, Captured, captured}
+use Rattle.bites_spec.specs.Captured.{Excerpt, excerpt, FindsSpan, FindsMatch, FindsGroups, AreGroupsFrom, Captured, captured}
 use Rattle.bites_spec.specs.Found.{NoMatch}
 use Rattle.bites_spec.proofs.regex.RegexRuns.{run_at-whole, span_at-lies, found_span, found_groups}
 
@@ -110,20 +110,16 @@ module _ (r : Regex) (is : IsCompiled r) (hay : List ℕ) (s : ℕ) where
   pub ends_found : (o : Option (ℕ × ℕ)) (found : Bool) → option_map ends o ≡ span_at r hay s → found ≡ is_some (run_at r hay s) → found ≡ is_some o
   ends_found o found h is_found = is_found ∙ sym (some_span (run_at r hay s)) ∙ ap is_some (sym h) ∙ some_ends o
 
-  -- what a search of the tree finds, for a match with its span
-  pub found_on_tree : {M : Type 0} (f : M → Excerpt) (o : Option M) → option_map f o ≡ option_map (excerpt hay) (span_at r hay s) →
-      FindsSpan r hay s (option_map (λ m. (f m).span) o)
-  found_on_tree f o h = subst (FindsSpan r hay s) (same f o (span_at r hay s) h) (found_span r is hay s)
+  -- the part of the haystack that a search finds
+  pub found_match : (m : Option Excerpt) → m ≡ option_map (excerpt hay) (span_at r hay s) → FindsMatch r hay s m
+  found_match m h = record {
+    span = h;
+    on_tree = subst (FindsSpan r hay s) (spans (span_at r hay s) ∙ ap (option_map (λ (x : Excerpt). x.span)) (sym h)) (found_span r is hay s);
+  }
     where
-      some_same : {A : Type 0} (a b : A) → Some a ≡ Some b → a ≡ b
-      some_same a b e = cc
-
-      same : {M : Type 0} (f : M → Excerpt) (o : Option M) (q : Option Span) → option_map f o ≡ option_map (excerpt hay) q →
-          q ≡ option_map (λ m. (f m).span) o
-      same f None None h = refl
-      same f None (Some g) h = let never : None ≡ Some (excerpt hay g) = h in cc
-      same f (Some m) None h = let never : Some (f m) ≡ None = h in cc
-      same f (Some m) (Some g) h = ap Some (sym (ap (λ (x : Excerpt). x.span) (some_same (f m) (excerpt hay g) h)))
+      spans : (o : Option Span) → o ≡ option_map (λ x. x.span) (option_map (excerpt hay) o)
+      spans None = refl
+      spans (Some g) = refl
 
   slots_of : (o : Option Run) (found : Bool) (old new : List (Option ℕ)) → found ≡ is_some o → found ≡ true →
       new ≡ unwrap_or (option_map (slots r.program) o) old → option_map (slots r.program) o ≡ Some new

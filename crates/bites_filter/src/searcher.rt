@@ -2,7 +2,7 @@
 
 ghost use Rattle.std.specs.Prelude.{◌≡◌, ◌↔◌, option_map, IfOk, IsTrue};
 ghost use Rattle.std.specs.Cow.{cow_slice_items};
-ghost use Rattle.bites_spec.specs.Anchored.{FindsSpanFrom};
+ghost use Rattle.bites_spec.specs.Anchored.{FindsMatchFrom};
 ghost use Rattle.bites_spec.specs.Found.{HasMatch, NoMatch};
 ghost use Rattle.bites_bytes.specs.Matched.{excerpt_of};
 ghost use Rattle.bites_filter.specs.Substituted.{Substitutes};
@@ -56,7 +56,7 @@ impl Searcher {
 
     /// Returns the match that begins at `start`, if one does. It takes no memory.
     pub fn find_anchored_at<'h>(&mut self, haystack: &'h [u8], start: usize) -> Option<Match<'h>>
-        ensures found { FindsSpanFrom self.old haystack.now start (option_map (λ x. (excerpt_of x).span) result) }
+        ensures found { FindsMatchFrom self.old haystack.now start (option_map excerpt_of result) }
         ensures same { self.new ≡ self.old }
     {
         self.regex

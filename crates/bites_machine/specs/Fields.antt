@@ -5,6 +5,7 @@ use Rattle.bites_spec.specs.Program.{targets}
 use Rattle.bites_spec.specs.ProgramFaults.{first_fault}
 use Rattle.bites_machine.specs.States.{states_of, program_of}
 use Rattle.bites_machine.specs.Prefix.{IsPrefix}
+use Rattle.bites_machine.specs.SelfLoop.{AreLoops, AreCovered}
 use Rattle.bites_spec.specs.Contents.{Contents}
 use Rattle.bites_machine.specs.Contents.{contents_by}
 use Rattle.bites_machine.specs.declared.program.Program.TheInside.{Inside}
@@ -12,9 +13,11 @@ use Rattle.bites_machine.specs.declared.program.Program.TheInside.{Inside}
 abbrev pub contents_of : Inside → Contents
 contents_of a = contents_by a.states.items a.start a.slots a.pattern a.names.items a.static_captures_len
 
--- the program has no fault, its edges are counted, and its prefix, if it has one, is that of its start
+-- the program has no fault, its edges are counted, its prefix, if it has one, is that of its start, and its self-loops are some
 abbrev pub IsSound : Inside → Type 0
 IsSound a =
     IsTrue (is_none (first_fault (program_of a.states.items a.start a.slots)))
     × (a.targets ≡ targets (program_of a.states.items a.start a.slots))
     × ForSome a.prefix (λ x. IsPrefix (states_of a.states.items) a.start x)
+    × AreLoops (states_of a.states.items) a.loops
+    × ForSome a.prefix (AreCovered (states_of a.states.items) a.loops)

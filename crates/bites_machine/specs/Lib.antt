@@ -27,3 +27,6 @@ pub mod Anchored
 pub mod Cuts
 pub mod Prefix
 pub mod Skipped
+pub mod SelfLoop
+pub mod Staying
+pub mod LoopClosure

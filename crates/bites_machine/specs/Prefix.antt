@@ -68,11 +68,11 @@ TakesAlone states seen q = (r c : ℕ) → Among seen r → takes (state_at stat
 -- so many looks from the start visit the states of the prefix, and nothing is left
 pub record IsPrefix (states : List State) (start : ℕ) (x : StartPrefix) : Type 0 where
   pub stack : (blind_from states start x.looks.value).stack ≡ []
-  pub seen : (blind_from states start x.looks.value).seen ≡ x.visited.value
+  pub seen : (blind_from states start x.looks.value).seen ≡ x.visited
   pub looks : (blind_from states start x.looks.value).looks ≡ x.looks.value
-  pub idle : AreIdle states x.visited.value x.ascii x.others x.anchored
-  pub targets : x.targets.value ≡ map (count_of states) x.visited.value
-  pub alone : IfSome x.taker (TakesAlone states x.visited.value)
+  pub idle : AreIdle states x.visited x.ascii x.others x.anchored
+  pub targets : x.targets.value ≡ map (count_of states) x.visited
+  pub alone : IfSome x.taker (TakesAlone states x.visited)
 
 -- those of the states that are not among the old ones
 abbrev pub fresh_of : List ℕ → List ℕ → List ℕ

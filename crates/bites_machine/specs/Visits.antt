@@ -19,11 +19,6 @@ abbrev pub lets_on : Option Look → List ℕ → ℕ → Bool
 lets_on None hay i = true
 lets_on (Some look) hay i = holds look hay i
 
--- whether a character that stands here, if any, passes the test
-abbrev pub takes_by : (ℕ → Bool) → Option ℕ → Bool
-takes_by test None = false
-takes_by test (Some c) = test c
-
 -- Each frame has at most as many pending slots as the one before it, and rows have these slots.
 abbrev pub ArePending : Pool → ℕ → List Frame → Type 0
 ArePending pool max_slots [] = Unit {0}

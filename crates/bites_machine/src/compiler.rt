@@ -171,7 +171,11 @@ fn with_names(
     let slots = 2 * names.len();
     let pattern = String::from_str(alloc, pattern)?;
     let at_least = static_captures_len(tree, names.len());
-    Program::new(alloc, states, start, slots, pattern, names, at_least).ok_or(Error::Memory)
+    let mut program = Program::new(alloc, states, start, slots, pattern, names, at_least).ok_or(
+        Error::Memory,
+    )?;
+    program.find_self_loops()?;
+    Ok(program)
 }
 
 /// The states of group 0 around the tree and of the match, and the number of the first.

@@ -1,14 +1,18 @@
 //! Programs that are compiled from the tree of a pattern, and the machine that runs them.
 #![tactic(auto)]
 
+mod character_set;
 mod compiler;
 mod emit;
 mod fault;
+mod few_ranges;
 mod groups;
 pub mod interpolate;
+mod kept_ranges;
 mod prefix;
 pub mod program;
 mod ranges;
+mod self_loop;
 mod short_stack;
 mod size;
 pub mod state;

@@ -20,9 +20,9 @@ const MOST_LOOKS: usize = 272;
 /// offsets above 0: some of these states assert the start of the haystack.
 #[derive(Drop)]
 pub struct StartPrefix {
-    /// The states, the last one first. Contracts alone see them.
-    pub visited: Snapshot<ShortStack>,
-    /// To how many states each of them leads without taking anything.
+    /// The states, the last one first.
+    pub visited: ShortStack,
+    /// To how many states each of them leads without taking anything. Contracts alone see these numbers.
     pub targets: Snapshot<ShortStack>,
     /// How often the closure looks at a state.
     pub looks: Snapshot<usize>,
@@ -57,16 +57,7 @@ impl StartPrefix {
         stack.push(start)?;
         for looks in 0..MOST_LOOKS {
             let Some(number) = stack.pop() else {
-                let all = looks;
-                return Some(StartPrefix {
-                    visited: Snapshot::of(&found.visited),
-                    targets: Snapshot::of(&found.targets),
-                    looks: Snapshot::of(&all),
-                    ascii: found.ascii,
-                    others: found.others,
-                    anchored: found.anchored,
-                    taker: found.lone_taker(),
-                });
+                return Some(found.finish(looks));
             };
             found.look(states, number, &mut stack)?;
         }
@@ -219,6 +210,37 @@ impl Closure {
         self.others |= others;
     }
 
+    // The prefix, after so many looks.
+    fn finish(self, looks: usize) -> StartPrefix
+        ensures visited { result.visited ≡ self.visited }
+        ensures targets { result.targets.value ≡ self.targets }
+        ensures looks { result.looks.value ≡ looks }
+        ensures ascii { result.ascii ≡ self.ascii }
+        ensures others { result.others ≡ self.others }
+        ensures anchored { result.anchored ≡ self.anchored }
+        ensures taker { IfSome result.taker (λ q. (self.several ≡ false)
+            × (self.taker ≡ Some q)) }
+    {
+        let taker = self.lone_taker();
+        let targets = Snapshot::of(&self.targets);
+        let Closure {
+            visited,
+            ascii,
+            others,
+            anchored,
+            ..
+        } = self;
+        StartPrefix {
+            visited,
+            targets,
+            looks: Snapshot::of(&looks),
+            ascii,
+            others,
+            anchored,
+            taker,
+        }
+    }
+
     // The state that takes characters, if exactly one does.
     fn lone_taker(&self) -> Option<u32>
         ensures { IfSome result (λ q. (self.now.several ≡ false) × (self.now.taker ≡ Some q)) }
@@ -228,7 +250,7 @@ impl Closure {
 }
 
 // Puts all targets on the stack, the preferred one on top. `None` if there is no room.
-fn push_all(stack: &mut ShortStack, targets: &Targets, reverse: bool) -> Option<()>
+pub(crate) fn push_all(stack: &mut ShortStack, targets: &Targets, reverse: bool) -> Option<()>
     ensures { IfSome result (λ _. stack.new
         ≡ program.targets_of (program.splits targets.now reverse) ++ stack.old) }
 {

@@ -13,9 +13,10 @@ pub use crate::fault::BadProgram;
 use crate::fault::first_fault_of;
 use crate::prefix::StartPrefix;
 pub use crate::ranges::Ranges;
+use crate::self_loop::SelfLoops;
 pub use crate::state::State;
 pub use crate::targets::Targets;
-use std::alloc::Global;
+use std::alloc::{AllocError, Global};
 use std::marker::Model;
 
 /// A well-formed program, with the pattern that it was compiled from and the names of its groups.
@@ -30,6 +31,15 @@ pub struct Program {
     names: Vec<Option<String>>,
     static_captures_len: Option<usize>,
     prefix: Option<StartPrefix>,
+    loops: SelfLoops,
+}
+
+/// What is known of the closures of some states before a search: the states that it visits at an offset where no match
+/// begins, if they are known, and the self-loops.
+#[derive(Clone, Copy, Drop)]
+pub struct Shortcuts<'p> {
+    pub prefix: Option<&'p StartPrefix>,
+    pub loops: &'p SelfLoops,
 }
 
 impl Model for Program {
@@ -46,6 +56,7 @@ impl Model for Program {
 
 impl Program {
     ghost use Rattle.bites_machine.specs.Prefix.{IsPrefix};
+    ghost use Rattle.bites_machine.specs.SelfLoop.{AreLoops, AreCovered};
 
     /// A program of these states, of the empty pattern and without names.
     ///
@@ -99,6 +110,7 @@ impl Program {
     {
         let targets = edges(&states)?;
         let prefix = StartPrefix::of(&states, start);
+        let loops = SelfLoops::none(alloc);
         Some(Program {
             alloc,
             states,
@@ -109,7 +121,16 @@ impl Program {
             names,
             static_captures_len,
             prefix,
+            loops,
         })
+    }
+
+    /// Looks for the self-loops of the states. The error is out of memory.
+    pub(crate) fn find_self_loops(&mut self) -> Result<(), AllocError>
+        ensures { self.new ≡ self.old }
+    {
+        self.loops = SelfLoops::of(self.alloc, &self.states, self.prefix.as_ref())?;
+        Ok(())
     }
 
     /// The allocator that the program was made with.
@@ -141,14 +162,20 @@ impl Program {
         self.start
     }
 
-    /// The states that a search visits at an offset where no match begins, if they are known.
-    pub(crate) fn prefix(&self) -> Option<&StartPrefix>
-        ensures { IfSome result (λ x.
+    /// What is known of the closures of some states before a search.
+    pub(crate) fn shortcuts(&self) -> Shortcuts<'_>
+        ensures prefix { IfSome result.prefix (λ x.
             IsPrefix self.now.program.states self.now.program.start x.now) }
+        ensures loops { AreLoops self.now.program.states result.loops.now }
+        ensures covered { IfSome result.prefix (λ x. AreCovered self.now.program.states
+            result.loops.now x.now) }
     {
         let _ = &self.states;
         let _ = self.start;
-        self.prefix.as_ref()
+        Shortcuts {
+            prefix: self.prefix.as_ref(),
+            loops: &self.loops,
+        }
     }
 
     /// The number of states.

@@ -1,6 +1,6 @@
 //! The ranges of a state.
 
-ghost use Rattle.std.specs.Prelude.{◌≡◌, ℕ, ◌<◌, ◌≤◌, ◌^◌, IfOk, true};
+ghost use Rattle.std.specs.Prelude.{◌≡◌, ℕ, ◌<◌, ◌≤◌, ◌^◌, IfOk, IfSome, [], ◌∷◌, true};
 ghost use Rattle.bites_spec.specs.Range.{in_range, in_ranges};
 ghost use Rattle.bites_spec.specs.Program.{AreRanges};
 ghost use Rattle.bites_machine.specs.Bits.{has_bit, HasAscii};
@@ -55,6 +55,34 @@ impl Ranges {
         Ok(Ranges { list, ascii })
     }
 
+    /// The range of one character. It takes no memory.
+    pub(crate) fn one(ch: char) -> Ranges
+        ensures { result ≡ (ch, ch) ∷ [] }
+    {
+        let list = RangeList::one((ch, ch));
+        let ascii = words_of(list.as_slice());
+        Ranges { list, ascii }
+    }
+
+    /// The same ranges, if they take no memory.
+    pub(crate) fn copy_in_place(&self) -> Option<Ranges>
+        ensures { IfSome result (λ copy. copy ≡ self.now) }
+    {
+        let list = self.list.copy_in_place()?;
+        Some(Ranges {
+            list,
+            ascii: self.ascii,
+        })
+    }
+
+    /// Whether the character lies in one of the ranges, if they rise; else it may be missed.
+    #[inline]
+    pub(crate) fn takes_past_ascii(&self, ch: char) -> bool
+        ensures { result ≡ true → in_ranges self.now ch ≡ true }
+    {
+        is_in_ranges(self.list.as_slice(), ch)
+    }
+
     /// The same ranges. It takes memory only if their list does.
     pub(crate) fn copy(&self, alloc: Global) -> Result<Ranges, AllocError>
         ensures { IfOk result (λ copy. copy ≡ self.now) }
@@ -66,6 +94,16 @@ impl Ranges {
         })
     }
 
+    /// Whether the ASCII character of this number lies in one of the ranges.
+    #[inline(always)]
+    pub(crate) fn takes_ascii(&self, number: u32) -> bool
+        requires { number < 128 }
+        ensures { result ≡ in_ranges self.now number }
+    {
+        let _ = &self.list;
+        (self.ascii[(number / 64) as usize] >> (number % 64)) & 1 == 1
+    }
+
     /// Whether the character lies in one of the ranges, each of which begins above the one before.
     ///
     /// One look for an ASCII character, else as many as the number of ranges has bits.
@@ -74,9 +112,8 @@ impl Ranges {
         requires { AreRanges self.now }
         ensures { result ≡ in_ranges self.now ch }
     {
-        let number = ch as u32;
-        if number < 128 {
-            (self.ascii[(number / 64) as usize] >> (number % 64)) & 1 == 1
+        if ch.is_ascii() {
+            self.takes_ascii(ch as u32)
         } else {
             is_in_ranges(self.list.as_slice(), ch)
         }
@@ -157,11 +194,11 @@ fn bits_within(first: u32, last: u32) -> u64
     (u64::MAX << first) & (u64::MAX >> (63 - last))
 }
 
-// Whether the character lies in one of the ranges, each of which begins above the one before.
+// Whether the character lies in one of the ranges, if each begins above the one before. In another list it may be missed.
 #[inline(never)]
 fn is_in_ranges(ranges: &[(char, char)], c: char) -> bool
-    requires { AreRanges ranges.now }
-    ensures { result ≡ in_ranges ranges.now c }
+    ensures found { result ≡ true → in_ranges ranges.now c ≡ true }
+    ensures rising { AreRanges ranges.now → result ≡ in_ranges ranges.now c }
 {
     let mut low = 0;
     let mut high = ranges.len();

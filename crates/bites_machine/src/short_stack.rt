@@ -1,6 +1,6 @@
 //! A few numbers of states, kept in place.
 
-ghost use Rattle.std.specs.Prelude.{◌≡◌, ◌≤◌, ◌∷◌, [], ◌==◌, length, IfSome, MatchOption};
+ghost use Rattle.std.specs.Prelude.{◌≡◌, ◌≤◌, ◌∷◌, [], ◌==◌, length, reverse, IfSome, MatchOption};
 ghost use Rattle.std.specs.List.{list_any};
 
 use std::marker::Model;
@@ -62,6 +62,13 @@ impl ShortStack {
         }
         self.len -= 1;
         Some(self.states[self.len])
+    }
+
+    /// The states as a slice, the first one first.
+    pub(crate) fn as_slice(&self) -> &[u32]
+        ensures { result.now ≡ reverse self.now }
+    {
+        &self.states[..self.len]
     }
 
     /// Returns whether the state is on the stack.

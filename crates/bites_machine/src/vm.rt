@@ -12,7 +12,9 @@ mod closure;
 mod counted;
 mod idle;
 mod pikevm;
+mod position;
 mod recorded_bytes;
+mod self_loops;
 mod slot_table;
 mod stack;
 mod state_set;
@@ -47,11 +49,13 @@ pub fn search(
     ensures visited { VisitedBy program.now.program haystack.now start result cache.new.walked }
 {
     let counted = counted::Counted::new(program.states());
+    let shortcuts = program.shortcuts();
     let request = pikevm::Request {
         haystack,
         start,
         first: program.start(),
-        prefix: program.prefix(),
+        prefix: shortcuts.prefix,
+        loops: shortcuts.loops,
         earliest,
         longest: false,
     };
@@ -77,11 +81,13 @@ pub fn search_longest(
     ensures visited { VisitedBy program.now.program haystack.now start result cache.new.walked }
 {
     let counted = counted::Counted::new(program.states());
+    let shortcuts = program.shortcuts();
     let request = pikevm::Request {
         haystack,
         start,
         first: program.start(),
-        prefix: program.prefix(),
+        prefix: shortcuts.prefix,
+        loops: shortcuts.loops,
         earliest: false,
         longest: true,
     };
@@ -126,11 +132,13 @@ pub fn search_anchored(
     ensures visited { VisitedFrom program.now.program haystack.now start result cache.new.walked }
 {
     let counted = counted::Counted::new(program.states());
+    let shortcuts = program.shortcuts();
     let request = pikevm::Request {
         haystack,
         start,
         first: program.start(),
         prefix: None,
+        loops: shortcuts.loops,
         earliest: anchored::is_earliest(kind),
         longest: anchored::is_longest(kind),
     };

@@ -9,7 +9,7 @@ use Rattle.bites_spec.specs.Run.{Run, IsRun, Reaches, first_run_from, first_run_
 use Rattle.bites_spec.specs.Counts.{Record, VisitedRun, IsBounded}
 use Rattle.bites_spec.specs.Found.{Answer, head_of, first_ending, way}
 use Rattle.bites_spec.specs.Slots.{span_of_run}
-use Rattle.bites_spec.specs.Captured.{IsInSlots}
+use Rattle.bites_spec.specs.Captured.{Excerpt, excerpt, IsInSlots}
 use Rattle.bites_spec.specs.Regex.{Regex}
 
 module _ (p : Program) (hay : List ℕ) where
@@ -131,6 +131,12 @@ pub record IsMatchAt (r : Regex) (hay : List ℕ) (s : ℕ) (g : Span) : Type 0 
 abbrev pub FindsSpanFrom : Regex → List ℕ → ℕ → Option Span → Type 0
 FindsSpanFrom r hay s None = HasMatchFrom r.tree hay s → ⊥
 FindsSpanFrom r hay s (Some g) = IsMatchAt r hay s g
+
+-- A search of the regex from s alone finds this part of the haystack, or none: it is where the program's run begins and ends, and
+-- what such a search of the tree finds.
+pub record FindsMatchFrom (r : Regex) (hay : List ℕ) (s : ℕ) (m : Option Excerpt) : Type 0 where
+  pub span : m ≡ option_map (excerpt hay) (anchored_span_at r hay s)
+  pub on_tree : FindsSpanFrom r hay s (option_map (λ x. x.span) m)
 
 -- in the slots stand the groups of a match that a search of the regex's tree from s alone finds
 pub record AreGroupsAt (r : Regex) (hay : List ℕ) (s : ℕ) (slots : List (Option ℕ)) : Type 0 where

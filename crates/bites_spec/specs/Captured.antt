@@ -1,5 +1,5 @@
 -- What contracts see of the parts of a haystack that a search returns.
-use Rattle.std.specs.Prelude.{◌≡◌, ◌≤◌, ℕ, List, length, Option, Some, None, IsSome}
+use Rattle.std.specs.Prelude.{◌≡◌, ◌≤◌, ℕ, List, length, Option, Some, None, IsSome, option_map}
 use Rattle.bites_spec.specs.Match.{Span, span}
 use Rattle.bites_spec.specs.Pieces.{text_at}
 use Rattle.bites_spec.specs.Measure.{static_captures_len}
@@ -68,6 +68,12 @@ pub record IsMatchFrom (r : Regex) (hay : List ℕ) (s : ℕ) (g : Span) : Type 
 abbrev pub FindsSpan : Regex → List ℕ → ℕ → Option Span → Type 0
 FindsSpan r hay s None = NoMatch r.tree hay s
 FindsSpan r hay s (Some g) = IsMatchFrom r hay s g
+
+-- A search of the regex from s finds this part of the haystack, or none: it is where the program's run begins and ends, and what a
+-- search of the tree finds.
+pub record FindsMatch (r : Regex) (hay : List ℕ) (s : ℕ) (m : Option Excerpt) : Type 0 where
+  pub span : m ≡ option_map (excerpt hay) (span_at r hay s)
+  pub on_tree : FindsSpan r hay s (option_map (λ x. x.span) m)
 
 -- what a regex's search answers is what a search of its tree finds
 abbrev pub SlotsAreFound : Type 0

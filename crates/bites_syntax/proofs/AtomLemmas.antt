@@ -1,4 +1,4 @@
--- Items that are nodes of their own and no groups.
+-- Items that are nodes of their own but not groups.
 use Rattle.std.proofs.Common.{◌≡◌, ◌&&◌, ◌||◌, ◌++◌, [], ℕ, List, Bool, true, false, ◌==◌, ◌∷◌, refl, sym, ap, ◌∙◌, Ok, Err, Result}
 use Rattle.std.specs.Prelude.{if◌then◌else◌}
 use Rattle.std.proofs.lemmas.Bool.{false≢true}
@@ -30,7 +30,7 @@ pub atom_escape : (n : ℕ) (flags : Flags) (c : ℕ) (t rest : Text) (m : escap
     atom n flags c t ≡ Ok (node_of ranges_of 0 flags m, rest)
 atom_escape n flags c t rest m is reads = rw is (ap (λ a. and_then a (λ m r. answer (node_of ranges_of 0 flags m) r)) reads)
 
--- an answer whose trees have no parts
+-- a result whose trees have no parts
 abbrev pub IsLow : ReadResult Tree → Type 0
 IsLow (Ok x) = height x.0 ≡ 0
 IsLow (Err e) = Unit {0}
@@ -52,7 +52,7 @@ low_behind : {A : Type 0} (a : ReadResult A) (f : A → Tree) → ((x : A) → h
 low_behind (Ok x) f low = low x.0
 low_behind (Err e) f low = tt
 
--- an item that is no group has no parts
+-- an item that is not a group has no parts
 pub atom_low : (n : ℕ) (flags : Flags) (c : ℕ) (t : Text) → IsLow (atom n flags c t)
 atom_low n flags c t =
     either_side IsLow (c == left_bracket) _ _ (λ b. low_behind (bracket n flags (skip flags t)) (λ set. tree.class (ranges_of set)) (λ set. refl))
@@ -71,7 +71,7 @@ same_choice g true x y u v p q = p
 same_choice g false x y u v p q = q
 
 module _ (limit : ℕ) (go : Reader) (n depth : ℕ) (front : Front) (branches nodes : List Tree) where
-  -- an item that is no group is read as its node
+  -- an item that is not a group is read as its node
   pub item_atom : (c : ℕ) (t : Text) → (c == right_parenthesis) ≡ false → (c == bar) ≡ false → (c == left_parenthesis) ≡ false → (c == question) ≡ false →
       (c == star) ≡ false → (c == plus) ≡ false → (c == left_brace) ≡ false →
       at_item ranges_of limit go n depth front branches nodes (c ∷ t) ≡ and_then (atom n front.flags c t) (λ node rest. go depth front branches (nodes ++ node ∷ []) rest)

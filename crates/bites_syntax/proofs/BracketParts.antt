@@ -1,26 +1,17 @@
 -- Classes in brackets, part by part.
-use Rattle.std.proofs.Common.{◌≡◌, ◌≤◌, ◌<◌, ◌+◌, ◌-◌, ◌⊎◌, ◌++◌, ℕ, zero, suc, Bool, true, false, not, ◌&&◌, ◌||◌, ◌==◌, [], ◌∷◌, List, length, drop, Option, Some, None, Result, Ok, Err, inl, inr, refl, sym, ap, ap₂, ◌∙◌, subst, arith, ⊎_elim, le-leb, eq-eqb, ne_eqb}
-use Rattle.std.specs.Prelude.{nat_le, codes, MatchOption, MatchResult, if◌then◌else◌}
-use Rattle.std.proofs.lemmas.Bool.{cases_lt, cases_eq, lt-leb, false≢true}
+use Rattle.std.proofs.Common.{◌≡◌, ◌≤◌, ◌+◌, ◌-◌, ◌++◌, ℕ, Bool, true, false, not, ◌&&◌, ◌||◌, ◌==◌, [], ◌∷◌, List, refl, ap, ap₂, ◌∙◌, subst, arith, ⊎_elim, le-leb, eq-eqb, ne_eqb}
+use Rattle.std.proofs.lemmas.Bool.{cases_lt, cases_eq, lt-leb}
 use Rattle.std.proofs.lemmas.Bool.Decides.{nat_tests}
-use Rattle.bites_spec.specs.Bracket.{is_set_operator, is_twice, with_cases, with_negation}
-use Rattle.bites_spec.specs.Class.{Set, NamedClass, Lists, between, complement, folded, is_lower, is_scalar, is_upper, members, class_name, named_classes, none, single, union}
-use Rattle.bites_spec.specs.Class as class
-use Rattle.bites_spec.specs.Escape.{Meaning, character, characters, assertion}
-use Rattle.bites_spec.specs.Message as message
-use Rattle.bites_spec.specs.Pattern.{Text, Flags, begins, next_is, one_of, skip, dash, backslash, left_bracket, right_bracket, caret}
+use Rattle.bites_spec.specs.Class.{Set, Lists, between, complement, folded, is_lower, is_scalar, is_upper, none, single, union}
+use Rattle.bites_spec.specs.Escape.{Meaning, character, characters}
+use Rattle.bites_spec.specs.Pattern.{Text}
 use Rattle.bites_spec.specs.Range.{Range, in_range, in_ranges}
-use Rattle.bites_spec.specs.Reader.{ReadResult, Members, after_dash, after_first, alone, and_then, answer, bracket, class_end, class_members, dashes, escape, finished, member, named, range, stop}
+use Rattle.bites_spec.specs.Reader.{Members, alone, range}
 use Rattle.bites_spec.proofs.classes.ClassLemmas.{in_ranges-append, in_ranges-push}
-use Rattle.bites_spec.proofs.characters.EachLemmas.{skip_shorter}
-use Rattle.bites_text.specs.Messages.{error_of}
-use Rattle.bites_text.specs.declared.error.Error.{Error}
-use Rattle.bites_text.specs.declared.error.Error.TheVariants.{Memory, UnclosedAfterDash, UnclosedAfterBracket, UnclosedClass}
 use Rattle.bites_syntax.specs.declared.escape.Meaning as code
-use Rattle.bites_syntax.specs.declared.escape.Meaning.TheVariants.{Character, Characters, Assertion}
+use Rattle.bites_syntax.specs.declared.escape.Meaning.TheVariants.{Character, Characters}
 use Rattle.bites_syntax.specs.Meanings.{IsMeaning}
-use Rattle.bites_syntax.specs.Members.{Adds, AnswersLeading, Completes, Has, leading_set, named_at}
-use Rattle.bites_syntax.specs.Parts.{IsErrorOf, error_in}
+use Rattle.bites_syntax.specs.Members.{Has}
 
 -- a range of one character
 range_single : (a c : ℕ) → in_range (a, a) c ≡ (c == a)

@@ -16,11 +16,11 @@ use Rattle.bites_syntax.specs.Steps.{each_of}
 pub chars_bumped : (bytes rest : List ℕ) (c : ℕ) → is_utf8 bytes ≡ true → bytes ≡ encode_utf8 c ++ rest → chars bytes ≡ c ∷ chars rest
 chars_bumped bytes rest c is e = chars_past_char bytes rest c (IsUtf8-from_is_utf8 bytes is) e
 
--- the character that comes next, and the text behind it
+-- the character that comes next, and the text after it
 pub peeked : (t u : Text) (c : ℕ) → t ≡ c ∷ drop 1 t → u ≡ drop 1 t → t ≡ c ∷ u
 peeked t u c at rest = at ∙ ap (λ x. c ∷ x) (sym rest)
 
--- a text that begins with a character, seen behind that character
+-- a text that begins with a character, seen after that character
 pub begins_behind : (text t u : Text) (b : ℕ) → next_is (single b) t ≡ true → u ≡ drop 1 t → begins (b ∷ text) t ≡ begins text u
 begins_behind text [] u b found rest = absurd (false≢true found)
 begins_behind text (d ∷ t) u b found rest = rw (eqb-true d b found, eq-eqb b b refl, rest) refl
@@ -46,7 +46,7 @@ pub begins_stops : (text t start : Text) (i : ℕ) → i < length text → next_
     begins (drop i text) t ≡ begins text start → begins text start ≡ false
 begins_stops text t start i below none so_far = sym so_far ∙ rw (drop-cons text i 0 below) (begins_not (drop (suc i) text) t (get_or text i 0) none)
 
--- the text behind one more character
+-- the text after one more character
 pub drop_more : (t u : Text) (i : ℕ) → u ≡ drop 1 t → (start : Text) → t ≡ drop i start → u ≡ drop (i + 1) start
 drop_more t u i rest start at = rest ∙ ap (drop 1) at ∙ rw add-one (drop_one start i)
   where

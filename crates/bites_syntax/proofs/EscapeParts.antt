@@ -18,7 +18,7 @@ meaning_class c set no_control no_look is = rw (no_control, no_look, is) refl
 pub letter_small : (c : ℕ) → is_boundary_letter c ≡ true → c < 128
 letter_small c is = grind (arith, nat_tests)
 
--- one more character of a run, behind those that came before it
+-- one more character of a run, after those that came before it
 pub run_more : (flags : Flags) (set : Set) (t u : Text) (c : ℕ) (before bytes behind whole : List ℕ) → set c ≡ true → t ≡ c ∷ drop 1 t → u ≡ skip flags (drop 1 t) →
     behind ≡ before ++ bytes → bytes ≡ c ∷ [] → before ++ (each_of flags set t).0 ≡ whole → behind ++ (each_of flags set u).0 ≡ whole
 run_more flags set t u c before bytes behind whole has at rest is one so_far =

@@ -19,7 +19,7 @@ gaps low [] = if nat_le low 0x10_FFFF then (low, 0x10_FFFF) ∷ [] else []
 gaps low (r ∷ ranges) =
     if nat_lt low r.0 then (low, preceding r.0) ∷ gaps (following r.1) ranges else gaps (following r.1) ranges
 
--- a scalar value, or the number behind the last
+-- a scalar value, or the number after the last
 abbrev pub IsStart : ℕ → Type 0
 IsStart c = Within c ⊎ (c ≡ 0x11_0000)
 
@@ -96,7 +96,7 @@ fills_rest low (inr e) = rw (lt-leb low 0x10_FFFF (omega (arith, e))) record {
   same = λ c scalar from. absurd (omega (arith, below_last c (scalar_within c scalar), from, e));
 }
 
--- from a range on, the gaps behind it
+-- from a range on, the gaps after it
 behind_first : (r : Range) (ranges all : List Range) → AreCanonical (r ∷ ranges) → Fills (following r.1) ranges all →
     (c : ℕ) → is_scalar c ≡ true → r.0 ≤ c → in_ranges all c ≡ not (in_ranges (r ∷ ranges) c)
 behind_first r ranges all g f c scalar from = elim (cases_lt r.1 c) [
@@ -183,13 +183,13 @@ behind_last : (r : Range) (ranges : List Range) → AreCanonical (r ∷ ranges) 
 behind_last r [] g last = rw last refl
 behind_last r (s ∷ ranges) g last = absurd (omega (arith, g.1, last, after_following r.1, below_last s.0 (scalar_within s.0 (is_range s ranges g.2).0)))
 
--- behind a range up to the last character there is no gap
+-- after a range up to the last character there is no gap
 pub none_behind : (ranges : List Range) (i : ℕ) → AreCanonical ranges → i < length ranges → (get_or ranges i (0, 0)).1 ≡ 0x10_FFFF →
     gaps (following (get_or ranges i (0, 0)).1) (drop (i + 1) ranges) ≡ []
 none_behind ranges i g within last =
     behind_last (get_or ranges i (0, 0)) (drop (i + 1) ranges) (rw (drop_more ranges i (0, 0) within) at (canonical-drop i ranges g)) last
 
--- behind the last range there is a gap up to the last character
+-- after the last range there is a gap up to the last character
 pub gap_at_end : (done ranges : List Range) (i low : ℕ) → length ranges ≤ i → low ≤ 0x10_FFFF →
     done ++ gaps low (drop i ranges) ≡ gaps 0 ranges → done ++ (low, 0x10_FFFF) ∷ [] ≡ gaps 0 ranges
 gap_at_end done ranges i low all within so_far =

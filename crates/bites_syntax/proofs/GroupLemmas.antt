@@ -20,7 +20,7 @@ use Rattle.bites_syntax.specs.declared.group_names.Names.{Names}
 use Rattle.bites_syntax.specs.Groups.{ends_flags, AreNames}
 use Rattle.bites_syntax.specs.Parts.{Agrees, error_in}
 
--- an equal answer
+-- an equal result
 pub agrees_at : {A B : Type 0} (R : A → B → Type 0) (result : Result A Error) (rest : Text) (a b : ReadResult B) → a ≡ b → Agrees R result rest b → Agrees R result rest a
 agrees_at R result rest a b e h = subst (λ x. Agrees R result rest x) (sym e) h
 

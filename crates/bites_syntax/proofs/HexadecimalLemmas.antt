@@ -22,7 +22,7 @@ use Rattle.bites_syntax.specs.Steps.{each_of}
 use Rattle.bites_syntax.proofs.CursorLemmas.{each_by, each_more, each_ends}
 use Rattle.bites_syntax.proofs.NumberLemmas.{number_from, AgreeBelow_digits}
 
--- the number behind a part of the digits
+-- the number after a part of the digits
 by_digit : (v c : ℕ) (a : ReadResult Text) →
     and_then (and_then a (λ digits rest. answer (c ∷ digits) rest)) (λ digits rest. answer (number_from 16 v digits) rest)
     ≡ and_then a (λ digits rest. answer (number_from 16 (v * 16 + digit_value c) digits) rest)

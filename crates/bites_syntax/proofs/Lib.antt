@@ -18,7 +18,7 @@ pub mod EscapedText
 pub mod GroupCounts
 pub mod NodeLemmas
 pub mod AtomLemmas
-pub mod RowLemmas
+pub mod BranchLemmas
 pub mod ProgressLemmas
 pub mod ReachedLemmas
 pub mod ParseLemmas

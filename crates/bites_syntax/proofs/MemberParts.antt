@@ -2,16 +2,16 @@
 use Rattle.std.proofs.Common.{◌≡◌, ◌≤◌, ◌⊎◌, ℕ, zero, suc, Bool, true, false, ◌||◌, ◌==◌, [], ◌∷◌, List, length, drop, Option, Some, None, Result, Ok, Err, inl, inr, refl, sym, ap, ◌∙◌, subst, arith, ⊎_elim, eq-eqb, ne_eqb}
 use Rattle.std.specs.Prelude.{codes, MatchResult}
 use Rattle.std.proofs.lemmas.Bool.{false≢true}
-use Rattle.bites_spec.specs.Bracket.{is_set_operator, with_cases, with_negation}
+use Rattle.bites_spec.specs.Bracket.{is_set_operator}
 use Rattle.bites_spec.specs.Class.{Set, named_classes, single}
 use Rattle.bites_spec.specs.Escape.{Meaning}
-use Rattle.bites_spec.specs.Pattern.{Text, Flags, next_is, one_of, skip, dash, right_bracket}
+use Rattle.bites_spec.specs.Pattern.{Text, Flags, next_is, one_of, skip, dash}
 use Rattle.bites_spec.specs.Range.{Range}
-use Rattle.bites_spec.specs.Reader.{ReadResult, Members, Stop, after_dash, after_dashes, after_first, alone, and_then, bracket, class_end, class_members, dashes, finished, member, named, range}
+use Rattle.bites_spec.specs.Reader.{ReadResult, Members, Stop, after_dash, after_dashes, after_first, alone, and_then, class_end, class_members, dashes, member, named, range}
 use Rattle.bites_spec.proofs.characters.EachLemmas.{skip_shorter}
 use Rattle.bites_text.specs.declared.error.Error.{Error}
 use Rattle.bites_text.specs.declared.error.Error.TheVariants.{UnclosedAfterDash, UnclosedAfterBracket}
-use Rattle.bites_syntax.specs.Members.{Adds, AnswersLeading, Has, IsOperatorError, leading_set}
+use Rattle.bites_syntax.specs.Members.{Adds, AnswersLeading, IsOperatorError}
 use Rattle.bites_syntax.specs.Parts.{IsErrorOf, error_in}
 use Rattle.bites_syntax.specs.Steps.{each_of}
 use Rattle.bites_syntax.proofs.CursorLemmas.{each_by, each_more, each_ends}
@@ -58,7 +58,7 @@ unnamed_fault go n flags set [] e none no_operator refuses = refuses
 unnamed_fault go n flags set (c ∷ t) e none no_operator refuses =
     rw (unnamed_by go n flags set t c none no_operator) (refuses_first e (class_end n flags (c ∷ t)) _ refuses)
 
--- a dash behind the first
+-- a dash after the first
 pub first_and_dash : (go : Members) (n : ℕ) (flags : Flags) (set : Set) (m : Meaning) (t u : Text) → t ≡ 45 ∷ u →
     after_first go n flags set m t ≡ after_dash go n flags set m t (skip flags u)
 first_and_dash go n flags set m t u at = rw at refl
@@ -68,7 +68,7 @@ pub first_alone : (go : Members) (n : ℕ) (flags : Flags) (set : Set) (m : Mean
     after_first go n flags set m t ≡ alone go set m t
 first_alone go n flags set m t u c at other = rw at (rw (ne_eqb c 45 other) refl)
 
--- no second behind the dash
+-- no second after the dash
 pub dash_alone : (go : Members) (n : ℕ) (flags : Flags) (set : Set) (m : Meaning) (at t u v : Text) (c : ℕ) → u ≡ skip flags t → u ≡ c ∷ v → (c ≡ 45) ⊎ (c ≡ 93) →
     after_dash go n flags set m at (skip flags t) ≡ alone go set m at
 dash_alone go n flags set m at t u v c gap begins is =
@@ -77,7 +77,7 @@ dash_alone go n flags set m at t u v c gap begins is =
 no_second : (c : ℕ) → ((c ≡ 45) ⊎ (c ≡ 93) → ⊥) → one_of (codes "]-") c ≡ false
 no_second c other = rw (ne_eqb c 93 (λ e. other (inr e)), ne_eqb c 45 (λ e. other (inl e))) refl
 
--- a second behind it
+-- a second after it
 pub dash_range : (go : Members) (n : ℕ) (flags : Flags) (set : Set) (m k : Meaning) (at t u v rest : Text) (c : ℕ) → u ≡ skip flags t → u ≡ c ∷ v →
     ((c ≡ 45) ⊎ (c ≡ 93) → ⊥) → class_end n flags u ≡ Ok (k, rest) → after_dash go n flags set m at (skip flags t) ≡ range go set m k rest
 dash_range go n flags set m k at t u v rest c gap begins other second =
@@ -131,7 +131,7 @@ shortest : (t : Text) → length t ≤ 0 → t ≡ []
 shortest [] none = refl
 shortest (c ∷ t) none = absurd (omega (arith, none))
 
--- the members from behind a gap on
+-- the members after a gap
 pub enter : (n : ℕ) (flags : Flags) (t u : Text) → length t ≤ n → u ≡ skip flags t →
     (m : ℕ) × (length u ≤ suc m) × ((set : Set) → class_members n flags set t ≡ member (class_members m flags) m flags set u)
 enter zero flags t u room gap =

@@ -13,7 +13,7 @@ abbrev pub RiseFrom : ℕ → List Range → Type 0
 RiseFrom n [] = Unit {0}
 RiseFrom n (r ∷ ranges) = (n ≤ r.0) × IsRange r × RiseFrom r.0 ranges
 
--- the first range, which grows over those that touch it, and the others behind it
+-- the first range, which grows over those that touch it, and the others after it
 abbrev pub merged_behind : Range → List Range → List Range
 merged_behind r [] = r ∷ []
 merged_behind r (s ∷ ranges) =
@@ -47,7 +47,7 @@ in_range-below r c low = rw (lt-leb r.0 c low) refl
 pub in_range-above : (r : Range) (c : ℕ) → r.0 ≤ c → r.1 < c → in_range r c ≡ false
 in_range-above r c low high = rw (le-leb r.0 c low, lt-leb c r.1 high) refl
 
--- two ranges of which the second begins in the first or next to it
+-- two ranges, where the second begins in the first or next to it
 in_longer : (r s : Range) → IsRange r → r.0 ≤ s.0 → s.0 ≤ following r.1 → (c : ℕ) → is_scalar c ≡ true →
     in_range (r.0, max r.1 s.1) c ≡ (in_range r c || in_range s c)
 in_longer r s ir low near c scalar = elim (cases_lt c r.0) [

@@ -71,7 +71,7 @@ pub may_go_on : (bytes : Text) (c : ℕ) → IsUtf8 bytes → (length bytes == 0
     is_name_part c ≡ is_name_front (chars bytes ++ c ∷ [])
 may_go_on bytes c utf8 some is = sym (front_push is_name_start is_name_part (chars bytes) c (chars_some bytes utf8 some) is)
 
--- a character behind a text
+-- a character after a text
 pub chars_push : {Z : Type 0} (old new : String Z) (c : ℕ) → string_bytes new ≡ string_bytes old ++ encode_utf8 c → chars (string_bytes new) ≡ chars (string_bytes old) ++ c ∷ []
 chars_push old new c pushed =
     sym (chars_from_encodes (chars (string_bytes old) ++ c ∷ []) (string_bytes new) (IsUtf8-string_bytes new)
@@ -90,7 +90,7 @@ pub or_is_cond : (b x : Bool) → cond b true x ≡ (b || x)
 or_is_cond true x = refl
 or_is_cond false x = refl
 
--- behind the characters of a name stands its closing bracket
+-- the closing bracket of a name stands after its characters
 closed : (t : Text) → next_is (single right_angle) t ≡ true → t ≡ right_angle ∷ drop 1 t
 closed [] is = absurd (false≢true is)
 closed (c ∷ t) is = ap (λ x. x ∷ t) (eqb-true c right_angle is)

@@ -1,9 +1,9 @@
 -- Named classes in brackets.
-use Rattle.std.proofs.Common.{◌≡◌, ◌≤◌, ◌<◌, ◌+◌, ◌⊎◌, ◌++◌, ℕ, zero, suc, Bool, true, false, ◌&&◌, ◌==◌, [], ◌∷◌, List, length, drop, map, get_or, Option, Some, None, inl, inr, refl, sym, ap, ◌∙◌, subst, arith, length-append, length-drop, drop-cons, add-one}
-use Rattle.std.specs.Prelude.{codes, if◌then◌else◌}
+use Rattle.std.proofs.Common.{◌≡◌, ◌<◌, ◌+◌, ◌++◌, ℕ, Bool, true, false, ◌&&◌, ◌==◌, [], ◌∷◌, List, length, drop, map, get_or, Some, None, inl, inr, refl, sym, ap, ◌∙◌, arith, length-append, length-drop, drop-cons, add-one}
+use Rattle.std.specs.Prelude.{codes}
 use Rattle.std.proofs.lemmas.Bool.{false≢true, cases_Bool}
 use Rattle.std.proofs.lemmas.List.{drop-drop}
-use Rattle.bites_spec.specs.Class.{Set, NamedClass, complement, members, class_name, union}
+use Rattle.bites_spec.specs.Class.{Set, NamedClass, class_name, union}
 use Rattle.bites_spec.specs.Message as message
 use Rattle.bites_spec.specs.Pattern.{Text, begins}
 use Rattle.bites_spec.specs.Reader.{ReadResult, Members, named, stop}
@@ -30,7 +30,7 @@ no_first a b c t u same none =
     let both : begins (a ++ b) t ≡ false = begins_both a b t ∙ rw first refl in
     begins_both (a ++ b) c t ∙ rw both refl
 
--- the second does not stand behind it
+-- the second does not stand after it
 pub no_second : (a b c t u v : Text) → u ≡ t → v ≡ drop (length a) u → begins b v ≡ false → begins ((a ++ b) ++ c) t ≡ false
 no_second a b c t u v same behind none =
     let second : begins b (drop (length a) t) ≡ false = rw (← same) (rw (← behind) none) in
@@ -41,7 +41,7 @@ behind_both : (a b t u v w : Text) → u ≡ t → v ≡ drop (length a) u → w
 behind_both a b t u v w same behind next =
     next ∙ ap (drop (length b)) (behind ∙ ap (drop (length a)) same) ∙ drop-drop (length b) (length a) t ∙ ap (λ n. drop n t) (sym (length-append a b))
 
--- the third does not stand behind both
+-- the third does not stand after both
 pub no_third : (a b c t u v w : Text) → u ≡ t → v ≡ drop (length a) u → w ≡ drop (length b) v → begins c w ≡ false → begins ((a ++ b) ++ c) t ≡ false
 no_third a b c t u v w same behind next none =
     let third : begins c (drop (length (a ++ b)) t) ≡ false = rw (← behind_both a b t u v w same behind next) none in
@@ -70,7 +70,7 @@ pub named_here : (t rest : Text) (k : NamedClass) (classes : List NamedClass) �
 unfolding named_at
 named_here t rest k classes stands behind = rw stands (ap (λ r. Some (k, false, r)) (ap (λ n. drop n t) (sym (length_written (codes "[:") k)) ∙ sym behind))
 
--- the class stands here behind a caret
+-- the class stands here after a caret
 pub not_named_here : (t rest : Text) (k : NamedClass) (classes : List NamedClass) → begins (written (codes "[:") k) t ≡ false → begins (written (codes "[:^") k) t ≡ true →
     rest ≡ drop (length (written (codes "[:^") k)) t → named_at t (k ∷ classes) ≡ Some (k, true, rest)
 unfolding named_at
@@ -103,7 +103,7 @@ named_none go set t (k ∷ classes) is = elim (cases_Bool (begins (written (code
   ]
 ]
 
--- the reader goes on behind the class
+-- the reader goes on after the class
 pub named_some : (go : Members) (set : Set) (t rest : Text) (classes : List NamedClass) (k : NamedClass) (negated : Bool) → named_at t classes ≡ Some (k, negated, rest) →
     named go set t classes ≡ go (union set (members_named k negated)) rest
 unfolding named_at

@@ -1,27 +1,27 @@
 -- Nodes and the trees that they stand for.
-use Rattle.std.proofs.Common.{◌≡◌, ◌≤◌, ◌<◌, ◌+◌, ◌⊎◌, ℕ, suc, max, List, [], ◌∷◌, ◌++◌, length, refl, sym, ap, subst, ◌∙◌, arith, inl, inr, ⊎_elim}
+use Rattle.std.proofs.Common.{◌≡◌, ◌≤◌, ℕ, suc, max, List, [], ◌∷◌, ◌++◌, length, refl, ap, subst, ◌∙◌, arith, inl, inr}
 use Rattle.bites_spec.specs.Measure.{height, IsTooTall}
-use Rattle.bites_spec.specs.Tree.{Tree, sequence, alternation, choice_of, trees_of}
+use Rattle.bites_spec.specs.Tree.{Tree, sequence, choice_of, trees_of}
 use Rattle.bites_syntax.specs.declared.node.Node.{Node}
 use Rattle.bites_syntax.specs.declared.node.Node.TheVariants.{Kept, TooTall}
 use Rattle.bites_syntax.specs.Nodes.{IsNodeOf, AreNodes}
 
 -- the trees of nodes, the last apart
 pub record Last (limit : ℕ) (nodes : List Node) (node : Node) (ts : List Tree) : Type 0 where
-  pub front : List Tree
+  pub prefix : List Tree
   pub last : Tree
-  pub are : ts ≡ front ++ last ∷ []
-  pub nodes_are : AreNodes limit nodes front
+  pub are : ts ≡ prefix ++ last ∷ []
+  pub nodes_are : AreNodes limit nodes prefix
   pub node_is : IsNodeOf limit node last
 
 pub last_of : (limit : ℕ) (nodes : List Node) (node : Node) (ts : List Tree) → AreNodes limit (nodes ++ node ∷ []) ts → Last limit nodes node ts
 last_of limit [] node [] are = absurd are
-last_of limit [] node (t ∷ []) are = record { front = []; last = t; are = refl; nodes_are = tt; node_is = are.0 }
+last_of limit [] node (t ∷ []) are = record { prefix = []; last = t; are = refl; nodes_are = tt; node_is = are.0 }
 last_of limit [] node (t ∷ u ∷ ts) are = absurd are.1
 last_of limit (n ∷ nodes) node [] are = absurd are
 last_of limit (n ∷ nodes) node (t ∷ ts) are =
     let rest = last_of limit nodes node ts are.1 in
-    record { front = t ∷ rest.front; last = rest.last; are = ap (λ x. t ∷ x) rest.are; nodes_are = (are.0, rest.nodes_are); node_is = rest.node_is }
+    record { prefix = t ∷ rest.prefix; last = rest.last; are = ap (λ x. t ∷ x) rest.are; nodes_are = (are.0, rest.nodes_are); node_is = rest.node_is }
 
 -- one node more
 pub nodes_push : (limit : ℕ) (nodes : List Node) (node : Node) (ts : List Tree) (t : Tree) → AreNodes limit nodes ts → IsNodeOf limit node t →
@@ -37,24 +37,24 @@ height_push [] t = omega arith
 height_push (u ∷ ts) t = omega (arith, height_push ts t)
 
 -- a sequence is no less tall than its parts
-pub height_part : (front rest : List Tree) (t : Tree) → suc (height t) ≤ height (sequence (trees_of (front ++ t ∷ rest)))
+pub height_part : (prefix rest : List Tree) (t : Tree) → suc (height t) ≤ height (sequence (trees_of (prefix ++ t ∷ rest)))
 height_part [] rest t = omega arith
-height_part (u ∷ front) rest t = omega (arith, height_part front rest t)
+height_part (u ∷ prefix) rest t = omega (arith, height_part prefix rest t)
 
--- nodes of two lists, one behind the other
+-- nodes of two lists, one after the other
 pub record Both (limit : ℕ) (nodes others : List Node) (ts : List Tree) : Type 0 where
-  pub front : List Tree
+  pub prefix : List Tree
   pub rest : List Tree
-  pub are : ts ≡ front ++ rest
-  pub nodes_are : AreNodes limit nodes front
+  pub are : ts ≡ prefix ++ rest
+  pub nodes_are : AreNodes limit nodes prefix
   pub others_are : AreNodes limit others rest
 
 pub both_of : (limit : ℕ) (nodes others : List Node) (ts : List Tree) → AreNodes limit (nodes ++ others) ts → Both limit nodes others ts
-both_of limit [] others ts are = record { front = []; rest = ts; are = refl; nodes_are = tt; others_are = are }
+both_of limit [] others ts are = record { prefix = []; rest = ts; are = refl; nodes_are = tt; others_are = are }
 both_of limit (n ∷ nodes) others [] are = absurd are
 both_of limit (n ∷ nodes) others (t ∷ ts) are =
     let rest = both_of limit nodes others ts are.1 in
-    record { front = t ∷ rest.front; rest = rest.rest; are = ap (λ x. t ∷ x) rest.are; nodes_are = (are.0, rest.nodes_are); others_are = rest.others_are }
+    record { prefix = t ∷ rest.prefix; rest = rest.rest; are = ap (λ x. t ∷ x) rest.are; nodes_are = (are.0, rest.nodes_are); others_are = rest.others_are }
 
 -- a node that is too tall makes the whole too tall
 pub too_tall_whole : (limit : ℕ) (nodes others : List Node) (ts : List Tree) → AreNodes limit (nodes ++ TooTall ∷ others) ts → IsTooTall limit (sequence (trees_of ts))
@@ -64,12 +64,12 @@ too_tall_whole limit nodes others ts are = by_rest (both_of limit nodes (TooTall
     taller limit t whole above (inl h) = inl (omega arith)
     taller limit t whole above (inr h) = inr (omega arith)
 
-    by_last : (front rest : List Tree) → ts ≡ front ++ rest → AreNodes limit (TooTall ∷ others) rest → IsTooTall limit (sequence (trees_of ts))
-    by_last front [] same are = absurd are
-    by_last front (t ∷ rest) same are = rw same (taller limit t (sequence (trees_of (front ++ t ∷ rest))) (height_part front rest t) are.0)
+    by_last : (prefix rest : List Tree) → ts ≡ prefix ++ rest → AreNodes limit (TooTall ∷ others) rest → IsTooTall limit (sequence (trees_of ts))
+    by_last prefix [] same are = absurd are
+    by_last prefix (t ∷ rest) same are = rw same (taller limit t (sequence (trees_of (prefix ++ t ∷ rest))) (height_part prefix rest t) are.0)
 
     by_rest : Both limit nodes (TooTall ∷ others) ts → IsTooTall limit (sequence (trees_of ts))
-    by_rest both = by_last both.front both.rest both.are both.others_are
+    by_rest both = by_last both.prefix both.rest both.are both.others_are
 
 -- the trees so far, with one node more
 pub kept_more : (limit : ℕ) (nodes : List Node) (node : Node) (tree : Tree) (h tallest : ℕ) (trees : List Tree) → node ≡ Kept tree h →
@@ -77,11 +77,11 @@ pub kept_more : (limit : ℕ) (nodes : List Node) (node : Node) (tree : Tree) (h
     (ts : List Tree) → AreNodes limit (nodes ++ node ∷ []) ts → (trees ++ tree ∷ [] ≡ ts) × (suc (max h tallest) ≡ height (sequence (trees_of ts)))
 kept_more limit nodes node tree h tallest trees is so_far ts are =
     let r = last_of limit nodes node ts are in
-    let before = so_far r.front r.nodes_are in
+    let before = so_far r.prefix r.nodes_are in
     let last : IsNodeOf limit (Kept tree h) r.last = subst (λ x. IsNodeOf limit x r.last) is r.node_is in
     rw r.are (
-      ap (λ x. x ++ tree ∷ []) before.0 ∙ ap (λ x. r.front ++ x ∷ []) last.0,
-      rw (height_push r.front r.last, ← before.1, last.1) (omega arith),
+      ap (λ x. x ++ tree ∷ []) before.0 ∙ ap (λ x. r.prefix ++ x ∷ []) last.0,
+      rw (height_push r.prefix r.last, ← before.1, last.1) (omega arith),
     )
 
 -- two nodes or more stand for as many trees

@@ -16,7 +16,7 @@ use Rattle.bites_syntax.specs.Steps.{each_of}
 use Rattle.bites_syntax.proofs.CursorLemmas.{each_by, each_more, skip_white_shorter}
 use Rattle.bites_syntax.specs.Numbers.{AgreeBelow}
 
--- the number that digits write behind those that wrote this number
+-- the number that digits write after those that wrote this number
 abbrev pub number_from : ℕ → ℕ → Text → ℕ
 number_from base n digits = fold (λ n d. n * base + digit_value d) n digits
 
@@ -56,7 +56,7 @@ each_of_shorter : (flags : Flags) (set : Set) (t : Text) → length (each_of fla
 unfolding each_of
 each_of_shorter flags set t = each_shorter (each_sound (length t) flags set t (omega arith))
 
--- the digits of a decimal, and what stands behind it
+-- the digits of a decimal, and what stands after it
 abbrev pub digits_of : Flags → Text → Text
 digits_of flags t = (each_of flags is_ascii_digit (skip_white t)).0
 
@@ -97,7 +97,7 @@ decimal_large n flags t v room some agree large =
     let above : greatest_number < number 10 (digits_of flags t) = ⊎_elim (λ e. omega (arith, e)) (λ h. omega (arith, h.1)) agree in
     decimal_reads n flags t room some ∙ rw (lt-ltb greatest_number (number 10 (digits_of flags t)) above) refl
 
--- the same by the texts on the way: behind white space, behind the digits, and behind the last white space
+-- the same by the texts on the way: after white space, after the digits, and after the last white space
 pub small_decimal : (n : ℕ) (flags : Flags) (t u d rest : Text) (v : ℕ) → length t ≤ n → u ≡ skip_white t → next_is is_ascii_digit u ≡ true →
     AgreeBelow 4294967296 v (number 10 (each_of flags is_ascii_digit u).0) → v < 4294967296 → d ≡ (each_of flags is_ascii_digit u).1 →
     rest ≡ (each_of flags is_whitespace d).1 → decimal n flags t ≡ Ok (v, rest)

@@ -1,4 +1,4 @@
--- From the answer of the grammar's function to the grammar.
+-- From the result of the grammar's function to the grammar.
 use Rattle.std.proofs.Common.{◌≡◌, ◌≢◌, ◌⊎◌, ◌<◌, ◌≤◌, ℕ, List, Option, Some, None, Result, Ok, Err, IfOk, IfErr, inl, inr, ⊎_elim, refl, sym, ap, arith}
 use Rattle.bites_spec.specs.Message.{Message, too_much_nesting}
 use Rattle.bites_spec.specs.Pattern.{Text, Flags}
@@ -41,7 +41,7 @@ module _ (pattern : Text) (flags : Flags) (nest_limit : ℕ) where
           inside None = a
           inside (Some x) = x
 
-  -- an error other than want of memory is that of the pattern's fault
+  -- an error other than out of memory is that of the pattern's fault
   pub refused_by_fault : (e : Error) →
       IsErrorOf e (read ranges_of nest_limit pattern flags)
       ⊎ ((e ≡ TooMuchNesting) × ((t : Tree) × (read ranges_of nest_limit pattern flags ≡ Ok t) × IsTooTall nest_limit t)) →
@@ -54,7 +54,7 @@ module _ (pattern : Text) (flags : Flags) (nest_limit : ℕ) where
   pub fault_has_no_tree : (m : Message) → Fault pattern flags nest_limit m → (t : Tree) → Limits pattern flags nest_limit t → ⊥
   fault_has_no_tree m f t l = refused_has_no_tree ranges_of ranges_of_list nest_limit pattern flags m t f l
 
-  -- what the parser answers, by clauses; `tree` is the tree in its answer
+  -- what the parser returns, by clauses; `tree` is the tree in its result
   pub read_clause : {A : Type 0} (tree : A → Tree) (o : Result A Error) →
       IfOk o (λ r. (read ranges_of nest_limit pattern flags ≡ Ok (tree r)) × (height (tree r) ≤ nest_limit) × (height (tree r) < 4294967295)) →
       IfOk o (λ r. Limits pattern flags nest_limit (tree r))

@@ -11,7 +11,7 @@ pub error_in_first : {A B : Type 0} (a : ReadResult A) (f : A → Text → Resul
 error_in_first (Ok x) f e fault = let wrong : error_in (Ok x) ≡ Some e = fault in cc
 error_in_first (Err s) f e fault = fault
 
--- behind the comma, a fault of the second decimal
+-- after the comma, a fault of the second decimal
 pub after_comma_fault : (n : ℕ) (flags : Flags) (min : ℕ) (t u : Text) (c : ℕ) (e : Error) → t ≡ c ∷ u → (c ≡ right_brace → ⊥) →
     error_in (decimal n flags t) ≡ Some e → error_in (after_comma n flags min t) ≡ Some e
 after_comma_fault n flags min t u c e at other fault =

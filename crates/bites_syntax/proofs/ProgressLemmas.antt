@@ -14,14 +14,14 @@ use Rattle.bites_text.specs.declared.error.Error.TheVariants.{TooMuchNesting, Un
 use Rattle.bites_syntax.specs.declared.node.Node.{Node}
 use Rattle.bites_syntax.specs.declared.parse.OpenGroup.{OpenGroup}
 use Rattle.bites_syntax.specs.declared.parse.Parser.{Parser}
-use Rattle.bites_syntax.specs.declared.parse.Rows.{Rows}
+use Rattle.bites_syntax.specs.declared.parse.Branches.{Branches}
 use Rattle.bites_syntax.specs.declared.parse.Step.{Step}
 use Rattle.bites_syntax.specs.declared.parse.Step.TheVariants.{Item, Group, End}
 use Rattle.bites_syntax.specs.Nodes.{AreNodes}
-use Rattle.bites_syntax.specs.Parts.{error_in, IsErrorOf}
-use Rattle.bites_syntax.specs.Progress.{Enters, GoesOn, GoesOnWithItem, HasDepth, IsForward, ReadsItem, Steps, ends_items}
+use Rattle.bites_syntax.specs.Parts.{error_in, IsErrorOf, WithSteps}
+use Rattle.bites_syntax.specs.Progress.{Enters, GoesOn, GoesOnWithItem, HasDepth, IsAt, IsForward, ReadsItem, Steps, ends_items}
 use Rattle.bites_syntax.specs.FlagsView.{flags_of}
-use Rattle.bites_syntax.specs.Openings.{IsPatternFront}
+use Rattle.bites_syntax.specs.Openings.{IsStateOf}
 
 -- at least one node stands for at least one tree
 pub record Some_of (ts : List Tree) : Type 0 where
@@ -35,12 +35,12 @@ some_of limit (n ∷ nodes) [] some are = absurd are
 some_of limit (n ∷ nodes) (t ∷ ts) some are = record { first = t; more = ts; are = refl }
 
 module _ (limit : ℕ) (go : Reader) (depth : ℕ) (g : pattern.Front) (bs : List Tree) where
-  -- an operator behind a node
+  -- an operator after a node
   pub operator_goes : (ts more : List Tree) (t : Tree) (m : Message) (at rest : Text) (a : ReadResult Bounds) (b : Bounds) → ts ≡ t ∷ more → a ≡ Ok (b, rest) →
       at_operator ranges_of limit go depth g bs ts m at a ≡ go depth g bs (repeat_last b t more) rest
   operator_goes ts more t m at rest a b are reads = rw (are, reads) refl
 
-  -- a fault of an operator behind a node
+  -- a fault of an operator after a node
   pub operator_fault : (ts more : List Tree) (t : Tree) (m : Message) (at : Text) (a : ReadResult Bounds) (e : Error) → ts ≡ t ∷ more → error_in a ≡ Some e →
       error_in (at_operator ranges_of limit go depth g bs ts m at a) ≡ Some e
   operator_fault ts more t m at (Ok x) e are fault = absurd (let wrong : error_in (Ok x) ≡ Some e = fault in cc)
@@ -69,27 +69,27 @@ pub opened_at : (f : Flags) (g : pattern.Front) (t u : Text) → f ≡ g.flags �
 opened_at f g t u same at = ap (opened g) (ap (λ x. skip x t) (sym same) ∙ sym at)
 
 -- whether a group is opened is what the reader says
-pub enter_steps : (limit depth n : ℕ) (p : Parser) (rows : Rows) (g : pattern.Front) (bs ts : List Tree) (opens : OpenGroup) (result : Result Step Error) (a : Result ReadChoice Stop) →
+pub enter_steps : (limit depth n : ℕ) (p : Parser) (parsed : Branches) (g : pattern.Front) (bs ts : List Tree) (opens : OpenGroup) (result : Result Step Error) (a : Result ReadChoice Stop) →
     MatchResult result (λ step. (step ≡ Group opens) × (depth < limit)) (λ e. (e ≡ TooMuchNesting) × (limit ≤ depth)) → (depth < limit → Enters limit depth n p opens g bs ts a) →
-    (limit ≤ depth → error_in a ≡ Some TooMuchNesting) → AreNodes limit rows.branches.items bs → AreNodes limit rows.nodes.items ts → Steps limit depth n g bs ts result p rows a
-enter_steps limit depth n p rows g bs ts opens (Ok step) a is enters stops bs_are ts_are = rw is.0 (enters is.1, bs_are, ts_are)
-enter_steps limit depth n p rows g bs ts opens (Err e) a is enters stops bs_are ts_are = inr (rw is.0 (stops is.1))
+    (limit ≤ depth → error_in a ≡ Some TooMuchNesting) → AreNodes limit parsed.complete.items bs → AreNodes limit parsed.nodes.items ts → Steps limit depth n g bs ts result p parsed a
+enter_steps limit depth n p parsed g bs ts opens (Ok step) a is enters stops bs_are ts_are = rw is.0 (enters is.1, bs_are, ts_are)
+enter_steps limit depth n p parsed g bs ts opens (Err e) a is enters stops bs_are ts_are = inr (rw is.0 (stops is.1))
 
 -- a step that reads a character more
 pub step_forward : (limit depth : ℕ) (result : Result Step Error) (old new : Text) → HasDepth limit depth result → length new < length old → IsForward limit depth result old new
 step_forward limit depth (Ok Item) old new room less = less
-step_forward limit depth (Ok (Group opens)) old new room less = (less, room)
+step_forward limit depth (Ok (Group opens)) old new room less = (less, room.0, room.1)
 step_forward limit depth (Ok End) old new room less = absurd room
 step_forward limit depth (Err e) old new room less = omega arith
 
--- an equal answer
-pub steps_at : (limit depth n : ℕ) (g : pattern.Front) (bs ts : List Tree) (result : Result Step Error) (p : Parser) (rows : Rows) (a b : Result ReadChoice Stop) → a ≡ b →
-    Steps limit depth n g bs ts result p rows b → Steps limit depth n g bs ts result p rows a
-steps_at limit depth n g bs ts result p rows a b e h = subst (λ x. Steps limit depth n g bs ts result p rows x) (sym e) h
+-- an equal result
+pub steps_at : (limit depth n : ℕ) (g : pattern.Front) (bs ts : List Tree) (result : Result Step Error) (p : Parser) (parsed : Branches) (a b : Result ReadChoice Stop) → a ≡ b →
+    Steps limit depth n g bs ts result p parsed b → Steps limit depth n g bs ts result p parsed a
+steps_at limit depth n g bs ts result p parsed a b e h = subst (λ x. Steps limit depth n g bs ts result p parsed x) (sym e) h
 
-pub reads_at : {A : Type 0} → (limit depth n : ℕ) (result : Result A Error) (p : Parser) (rows : Rows) (a b : Result ReadChoice Stop) → a ≡ b →
-    ReadsItem limit depth n result p rows b → ReadsItem limit depth n result p rows a
-reads_at limit depth n result p rows a b e h = subst (λ x. ReadsItem limit depth n result p rows x) (sym e) h
+pub reads_at : {A : Type 0} → (limit depth n : ℕ) (result : Result A Error) (p : Parser) (parsed : Branches) (a b : Result ReadChoice Stop) → a ≡ b →
+    ReadsItem limit depth n result p parsed b → ReadsItem limit depth n result p parsed a
+reads_at limit depth n result p parsed a b e h = subst (λ x. ReadsItem limit depth n result p parsed x) (sym e) h
 
 -- the reader goes over a gap to an item
 pub read_item : (limit n depth : ℕ) (f : Flags) (g : pattern.Front) (bs ts : List Tree) (t u : Text) → f ≡ g.flags → u ≡ skip f t →
@@ -125,16 +125,16 @@ module _ (limit : ℕ) (go : Reader) (n : ℕ) (g : pattern.Front) (bs ts : List
       at_item ranges_of limit go n depth g bs ts u ≡ and_then (opened g (skip g.flags v)) (at_opened ranges_of limit go depth g bs ts)
   opens_here depth u v c at is = rw (at, is) refl
 
--- where a run of items ends, stands a closing parenthesis or an opening one
+-- a closing parenthesis or an opening one stands where a run of items ends
 pub closing_of : (u v : Text) (c : ℕ) → u ≡ c ∷ v → ends_items u ≡ true → c ≢ 40 → c ≡ 41
 closing_of u v c at ends other = eqb-true c 41 (let e : ((c == 40) || (c == 41)) ≡ true = subst (λ t. ends_items t ≡ true) at ends in subst (λ b. (b || (c == 41)) ≡ true) (ne_eqb c 40 other) e)
 
--- behind an item and a gap
-pub item_goes : (limit depth : ℕ) (p : Parser) (rows : Rows) (a : Result ReadChoice Stop) (r : GoesOnWithItem limit depth p rows a) (behind q : Parser) (after : Rows) →
+-- after an item and a gap
+pub item_goes : (limit depth : ℕ) (p : Parser) (parsed : Branches) (a : Result ReadChoice Stop) (r : GoesOnWithItem limit depth p parsed a) (behind q : Parser) (after : Branches) →
     GoesOn limit depth r.steps behind after (at_item ranges_of limit (inner ranges_of limit r.steps) r.steps depth r.g r.branches r.nodes p.cursor) →
-    length behind.cursor < length p.cursor → q.front ≡ behind.front → q.cursor ≡ skip (flags_of behind.front.flags) behind.cursor → length q.cursor ≤ length behind.cursor →
+    length behind.cursor < length p.cursor → q.limit ≡ behind.limit → q.state ≡ behind.state → q.cursor ≡ skip (flags_of behind.state.flags) behind.cursor → length q.cursor ≤ length behind.cursor →
     GoesOnWithItem limit depth q after a
-item_goes limit depth p rows a r behind q after on less front gap shorter = by_steps r.steps refl
+item_goes limit depth p parsed a r behind q after on less bound state gap shorter = by_steps r.steps refl
   where
     by_steps : (m : ℕ) → r.steps ≡ m → GoesOnWithItem limit depth q after a
     by_steps zero is = absurd (omega (arith, r.room, is, less))
@@ -144,14 +144,34 @@ item_goes limit depth p rows a r behind q after on less front gap shorter = by_s
       nodes = on.nodes;
       steps = m;
       is_at = record {
-        front = subst (λ f. IsPatternFront f on.g) (sym front) on.is_at.front;
+        limit_is = bound ∙ on.is_at.limit_is;
+        state = subst (λ f. IsStateOf f on.g) (sym state) on.is_at.state;
         branches_are = on.is_at.branches_are;
         nodes_are = on.is_at.nodes_are;
       };
       room = omega (arith, r.room, is, less, shorter);
       same = r.same ∙ on.same ∙ ap (λ k. inner ranges_of limit k depth on.g on.branches on.nodes behind.cursor) is
-          ∙ read_item limit m depth (flags_of behind.front.flags) on.g on.branches on.nodes behind.cursor q.cursor on.is_at.front.flags gap;
+          ∙ read_item limit m depth (flags_of behind.state.flags) on.g on.branches on.nodes behind.cursor q.cursor on.is_at.state.flags gap;
     }
+
+-- an item that is read under the limit of the parser is read under this limit
+abbrev pub ItemGoesOn : ℕ → Parser → Branches → ℕ → Parser → Branches → Type 0
+ItemGoesOn limit p parsed c q after =
+    (g : pattern.Front) → (bs ts : List Tree) → IsAt limit p parsed g bs ts → (depth : ℕ) →
+    WithSteps p.cursor (λ n. GoesOn limit depth n q after (at_item ranges_of limit (inner ranges_of limit n) n depth g bs ts (c ∷ p.cursor)))
+
+pub item_under : (limit : ℕ) (p : Parser) (parsed : Branches) (c : ℕ) (q : Parser) (after : Branches) → p.limit ≡ limit → ItemGoesOn p.limit p parsed c q after →
+    ItemGoesOn limit p parsed c q after
+item_under limit p parsed c q after e goes = subst (λ l. ItemGoesOn l p parsed c q after) e goes
+
+-- an opening that is read under the limit of the parser is read under this limit
+abbrev pub OpeningSteps : ℕ → ℕ → Parser → Result Step Error → Parser → Type 0
+OpeningSteps limit depth p result q =
+    (parsed : Branches) → (g : pattern.Front) → (bs ts : List Tree) → IsAt limit p parsed g bs ts → (n : ℕ) →
+    Steps limit depth n g bs ts result q parsed (and_then (opened g (skip g.flags p.cursor)) (at_opened ranges_of limit (inner ranges_of limit n) depth g bs ts))
+
+pub opening_under : (limit depth : ℕ) (p : Parser) (result : Result Step Error) (q : Parser) → p.limit ≡ limit → OpeningSteps p.limit depth p result q → OpeningSteps limit depth p result q
+opening_under limit depth p result q e opens = subst (λ l. OpeningSteps l depth p result q) e opens
 
 -- a fault of what is read next
 pub fault_of_rest : (e : Error) (a b : Result ReadChoice Stop) → a ≡ b → IsErrorOf e b → IsErrorOf e a

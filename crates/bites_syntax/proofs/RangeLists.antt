@@ -28,7 +28,7 @@ rise_from_sorted n [] from all sorted = tt
 rise_from_sorted n (r ∷ ranges) from all sorted =
     (from, All-head IsRange r ranges all, rise_from_sorted r.0 ranges (next_starts r ranges sorted) (All-tail IsRange r ranges all) (sorted_tail r ranges sorted))
 
--- behind the last range nothing is left to merge
+-- after the last range nothing is left to merge
 pub merged_at_end : (done ranges : List Range) (i : ℕ) (last : Option Range) → length ranges ≤ i →
     done ++ merged last (drop i ranges) ≡ merged None ranges → done ++ merged last [] ≡ merged None ranges
 merged_at_end done ranges i last all so_far = ap (λ x. done ++ x) (sym (at_drop_all (merged last) ranges i all)) ∙ so_far

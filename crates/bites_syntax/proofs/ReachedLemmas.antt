@@ -1,5 +1,5 @@
 -- How far a choice is read.
-use Rattle.std.proofs.Common.{◌≡◌, ◌<◌, ◌≤◌, ℕ, zero, suc, List, [], ◌∷◌, ◌++◌, length, drop, refl, sym, ap, ◌∙◌, Some, Result, Ok, Err, inl, inr, ⊎_elim, arith}
+use Rattle.std.proofs.Common.{◌≡◌, ◌<◌, ◌≤◌, ℕ, zero, suc, List, [], ◌∷◌, ◌++◌, length, drop, refl, sym, ap, subst, ◌∙◌, Some, Result, Ok, Err, inl, inr, ⊎_elim, arith}
 use Rattle.bites_spec.specs.Grammar.{at_front, group_of}
 use Rattle.bites_spec.specs.Pattern as pattern
 use Rattle.bites_spec.specs.RangesOf.{ranges_of}
@@ -9,49 +9,49 @@ use Rattle.bites_text.specs.declared.error.Error.{Error}
 use Rattle.bites_syntax.specs.declared.node.Node.{Node}
 use Rattle.bites_syntax.specs.declared.parse.OpenGroup.{OpenGroup}
 use Rattle.bites_syntax.specs.declared.parse.Parser.{Parser}
-use Rattle.bites_syntax.specs.declared.parse.Rows.{Rows}
+use Rattle.bites_syntax.specs.declared.parse.Branches.{Branches}
 use Rattle.bites_syntax.specs.Nodes.{AreNodes, IsNodeOf}
-use Rattle.bites_syntax.specs.Openings.{IsPatternFront}
+use Rattle.bites_syntax.specs.Openings.{IsStateOf}
 use Rattle.bites_syntax.specs.Parts.{error_in, IsErrorOf}
 use Rattle.bites_syntax.specs.Progress.{IsAt, GoesOn, GoesOnWithItem, Enters, EndsReading, ReadsAs}
 
 -- what the reader is asked at the start, it is asked where the parser is
-pub record Reached (limit depth n : ℕ) (start : pattern.Front) (text : pattern.Text) (p : Parser) (rows : Rows) : Type 0 where
+pub record Reached (limit depth n : ℕ) (start : pattern.Front) (text : pattern.Text) (p : Parser) (parsed : Branches) : Type 0 where
   pub g : pattern.Front
   pub branches : List Tree
   pub nodes : List Tree
   pub steps : ℕ
-  pub is_at : IsAt limit p rows g branches nodes
+  pub is_at : IsAt limit p parsed g branches nodes
   pub room : length p.cursor ≤ steps
   pub same : inner ranges_of limit (suc n) depth start [] [] text ≡ inner ranges_of limit (suc steps) depth g branches nodes p.cursor
 
--- the same for each front that the parser's stands for, and each number of steps that is enough
-abbrev pub Reaches : ℕ → ℕ → Parser → Parser → Rows → Type 0
-Reaches limit depth from p rows = (start : pattern.Front) → IsPatternFront from.front start → (n : ℕ) → length from.cursor ≤ n → Reached limit depth n start from.cursor p rows
+-- the same for each front that the parser's state stands for, and each number of steps that is enough
+abbrev pub Reaches : ℕ → Parser → Parser → Branches → Type 0
+Reaches depth from p parsed = (limit : ℕ) → from.limit ≡ limit → (start : pattern.Front) → IsStateOf from.state start → (n : ℕ) → length from.cursor ≤ n → Reached limit depth n start from.cursor p parsed
 
--- the same behind a run of items and a gap
-abbrev pub ReachesItem : ℕ → ℕ → ℕ → pattern.Front → pattern.Text → Parser → Rows → Type 0
-ReachesItem limit depth n start text p rows = GoesOnWithItem limit depth p rows (inner ranges_of limit (suc n) depth start [] [] text)
+-- the same after a run of items and a gap
+abbrev pub ReachesItem : ℕ → ℕ → ℕ → pattern.Front → pattern.Text → Parser → Branches → Type 0
+ReachesItem limit depth n start text p parsed = GoesOnWithItem limit depth p parsed (inner ranges_of limit (suc n) depth start [] [] text)
 
 -- before the first step
-pub reached_start : (limit depth : ℕ) (p : Parser) (rows : Rows) → rows.branches.items ≡ [] → rows.nodes.items ≡ [] → Reaches limit depth p p rows
-reached_start limit depth p rows no_branches no_nodes = λ start is n room.
-    record { g = start; branches = []; nodes = []; steps = n; is_at = record { front = is; branches_are = rw no_branches tt; nodes_are = rw no_nodes tt }; room = room; same = refl }
+pub reached_start : (depth : ℕ) (p : Parser) (parsed : Branches) → parsed.complete.items ≡ [] → parsed.nodes.items ≡ [] → Reaches depth p p parsed
+reached_start depth p parsed no_branches no_nodes = λ limit bound start is n room.
+    record { g = start; branches = []; nodes = []; steps = n; is_at = record { limit_is = bound; state = is; branches_are = rw no_branches tt; nodes_are = rw no_nodes tt }; room = room; same = refl }
 
-module _ (limit depth n : ℕ) (start : pattern.Front) (text : pattern.Text) (p : Parser) (rows : Rows) where
-  -- behind a run of items
-  pub reached_items : (q : Parser) (after : Rows) (r : Reached limit depth n start text p rows) →
+module _ (limit depth n : ℕ) (start : pattern.Front) (text : pattern.Text) (p : Parser) (parsed : Branches) where
+  -- after a run of items
+  pub reached_items : (q : Parser) (after : Branches) (r : Reached limit depth n start text p parsed) →
       GoesOnWithItem limit depth q after (inner ranges_of limit (suc r.steps) depth r.g r.branches r.nodes p.cursor) → ReachesItem limit depth n start text q after
   reached_items q after r on =
       record { g = on.g; branches = on.branches; nodes = on.nodes; steps = on.steps; is_at = on.is_at; room = on.room; same = r.same ∙ on.same }
 
   -- a fault in a run of items
-  pub reached_fault : (e : Error) (r : Reached limit depth n start text p rows) → IsErrorOf e (inner ranges_of limit (suc r.steps) depth r.g r.branches r.nodes p.cursor) →
+  pub reached_fault : (e : Error) (r : Reached limit depth n start text p parsed) → IsErrorOf e (inner ranges_of limit (suc r.steps) depth r.g r.branches r.nodes p.cursor) →
       IsErrorOf e (inner ranges_of limit (suc n) depth start [] [] text)
   reached_fault e r fault = ⊎_elim (λ m. inl m) (λ f. inr (ap error_in r.same ∙ f)) fault
 
-  -- behind a step
-  pub reached_item : (q : Parser) (after : Rows) (r : ReachesItem limit depth n start text p rows) →
+  -- after a step
+  pub reached_item : (q : Parser) (after : Branches) (r : ReachesItem limit depth n start text p parsed) →
       GoesOn limit depth r.steps q after (at_item ranges_of limit (inner ranges_of limit r.steps) r.steps depth r.g r.branches r.nodes p.cursor) → length q.cursor < length p.cursor →
       Reached limit depth n start text q after
   reached_item q after r on less = by_steps r.steps refl
@@ -69,20 +69,23 @@ module _ (limit depth n : ℕ) (start : pattern.Front) (text : pattern.Text) (p 
       }
 
   -- at the end of the choice
-  pub reached_end : (q : Parser) (after : Rows) (node : Node) (r : ReachesItem limit depth n start text p rows) →
+  pub reached_end : (q : Parser) (after : Branches) (node : Node) (r : ReachesItem limit depth n start text p parsed) →
       EndsReading limit q after r.g (at_item ranges_of limit (inner ranges_of limit r.steps) r.steps depth r.g r.branches r.nodes p.cursor) →
-      ((bs ts : List Tree) → AreNodes limit after.branches.items bs → AreNodes limit after.nodes.items ts → IsNodeOf limit node (choice_of (bs ++ sequence_of ts ∷ []))) →
+      ((bs ts : List Tree) → AreNodes q.limit after.complete.items bs → AreNodes q.limit after.nodes.items ts → IsNodeOf q.limit node (choice_of (bs ++ sequence_of ts ∷ []))) →
       ReadsAs limit q node (inner ranges_of limit (suc n) depth start [] [] text)
   reached_end q after node r ends stands = record {
     found = record { branches = ends.branches ++ sequence_of ends.nodes ∷ []; behind = r.g; rest = q.cursor };
     same = r.same ∙ ends.same;
     rest = refl;
-    front = ends.front;
-    node_is = stands ends.branches ends.nodes ends.branches_are ends.nodes_are;
+    limit_is = ends.limit_is;
+    state = ends.state;
+    node_is =
+        subst (λ l. (bs ts : List Tree) → AreNodes l after.complete.items bs → AreNodes l after.nodes.items ts → IsNodeOf l node (choice_of (bs ++ sequence_of ts ∷ []))) ends.limit_is stands
+        ends.branches ends.nodes ends.branches_are ends.nodes_are;
   }
 
   -- a fault of a step
-  pub step_fault : (e : Error) (r : ReachesItem limit depth n start text p rows) →
+  pub step_fault : (e : Error) (r : ReachesItem limit depth n start text p parsed) →
       IsErrorOf e (at_item ranges_of limit (inner ranges_of limit r.steps) r.steps depth r.g r.branches r.nodes p.cursor) →
       IsErrorOf e (inner ranges_of limit (suc n) depth start [] [] text)
   step_fault e r fault = ⊎_elim (λ m. inl m) (λ f. inr (ap error_in r.same ∙ f)) fault
@@ -98,8 +101,8 @@ inside_by : (limit depth m : ℕ) (q : Parser) (opens : OpenGroup) (g : pattern.
 inside_by limit depth zero q opens g bs ts a enters P less reads = absurd (omega arith)
 inside_by limit depth (suc k) q opens g bs ts a enters P less reads = reads k (omega arith)
 
-module _ (limit depth n : ℕ) (start : pattern.Front) (text : pattern.Text) (p : Parser) (rows : Rows) (q : Parser) (opens : OpenGroup)
-    (r : ReachesItem limit depth n start text p rows)
+module _ (limit depth n : ℕ) (start : pattern.Front) (text : pattern.Text) (p : Parser) (parsed : Branches) (q : Parser) (opens : OpenGroup)
+    (r : ReachesItem limit depth n start text p parsed)
     (enters : Enters limit depth r.steps q opens r.g r.branches r.nodes (at_item ranges_of limit (inner ranges_of limit r.steps) r.steps depth r.g r.branches r.nodes p.cursor))
     (less : length q.cursor < length p.cursor) where
   -- a fault in a group
@@ -111,21 +114,27 @@ module _ (limit depth n : ℕ) (start : pattern.Front) (text : pattern.Text) (p 
       (λ f. inr (ap error_in (r.same ∙ enters.same)
       ∙ fault_inside _ (behind_group ranges_of limit (inner ranges_of limit r.steps) depth r.g r.branches r.nodes enters.opening) e f)) here
 
-  -- behind a group
-  pub reached_group : (inside behind : Parser) (after : Rows) (node : Node) →
+  -- after a group
+  pub reached_group : (inside behind : Parser) (nodes : List Node) (after : Branches) (node : Node) →
       ((k : ℕ) → length q.cursor ≤ k → ReadsAs limit inside node (inner ranges_of limit (suc k) (suc depth) enters.inside [] [] q.cursor)) →
       length inside.cursor ≤ length q.cursor → behind.cursor ≡ drop 1 inside.cursor → length behind.cursor ≤ length inside.cursor →
-      behind.front ≡ record (inside.front) { flags = opens.flags } →
-      AreNodes limit after.branches.items r.branches →
-      ((branches : List Tree) → IsNodeOf limit node (choice_of branches) → AreNodes limit after.nodes.items (r.nodes ++ group_of enters.opening r.g.groups branches ∷ [])) →
+      behind.limit ≡ inside.limit → behind.state ≡ record (inside.state) { flags = opens.flags } →
+      AreNodes limit after.complete.items r.branches → AreNodes limit nodes r.nodes →
+      ((branches : List Tree) → IsNodeOf inside.limit node (choice_of branches) → AreNodes inside.limit nodes r.nodes →
+      AreNodes inside.limit after.nodes.items (r.nodes ++ group_of enters.opening r.g.groups branches ∷ [])) →
       Reached limit depth n start text behind after
-  reached_group inside behind after node reads forward bumped shorter front branches_are nodes_are = by_steps r.steps refl
+  reached_group inside behind nodes after node reads forward bumped shorter bound state branches_are before_are nodes_are = by_steps r.steps refl
     where
       here : ReadsAs limit inside node (inner ranges_of limit r.steps (suc depth) enters.inside [] [] q.cursor)
       here = inside_by limit depth r.steps q opens r.g r.branches r.nodes _ enters (λ a. ReadsAs limit inside node a) (omega (arith, r.room)) reads
 
-      front_is : IsPatternFront behind.front (record (here.found.behind) { flags = r.g.flags })
-      front_is = rw front (record { flags = enters.outer; groups = here.front.groups; names = here.front.names; opened = here.front.opened })
+      nodes_by : (branches : List Tree) → IsNodeOf limit node (choice_of branches) → AreNodes limit nodes r.nodes → AreNodes limit after.nodes.items (r.nodes ++ group_of enters.opening r.g.groups branches ∷ [])
+      nodes_by =
+          subst (λ l. (branches : List Tree) → IsNodeOf l node (choice_of branches) → AreNodes l nodes r.nodes → AreNodes l after.nodes.items (r.nodes ++ group_of enters.opening r.g.groups branches ∷ []))
+          here.limit_is nodes_are
+
+      state_is : IsStateOf behind.state (record (here.found.behind) { flags = r.g.flags })
+      state_is = rw state (record { flags = enters.outer; groups = here.state.groups; names = here.state.names; opened = here.state.opened })
 
       goes : and_found (inner ranges_of limit r.steps (suc depth) enters.inside [] [] q.cursor) (behind_group ranges_of limit (inner ranges_of limit r.steps) depth r.g r.branches r.nodes enters.opening)
           ≡ inner ranges_of limit r.steps depth (record (here.found.behind) { flags = r.g.flags }) r.branches (r.nodes ++ group_of enters.opening r.g.groups here.found.branches ∷ []) behind.cursor
@@ -140,7 +149,7 @@ module _ (limit depth n : ℕ) (start : pattern.Front) (text : pattern.Text) (p 
         branches = r.branches;
         nodes = r.nodes ++ group_of enters.opening r.g.groups here.found.branches ∷ [];
         steps = m;
-        is_at = record { front = front_is; branches_are = branches_are; nodes_are = nodes_are here.found.branches here.node_is };
+        is_at = record { limit_is = bound ∙ here.limit_is; state = state_is; branches_are = branches_are; nodes_are = nodes_by here.found.branches here.node_is before_are };
         room = omega (arith, r.room, is);
         same = r.same ∙ enters.same ∙ goes
             ∙ ap (λ k. inner ranges_of limit k depth (record (here.found.behind) { flags = r.g.flags }) r.branches (r.nodes ++ group_of enters.opening r.g.groups here.found.branches ∷ []) behind.cursor) is;

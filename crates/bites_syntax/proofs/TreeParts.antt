@@ -17,14 +17,14 @@ read_below ts i t e h = subst (λ x. height x < height (sequence (trees_of ts)))
 one_later : (i : ℕ) → suc (i + 1) ≡ suc i + 1
 one_later i = omega arith
 
--- the parts from a place on are the part there and those behind it
+-- the parts from a place on are the part there and those after it
 pub parts_from : (ts : List Tree) (i : ℕ) (t : Tree) → t ≡ get_or ts i t → i < length ts → trees_of (drop i ts) ≡ tree_and t (trees_of (drop (i + 1) ts))
 parts_from [] i t e h = absurd (omega arith)
 parts_from (x ∷ ts) zero t e h = ap (λ y. tree_and y (trees_of ts)) (sym e)
 parts_from (x ∷ ts) (suc i) t e h =
     parts_from ts i t e (omega arith) ∙ ap (λ k. tree_and t (trees_of (drop k (x ∷ ts)))) (one_later i)
 
--- behind the last part there is none
+-- after the last part there is none
 pub parts_end : (ts : List Tree) (i : ℕ) → length ts ≤ i → trees_of (drop i ts) ≡ no_tree
 parts_end [] zero h = refl
 parts_end [] (suc i) h = refl
@@ -108,7 +108,7 @@ mutual
       (length (groups_in t ++ groups_in_all (tree_and u ts))) (sym (length-append (groups_in t) (groups_in_all (tree_and u ts))))
       (within_agreed (static_count t) (static_agreed (tree_and u ts)) (length (groups_in t)) (length (groups_in_all (tree_and u ts))) (count_within t) (agreed_within (tree_and u ts)))
 
--- the count of parts of which the first has one
+-- the count of parts, where the first has one
 abbrev pub agreed_with : ℕ → Trees → Option ℕ
 agreed_with n no_tree = Some n
 agreed_with n (tree_and t ts) = agreed (Some n) (static_agreed (tree_and t ts))
@@ -149,7 +149,7 @@ pub sum_more : (m n : ℕ) (o : Option ℕ) → both (Some m) (both (Some n) o) 
 sum_more m n None = refl
 sum_more m n (Some k) = ap Some (omega arith)
 
--- behind the first part stand the others
+-- the others stand after the first part
 pub rest_of_parts : (ts : List Tree) (t : Tree) → t ≡ get_or ts 0 t → 1 ≤ length ts → trees_of ts ≡ tree_and t (trees_of (take (length ts - 1) (drop 1 ts)))
 rest_of_parts [] t e h = absurd (omega arith)
 rest_of_parts (x ∷ ts) t e h =

@@ -1,4 +1,4 @@
--- Items that are nodes of their own and no groups, as the reader answers them.
+-- Items that are nodes of their own but not groups, as the reader returns them.
 use Rattle.std.specs.Prelude.{ℕ, Bool, ◌||◌, ◌==◌}
 use Rattle.bites_spec.specs.Grammar.{literal_of, dot_set, caret_look, dollar_look}
 use Rattle.bites_spec.specs.Pattern.{Text, Flags, skip, dot, caret, dollar, backslash, left_bracket}
@@ -11,7 +11,7 @@ use Rattle.bites_spec.specs.Tree.{Tree}
 abbrev pub begins_atom : ℕ → Bool
 begins_atom c = (c == left_bracket) || ((c == backslash) || ((c == dot) || ((c == caret) || (c == dollar))))
 
--- the node that begins with this character, which the text stands behind
+-- the node that begins with this character, where this text follows it
 abbrev pub atom : ℕ → Flags → ℕ → Text → ReadResult Tree
 atom n flags c t =
     choose (c == left_bracket) (λ _. and_then (bracket n flags (skip flags t)) (λ set rest. answer (tree.class (ranges_of set)) rest))

@@ -1,7 +1,6 @@
--- Hexadecimal numbers of so many digits.
+-- Hexadecimal numbers with a fixed number of digits.
 use Rattle.std.specs.Prelude.{◌≡◌, ℕ, ◌+◌, ◌*◌, ◌<◌, ◌⊎◌, true, false, [], ◌∷◌, fold, Result, Ok, Some, MatchResult}
 use Rattle.std.specs.Char.{digit_value}
-use Rattle.bites_spec.specs.Class.{is_scalar}
 use Rattle.bites_spec.specs.Escape.{is_hex_digit}
 use Rattle.bites_spec.specs.Pattern.{Text, Flags}
 use Rattle.bites_spec.specs.Reader.{ReadResult, and_then, answer, exactly}
@@ -10,7 +9,7 @@ use Rattle.bites_text.specs.declared.error.Error.TheVariants.{FixedHexUnfinished
 use Rattle.bites_syntax.specs.Numbers.{AgreeBelow}
 use Rattle.bites_syntax.specs.Parts.{error_in}
 
--- the number of so many digits, behind those that wrote a number
+-- the number of k digits, after those that wrote the number v
 abbrev pub fixed_number : ℕ → ℕ → Flags → Text → ReadResult ℕ
 fixed_number v k flags t = and_then (exactly k flags t) (λ digits rest. answer (fold (λ n d. n * 16 + digit_value d) v digits) rest)
 

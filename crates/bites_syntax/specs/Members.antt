@@ -25,7 +25,7 @@ Completes old new result rest read =
     (set : Set) → Has old set →
     MatchResult result (λ _. (more : Set) × (read set ≡ Ok (more, rest)) × Has new more) (λ e. IsErrorOf e (read set))
 
--- the first of these classes whose name stands here, whether a caret comes before it, and the text behind it
+-- the first of these classes whose name stands here, whether a caret comes before it, and the text after it
 unfoldable pub named_at : Text → List NamedClass → Option (NamedClass × Bool × Text)
 named_at t [] = None
 named_at t (k ∷ classes) =
@@ -42,7 +42,7 @@ abbrev pub leading_set : Option ℕ → Set
 leading_set None = none
 leading_set (Some c) = single c
 
--- what the reader does from behind the caret
+-- what the reader does after the caret
 abbrev pub AnswersCaret : Result Bool Error → Text → (n : ℕ) (flags : Flags) → Text → Type 0
 AnswersCaret result rest n flags t =
     MatchResult result (λ negated. bracket n flags t ≡ dashes n flags negated rest) (λ e. error_in (bracket n flags t) ≡ Some e)

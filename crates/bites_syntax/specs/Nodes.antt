@@ -23,7 +23,7 @@ AreNodes limit [] (t ∷ ts) = ⊥
 AreNodes limit (n ∷ nodes) [] = ⊥
 AreNodes limit (n ∷ nodes) (t ∷ ts) = IsNodeOf limit n t × AreNodes limit nodes ts
 
--- what the program knows of a group is what its opening says, where so many groups with a number were opened before
+-- what the program knows of a group is what its opening says, where `before` groups with a number were opened before it
 abbrev pub IsNumbered : Option Numbered → Opening → ℕ → Type 0
 IsNumbered None opening before = opening ≡ unnumbered
 IsNumbered (Some x) opening before = (text : Option Text) × (opening ≡ numbered text) × (x.index ≡ before + 1) × (x.name ≡ option_map encode_utf8_all text)

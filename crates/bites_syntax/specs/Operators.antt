@@ -11,6 +11,6 @@ use Rattle.bites_syntax.specs.Parts.{error_in}
 abbrev pub bounds_of : Bounds → reading.Bounds
 bounds_of b = (b.min, b.max, b.greedy)
 
--- the reader answers the result and the text that is left, or stops with the error
+-- the reader returns the result and the text that is left, or stops with the error
 abbrev pub Answers : {A B : Type 0} → (A → B) → Result A Error → Text → ReadResult B → Type 0
 Answers view result rest a = MatchResult result (λ x. a ≡ Ok (view x, rest)) (λ e. error_in a ≡ Some e)

@@ -1,4 +1,4 @@
--- What a part of the parser returns, beside what the reader answers.
+-- What a part of the parser returns, beside what the reader returns.
 use Rattle.std.specs.Prelude.{◌≡◌, ℕ, ◌≤◌, ◌⊎◌, length, Option, Some, None, Result, Ok, Err, MatchResult}
 use Rattle.bites_spec.specs.Pattern.{Text}
 use Rattle.bites_spec.specs.Reader.{Stop, ReadResult}
@@ -15,7 +15,7 @@ error_in (Err s) = Some (error_of s.message)
 abbrev pub IsErrorOf : {A : Type 0} → Error → Result A Stop → Type 0
 IsErrorOf e a = (e ≡ Memory) ⊎ (error_in a ≡ Some e)
 
--- the reader answers a value that the result stands for, and the text that is left; or it stops with the error
+-- the reader returns a value that the result stands for and the text that is left, or stops with the error
 abbrev pub Agrees : {A B : Type 0} → (A → B → Type 0) → Result A Error → Text → ReadResult B → Type 0
 Agrees {B = B} R result rest a = MatchResult result (λ x. (y : B) × (a ≡ Ok (y, rest)) × R x y) (λ e. IsErrorOf e a)
 

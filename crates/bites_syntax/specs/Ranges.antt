@@ -16,7 +16,7 @@ constant_set (Named name) = members (named_of name)
 constant_set (Others name) = complement (members (named_of name))
 constant_set NoLineEnd = complement (one_of (codes "\n\r"))
 
--- the ranges, wherever they are kept
+-- the ranges, wherever they are stored
 abbrev pub kept_ranges : Kept → List Range
 kept_ranges (One ranges) = ranges
 kept_ranges (Two ranges) = ranges

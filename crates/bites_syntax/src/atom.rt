@@ -1,4 +1,4 @@
-//! Items that are nodes of their own and no groups.
+//! Items that are nodes of their own but not groups.
 
 ghost use Rattle.std.specs.Prelude.{◌≡◌, ◌≤◌, length};
 ghost use Rattle.bites_spec.specs.Class as set;
@@ -24,7 +24,7 @@ use crate::tree::Tree;
 use bites_text::error::Error;
 use std::alloc::Global;
 
-/// The tree of a character, by the flags in force.
+/// Returns the tree of a character under the flags in force.
 pub(crate) fn literal(flags: Flags, c: char) -> Tree
     ensures { result ≡ literal_of (flags_of flags) c }
 {
@@ -34,7 +34,7 @@ pub(crate) fn literal(flags: Flags, c: char) -> Tree
     Tree::char(c)
 }
 
-/// The tree of a dot.
+/// Returns the tree of a dot.
 fn any(flags: Flags) -> Tree
     ensures { result ≡ spec.class (ranges_of (dot_set (flags_of flags))) }
 {
@@ -61,8 +61,8 @@ fn line_end(flags: Flags) -> Look
     }
 }
 
-/// The tree of an escape.
-fn escaped(flags: Flags, meaning: Meaning) -> Tree
+/// Returns the tree of an escape.
+fn escape_tree(flags: Flags, meaning: Meaning) -> Tree
     ensures { (m : escape.Meaning) → IsMeaning meaning m →
         result ≡ node_of ranges_of 0 (flags_of flags) m }
 {
@@ -73,7 +73,7 @@ fn escaped(flags: Flags, meaning: Meaning) -> Tree
     }
 }
 
-/// Reads the node that begins with a character, from behind that character.
+/// Reads the rest of a node after its first character, which is `c`.
 pub(crate) fn atom(
     alloc: Global,
     cursor: &mut Cursor<'_>,
@@ -92,7 +92,7 @@ pub(crate) fn atom(
         }
         '\\' => {
             let meaning = escape(alloc, cursor, flags)?;
-            Ok(escaped(flags, meaning))
+            Ok(escape_tree(flags, meaning))
         }
         '.' => Ok(any(flags)),
         '^' => Ok(Tree::look(line_start(flags))),

@@ -21,8 +21,8 @@ use crate::named_class::NamedClass;
 use bites_text::error::Error;
 use std::alloc::{AllocError, Global};
 
-/// The place behind this opening, a name and `:]`, if they stand here.
-fn behind_name<'a>(cursor: &Cursor<'a>, opening: &str, name: NamedClass) -> Option<Cursor<'a>>
+/// Returns the place after this opening, the name and `:]`, if they stand here.
+fn after_name<'a>(cursor: &Cursor<'a>, opening: &str, name: NamedClass) -> Option<Cursor<'a>>
     ensures { let text = opening.now ++ class_name (named_of name) ++ codes ":]" in
         MatchOption result (begins text cursor.now ≡ false)
         (λ rest. (begins text cursor.now ≡ true) × (rest ≡ drop (length text) cursor.now)) }
@@ -40,24 +40,24 @@ fn behind_name<'a>(cursor: &Cursor<'a>, opening: &str, name: NamedClass) -> Opti
     Some(ahead)
 }
 
-/// The first of these named classes that stands here, whether it is negated, and the place behind
-/// it.
+/// Returns the first of these named classes that stands here, whether it is negated, and the place
+/// after it.
 fn named_at<'a>(cursor: &Cursor<'a>, names: &[NamedClass]) -> Option<(NamedClass, bool, Cursor<'a>)>
     ensures { MatchOption result (named_at cursor.now (map named_of names.now) ≡ None)
         (λ x. named_at cursor.now (map named_of names.now) ≡ Some (named_of x.0, x.1, x.2)) }
 {
     'names: for name in names {
-        if let Some(behind) = behind_name(cursor, "[:", *name) {
-            return Some((*name, false, behind));
+        if let Some(after) = after_name(cursor, "[:", *name) {
+            return Some((*name, false, after));
         }
-        if let Some(behind) = behind_name(cursor, "[:^", *name) {
-            return Some((*name, true, behind));
+        if let Some(after) = after_name(cursor, "[:^", *name) {
+            return Some((*name, true, after));
         }
     }
     None
 }
 
-/// The characters of a named class, or all others.
+/// Returns the class of the characters of a named class, or of all others.
 fn class_named(name: NamedClass, negated: bool) -> Class
     ensures { Lists result (members_named (named_of name) negated) }
 {
@@ -75,12 +75,12 @@ fn named(cursor: &mut Cursor<'_>, builder: &mut ClassBuilder) -> Result<(), Erro
     ensures forward { length cursor.new ≤ length cursor.old }
     ensures progress { OnOk result (length cursor.new < length cursor.old) }
 {
-    let Some((name, negated, behind)) = named_at(cursor, &NamedClass::ALL) else {
+    let Some((name, negated, after)) = named_at(cursor, &NamedClass::ALL) else {
         return Err(Error::NestedClass);
     };
     let class = class_named(name, negated);
     builder.extend(class.ranges())?;
-    *cursor = behind;
+    *cursor = after;
     Ok(())
 }
 
@@ -98,7 +98,7 @@ fn class_end(alloc: Global, cursor: &mut Cursor<'_>, flags: Flags) -> Result<Mea
     }
 }
 
-/// Adds the characters of a member that is no range.
+/// Adds the characters of a member that is not a range.
 fn add_alone(builder: &mut ClassBuilder, member: Meaning) -> Result<(), Error>
     ensures { (m : spec.Meaning) → IsMeaning member m → (rest : Text) →
         Adds builder.old builder.new result rest (λ go set. alone go set m rest) }
@@ -126,7 +126,8 @@ fn add_range(builder: &mut ClassBuilder, first: Meaning, second: Meaning) -> Res
     Ok(())
 }
 
-/// Reads what stands behind an end and its gap, from the dash there.
+/// Reads what follows the first end of a member and its gap, where a dash comes next. Adds the
+/// member.
 fn after_dash(
     alloc: Global,
     cursor: &mut Cursor<'_>,
@@ -155,7 +156,7 @@ fn after_dash(
     }
 }
 
-/// Reads what stands behind an end and its gap, and adds the member.
+/// Reads what follows the first end of a member and its gap. Adds the member.
 fn after_first(
     alloc: Global,
     cursor: &mut Cursor<'_>,
@@ -175,7 +176,7 @@ fn after_first(
     }
 }
 
-/// Why the operator on sets that stands here is refused, if one stands here.
+/// Returns the error that refuses the operator on sets that stands here, if one does.
 fn set_operator(cursor: &Cursor<'_>) -> Option<Error>
     ensures { IsOperatorError result cursor.now }
 {
@@ -190,7 +191,7 @@ fn set_operator(cursor: &Cursor<'_>) -> Option<Error>
     }
 }
 
-/// Reads a member that is no named class, and adds its characters.
+/// Reads a member that is not a named class, and adds its characters.
 fn unnamed(
     alloc: Global,
     cursor: &mut Cursor<'_>,
@@ -253,7 +254,7 @@ fn members(
     Ok(())
 }
 
-/// Reads a caret and its gap, if one stands here, and tells whether one did.
+/// Reads a caret and its gap, if one stands here. Returns whether one did.
 fn caret(cursor: &mut Cursor<'_>, flags: Flags) -> Result<bool, Error>
     ensures reads { (n : ℕ) → AnswersCaret result cursor.new n (flags_of flags) cursor.old }
     ensures forward { length cursor.new ≤ length cursor.old }
@@ -292,7 +293,7 @@ fn leading(cursor: &mut Cursor<'_>, flags: Flags) -> Result<Option<char>, Error>
     }
 }
 
-/// This character, or this error where the pattern ends.
+/// Returns this character, or this error where the pattern ends.
 fn unless_at_end(cursor: &Cursor<'_>, c: char, error: Error) -> Result<Option<char>, Error>
     ensures { MatchResult result
         (λ leading. (leading ≡ Some c) × (d : ℕ) × (t : Text) × (cursor.now ≡ d ∷ t))
@@ -304,8 +305,8 @@ fn unless_at_end(cursor: &Cursor<'_>, c: char, error: Error) -> Result<Option<ch
     }
 }
 
-/// A builder with the character that stands for itself before the members.
-fn started(alloc: Global, leading: Option<char>) -> Result<ClassBuilder, AllocError>
+/// Returns a builder with the character that stands for itself before the members, if there is one.
+fn start_builder(alloc: Global, leading: Option<char>) -> Result<ClassBuilder, AllocError>
     ensures { IfOk result (λ builder. Has builder (leading_set leading)) }
 {
     let mut builder = ClassBuilder::new(alloc);
@@ -315,7 +316,7 @@ fn started(alloc: Global, leading: Option<char>) -> Result<ClassBuilder, AllocEr
     Ok(builder)
 }
 
-/// The class of the builder, under the flags and under the caret.
+/// Returns the class of the builder under the flags, negated if a caret stood before it.
 fn finished(
     alloc: Global,
     mut builder: ClassBuilder,
@@ -336,7 +337,7 @@ fn finished(
     }
 }
 
-/// Reads a class, from behind its opening bracket and the gap there.
+/// Reads the rest of a class after its opening bracket and the gap there.
 pub(crate) fn bracket(alloc: Global, cursor: &mut Cursor<'_>, flags: Flags) -> Result<Class, Error>
     ensures reads { WithSteps cursor.old
         (λ n. Agrees Lists result cursor.new (bracket n (flags_of flags) cursor.old)) }
@@ -344,7 +345,7 @@ pub(crate) fn bracket(alloc: Global, cursor: &mut Cursor<'_>, flags: Flags) -> R
 {
     let negated = caret(cursor, flags)?;
     let leading = leading(cursor, flags)?;
-    let mut builder = started(alloc, leading)?;
+    let mut builder = start_builder(alloc, leading)?;
     members(alloc, cursor, flags, &mut builder)?;
     Ok(finished(alloc, builder, flags, negated)?)
 }

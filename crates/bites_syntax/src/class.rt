@@ -32,14 +32,14 @@ impl Model for Class {
 }
 
 impl Class {
-    /// The class of no character.
+    /// Returns the class of no character.
     pub fn new(alloc: Global) -> Class
         ensures { result ≡ [] }
     {
         Class::from_ranges(Vec::new(alloc))
     }
 
-    /// The class with these canonical ranges.
+    /// Returns the class with these canonical ranges.
     pub fn from_ranges(ranges: Vec<(char, char)>) -> Class
         requires { AreCanonical ranges.items }
         ensures { result ≡ ranges.items }
@@ -49,7 +49,7 @@ impl Class {
         }
     }
 
-    /// The class of a constant set. It takes no memory.
+    /// Returns the class of a constant set. It takes no memory.
     pub fn constant(set: Constant) -> Class
         ensures { Lists result (constant_set set) }
     {
@@ -58,22 +58,22 @@ impl Class {
         }
     }
 
-    /// The class of the characters of a named class.
+    /// Returns the class of the characters of a named class.
     pub fn named(name: NamedClass) -> Class
         ensures { Lists result (members (named_of name)) }
     {
         Class::constant(Constant::Named(name))
     }
 
-    /// The class of all characters but those of a named class.
+    /// Returns the class of all characters except those of a named class.
     pub fn all_but_named(name: NamedClass) -> Class
         ensures { Lists result (complement (members (named_of name))) }
     {
         Class::constant(Constant::Others(name))
     }
 
-    /// The class of all characters that lie in none of these canonical ranges. It refuses only for
-    /// memory.
+    /// Returns the class of all characters that lie in none of these canonical ranges. The only
+    /// error is out of memory.
     pub fn all_but(alloc: Global, ranges: &[(char, char)]) -> Result<Class, AllocError>
         requires { AreCanonical ranges.now }
         ensures { IfOk result (λ class. Lists class (complement (in_ranges ranges.now))) }
@@ -81,8 +81,8 @@ impl Class {
         Ok(Class::from_ranges(gaps(alloc, ranges)?))
     }
 
-    /// The class of what a dot stands for: all characters, or all but a line feed, or all but a
-    /// line feed and a carriage return.
+    /// Returns the class of what a dot stands for. It has all characters, or all except a line
+    /// feed, or all except a line feed and a carriage return.
     pub fn dot(matches_new_line: bool, crlf: bool) -> Class
         ensures { Lists result (complement
             (if matches_new_line then none
@@ -102,7 +102,7 @@ impl Class {
         }
     }
 
-    /// The class of both cases of an ASCII letter.
+    /// Returns the class of both cases of an ASCII letter.
     pub fn two_cases(letter: char) -> Class
         requires { IsTrue (is_letter letter) }
         ensures { result ≡ two_cases letter }
@@ -113,30 +113,30 @@ impl Class {
         }
     }
 
-    /// The canonical ranges of the class, from the lowest to the highest.
+    /// Returns the canonical ranges of the class, from the lowest to the highest.
     pub fn ranges(&self) -> &[(char, char)]
         ensures ranges { result.now ≡ self.now }
-        ensures greatest { AreCanonical self.now }
+        ensures canonical { AreCanonical self.now }
     {
         self.ranges.as_slice()
     }
 
-    /// The list of the canonical ranges.
+    /// Returns the list of the canonical ranges.
     pub fn list(&self) -> &RangeList
         ensures ranges { result.now ≡ self.now }
-        ensures greatest { AreCanonical self.now }
+        ensures canonical { AreCanonical self.now }
     {
         &self.ranges
     }
 
-    /// Whether the character belongs to the class.
+    /// Returns whether the character belongs to the class.
     pub fn contains(&self, c: char) -> bool
         ensures { result ≡ in_ranges self.now c }
     {
         self.ranges().iter().any(|r| r.0 <= c && c <= r.1)
     }
 
-    /// The class of all other characters. It refuses only for memory.
+    /// Returns the class of all other characters. The only error is out of memory.
     pub fn negate(&self, alloc: Global) -> Result<Class, AllocError>
         ensures { IfOk result (λ class. Lists class (complement (in_ranges self.now))) }
     {
@@ -144,7 +144,7 @@ impl Class {
     }
 }
 
-/// The ranges that lie between these canonical ranges.
+/// Returns the ranges that lie between these canonical ranges, before the first and after the last.
 fn gaps(alloc: Global, ranges: &[(char, char)]) -> Result<Vec<(char, char)>, AllocError>
     requires { AreCanonical ranges.now }
     ensures { IfOk result (λ others. Lists others.items (complement (in_ranges ranges.now))) }
@@ -164,7 +164,7 @@ fn gaps(alloc: Global, ranges: &[(char, char)]) -> Result<Vec<(char, char)>, All
     Ok(others)
 }
 
-/// The character behind one, over the surrogates.
+/// Returns the character after one, over the surrogates, if there is one.
 pub fn following(c: char) -> Option<char>
     ensures { MatchOption result (c ≡ 0x10_FFFF) (λ next. (c < 0x10_FFFF) × (next ≡ following c)) }
 {
@@ -174,7 +174,7 @@ pub fn following(c: char) -> Option<char>
     }
 }
 
-/// The character before one that is not the first, over the surrogates.
+/// Returns the character before one that is not the first, over the surrogates.
 fn preceding(c: char) -> char
     requires { 0 < c }
     ensures next { following result ≡ c }

@@ -10,7 +10,8 @@ use crate::class::{Class, following};
 use std::alloc::{AllocError, Global};
 use std::marker::Model;
 
-/// A class in the making: ranges in any order, which may overlap. A contract sees their list.
+/// Collects ranges for a class. They stand in any order and may overlap. A contract sees their
+/// list.
 #[derive(Drop)]
 pub struct ClassBuilder {
     ranges: Vec<(char, char)>,
@@ -29,7 +30,7 @@ impl Model for ClassBuilder {
 }
 
 impl ClassBuilder {
-    /// A builder without ranges.
+    /// Returns a builder without ranges.
     pub fn new(alloc: Global) -> ClassBuilder
         ensures { result ≡ [] }
     {
@@ -38,8 +39,7 @@ impl ClassBuilder {
         }
     }
 
-    /// Adds the characters from `start` to `end`. A refusal for memory leaves the builder as it
-    /// was.
+    /// Adds the characters from `start` to `end`. An error leaves the builder unchanged.
     pub fn push(&mut self, start: char, end: char) -> Result<(), AllocError>
         requires { start ≤ end }
         ensures pushed { OnOk result (self.new ≡ self.old ++ (start, end) ∷ []) }
@@ -49,8 +49,8 @@ impl ClassBuilder {
         Ok(())
     }
 
-    /// Adds the characters of canonical ranges, as those of a class. A refusal for memory leaves
-    /// the builder as it was.
+    /// Adds the characters of canonical ranges, such as those of a class. An error leaves the
+    /// builder unchanged.
     pub fn extend(&mut self, ranges: &[(char, char)]) -> Result<(), AllocError>
         requires { AreCanonical ranges.now }
         ensures added { OnOk result (self.new ≡ self.old ++ ranges.now) }
@@ -60,8 +60,7 @@ impl ClassBuilder {
         Ok(())
     }
 
-    /// Adds the other case of each ASCII letter. A refusal for memory leaves the builder as it
-    /// was.
+    /// Adds the other case of each ASCII letter. An error leaves the builder unchanged.
     pub fn add_cases(&mut self, alloc: Global) -> Result<(), AllocError>
         ensures folded { OnOk result ((c : ℕ) →
             in_ranges self.new c ≡ folded (in_ranges self.old) c) }
@@ -72,12 +71,12 @@ impl ClassBuilder {
         Ok(())
     }
 
-    /// The class of the characters in the ranges. It refuses only for memory.
+    /// Returns the class of the characters in the ranges. The only error is out of memory.
     pub fn build(mut self, alloc: Global) -> Result<Class, AllocError>
         ensures { IfOk result (λ class. Lists class (in_ranges self)) }
     {
         self.ranges.sort_unstable_by_key(|range| range.0);
-        Ok(Class::from_ranges(merged(alloc, &self.ranges)?))
+        Ok(Class::from_ranges(merge(alloc, &self.ranges)?))
     }
 
     /// Adds the upper cases of the lower case letters from `start` to `end`.
@@ -107,7 +106,7 @@ impl ClassBuilder {
     }
 }
 
-/// The other cases of the ASCII letters in the ranges.
+/// Returns a builder with the other cases of the ASCII letters in the ranges.
 fn other_cases(alloc: Global, ranges: &[(char, char)]) -> Result<ClassBuilder, AllocError>
     ensures { IfOk result
         (λ others. (c : ℕ) → in_ranges others c ≡ other_case (in_ranges ranges.now) c) }
@@ -120,8 +119,8 @@ fn other_cases(alloc: Global, ranges: &[(char, char)]) -> Result<ClassBuilder, A
     Ok(others)
 }
 
-/// The canonical ranges of the characters in these ranges, which do not fall.
-fn merged(alloc: Global, ranges: &[(char, char)]) -> Result<Vec<(char, char)>, AllocError>
+/// Merges ranges that are sorted by their starts into the canonical ranges of the same characters.
+fn merge(alloc: Global, ranges: &[(char, char)]) -> Result<Vec<(char, char)>, AllocError>
     requires ranges { All IsRange ranges.now }
     requires sorted { IsNonDecreasingBy (λ range. range.0) ranges.now }
     ensures { IfOk result (λ merged. Lists merged.items (in_ranges ranges.now)) }
@@ -145,7 +144,7 @@ fn merged(alloc: Global, ranges: &[(char, char)]) -> Result<Vec<(char, char)>, A
     Ok(merged)
 }
 
-/// Whether no character lies between the end of a range and the start of another.
+/// Returns whether no character lies between the end of a range and the start of another.
 fn touches(range: (char, char), other: (char, char)) -> bool
     ensures { result ≡ nat_le other.0 (following range.1) }
 {

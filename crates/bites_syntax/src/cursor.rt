@@ -10,7 +10,7 @@ ghost use Rattle.bites_syntax.specs.Steps.{each_of};
 use crate::flags::Flags;
 use std::marker::Model;
 
-/// The rest of a pattern, from a place to its end. Contracts see its characters.
+/// The rest of a pattern, from a place to its end. A contract sees its characters.
 #[derive(Drop)]
 pub(crate) struct Cursor<'a> {
     rest: &'a str,
@@ -55,14 +55,14 @@ impl Characters {
     }
 }
 
-/// Whether the character is white space or a part of a comment.
+/// Returns whether the character is white space or a part of a comment.
 fn is_blank(inside_comment: bool, c: char) -> bool
     ensures { result ≡ (inside_comment || is_whitespace c || (c == hash)) }
 {
     inside_comment || c.is_whitespace() || c == '#'
 }
 
-/// Whether a comment goes on behind the character.
+/// Returns whether a comment goes on after the character.
 fn is_inside(inside_comment: bool, c: char) -> bool
     ensures { result ≡ (if inside_comment then not (c == line_feed) else c == hash) }
 {
@@ -78,21 +78,21 @@ impl<'a> Cursor<'a> {
         Cursor { rest: pattern }
     }
 
-    /// Another cursor at the same place, to look ahead with.
+    /// Returns another cursor at the same place, to look ahead with.
     pub(crate) fn ahead(&self) -> Cursor<'a>
         ensures { result ≡ self.now }
     {
         Cursor { rest: self.rest }
     }
 
-    /// The next character.
+    /// Returns the next character.
     pub(crate) fn peek(&self) -> Option<char>
         ensures { MatchOption result (self.now ≡ []) (λ c. self.now ≡ c ∷ drop 1 self.now) }
     {
         self.rest.chars().next()
     }
 
-    /// Whether the set has the next character.
+    /// Returns whether the set has the next character.
     pub(crate) fn is_at(&self, set: Characters) -> bool
         ensures { result ≡ next_is (members_of set) self.now }
     {
@@ -102,7 +102,7 @@ impl<'a> Cursor<'a> {
         }
     }
 
-    /// Moves past the next character, if there is one.
+    /// Moves past the next character and returns it, if there is one.
     pub(crate) fn bump(&mut self) -> Option<char>
         ensures value { MatchOption result (self.old ≡ []) (λ c. self.old ≡ c ∷ self.new) }
         ensures rest { self.new ≡ drop 1 self.old }
@@ -114,7 +114,7 @@ impl<'a> Cursor<'a> {
         Some(c)
     }
 
-    /// Moves past this character, if it comes next.
+    /// Moves past this character if it comes next, and returns whether it does.
     pub(crate) fn bump_if(&mut self, c: char) -> bool
         ensures value { result ≡ next_is (single c) self.old }
         ensures rest { self.new ≡ (if result then drop 1 self.old else self.old) }
@@ -127,8 +127,8 @@ impl<'a> Cursor<'a> {
         found
     }
 
-    /// The place behind this text of ASCII, if it comes next.
-    fn behind(&self, text: &str) -> Option<Cursor<'a>>
+    /// Returns the place after this text of ASCII, if it comes next.
+    fn after(&self, text: &str) -> Option<Cursor<'a>>
         ensures { MatchOption result (begins text.now self.now ≡ false)
             (λ rest. (begins text.now self.now ≡ true) × (rest ≡ drop (length text.now) self.now)) }
     {
@@ -141,20 +141,20 @@ impl<'a> Cursor<'a> {
         Some(ahead)
     }
 
-    /// Whether this text of ASCII comes next.
+    /// Returns whether this text of ASCII comes next.
     pub(crate) fn begins(&self, text: &str) -> bool
         ensures { result ≡ begins text.now self.now }
     {
-        self.behind(text).is_some()
+        self.after(text).is_some()
     }
 
-    /// Moves past this text of ASCII, if it comes next.
+    /// Moves past this text of ASCII if it comes next, and returns whether it does.
     pub(crate) fn bump_over(&mut self, text: &str) -> bool
         ensures value { result ≡ begins text.now self.old }
         ensures rest { self.new ≡ (if result then drop (length text.now) self.old else self.old) }
         ensures forward { length self.new ≤ length self.old }
     {
-        match self.behind(text) {
+        match self.after(text) {
             Some(rest) => {
                 *self = rest;
                 true
@@ -201,7 +201,8 @@ impl<'a> Cursor<'a> {
         }
     }
 
-    /// Moves past the next character and the gap behind it, if the set has it.
+    /// Moves past the next character and the gap after it, and returns the character, if the set
+    /// has it.
     pub(crate) fn take(&mut self, flags: Flags, set: Characters) -> Option<char>
         ensures value { MatchOption result
             ((next_is (members_of set) self.old ≡ false) × (self.new ≡ self.old))
@@ -219,7 +220,7 @@ impl<'a> Cursor<'a> {
         Some(c)
     }
 
-    /// Moves past all characters of the set that stand here, and the gap behind each.
+    /// Moves past all characters of the set that stand here, and the gap after each.
     pub(crate) fn pass_each(&mut self, flags: Flags, set: Characters)
         ensures rest { self.new ≡ (each_of (flags_of flags) (members_of set) self.old).1 }
         ensures forward { length self.new ≤ length self.old }

@@ -74,7 +74,7 @@ fn escapes_itself(c: char) -> bool
     c.is_ascii() && !c.is_ascii_alphanumeric() && c != '<' && c != '>'
 }
 
-/// How many hexadecimal digits stand behind the character where there are no braces.
+/// Returns how many hexadecimal digits follow the character where there are no braces.
 fn digits(c: char) -> Option<u32>
     ensures { result ≡ digits_of c }
 {
@@ -86,7 +86,7 @@ fn digits(c: char) -> Option<u32>
     }
 }
 
-/// What the character behind a backslash means alone.
+/// Returns what the character after a backslash means alone, if it means something.
 fn meaning_alone(c: char) -> Option<Meaning>
     ensures { IsMeaningOf result (meaning_of c) }
 {
@@ -105,7 +105,7 @@ fn meaning_alone(c: char) -> Option<Meaning>
     None
 }
 
-/// The word boundary with this name.
+/// Returns the word boundary with this name, if there is one.
 fn boundary_of(name: &str) -> Option<Look>
     ensures { option_map look_of result ≡ boundary_of name.now }
 {
@@ -131,7 +131,7 @@ fn boundary_name(alloc: Global, cursor: &mut Cursor<'_>, flags: Flags) -> Result
     boundary_of(&name).ok_or(Error::UnrecognizedBoundary)
 }
 
-/// Reads all letters and dashes that stand here, and the gap behind each.
+/// Reads all letters and dashes that stand here, and the gap after each.
 fn letters(alloc: Global, cursor: &mut Cursor<'_>, flags: Flags) -> Result<String, AllocError>
     ensures letters { IfOk result (λ name. string_bytes name
         ≡ (each_of (flags_of flags) is_boundary_letter cursor.old).0) }
@@ -146,7 +146,7 @@ fn letters(alloc: Global, cursor: &mut Cursor<'_>, flags: Flags) -> Result<Strin
     Ok(letters)
 }
 
-/// Reads a word boundary from behind its `b`.
+/// Reads the rest of a word boundary after its `b`.
 fn boundary(alloc: Global, cursor: &mut Cursor<'_>, flags: Flags) -> Result<Look, Error>
     ensures reads { WithSteps cursor.old
         (λ n. Agrees IsLook result cursor.new (boundary n (flags_of flags) cursor.old)) }
@@ -167,7 +167,7 @@ fn boundary(alloc: Global, cursor: &mut Cursor<'_>, flags: Flags) -> Result<Look
     }
 }
 
-/// Reads an escape other than of a word boundary, from behind this character.
+/// Reads the rest of an escape after its first character, which is not `b`.
 fn simple(cursor: &mut Cursor<'_>, flags: Flags, c: char) -> Result<Meaning, Error>
     ensures reads { WithSteps cursor.old
         (λ n. Agrees IsMeaning result cursor.new (simple n (flags_of flags) c cursor.old)) }
@@ -183,7 +183,7 @@ fn simple(cursor: &mut Cursor<'_>, flags: Flags, c: char) -> Result<Meaning, Err
     Ok(Meaning::Character(hexadecimal(cursor, flags, count)?))
 }
 
-/// Reads what stands behind a backslash.
+/// Reads the rest of an escape after its backslash.
 pub(crate) fn escape(alloc: Global, cursor: &mut Cursor<'_>, flags: Flags) -> Result<Meaning, Error>
     ensures reads { WithSteps cursor.old
         (λ n. Agrees IsMeaning result cursor.new (escape n (flags_of flags) cursor.old)) }

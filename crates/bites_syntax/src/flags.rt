@@ -19,7 +19,8 @@ pub struct Flags {
     pub case_insensitive: bool,
     /// `^` and `$` stand at the ends of lines too.
     pub multi_line: bool,
-    /// `.` stands for every character. Without this it leaves out LF, and where `crlf` is set CR too.
+    /// `.` stands for every character. Without this it leaves out LF, and CR too where `crlf` is
+    /// set.
     pub dot_matches_new_line: bool,
     /// A line ends at CR, at LF and at CR LF, for `^` and `$` where `multi_line` is set and for `.`.
     pub crlf: bool,
@@ -29,7 +30,7 @@ pub struct Flags {
     pub ignore_whitespace: bool,
 }
 
-/// The flags with that of a letter set or taken away.
+/// Returns the flags with that of a letter set or cleared.
 fn put_flag(on: bool, c: char, flags: Flags) -> Flags
     ensures { flags_of result ≡ put_flag on c (flags_of flags) }
 {
@@ -46,7 +47,8 @@ fn put_flag(on: bool, c: char, flags: Flags) -> Flags
     flags
 }
 
-/// What a run of letters makes of the flags; those behind a dash are taken away.
+/// Returns the flags after a run of letters. Letters before the dash set a flag, and letters after
+/// it clear one.
 pub(crate) fn changed(run: &[char], flags: Flags) -> Flags
     ensures { flags_of result ≡ changed true run.now (flags_of flags) }
 {
@@ -59,7 +61,7 @@ pub(crate) fn changed(run: &[char], flags: Flags) -> Flags
     flags
 }
 
-/// Whether the character is a letter of flags or the dash between them.
+/// Returns whether the character is a letter of flags or the dash between them.
 fn is_flag_mark(c: char) -> bool
     ensures { result ≡ is_flag_mark c }
 {
@@ -90,7 +92,7 @@ pub(crate) fn flag_run(alloc: Global, cursor: &mut Cursor<'_>) -> Result<Vec<cha
             return Err(Error::UnrecognizedFlag);
         }
         if run.contains(&c) {
-            return Err(repeated(c));
+            return Err(duplicate_error(c));
         }
         run.push(c)?;
         cursor.bump();
@@ -98,8 +100,8 @@ pub(crate) fn flag_run(alloc: Global, cursor: &mut Cursor<'_>) -> Result<Vec<cha
     Ok(run)
 }
 
-/// The error at a mark that stands a second time.
-fn repeated(c: char) -> Error
+/// Returns the error at a letter or dash that stands a second time.
+fn duplicate_error(c: char) -> Error
     ensures { result ≡ (if c == dash then Error.RepeatedNegation else Error.DuplicateFlag) }
 {
     if c == '-' {

@@ -7,7 +7,7 @@ ghost use Rattle.bites_spec.specs.Pattern.{Text};
 ghost use Rattle.bites_spec.specs.Reader.{flags_end, flags_from, flags_unclosed, named_group, no_name, opened};
 ghost use Rattle.bites_text.specs.Messages.{error_of};
 ghost use Rattle.bites_syntax.specs.Groups.{ends_flags};
-ghost use Rattle.bites_syntax.specs.Openings.{IsPatternFront, IsOpened};
+ghost use Rattle.bites_syntax.specs.Openings.{IsStateOf, IsOpened};
 ghost use Rattle.bites_syntax.specs.Parts.{Agrees};
 
 use crate::cursor::Cursor;
@@ -18,18 +18,18 @@ use crate::name::Name;
 use bites_text::error::Error;
 use std::alloc::Global;
 
-/// What the front of a pattern decides for its rest.
+/// What the pattern so far decides for the rest.
 #[derive(Drop)]
-pub(crate) struct Front {
+pub(crate) struct ParserState {
     pub(crate) flags: Flags,
-    /// How many groups with a number were opened.
+    /// The number of groups with a number that were opened.
     pub(crate) groups: u32,
     pub(crate) names: Names,
     /// Group 0, and those that were opened.
     pub(crate) opened: Groups,
 }
 
-/// What stands behind an opening parenthesis.
+/// What stands after an opening parenthesis.
 #[derive(Drop)]
 pub(crate) enum Opened {
     /// A whole directive; no group is opened.
@@ -39,8 +39,8 @@ pub(crate) enum Opened {
     Numbered(Option<Name>),
 }
 
-/// The error where the pattern ends behind these flags.
-fn unclosed(run: &[char]) -> Error
+/// Returns the error where the pattern ends after these flags.
+fn unclosed_error(run: &[char]) -> Error
     ensures { result ≡ error_of (flags_unclosed run.now) }
 {
     if run.is_empty() {
@@ -59,10 +59,10 @@ fn ends_with_dash(run: &[char]) -> bool
     }
 }
 
-/// What flags and the character behind them open.
-fn flags_end(run: &[char], end: char, front: &mut Front) -> Result<Opened, Error>
-    ensures { (g : pattern.Front) → (rest : Text) → IsPatternFront front.old g →
-        Agrees (λ o x. IsOpened o front.new g x) result rest (flags_end g run.now end rest) }
+/// Returns what flags and the character after them open.
+fn flags_end(run: &[char], end: char, state: &mut ParserState) -> Result<Opened, Error>
+    ensures { (g : pattern.Front) → (rest : Text) → IsStateOf state.old g →
+        Agrees (λ o x. IsOpened o state.new g x) result rest (flags_end g run.now end rest) }
 {
     if run.is_empty() {
         return if end == ':' {
@@ -74,7 +74,7 @@ fn flags_end(run: &[char], end: char, front: &mut Front) -> Result<Opened, Error
     if ends_with_dash(run) {
         return Err(Error::DanglingNegation);
     }
-    front.flags = changed(run, front.flags);
+    state.flags = changed(run, state.flags);
     if end == ':' {
         Ok(Opened::Unnumbered)
     } else {
@@ -82,78 +82,86 @@ fn flags_end(run: &[char], end: char, front: &mut Front) -> Result<Opened, Error
     }
 }
 
-/// Reads flags and what ends them, from behind the question mark.
-fn open_by_flags(alloc: Global, cursor: &mut Cursor<'_>, front: &mut Front) -> Result<Opened, Error>
-    ensures reads { (g : pattern.Front) → IsPatternFront front.old g →
-        Agrees (λ o x. IsOpened o front.new g x) result cursor.new (flags_from g [] cursor.old) }
+/// Reads flags and what ends them, after the question mark.
+fn open_by_flags(
+    alloc: Global,
+    cursor: &mut Cursor<'_>,
+    state: &mut ParserState,
+) -> Result<Opened, Error>
+    ensures reads { (g : pattern.Front) → IsStateOf state.old g →
+        Agrees (λ o x. IsOpened o state.new g x) result cursor.new (flags_from g [] cursor.old) }
     ensures forward { length cursor.new ≤ length cursor.old }
 {
     let run = flag_run(alloc, cursor)?;
     match cursor.bump() {
-        Some(end) => flags_end(&run, end, front),
-        None => Err(unclosed(&run)),
+        Some(end) => flags_end(&run, end, state),
+        None => Err(unclosed_error(&run)),
     }
 }
 
 /// Reads a name and its closing bracket, and opens the group of that name.
-fn named_group(alloc: Global, cursor: &mut Cursor<'_>, front: &mut Front) -> Result<Opened, Error>
-    ensures reads { (g : pattern.Front) → IsPatternFront front.old g →
-        Agrees (λ o x. IsOpened o front.new g x) result cursor.new (named_group g cursor.old) }
+fn named_group(
+    alloc: Global,
+    cursor: &mut Cursor<'_>,
+    state: &mut ParserState,
+) -> Result<Opened, Error>
+    ensures reads { (g : pattern.Front) → IsStateOf state.old g →
+        Agrees (λ o x. IsOpened o state.new g x) result cursor.new (named_group g cursor.old) }
     ensures forward { length cursor.new ≤ length cursor.old }
 {
-    let Some(groups) = front.groups.checked_add(1) else {
+    let Some(groups) = state.groups.checked_add(1) else {
         return Err(Error::TooManyGroups);
     };
-    let text = name(alloc, cursor, &front.names)?;
-    front.names.insert(text.clone()?)?;
-    front.opened.push(Some(Name::new(alloc, &text)?))?;
-    front.groups = groups;
+    let text = name(alloc, cursor, &state.names)?;
+    state.names.insert(text.clone()?)?;
+    state.opened.push(Some(Name::new(alloc, &text)?))?;
+    state.groups = groups;
     Ok(Opened::Numbered(Some(Name::from(text))))
 }
 
 /// Reads what opens a group that has no name.
-fn no_name(alloc: Global, cursor: &mut Cursor<'_>, front: &mut Front) -> Result<Opened, Error>
-    ensures reads { (g : pattern.Front) → IsPatternFront front.old g →
-        Agrees (λ o x. IsOpened o front.new g x) result cursor.new (no_name g cursor.old) }
+fn no_name(alloc: Global, cursor: &mut Cursor<'_>, state: &mut ParserState) -> Result<Opened, Error>
+    ensures reads { (g : pattern.Front) → IsStateOf state.old g →
+        Agrees (λ o x. IsOpened o state.new g x) result cursor.new (no_name g cursor.old) }
     ensures forward { length cursor.new ≤ length cursor.old }
 {
     if cursor.bump_if('?') {
-        return open_by_flags(alloc, cursor, front);
+        return open_by_flags(alloc, cursor, state);
     }
-    let Some(groups) = front.groups.checked_add(1) else {
+    let Some(groups) = state.groups.checked_add(1) else {
         return Err(Error::TooManyGroups);
     };
-    front.opened.push(None)?;
-    front.groups = groups;
+    state.opened.push(None)?;
+    state.groups = groups;
     Ok(Opened::Numbered(None))
 }
 
-/// Whether look-around stands here.
+/// Returns whether look-around stands here.
 fn begins_look_around(cursor: &Cursor<'_>) -> bool
     ensures { result ≡ begins_look_around cursor.now }
 {
     cursor.begins("?=") || cursor.begins("?!") || cursor.begins("?<=") || cursor.begins("?<!")
 }
 
-/// Reads what opens a group or is a directive, from behind the parenthesis and the gap there. An
-/// error leaves the cursor and the front in no known state.
+/// Reads what opens a group or is a directive, after the parenthesis and the gap there. An error
+/// leaves the cursor and the state unspecified.
 pub(crate) fn open_group(
     alloc: Global,
     cursor: &mut Cursor<'_>,
-    front: &mut Front,
+    state: &mut ParserState,
 ) -> Result<Opened, Error>
-    ensures reads { (g : pattern.Front) → IsPatternFront front.old g →
-        Agrees (λ o x. IsOpened o front.new g x) result cursor.new (opened g cursor.old) }
+    ensures reads { (g : pattern.Front) → IsStateOf state.old g →
+        Agrees (λ o x. IsOpened o state.new g x) result cursor.new (opened g cursor.old) }
     ensures forward { length cursor.new ≤ length cursor.old }
 {
     if begins_look_around(cursor) {
         return Err(Error::LookAround);
     }
     if cursor.bump_over("?P<") {
-        return named_group(alloc, cursor, front);
+        return named_group(alloc, cursor, state);
     }
     if cursor.bump_over("?<") {
-        return named_group(alloc, cursor, front);
+        return named_group(alloc, cursor, state);
     }
-    no_name(alloc, cursor, front)
+    no_name(alloc, cursor, state)
 }

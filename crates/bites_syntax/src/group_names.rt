@@ -22,7 +22,7 @@ pub(crate) struct Names {
 }
 
 impl Names {
-    /// No names.
+    /// Returns an empty set of names.
     pub(crate) fn new(alloc: Global) -> Names
         ensures { AreNames result [] }
     {
@@ -31,14 +31,14 @@ impl Names {
         }
     }
 
-    /// Whether a group has this name.
+    /// Returns whether a group has this name.
     fn contains(&self, name: &str) -> bool
         ensures { result ≡ contains_text self.now.texts name.now }
     {
         self.texts.contains(name)
     }
 
-    /// Puts a name in. It refuses only for memory.
+    /// Adds a name. The only error is out of memory.
     pub(crate) fn insert(&mut self, name: String) -> Result<(), AllocError>
         ensures { OnOk result ((q : List ℕ) →
             contains_text self.new.texts q
@@ -60,21 +60,21 @@ fn is_number(c: char) -> bool
     }
 }
 
-/// Whether a name may begin with the character.
+/// Returns whether a name may begin with the character.
 fn is_name_start(c: char) -> bool
     ensures { result ≡ is_name_start c }
 {
     c == '_' || (c != '>' && is_alphabetic(c))
 }
 
-/// Whether a name may go on with the character.
+/// Returns whether a name may go on with the character.
 fn is_name_part(c: char) -> bool
     ensures { result ≡ is_name_part c }
 {
     matches!(c, '_' | '.' | '[' | ']') || (c != '>' && (is_alphabetic(c) || is_number(c)))
 }
 
-/// Whether the character may stand behind the front of a name.
+/// Returns whether the character may follow this prefix of a name.
 fn may_follow(text: &str, c: char) -> bool
     ensures { is_name_front (chars text.now) ≡ true →
         result ≡ is_name_front (chars text.now ++ c ∷ []) }
@@ -118,7 +118,7 @@ pub(crate) fn name(alloc: Global, cursor: &mut Cursor<'_>, names: &Names) -> Res
 {
     let text = name_text(alloc, cursor)?;
     if !cursor.bump_if('>') {
-        return Err(unclosed(&text));
+        return Err(unclosed_error(&text));
     }
     if text.is_empty() {
         return Err(Error::EmptyName);
@@ -129,8 +129,8 @@ pub(crate) fn name(alloc: Global, cursor: &mut Cursor<'_>, names: &Names) -> Res
     Ok(text)
 }
 
-/// The error where the pattern ends behind the front of a name.
-fn unclosed(text: &str) -> Error
+/// Returns the error where the pattern ends after this prefix of a name.
+fn unclosed_error(text: &str) -> Error
     ensures { result ≡ error_of (name_unclosed (chars text.now)) }
 {
     if text.is_empty() {

@@ -7,12 +7,13 @@ use crate::name::Name;
 use std::alloc::{AllocError, Global};
 use std::marker::Model;
 
-/// Group 0 and each group with a number that a pattern opens, in order of number, with its name if it has one.
+/// Group 0 and each group with a number that a pattern opens. They stand in order of number, each
+/// with its name if it has one.
 ///
 /// A contract sees the list of these names, each as its bytes. Group 0 has none.
 #[derive(Drop)]
 pub struct Groups {
-    /// The groups behind group 0.
+    /// The groups after group 0.
     names: Vec<Option<Name>>,
 }
 
@@ -25,7 +26,7 @@ impl Model for Groups {
 }
 
 impl Groups {
-    /// Group 0 alone.
+    /// Returns group 0 alone.
     pub(crate) fn new(alloc: Global) -> Groups
         ensures { result ≡ None ∷ [] }
     {
@@ -34,7 +35,7 @@ impl Groups {
         }
     }
 
-    /// Opens a group with the next number. It refuses only for memory.
+    /// Opens a group with the next number. The only error is out of memory.
     pub(crate) fn push(&mut self, name: Option<Name>) -> Result<(), AllocError>
         ensures { OnOk result (self.new ≡ self.old ++ name ∷ []) }
     {
@@ -42,7 +43,7 @@ impl Groups {
         Ok(())
     }
 
-    /// The number of groups, group 0 counted.
+    /// Returns the number of groups, including group 0.
     #[allow(clippy::len_without_is_empty)]
     pub fn len(&self) -> usize
         ensures len { result ≡ length self.now }
@@ -51,7 +52,7 @@ impl Groups {
         self.names.len() + 1
     }
 
-    /// The name of the group with this number, if there is such a group and it has one.
+    /// Returns the name of the group with this number, if there is such a group and it has one.
     pub fn name(&self, number: usize) -> Option<&str>
         ensures { option_copied result ≡ slice_index_or self.now number None }
     {

@@ -17,7 +17,7 @@ use crate::flags::Flags;
 use crate::number::{TOO_LARGE, number};
 use bites_text::error::Error;
 
-/// The character with this number, if there is one.
+/// Returns the character with this number, if there is one.
 fn character(value: u64) -> Option<char>
     ensures { MatchOption result (is_scalar value ≡ false)
         (λ c. (is_scalar value ≡ true) × (c ≡ value)) }
@@ -39,8 +39,8 @@ fn hex_digit(cursor: &mut Cursor<'_>) -> Result<u32, Error>
     }
 }
 
-/// Reads so many digits, with gaps between them, and gives their number; one that is too large
-/// becomes `TOO_LARGE`.
+/// Reads `count` digits, with gaps between them. Returns their number, or `TOO_LARGE` if it is too
+/// large.
 fn exactly(cursor: &mut Cursor<'_>, flags: Flags, count: u32) -> Result<u64, Error>
     ensures reads { AnswersNumber TOO_LARGE result cursor.new
         (fixed_number 0 count (flags_of flags) cursor.old) }
@@ -58,7 +58,7 @@ fn exactly(cursor: &mut Cursor<'_>, flags: Flags, count: u32) -> Result<u64, Err
     Ok(value)
 }
 
-/// Reads a number of so many digits.
+/// Reads a number of `count` digits.
 fn fixed(cursor: &mut Cursor<'_>, flags: Flags, count: u32) -> Result<char, Error>
     ensures reads { Answers (λ c. c) result cursor.new
         (and_then (exactly count (flags_of flags) cursor.old) (scalar fixed_hex_invalid)) }
@@ -68,7 +68,7 @@ fn fixed(cursor: &mut Cursor<'_>, flags: Flags, count: u32) -> Result<char, Erro
     character(value).ok_or(Error::FixedHexInvalid)
 }
 
-/// Reads a number from behind its opening brace and the gap there.
+/// Reads the rest of a number after its opening brace and the gap there.
 fn in_braces(cursor: &mut Cursor<'_>, flags: Flags) -> Result<char, Error>
     ensures reads { let digits = each_of (flags_of flags) is_hex_digit cursor.old in
         Answers (λ c. c) result cursor.new (in_braces digits.0 digits.1) }
@@ -84,7 +84,8 @@ fn in_braces(cursor: &mut Cursor<'_>, flags: Flags) -> Result<char, Error>
     }
 }
 
-/// Reads the number behind `x`, `u` or `U` and the gap there: in braces, or of so many digits.
+/// Reads the number after `x`, `u` or `U` and the gap there. It stands in braces or has `count`
+/// digits.
 pub(crate) fn hexadecimal(cursor: &mut Cursor<'_>, flags: Flags, count: u32) -> Result<char, Error>
     ensures reads { WithSteps cursor.old
         (λ n.

@@ -36,7 +36,7 @@ pub enum Look {
 }
 
 impl Look {
-    /// Whether the assertion holds at a place of the haystack, in bytes from its start.
+    /// Returns whether the assertion holds at an offset of the haystack, in bytes.
     #[tactic(auto, unfolding(bites_spec::specs::Look::holds))]
     pub fn is_match(&self, haystack: &[u8], at: usize) -> bool
         requires { at ≤ length haystack.now }
@@ -46,7 +46,8 @@ impl Look {
         self.holds_between(before, after, at == 0, at == haystack.len())
     }
 
-    /// Whether the assertion holds between two bytes, at the start or at the end of the haystack.
+    /// Returns whether the assertion holds between two bytes, at the start or at the end of the
+    /// haystack.
     fn holds_between(
         &self,
         before: Option<u8>,
@@ -79,7 +80,7 @@ impl Look {
     }
 }
 
-/// The byte before a place.
+/// Returns the byte before an offset.
 fn byte_before(haystack: &[u8], at: usize) -> Option<u8>
     requires { at ≤ length haystack.now }
     ensures { result ≡ before haystack.now at }
@@ -91,14 +92,14 @@ fn byte_before(haystack: &[u8], at: usize) -> Option<u8>
     }
 }
 
-/// Whether the byte is there and is this one.
+/// Returns whether the byte is there and is this one.
 fn is_byte(found: Option<u8>, wanted: u8) -> bool
     ensures { result ≡ is_byte wanted found }
 {
     found == Some(wanted)
 }
 
-/// Whether the byte is there and is a word byte.
+/// Returns whether the byte is there and is a word byte.
 fn is_word(byte: Option<u8>) -> bool
     ensures { result ≡ is_word byte }
 {

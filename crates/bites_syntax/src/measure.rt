@@ -6,8 +6,8 @@ ghost use Rattle.bites_spec.specs.Tree.{is_nullable, all_are_nullable, some_is_n
 
 use crate::tree::{Kind, Tree};
 
-/// The height of a tree: 0 without parts, else one more than that of the tallest part. A height
-/// that 32 bits do not hold is answered as `u32::MAX`.
+/// Returns the height of a tree. It is 0 without parts, and else one more than the height of the
+/// tallest part. Where the height doesn't fit a `u32`, the result is `u32::MAX`.
 #[cycle(height)]
 pub fn height(tree: &Tree) -> u32
     ensures { result ≡ min (height tree.now) 4294967295 }
@@ -19,7 +19,7 @@ pub fn height(tree: &Tree) -> u32
     }
 }
 
-/// The height of the tallest tree.
+/// Returns the height of the tallest tree.
 #[cycle(height)]
 fn tallest(parts: &[Tree]) -> u32
     ensures { result ≡ min (tallest (trees_of parts.now)) 4294967295 }
@@ -31,8 +31,8 @@ fn tallest(parts: &[Tree]) -> u32
     most
 }
 
-/// Whether the tree is nullable: its form alone lets it match the empty text.
-#[cycle(empty)]
+/// Returns whether the tree is nullable: whether its form alone lets it match the empty text.
+#[cycle(nullable)]
 pub fn is_nullable(tree: &Tree) -> bool
     ensures { result ≡ is_nullable tree.now }
 {
@@ -46,8 +46,8 @@ pub fn is_nullable(tree: &Tree) -> bool
     }
 }
 
-/// Whether all trees are nullable.
-#[cycle(empty)]
+/// Returns whether all trees are nullable.
+#[cycle(nullable)]
 fn all_are_nullable(parts: &[Tree]) -> bool
     ensures { result ≡ all_are_nullable (trees_of parts.now) }
 {
@@ -59,8 +59,8 @@ fn all_are_nullable(parts: &[Tree]) -> bool
     true
 }
 
-/// Whether one of the trees is nullable.
-#[cycle(empty)]
+/// Returns whether one of the trees is nullable.
+#[cycle(nullable)]
 fn some_is_nullable(parts: &[Tree]) -> bool
     ensures { result ≡ some_is_nullable (trees_of parts.now) }
 {
@@ -72,14 +72,14 @@ fn some_is_nullable(parts: &[Tree]) -> bool
     false
 }
 
-/// One more than the greatest number of a group in the tree.
+/// Returns one more than the greatest number of a group in the tree.
 pub fn captures_len(tree: &Tree) -> usize
     ensures { result ≡ captures_len tree.now }
 {
     greatest_group(tree) as usize + 1
 }
 
-/// The greatest number of a group in the tree, or 0 where there is none.
+/// Returns the greatest number of a group in the tree, or 0 if there is none.
 #[cycle(groups)]
 fn greatest_group(tree: &Tree) -> u32
     ensures { result ≡ greatest (groups_in tree.now) }
@@ -92,7 +92,7 @@ fn greatest_group(tree: &Tree) -> u32
     }
 }
 
-/// The greatest number of a group in the trees.
+/// Returns the greatest number of a group in the trees, or 0 if there is none.
 #[cycle(groups)]
 fn greatest_group_of(parts: &[Tree]) -> u32
     ensures { result ≡ greatest (groups_in_all (trees_of parts.now)) }
@@ -104,7 +104,8 @@ fn greatest_group_of(parts: &[Tree]) -> u32
     most
 }
 
-/// How many groups of the tree participate at least in a match, where its form says so.
+/// Returns a lower bound on the groups of the tree that participate in any match, if its form gives
+/// one.
 #[cycle(count)]
 pub fn static_count(tree: &Tree) -> Option<usize>
     requires { length (groups_in tree.now) < 2 ^ 64 }
@@ -126,7 +127,7 @@ pub fn static_count(tree: &Tree) -> Option<usize>
     }
 }
 
-/// The sum of the counts of the trees, where each has one.
+/// Returns the sum of the counts of the trees, if each has one.
 #[cycle(count)]
 fn static_sum(parts: &[Tree]) -> Option<usize>
     requires { length (groups_in_all (trees_of parts.now)) < 2 ^ 64 }
@@ -139,7 +140,7 @@ fn static_sum(parts: &[Tree]) -> Option<usize>
     Some(sum)
 }
 
-/// The count of each tree, where they agree.
+/// Returns the count of each tree, if all trees have the same.
 #[cycle(count)]
 fn static_agreed(parts: &[Tree]) -> Option<usize>
     requires { length (groups_in_all (trees_of parts.now)) < 2 ^ 64 }

@@ -20,7 +20,7 @@ impl Model for Name {
 }
 
 impl Name {
-    /// A name with this text. It refuses only for memory.
+    /// Returns a name with this text. The only error is out of memory.
     pub fn new(alloc: Global, text: &str) -> Result<Name, AllocError>
         ensures { IfOk result (λ name. name ≡ text.now) }
     {
@@ -29,7 +29,7 @@ impl Name {
         })
     }
 
-    /// The name's text.
+    /// Returns the name's text.
     pub fn as_str(&self) -> &str
         ensures { result.now ≡ self.now }
     {

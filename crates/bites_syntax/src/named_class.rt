@@ -43,7 +43,7 @@ impl NamedClass {
         NamedClass::Xdigit,
     ];
 
-    /// How the class is written in a pattern.
+    /// Returns the name of the class as a pattern writes it.
     pub fn name(self) -> &'static str
         ensures { result.now ≡ class_name (named_of self) }
     {
@@ -65,9 +65,9 @@ impl NamedClass {
         }
     }
 
-    /// The canonical ranges of the class.
+    /// Returns the canonical ranges of the class.
     pub fn ranges(self) -> &'static [(char, char)]
-        ensures greatest { AreCanonical result.now }
+        ensures canonical { AreCanonical result.now }
         ensures members { (c : ℕ) → in_ranges result.now c ≡ members (named_of self) c }
     {
         match self {
@@ -88,7 +88,7 @@ impl NamedClass {
         }
     }
 
-    /// The canonical ranges of all characters that are not in the class.
+    /// Returns the canonical ranges of all characters that are not in the class.
     pub fn others(self) -> &'static [(char, char)]
         ensures { Lists result.now (complement (members (named_of self))) }
     {

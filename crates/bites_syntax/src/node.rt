@@ -14,14 +14,14 @@ use crate::operator::Bounds;
 use crate::tree::Tree;
 use std::alloc::{AllocError, Global};
 
-/// A node: a tree and its height, or that the tree is too tall.
+/// A tree with its height, or a mark that the tree is too tall.
 #[derive(Drop)]
 pub(crate) enum Node {
     Kept { tree: Tree, height: u32 },
     TooTall,
 }
 
-/// What a group with a number is known by.
+/// The number and name of a group.
 #[derive(Drop)]
 pub(crate) struct Numbered {
     pub(crate) index: u32,
@@ -38,7 +38,7 @@ enum Parts {
     TooTall,
 }
 
-/// The height above parts of this height, unless it is too great.
+/// Returns the height of a tree whose tallest part has this height, unless it is too great.
 fn height_above(height: u32, limit: u32) -> Option<u32>
     ensures { MatchOption result ((limit < suc height) ⊎ (4294967295 ≤ suc height))
         (λ h. (h ≡ suc height) × (h ≤ limit) × (h < 4294967295)) }
@@ -51,7 +51,7 @@ fn height_above(height: u32, limit: u32) -> Option<u32>
 }
 
 impl Node {
-    /// The node of a tree with no parts.
+    /// Returns the node of a tree with no parts.
     pub(crate) fn leaf(tree: Tree) -> Node
         requires { height tree ≡ 0 }
         ensures { (limit : ℕ) → IsNodeOf limit result tree }
@@ -60,7 +60,7 @@ impl Node {
     }
 }
 
-/// The node repeated. It refuses only for memory.
+/// Returns the node repeated. The only error is out of memory.
 pub(crate) fn repetition_of(
     alloc: Global,
     bounds: Bounds,
@@ -77,10 +77,15 @@ pub(crate) fn repetition_of(
     if bounds.min == 1 && bounds.max == Some(1) {
         return Ok(body);
     }
-    repeated(alloc, bounds, body, limit)
+    repetition_node(alloc, bounds, body, limit)
 }
 
-fn repeated(alloc: Global, bounds: Bounds, body: Node, limit: u32) -> Result<Node, AllocError>
+fn repetition_node(
+    alloc: Global,
+    bounds: Bounds,
+    body: Node,
+    limit: u32,
+) -> Result<Node, AllocError>
     ensures { (t : spec.Tree) → IsNodeOf limit body t →
         IfOk result
         (λ node. IsNodeOf limit node (spec.repetition bounds.min bounds.max bounds.greedy t)) }
@@ -96,7 +101,12 @@ fn repeated(alloc: Global, bounds: Bounds, body: Node, limit: u32) -> Result<Nod
     Ok(Node::Kept { tree, height })
 }
 
-fn captured(alloc: Global, numbered: Numbered, body: Node, limit: u32) -> Result<Node, AllocError>
+fn capture_node(
+    alloc: Global,
+    numbered: Numbered,
+    body: Node,
+    limit: u32,
+) -> Result<Node, AllocError>
     ensures { (t : spec.Tree) → IsNodeOf limit body t →
         IfOk result (λ node. IsNodeOf limit node (spec.group numbered.index numbered.name t)) }
 {
@@ -111,7 +121,7 @@ fn captured(alloc: Global, numbered: Numbered, body: Node, limit: u32) -> Result
     Ok(Node::Kept { tree, height })
 }
 
-/// The node of a group. It refuses only for memory.
+/// Returns the node of a group. The only error is out of memory.
 pub(crate) fn group_of(
     alloc: Global,
     numbered: Option<Numbered>,
@@ -123,13 +133,18 @@ pub(crate) fn group_of(
         IfOk result (λ node. IsNodeOf limit node (group_of opening before branches)) }
 {
     match numbered {
-        Some(numbered) => captured(alloc, numbered, choice, limit),
+        Some(numbered) => capture_node(alloc, numbered, choice, limit),
         None => Ok(choice),
     }
 }
 
-/// The trees of the nodes and the height above them, or None where one is too tall.
-fn kept(alloc: Global, nodes: Vec<Node>, limit: u32) -> Result<Option<(Vec<Tree>, u32)>, AllocError>
+/// Returns the trees of the nodes and the height of the tallest one. Returns None if one is too
+/// tall.
+fn collect_trees(
+    alloc: Global,
+    nodes: Vec<Node>,
+    limit: u32,
+) -> Result<Option<(Vec<Tree>, u32)>, AllocError>
     ensures { (ts : List spec.Tree) → AreNodes limit nodes.items ts →
         IfOk result (λ o. MatchOption o (IsTooTall limit (spec.sequence (trees_of ts)))
         (λ p. (p.0.items ≡ ts) × (suc p.1 ≡ height (spec.sequence (trees_of ts))))) }
@@ -146,7 +161,7 @@ fn kept(alloc: Global, nodes: Vec<Node>, limit: u32) -> Result<Option<(Vec<Tree>
     Ok(Some((trees, tallest)))
 }
 
-/// What the nodes are as parts of a tree.
+/// Returns the nodes as parts of a tree.
 fn parts_of(alloc: Global, mut nodes: Vec<Node>, limit: u32) -> Result<Parts, AllocError>
     ensures { (ts : List spec.Tree) → AreNodes limit nodes.items ts →
         IfOk result (λ parts. ArePartsOf limit parts ts) }
@@ -157,7 +172,7 @@ fn parts_of(alloc: Global, mut nodes: Vec<Node>, limit: u32) -> Result<Parts, Al
             None => Parts::None,
         });
     }
-    let Some((trees, tallest)) = kept(alloc, nodes, limit)? else {
+    let Some((trees, tallest)) = collect_trees(alloc, nodes, limit)? else {
         return Ok(Parts::TooTall);
     };
     Ok(match height_above(tallest, limit) {
@@ -166,7 +181,7 @@ fn parts_of(alloc: Global, mut nodes: Vec<Node>, limit: u32) -> Result<Parts, Al
     })
 }
 
-/// The nodes one behind another. It refuses only for memory.
+/// Returns the node of a sequence of the nodes. The only error is out of memory.
 pub(crate) fn sequence_of(alloc: Global, nodes: Vec<Node>, limit: u32) -> Result<Node, AllocError>
     ensures { (ts : List spec.Tree) → AreNodes limit nodes.items ts →
         IfOk result (λ node. IsNodeOf limit node (sequence_of ts)) }
@@ -182,8 +197,12 @@ pub(crate) fn sequence_of(alloc: Global, nodes: Vec<Node>, limit: u32) -> Result
     })
 }
 
-/// A choice between the nodes. It refuses only for memory.
-pub(crate) fn choice_of(alloc: Global, nodes: Vec<Node>, limit: u32) -> Result<Node, AllocError>
+/// Returns the node of an alternation of the nodes. The only error is out of memory.
+pub(crate) fn alternation_of(
+    alloc: Global,
+    nodes: Vec<Node>,
+    limit: u32,
+) -> Result<Node, AllocError>
     ensures { (ts : List spec.Tree) → AreNodes limit nodes.items ts →
         IfOk result (λ node. IsNodeOf limit node (choice_of ts)) }
 {

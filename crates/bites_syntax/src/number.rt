@@ -11,18 +11,18 @@ ghost use Rattle.bites_syntax.specs.Steps.{each_of};
 use crate::cursor::{Characters, Cursor};
 use crate::flags::Flags;
 
-/// The least number that no bound of a repetition and no character has.
+/// The least number that is neither a bound of a repetition nor a character's.
 pub(crate) const TOO_LARGE: u64 = 4294967296;
 
-/// The value of a digit or a letter, and 36 for any other character.
+/// Returns the value of a digit or a letter, and 36 for any other character.
 fn digit_value(c: char) -> u32
     ensures { result ≡ digit_value c }
 {
     c.to_digit(36).unwrap_or(36)
 }
 
-/// Reads all digits of the set that stand here, with the gap behind each, and gives their number;
-/// one that is too large becomes `TOO_LARGE`.
+/// Reads all digits of the set that stand here, with the gap after each. Returns their number, or
+/// `TOO_LARGE` if it is too large.
 pub(crate) fn number(cursor: &mut Cursor<'_>, flags: Flags, set: Characters, base: u32) -> u64
     requires some { 0 < base }
     requires few { base ≤ 36 }

@@ -28,7 +28,7 @@ fn is_greedy(flags: Flags, lazy: bool) -> bool
     if flags.swap_greed { lazy } else { !lazy }
 }
 
-/// Reads the mark behind an operator with these bounds.
+/// Reads the lazy mark after an operator with these bounds, if it has one.
 pub(crate) fn plain_operator(
     cursor: &mut Cursor<'_>,
     flags: Flags,
@@ -65,7 +65,7 @@ fn decimal(cursor: &mut Cursor<'_>, flags: Flags) -> Result<u32, Error>
     }
 }
 
-/// Reads the mark behind the closing brace.
+/// Reads the lazy mark after the closing brace, if there is one.
 fn whole_count(
     cursor: &mut Cursor<'_>,
     flags: Flags,
@@ -137,7 +137,7 @@ fn after_min(cursor: &mut Cursor<'_>, flags: Flags, min: u32) -> Result<Bounds, 
     }
 }
 
-/// Reads an operator in braces, from behind its opening brace and the gap there.
+/// Reads the rest of an operator in braces after its opening brace and the gap there.
 pub(crate) fn counted(cursor: &mut Cursor<'_>, flags: Flags) -> Result<Bounds, Error>
     ensures reads { WithSteps cursor.old
         (λ n. Answers bounds_of result cursor.new (counted n (flags_of flags) cursor.old)) }

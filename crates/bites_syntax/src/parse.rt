@@ -15,7 +15,7 @@ ghost use Rattle.bites_syntax.specs.Nodes.{AreNodes, IsNumbered, IsNodeOf};
 ghost use Rattle.bites_syntax.specs.Progress.{HasDepth, IsAt, IsChoice, IsForward, ReadsItem, ReadsItems, Steps, ends_items};
 ghost use Rattle.bites_syntax.specs.Operators.{bounds_of};
 ghost use Rattle.bites_syntax.specs.Parts.{IsErrorOf, WithSteps};
-ghost use Rattle.bites_syntax.specs.Openings.{IsPatternFront};
+ghost use Rattle.bites_syntax.specs.Openings.{IsStateOf};
 ghost use Rattle.bites_syntax.specs.FlagsView.{flags_of};
 ghost use Rattle.bites_spec.specs.Message.{Message};
 ghost use Rattle.bites_spec.specs.Built.{IsCompilable};
@@ -26,20 +26,20 @@ ghost use Rattle.bites_text.specs.Messages.{error_of};
 use crate::atom::{atom, literal};
 use crate::cursor::Cursor;
 pub use crate::flags::Flags;
-use crate::group::{Front, Opened, open_group};
+use crate::group::{Opened, ParserState, open_group};
 use crate::group_names::Names;
 pub use crate::groups::Groups;
-use crate::node::{Node, Numbered, choice_of, group_of, repetition_of, sequence_of};
+use crate::node::{Node, Numbered, alternation_of, group_of, repetition_of, sequence_of};
 use crate::operator::{Bounds, counted, plain_operator};
 use crate::tree::Tree;
 use bites_text::error::Error;
 use std::alloc::{AllocError, Global};
 use std::mem;
 
-/// What is read of a choice: its whole branches, and the nodes of the sequence behind them.
+/// The branches of a choice: those that are complete, and the nodes of the one that is being read.
 #[derive(Drop)]
-struct Rows {
-    branches: Vec<Node>,
+struct Branches {
+    complete: Vec<Node>,
     nodes: Vec<Node>,
 }
 
@@ -52,7 +52,7 @@ struct OpenGroup {
     numbered: Option<Numbered>,
 }
 
-/// What was read in one step.
+/// What one step reads.
 #[derive(Drop)]
 enum Step {
     /// A whole item, or a bar.
@@ -63,31 +63,34 @@ enum Step {
     End,
 }
 
-/// A pattern that is read.
+/// The cursor and the state of a pattern that is being read.
 #[derive(Drop)]
 struct Parser<'a> {
+    alloc: Global,
+    /// How many groups may be open at once, and how tall a tree may be.
+    limit: u32,
     cursor: Cursor<'a>,
-    front: Front,
+    state: ParserState,
 }
 
-/// How many nodes there is room for before a branch behind a bar is read. Most branches have no more, so that
-/// their list never moves into more room.
+/// The number of nodes that each branch after a bar has room for from the start. Most branches have
+/// no more, so their list never moves into more room.
 const BRANCH_ROOM: usize = 8;
 
-impl Rows {
-    fn new(alloc: Global) -> Rows
-        ensures branches { result.branches.items ≡ [] }
+impl Branches {
+    fn new(alloc: Global) -> Branches
+        ensures complete { result.complete.items ≡ [] }
         ensures nodes { result.nodes.items ≡ [] }
     {
-        Rows {
-            branches: Vec::new(alloc),
+        Branches {
+            complete: Vec::new(alloc),
             nodes: Vec::new(alloc),
         }
     }
 
     /// Adds the node of a character that stands for itself.
     fn push_literal(&mut self, flags: Flags, c: char) -> Result<(), AllocError>
-        ensures branches { self.new.branches.items ≡ self.old.branches.items }
+        ensures complete { self.new.complete.items ≡ self.old.complete.items }
         ensures nodes { OnOk result ((limit : ℕ) → (ts : List spec.Tree) →
             AreNodes limit self.old.nodes.items ts →
             AreNodes limit self.new.nodes.items (ts ++ literal_of (flags_of flags) c ∷ [])) }
@@ -96,41 +99,41 @@ impl Rows {
         Ok(())
     }
 
-    /// Makes the nodes a branch before another one.
+    /// Ends a branch at a bar. Its nodes become a complete branch.
     fn end_branch(&mut self, alloc: Global, limit: u32) -> Result<(), AllocError>
-        ensures { (bs ts : List spec.Tree) → AreNodes limit self.old.branches.items bs →
+        ensures { (bs ts : List spec.Tree) → AreNodes limit self.old.complete.items bs →
             AreNodes limit self.old.nodes.items ts →
-            IfOk result (λ _. AreNodes limit self.new.branches.items (bs ++ sequence_of ts ∷ [])
+            IfOk result (λ _. AreNodes limit self.new.complete.items (bs ++ sequence_of ts ∷ [])
             × (self.new.nodes.items ≡ [])) }
     {
         let next = Vec::with_capacity(alloc, BRANCH_ROOM)?;
         let nodes = mem::replace(&mut self.nodes, next);
         let branch = sequence_of(alloc, nodes, limit)?;
-        self.branches.push(branch)?;
+        self.complete.push(branch)?;
         Ok(())
     }
 
-    /// The choice between the branches. The nodes are the last one.
-    fn into_choice(self, alloc: Global, limit: u32) -> Result<Node, AllocError>
-        ensures { (bs ts : List spec.Tree) → AreNodes limit self.branches.items bs →
+    /// Returns the choice between the branches. The nodes are the last one.
+    fn into_alternation(self, alloc: Global, limit: u32) -> Result<Node, AllocError>
+        ensures { (bs ts : List spec.Tree) → AreNodes limit self.complete.items bs →
             AreNodes limit self.nodes.items ts →
             IfOk result (λ node. IsNodeOf limit node (choice_of (bs ++ sequence_of ts ∷ []))) }
     {
-        let Rows {
-            mut branches,
+        let Branches {
+            mut complete,
             nodes,
         } = self;
         let last = sequence_of(alloc, nodes, limit)?;
-        if branches.is_empty() {
+        if complete.is_empty() {
             return Ok(last);
         }
-        branches.push(last)?;
-        choice_of(alloc, branches, limit)
+        complete.push(last)?;
+        alternation_of(alloc, complete, limit)
     }
 
     /// Repeats the last node.
     fn repeat(&mut self, alloc: Global, limit: u32, bounds: Bounds) -> Result<(), AllocError>
-        ensures branches { self.new.branches.items ≡ self.old.branches.items }
+        ensures complete { self.new.complete.items ≡ self.old.complete.items }
         ensures nodes { (t : spec.Tree) → (ts : List spec.Tree) →
             AreNodes limit self.old.nodes.items (t ∷ ts) →
             IfOk result
@@ -144,30 +147,31 @@ impl Rows {
     }
 }
 
-/// The node of a group whose choice is read.
+/// Adds the node of a group whose choice is read, and returns the flags after the group.
 fn close_group(
     alloc: Global,
-    rows: &mut Rows,
+    branches: &mut Branches,
     group: OpenGroup,
     choice: Node,
     limit: u32,
 ) -> Result<Flags, AllocError>
-    ensures branches { rows.new.branches.items ≡ rows.old.branches.items }
+    ensures complete { branches.new.complete.items ≡ branches.old.complete.items }
     ensures flags { IfOk result (λ flags. flags ≡ group.flags) }
-    ensures nodes { (opening : Opening) → (before : ℕ) → (branches nodes : List spec.Tree) →
-        IsNumbered group.numbered opening before → IsNodeOf limit choice (choice_of branches) →
-        AreNodes limit rows.old.nodes.items nodes →
+    ensures nodes { (opening : Opening) → (before : ℕ) → (bs ts : List spec.Tree) →
+        IsNumbered group.numbered opening before → IsNodeOf limit choice (choice_of bs) →
+        AreNodes limit branches.old.nodes.items ts →
         IfOk result
         (λ _.
-        AreNodes limit rows.new.nodes.items
-        (nodes ++ group_of opening before branches ∷ [])) }
+        AreNodes limit branches.new.nodes.items
+        (ts ++ group_of opening before bs ∷ [])) }
 {
     let node = group_of(alloc, group.numbered, choice, limit)?;
-    rows.nodes.push(node)?;
+    branches.nodes.push(node)?;
     Ok(group.flags)
 }
 
-/// Whether an item that is more than one character, or stands for another, begins with the character.
+/// Returns whether an item that is more than one character, or stands for another, begins with the
+/// character.
 fn begins_atom(c: char) -> bool
     ensures { result ≡ begins_atom c }
 {
@@ -176,9 +180,10 @@ fn begins_atom(c: char) -> bool
 
 /// Opens a group, unless too many are open.
 fn enter(depth: u32, limit: u32, group: OpenGroup) -> Result<Step, Error>
-    ensures { MatchResult result
+    ensures enters { MatchResult result
         (λ step. (step ≡ Step.Group group) × (depth < limit))
         (λ e. (e ≡ Error.TooMuchNesting) × (limit ≤ depth)) }
+    ensures room { HasDepth limit depth result }
 {
     if depth < limit {
         Ok(Step::Group(group))
@@ -188,71 +193,65 @@ fn enter(depth: u32, limit: u32, group: OpenGroup) -> Result<Step, Error>
 }
 
 impl Parser<'_> {
-    /// Reads what stands behind `?`, `*` or `+`, with these bounds, and repeats the last node.
-    fn repeat(
-        &mut self,
-        alloc: Global,
-        limit: u32,
-        rows: &mut Rows,
-        min: u32,
-        max: Option<u32>,
-    ) -> Result<(), Error>
+    /// Reads the lazy mark after `?`, `*` or `+`, if there is one, and repeats the last node with
+    /// these bounds.
+    fn repeat(&mut self, branches: &mut Branches, min: u32, max: Option<u32>) -> Result<(), Error>
         ensures reads { (g : pattern.Front) → (bs ts : List spec.Tree) →
-            IsAt limit self.old rows.old g bs ts →
+            IsAt self.old.limit self.old branches.old g bs ts →
             (depth n : ℕ) → (at : Text) →
-            ReadsItem limit depth n result self.new rows.new
-            (at_operator ranges_of limit (inner ranges_of limit n) depth g bs ts
+            ReadsItem self.old.limit depth n result self.new branches.new
+            (at_operator ranges_of self.old.limit (inner ranges_of self.old.limit n) depth g bs ts
             message.nothing_to_repeat at
             (plain_operator g.flags min max (lazy self.old.cursor))) }
         ensures forward { length self.new.cursor ≤ length self.old.cursor }
     {
-        if rows.nodes.is_empty() {
+        if branches.nodes.is_empty() {
             return Err(Error::NothingToRepeat);
         }
-        let bounds = plain_operator(&mut self.cursor, self.front.flags, min, max);
-        rows.repeat(alloc, limit, bounds)?;
+        let bounds = plain_operator(&mut self.cursor, self.state.flags, min, max);
+        branches.repeat(self.alloc, self.limit, bounds)?;
         Ok(())
     }
 
-    /// Reads an operator in braces from behind its brace, and repeats the last node.
-    fn repeat_counted(&mut self, alloc: Global, limit: u32, rows: &mut Rows) -> Result<(), Error>
+    /// Reads the rest of an operator in braces after its brace, and repeats the last node.
+    fn repeat_counted(&mut self, branches: &mut Branches) -> Result<(), Error>
         ensures reads { (g : pattern.Front) → (bs ts : List spec.Tree) →
-            IsAt limit self.old rows.old g bs ts →
+            IsAt self.old.limit self.old branches.old g bs ts →
             (depth : ℕ) → (at : Text) →
             WithSteps self.old.cursor
             (λ n.
-            ReadsItem limit depth n result self.new rows.new
-            (at_operator ranges_of limit (inner ranges_of limit n) depth g bs ts
+            ReadsItem self.old.limit depth n result self.new branches.new
+            (at_operator ranges_of self.old.limit (inner ranges_of self.old.limit n) depth g bs ts
             message.nothing_to_count at
             (counted n g.flags (skip g.flags self.old.cursor)))) }
         ensures forward { length self.new.cursor ≤ length self.old.cursor }
     {
-        if rows.nodes.is_empty() {
+        if branches.nodes.is_empty() {
             return Err(Error::NothingToCount);
         }
-        self.cursor.skip(self.front.flags);
-        let bounds = counted(&mut self.cursor, self.front.flags)?;
-        rows.repeat(alloc, limit, bounds)?;
+        self.cursor.skip(self.state.flags);
+        let bounds = counted(&mut self.cursor, self.state.flags)?;
+        branches.repeat(self.alloc, self.limit, bounds)?;
         Ok(())
     }
 
-    /// Reads what opens a group or is a directive, from behind its parenthesis.
-    fn open(&mut self, alloc: Global, limit: u32, depth: u32) -> Result<Step, Error>
-        ensures steps { (rows : Rows) → (g : pattern.Front) → (bs ts : List spec.Tree) →
-            IsAt limit self.old rows g bs ts → (n : ℕ) →
-            Steps limit depth n g bs ts result self.new rows
+    /// Reads what opens a group or is a directive, after its parenthesis.
+    fn open(&mut self, depth: u32) -> Result<Step, Error>
+        ensures steps { (parsed : Branches) → (g : pattern.Front) → (bs ts : List spec.Tree) →
+            IsAt self.old.limit self.old parsed g bs ts → (n : ℕ) →
+            Steps self.old.limit depth n g bs ts result self.new parsed
             (and_then (opened g (skip g.flags self.old.cursor))
-            (at_opened ranges_of limit (inner ranges_of limit n) depth g bs ts)) }
-        ensures room { HasDepth limit depth result }
+            (at_opened ranges_of self.old.limit (inner ranges_of self.old.limit n) depth g bs ts)) }
+        ensures room { HasDepth self.old.limit depth result }
         ensures forward { length self.new.cursor ≤ length self.old.cursor }
     {
-        let flags = self.front.flags;
+        let flags = self.state.flags;
         self.cursor.skip(flags);
-        match open_group(alloc, &mut self.cursor, &mut self.front)? {
+        match open_group(self.alloc, &mut self.cursor, &mut self.state)? {
             Opened::Directive => Ok(Step::Item),
             Opened::Unnumbered => enter(
                 depth,
-                limit,
+                self.limit,
                 OpenGroup {
                     flags,
                     numbered: None,
@@ -260,12 +259,12 @@ impl Parser<'_> {
             ),
             Opened::Numbered(name) => {
                 let numbered = Numbered {
-                    index: self.front.groups,
+                    index: self.state.groups,
                     name,
                 };
                 enter(
                     depth,
-                    limit,
+                    self.limit,
                     OpenGroup {
                         flags,
                         numbered: Some(numbered),
@@ -275,50 +274,50 @@ impl Parser<'_> {
         }
     }
 
-    /// Reads an item or a bar from behind its first character, which is no parenthesis.
-    fn item(&mut self, alloc: Global, limit: u32, rows: &mut Rows, c: char) -> Result<(), Error>
+    /// Reads the rest of an item or a bar after its first character, which is not a parenthesis.
+    fn item(&mut self, branches: &mut Branches, c: char) -> Result<(), Error>
         requires closing { c ≢ right_parenthesis }
         requires opening { c ≢ left_parenthesis }
         ensures reads { (g : pattern.Front) → (bs ts : List spec.Tree) →
-            IsAt limit self.old rows.old g bs ts → (depth : ℕ) →
+            IsAt self.old.limit self.old branches.old g bs ts → (depth : ℕ) →
             WithSteps self.old.cursor
             (λ n.
-            ReadsItem limit depth n result self.new rows.new
-            (at_item ranges_of limit (inner ranges_of limit n) n depth g bs ts
+            ReadsItem self.old.limit depth n result self.new branches.new
+            (at_item ranges_of self.old.limit (inner ranges_of self.old.limit n) n depth g bs ts
             (c ∷ self.old.cursor))) }
         ensures forward { length self.new.cursor ≤ length self.old.cursor }
     {
         match c {
             '|' => {
-                rows.end_branch(alloc, limit)?;
+                branches.end_branch(self.alloc, self.limit)?;
                 Ok(())
             }
-            '?' => self.repeat(alloc, limit, rows, 0, Some(1)),
-            '*' => self.repeat(alloc, limit, rows, 0, None),
-            '+' => self.repeat(alloc, limit, rows, 1, None),
-            '{' => self.repeat_counted(alloc, limit, rows),
+            '?' => self.repeat(branches, 0, Some(1)),
+            '*' => self.repeat(branches, 0, None),
+            '+' => self.repeat(branches, 1, None),
+            '{' => self.repeat_counted(branches),
             _ => {
                 if begins_atom(c) {
-                    return self.push_atom(alloc, rows, c);
+                    return self.push_atom(branches, c);
                 }
-                rows.push_literal(self.front.flags, c)?;
+                branches.push_literal(self.state.flags, c)?;
                 Ok(())
             }
         }
     }
 
-    /// Reads an item that is a node, from behind its first character.
-    fn push_atom(&mut self, alloc: Global, rows: &mut Rows, c: char) -> Result<(), Error>
+    /// Reads the rest of an item that is a node after its first character.
+    fn push_atom(&mut self, branches: &mut Branches, c: char) -> Result<(), Error>
         ensures reads { (limit : ℕ) → (g : pattern.Front) → (bs ts : List spec.Tree) →
-            IsAt limit self.old rows.old g bs ts → (depth : ℕ) →
+            IsAt limit self.old branches.old g bs ts → (depth : ℕ) →
             WithSteps self.old.cursor
-            (λ n. ReadsItem limit depth n result self.new rows.new
+            (λ n. ReadsItem limit depth n result self.new branches.new
             (and_then (atom n g.flags c self.old.cursor)
             (λ node rest. inner ranges_of limit n depth g bs (ts ++ node ∷ []) rest))) }
         ensures forward { length self.new.cursor ≤ length self.old.cursor }
     {
-        let tree = atom(alloc, &mut self.cursor, self.front.flags, c)?;
-        rows.nodes.push(Node::leaf(tree))?;
+        let tree = atom(self.alloc, &mut self.cursor, self.state.flags, c)?;
+        branches.nodes.push(Node::leaf(tree))?;
         Ok(())
     }
 }
@@ -326,36 +325,37 @@ impl Parser<'_> {
 impl Parser<'_> {
     /// Reads the items and bars that stand here, with the gaps between them, up to a parenthesis or to the end of the
     /// pattern.
-    fn items(&mut self, alloc: Global, limit: u32, rows: &mut Rows) -> Result<(), Error>
-        ensures reads { (g : pattern.Front) → (bs ts : List spec.Tree) →
-            IsAt limit self.old rows.old g bs ts → (depth : ℕ) →
+    fn items(&mut self, branches: &mut Branches) -> Result<(), Error>
+        ensures reads { (limit : ℕ) → (g : pattern.Front) → (bs ts : List spec.Tree) →
+            IsAt limit self.old branches.old g bs ts → (depth : ℕ) →
             WithSteps self.old.cursor
             (λ n.
-            ReadsItems limit depth result self.new rows.new
+            ReadsItems limit depth result self.new branches.new
             (inner ranges_of limit (suc n) depth g bs ts self.old.cursor)) }
         ensures ends { OnOk result (ends_items self.new.cursor ≡ true) }
         ensures forward { length self.new.cursor ≤ length self.old.cursor }
     {
-        self.cursor.skip(self.front.flags);
+        self.cursor.skip(self.state.flags);
         while let Some(c) = self.cursor.peek() {
             if c == '(' || c == ')' {
                 break;
             }
             self.cursor.bump();
-            self.item(alloc, limit, rows, c)?;
-            self.cursor.skip(self.front.flags);
+            self.item(branches, c)?;
+            self.cursor.skip(self.state.flags);
         }
         Ok(())
     }
 
-    /// Reads what stands behind the items: what opens a group or is a directive, or nothing where the choice ends.
-    fn step(&mut self, alloc: Global, limit: u32, depth: u32) -> Result<Step, Error>
+    /// Reads what stands after the items: what opens a group or is a directive, or nothing where
+    /// the choice ends.
+    fn step(&mut self, depth: u32) -> Result<Step, Error>
         requires { ends_items self.old.cursor ≡ true }
-        ensures steps { (rows : Rows) → (g : pattern.Front) → (bs ts : List spec.Tree) →
-            IsAt limit self.old rows g bs ts → (n : ℕ) →
-            Steps limit depth n g bs ts result self.new rows
+        ensures steps { (limit : ℕ) → (parsed : Branches) → (g : pattern.Front) → (bs ts : List spec.Tree) →
+            IsAt limit self.old parsed g bs ts → (n : ℕ) →
+            Steps limit depth n g bs ts result self.new parsed
             (at_item ranges_of limit (inner ranges_of limit n) n depth g bs ts self.old.cursor) }
-        ensures forward { IsForward limit depth result self.old.cursor self.new.cursor }
+        ensures forward { IsForward self.old.limit depth result self.old.cursor self.new.cursor }
     {
         let Some(c) = self.cursor.peek() else {
             if depth > 0 {
@@ -365,7 +365,7 @@ impl Parser<'_> {
         };
         if c == '(' {
             self.cursor.bump();
-            return self.open(alloc, limit, depth);
+            return self.open(depth);
         }
         if depth == 0 {
             return Err(Error::UnopenedGroup);
@@ -376,38 +376,47 @@ impl Parser<'_> {
 
 impl Parser<'_> {
     /// Reads a choice, up to what closes the group that it stands in, or to the end. It calls
-    /// itself once for each open group, at most `limit` deep.
-    fn choice(&mut self, alloc: Global, limit: u32, depth: u32) -> Result<Node, Error>
-        ensures reads { (g : pattern.Front) → IsPatternFront self.old.front g →
+    /// itself once for each open group, at most `self.limit` deep.
+    fn choice(&mut self, depth: u32) -> Result<Node, Error>
+        ensures reads { (limit : ℕ) → self.old.limit ≡ limit → (g : pattern.Front) →
+            IsStateOf self.old.state g →
             WithSteps self.old.cursor
             (λ n.
             IsChoice limit result self.new
             (inner ranges_of limit (suc n) depth g [] [] self.old.cursor)) }
         ensures forward { length self.new.cursor ≤ length self.old.cursor }
     {
-        let mut rows = Rows::new(alloc);
+        let mut branches = Branches::new(self.alloc);
         loop {
-            self.items(alloc, limit, &mut rows)?;
-            match self.step(alloc, limit, depth)? {
+            self.items(&mut branches)?;
+            match self.step(depth)? {
                 Step::Item => {}
                 Step::Group(group) => {
-                    let choice = self.choice(alloc, limit, depth + 1)?;
-                    self.front.flags = close_group(alloc, &mut rows, group, choice, limit)?;
+                    let choice = self.choice(depth + 1)?;
+                    self.state.flags = close_group(
+                        self.alloc,
+                        &mut branches,
+                        group,
+                        choice,
+                        self.limit,
+                    )?;
                     self.cursor.bump();
                 }
-                Step::End => return Ok(rows.into_choice(alloc, limit)?),
+                Step::End => return Ok(branches.into_alternation(self.alloc, self.limit)?),
             }
         }
     }
 }
 
-/// Reads a pattern as the tree that the grammar gives it under the flags.
+/// Returns the tree that the grammar gives a pattern under the flags.
 ///
-/// It answers a tree exactly if the grammar reads the pattern within the limits: at most `nest_limit` groups open at
-/// once, a tree no taller than `nest_limit` and of a height below 4294967295, and counts and group numbers of at most
-/// 4294967295. Else the error is the message of the pattern's first fault, or out of memory. It takes time linear in
-/// the pattern, but for the sorting of classes, and its recursion goes only into groups, so as deep as `nest_limit`; no
-/// taller tree is held meanwhile.
+/// There is a tree exactly if the grammar reads the pattern within the limits: at most `nest_limit`
+/// groups open at once, a tree no taller than `nest_limit` and of a height below 4294967295, and
+/// counts and group numbers of at most 4294967295. Otherwise the error is the message of the
+/// pattern's first fault. Any call may fail with out of memory instead.
+///
+/// The time is linear in the pattern, except for the sorting of classes. The recursion goes only
+/// into groups, so it is at most `nest_limit` deep. No taller tree is held meanwhile.
 pub fn parse(alloc: Global, pattern: &str, flags: Flags, nest_limit: u32) -> Result<Tree, Error>
     ensures read { IfOk result (λ t. Limits (chars pattern.now) (flags_of flags) nest_limit t) }
     ensures compilable { IfOk result (λ t. IsCompilable t) }
@@ -420,7 +429,7 @@ pub fn parse(alloc: Global, pattern: &str, flags: Flags, nest_limit: u32) -> Res
     Ok(parse_with_groups(alloc, pattern, flags, nest_limit)?.0)
 }
 
-/// Reads a pattern as [`parse`] does, and answers with its tree all groups that it opens, also those that the tree
+/// Like [`parse`], but also returns all groups that the pattern opens, even those that the tree
 /// drops.
 pub fn parse_with_groups(
     alloc: Global,
@@ -443,8 +452,8 @@ pub fn parse_with_groups(
     read_pattern(alloc, pattern, flags, nest_limit)
 }
 
-// The tree that the grammar's function on lists answers, with the groups that were opened; or the error of its stop, or
-// of a tree that is too tall.
+// Returns the tree that the grammar's function on lists returns, with the groups that were opened.
+// The error is that of its stop, or of a tree that is too tall.
 fn read_pattern(
     alloc: Global,
     pattern: &str,
@@ -464,16 +473,21 @@ fn read_pattern(
         × (read ranges_of nest_limit (chars pattern.now) (flags_of flags) ≡ Ok t)
         × IsTooTall nest_limit t))) }
 {
-    let front = Front {
+    let state = ParserState {
         flags,
         groups: 0,
         names: Names::new(alloc),
         opened: Groups::new(alloc),
     };
     let cursor = Cursor::new(pattern);
-    let mut parser = Parser { cursor, front };
-    match parser.choice(alloc, nest_limit, 0)? {
-        Node::Kept { tree, .. } => Ok((tree, parser.front.opened)),
+    let mut parser = Parser {
+        alloc,
+        limit: nest_limit,
+        cursor,
+        state,
+    };
+    match parser.choice(0)? {
+        Node::Kept { tree, .. } => Ok((tree, parser.state.opened)),
         Node::TooTall => Err(Error::TooMuchNesting),
     }
 }

@@ -14,14 +14,14 @@ use std::marker::Model;
 pub enum Constant {
     /// The characters of a named class.
     Named(NamedClass),
-    /// All but those of a named class.
+    /// All except those of a named class.
     Others(NamedClass),
-    /// All but a line feed and a carriage return.
+    /// All except a line feed and a carriage return.
     NoLineEnd,
 }
 
 impl Constant {
-    /// The canonical ranges of the set.
+    /// Returns the canonical ranges of the set.
     fn ranges(self) -> &'static [(char, char)]
         ensures { Lists result.now (constant_set self) }
     {
@@ -33,10 +33,10 @@ impl Constant {
     }
 }
 
-/// Ranges of characters, whose ends belong to them. A contract sees their list.
+/// Ranges of characters, including their ends. A contract sees their list.
 ///
-/// One or two ranges are kept in place, and a constant by its name. Only a longer list that a pattern spells out takes
-/// memory.
+/// One or two ranges are stored in place, and a constant by its name. Only a longer list that a
+/// pattern spells out takes memory.
 #[derive(Drop)]
 pub struct RangeList {
     kept: Kept,
@@ -63,7 +63,7 @@ impl Model for RangeList {
 impl RangeList {
     ghost use Rattle.bites_syntax.specs.Ranges.{kept_ranges};
 
-    /// The list of one range. It takes no memory.
+    /// Returns the list of one range. It takes no memory.
     pub fn one(range: (char, char)) -> RangeList
         ensures { result ≡ range ∷ [] }
     {
@@ -72,7 +72,7 @@ impl RangeList {
         }
     }
 
-    /// The list of two ranges. It takes no memory.
+    /// Returns the list of two ranges. It takes no memory.
     pub fn two(first: (char, char), second: (char, char)) -> RangeList
         ensures { result ≡ first ∷ second ∷ [] }
     {
@@ -81,7 +81,7 @@ impl RangeList {
         }
     }
 
-    /// The ranges of a constant set. It takes no memory.
+    /// Returns the ranges of a constant set. It takes no memory.
     pub fn constant(set: Constant) -> RangeList
         ensures { result ≡ ranges_of (constant_set set) }
     {
@@ -90,7 +90,7 @@ impl RangeList {
         }
     }
 
-    /// The ranges as a slice.
+    /// Returns the ranges as a slice.
     pub fn as_slice(&self) -> &[(char, char)]
         ensures { result.now ≡ self.now }
     {
@@ -102,7 +102,20 @@ impl RangeList {
         }
     }
 
-    /// The same ranges. It takes memory only if this list does.
+    /// Returns a copy of the ranges, if it takes no memory.
+    pub fn copy_in_place(&self) -> Option<RangeList>
+        ensures { IfSome result (λ copy. copy ≡ self.now) }
+    {
+        let kept = match &self.kept {
+            Kept::One(ranges) => Kept::One(*ranges),
+            Kept::Two(ranges) => Kept::Two(*ranges),
+            Kept::Constant(set) => Kept::Constant(*set),
+            Kept::Many(_) => return None,
+        };
+        Some(RangeList { kept })
+    }
+
+    /// Returns a copy of the ranges. It takes memory only if this list does.
     pub fn copy(&self, alloc: Global) -> Result<RangeList, AllocError>
         ensures { IfOk result (λ copy. copy ≡ self.now) }
     {
@@ -116,7 +129,7 @@ impl RangeList {
     }
 }
 
-/// These ranges, if they are kept in place.
+/// Returns the list of these ranges, if they can be stored in place.
 fn in_place(ranges: &[(char, char)]) -> Option<RangeList>
     ensures { IfSome result (λ list. list ≡ ranges.now) }
 {
@@ -130,7 +143,7 @@ fn in_place(ranges: &[(char, char)]) -> Option<RangeList>
 impl From<Vec<(char, char)>> for RangeList {
     ghost from_gives = { λ list ranges. ranges ≡ list.items };
 
-    /// The ranges of this list. It takes no memory.
+    /// Returns the ranges of this list. It takes no memory.
     fn from(list: Vec<(char, char)>) -> RangeList {
         match in_place(&list) {
             Some(ranges) => ranges,

@@ -12,7 +12,7 @@ pub use crate::name::Name;
 use std::alloc::{AllocError, Global};
 use std::marker::Model;
 
-/// The tree of a pattern. A contract sees what it stands for.
+/// The tree of a pattern. A contract sees it as a tree of the definitions.
 #[cycle(tree)]
 #[derive(Drop)]
 pub struct Tree {
@@ -45,7 +45,7 @@ pub enum Kind {
         name: Option<Name>,
         sub: Box<Tree>,
     },
-    /// Trees one behind another.
+    /// Trees one after another.
     Concat(Vec<Tree>),
     /// A choice between trees, earlier ones preferred.
     Alternation(Vec<Tree>),
@@ -72,21 +72,21 @@ impl Model for Tree {
 }
 
 impl Tree {
-    /// What the tree is, with its parts.
+    /// Returns what the tree is, with its parts.
     pub fn kind(&self) -> &Kind
         ensures { tree_of result.now ≡ self.now }
     {
         &self.kind
     }
 
-    /// The tree of the empty text.
+    /// Returns the tree of the empty text.
     pub fn empty() -> Tree
         ensures { result ≡ spec.empty }
     {
         Tree { kind: Kind::Empty }
     }
 
-    /// The tree of a character.
+    /// Returns the tree of a character.
     pub fn char(c: char) -> Tree
         ensures { result ≡ spec.char c }
     {
@@ -95,7 +95,7 @@ impl Tree {
         }
     }
 
-    /// The tree of a character of the class.
+    /// Returns the tree of a character of the class.
     pub fn class(class: Class) -> Tree
         ensures { result ≡ spec.class class }
     {
@@ -104,7 +104,7 @@ impl Tree {
         }
     }
 
-    /// The tree of an assertion.
+    /// Returns the tree of an assertion.
     pub fn look(look: Look) -> Tree
         ensures { result ≡ spec.look (look_of look) }
     {
@@ -127,7 +127,7 @@ impl Tree {
         }
     }
 
-    /// The group with this number around `sub`.
+    /// Returns the group with this number around `sub`.
     pub fn capture(index: u32, name: Option<Name>, sub: Box<Tree>) -> Tree
         ensures { result ≡ spec.group index name sub.value }
     {
@@ -136,7 +136,7 @@ impl Tree {
         }
     }
 
-    /// The parts one behind another.
+    /// Returns the parts one after another.
     pub fn concat(parts: Vec<Tree>) -> Tree
         ensures { result ≡ spec.sequence (trees_of parts.items) }
     {
@@ -145,7 +145,7 @@ impl Tree {
         }
     }
 
-    /// A choice between the parts, earlier ones preferred.
+    /// Returns a choice between the parts, earlier ones preferred.
     pub fn alternation(parts: Vec<Tree>) -> Tree
         ensures { result ≡ spec.alternation (trees_of parts.items) }
     {
@@ -176,7 +176,7 @@ pub fn escape(alloc: Global, text: &str) -> Result<String, AllocError>
     Ok(pattern)
 }
 
-/// Whether the character may have a meaning in a pattern.
+/// Returns whether the character may have a meaning in a pattern.
 fn is_marked(c: char) -> bool
     ensures { result ≡ is_marked c }
 {

@@ -1,8 +1,8 @@
 //! Searches from one place, and matches of the whole haystack.
 
 use bites_bytes::bytes;
-use regex_bites::{Error, Regex};
-use std::alloc::{AllocError, Global};
+use regex_bites::{Captures, Error, Regex};
+use std::alloc::Global;
 
 /// A pattern, a haystack and a start; the ends of the first match that begins there, and of the longest.
 type Row = (
@@ -13,7 +13,7 @@ type Row = (
     Option<(usize, usize)>,
 );
 
-const ROWS: [Row; 16] = [
+const ROWS: &[Row] = &[
     ("[a-z]+", "ab 1cd", 0, Some((0, 2)), Some((0, 2))),
     ("[a-z]+", "ab 1cd", 1, Some((1, 2)), Some((1, 2))),
     ("[a-z]+", "ab 1cd", 3, None, None),
@@ -47,19 +47,18 @@ fn in_bytes(
 }
 
 #[test]
-fn matches_from_one_place(rt: HostRuntime) -> Result<(), Error> {
-    for row in &ROWS {
+fn matches_from_one_place(rt: HostRuntime) {
+    for row in ROWS {
         let (.., first, longest) = *row;
-        let told = in_bytes(rt.alloc(), false, row)?;
-        assert_eq!(rt; told, (first.is_some(), first));
-        let told = in_bytes(rt.alloc(), true, row)?;
-        assert_eq!(rt; told, (longest.is_some(), longest));
+        let told = in_bytes(rt.alloc(), false, row);
+        assert_eq!(rt; told, Ok((first.is_some(), first)));
+        let told = in_bytes(rt.alloc(), true, row);
+        assert_eq!(rt; told, Ok((longest.is_some(), longest)));
     }
-    Ok(())
 }
 
 /// A pattern, a haystack, and whether the pattern matches the whole of it.
-const WHOLE: [(&str, &str, bool); 10] = [
+const WHOLE: &[(&str, &str, bool)] = &[
     ("a|ab", "ab", true),
     ("a", "ab", false),
     ("b", "ab", false),
@@ -72,36 +71,38 @@ const WHOLE: [(&str, &str, bool); 10] = [
     ("(a|b)*?c?", "abx", false),
 ];
 
-fn are_full(alloc: Global, pattern: &str, haystack: &str) -> Result<(bool, bool), Error> {
-    let over_bytes = bytes::Regex::new(alloc, pattern)?;
+fn is_full_in_bytes(alloc: Global, pattern: &str, haystack: &str) -> Result<bool, Error> {
+    let regex = bytes::Regex::new(alloc, pattern)?;
+    Ok(regex.is_full_match(haystack.as_bytes())?)
+}
+
+fn is_full(alloc: Global, pattern: &str, haystack: &str) -> Result<bool, Error> {
     let regex = Regex::new(alloc, pattern)?;
-    Ok((
-        over_bytes.is_full_match(haystack.as_bytes())?,
-        regex.is_full_match(haystack)?,
-    ))
+    Ok(regex.is_full_match(haystack)?)
 }
 
 #[test]
-fn matches_of_the_whole_haystack(rt: HostRuntime) -> Result<(), Error> {
-    for (pattern, haystack, full) in &WHOLE {
-        assert_eq!(rt; are_full(rt.alloc(), pattern, haystack)?, (*full, *full));
+fn matches_of_the_whole_haystack(rt: HostRuntime) {
+    for (pattern, haystack, full) in WHOLE {
+        assert_eq!(rt; is_full_in_bytes(rt.alloc(), pattern, haystack), Ok(*full));
+        assert_eq!(rt; is_full(rt.alloc(), pattern, haystack), Ok(*full));
     }
-    Ok(())
 }
 
 /// The ends of groups 0, 1 and 2.
 type Groups = [Option<(usize, usize)>; 3];
 
+fn span(captures: &Captures<'_>, group: usize) -> Option<(usize, usize)> {
+    let found = captures.get(group)?;
+    Some((found.start(), found.end()))
+}
+
 fn full_groups(alloc: Global, pattern: &str, haystack: &str) -> Result<Option<Groups>, Error> {
     let regex = Regex::new(alloc, pattern)?;
-    let Some(captures) = regex.captures_full(haystack)? else {
-        return Ok(None);
-    };
-    Ok(Some([0, 1, 2].map(|group| {
-        captures
-            .get(group)
-            .map(|found| (found.start(), found.end()))
-    })))
+    match regex.captures_full(haystack)? {
+        Some(found) => Ok(Some([span(&found, 0), span(&found, 1), span(&found, 2)])),
+        None => Ok(None),
+    }
 }
 
 #[test]
@@ -113,27 +114,49 @@ fn groups_of_the_whole_haystack(rt: HostRuntime) -> Result<(), Error> {
     Ok(())
 }
 
-fn groups_from(regex: &bytes::Regex, haystack: &[u8]) -> Result<Option<Groups>, AllocError> {
-    let Some(captures) = regex.captures_anchored_at(haystack, 0)? else {
-        return Ok(None);
-    };
-    Ok(Some([0, 1, 2].map(|group| {
-        captures
-            .get(group)
-            .map(|found| (found.start(), found.end()))
-    })))
+fn span_in_bytes(captures: &bytes::Captures<'_>, group: usize) -> Option<(usize, usize)> {
+    let found = captures.get(group)?;
+    Some((found.start(), found.end()))
+}
+
+fn groups_from(alloc: Global, pattern: &str, haystack: &str) -> Result<Option<Groups>, Error> {
+    let regex = bytes::Regex::new(alloc, pattern)?;
+    match regex.captures_anchored_at(haystack.as_bytes(), 0)? {
+        Some(found) => Ok(Some([
+            span_in_bytes(&found, 0),
+            span_in_bytes(&found, 1),
+            span_in_bytes(&found, 2),
+        ])),
+        None => Ok(None),
+    }
 }
 
 #[test]
 fn groups_from_one_place(rt: HostRuntime) -> Result<(), Error> {
-    let regex = bytes::Regex::new(rt.alloc(), "([a-z]+)(=?)")?;
-    let groups = groups_from(&regex, b"x=1")?;
+    let groups = groups_from(rt.alloc(), "([a-z]+)(=?)", "x=1")?;
     assert_eq!(rt; groups, Some([Some((0, 2)), Some((0, 1)), Some((1, 2))]));
-    assert_eq!(rt; groups_from(&regex, b" x=1")?, None);
+    let groups = groups_from(rt.alloc(), "([a-z]+)(=?)", " x=1")?;
+    assert_eq!(rt; groups, None);
+    Ok(())
+}
+
+// The second group of a match that begins at 0, read into locations.
+fn second_group_read(
+    alloc: Global,
+    pattern: &str,
+    haystack: &[u8],
+) -> Result<Option<(usize, usize)>, Error> {
+    let regex = bytes::Regex::new(alloc, pattern)?;
     let mut cache = regex.cache()?;
     let mut locations = regex.capture_locations()?;
-    let found = regex.captures_read_anchored_at_with(&mut cache, &mut locations, b"xy=1", 0);
-    assert!(rt; found.is_some());
-    assert_eq!(rt; locations.get(2), Some((2, 3)));
-    Ok(())
+    match regex.captures_read_anchored_at_with(&mut cache, &mut locations, haystack, 0) {
+        Some(_) => Ok(locations.get(2)),
+        None => Ok(None),
+    }
+}
+
+#[test]
+fn locations_from_one_place(rt: HostRuntime) {
+    let group = second_group_read(rt.alloc(), "([a-z]+)(=?)", b"xy=1");
+    assert_eq!(rt; group, Ok(Some((2, 3))));
 }

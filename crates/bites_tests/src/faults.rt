@@ -15,7 +15,7 @@ const NOT_READ: &str = "bites: cannot read standard input\n";
 const NOT_WRITTEN: &str = "bites: cannot write standard output\n";
 
 /// A line for each word, of which something is written over `banana`.
-const LINES: [&str; 5] = [
+const LINES: &[&str] = &[
     "is a",
     "find a",
     "captures (a)",
@@ -24,7 +24,7 @@ const LINES: [&str; 5] = [
 ];
 
 /// A line for each word, whose pattern is refused.
-const UNOPENED: [&str; 5] = [
+const UNOPENED: &[&str] = &[
     "is a)",
     "find a)",
     "captures a)",
@@ -163,7 +163,7 @@ fn words_that_are_refused(rt: HostRuntime) {
 
 #[test]
 fn patterns_come_before_reading(rt: HostRuntime) -> Result<(), AllocError> {
-    for line in &UNOPENED {
+    for line in UNOPENED {
         let mut out = Full::with_room(0);
         let (status, err) = told(rt.alloc(), line, &mut Broken { left: b"ban" }, &mut out)?;
         let left = (status, err.as_slice(), out.calls);
@@ -174,7 +174,7 @@ fn patterns_come_before_reading(rt: HostRuntime) -> Result<(), AllocError> {
 
 #[test]
 fn reading_comes_before_writing(rt: HostRuntime) -> Result<(), AllocError> {
-    for line in &LINES {
+    for line in LINES {
         let mut out = Full::with_room(0);
         let (status, err) = told(rt.alloc(), line, &mut Broken { left: b"ban" }, &mut out)?;
         let left = (status, err.as_slice(), out.calls);
@@ -185,7 +185,7 @@ fn reading_comes_before_writing(rt: HostRuntime) -> Result<(), AllocError> {
 
 #[test]
 fn writing(rt: HostRuntime) -> Result<(), AllocError> {
-    for line in &LINES {
+    for line in LINES {
         let mut input: &[u8] = b"banana";
         let (status, err) = told(rt.alloc(), line, &mut input, &mut Full::with_room(2))?;
         assert_eq!(rt;
@@ -199,7 +199,7 @@ fn writing(rt: HostRuntime) -> Result<(), AllocError> {
 
 #[test]
 fn writing_at_the_end(rt: HostRuntime) -> Result<(), AllocError> {
-    for line in &LINES {
+    for line in LINES {
         let mut input: &[u8] = b"banana";
         let (status, err) = told(rt.alloc(), line, &mut input, &mut Stuck)?;
         assert_eq!(rt;

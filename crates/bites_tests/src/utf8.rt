@@ -3,7 +3,7 @@
 use bites_text::utf8::{decode, decode_lossy, is_word_byte};
 
 /// The table of well-formed byte sequences, a range for each byte.
-const ROWS: [&[(u8, u8)]; 9] = [
+const ROWS: &[&[(u8, u8)]] = &[
     &[(0x00, 0x7F)],
     &[(0xC2, 0xDF), (0x80, 0xBF)],
     &[(0xE0, 0xE0), (0xA0, 0xBF), (0x80, 0xBF)],
@@ -16,7 +16,7 @@ const ROWS: [&[(u8, u8)]; 9] = [
 ];
 
 /// Each byte at an end of a range of the table, and the bytes beside them.
-const BYTES: [u8; 24] = [
+const BYTES: &[u8] = &[
     0x00, 0x7F, 0x80, 0x8F, 0x90, 0x9F, 0xA0, 0xBF, 0xC0, 0xC1, 0xC2, 0xDF, 0xE0, 0xE1, 0xEC, 0xED,
     0xEE, 0xEF, 0xF0, 0xF1, 0xF3, 0xF4, 0xF5, 0xFF,
 ];
@@ -78,10 +78,10 @@ fn agree_on_fronts(bytes: &[u8]) -> bool {
 
 #[test]
 fn boundary_bytes(rt: HostRuntime) {
-    for a in &BYTES {
-        for b in &BYTES {
-            for c in &BYTES {
-                for d in &BYTES {
+    for a in BYTES {
+        for b in BYTES {
+            for c in BYTES {
+                for d in BYTES {
                     let bytes = &[*a, *b, *c, *d];
                     assert!(rt; agree(bytes), "at {bytes:?}");
                 }
@@ -92,9 +92,9 @@ fn boundary_bytes(rt: HostRuntime) {
 
 #[test]
 fn short_boundary_bytes(rt: HostRuntime) {
-    for a in &BYTES {
-        for b in &BYTES {
-            for c in &BYTES {
+    for a in BYTES {
+        for b in BYTES {
+            for c in BYTES {
                 let bytes = &[*a, *b, *c];
                 assert!(rt; agree_on_fronts(bytes), "at {bytes:?}");
             }

@@ -1,4 +1,4 @@
--- The piece at the front by the bytes behind the first one, each read at its place.
+-- The first piece by the bytes after its first one, each read at its place.
 use Rattle.std.proofs.Common.{◌≡◌, ℕ, ◌-◌, ◌<◌, ◌≤◌, Bool, true, false, List, [], ◌∷◌, length, drop, take, get_or, Option, Some, None, IsSome, refl, sym, ap, subst, ◌∙◌, arith, inl}
 use Rattle.std.specs.Option.{SomeIff}
 use Rattle.std.specs.Char.{IsScalar, InScalarRange}
@@ -9,7 +9,7 @@ use Rattle.bites_spec.specs.Utf8.{Piece, front_piece, continuation, scalar_value
 use Rattle.bites_text.specs.Rows.{second_range}
 use Rattle.bites_text.proofs.RowLemmas.{row_piece, chosen, two_row, three_row, four_row}
 
--- bytes that are no character
+-- bytes that are not a character
 abbrev pub invalid : ℕ → Piece
 invalid n = record { decoded = None; len = n }
 
@@ -17,7 +17,7 @@ invalid n = record { decoded = None; len = n }
 abbrev pub whole : List ℕ → Piece
 whole bytes = record { decoded = Some (scalar_value bytes); len = length bytes }
 
--- the byte behind the first one, counted from 0, is there and lies in the range
+-- the byte after the first one, counted from 0, is there and lies in the range
 pub record FitsAt (r : Range) (rest : List ℕ) (i : ℕ) : Type 0 where
   pub there : i < length rest
   pub lies : in_range r (get_or rest i 0) ≡ true
@@ -163,7 +163,7 @@ three_scalar b x y l h s m = grind arith
 pub four_scalar : (b x y z : ℕ) → 0xF0 ≤ b → b ≤ 0xF4 → SecondBounds b x → y ≤ 0xBF → z ≤ 0xBF → InScalarRange (scalar_value (b ∷ x ∷ y ∷ z ∷ []))
 four_scalar b x y z l h s m n = grind arith
 
--- a slice is its first byte and what is behind it
+-- a slice is its first byte and what follows it
 pub front_parts : (bytes : List ℕ) → 1 ≤ length bytes → get_or bytes 0 0 ∷ take (length bytes - 1) (drop 1 bytes) ≡ bytes
 front_parts [] some = absurd (omega arith)
 front_parts (b ∷ bytes) some = ap (λ rest. b ∷ rest) (take_all (length (b ∷ bytes) - 1) bytes (omega arith))

@@ -1,4 +1,4 @@
--- What a caller that walks over a haystack uses: how many bytes a piece takes, and the piece at the front of what is left.
+-- What a caller that walks over a haystack uses: how many bytes a piece takes, and the first piece of what is left.
 use Rattle.std.proofs.Common.{◌≡◌, ℕ, zero, suc, ◌<◌, ◌≤◌, max, List, [], ◌∷◌, ◌-◌, length, length-drop, take, drop, ap, arith, ⊎_elim}
 use Rattle.std.specs.Prelude.{◌==◌}
 use Rattle.std.proofs.lemmas.List.{take_all}
@@ -63,7 +63,7 @@ pub piece-short : (hay : List ℕ) (i : ℕ) → (piece hay i).len ≤ 4
 unfolding piece
 piece-short hay i = front_short (drop i hay)
 
--- a number that is the length of the piece at the front
+-- a number that is the length of the first piece
 pub record FrontLen (bytes : List ℕ) (n : ℕ) : Type 0 where
   pub short : n ≤ 4
   pub within : n ≤ length bytes
@@ -76,7 +76,7 @@ front_len bytes n is =
     let within = front_within bytes in
     record { short = omega arith; within = omega arith; further = λ some. rw is (front_some bytes some) }
 
--- the piece at the front of the slice from a place on is the piece at that place
+-- the first piece of the slice from a place on is the piece at that place
 pub front_at : (hay : List ℕ) (i : ℕ) → front_piece (take (length hay - i) (drop i hay)) ≡ piece hay i
 unfolding piece
 front_at hay i = ap front_piece (take_all (length hay - i) (drop i hay) (omega (arith, length-drop i hay)))

@@ -1,4 +1,4 @@
--- The row of a first byte, and the piece at the front that it leads to.
+-- The row of a first byte, and the first piece that it leads to.
 use Rattle.std.proofs.Common.{◌≡◌, ℕ, suc, ◌<◌, ◌≤◌, Bool, true, false, cond, max, List, [], ◌∷◌, length, take, Some, None, refl, sym, ap, ◌∙◌, subst, arith, ◌⊎◌, inl, inr, ⊎_elim}
 use Rattle.std.specs.Prelude.{◌==◌, filter}
 use Rattle.std.proofs.lemmas.Bool.Decides.{nat_tests}
@@ -8,7 +8,7 @@ use Rattle.bites_spec.specs.Utf8.{Piece, front_piece, piece_by, fitting, whole_l
 use Rattle.bites_text.specs.Rows.{second_range}
 
 -- a test is true or false
--- the first byte of the row may be this one; an empty row is kept too
+-- the first byte of the row may be this one; an empty row stays too
 begins : ℕ → List Range → Bool
 begins b [] = true
 begins b (r ∷ row) = in_range r b
@@ -52,12 +52,12 @@ begun_len-filter ((r ∷ row) ∷ rows) b rest =
     max-zero : (n : ℕ) → max 0 n ≡ n
     max-zero n = omega arith
 
--- the piece of a row whose bytes behind the first are these, where they all fit and where they do not
+-- the piece of a row whose bytes after the first are these, where they all fit and where they do not
 unfoldable pub chosen : List Range → ℕ → List ℕ → Bool → Piece
 chosen row b rest true = record { decoded = Some (scalar_value (b ∷ take (length row) rest)); len = suc (length row) }
 chosen row b rest false = record { decoded = None; len = suc (fitting row rest) }
 
--- the piece at the front, where this row alone begins with the first byte
+-- the first piece, where this row alone begins with the first byte
 unfoldable pub row_piece : List Range → ℕ → List ℕ → Piece
 row_piece row b rest = chosen row b rest (fitting row rest == length row)
 
@@ -76,7 +76,7 @@ same_number m n t = grind (arith, nat_tests)
 abbrev OnlyRow : Range → List Range → ℕ → Type 0
 OnlyRow r row b = filter (begins b) well_formed_rows ≡ (r ∷ row) ∷ []
 
--- where a first byte has one row, the piece at the front is that row's
+-- where a first byte has one row, the first piece is that row's
 one_row : (r : Range) (row : List Range) (b : ℕ) (rest : List ℕ) → in_range r b ≡ true → OnlyRow r row b → front_piece (b ∷ rest) ≡ row_piece row b rest
 unfolding front_piece row_piece chosen
 one_row r row b rest is only =

@@ -61,7 +61,7 @@ error_of unclosed_boundary = UnclosedBoundary
 error_of unrecognized_boundary = UnrecognizedBoundary
 error_of unfinished_boundary = UnfinishedBoundary
 
--- the message of an error; the compiler's errors and want of memory have none
+-- the message of an error; the compiler's errors and out of memory have none
 abbrev pub message_of : Error → Option Message
 message_of TooMuchNesting = Some too_much_nesting
 message_of TooManyGroups = Some too_many_groups

@@ -3,7 +3,7 @@ use Rattle.std.specs.Prelude.{ℕ, if◌then◌else◌, ◌==◌}
 use Rattle.bites_spec.specs.Range.{Range}
 use Rattle.bites_spec.specs.Utf8.{continuation}
 
--- the second byte behind a first one, in the rows of two bytes and more
+-- the second byte after a first one, in the rows of two bytes and more
 abbrev pub second_range : ℕ → Range
 second_range first =
     if first == 0xE0 then (0xA0, 0xBF)

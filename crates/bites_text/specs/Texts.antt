@@ -6,7 +6,7 @@ use Rattle.bites_text.specs.declared.error.Error.{Error}
 use Rattle.bites_text.specs.declared.error.Error.TheVariants.{TooMuchNesting, TooManyGroups, DuplicateName, UnclosedGroup, UnclosedQuestion, UnopenedGroup, LookAround, EmptyFlags, MissingName, InvalidName, UnclosedName, EmptyName, UnrecognizedFlag, RepeatedNegation, DuplicateFlag, UnclosedFlags, DanglingNegation, DecimalWithoutDigits, InvalidDecimal, BraceHexDigit, BraceHexUnclosed, BraceHexEmpty, BraceHexInvalid, FixedHexUnfinished, FixedHexDigit, FixedHexInvalid, HexUnfinished, EscapeUnfinished, Backreference, UnicodeClass, UnrecognizedEscape, NothingToRepeat, NothingToCount, UnclosedCount, UnclosedMin, UnclosedComma, UnclosedMax, InvalidCount, MinAboveMax, UnclosedAfterMember, RangeOfNoCharacter, InvalidClassEscape, UnclosedAfterDash, UnclosedAfterCaret, UnclosedAfterBracket, InvalidRange, UnclosedClass, NestedClass, ClassIntersection, ClassDifference, ClassSymmetricDifference, UnclosedBoundary, UnrecognizedBoundary, UnfinishedBoundary, TooBig, TooManyStates, TooManySlots, Memory}
 use Rattle.bites_text.specs.Messages.{error_of, message_of}
 
--- the text of an error: that of its message, or one of the compiler's or of want of memory
+-- the text of an error: that of its message, or one of the compiler's, or that of out of memory
 abbrev pub error_text : Error → List ℕ
 error_text TooMuchNesting = message.message_text too_much_nesting
 error_text TooManyGroups = message.message_text too_many_groups

@@ -20,7 +20,7 @@ pub enum Error {
     DuplicateName,
     /// The pattern ends in a group.
     UnclosedGroup,
-    /// The pattern ends behind `(?`.
+    /// The pattern ends after `(?`.
     UnclosedQuestion,
     /// A `)` closes no group.
     UnopenedGroup,
@@ -36,7 +36,7 @@ pub enum Error {
     UnclosedName,
     /// A group's name has no character.
     EmptyName,
-    /// A character is no flag.
+    /// A character is not a flag.
     UnrecognizedFlag,
     /// The flags have a second `-`.
     RepeatedNegation,
@@ -50,57 +50,57 @@ pub enum Error {
     DecimalWithoutDigits,
     /// A bound of a counted repetition does not fit a `u32`.
     InvalidDecimal,
-    /// A character in the braces is no hexadecimal digit.
+    /// A character in the braces is not a hexadecimal digit.
     BraceHexDigit,
     /// The pattern ends in the braces of a hexadecimal number.
     BraceHexUnclosed,
     /// The braces of a hexadecimal number are empty.
     BraceHexEmpty,
-    /// The number in the braces is no scalar value.
+    /// The number in the braces is not a scalar value.
     BraceHexInvalid,
-    /// The pattern ends behind some of the hexadecimal digits.
+    /// The pattern ends after some of the hexadecimal digits.
     FixedHexUnfinished,
-    /// A character at a digit's place is no hexadecimal digit.
+    /// A character is not a hexadecimal digit where one has to stand.
     FixedHexDigit,
-    /// The number of these digits is no scalar value.
+    /// The number of these digits is not a scalar value.
     FixedHexInvalid,
-    /// The pattern ends behind `\x`, `\u` or `\U`.
+    /// The pattern ends after `\x`, `\u` or `\U`.
     HexUnfinished,
-    /// The pattern ends behind `\`.
+    /// The pattern ends after `\`.
     EscapeUnfinished,
     /// A digit follows `\`.
     Backreference,
     /// `\p` or `\P` begins a class of Unicode.
     UnicodeClass,
-    /// A character has no meaning behind `\`.
+    /// A character has no meaning after `\`.
     UnrecognizedEscape,
     /// Nothing stands before `?`, `*` or `+`.
     NothingToRepeat,
     /// Nothing stands before a counted repetition.
     NothingToCount,
-    /// The pattern ends behind `{`.
+    /// The pattern ends after `{`.
     UnclosedCount,
-    /// The pattern ends behind the lower bound.
+    /// The pattern ends after the lower bound.
     UnclosedMin,
-    /// The pattern ends behind the comma of a counted repetition.
+    /// The pattern ends after the comma of a counted repetition.
     UnclosedComma,
-    /// The pattern ends behind the upper bound.
+    /// The pattern ends after the upper bound.
     UnclosedMax,
     /// Another character stands where the counted repetition would go on.
     InvalidCount,
     /// The lower bound is above the upper one.
     MinAboveMax,
-    /// The pattern ends behind a member of a class.
+    /// The pattern ends after a member of a class.
     UnclosedAfterMember,
-    /// An end of a range in a class is no single character.
+    /// An end of a range in a class is not a single character.
     RangeOfNoCharacter,
     /// An assertion stands in a class.
     InvalidClassEscape,
-    /// The pattern ends behind a `-` in a class.
+    /// The pattern ends after a `-` in a class.
     UnclosedAfterDash,
-    /// The pattern ends behind `[^`.
+    /// The pattern ends after `[^`.
     UnclosedAfterCaret,
-    /// The pattern ends behind a class's leading `]`.
+    /// The pattern ends after a class's leading `]`.
     UnclosedAfterBracket,
     /// The first end of a range in a class is above its second.
     InvalidRange,
@@ -114,24 +114,24 @@ pub enum Error {
     ClassDifference,
     /// `~~` stands between members of a class.
     ClassSymmetricDifference,
-    /// The letters behind `\b{` are not closed by `}`.
+    /// The letters after `\b{` are not closed by `}`.
     UnclosedBoundary,
     /// The letters in `\b{}` spell no word boundary.
     UnrecognizedBoundary,
-    /// The pattern ends behind `\b{`.
+    /// The pattern ends after `\b{`.
     UnfinishedBoundary,
     /// The compiled program is above the size limit.
     TooBig,
-    /// The compiled program has more states than numbers for them.
+    /// The compiled program has more states than there are numbers for them.
     TooManyStates,
     /// The groups need more slots than there are numbers for them.
     TooManySlots,
-    /// An allocation was refused.
+    /// An allocation failed.
     Memory,
 }
 
 impl Error {
-    /// The message: one line of ASCII with no line end.
+    /// Returns the message: one line of ASCII without a line end.
     pub const fn text(&self) -> &'static str
         ensures { result.now ≡ error_text self.now }
     {
@@ -212,7 +212,7 @@ impl Error {
         }
     }
 
-    /// Whether an allocation was refused.
+    /// Returns whether an allocation failed.
     pub const fn is_memory(&self) -> bool
         ensures { IsTrue result ↔ (self.now ≡ Error.Memory) }
     {
@@ -246,7 +246,8 @@ impl<T: Drop> From<AllocFailed<T>> for Error {
     }
 }
 
-/// A law: the error of each message of the grammar has that message's text, and tells it from all others.
+/// A law: the error of each message of the grammar has that message's text, and no two messages
+/// have the same error.
 pub fn texts_are_the_messages()
     ensures { TextsAgree }
 {}

@@ -1,5 +1,5 @@
-//! Characters in bytes. A byte sequence that is no UTF-8 is cut into pieces: each longest front of a
-//! character is one, and so is each byte that begins none.
+//! Characters in bytes. Bytes that are not UTF-8 are cut into pieces. Each longest prefix of a
+//! character is a piece, and so is each byte that begins no character.
 
 ghost use Rattle.std.specs.Prelude.{◌≡◌, ◌∷◌, ◌<◌, ◌≤◌, length};
 ghost use Rattle.bites_spec.specs.Look as look;
@@ -7,8 +7,8 @@ ghost use Rattle.bites_spec.specs.Range.{in_range};
 ghost use Rattle.bites_spec.specs.Utf8.{character, continuation, front_piece};
 ghost use Rattle.bites_text.specs.Rows.{second_range};
 
-/// The piece at the front of the bytes: its character, or `None` where no character stands whole, and how
-/// many bytes it takes: one to four, and none at the end.
+/// Returns the first piece of the bytes: its character, and how many bytes it takes. The character
+/// is `None` if the piece is not a whole one. A piece takes one to four bytes, and none at the end.
 ///
 /// It looks at four bytes at most.
 #[inline(always)]
@@ -31,7 +31,7 @@ pub fn decode(bytes: &[u8]) -> (Option<char>, usize)
     }
 }
 
-/// The same, with U+FFFD where no character stands whole.
+/// Like [`decode`], but returns U+FFFD where the piece is not a whole character.
 #[inline(always)]
 pub fn decode_lossy(bytes: &[u8]) -> (char, usize)
     ensures decoded { result.0 ≡ character (front_piece bytes.now) }
@@ -44,14 +44,14 @@ pub fn decode_lossy(bytes: &[u8]) -> (char, usize)
     (decoded.unwrap_or(char::REPLACEMENT_CHARACTER), len)
 }
 
-/// Whether the byte is one of `0` to `9`, `A` to `Z`, `a` to `z` and `_`.
+/// Returns whether the byte is one of `0` to `9`, `A` to `Z`, `a` to `z` and `_`.
 pub const fn is_word_byte(byte: u8) -> bool
     ensures { result ≡ look.is_word_byte byte }
 {
     matches!(byte, b'0'..=b'9' | b'A'..=b'Z' | b'a'..=b'z' | b'_')
 }
 
-/// The piece of a first byte that one more byte follows in a character.
+/// Returns the piece of a first byte that one more byte follows in a character.
 #[inline(never)]
 fn decode_two(first: u8, rest: &[u8]) -> (Option<char>, usize)
     requires from { 0xC2 ≤ first }
@@ -68,7 +68,7 @@ fn decode_two(first: u8, rest: &[u8]) -> (Option<char>, usize)
     }
 }
 
-/// The piece of a first byte that two more bytes follow in a character.
+/// Returns the piece of a first byte that two more bytes follow in a character.
 #[inline(never)]
 fn decode_three(first: u8, rest: &[u8]) -> (Option<char>, usize)
     requires from { 0xE0 ≤ first }
@@ -87,7 +87,7 @@ fn decode_three(first: u8, rest: &[u8]) -> (Option<char>, usize)
     }
 }
 
-/// The piece of a first byte that three more bytes follow in a character.
+/// Returns the piece of a first byte that three more bytes follow in a character.
 #[inline(never)]
 fn decode_four(first: u8, rest: &[u8]) -> (Option<char>, usize)
     requires from { 0xF0 ≤ first }
@@ -109,7 +109,7 @@ fn decode_four(first: u8, rest: &[u8]) -> (Option<char>, usize)
     }
 }
 
-/// Whether the byte may follow this first one of three or four.
+/// Returns whether the byte may follow this first one of three or four.
 const fn is_second(first: u8, second: u8) -> bool
     ensures { result ≡ in_range (second_range first) second }
 {
@@ -122,7 +122,7 @@ const fn is_second(first: u8, second: u8) -> bool
     }
 }
 
-/// Whether the byte may stand behind the second one.
+/// Returns whether the byte is a continuation byte.
 const fn is_continuation(byte: u8) -> bool
     ensures { result ≡ in_range continuation byte }
 {

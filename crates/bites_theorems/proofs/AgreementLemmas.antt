@@ -7,24 +7,24 @@ use Rattle.bites_spec.specs.Found.{Answer, FoundSome, IsLeastEnd}
 use Rattle.bites_spec.specs.Run.{Run, slots}
 use Rattle.bites_spec.specs.Slots.{group_in, taking_part, span_of_run}
 use Rattle.bites_spec.specs.Regex.{Regex, IsCompiled, run_at, span_at, slots_at}
-use Rattle.bites_spec.specs.Captured.{Captured, excerpt, captured, FindsSpan, AreGroups}
+use Rattle.bites_spec.specs.Captured.{Captured, captured, Excerpt, excerpt, FindsMatch, AreGroups}
 use Rattle.bites_spec.proofs.Laws as laws
 use Rattle.bites_theorems.specs.Promises.{IsNoLater}
 
 module _ (r : Regex) (hay : List ℕ) (s : ℕ) where
-  module _ {M : Type 0} (at : M → Span) where
+  module _ {M : Type 0} (f : M → Excerpt) where
     -- the soonest end is at most that of the first match, and there is one exactly if there is the other
-    pub soonest_is_no_later : (o : Option M) → FindsSpan r hay s (option_map at o) → (e : Option ℕ) → IsLeastEnd r.tree hay s e →
-        IsNoLater e (option_map (λ m. (at m).end) o)
+    pub soonest_is_no_later : (o : Option M) → FindsMatch r hay s (option_map f o) → (e : Option ℕ) → IsLeastEnd r.tree hay s e →
+        IsNoLater e (option_map (λ m. (f m).span.end) o)
     soonest_is_no_later None none None least = tt
-    soonest_is_no_later None none (Some j) least = absurd (none least.0.0 least.0.1 j least.0.2)
+    soonest_is_no_later None none (Some j) least = absurd (none.on_tree least.0.0 least.0.1 j least.0.2)
     soonest_is_no_later (Some m) found None least =
-        let a = found.answer in let f = laws.finds_some r.leftmost_longest r.tree hay s (Some a) found.found in
-        absurd (least a.start f.first.place a.end (laws.match_is_parse.1 hay r.tree a.start a.end f.marks f.parse))
+        let a = found.on_tree.answer in let p = laws.finds_some r.leftmost_longest r.tree hay s (Some a) found.on_tree.found in
+        absurd (least a.start p.first.place a.end (laws.match_is_parse.1 hay r.tree a.start a.end p.marks p.parse))
     soonest_is_no_later (Some m) found (Some j) least =
-        let a = found.answer in let f = laws.finds_some r.leftmost_longest r.tree hay s (Some a) found.found in
-        subst (λ (g : Span). j ≤ g.end) (sym found.is_span)
-        (least.1 a.start f.first.place a.end (laws.match_is_parse.1 hay r.tree a.start a.end f.marks f.parse))
+        let a = found.on_tree.answer in let p = laws.finds_some r.leftmost_longest r.tree hay s (Some a) found.on_tree.found in
+        subst (λ (g : Span). j ≤ g.end) (sym found.on_tree.is_span)
+        (least.1 a.start p.first.place a.end (laws.match_is_parse.1 hay r.tree a.start a.end p.marks p.parse))
 
   no_run : (o : Option Run) → None ≡ option_map (captured r hay) (option_map (slots r.program) o) →
       option_map (excerpt hay) (option_map span_of_run o) ≡ None

@@ -5,7 +5,7 @@ use Rattle.bites_spec.specs.Tree.{IsPlain}
 use Rattle.bites_spec.specs.Match.{Span, span, Mark, Matches}
 use Rattle.bites_spec.specs.Preference.{parses}
 use Rattle.bites_spec.specs.Found.{Answer, head_of}
-use Rattle.bites_spec.specs.Anchored.{HasMatchFrom, IsFoundFromBy, FindsFrom, anchored_run_at, anchored_span_at, anchored_slots_at, full_slots, FindsSpanFrom, FindsGroupsFrom, FindsGroupsFull, IsMatchAt}
+use Rattle.bites_spec.specs.Anchored.{HasMatchFrom, IsFoundFromBy, FindsFrom, anchored_run_at, anchored_span_at, anchored_slots_at, full_slots, FindsSpanFrom, FindsMatchFrom, FindsGroupsFrom, FindsGroupsFull, IsMatchAt}
 use Rattle.bites_spec.specs.Run.{Run, slots}
 use Rattle.bites_spec.specs.Slots.{group_in, span_of_run, answer_of}
 use Rattle.bites_spec.specs.Regex.{Regex, IsCompiled}
@@ -45,25 +45,27 @@ module _ (r : Regex) (hay : List ℕ) (s : ℕ) where
         longest = λ on. subst (EndsLast r.tree hay) same (longest_end a (subst (λ b. FindsFrom b r.tree hay s (Some a)) on m.found));
       }
 
-  -- where a match is read as a span
-  module _ {M : Type 0} (at : M → Span) where
-    pub found_here_exactly : (o : Option M) → FindsSpanFrom r hay s (option_map at o) → IsSome o ↔ HasMatchFrom r.tree hay s
-    found_here_exactly None none = (λ h. absurd (true≢false (sym h)), λ has. absurd (none has))
+  -- where a match is read as a part of the haystack
+  module _ {M : Type 0} (f : M → Excerpt) where
+    found_here_exactly : (o : Option M) → FindsMatchFrom r hay s (option_map f o) → IsSome o ↔ HasMatchFrom r.tree hay s
+    found_here_exactly None none = (λ h. absurd (true≢false (sym h)), λ has. absurd (none.on_tree has))
     found_here_exactly (Some m) found =
-        let a = found.answer in let f = parsed r.leftmost_longest a found.found in (λ h. (f.within, a.end, matches_here a f), λ has. refl)
+        let a = found.on_tree.answer in let p = parsed r.leftmost_longest a found.on_tree.found in
+        (λ h. (p.within, a.end, matches_here a p), λ has. refl)
 
-    pub anchored_match_headline : (o : Option M) → FindsSpanFrom r hay s (option_map at o) → AnchoredMatchHeadline r hay s (option_map at o)
-    anchored_match_headline None none = none
-    anchored_match_headline (Some m) found = match_here (at m) found
+    pub anchored_match_headline : (o : Option M) → FindsMatchFrom r hay s (option_map f o) →
+        AnchoredMatchHeadline r hay s (option_map (λ x. (f x).span) o)
+    anchored_match_headline None none = none.on_tree
+    anchored_match_headline (Some m) found = match_here (f m).span found.on_tree
 
     -- over texts it begins and ends at borders
-    pub found_here_at_borders : IsUtf8 hay → (s ≤ length hay → IsCharBoundary hay s) → (o : Option M) → FindsSpanFrom r hay s (option_map at o) →
-        IfSome o (λ x. HasBorders hay (at x))
+    pub found_here_at_borders : IsUtf8 hay → (s ≤ length hay → IsCharBoundary hay s) → (o : Option M) → FindsMatchFrom r hay s (option_map f o) →
+        IfSome o (λ x. HasBorders hay (f x).span)
     found_here_at_borders utf8 border None none = tt
     found_here_at_borders utf8 border (Some m) found =
-        let a = found.answer in let f = parsed r.leftmost_longest a found.found in
-        subst (HasBorders hay) (sym found.is_span)
-        ((laws.anchored_has_borders r.tree hay a utf8).0 r.leftmost_longest s (border f.within) found.found).0
+        let a = found.on_tree.answer in let p = parsed r.leftmost_longest a found.on_tree.found in
+        subst (HasBorders hay) (sym found.on_tree.is_span)
+        ((laws.anchored_has_borders r.tree hay a utf8).0 r.leftmost_longest s (border p.within) found.on_tree.found).0
 
   -- the groups in slots
   module _ (l : List (Option ℕ)) where
@@ -143,17 +145,20 @@ module _ (r : Regex) (hay : List ℕ) (s : ℕ) where
         (old new : List (Option ℕ)) → new ≡ unwrap_or (anchored_slots_at r hay s) old → IfSome o (λ m. group_in new 0 ≡ Some (f m).span)
     written_whole_here = written_whole_by (anchored_run_at r hay s) refl
 
-    written_is : (g : Option Span) (o : Option M) → option_map f o ≡ option_map (excerpt hay) g → option_map (λ m. (f m).span) o ≡ g
-    written_is None None e = refl
-    written_is None (Some m) e = let never : Some (f m) ≡ None = e in absurd (cc)
-    written_is (Some g) None e = let never : None ≡ Some (excerpt hay g) = e in absurd (cc)
-    written_is (Some g) (Some m) e = ap (option_map (λ (y : Excerpt). y.span)) e
+    written_match : (m : Option Excerpt) → m ≡ option_map (excerpt hay) (anchored_span_at r hay s) → FindsMatchFrom r hay s m
+    written_match m e = record {
+      span = e;
+      on_tree = subst (FindsSpanFrom r hay s) (spans (anchored_span_at r hay s) ∙ ap (option_map (λ (y : Excerpt). y.span)) (sym e))
+          (laws.anchored_slots_are_found r is hay s).1;
+    }
+      where
+        spans : (q : Option Span) → q ≡ option_map (λ y. y.span) (option_map (excerpt hay) q)
+        spans None = refl
+        spans (Some g) = refl
 
     -- a search that writes locations finds something exactly if the tree matches there
     pub written_here_exactly : (o : Option M) → option_map f o ≡ option_map (excerpt hay) (anchored_span_at r hay s) → IsSome o ↔ HasMatchFrom r.tree hay s
-    written_here_exactly o e =
-        found_here_exactly (λ m. (f m).span) o
-        (subst (FindsSpanFrom r hay s) (sym (written_is (anchored_span_at r hay s) o e)) (laws.anchored_slots_are_found r is hay s).1)
+    written_here_exactly o e = found_here_exactly f o (written_match (option_map f o) e)
 
 -- ## Matches of the whole haystack
 

@@ -5,10 +5,10 @@ use Rattle.std.proofs.lemmas.Str.{IsCharBoundary-start}
 use Rattle.bites_spec.specs.Pattern.{Text}
 use Rattle.bites_spec.specs.Tree.{Tree}
 use Rattle.bites_spec.specs.Measure.{Limits, weight, groups_left}
-use Rattle.bites_spec.specs.Match.{Span, span}
+use Rattle.bites_spec.specs.Match.{span}
 use Rattle.bites_spec.specs.Found.{Answer, FoundSome}
 use Rattle.bites_spec.specs.Regex.{Regex}
-use Rattle.bites_spec.specs.Captured.{FindsSpan}
+use Rattle.bites_spec.specs.Captured.{Excerpt, FindsMatch}
 use Rattle.bites_spec.specs.Settings.{no_flags, by_default, Accepts}
 use Rattle.bites_spec.specs.Escaped.{escaped, text_tree}
 use Rattle.bites_spec.specs.Occurrence.{IsLeftmost}
@@ -67,9 +67,10 @@ module _ (hay text : List ℕ) (hay_utf8 : IsUtf8 hay) (text_utf8 : IsUtf8 text)
       laws.escaped_texts_find_their_text hay text 0 hay_utf8 text_utf8 (IsCharBoundary-start hay hay_utf8) a (subst (λ t. FoundSome t hay 0 a) is f)
 
   -- what its search finds is where the text stands first
-  pub text_is_found : {M : Type 0} (at : M → Span) (o : Option M) → FindsSpan r hay 0 (option_map at o) → IsLeftmost hay text 0 (option_map at o)
-  text_is_found at None none = leftmost_by None none
-  text_is_found at (Some m) found =
-      let a = found.answer in
-      subst (λ g. IsLeftmost hay text 0 (Some g)) (sym found.is_span)
-      (leftmost_by (Some a) (laws.finds_some r.leftmost_longest r.tree hay 0 (Some a) found.found))
+  pub text_is_found : {M : Type 0} (f : M → Excerpt) (o : Option M) → FindsMatch r hay 0 (option_map f o) →
+      IsLeftmost hay text 0 (option_map (λ x. (f x).span) o)
+  text_is_found f None none = leftmost_by None none.on_tree
+  text_is_found f (Some m) found =
+      let a = found.on_tree.answer in
+      subst (λ g. IsLeftmost hay text 0 (Some g)) (sym found.on_tree.is_span)
+      (leftmost_by (Some a) (laws.finds_some r.leftmost_longest r.tree hay 0 (Some a) found.on_tree.found))

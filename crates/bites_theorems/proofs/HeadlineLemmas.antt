@@ -7,7 +7,7 @@ use Rattle.bites_spec.specs.Found.{Answer, FoundBy, FoundSome, Finds, NoMatch, H
 use Rattle.bites_spec.specs.Run.{Run, slots}
 use Rattle.bites_spec.specs.Slots.{group_in, span_of_run}
 use Rattle.bites_spec.specs.Regex.{Regex, IsCompiled, run_at, span_at, slots_at}
-use Rattle.bites_spec.specs.Captured.{Captured, captured, Excerpt, excerpt, FindsSpan, FindsGroups, IsMatchFrom, IsInSlots}
+use Rattle.bites_spec.specs.Captured.{Captured, captured, Excerpt, excerpt, FindsSpan, FindsMatch, FindsGroups, IsMatchFrom, IsInSlots}
 use Rattle.bites_spec.proofs.Laws as laws
 use Rattle.bites_spec.specs.TextLaws.{HasBorders}
 use Rattle.regex_bites.specs.Borders.{GroupsAtBorders}
@@ -45,25 +45,25 @@ module _ (r : Regex) (hay : List ℕ) (s : ℕ) where
         longest = λ on. subst (EndsLast r.tree hay) same (longest_end a (subst (λ b. Finds b r.tree hay s (Some a)) on m.found));
       }
 
-  -- where a match is read as a span
-  module _ {M : Type 0} (at : M → Span) where
-    pub found_exactly : (o : Option M) → FindsSpan r hay s (option_map at o) → IsSome o ↔ HasMatch r.tree hay s
-    found_exactly None none = (λ h. absurd (true≢false (sym h)), λ has. absurd (none has.0 has.2 has.1 has.3))
+  -- where a match is read as a part of the haystack
+  module _ {M : Type 0} (f : M → Excerpt) where
+    found_exactly : (o : Option M) → FindsMatch r hay s (option_map f o) → IsSome o ↔ HasMatch r.tree hay s
+    found_exactly None none = (λ h. absurd (true≢false (sym h)), λ has. absurd (none.on_tree has.0 has.2 has.1 has.3))
     found_exactly (Some m) found =
-        let a = found.answer in let f = some_parse a found.found in
-        (λ h. (a.start, a.end, f.first.place, matches_from a f), λ has. refl)
+        let a = found.on_tree.answer in let p = some_parse a found.on_tree.found in
+        (λ h. (a.start, a.end, p.first.place, matches_from a p), λ has. refl)
 
-    pub match_headline : (o : Option M) → FindsSpan r hay s (option_map at o) → MatchHeadline r hay s (option_map at o)
-    match_headline None none = none
-    match_headline (Some m) found = first_match (at m) found
+    pub match_headline : (o : Option M) → FindsMatch r hay s (option_map f o) → MatchHeadline r hay s (option_map (λ x. (f x).span) o)
+    match_headline None none = none.on_tree
+    match_headline (Some m) found = first_match (f m).span found.on_tree
 
     -- over texts it begins and ends at borders
-    pub found_at_borders : IsUtf8 hay → (s ≤ length hay → IsCharBoundary hay s) → (o : Option M) → FindsSpan r hay s (option_map at o) →
-        IfSome o (λ x. HasBorders hay (at x))
+    pub found_at_borders : IsUtf8 hay → (s ≤ length hay → IsCharBoundary hay s) → (o : Option M) → FindsMatch r hay s (option_map f o) →
+        IfSome o (λ x. HasBorders hay (f x).span)
     found_at_borders utf8 border None none = tt
     found_at_borders utf8 border (Some m) found =
-        let a = found.answer in
-        subst (HasBorders hay) (sym found.is_span) (answer_borders r.tree hay s utf8 border a (some_parse a found.found)).0
+        let a = found.on_tree.answer in
+        subst (HasBorders hay) (sym found.on_tree.is_span) (answer_borders r.tree hay s utf8 border a (some_parse a found.on_tree.found)).0
 
   -- the groups in slots
   module _ (l : List (Option ℕ)) where
@@ -141,19 +141,19 @@ module _ (r : Regex) (hay : List ℕ) (s : ℕ) where
         (old new : List (Option ℕ)) → new ≡ unwrap_or (slots_at r hay s) old → IfSome o (λ m. group_in new 0 ≡ Some (f m).span)
     written_whole = written_whole_by (run_at r hay s) refl
 
-    written_is : (x : Option Run) (o : Option M) → option_map f o ≡ option_map (excerpt hay) (option_map span_of_run x) →
-        option_map (λ m. (f m).span) o ≡ option_map span_of_run x
-    written_is None None e = refl
-    written_is None (Some m) e = let never : Some (f m) ≡ None = e in absurd (cc)
-    written_is (Some x) None e = let never : None ≡ Some (excerpt hay (span_of_run x)) = e in absurd (cc)
-    written_is (Some x) (Some m) e = ap (option_map (λ (y : Excerpt). y.span)) e
-
-    written_span : (o : Option M) → option_map f o ≡ option_map (excerpt hay) (span_at r hay s) → FindsSpan r hay s (option_map (λ m. (f m).span) o)
-    written_span o e = subst (FindsSpan r hay s) (sym (written_is (run_at r hay s) o e)) (laws.slots_are_found r is hay s).1
+    written_match : (m : Option Excerpt) → m ≡ option_map (excerpt hay) (span_at r hay s) → FindsMatch r hay s m
+    written_match m e = record {
+      span = e;
+      on_tree = subst (FindsSpan r hay s) (spans (span_at r hay s) ∙ ap (option_map (λ (y : Excerpt). y.span)) (sym e)) (laws.slots_are_found r is hay s).1;
+    }
+      where
+        spans : (q : Option Span) → q ≡ option_map (λ y. y.span) (option_map (excerpt hay) q)
+        spans None = refl
+        spans (Some g) = refl
 
     -- a search that writes locations finds something exactly if the tree matches
     pub written_exactly : (o : Option M) → option_map f o ≡ option_map (excerpt hay) (span_at r hay s) → IsSome o ↔ HasMatch r.tree hay s
-    written_exactly o e = found_exactly (λ m. (f m).span) o (written_span o e)
+    written_exactly o e = found_exactly f o (written_match (option_map f o) e)
 
     pub on_written : (P : List (Option ℕ) → Type 0) → ((l : List (Option ℕ)) → FindsGroups r hay s (Some l) → P l) →
         (o : Option M) → option_map f o ≡ option_map (excerpt hay) (span_at r hay s) →

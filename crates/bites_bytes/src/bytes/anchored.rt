@@ -3,7 +3,7 @@
 ghost use Rattle.std.specs.Prelude.{◌≡◌, ◌↔◌, length, option_map, is_some, unwrap_or, MatchOption, OnOk, IsTrue, IfOk, IfSome};
 ghost use Rattle.bites_spec.specs.Counts.{fit_of, IsBounded};
 ghost use Rattle.bites_spec.specs.Captured.{captured, excerpt};
-ghost use Rattle.bites_spec.specs.Anchored.{HasMatchFrom, IsFullMatch, IsWalkedFrom, anchored_span_at, anchored_slots_at, full_slots, FindsSpanFrom, FindsGroupsFrom, FindsGroupsFull, AreGroupsAt};
+ghost use Rattle.bites_spec.specs.Anchored.{HasMatchFrom, IsFullMatch, IsWalkedFrom, anchored_span_at, anchored_slots_at, full_slots, FindsMatchFrom, FindsGroupsFrom, FindsGroupsFull, AreGroupsAt};
 ghost use Rattle.bites_bytes.specs.Matched.{excerpt_of};
 
 use crate::bytes::{Cache, CaptureLocations, Captures, Match, Regex};
@@ -29,10 +29,8 @@ impl Regex {
         haystack: &'h [u8],
         start: usize,
     ) -> Result<Option<Match<'h>>, AllocError>
-        ensures found { IfOk result (λ m. option_map excerpt_of m
-            ≡ option_map (excerpt haystack.now) (anchored_span_at self.now haystack.now start)) }
-        ensures on_tree { IfOk result (λ m. FindsSpanFrom self.now haystack.now start
-            (option_map (λ x. (excerpt_of x).span) m)) }
+        ensures { IfOk result
+            (λ m. FindsMatchFrom self.now haystack.now start (option_map excerpt_of m)) }
     {
         let mut cache = self.cache()?;
         Ok(self.find_anchored_at_with(&mut cache, haystack, start))
@@ -48,9 +46,7 @@ impl Regex {
         start: usize,
     ) -> Option<Match<'h>>
         requires { cache.old.fits ≡ fit_of self.now.program }
-        ensures found { option_map excerpt_of result
-            ≡ option_map (excerpt haystack.now) (anchored_span_at self.now haystack.now start) }
-        ensures on_tree { FindsSpanFrom self.now haystack.now start (option_map (λ x. (excerpt_of x).span) result) }
+        ensures found { FindsMatchFrom self.now haystack.now start (option_map excerpt_of result) }
         ensures fits { cache.new.fits ≡ cache.old.fits }
         ensures walked { IsWalkedFrom self.now.program haystack.now start (is_some result) cache.new.walked }
     {

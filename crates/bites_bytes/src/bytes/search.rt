@@ -4,7 +4,7 @@ ghost use Rattle.std.specs.Prelude.{◌≡◌, None, replicate, length, option_m
 ghost use Rattle.bites_spec.specs.Counts.{fit_of, IsWalked};
 ghost use Rattle.bites_spec.specs.Regex.{span_at, slots_at};
 ghost use Rattle.bites_spec.specs.Found.{NoMatch};
-ghost use Rattle.bites_spec.specs.Captured.{excerpt, FindsSpan, AreGroupsFrom};
+ghost use Rattle.bites_spec.specs.Captured.{excerpt, FindsMatch, AreGroupsFrom};
 ghost use Rattle.bites_bytes.specs.Matched.{excerpt_of};
 
 use crate::bytes::{Cache, CaptureLocations, Match, Regex};
@@ -41,10 +41,7 @@ impl Regex {
     /// assert_eq!(rt; found.as_bytes(), b"aa".as_slice());
     /// ```
     pub fn find<'h>(&self, haystack: &'h [u8]) -> Result<Option<Match<'h>>, AllocError>
-        ensures found { IfOk result (λ m. option_map excerpt_of m
-            ≡ option_map (excerpt haystack.now) (span_at self.now haystack.now 0)) }
-        ensures on_tree { IfOk result (λ m. FindsSpan self.now haystack.now 0
-            (option_map (λ x. (excerpt_of x).span) m)) }
+        ensures { IfOk result (λ m. FindsMatch self.now haystack.now 0 (option_map excerpt_of m)) }
     {
         self.find_at(haystack, 0)
     }
@@ -64,10 +61,7 @@ impl Regex {
         haystack: &'h [u8],
         start: usize,
     ) -> Result<Option<Match<'h>>, AllocError>
-        ensures found { IfOk result (λ m. option_map excerpt_of m
-            ≡ option_map (excerpt haystack.now) (span_at self.now haystack.now start)) }
-        ensures on_tree { IfOk result (λ m. FindsSpan self.now haystack.now start
-            (option_map (λ x. (excerpt_of x).span) m)) }
+        ensures { IfOk result (λ m. FindsMatch self.now haystack.now start (option_map excerpt_of m)) }
     {
         let mut cache = self.cache()?;
         Ok(self.find_at_with(&mut cache, haystack, start))
@@ -86,9 +80,7 @@ impl Regex {
     /// ```
     pub fn find_with<'h>(&self, cache: &mut Cache, haystack: &'h [u8]) -> Option<Match<'h>>
         requires { cache.old.fits ≡ fit_of self.now.program }
-        ensures found { option_map excerpt_of result
-            ≡ option_map (excerpt haystack.now) (span_at self.now haystack.now 0) }
-        ensures on_tree { FindsSpan self.now haystack.now 0 (option_map (λ x. (excerpt_of x).span) result) }
+        ensures found { FindsMatch self.now haystack.now 0 (option_map excerpt_of result) }
         ensures fits { cache.new.fits ≡ cache.old.fits }
         ensures walked { IsWalked self.now.program haystack.now 0 (is_some result) cache.new.walked }
     {
@@ -105,9 +97,7 @@ impl Regex {
         start: usize,
     ) -> Option<Match<'h>>
         requires { cache.old.fits ≡ fit_of self.now.program }
-        ensures found { option_map excerpt_of result
-            ≡ option_map (excerpt haystack.now) (span_at self.now haystack.now start) }
-        ensures on_tree { FindsSpan self.now haystack.now start (option_map (λ x. (excerpt_of x).span) result) }
+        ensures found { FindsMatch self.now haystack.now start (option_map excerpt_of result) }
         ensures fits { cache.new.fits ≡ cache.old.fits }
         ensures walked { IsWalked self.now.program haystack.now start (is_some result) cache.new.walked }
     {

@@ -60,7 +60,7 @@ pub(super) fn search(
     counted: &mut Counted<'_>,
     scratch: &mut Scratch,
     threads: &mut Threads,
-    request: &Request<'_>,
+    request: &Request<'_, '_>,
     slots: &mut [Option<usize>],
 ) -> bool
     requires start { request.now.start ≤ length request.now.haystack.now }

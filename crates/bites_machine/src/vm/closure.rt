@@ -6,7 +6,7 @@ ghost use Rattle.bites_machine.specs.Visits.{lets_on};
 ghost use Rattle.bites_syntax.specs.View.{look_of};
 ghost use Rattle.std.specs.Option.{option_or};
 ghost use Rattle.bites_machine.specs.Scratch.{users_of, AddsThread};
-ghost use Rattle.bites_machine.specs.Visits.{takes_by, ArePending, IsStarted, VisitsTo};
+ghost use Rattle.bites_machine.specs.Visits.{ArePending, IsStarted, VisitsTo};
 ghost use Rattle.bites_machine.specs.Explore.{AreSound, IsReady, Explores};
 ghost use Rattle.bites_machine.specs.Sweep.{ClosesFrames};
 ghost use Rattle.bites_machine.specs.Ends.{next_character};
@@ -21,26 +21,15 @@ ghost use Rattle.bites_spec.specs.Program as program;
 ghost use Rattle.bites_spec.specs.Program.{targets_of, at, state_at, HasRanges, AreRanges};
 
 use super::counted::Counted;
+use super::position::Position;
 use super::slot_table::SlotTable;
 use super::stack::{Frame, Stack};
 use super::state_set::StateSet;
 use super::threads::{Thread, Threads};
-use crate::ranges::Ranges;
 use crate::state::State;
 use crate::targets::Targets;
 use bites_syntax::look::Look;
 use std::alloc::{AllocError, Global};
-
-/// A place of the haystack, with the character of its piece, the length of the piece, and whether the longest run is
-/// asked for.
-#[derive(Clone, Copy, Drop)]
-pub struct Position<'h> {
-    pub haystack: &'h [u8],
-    pub place: usize,
-    pub ch: Option<char>,
-    pub ch_len: usize,
-    pub longest: bool,
-}
 
 /// The first thread that reached a match at a place: its state, and the place where it was started.
 #[derive(Clone, Copy, Drop)]
@@ -95,12 +84,12 @@ fn follow(
     let pending_len = frame.pending_len;
     match counted.visit(frame.state, here.place) {
         State::Char { target, ch } => {
-            let takes = takes_char(here.ch, *ch);
+            let takes = here.is_char(*ch);
             step_char(scratch, here.place, thread, pending_len, *target, takes);
             None
         }
         State::Ranges { target, ranges } => {
-            let takes = takes_range(here.ch, ranges);
+            let takes = here.is_in(ranges);
             step_char(scratch, here.place, thread, pending_len, *target, takes);
             None
         }
@@ -125,29 +114,6 @@ fn follow(
             record_match(scratch, here.place, thread, frame, here.longest, slots);
             None
         }
-    }
-}
-
-// Whether the character is the one that stands here.
-#[inline(always)]
-fn takes_char(taken: Option<char>, ch: char) -> bool
-    ensures { result ≡ takes_by (λ d. d == ch) taken }
-{
-    match taken {
-        None => false,
-        Some(here) => here == ch,
-    }
-}
-
-// Whether the character that stands here is in the ranges.
-#[inline(always)]
-fn takes_range(taken: Option<char>, ranges: &Ranges) -> bool
-    requires { AreRanges ranges.now }
-    ensures { result ≡ takes_by (in_ranges ranges.now) taken }
-{
-    match taken {
-        None => false,
-        Some(here) => ranges.takes(here),
     }
 }
 

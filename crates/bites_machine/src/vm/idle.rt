@@ -9,9 +9,10 @@ ghost use Rattle.bites_machine.specs.States.{states_of};
 ghost use Rattle.bites_machine.specs.Prefix.{IsApart, IsPrefix, TakesNone};
 ghost use Rattle.bites_machine.specs.Sweep.{Passes};
 
-use super::closure::{Position, Scratch};
+use super::closure::Scratch;
 use super::counted::Counted;
 use super::pikevm::piece_at;
+use super::position::Position;
 use super::state_set::StateSet;
 use crate::prefix::StartPrefix;
 

@@ -15,24 +15,29 @@ ghost use Rattle.bites_machine.specs.Explore.{AreSound};
 ghost use Rattle.bites_machine.specs.Cuts.{cuts};
 ghost use Rattle.bites_machine.specs.Anchored.{ThreadsSearched};
 ghost use Rattle.bites_machine.specs.Prefix.{IsPrefix};
+ghost use Rattle.bites_machine.specs.SelfLoop.{AreLoops, AreCovered};
 ghost use Rattle.bites_machine.specs.Sweep.{InvariantWithinStep, ClosesThread, ClosesThreads, ClosesAll, InvariantBetweenSteps, PassesIdle, PlaceSearched, PlacesSearched, IsOfProgram, HasRoom, IsIdle, IsProgramOf, SearchResult};
 
-use super::closure::{FirstMatch, Position, Scratch, epsilon_closure};
+use super::closure::{FirstMatch, Scratch, epsilon_closure};
 use super::counted::Counted;
 use super::idle::{idle_prefix, skip};
+use super::position::{Position, code};
+use super::self_loops::pass_self_loop;
 use super::slot_table::SlotTable;
 use super::threads::{Thread, Threads};
 use crate::prefix::StartPrefix;
+use crate::self_loop::SelfLoops;
 use bites_text::utf8::decode_lossy;
 
 /// What is searched for: runs that start in a state, from a place of the haystack on, and of these one with the least
 /// end, the longest of the first place, or else the first. The prefix is that of the state.
 #[derive(Clone, Copy, Drop)]
-pub struct Request<'h> {
+pub struct Request<'h, 'p> {
     pub haystack: &'h [u8],
     pub start: usize,
     pub first: u32,
-    pub prefix: Option<&'h StartPrefix>,
+    pub prefix: Option<&'p StartPrefix>,
+    pub loops: &'p SelfLoops,
     pub earliest: bool,
     pub longest: bool,
 }
@@ -55,6 +60,7 @@ pub(super) fn piece_at(haystack: &[u8], place: usize, longest: bool) -> Position
         haystack,
         place,
         ch,
+        code: code(ch),
         ch_len,
         longest,
     }
@@ -335,7 +341,7 @@ pub(super) fn search(
     counted: &mut Counted<'_>,
     scratch: &mut Scratch,
     threads: &mut Threads,
-    request: &Request<'_>,
+    request: &Request<'_, '_>,
     slots: &mut [Option<usize>],
 ) -> bool
     requires start { request.now.start ≤ length request.now.haystack.now }
@@ -345,6 +351,10 @@ pub(super) fn search(
         request.now.first × HasRoom (fit_of p) scratch.old threads.old }
     requires prefix { IfSome request.now.prefix (λ x.
         IsPrefix (states_of counted.old.states.now) request.now.first x.now) }
+    requires loops { AreLoops (states_of counted.old.states.now)
+        request.now.loops.now }
+    requires covered { IfSome request.now.prefix (λ x. AreCovered
+        (states_of counted.old.states.now) request.now.loops.now x.now) }
     requires idle { IsIdle scratch.old threads.old }
     requires slots_per_row { length slots.old ≡ scratch.old.rows.slots_per_row }
     requires nothing { slots_at scratch.old.rows 0 ≡ replicate scratch.old.rows.slots_per_row None }
@@ -365,11 +375,14 @@ pub(super) fn search(
         prefix,
         earliest,
         longest,
+        ..
     } = *request;
     let mut is_found = false;
     let mut place = start;
     'places: loop {
-        let here = piece_at(haystack, place, longest);
+        let reached = pass_self_loop(counted, scratch, threads, request, place, is_found, slots);
+        is_found = reached.is_found;
+        let here = piece_at(haystack, reached.place, longest);
         let begins = first_of(is_found, first);
         let last = step(counted, scratch, threads, here, begins, prefix, slots);
         is_found = is_found_with(is_found, &scratch.first_match);

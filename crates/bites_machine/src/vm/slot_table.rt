@@ -258,9 +258,38 @@ impl SlotTable {
         ensures { slots.new ≡ with_pending place (take pending_len self.now.pending)
             (slice_index_or self.now.rows row []) }
     {
+        self.write_row(row, slots);
+        write_pending(slots, &self.pending[..pending_len], place);
+    }
+
+    // Writes the row into the slice.
+    #[inline(always)]
+    fn write_row(&self, row: usize, slots: &mut [Option<usize>])
+        requires known { row < length self.now.ref_counts }
+        requires used { row ≢ 0 → 0 < slice_index self.now.ref_counts row }
+        requires slots_per_row { length slots.old ≡ self.now.slots_per_row }
+        ensures row { slots.new ≡ slice_index_or self.now.rows row [] }
+        ensures len { length slots.new ≡ length slots.old }
+    {
         let from = row * self.slots_per_row;
         copy_slots(slots, &self.slots[from..from + slots.len()]);
-        write_pending(slots, &self.pending[..pending_len], place);
+    }
+
+    /// Writes the row into the slice, with the place in those of these slots that the slice has.
+    pub(super) fn write_later_match(
+        &self,
+        row: usize,
+        pending: &[u32],
+        place: usize,
+        slots: &mut [Option<usize>],
+    )
+        requires known { row < length self.now.ref_counts }
+        requires used { row ≢ 0 → 0 < slice_index self.now.ref_counts row }
+        requires slots_per_row { length slots.old ≡ self.now.slots_per_row }
+        ensures { slots.new ≡ with_pending place pending.now (slice_index_or self.now.rows row []) }
+    {
+        self.write_row(row, slots);
+        write_pending(slots, pending, place);
     }
 }
 
@@ -347,13 +376,14 @@ fn write_words(slots: &mut [usize], pending: &[u32], place: usize)
     }
 }
 
-// Writes the place to each of the pending slots.
+// Writes the place to those of the pending slots that the slice has.
 #[inline(always)]
 fn write_pending(slots: &mut [Option<usize>], pending: &[u32], place: usize)
-    requires { (k : ℕ) → k < length pending.now → slice_index pending.now k < length slots.old }
     ensures { slots.new ≡ with_pending place pending.now slots.old }
 {
     for slot in pending {
-        slots[*slot as usize] = Some(place);
+        if (*slot as usize) < slots.len() {
+            slots[*slot as usize] = Some(place);
+        }
     }
 }

@@ -1,7 +1,7 @@
 use Rattle.std.proofs.Common.{◌∙◌, sym, arith}
 use Rattle.bites_spec.specs.Measure.{groups_left}
 use Rattle.bites_spec.proofs.regex.LeftLemmas.{length-left}
-use Rattle.bites_machine.proofs.CompiledLemmas.{limits_clause, refused_clause}
+use Rattle.bites_machine.proofs.compile.CompiledLemmas.{limits_clause, refused_clause}
 use Rattle.bites_machine.proofs.compiler.left_within_limits.Goals as goal
 
 pub returns-clause-limits : goal.returns-clause-limits

@@ -1,6 +1,6 @@
 use Rattle.std.proofs.Common.{◌≡◌, drop}
 use Rattle.bites_spec.specs.ProgramFaults.{are_ranges}
-use Rattle.bites_machine.proofs.BadLemmas.{ranges_after}
+use Rattle.bites_machine.proofs.compile.BadLemmas.{ranges_after}
 use Rattle.bites_machine.proofs.fault.are_ranges.Given as goal
 
 abbrev pub invariant-loop-start : goal.invariant-loop-start

@@ -4,7 +4,7 @@ use Rattle.std.specs.List.{list_all}
 use Rattle.bites_spec.specs.Program.{targets_of}
 use Rattle.bites_machine.specs.States.{state_of}
 use Rattle.bites_machine.specs.declared.state.State.{State}
-use Rattle.bites_machine.proofs.BadLemmas.{list_all-splits}
+use Rattle.bites_machine.proofs.compile.BadLemmas.{list_all-splits}
 use Rattle.bites_machine.proofs.fault.leads_below.Goals as goal
 
 pub returns-in-Splits : goal.returns-in-Splits

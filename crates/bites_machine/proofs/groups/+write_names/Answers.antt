@@ -4,8 +4,8 @@ use Rattle.bites_spec.specs.Tree.{Tree, group}
 use Rattle.bites_spec.specs.Measure.{groups_of}
 use Rattle.bites_machine.specs.Names.{bytes_of, filled}
 use Rattle.bites_syntax.proofs.TreeParts.{read_below, parts_from}
-use Rattle.bites_machine.proofs.EmittedLemmas.{tree_by_kind}
-use Rattle.bites_machine.proofs.GroupLemmas.{length-filled, groups_at, filled-more}
+use Rattle.bites_machine.proofs.compile.EmittedLemmas.{tree_by_kind}
+use Rattle.bites_machine.proofs.compile.GroupLemmas.{length-filled, groups_at, filled-more}
 use Rattle.bites_machine.proofs.groups.+write_names.Goals as goal
 
 pub write_names-returns-in_ok-names-in-Capture : goal.write_names-returns-in_ok-names-in-Capture

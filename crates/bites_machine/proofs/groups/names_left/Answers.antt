@@ -2,8 +2,8 @@ use Rattle.std.proofs.Common.{◌≡◌, None, ap, ◌∙◌, sym, arith}
 use Rattle.std.specs.Prelude.{replicate}
 use Rattle.bites_spec.specs.Measure.{groups_of}
 use Rattle.bites_machine.specs.Names.{bytes_of, filled}
-use Rattle.bites_machine.proofs.GroupLemmas.{filled-groups_left}
-use Rattle.bites_machine.proofs.GrouplessLemmas.{groupless-left}
+use Rattle.bites_machine.proofs.compile.GroupLemmas.{filled-groups_left}
+use Rattle.bites_machine.proofs.compile.GrouplessLemmas.{groupless-left}
 use Rattle.bites_machine.proofs.groups.names_left.Goals as goal
 use Rattle.bites_machine.proofs.groups.names_left.Goals.{then-captures-gt1+in_ok-write_names, else-captures-gt1}
 

@@ -1,8 +1,8 @@
 use Rattle.std.proofs.Common.{length, sym, subst, arith}
 use Rattle.bites_spec.specs.Tree.{groups_in}
 use Rattle.bites_syntax.proofs.TreeParts.{Within, count_within}
-use Rattle.bites_machine.proofs.GroupLemmas.{groups_fit}
-use Rattle.bites_machine.proofs.GrouplessLemmas.{groupless-count}
+use Rattle.bites_machine.proofs.compile.GroupLemmas.{groups_fit}
+use Rattle.bites_machine.proofs.compile.GrouplessLemmas.{groupless-count}
 use Rattle.bites_machine.proofs.groups.static_captures_len.Goals as goal
 
 pub static_count-requires : goal.static_count-requires

@@ -2,8 +2,8 @@ use Rattle.std.proofs.Common.{sym, ap, arith}
 use Rattle.std.specs.Prelude.{sum_by}
 use Rattle.bites_spec.specs.Measure.{group_weight}
 use Rattle.bites_machine.specs.Sizes.{held}
-use Rattle.bites_machine.proofs.GrouplessLemmas.{groupless-left}
-use Rattle.bites_machine.proofs.LeftWeights.{left_weighs}
+use Rattle.bites_machine.proofs.compile.GrouplessLemmas.{groupless-left}
+use Rattle.bites_machine.proofs.compile.LeftWeights.{left_weighs}
 use Rattle.bites_machine.proofs.groups.weight_left.Goals as goal
 
 pub returns-then-captures-eq1 : goal.returns-then-captures-eq1

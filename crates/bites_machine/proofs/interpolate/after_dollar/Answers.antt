@@ -1,6 +1,6 @@
 use Rattle.std.proofs.Common.{sym, ap, ◌∙◌}
 use Rattle.std.specs.Option.{option_copied}
-use Rattle.bites_machine.proofs.InterpolateLemmas.{dollar_twice, begins_at}
+use Rattle.bites_machine.proofs.templates.InterpolateLemmas.{dollar_twice, begins_at}
 use Rattle.bites_machine.proofs.interpolate.after_dollar.Goals as goal
 
 pub returns-in-Some-eq36-clause-cuts : goal.returns-in-Some-eq36-clause-cuts

@@ -1,6 +1,6 @@
 use Rattle.std.proofs.Common.{subst, sym}
 use Rattle.bites_spec.specs.Walks.{IsNew}
-use Rattle.bites_machine.proofs.InterpolateLemmas.{no_brace_behind}
+use Rattle.bites_machine.proofs.templates.InterpolateLemmas.{no_brace_behind}
 use Rattle.bites_machine.proofs.interpolate.behind_first.Goals as goal
 
 pub invariant_of-result : goal.invariant_of-result

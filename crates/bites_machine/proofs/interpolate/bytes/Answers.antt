@@ -1,5 +1,5 @@
 use Rattle.std.proofs.Common.{[], ◌∷◌}
-use Rattle.bites_machine.proofs.InterpolateTexts.{appended_more, appended_all, appended_front, appends_err, bytes_of_template, byte_text, no_bytes, front_appended, front_begun}
+use Rattle.bites_machine.proofs.templates.InterpolateTexts.{appended_more, appended_all, appended_front, appends_err, bytes_of_template, byte_text, no_bytes, front_appended, front_begun}
 use Rattle.bites_machine.proofs.interpolate.bytes.Goals as goal
 
 pub returns-in_err-bytes_of_text : goal.returns-in_err-bytes_of_text

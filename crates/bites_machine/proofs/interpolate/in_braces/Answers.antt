@@ -1,5 +1,5 @@
 use Rattle.std.proofs.Common.{arith}
-use Rattle.bites_machine.proofs.InterpolateLemmas.{brace_open, brace_none, brace_still_none, stop_border, brace_behind, brace_split}
+use Rattle.bites_machine.proofs.templates.InterpolateLemmas.{brace_open, brace_none, brace_still_none, stop_border, brace_behind, brace_split}
 use Rattle.bites_machine.proofs.interpolate.in_braces.Goals as goal
 
 pub returns-then-not-inside-clause-cuts : goal.returns-then-not-inside-clause-cuts

@@ -1,6 +1,6 @@
 use Rattle.std.proofs.Common.{subst, sym, true}
 use Rattle.bites_spec.specs.Walks.{IsNew}
-use Rattle.bites_machine.proofs.InterpolateLemmas.{no_brace_behind, word_none, word_border, word_split}
+use Rattle.bites_machine.proofs.templates.InterpolateLemmas.{no_brace_behind, word_none, word_border, word_split}
 use Rattle.bites_machine.proofs.interpolate.in_word.Goals as goal
 
 pub returns-then-len-eq0-clause-cuts : goal.returns-then-len-eq0-clause-cuts

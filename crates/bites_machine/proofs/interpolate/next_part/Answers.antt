@@ -1,6 +1,6 @@
 use Rattle.std.proofs.Common.{subst, sym, arith}
 use Rattle.bites_spec.specs.Walks.{IsNew}
-use Rattle.bites_machine.proofs.InterpolateLemmas.{stop_border, plain_none, no_brace_behind, plain_split}
+use Rattle.bites_machine.proofs.templates.InterpolateLemmas.{stop_border, plain_none, no_brace_behind, plain_split}
 use Rattle.bites_machine.proofs.interpolate.next_part.Goals as goal
 
 pub after_dollar-requires : goal.after_dollar-requires

@@ -1,7 +1,7 @@
 use Rattle.std.proofs.Common.{Some, None, true, sym, subst, length, eqb-true, true≢false, rules, string_bytes}
 use Rattle.bites_spec.specs.Cutting.{CutsFront}
 use Rattle.bites_machine.specs.Interpolate.{parts_in}
-use Rattle.bites_machine.proofs.InterpolateTexts.{appended_none, appended_more, appended_same, appended_all, appended_front, appends_err, text_of_template, text_part, some_part, no_part, text_found, no_group, text_at_end}
+use Rattle.bites_machine.proofs.templates.InterpolateTexts.{appended_none, appended_more, appended_same, appended_all, appended_front, appends_err, text_of_template, text_part, some_part, no_part, text_found, no_group, text_at_end}
 use Rattle.bites_machine.proofs.interpolate.string.Goals as goal
 
 pub invariant_of-rest : goal.invariant_of-rest

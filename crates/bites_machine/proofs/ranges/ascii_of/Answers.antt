@@ -1,7 +1,7 @@
 use Rattle.std.proofs.Common.{◌||◌, ◌∙◌, List, ap, add-one, drop-cons, get_or}
 use Rattle.bites_spec.specs.Range.{Range, in_range, in_ranges}
 use Rattle.bites_machine.specs.Bits.{has_bit}
-use Rattle.bites_machine.proofs.BitLemmas.{has_bit-more}
+use Rattle.bites_machine.proofs.compile.BitLemmas.{has_bit-more}
 use Rattle.bites_machine.proofs.ranges.ascii_of.Goals as goal
 
 pub loop-first-preserved : goal.loop-first-preserved

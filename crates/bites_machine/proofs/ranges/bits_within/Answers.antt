@@ -1,6 +1,6 @@
 use Rattle.std.proofs.Common.{◌≡◌, ◌-◌, ◌*◌, ◌/◌, ◌%◌, ◌^◌, ◌∙◌, suc, ap, arith, bit_and}
 use Rattle.bites_machine.specs.Bits.{has_bit}
-use Rattle.bites_machine.proofs.BitLemmas.{has_bit-within}
+use Rattle.bites_machine.proofs.compile.BitLemmas.{has_bit-within}
 use Rattle.bites_machine.proofs.ranges.bits_within.Goals as goal
 
 pub returns-clause-bits : goal.returns-clause-bits

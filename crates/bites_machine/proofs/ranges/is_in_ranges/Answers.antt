@@ -1,10 +1,10 @@
 use Rattle.std.proofs.Common.{◌+◌, ◌-◌, ◌/◌, arith, sym}
-use Rattle.bites_machine.proofs.SearchedRanges.{below_more, above_more, hit, no_hit}
+use Rattle.bites_machine.proofs.compile.SearchedRanges.{below_more, above_more, hit, no_hit}
 use Rattle.bites_machine.proofs.ranges.is_in_ranges.Goals as goal
 
 pub loop-low-preserved-then-last-c : goal.loop-low-preserved-then-last-c
 loop-low-preserved-then-last-c c = record {
-  below = below_more c.args.ranges.now (c.loop-low.low + (c.loop-low.high - c.loop-low.low) / 2) c.args.c c.requires (omega arith) c.if-last-c.true;
+  below = λ are. below_more c.args.ranges.now (c.loop-low.low + (c.loop-low.high - c.loop-low.low) / 2) c.args.c are (omega arith) c.if-last-c.true;
   above = c.loop-low.invariant.above;
   within = c.loop-low.invariant.within;
 }
@@ -12,13 +12,18 @@ loop-low-preserved-then-last-c c = record {
 pub loop-low-preserved : goal.loop-low-preserved
 loop-low-preserved c = record {
   below = c.loop-low.invariant.below;
-  above = above_more c.args.ranges.now (c.loop-low.low + (c.loop-low.high - c.loop-low.low) / 2) c.args.c c.requires (omega arith) c.if-c-first.true;
+  above = λ are. above_more c.args.ranges.now (c.loop-low.low + (c.loop-low.high - c.loop-low.low) / 2) c.args.c are (omega arith) c.if-c-first.true;
   within = omega arith;
 }
 
-pub returns-else-c-first : goal.returns-else-c-first
-returns-else-c-first c =
-    sym (hit c.args.ranges.now (c.loop-low.low + (c.loop-low.high - c.loop-low.low) / 2) c.args.c (omega arith) c.if-c-first.false c.if-last-c.false)
+pub returns-else-c-first-clause-found : goal.returns-else-c-first-clause-found
+returns-else-c-first-clause-found c =
+    λ is. hit c.args.ranges.now (c.loop-low.low + (c.loop-low.high - c.loop-low.low) / 2) c.args.c (omega arith) c.if-c-first.false c.if-last-c.false
 
-pub returns : goal.returns
-returns c = sym (no_hit c.args.ranges.now c.loop-low.low c.loop-low.high c.args.c c.loop-low.invariant.below c.loop-low.invariant.above c.loop-low-test.false)
+pub returns-else-c-first-clause-rising : goal.returns-else-c-first-clause-rising
+returns-else-c-first-clause-rising c =
+    λ are. sym (hit c.args.ranges.now (c.loop-low.low + (c.loop-low.high - c.loop-low.low) / 2) c.args.c (omega arith) c.if-c-first.false c.if-last-c.false)
+
+pub returns-clause-rising : goal.returns-clause-rising
+returns-clause-rising c = λ are.
+    sym (no_hit c.args.ranges.now c.loop-low.low c.loop-low.high c.args.c (c.loop-low.invariant.below are) (c.loop-low.invariant.above are) c.loop-low-test.false)

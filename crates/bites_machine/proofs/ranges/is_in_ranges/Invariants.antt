@@ -1,11 +1,12 @@
 use Rattle.std.proofs.Common.{◌-◌, ◌≤◌, length}
-use Rattle.bites_machine.proofs.SearchedRanges.{AllEndBelow, AllBeginAbove}
+use Rattle.bites_spec.specs.Program.{AreRanges}
+use Rattle.bites_machine.proofs.compile.SearchedRanges.{AllEndBelow, AllBeginAbove}
 use Rattle.bites_machine.proofs.ranges.is_in_ranges.Given as goal
 
 abbrev pub invariant-loop-low : goal.invariant-loop-low
 invariant-loop-low l = record {
-  below : AllEndBelow l.ranges l.low l.c;
-  above : AllBeginAbove l.ranges l.high l.c;
+  below : AreRanges l.ranges → AllEndBelow l.ranges l.low l.c;
+  above : AreRanges l.ranges → AllBeginAbove l.ranges l.high l.c;
   within : l.high ≤ length l.ranges;
 }
 

@@ -1,5 +1,5 @@
 use Rattle.std.proofs.Common.{◌∙◌}
-use Rattle.bites_machine.proofs.BitLemmas.{has_bit-words}
+use Rattle.bites_machine.proofs.compile.BitLemmas.{has_bit-words}
 use Rattle.bites_machine.proofs.ranges.words_of.Goals as goal
 
 pub returns : goal.returns

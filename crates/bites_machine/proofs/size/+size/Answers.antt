@@ -5,7 +5,7 @@ use Rattle.bites_syntax.specs.View.{tree_of}
 use Rattle.bites_syntax.specs.declared.tree.Kind.{Kind}
 use Rattle.bites_machine.specs.Sizes.{held_size, both_sizes}
 use Rattle.bites_syntax.proofs.TreeParts.{read_below, parts_from, parts_end}
-use Rattle.bites_machine.proofs.SizeLemmas.{both_sizes-none, alternation_size}
+use Rattle.bites_machine.proofs.compile.SizeLemmas.{both_sizes-none, alternation_size}
 use Rattle.bites_machine.proofs.size.+size.Goals as goal
 
 pub size_of-returns-in-Alternation-clause-size : goal.size_of-returns-in-Alternation-clause-size

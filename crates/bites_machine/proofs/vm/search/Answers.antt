@@ -1,7 +1,7 @@
 use Rattle.std.proofs.Common.{false, length, sym, ap, ◌∙◌, subst}
 use Rattle.bites_machine.specs.States.{states_of}
 use Rattle.bites_machine.specs.Sweep.{IsProgramOf, SearchResult}
-use Rattle.bites_machine.proofs.SearchResultLemmas.{slots_fit, did_first, did_least, did_visit, did_bounded}
+use Rattle.bites_machine.proofs.refine.SearchResultLemmas.{slots_fit, did_first, did_least, did_visit, did_bounded}
 use Rattle.bites_machine.proofs.vm.search.Goals as goal
 
 pub returns-clause-first : goal.returns-clause-first

@@ -2,8 +2,8 @@ use Rattle.std.proofs.Common.{Bool, true, false, length, sym, ap, ◌∙◌, sub
 use Rattle.bites_machine.specs.States.{states_of}
 use Rattle.bites_machine.specs.Sweep.{IsProgramOf}
 use Rattle.bites_machine.specs.Anchored.{AnchoredResult}
-use Rattle.bites_machine.proofs.SearchResultLemmas.{slots_fit}
-use Rattle.bites_machine.proofs.AnchoredAnswers.{did_first_from, did_longest_from, did_least_from, did_visit_from, did_bounded_from}
+use Rattle.bites_machine.proofs.refine.SearchResultLemmas.{slots_fit}
+use Rattle.bites_machine.proofs.model.AnchoredAnswers.{did_first_from, did_longest_from, did_least_from, did_visit_from, did_bounded_from}
 use Rattle.bites_machine.proofs.vm.search_anchored.Goals as goal
 
 pub returns-clause-first : goal.returns-clause-first

@@ -1,7 +1,7 @@
 use Rattle.std.proofs.Common.{true, false, length, sym, ap, ◌∙◌}
 use Rattle.bites_machine.specs.States.{states_of}
 use Rattle.bites_machine.specs.Sweep.{IsProgramOf}
-use Rattle.bites_machine.proofs.SearchResultLemmas.{slots_fit, did_longest, did_visit, did_bounded}
+use Rattle.bites_machine.proofs.refine.SearchResultLemmas.{slots_fit, did_longest, did_visit, did_bounded}
 use Rattle.bites_machine.proofs.vm.search_longest.Goals as goal
 
 pub returns-clause-longest : goal.returns-clause-longest

@@ -20,5 +20,5 @@ returns-in_ok-meaning-in-92-clause-reads c = λ n room.
     let r = c.in_ok-meaning-in-92.ensures.reads n room in (
       node_of ranges_of 0 (flags_of c.args.flags) r.0,
       atom_escape n (flags_of c.args.flags) c.args.c c.args.cursor.now c.escape.new.cursor r.0 c.in-92.is r.1,
-      c.escaped.ensures r.0 r.2,
+      c.escape_tree.ensures r.0 r.2,
     )

@@ -12,7 +12,7 @@ returns-in_default-clause-reads c = λ go set has. inr (ap error_in (named_none 
 
 pub returns-clause-reads : goal.returns-clause-reads
 returns-clause-reads c = λ go set has.
-    let found : named_at c.args.cursor.now named_classes ≡ Some (named_of c.in-Some.name, c.in-Some.negated, c.in-Some.behind) = c.in-Some.ensures in (
+    let found : named_at c.args.cursor.now named_classes ≡ Some (named_of c.in-Some.name, c.in-Some.negated, c.in-Some.after) = c.in-Some.ensures in (
       union set (members_named (named_of c.in-Some.name) c.in-Some.negated),
       named_some go set c.args.cursor.now _ named_classes _ _ found,
       Has_extend _ _ _ set _ has (rw c.ranges-2.ensures.ranges c.class_named-class.ensures) c.in_ok-extend.ensures.added,
@@ -20,10 +20,10 @@ returns-clause-reads c = λ go set has.
 
 pub returns-clause-progress : goal.returns-clause-progress
 returns-clause-progress c =
-    let found : named_at c.args.cursor.now named_classes ≡ Some (named_of c.in-Some.name, c.in-Some.negated, c.in-Some.behind) = c.in-Some.ensures in
+    let found : named_at c.args.cursor.now named_classes ≡ Some (named_of c.in-Some.name, c.in-Some.negated, c.in-Some.after) = c.in-Some.ensures in
     named_shorter c.args.cursor.now _ named_classes _ _ found
 
 pub returns-clause-forward : goal.returns-clause-forward
 returns-clause-forward c =
-    let less : length c.in-Some.behind < length c.args.cursor.now = returns-clause-progress c in
+    let less : length c.in-Some.after < length c.args.cursor.now = returns-clause-progress c in
     omega arith

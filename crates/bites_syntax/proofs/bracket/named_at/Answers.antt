@@ -10,15 +10,15 @@ returns-in-Some c =
     sym c.names.invariant ∙ named_from named_of c.args.cursor.now c.args.names.now c.names.name-index _ c.names-test.true
     ∙ named_here c.args.cursor.now _ _ _ c.in-Some.ensures.0 c.in-Some.ensures.1
 
-pub returns-in-Some-behind_name : goal.returns-in-Some-behind_name
-returns-in-Some-behind_name c =
+pub returns-in-Some-after_name : goal.returns-in-Some-after_name
+returns-in-Some-after_name c =
     sym c.names.invariant ∙ named_from named_of c.args.cursor.now c.args.names.now c.names.name-index _ c.names-test.true
-    ∙ not_named_here c.args.cursor.now _ _ _ c.in_default.ensures c.in-Some-behind_name.ensures.0 c.in-Some-behind_name.ensures.1
+    ∙ not_named_here c.args.cursor.now _ _ _ c.in_default.ensures c.in-Some-after_name.ensures.0 c.in-Some-after_name.ensures.1
 
 pub names-preserved : goal.names-preserved
 names-preserved c =
     sym (named_from named_of c.args.cursor.now c.args.names.now c.names.name-index _ c.names-test.true
-    ∙ named_elsewhere c.args.cursor.now _ _ c.in_default.ensures c.in_default-behind_name.ensures) ∙ c.names.invariant
+    ∙ named_elsewhere c.args.cursor.now _ _ c.in_default.ensures c.in_default-after_name.ensures) ∙ c.names.invariant
 
 pub returns : goal.returns
 returns c =

@@ -6,7 +6,7 @@ use Rattle.bites_syntax.proofs.flags.flag_run.Goals as goal
 pub returns-then-contains-clause-reads : goal.returns-then-contains-clause-reads
 returns-then-contains-clause-reads c = λ front.
     inr (repeated_fault front _ c.loop-c.cursor _ c.args.cursor.now c.in-Some.c _ (c.loop-c.invariant.0 front) c.in-Some.ensures (sym c.if-ends_run.ensures) (sym c.if-not-is_flag_mark.ensures)
-    (rw c.deref.ensures.value at (sym (contains_one_of _ c.in-Some.c) ∙ sym c.if-contains.ensures.value)) c.repeated.ensures)
+    (rw c.deref.ensures.value at (sym (contains_one_of _ c.in-Some.c) ∙ sym c.if-contains.ensures.value)) c.duplicate_error.ensures)
 
 pub loop-c-preserved : goal.loop-c-preserved
 loop-c-preserved c = (

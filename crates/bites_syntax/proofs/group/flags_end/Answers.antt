@@ -17,7 +17,7 @@ returns-then-end-eq58-2 c = λ g rest is. (
   (
     record g { flags = changed true c.args.run.now g.flags },
     refl,
-    record { flags = c.changed-front.ensures ∙ ap (changed true c.args.run.now) is.flags; groups = is.groups; names = is.names; opened = is.opened },
+    record { flags = c.changed-state.ensures ∙ ap (changed true c.args.run.now) is.flags; groups = is.groups; names = is.names; opened = is.opened },
   ),
 )
 
@@ -28,6 +28,6 @@ returns-else-end-eq58-2 c = λ g rest is. (
   (
     changed true c.args.run.now g.flags,
     refl,
-    record { flags = c.changed-front.ensures ∙ ap (changed true c.args.run.now) is.flags; groups = is.groups; names = is.names; opened = is.opened },
+    record { flags = c.changed-state.ensures ∙ ap (changed true c.args.run.now) is.flags; groups = is.groups; names = is.names; opened = is.opened },
   ),
 )

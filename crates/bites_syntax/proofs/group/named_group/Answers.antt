@@ -23,9 +23,9 @@ returns-clause-reads c = λ g is.
         record {
           flags = is.flags;
           groups = c.in-Some.ensures.1 ∙ ap (λ n. n + 1) is.groups;
-          names = are_names_more c.args.front.now.names c.insert.new.self (given g.names) read.0 (string_bytes c.in_ok-clone.field-0) is.names (bytes ∙ sym c.in_ok-clone.ensures.cases) c.in_ok-insert.ensures;
-          opened = c.in_ok-push.ensures ∙ ap (λ name. c.args.front.now.opened ++ Some name ∷ []) (c.in_ok-new.ensures ∙ c.deref.ensures ∙ sym bytes)
-              ∙ opened_one_more c.args.front.now.opened (Some read.0) g is.opened;
+          names = are_names_more c.args.state.now.names c.insert.new.self (given g.names) read.0 (string_bytes c.in_ok-clone.field-0) is.names (bytes ∙ sym c.in_ok-clone.ensures.cases) c.in_ok-insert.ensures;
+          opened = c.in_ok-push.ensures ∙ ap (λ name. c.args.state.now.opened ++ Some name ∷ []) (c.in_ok-new.ensures ∙ c.deref.ensures ∙ sym bytes)
+              ∙ opened_one_more c.args.state.now.opened (Some read.0) g is.opened;
         },
       ),
     )

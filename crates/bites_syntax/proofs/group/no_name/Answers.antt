@@ -19,7 +19,7 @@ returns-clause-reads c = λ g is.
           flags = is.flags;
           groups = c.in-Some.ensures.1 ∙ ap (λ n. n + 1) is.groups;
           names = is.names;
-          opened = c.in_ok-push.ensures ∙ opened_one_more c.args.front.now.opened None g is.opened;
+          opened = c.in_ok-push.ensures ∙ opened_one_more c.args.state.now.opened None g is.opened;
         },
       ),
     )

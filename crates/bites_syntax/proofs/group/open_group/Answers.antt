@@ -8,7 +8,7 @@ pub returns-then-bump_over-clause-reads : goal.returns-then-bump_over-clause-rea
 returns-then-bump_over-clause-reads c = λ g is.
     let same : opened g c.args.cursor.now ≡ named_group g c.bump_over.new.self =
     opened_long g c.args.cursor.now (sym c.if-begins_look_around.ensures) (sym c.if-bump_over.ensures.value) ∙ ap (named_group g) (sym c.if-bump_over.ensures.rest) in
-    agrees_at (λ o x. IsOpened o c.named_group.new.front g x) c.named_group.result c.named_group.new.cursor _ _ same (c.named_group.ensures.reads g is)
+    agrees_at (λ o x. IsOpened o c.named_group.new.state g x) c.named_group.result c.named_group.new.cursor _ _ same (c.named_group.ensures.reads g is)
 
 pub returns-then-bump_over-2-clause-reads : goal.returns-then-bump_over-2-clause-reads
 returns-then-bump_over-2-clause-reads c = λ g is.
@@ -16,7 +16,7 @@ returns-then-bump_over-2-clause-reads c = λ g is.
     let same : opened g c.args.cursor.now ≡ named_group g c.bump_over-2.new.self =
     opened_short g c.args.cursor.now (sym c.if-begins_look_around.ensures) (sym c.if-bump_over.ensures.value) (rw stays at (sym c.if-bump_over-2.ensures.value))
     ∙ ap (named_group g) (sym (c.if-bump_over-2.ensures.rest ∙ ap (drop 2) stays)) in
-    agrees_at (λ o x. IsOpened o c.named_group-then-bump_over-2.new.front g x) c.named_group-then-bump_over-2.result c.named_group-then-bump_over-2.new.cursor _ _ same
+    agrees_at (λ o x. IsOpened o c.named_group-then-bump_over-2.new.state g x) c.named_group-then-bump_over-2.result c.named_group-then-bump_over-2.new.cursor _ _ same
     (c.named_group-then-bump_over-2.ensures.reads g is)
 
 pub returns-clause-reads : goal.returns-clause-reads
@@ -26,4 +26,4 @@ returns-clause-reads c = λ g is.
     let same : opened g c.args.cursor.now ≡ no_name g c.bump_over-2.new.self =
     opened_plain g c.args.cursor.now (sym c.if-begins_look_around.ensures) (sym c.if-bump_over.ensures.value) (rw stays at (sym c.if-bump_over-2.ensures.value))
     ∙ ap (no_name g) (sym (stays_too ∙ stays)) in
-    agrees_at (λ o x. IsOpened o c.no_name.new.front g x) c.no_name.result c.no_name.new.cursor _ _ same (c.no_name.ensures.reads g is)
+    agrees_at (λ o x. IsOpened o c.no_name.new.state g x) c.no_name.result c.no_name.new.cursor _ _ same (c.no_name.ensures.reads g is)

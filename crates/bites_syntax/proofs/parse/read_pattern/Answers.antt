@@ -16,7 +16,7 @@ use Rattle.bites_syntax.proofs.parse.read_pattern.Goals as goal
 pub returns-in-Kept-clause-reads : goal.returns-in-Kept-clause-reads
 returns-in-Kept-clause-reads c =
     let text = chars c.args.pattern.now in
-    let reads = c.in_ok-tree.ensures.reads (at_front (flags_of c.args.flags)) (record { flags = refl; groups = refl; names = c.new.ensures; opened = c.new-2.ensures }) (length text)
+    let reads = c.in_ok-tree.ensures.reads c.args.nest_limit refl (at_front (flags_of c.args.flags)) (record { flags = refl; groups = refl; names = c.new.ensures; opened = c.new-2.ensures }) (length text)
     (omega (arith, ap length c.new-cursor.ensures)) in
     let stands : IsNodeOf c.args.nest_limit (Kept c.in-Kept.tree c.in-Kept.height) (choice_of reads.found.branches) =
     subst (λ x. IsNodeOf c.args.nest_limit x (choice_of reads.found.branches)) c.in-Kept.is reads.node_is in
@@ -27,8 +27,8 @@ returns-in-Kept-clause-reads c =
 pub returns-in-Kept-clause-groups : goal.returns-in-Kept-clause-groups
 returns-in-Kept-clause-groups c = λ t reading.
     let text = chars c.args.pattern.now in
-    let reads = c.in_ok-tree.ensures.reads (at_front (flags_of c.args.flags)) (record { flags = refl; groups = refl; names = c.new.ensures; opened = c.new-2.ensures }) (length text)
+    let reads = c.in_ok-tree.ensures.reads c.args.nest_limit refl (at_front (flags_of c.args.flags)) (record { flags = refl; groups = refl; names = c.new.ensures; opened = c.new-2.ensures }) (length text)
     (omega (arith, ap length c.new-cursor.ensures)) in
     let same : inner ranges_of c.args.nest_limit (suc (length text)) 0 (at_front (flags_of c.args.flags)) [] [] text ≡ Ok reads.found =
     ap (inner ranges_of c.args.nest_limit (suc (length text)) 0 (at_front (flags_of c.args.flags)) [] []) (sym c.new-cursor.ensures) ∙ reads.same in
-    reads.front.opened ∙ sym (ap opened_by (behind_found ranges_of ranges_of_list c.args.nest_limit reading reads.found same))
+    reads.state.opened ∙ sym (ap opened_by (behind_found ranges_of ranges_of_list c.args.nest_limit reading reads.found same))

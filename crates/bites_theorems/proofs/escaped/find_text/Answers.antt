@@ -5,4 +5,4 @@ use Rattle.bites_theorems.proofs.escaped.find_text.Goals as goal
 pub returns-clause-first : goal.returns-clause-first
 returns-clause-first c =
     text_is_found c.args.haystack.now c.args.text.now c.utf8.haystack c.utf8.text c.in_ok-regex.regex c.in_ok-regex.ensures.tree
-    (λ x. (excerpt_of x).span) c.in_ok-found.found c.in_ok-found.ensures.on_tree
+    excerpt_of c.in_ok-found.found c.in_ok-found.ensures

@@ -10,6 +10,6 @@ returns-clause-lies c =
           (rw w.start.ensures
           (rw w.end.ensures
           (found_lies c.args.regex.now c.as_str-pattern.ensures.compiled c.args.haystack.now excerpt_of w.in-Some.found c.find_at_with.result
-          c.args.start w.in-Some.is c.find_at_with.ensures.found)))
+          c.args.start w.in-Some.is c.find_at_with.ensures.found.span)))
       | in-None w ↦ rw w.result-is tt
     ]

@@ -3,7 +3,7 @@ use Rattle.bites_spec.specs.Tree.{Tree, Trees, repetition, group, sequence, tree
 use Rattle.bites_spec.specs.Measure.{size_of, repeated_size}
 use Rattle.bites_machine.specs.Emitted.{Emitted, emitted, emit, emit_all, emit_each}
 use Rattle.bites_syntax.proofs.TreeParts.{read_below, parts_from}
-use Rattle.bites_machine.proofs.EmittedLemmas.{pushed-length, pushed-from, emit-length, again-length, options-length, bounded-length, loop-length, emit_all-length, part_fits, part_before, one_more_fits, loop-room, exact-room, several-room, ranged_or_once-room, emit_all-more, emit_all-end, emit_each-more, emit_each-length, emit_each-end, tree_by_kind, emit_same}
+use Rattle.bites_machine.proofs.compile.EmittedLemmas.{pushed-length, pushed-from, emit-length, again-length, options-length, bounded-length, loop-length, emit_all-length, part_fits, part_before, one_more_fits, loop-room, exact-room, several-room, ranged_or_once-room, emit_all-more, emit_all-end, emit_each-more, emit_each-length, emit_each-end, tree_by_kind, emit_same}
 use Rattle.bites_machine.proofs.emit.States.+emit.Goals as goal
 use Rattle.bites_machine.proofs.emit.States.+emit.Goals.{counted-else-min-eq0-via-then-min-eq0+else-max-gt1, counted-else-min-eq0-via-else-min-eq0}
 

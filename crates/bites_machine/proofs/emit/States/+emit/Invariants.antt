@@ -2,7 +2,7 @@ use Rattle.std.proofs.Common.{◌≡◌, ◌+◌, ◌*◌, ◌-◌, drop}
 use Rattle.bites_spec.specs.Tree.{sequence, trees_of}
 use Rattle.bites_spec.specs.Measure.{height}
 use Rattle.bites_machine.specs.Emitted.{emitted, again, options, emit, emit_all, emit_each}
-use Rattle.bites_machine.proofs.EmittedLemmas.{with_rounds}
+use Rattle.bites_machine.proofs.compile.EmittedLemmas.{with_rounds}
 use Rattle.bites_machine.proofs.emit.States.+emit.Given as goal
 
 abbrev pub decreases-emit : goal.decreases-emit

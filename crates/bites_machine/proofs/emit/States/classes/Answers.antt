@@ -3,7 +3,7 @@ use Rattle.bites_spec.specs.Range.{Range}
 use Rattle.bites_spec.specs.Tree as spec
 use Rattle.bites_spec.specs.Program.{State}
 use Rattle.bites_machine.specs.Emitted.{Emitted, emitted, pushed, class_state, in_front, again, emit}
-use Rattle.bites_machine.proofs.EmittedLemmas.{again-length}
+use Rattle.bites_machine.proofs.compile.EmittedLemmas.{again-length}
 use Rattle.bites_machine.proofs.emit.States.classes.Goals as goal
 
 -- one more state of a class, whose ranges are these

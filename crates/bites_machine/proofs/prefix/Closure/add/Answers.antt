@@ -1,4 +1,4 @@
-use Rattle.bites_machine.proofs.PrefixSets.{in_set-joined}
+use Rattle.bites_machine.proofs.shortcuts.PrefixSets.{in_set-joined}
 use Rattle.bites_machine.proofs.prefix.Closure.add.Goals as goal
 
 pub returns-clause-set : goal.returns-clause-set

@@ -4,7 +4,7 @@ use Rattle.bites_spec.specs.Program as program
 use Rattle.bites_machine.specs.States.{state_of, states_of}
 use Rattle.bites_machine.specs.Prefix.{Follows}
 use Rattle.bites_machine.specs.declared.prefix.Closure.{Closure}
-use Rattle.bites_machine.proofs.PrefixLemmas.{found_seen, found_new}
+use Rattle.bites_machine.proofs.shortcuts.PrefixLemmas.{found_seen, found_new}
 use Rattle.bites_machine.proofs.prefix.Closure.look.Goals as goal
 
 pub returns-then-contains : goal.returns-then-contains

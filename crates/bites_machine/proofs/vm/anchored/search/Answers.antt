@@ -2,8 +2,8 @@ use Rattle.std.proofs.Common.{◌≡◌, ◌≤◌, ◌<◌, ◌+◌, false, Lis
 use Rattle.bites_spec.specs.Program as program
 use Rattle.bites_machine.specs.States.{states_of}
 use Rattle.bites_machine.specs.Sweep.{InvariantBetweenSteps}
-use Rattle.bites_machine.proofs.PlaceSteps.{between_later}
-use Rattle.bites_machine.proofs.AnchoredSteps.{ends_after, some_piece, has_stepped, stepped_next, anchored_result_by}
+use Rattle.bites_machine.proofs.refine.PlaceSteps.{between_later}
+use Rattle.bites_machine.proofs.refine.AnchoredSteps.{ends_after, some_piece, has_stepped, stepped_next, anchored_result_by}
 use Rattle.bites_machine.proofs.vm.anchored.search.Goals as goal
 
 pub places-preserved : goal.places-preserved

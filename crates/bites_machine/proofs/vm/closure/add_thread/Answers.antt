@@ -1,5 +1,5 @@
 use Rattle.std.proofs.Common.{refl}
-use Rattle.bites_machine.proofs.ScratchLemmas.{puts_in}
+use Rattle.bites_machine.proofs.tables.ScratchLemmas.{puts_in}
 use Rattle.bites_machine.proofs.vm.closure.add_thread.Goals as goal
 
 pub returns : goal.returns

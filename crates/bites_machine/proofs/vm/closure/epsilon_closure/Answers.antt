@@ -4,8 +4,8 @@ use Rattle.bites_machine.specs.States.{states_of}
 use Rattle.bites_machine.specs.declared.state.State.{State}
 use Rattle.bites_machine.specs.declared.vm.stack.Frame.{Frame}
 use Rattle.bites_machine.specs.Explore.{AreSound, IsReady, Explores, edges_left}
-use Rattle.bites_machine.proofs.UsedLemmas.{user_known, user_counted}
-use Rattle.bites_machine.proofs.ClosureSteps.{ClosesSome, closes_first, closes_more, closes_frames}
+use Rattle.bites_machine.proofs.tables.UsedLemmas.{user_known, user_counted}
+use Rattle.bites_machine.proofs.refine.ClosureSteps.{ClosesSome, closes_first, closes_more, closes_frames}
 use Rattle.bites_machine.proofs.vm.closure.epsilon_closure.Goals as goal
 
 pub loop-next-init : goal.loop-next-init

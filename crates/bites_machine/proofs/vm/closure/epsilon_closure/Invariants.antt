@@ -2,7 +2,7 @@ use Rattle.std.proofs.Common.{◌≡◌, ◌+◌, ◌++◌, length}
 use Rattle.std.specs.Prelude.{option_to_list}
 use Rattle.bites_machine.specs.States.{states_of}
 use Rattle.bites_machine.specs.Explore.{edges_left}
-use Rattle.bites_machine.proofs.ClosureSteps.{ClosesSome}
+use Rattle.bites_machine.proofs.refine.ClosureSteps.{ClosesSome}
 use Rattle.bites_machine.proofs.vm.closure.epsilon_closure.Given as goal
 
 abbrev pub invariant-loop-next : goal.invariant-loop-next

@@ -5,8 +5,8 @@ use Rattle.std.proofs.lemmas.List.{set-get_or, length-map}
 use Rattle.bites_spec.specs.Program.{Configuration, at, state_at, targets_of}
 use Rattle.bites_machine.specs.States.{states_of, state_of}
 use Rattle.bites_machine.specs.declared.state.State.{State}
-use Rattle.bites_machine.proofs.ExploreLemmas.{popped, none_popped, not_visited, not_all_members, edges_of_member}
-use Rattle.bites_machine.proofs.ExploreSteps.{explores_again, explores_new}
+use Rattle.bites_machine.proofs.steps.ExploreLemmas.{popped, none_popped, not_visited, not_all_members, edges_of_member}
+use Rattle.bites_machine.proofs.steps.ExploreSteps.{explores_again, explores_new}
 use Rattle.bites_machine.specs.Visits.{VisitsTo}
 use Rattle.bites_machine.proofs.vm.closure.explore.Goals as goal
 

@@ -2,11 +2,12 @@ use Rattle.std.proofs.Common.{ap, sym, ◌∙◌, subst, Some, None, inl, refl}
 use Rattle.std.specs.Prelude.{option_map, ◌==◌}
 use Rattle.bites_syntax.specs.View.{look_of}
 use Rattle.bites_machine.specs.States.{state_of}
-use Rattle.bites_machine.specs.Visits.{VisitsTo, takes_by}
+use Rattle.bites_machine.specs.Ends.{takes_by}
+use Rattle.bites_machine.specs.Visits.{VisitsTo}
 use Rattle.bites_spec.specs.Range.{in_ranges}
-use Rattle.bites_machine.proofs.VisitLemmas.{visits_splits, visits_on, visits_not_on, visits_fail, visits_char, visits_ranges}
-use Rattle.bites_machine.proofs.CaptureLemmas.{visits_capture, visits_match}
-use Rattle.bites_machine.proofs.UsedLemmas.{user_known, user_counted}
+use Rattle.bites_machine.proofs.steps.VisitLemmas.{visits_splits, visits_on, visits_not_on, visits_fail, visits_char, visits_ranges}
+use Rattle.bites_machine.proofs.steps.CaptureLemmas.{visits_capture, visits_match}
+use Rattle.bites_machine.proofs.tables.UsedLemmas.{user_known, user_counted}
 use Rattle.bites_machine.proofs.vm.closure.follow.Goals as goal
 
 pub record_match-requires-clause-known : goal.record_match-requires-clause-known
@@ -21,7 +22,7 @@ returns-in-Char-clause-moves c =
     subst (λ st. VisitsTo c.args.here.now.haystack.now c.args.here.now.longest c.args.here.now.place st c.args.thread c.args.frame c.args.scratch.now c.step_char.new.scratch
     c.args.slots.now c.args.slots.now None) e
     (visits_char c.args.here.now.haystack.now c.args.here.now.longest c.args.here.now.place c.in-Char.target c.in-Char.ch c.args.thread c.args.frame c.args.scratch.now c.step_char.new.scratch
-    c.args.slots.now c.takes_char-takes.result (c.takes_char-takes.ensures ∙ ap (takes_by (λ d. d == c.in-Char.ch)) c.requires.ch) c.step_char.ensures c.requires.pending c.requires.starts)
+    c.args.slots.now c.is_char-takes.result (c.is_char-takes.ensures ∙ ap (takes_by (λ d. d == c.in-Char.ch)) c.requires.ch) c.step_char.ensures c.requires.pending c.requires.starts)
 
 pub returns-in-Ranges-clause-moves : goal.returns-in-Ranges-clause-moves
 returns-in-Ranges-clause-moves c =
@@ -29,7 +30,7 @@ returns-in-Ranges-clause-moves c =
     subst (λ st. VisitsTo c.args.here.now.haystack.now c.args.here.now.longest c.args.here.now.place st c.args.thread c.args.frame c.args.scratch.now c.step_char-in-Ranges.new.scratch
     c.args.slots.now c.args.slots.now None) e
     (visits_ranges c.args.here.now.haystack.now c.args.here.now.longest c.args.here.now.place c.in-Ranges.target c.in-Ranges.ranges c.args.thread c.args.frame c.args.scratch.now
-    c.step_char-in-Ranges.new.scratch c.args.slots.now c.takes_range-takes.result (c.takes_range-takes.ensures ∙ ap (takes_by (in_ranges c.in-Ranges.ranges)) c.requires.ch)
+    c.step_char-in-Ranges.new.scratch c.args.slots.now c.is_in-takes.result (c.is_in-takes.ensures ∙ ap (takes_by (in_ranges c.in-Ranges.ranges)) c.requires.ch)
     c.step_char-in-Ranges.ensures c.requires.pending c.requires.starts)
 
 pub returns-in-Splits-clause-moves : goal.returns-in-Splits-clause-moves

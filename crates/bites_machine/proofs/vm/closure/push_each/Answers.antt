@@ -2,7 +2,7 @@ use Rattle.std.proofs.Common.{ap, ◌∙◌, ◌++◌}
 use Rattle.bites_spec.specs.Program as program
 use Rattle.bites_spec.specs.Program.{targets_of}
 use Rattle.bites_machine.specs.Framed.{framed}
-use Rattle.bites_machine.proofs.FrameLemmas.{drop_first, length-targets}
+use Rattle.bites_machine.proofs.tables.FrameLemmas.{drop_first, length-targets}
 use Rattle.bites_machine.proofs.vm.closure.push_each.Goals as goal
 
 pub returns-clause-frames : goal.returns-clause-frames

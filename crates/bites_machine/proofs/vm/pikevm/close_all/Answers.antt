@@ -10,8 +10,8 @@ use Rattle.bites_machine.specs.declared.prefix.StartPrefix.{StartPrefix}
 use Rattle.bites_machine.specs.declared.state.State.{State}
 use Rattle.bites_machine.specs.declared.vm.threads.Thread.{Thread}
 use Rattle.bites_machine.specs.Sweep.{ClosesThread, ClosesAll}
-use Rattle.bites_machine.proofs.BetweenStepsLemmas.{all_without, all_with, start_used}
-use Rattle.bites_machine.proofs.RestSteps.{all_rest, visited_here}
+use Rattle.bites_machine.proofs.refine.BetweenStepsLemmas.{all_without, all_with, start_used}
+use Rattle.bites_machine.proofs.refine.RestSteps.{all_rest, visited_here}
 use Rattle.bites_machine.proofs.vm.pikevm.close_all.Goals as goal
 
 pub returns-in_default-clause-walks : goal.returns-in_default-clause-walks

@@ -2,8 +2,8 @@ use Rattle.std.proofs.Common.{◌<◌, length, map, sym, ◌∙◌, subst, ◌++
 use Rattle.std.proofs.lemmas.List.{length-map}
 use Rattle.bites_machine.specs.States.{state_of}
 use Rattle.bites_machine.specs.Scratch.{row_of}
-use Rattle.bites_machine.proofs.UsedLemmas.{user_known}
-use Rattle.bites_machine.proofs.ClosesThreadLemmas.{ready_to_close, started_before, closes_by_closure, closes_by_cut}
+use Rattle.bites_machine.proofs.tables.UsedLemmas.{user_known}
+use Rattle.bites_machine.proofs.refine.ClosesThreadLemmas.{ready_to_close, started_before, closes_by_closure, closes_by_cut}
 use Rattle.bites_machine.proofs.vm.pikevm.close_thread.Goals as goal
 
 pub release-requires-clause-known : goal.release-requires-clause-known

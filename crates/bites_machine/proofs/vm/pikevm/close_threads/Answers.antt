@@ -4,7 +4,7 @@ use Rattle.bites_machine.specs.States.{states_of}
 use Rattle.bites_machine.specs.declared.state.State.{State}
 use Rattle.bites_machine.specs.declared.vm.threads.Thread.{Thread}
 use Rattle.bites_machine.specs.Sweep.{ClosesThread, ClosesThreads}
-use Rattle.bites_machine.proofs.PlaceLemmas.{among_at, front_is, some_more, user_first}
+use Rattle.bites_machine.proofs.refine.PlaceLemmas.{among_at, front_is, some_more, user_first}
 use Rattle.bites_machine.proofs.vm.pikevm.close_threads.Goals as goal
 
 pub close_thread-requires-clause-known : goal.close_thread-requires-clause-known

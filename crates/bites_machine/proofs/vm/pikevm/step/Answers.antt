@@ -1,11 +1,10 @@
-use Rattle.std.proofs.Common.{◌≡◌, ℕ, List, length, sym, ap, ◌∙◌, subst, Option, Bor}
-use Rattle.std.specs.Prelude.{IfSome}
+use Rattle.std.proofs.Common.{ℕ, List, length, sym, ap, ◌∙◌, subst}
 use Rattle.bites_spec.specs.Utf8.{piece}
 use Rattle.bites_spec.specs.Program as program
 use Rattle.bites_machine.specs.States.{states_of}
-use Rattle.bites_machine.specs.Sweep.{InvariantBetweenSteps, IsOfProgram, PassesIdle}
-use Rattle.bites_machine.proofs.SkipLemmas.{between_skipped}
-use Rattle.bites_machine.proofs.HuntSteps.{skipped_then_searched}
+use Rattle.bites_machine.specs.Sweep.{InvariantBetweenSteps, PassesIdle}
+use Rattle.bites_machine.proofs.refine.SkipLemmas.{between_skipped}
+use Rattle.bites_machine.proofs.refine.HuntSteps.{skipped_then_searched}
 use Rattle.bites_machine.proofs.vm.pikevm.step.Goals as goal
 
 pub step_threads-requires-clause-between : goal.step_threads-requires-clause-between

@@ -6,9 +6,9 @@ use Rattle.bites_machine.specs.Explore.{AreSound}
 use Rattle.bites_machine.specs.Sweep.{InvariantBetweenSteps, PlaceSearched, ClosesAll}
 use Rattle.bites_machine.specs.Anchored.{ThreadsSearched}
 use Rattle.bites_machine.specs.declared.vm.closure.Scratch.{Scratch}
-use Rattle.bites_machine.proofs.BetweenStepsLemmas.{within_step_cleared, sound_states}
-use Rattle.bites_machine.proofs.PlaceSearches.{between_again, place_searches}
-use Rattle.bites_machine.proofs.AnchoredSteps.{threads_steps}
+use Rattle.bites_machine.proofs.refine.BetweenStepsLemmas.{within_step_cleared, sound_states}
+use Rattle.bites_machine.proofs.refine.PlaceSearches.{between_again, place_searches}
+use Rattle.bites_machine.proofs.refine.AnchoredSteps.{threads_steps}
 use Rattle.bites_machine.proofs.vm.pikevm.step_threads.Goals as goal
 
 pub close_all-requires-clause-sound : goal.close_all-requires-clause-sound

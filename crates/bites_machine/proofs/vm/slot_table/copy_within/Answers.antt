@@ -1,4 +1,4 @@
-use Rattle.bites_machine.proofs.CellLemmas.{copied_more}
+use Rattle.bites_machine.proofs.tables.CellLemmas.{copied_more}
 use Rattle.bites_machine.proofs.vm.slot_table.copy_within.Goals as goal
 
 pub loop-k-preserved : goal.loop-k-preserved

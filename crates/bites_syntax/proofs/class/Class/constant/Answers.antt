@@ -1,4 +1,3 @@
-use Rattle.std.proofs.Common.{◌≡◌}
 use Rattle.bites_spec.proofs.classes.ClassLemmas.{ranges_of_list}
 use Rattle.bites_syntax.specs.Ranges.{constant_set}
 use Rattle.bites_syntax.proofs.class.Class.constant.Goals as goal

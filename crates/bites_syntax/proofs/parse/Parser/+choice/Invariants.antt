@@ -5,8 +5,8 @@ use Rattle.bites_syntax.proofs.parse.Parser.+choice.Given as goal
 abbrev pub decreases-choice : goal.decreases-choice
 decreases-choice l = length l.self.now.cursor
 
-abbrev pub invariant-loop-rows : goal.invariant-loop-rows
-invariant-loop-rows l = Reaches l.limit l.depth l.fn.self l.self l.rows × (length l.self.cursor ≤ length l.fn.self.cursor)
+abbrev pub invariant-loop-branches : goal.invariant-loop-branches
+invariant-loop-branches l = Reaches l.depth l.fn.self l.self l.branches × (length l.self.cursor ≤ length l.fn.self.cursor)
 
-abbrev pub decreases-loop-rows : goal.decreases-loop-rows
-decreases-loop-rows l = length l.self.cursor
+abbrev pub decreases-loop-branches : goal.decreases-loop-branches
+decreases-loop-branches l = length l.self.cursor

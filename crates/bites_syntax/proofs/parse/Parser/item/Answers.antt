@@ -13,7 +13,7 @@ returns-then-begins_atom-clause-reads c = λ g bs ts is depth n room.
     let star : c.args.c ≢ 42 = omega arith in
     let plus : c.args.c ≢ 43 = omega arith in
     let brace : c.args.c ≢ 123 = omega arith in
-    reads_at c.args.limit depth n c.push_atom.result c.push_atom.new.self c.push_atom.new.rows _ _
-    (item_atom c.args.limit (inner ranges_of c.args.limit n) n depth g bs ts c.args.c c.args.self.now.cursor (ne_eqb c.args.c 41 c.requires.closing) (ne_eqb c.args.c 124 bar)
+    reads_at c.args.self.now.limit depth n c.push_atom.result c.push_atom.new.self c.push_atom.new.branches _ _
+    (item_atom c.args.self.now.limit (inner ranges_of c.args.self.now.limit n) n depth g bs ts c.args.c c.args.self.now.cursor (ne_eqb c.args.c 41 c.requires.closing) (ne_eqb c.args.c 124 bar)
     (ne_eqb c.args.c 40 c.requires.opening) (ne_eqb c.args.c 63 question) (ne_eqb c.args.c 42 star) (ne_eqb c.args.c 43 plus) (ne_eqb c.args.c 123 brace))
-    (c.push_atom.ensures.reads c.args.limit g bs ts is depth n room)
+    (c.push_atom.ensures.reads c.args.self.now.limit g bs ts is depth n room)

@@ -8,8 +8,8 @@ use Rattle.bites_syntax.proofs.parse.Parser.items.Given as goal
 
 abbrev pub invariant-loop-c : goal.invariant-loop-c
 invariant-loop-c l =
-    ((g : pattern.Front) → (bs ts : List Tree) → IsAt l.limit l.fn.self l.fn.rows g bs ts → (depth n : ℕ) → length l.fn.self.cursor ≤ n →
-    GoesOnWithItem l.limit depth l.self l.rows (inner ranges_of l.limit (suc n) depth g bs ts l.fn.self.cursor))
+    ((limit : ℕ) → (g : pattern.Front) → (bs ts : List Tree) → IsAt limit l.fn.self l.fn.branches g bs ts → (depth n : ℕ) → length l.fn.self.cursor ≤ n →
+    GoesOnWithItem limit depth l.self l.branches (inner ranges_of limit (suc n) depth g bs ts l.fn.self.cursor))
     × (length l.self.cursor ≤ length l.fn.self.cursor)
 
 abbrev pub decreases-loop-c : goal.decreases-loop-c

@@ -11,21 +11,22 @@ use Rattle.bites_syntax.proofs.parse.Parser.repeat.Goals as goal
 
 pub returns-clause-reads : goal.returns-clause-reads
 returns-clause-reads c = λ g bs ts is depth n at.
-    let some : vec_len c.args.rows.now.nodes ≢ 0 = eqb-false (vec_len c.args.rows.now.nodes) 0 (sym c.if-is_empty.ensures) in
-    let filled : 0 < length c.args.rows.now.nodes.items = omega (arith, c.args.rows.now.nodes.ok.0) in
-    let one = some_of c.args.limit c.args.rows.now.nodes.items ts filled is.nodes_are in
-    let are : AreNodes c.args.limit c.args.rows.now.nodes.items (one.first ∷ one.more) = subst (λ x. AreNodes c.args.limit c.args.rows.now.nodes.items x) one.are is.nodes_are in
+    let some : vec_len c.args.branches.now.nodes ≢ 0 = eqb-false (vec_len c.args.branches.now.nodes) 0 (sym c.if-is_empty.ensures) in
+    let filled : 0 < length c.args.branches.now.nodes.items = omega (arith, c.args.branches.now.nodes.ok.0) in
+    let one = some_of c.args.self.now.limit c.args.branches.now.nodes.items ts filled is.nodes_are in
+    let are : AreNodes c.args.self.now.limit c.args.branches.now.nodes.items (one.first ∷ one.more) = subst (λ x. AreNodes c.args.self.now.limit c.args.branches.now.nodes.items x) one.are is.nodes_are in
     let reads : plain_operator g.flags c.args.min c.args.max (lazy c.args.self.now.cursor) ≡ Ok (bounds_of c.plain_operator-bounds.result, c.plain_operator-bounds.new.cursor) =
     subst (λ f. plain_operator f c.args.min c.args.max (lazy c.args.self.now.cursor) ≡ Ok (bounds_of c.plain_operator-bounds.result, c.plain_operator-bounds.new.cursor))
-    is.front.flags c.plain_operator-bounds.ensures.reads in
+    is.state.flags c.plain_operator-bounds.ensures.reads in
     record {
       g = g;
       branches = bs;
       nodes = repeat_last (bounds_of c.plain_operator-bounds.result) one.first one.more;
       is_at = record {
-        front = is.front;
-        branches_are = rw c.in_ok-repeat.ensures.branches is.branches_are;
+        limit_is = is.limit_is;
+        state = is.state;
+        branches_are = rw c.in_ok-repeat.ensures.complete is.branches_are;
         nodes_are = c.in_ok-repeat.ensures.nodes one.first one.more are;
       };
-      same = operator_goes c.args.limit (inner ranges_of c.args.limit n) depth g bs ts one.more one.first message.nothing_to_repeat at c.plain_operator-bounds.new.cursor _ _ one.are reads;
+      same = operator_goes c.args.self.now.limit (inner ranges_of c.args.self.now.limit n) depth g bs ts one.more one.first message.nothing_to_repeat at c.plain_operator-bounds.new.cursor _ _ one.are reads;
     }

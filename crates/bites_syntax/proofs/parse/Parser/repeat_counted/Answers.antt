@@ -15,30 +15,31 @@ use Rattle.bites_syntax.proofs.parse.Parser.repeat_counted.Goals as goal
 pub returns-in_err-bounds-clause-reads : goal.returns-in_err-bounds-clause-reads
 returns-in_err-bounds-clause-reads c = λ g bs ts is depth at n room.
     let p = err_from_is_err_and c.from_residual.result c.from_residual.ensures.1 in
-    let some : vec_len c.args.rows.now.nodes ≢ 0 = eqb-false (vec_len c.args.rows.now.nodes) 0 (sym c.if-is_empty.ensures) in
-    let filled : 0 < length c.args.rows.now.nodes.items = omega (arith, c.args.rows.now.nodes.ok.0) in
-    let one = some_of c.args.limit c.args.rows.now.nodes.items ts filled is.nodes_are in
-    let same = counted_at n (flags_of c.args.self.now.front.flags) g.flags c.args.self.now.cursor c.skip.new.self is.front.flags c.skip.ensures.rest in
+    let some : vec_len c.args.branches.now.nodes ≢ 0 = eqb-false (vec_len c.args.branches.now.nodes) 0 (sym c.if-is_empty.ensures) in
+    let filled : 0 < length c.args.branches.now.nodes.items = omega (arith, c.args.branches.now.nodes.ok.0) in
+    let one = some_of c.args.self.now.limit c.args.branches.now.nodes.items ts filled is.nodes_are in
+    let same = counted_at n (flags_of c.args.self.now.state.flags) g.flags c.args.self.now.cursor c.skip.new.self is.state.flags c.skip.ensures.rest in
     rw (p.1, p.2)
-    (inr (operator_fault c.args.limit (inner ranges_of c.args.limit n) depth g bs ts one.more one.first message.nothing_to_count at _ _ one.are
+    (inr (operator_fault c.args.self.now.limit (inner ranges_of c.args.self.now.limit n) depth g bs ts one.more one.first message.nothing_to_count at _ _ one.are
     (ap error_in same ∙ c.in_err-bounds.ensures.reads n (omega arith))))
 
 pub returns-clause-reads : goal.returns-clause-reads
 returns-clause-reads c = λ g bs ts is depth at n room.
-    let some : vec_len c.args.rows.now.nodes ≢ 0 = eqb-false (vec_len c.args.rows.now.nodes) 0 (sym c.if-is_empty.ensures) in
-    let filled : 0 < length c.args.rows.now.nodes.items = omega (arith, c.args.rows.now.nodes.ok.0) in
-    let one = some_of c.args.limit c.args.rows.now.nodes.items ts filled is.nodes_are in
-    let are : AreNodes c.args.limit c.args.rows.now.nodes.items (one.first ∷ one.more) = subst (λ x. AreNodes c.args.limit c.args.rows.now.nodes.items x) one.are is.nodes_are in
-    let same = counted_at n (flags_of c.args.self.now.front.flags) g.flags c.args.self.now.cursor c.skip.new.self is.front.flags c.skip.ensures.rest in
+    let some : vec_len c.args.branches.now.nodes ≢ 0 = eqb-false (vec_len c.args.branches.now.nodes) 0 (sym c.if-is_empty.ensures) in
+    let filled : 0 < length c.args.branches.now.nodes.items = omega (arith, c.args.branches.now.nodes.ok.0) in
+    let one = some_of c.args.self.now.limit c.args.branches.now.nodes.items ts filled is.nodes_are in
+    let are : AreNodes c.args.self.now.limit c.args.branches.now.nodes.items (one.first ∷ one.more) = subst (λ x. AreNodes c.args.self.now.limit c.args.branches.now.nodes.items x) one.are is.nodes_are in
+    let same = counted_at n (flags_of c.args.self.now.state.flags) g.flags c.args.self.now.cursor c.skip.new.self is.state.flags c.skip.ensures.rest in
     record {
       g = g;
       branches = bs;
       nodes = repeat_last (bounds_of c.in_ok-bounds.bounds) one.first one.more;
       is_at = record {
-        front = is.front;
-        branches_are = rw c.in_ok-repeat.ensures.branches is.branches_are;
+        limit_is = is.limit_is;
+        state = is.state;
+        branches_are = rw c.in_ok-repeat.ensures.complete is.branches_are;
         nodes_are = c.in_ok-repeat.ensures.nodes one.first one.more are;
       };
-      same = operator_goes c.args.limit (inner ranges_of c.args.limit n) depth g bs ts one.more one.first message.nothing_to_count at c.counted.new.cursor _ _ one.are
+      same = operator_goes c.args.self.now.limit (inner ranges_of c.args.self.now.limit n) depth g bs ts one.more one.first message.nothing_to_count at c.counted.new.cursor _ _ one.are
           (same ∙ c.in_ok-bounds.ensures.reads n (omega arith));
     }

@@ -4,12 +4,12 @@ use Rattle.bites_theorems.proofs.agreement.over_texts.find_and_group_0.Goals as 
 
 pub returns-in-Some : goal.returns-in-Some
 returns-in-Some c =
-    c.in_ok-first.ensures.found
+    c.in_ok-first.ensures.span
     ∙ sym (c.get.ensures
     ∙ whole_is_span c.args.regex.now c.args.haystack.now c.args.start c.as_str.ensures.compiled c.in-Some.captures
     (sym c.in-Some.is ∙ c.in_ok-captures.ensures.found))
 
 pub returns-in-None : goal.returns-in-None
 returns-in-None c =
-    c.in_ok-first.ensures.found
+    c.in_ok-first.ensures.span
     ∙ no_captures c.args.regex.now c.args.haystack.now c.args.start (sym c.in-None.is ∙ c.in_ok-captures.ensures.found)

@@ -4,5 +4,5 @@ use Rattle.bites_theorems.proofs.agreement.over_texts.is_match_find_shortest.Goa
 
 pub returns-clause-soonest : goal.returns-clause-soonest
 returns-clause-soonest c =
-    soonest_is_no_later c.args.regex.now c.args.haystack.now c.args.start (λ m. (excerpt_of m).span) c.in_ok-first.first
-    c.in_ok-first.ensures.on_tree c.in_ok-soonest.soonest c.in_ok-soonest.ensures.least
+    soonest_is_no_later c.args.regex.now c.args.haystack.now c.args.start excerpt_of c.in_ok-first.first
+    c.in_ok-first.ensures c.in_ok-soonest.soonest c.in_ok-soonest.ensures.least

@@ -5,4 +5,4 @@ use Rattle.bites_theorems.proofs.calls.over_bytes.find.Goals as goal
 
 pub returns : goal.returns
 returns c =
-    IfOk-weaker c.find_at.result _ _ (match_headline c.args.regex.now c.args.haystack.now c.args.start (λ m. (excerpt_of m).span)) c.find_at.ensures.on_tree
+    IfOk-weaker c.find_at.result _ _ (match_headline c.args.regex.now c.args.haystack.now c.args.start excerpt_of) c.find_at.ensures

@@ -5,9 +5,9 @@ use Rattle.bites_theorems.proofs.calls.over_texts.find.Goals as goal
 
 pub returns-clause-headline : goal.returns-clause-headline
 returns-clause-headline c =
-    IfOk-weaker c.find_at.result _ _ (match_headline c.args.regex.now c.args.haystack.now c.args.start (λ m. (excerpt_of m).span)) c.find_at.ensures.on_tree
+    IfOk-weaker c.find_at.result _ _ (match_headline c.args.regex.now c.args.haystack.now c.args.start excerpt_of) c.find_at.ensures
 
 pub returns-clause-borders : goal.returns-clause-borders
 returns-clause-borders c =
     IfOk-weaker c.find_at.result _ _
-    (found_at_borders c.args.regex.now c.args.haystack.now c.args.start (λ m. (excerpt_of m).span) c.utf8.haystack c.requires) c.find_at.ensures.on_tree
+    (found_at_borders c.args.regex.now c.args.haystack.now c.args.start excerpt_of c.utf8.haystack c.requires) c.find_at.ensures

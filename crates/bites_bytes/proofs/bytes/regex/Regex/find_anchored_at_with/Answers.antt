@@ -4,11 +4,11 @@ use Rattle.bites_spec.specs.Regex.{IsCompiled}
 use Rattle.bites_spec.specs.Captured.{excerpt}
 use Rattle.bites_spec.specs.Anchored.{anchored_span_at}
 use Rattle.bites_bytes.specs.Matched.{excerpt_of}
-use Rattle.bites_bytes.proofs.AnchoredLemmas.{span_on_tree}
+use Rattle.bites_bytes.proofs.AnchoredLemmas.{match_from}
 use Rattle.bites_bytes.proofs.bytes.regex.Regex.find_anchored_at_with.Goals as goal
 
-pub returns-clause-on_tree : goal.returns-clause-on_tree
-returns-clause-on_tree c =
+pub returns-clause-found : goal.returns-clause-found
+returns-clause-found c =
     let same = c.deref.ensures ∙ c.compiled.ensures in
-    span_on_tree c.args.self.now (subst IsCompiled same c.find_anchored-ends.ensures.compiled) c.args.haystack.now c.args.start excerpt_of c.at.result
+    match_from c.args.self.now (subst IsCompiled same c.find_anchored-ends.ensures.compiled) c.args.haystack.now c.args.start (option_map excerpt_of c.at.result)
     (c.at.ensures.found ∙ ap (option_map (excerpt c.args.haystack.now)) (c.find_anchored-ends.ensures.found ∙ ap (λ r. anchored_span_at r c.args.haystack.now c.args.start) same))

@@ -1,7 +1,7 @@
 use Rattle.std.proofs.Common.{◌≡◌, ◌+◌, ◌*◌, length, ap, ◌∙◌, rules}
 use Rattle.std.specs.Prelude.{slice_index}
 use Rattle.std.proofs.lemmas.List.{length-replicate}
-use Rattle.bites_machine.proofs.FreeLemmas.{none_at}
+use Rattle.bites_machine.proofs.tables.FreeLemmas.{none_at}
 use Rattle.bites_machine.proofs.vm.cache.Cache.new.Goals as goal
 
 pub invariant_of-result : goal.invariant_of-result

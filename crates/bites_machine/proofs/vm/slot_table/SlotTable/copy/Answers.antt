@@ -3,9 +3,9 @@ use Rattle.std.specs.Prelude.{slice_index, slice_index_or, slice_set}
 use Rattle.std.proofs.lemmas.List.{length-set, length-take-le, nil_from_length}
 use Rattle.std.proofs.Common.{length-drop}
 use Rattle.bites_machine.specs.SlotTable.{AreFree, AreTaken, ref_counts_of, slot_of, with_pending, with_words, rows_of}
-use Rattle.bites_machine.proofs.RowLemmas.{row_fits, rows_apart, whole_again}
-use Rattle.bites_machine.proofs.WordLemmas.{length-with_words, words_copied, words_pushed}
-use Rattle.bites_machine.proofs.FreeLemmas.{is_taken, taken, taken_more, some_left, last_free, count_at, count_set, count_pushed, length-ref_counts_of}
+use Rattle.bites_machine.proofs.tables.RowLemmas.{row_fits, rows_apart, whole_again}
+use Rattle.bites_machine.proofs.tables.WordLemmas.{length-with_words, words_copied, words_pushed}
+use Rattle.bites_machine.proofs.tables.FreeLemmas.{is_taken, taken, taken_more, some_left, last_free, count_at, count_set, count_pushed, length-ref_counts_of}
 use Rattle.bites_machine.proofs.vm.slot_table.SlotTable.copy.Goals as goal
 use Rattle.bites_machine.proofs.vm.slot_table.SlotTable.copy.Goals.{After-copy_row, After-pop, After-push, After-push_row, In-Some, In_default}
 

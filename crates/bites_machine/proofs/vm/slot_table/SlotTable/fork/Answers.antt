@@ -1,6 +1,6 @@
 use Rattle.std.proofs.Common.{subst, sym}
 use Rattle.bites_machine.specs.Used.{ForksTo}
-use Rattle.bites_machine.proofs.UsedLemmas.{user_known, user_counted, few_users, shared, copied}
+use Rattle.bites_machine.proofs.tables.UsedLemmas.{user_known, user_counted, few_users, shared, copied}
 use Rattle.bites_machine.proofs.vm.slot_table.SlotTable.fork.Goals as goal
 
 pub retain-requires-clause-known : goal.retain-requires-clause-known

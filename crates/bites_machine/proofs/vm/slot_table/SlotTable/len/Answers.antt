@@ -1,5 +1,5 @@
 use Rattle.std.proofs.Common.{sym, ap, ◌∙◌, length}
-use Rattle.bites_machine.proofs.FreeLemmas.{length-ref_counts_of}
+use Rattle.bites_machine.proofs.tables.FreeLemmas.{length-ref_counts_of}
 use Rattle.bites_machine.proofs.vm.slot_table.SlotTable.len.Goals as goal
 
 pub returns : goal.returns

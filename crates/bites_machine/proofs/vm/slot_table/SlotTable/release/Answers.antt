@@ -2,7 +2,7 @@ use Rattle.std.proofs.Common.{◌≡◌, ◌<◌, ◌-◌, ◌∷◌, ◌++◌, 
 use Rattle.std.specs.Prelude.{slice_index, slice_set}
 use Rattle.std.proofs.lemmas.List.{get_or_default}
 use Rattle.bites_machine.specs.SlotTable.{one_less}
-use Rattle.bites_machine.proofs.FreeLemmas.{is_taken, count_at, count_less, taken_set, recounted, freed}
+use Rattle.bites_machine.proofs.tables.FreeLemmas.{is_taken, count_at, count_less, taken_set, recounted, freed}
 use Rattle.bites_machine.proofs.vm.slot_table.SlotTable.release.Goals as goal
 use Rattle.bites_machine.proofs.vm.slot_table.SlotTable.release.Goals.{After-index_mut}
 

@@ -2,7 +2,7 @@ use Rattle.std.proofs.Common.{◌≡◌, ◌<◌, length, ap, sym, ◌∙◌, su
 use Rattle.std.specs.Prelude.{slice_index}
 use Rattle.std.proofs.lemmas.List.{get_or_default}
 use Rattle.bites_machine.specs.SlotTable.{one_more}
-use Rattle.bites_machine.proofs.FreeLemmas.{is_taken, count_at, count_more, taken_set, recounted}
+use Rattle.bites_machine.proofs.tables.FreeLemmas.{is_taken, count_at, count_more, taken_set, recounted}
 use Rattle.bites_machine.proofs.vm.slot_table.SlotTable.retain.Goals as goal
 use Rattle.bites_machine.proofs.vm.slot_table.SlotTable.retain.Goals.{After-index_mut}
 

@@ -1,9 +1,9 @@
 use Rattle.std.proofs.Common.{◌≡◌, ◌<◌, ◌≤◌, ◌-◌, ◌∷◌, ◌++◌, [], length, take, map, replicate, cond, ap, ap₂, sym, ◌∙◌, subst, arith, vec_len, vec_capacity}
 use Rattle.std.specs.Prelude.{slice_index_or}
 use Rattle.bites_machine.specs.SlotTable.{no_slot, slot_of, rows_of}
-use Rattle.bites_machine.proofs.RowLemmas.{length-rows_of, row_fits}
-use Rattle.bites_machine.proofs.WordLemmas.{first_row, filled}
-use Rattle.bites_machine.proofs.FreeLemmas.{first_left, length-ref_counts_of}
+use Rattle.bites_machine.proofs.tables.RowLemmas.{length-rows_of, row_fits}
+use Rattle.bites_machine.proofs.tables.WordLemmas.{first_row, filled}
+use Rattle.bites_machine.proofs.tables.FreeLemmas.{first_left, length-ref_counts_of}
 use Rattle.bites_machine.proofs.vm.slot_table.SlotTable.setup_search.Goals as goal
 
 pub returns-clause-nothing : goal.returns-clause-nothing

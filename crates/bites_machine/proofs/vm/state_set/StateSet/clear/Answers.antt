@@ -2,7 +2,7 @@ use Rattle.std.proofs.Common.{◌≡◌, length, ap, sym, ◌∙◌, rules, fals
 use Rattle.std.specs.Prelude.{replicate}
 use Rattle.std.proofs.lemmas.List.{length-map}
 use Rattle.bites_machine.specs.StateSet.{members_of}
-use Rattle.bites_machine.proofs.StateSetLemmas.{no_members, none_at_first}
+use Rattle.bites_machine.proofs.tables.StateSetLemmas.{no_members, none_at_first}
 use Rattle.bites_machine.proofs.vm.state_set.StateSet.clear.Goals as goal
 
 pub returns-then-self-lt18446744073709551615 : goal.returns-then-self-lt18446744073709551615

@@ -1,7 +1,7 @@
 use Rattle.std.proofs.Common.{◌≡◌, ◌<◌, length, ap, sym, ◌∙◌, true, arith}
 use Rattle.std.specs.Prelude.{slice_set, slice_index}
 use Rattle.std.proofs.lemmas.List.{get_or_default, length-map}
-use Rattle.bites_machine.proofs.StateSetLemmas.{inserted, inserted_again}
+use Rattle.bites_machine.proofs.tables.StateSetLemmas.{inserted, inserted_again}
 use Rattle.bites_machine.proofs.vm.state_set.StateSet.insert.Goals as goal
 
 pub returns-then-index-self-clause-inserted : goal.returns-then-index-self-clause-inserted

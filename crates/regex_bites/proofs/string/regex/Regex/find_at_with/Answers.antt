@@ -9,6 +9,6 @@ pub of_found-requires : goal.of_found-requires
 of_found-requires c =
     found_part c.args.haystack.now c.utf8.haystack c.args.self.now c.over_bytes.ensures.compiled excerpt_of c.args.start c.requires.border
     c.find_at_with-found.result
-    (c.find_at_with-found.ensures.found
+    (c.find_at_with-found.ensures.found.span
     ∙ ap (λ hay. option_map (excerpt hay) (span_at c.over_bytes.result.now hay c.args.start)) c.as_bytes.ensures.value
     ∙ ap (λ r. option_map (excerpt c.args.haystack.now) (span_at r c.args.haystack.now c.args.start)) c.over_bytes.ensures.same)

@@ -1,0 +1,108 @@
+-- The program of a tree holds the tree, and has no fault.
+use Rattle.std.proofs.Common.{◌≡◌, ℕ, ◌+◌, ◌*◌, ◌%◌, ◌≤◌, ◌<◌, Bool, true, false, not, cond, ◌&&◌, List, [], ◌∷◌, length, Option, Some, None, Result, Ok, Err, OnOk, IfErr, refl, sym, true≢false, lt-ltb, le-leb, eq-eqb, arith}
+use Rattle.std.specs.Prelude.{nat_lt, nat_le, ◌==◌, sum_by}
+use Rattle.std.proofs.lemmas.Bool.Decides.{nat_tests}
+use Rattle.bites_spec.specs.Tree.{Tree, group, captures_len, IsReduced}
+use Rattle.bites_spec.specs.Measure.{size_of, states, group_weight, TreeLimitsWith}
+use Rattle.bites_spec.specs.Program as program
+use Rattle.bites_spec.specs.Program.{State, state_at, IsWellFormed}
+use Rattle.bites_spec.specs.Built.{Built, HasForm}
+use Rattle.bites_spec.specs.ProgramFaults.{ProgramFault, first_fault}
+use Rattle.bites_spec.proofs.runs.FaultLemmas.{first_fault-IsWellFormed}
+use Rattle.bites_machine.specs.Emitted.{emit}
+use Rattle.bites_machine.specs.Sizes.{held}
+use Rattle.bites_machine.specs.Compiled.{whole, program_of_tree, LimitsBy, RefusesTree, RefusesBy}
+use Rattle.bites_text.specs.declared.error.Error.{Error}
+use Rattle.bites_text.specs.declared.error.Error.TheVariants.{TooBig, TooManyStates, TooManySlots}
+use Rattle.bites_machine.specs.Classes.{HasClasses}
+use Rattle.bites_machine.proofs.compile.EmitLemmas.{below, Forms, Forms-emit, Forms-grouped, Counts-one, Counts-append_up}
+use Rattle.bites_machine.proofs.compile.LengthLemmas.{Grows-emit, Grows-grouped}
+use Rattle.bites_machine.proofs.compile.FaultLemmas.{both_true, Sound-emit, Sound-grouped}
+
+below_zero : (q : ℕ) → below 0 q ≡ 0
+below_zero q = grind (arith, nat_tests)
+
+from_zero : (q a b : ℕ) → a + below 0 q ≡ b → a ≡ b
+from_zero q a b e = omega (arith, below_zero q, e)
+
+pub whole_forms : (t : Tree) → Forms (λ l. HasForm l (group 0 None t)) 0 (program.match ∷ []) (whole t)
+whole_forms t = Forms-grouped (λ l. HasForm l t) (emit t) (Forms-emit t) 0 0 (program.match ∷ [])
+
+-- The program of a tree is built from it.
+pub Built-compiled : (n : ℕ) (t : Tree) → captures_len t ≤ n → Built t (program_of_tree n t)
+Built-compiled n t room =
+    let r = whole_forms t in
+    let x = r.form (whole t).states (record { same = λ q from below. refl }) in
+    let all = Counts-append_up (0 ∷ []) x.0 0 1 (length (whole t).states) (Counts-one 0 1 refl) x.2 in
+    record {
+      last = 0;
+      used = x.0;
+      form = x.1;
+      ends = r.extends.kept 0 (omega arith);
+      each_once = λ q. from_zero q _ _ (all.counts q);
+      groups = n;
+      slots = refl;
+      room = room;
+    }
+
+-- the program of a reduced tree has as many states as the tree's size says
+pub length-compiled : (n : ℕ) (t : Tree) → IsReduced t → length (program_of_tree n t).states ≡ states t
+length-compiled n t reduced =
+    omega (arith, (Grows-grouped (emit t) (size_of t).states (Grows-emit t reduced) 0 0 (program.match ∷ [])).len)
+
+no_fault : (b : Bool) (f : ProgramFault) (rest : Option ProgramFault) → b ≡ true → rest ≡ None → cond (not b) (Some f) rest ≡ None
+no_fault true f rest e h = h
+no_fault false f rest e h = absurd (true≢false (sym e))
+
+not_many : (b : Bool) (f : ProgramFault) (rest : Option ProgramFault) → b ≡ false → rest ≡ None → cond b (Some f) rest ≡ None
+not_many false f rest e h = h
+not_many true f rest e h = absurd (true≢false e)
+
+few_enough : (n : ℕ) → n ≤ 4294967295 → nat_lt 4294967295 n ≡ false
+few_enough n h = grind (arith, nat_tests)
+
+even_slots : (n : ℕ) → 1 ≤ n → (nat_le 2 (2 * n) && ((2 * n % 2) == 0)) ≡ true
+even_slots n some = both_true _ _ (le-leb 2 (2 * n) (omega arith)) (eq-eqb ((2 * n) % 2) 0 (omega arith))
+
+-- The program of a tree has no fault.
+pub first_fault-compiled : (n : ℕ) (t : Tree) → captures_len t ≤ n → HasClasses t → length (program_of_tree n t).states ≤ 4294967295 →
+    first_fault (program_of_tree n t) ≡ None
+first_fault-compiled n t room classes few =
+    let len = length (whole t).states in
+    let slots = 2 * n in
+    let long = (whole_forms t).extends.longer in
+    let s = Sound-grouped len slots (λ l. HasForm l t) (emit t) (Forms-emit t) (Sound-emit len slots t classes (omega arith)) 0 (omega arith) 0 (program.match ∷ []) refl (omega (arith, long)) (omega arith) in
+    not_many _ _ _ (few_enough len few) (no_fault _ _ _ (even_slots n (omega arith)) (no_fault _ _ _ (lt-ltb (whole t).from len s.entered) s.fine))
+
+-- The program of a tree is well-formed.
+pub IsWellFormed-compiled : (n : ℕ) (t : Tree) → captures_len t ≤ n → HasClasses t → length (program_of_tree n t).states ≤ 4294967295 →
+    IsWellFormed (program_of_tree n t)
+IsWellFormed-compiled n t room classes few = first_fault-IsWellFormed (program_of_tree n t) (first_fault-compiled n t room classes few)
+
+-- what holds of groups that weigh so much, as far as 64 bits count, holds of the groups
+limits_of : (size_limit captures weight : ℕ) (groups : List (Option (List ℕ))) (t : Tree) → size_limit < 18446744073709551616 →
+    captures ≡ length groups → weight ≡ held (sum_by group_weight groups) → LimitsBy size_limit captures weight t →
+    TreeLimitsWith size_limit groups t
+limits_of size_limit captures weight groups t fits len is h = record {
+  light = omega (arith, h.light);
+  few_states = h.few_states;
+  few_groups = omega (arith, h.few_groups);
+}
+
+refused_of : (size_limit captures weight : ℕ) (groups : List (Option (List ℕ))) (t : Tree) (e : Error) → size_limit < 18446744073709551616 →
+    captures ≡ length groups → weight ≡ held (sum_by group_weight groups) → RefusesBy size_limit captures weight t e → RefusesTree size_limit groups t e
+refused_of size_limit captures weight groups t TooBig fits len is h = omega (arith, h)
+refused_of size_limit captures weight groups t TooManyStates fits len is h = (omega (arith, h.0), h.1)
+refused_of size_limit captures weight groups t TooManySlots fits len is h = (omega (arith, h.0), h.1, omega (arith, h.2))
+refused_of size_limit captures weight groups t _ fits len is h = absurd h
+
+-- the same of what is answered
+module _ {A : Type 0} (size_limit captures weight : ℕ) (groups : List (Option (List ℕ))) (t : Tree) (fits : size_limit < 18446744073709551616)
+    (len : captures ≡ length groups) (is : weight ≡ held (sum_by group_weight groups)) where
+  pub limits_clause : (o : Result A Error) → OnOk o (LimitsBy size_limit captures weight t) → OnOk o (TreeLimitsWith size_limit groups t)
+  limits_clause (Ok x) h = limits_of size_limit captures weight groups t fits len is h
+  limits_clause (Err e) h = h
+
+  pub refused_clause : (o : Result A Error) → IfErr o (RefusesBy size_limit captures weight t) → IfErr o (RefusesTree size_limit groups t)
+  refused_clause (Ok x) h = h
+  refused_clause (Err e) h = refused_of size_limit captures weight groups t e fits len is h

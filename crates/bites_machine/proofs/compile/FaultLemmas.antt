@@ -1,0 +1,257 @@
+-- What is written for a tree has no fault.
+use Rattle.std.proofs.Common.{◌≡◌, ℕ, zero, suc, ◌+◌, ◌-◌, ◌*◌, ◌<◌, ◌≤◌, Bool, true, false, cond, not, ◌&&◌, max, List, [], ◌∷◌, ◌++◌, length, Option, Some, None, refl, arith, lt-ltb, le-leb, slice_set}
+use Rattle.std.specs.Prelude.{nat_lt}
+use Rattle.std.specs.List.{list_all}
+use Rattle.std.specs.Option.{option_or}
+use Rattle.std.proofs.lemmas.List.{length-set}
+use Rattle.std.proofs.lemmas.Bool.Decides.{nat_tests}
+use Rattle.bites_spec.specs.Walks.{first_among}
+use Rattle.bites_spec.specs.Class.{AreCanonical, following}
+use Rattle.bites_spec.specs.Tree.{Tree, Trees, empty, char, class, look, repetition, group, sequence, alternation, no_tree, tree_and, is_nullable, groups_in, groups_in_all, greatest}
+use Rattle.bites_spec.specs.Program as program
+use Rattle.bites_spec.specs.Program.{State, targets_of}
+use Rattle.bites_spec.specs.Built.{Fragment, HasForm}
+use Rattle.bites_spec.specs.ProgramFaults.{ProgramFault, bad_target, bad_ranges, bad_slot, are_ranges, has_ranges, has_slot, fault_of}
+use Rattle.bites_spec.proofs.runs.FirstLemmas.{or_none}
+use Rattle.bites_machine.specs.Emitted.{Emitted, Emitter, pushed, in_front, again, choice, options, bounded, around, loop, star, optional_loop, copies_up_to, repeated, class_state, grouped, Branches, emit, emit_all, emit_each}
+use Rattle.bites_machine.specs.Classes.{HasClasses, AllHaveClasses}
+use Rattle.bites_machine.proofs.compile.EmitLemmas.{length_pushed, FormsBody, Forms-emit, Forms-options, Forms-loop, Forms-emit_each}
+
+pub both_true : (a b : Bool) → a ≡ true → b ≡ true → (a && b) ≡ true
+both_true true b e f = f
+both_true false b e f = e
+
+none_none : (o p : Option ProgramFault) → o ≡ None → p ≡ None → option_or o p ≡ None
+none_none None p e f = f
+none_none (Some x) p e f = e
+
+first_among-append : (f : State → Option ProgramFault) (xs ys : List State) → first_among f xs ≡ None → first_among f ys ≡ None → first_among f (xs ++ ys) ≡ None
+first_among-append f [] ys e h = h
+first_among-append f (x ∷ xs) ys e h =
+    let both = or_none (f x) (first_among f xs) e in none_none (f x) _ both.0 (first_among-append f xs ys both.1 h)
+
+first_among-set : (f : State → Option ProgramFault) (xs : List State) (i : ℕ) (s : State) → first_among f xs ≡ None → f s ≡ None → first_among f (slice_set xs i s) ≡ None
+first_among-set f [] i s e h = e
+first_among-set f (x ∷ xs) zero s e h = none_none (f s) _ h (or_none (f x) (first_among f xs) e).1
+first_among-set f (x ∷ xs) (suc i) s e h =
+    let both = or_none (f x) (first_among f xs) e in none_none (f x) _ both.0 (first_among-set f xs i s both.1 h)
+
+pub greatest-append : (xs ys : List ℕ) → greatest (xs ++ ys) ≡ max (greatest xs) (greatest ys)
+greatest-append [] ys = omega arith
+greatest-append (x ∷ xs) ys = omega (arith, greatest-append xs ys)
+
+follows : (c d : ℕ) → following c < d → c < d
+follows c d h = grind (arith, nat_tests)
+
+-- canonical ranges are ranges
+canonical_are_ranges : (rs : List (ℕ × ℕ)) → AreCanonical rs → are_ranges rs ≡ true
+canonical_are_ranges [] h = refl
+canonical_are_ranges (r ∷ []) h = le-leb r.0 r.1 h.2
+canonical_are_ranges (r ∷ s ∷ rs) h = both_true _ _ (le-leb r.0 r.1 h.0.2) (both_true _ _ (lt-ltb r.1 s.0 (follows r.1 s.0 h.1)) (canonical_are_ranges (s ∷ rs) h.2))
+
+three_tests : (a b c : Bool) → a ≡ true → b ≡ true → c ≡ true →
+    cond (not a) (Some bad_target) (cond (not b) (Some bad_ranges) (cond (not c) (Some bad_slot) None)) ≡ None
+three_tests true true true e f g = refl
+three_tests true true false e f g = cc
+three_tests true false c e f g = cc
+three_tests false b c e f g = cc
+
+module _ (n slots : ℕ) where
+  fault-none : (s : State) → list_all (λ q. nat_lt q n) (targets_of s) ≡ true → has_ranges s ≡ true → has_slot slots s ≡ true → fault_of n slots s ≡ None
+  fault-none s e f g = three_tests _ _ _ e f g
+
+  to_one : (q : ℕ) → q < n → list_all (λ q. nat_lt q n) (q ∷ []) ≡ true
+  to_one q h = grind (arith, nat_tests)
+
+  to_two : (q r : ℕ) → q < n → r < n → list_all (λ q. nat_lt q n) (q ∷ r ∷ []) ≡ true
+  to_two q r h k = grind (arith, nat_tests)
+
+  abbrev Fine : State → Type 0
+  Fine s = fault_of n slots s ≡ None
+
+  abbrev pub AllFine : List State → Type 0
+  AllFine ss = first_among (fault_of n slots) ss ≡ None
+
+  fine_choice : (greedy : Bool) (round leave : ℕ) → round < n → leave < n → Fine (choice greedy round leave)
+  fine_choice true round leave h k = fault-none (choice true round leave) (to_two round leave h k) refl refl
+  fine_choice false round leave h k = fault-none (choice false round leave) (to_two leave round k h) refl refl
+
+  fine_goto : (q : ℕ) → q < n → Fine (program.goto q None)
+  fine_goto q h = fault-none (program.goto q None) (to_one q h) refl refl
+
+  fine_capture : (q slot : ℕ) → q < n → slot < slots → Fine (program.capture q slot)
+  fine_capture q slot h k = fault-none (program.capture q slot) (to_one q h) refl (lt-ltb slot slots k)
+
+  -- the states have no fault, and what was written last is entered at one of them
+  pub record Sound (e : Emitted) : Type 0 where
+    pub entered : e.from < n
+    pub fine : AllFine e.states
+
+  abbrev pub SoundBody : Emitter → Type 0
+  SoundBody body = (to : ℕ) (ss : List State) → AllFine ss → to < n → length (body to ss).states ≤ n → Sound (body to ss)
+
+  Sound-push : (ss : List State) (s : State) → AllFine ss → Fine s → length (ss ++ s ∷ []) ≤ n → Sound (pushed ss s)
+  Sound-push ss s all one le = record {
+    entered = omega (arith, length_pushed ss s);
+    fine = first_among-append (fault_of n slots) ss (s ∷ []) all (none_none (fault_of n slots s) None one refl);
+  }
+
+  module _ (part : List State → Fragment) (body : Emitter) (inside : FormsBody part body) (sound : SoundBody body) where
+    again_longer : (e : Emitted) (m : ℕ) → length e.states ≤ length (in_front (again m body) e).states
+    again_longer e zero = omega arith
+    again_longer e (suc m) =
+        let f = in_front (again m body) e in omega (arith, again_longer e m, (inside f.from f.states).extends.longer)
+
+    Sound-again : (m : ℕ) (e : Emitted) → Sound e → length (in_front (again m body) e).states ≤ n → Sound (in_front (again m body) e)
+    Sound-again zero e h le = h
+    Sound-again (suc m) e h le =
+        let f = in_front (again m body) e in
+        let r = Sound-again m e h (omega (arith, (inside f.from f.states).extends.longer)) in
+        sound f.from f.states r.fine r.entered le
+
+    Sound-options : (m : ℕ) (greedy : Bool) (out : ℕ) (ss : List State) → AllFine ss → out < n → length (options m greedy body out ss).states ≤ n →
+        Sound (options m greedy body out ss)
+    Sound-options zero greedy out ss all h le = record { entered = h; fine = all }
+    Sound-options (suc m) greedy out ss all h le =
+        let e = options m greedy body out ss in
+        let f = in_front body e in
+        let state = choice greedy f.from out in
+        let short : length f.states ≤ n = omega (arith, length_pushed f.states state) in
+        let r = Sound-options m greedy out ss all h (omega (arith, (inside e.from e.states).extends.longer)) in
+        let s = sound e.from e.states r.fine r.entered short in
+        Sound-push f.states state s.fine (fine_choice greedy f.from out s.entered h) le
+
+    Sound-bounded : (m : ℕ) (greedy : Bool) → SoundBody (bounded m greedy body)
+    Sound-bounded m greedy to ss all h le =
+        let goto = program.goto to None in
+        let short : length (ss ++ goto ∷ []) ≤ n =
+        omega (arith, (Forms-options part body inside greedy (length ss) (ss ++ goto ∷ []) m).extends.longer) in
+        let r = Sound-push ss goto all (fine_goto to h) short in
+        Sound-options m greedy (length ss) (ss ++ goto ∷ []) r.fine r.entered le
+
+    Sound-around : (ss : List State) → AllFine ss → length (around body ss).states ≤ n → Sound (around body ss)
+    Sound-around ss all le =
+        let r = Sound-push ss program.fail all refl (omega (arith, (inside (length ss) (ss ++ program.fail ∷ [])).extends.longer)) in
+        sound (length ss) (ss ++ program.fail ∷ []) r.fine r.entered le
+
+    Sound-loop : (greedy : Bool) → SoundBody (loop greedy body)
+    Sound-loop greedy to ss all h le =
+        let e = around body ss in
+        let state = choice greedy e.from to in
+        let r = Sound-around ss all (omega (arith, length-set e.states (length ss) state)) in
+        record { entered = r.entered; fine = first_among-set (fault_of n slots) e.states (length ss) state r.fine (fine_choice greedy e.from to r.entered h) }
+
+    Sound-star : (greedy : Bool) → SoundBody (star greedy body)
+    Sound-star greedy to ss all h le =
+        let e = around body ss in
+        let state = choice greedy e.from to in
+        let r = Sound-around ss all (omega (arith, length-set e.states (length ss) state)) in
+        record {
+          entered = omega (arith, length-set e.states (length ss) state, length_pushed ss program.fail, (inside (length ss) (ss ++ program.fail ∷ [])).extends.longer);
+          fine = first_among-set (fault_of n slots) e.states (length ss) state r.fine (fine_choice greedy e.from to r.entered h);
+        }
+
+    Sound-optional_loop : (greedy : Bool) → SoundBody (optional_loop greedy body)
+    Sound-optional_loop greedy to ss all h le =
+        let goto = program.goto to None in
+        let more = ss ++ goto ∷ [] in
+        let e = loop greedy body (length ss) more in
+        let state = choice greedy e.from (length ss) in
+        let short : length e.states ≤ n = omega (arith, length_pushed e.states state) in
+        let r = Sound-push ss goto all (fine_goto to h) (omega (arith, (Forms-loop part body inside greedy (length ss) more).extends.longer)) in
+        let s = Sound-loop greedy (length ss) more r.fine r.entered short in
+        Sound-push e.states state s.fine (fine_choice greedy e.from (length ss) s.entered r.entered) le
+
+    Sound-copies_up_to : (m more : ℕ) (greedy : Bool) → SoundBody (copies_up_to m more greedy body)
+    Sound-copies_up_to m zero greedy to ss all h le =
+        let e = body to ss in
+        Sound-again m e (sound to ss all h (omega (arith, (again_longer e m)))) le
+    Sound-copies_up_to m (suc more) greedy to ss all h le =
+        let e = bounded (suc more) greedy body to ss in
+        Sound-again (suc m) e (Sound-bounded (suc more) greedy to ss all h (omega (arith, again_longer e (suc m)))) le
+
+    Sound-repeated : (min : ℕ) (most : Option ℕ) (greedy is_empty : Bool) → SoundBody (repeated min most greedy is_empty body)
+    Sound-repeated zero None greedy true to ss all h le = Sound-optional_loop greedy to ss all h le
+    Sound-repeated zero None greedy false to ss all h le = Sound-star greedy to ss all h le
+    Sound-repeated (suc m) None greedy is_empty to ss all h le =
+        let e = loop greedy body to ss in
+        Sound-again m e (Sound-loop greedy to ss all h (omega (arith, again_longer e m))) le
+    Sound-repeated zero (Some zero) greedy is_empty to ss all h le = Sound-push ss (program.goto to None) all (fine_goto to h) le
+    Sound-repeated zero (Some (suc zero)) greedy is_empty to ss all h le = Sound-bounded 1 greedy to ss all h le
+    Sound-repeated zero (Some (suc (suc m))) greedy is_empty to ss all h le =
+        let e = bounded (suc (suc m)) greedy body to ss in
+        let r = Sound-bounded (suc (suc m)) greedy to ss all h (omega (arith, length_pushed e.states (program.goto e.from None))) in
+        Sound-push e.states (program.goto e.from None) r.fine (fine_goto e.from r.entered) le
+    Sound-repeated (suc m) (Some most) greedy is_empty to ss all h le = Sound-copies_up_to m (most - suc m) greedy to ss all h le
+
+    pub Sound-grouped : (k : ℕ) → 2 * k + 1 < slots → SoundBody (grouped k body)
+    Sound-grouped k few to ss all h le =
+        let closing = program.capture to (2 * k + 1) in
+        let more = ss ++ closing ∷ [] in
+        let e = body (length ss) more in
+        let opening = program.capture e.from (2 * k) in
+        let short : length e.states ≤ n = omega (arith, length_pushed e.states opening) in
+        let r = Sound-push ss closing all (fine_capture to (2 * k + 1) h few) (omega (arith, (inside (length ss) more).extends.longer)) in
+        let s = sound (length ss) more r.fine r.entered short in
+        Sound-push e.states opening s.fine (fine_capture e.from (2 * k) s.entered (omega arith)) le
+
+  pub record SoundBranches (b : Branches) : Type 0 where
+    pub entered : list_all (λ q. nat_lt q n) b.rounds ≡ true
+    pub fine : AllFine b.states
+
+  class_sound : (rs : List (ℕ × ℕ)) → AreCanonical rs → SoundBody (λ to ss. pushed ss (class_state rs to))
+  class_sound [] greatest to ss all h le = Sound-push ss program.fail all refl le
+  class_sound (r ∷ rs) greatest to ss all h le =
+      Sound-push ss (program.ranges to (r ∷ rs)) all (fault-none (program.ranges to (r ∷ rs)) (to_one to h) (canonical_are_ranges (r ∷ rs) greatest) refl) le
+
+  -- the slots of the groups are there
+  abbrev pub HasSlots : List ℕ → Type 0
+  HasSlots groups = 2 * greatest groups + 1 < slots
+
+  first_slots : (xs ys : List ℕ) → HasSlots (xs ++ ys) → HasSlots xs
+  first_slots xs ys h = omega (arith, greatest-append xs ys)
+
+  rest_slots : (xs ys : List ℕ) → HasSlots (xs ++ ys) → HasSlots ys
+  rest_slots xs ys h = omega (arith, greatest-append xs ys)
+
+  mutual
+    unfolding emit emit_all emit_each
+
+    -- What is written for a tree has no fault.
+    pub Sound-emit : (t : Tree) → HasClasses t → HasSlots (groups_in t) → SoundBody (emit t)
+    Sound-emit empty classes few to ss all h le = Sound-push ss (program.goto to None) all (fine_goto to h) le
+    Sound-emit (char c) classes few to ss all h le =
+        Sound-push ss (program.char to c) all (fault-none (program.char to c) (to_one to h) refl refl) le
+    Sound-emit (class rs) classes few to ss all h le = class_sound rs classes to ss all h le
+    Sound-emit (look l) classes few to ss all h le =
+        Sound-push ss (program.goto to (Some l)) all (fault-none (program.goto to (Some l)) (to_one to h) refl refl) le
+    Sound-emit (repetition min most greedy t) classes few to ss all h le =
+        Sound-repeated (λ l. HasForm l t) (emit t) (Forms-emit t) (Sound-emit t classes few) min most greedy (is_nullable t) to ss all h le
+    Sound-emit (group k name t) classes few to ss all h le =
+        Sound-grouped (λ l. HasForm l t) (emit t) (Forms-emit t) (Sound-emit t classes (omega arith)) k (omega arith) to ss all h le
+    Sound-emit (sequence ts) classes few to ss all h le = Sound-emit_all ts classes few to ss all h le
+    Sound-emit (alternation ts) classes few to ss all h le =
+        let goto = program.goto to None in
+        let more = ss ++ goto ∷ [] in
+        let b = emit_each ts (length ss) more in
+        let state = program.splits b.rounds false in
+        let short : length b.states ≤ n = omega (arith, length_pushed b.states state) in
+        let r = Sound-push ss goto all (fine_goto to h) (omega (arith, (Forms-emit_each ts (length ss) more).extends.longer)) in
+        let s = Sound-emit_each ts classes few (length ss) more r.fine r.entered short in
+        Sound-push b.states state s.fine (fault-none state s.entered refl refl) le
+
+    Sound-emit_all : (ts : Trees) → AllHaveClasses ts → HasSlots (groups_in_all ts) → SoundBody (emit_all ts)
+    Sound-emit_all no_tree classes few to ss all h le = record { entered = h; fine = all }
+    Sound-emit_all (tree_and t ts) classes few to ss all h le =
+        let e = emit_all ts to ss in
+        let r = Sound-emit_all ts classes.1 (rest_slots (groups_in t) (groups_in_all ts) few) to ss all h (omega (arith, (Forms-emit t e.from e.states).extends.longer)) in
+        Sound-emit t classes.0 (first_slots (groups_in t) (groups_in_all ts) few) e.from e.states r.fine r.entered le
+
+    Sound-emit_each : (ts : Trees) → AllHaveClasses ts → HasSlots (groups_in_all ts) → (out : ℕ) (ss : List State) → AllFine ss → out < n →
+        length (emit_each ts out ss).states ≤ n → SoundBranches (emit_each ts out ss)
+    Sound-emit_each no_tree classes few out ss all h le = record { entered = refl; fine = all }
+    Sound-emit_each (tree_and t ts) classes few out ss all h le =
+        let e = emit t out ss in
+        let r = Sound-emit t classes.0 (first_slots (groups_in t) (groups_in_all ts) few) out ss all h (omega (arith, (Forms-emit_each ts out e.states).extends.longer)) in
+        let s = Sound-emit_each ts classes.1 (rest_slots (groups_in t) (groups_in_all ts) few) out e.states r.fine h le in
+        record { entered = both_true _ _ (lt-ltb e.from n r.entered) s.entered; fine = s.fine }

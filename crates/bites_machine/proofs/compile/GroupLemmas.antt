@@ -1,0 +1,112 @@
+-- What is known of the groups of a tree.
+use Rattle.std.proofs.Common.{◌≡◌, ◌≢◌, ℕ, zero, suc, ◌+◌, ◌*◌, ◌<◌, ◌≤◌, Bool, true, false, cond, List, [], ◌∷◌, ◌++◌, length, map, drop, get_or, Option, Some, None, refl, sym, ap, ◌∙◌, subst, arith, length-append, ◌⊎◌, inl, inr, ⊎_elim, slice_set, eq-eqb, ne_eqb}
+use Rattle.std.specs.Prelude.{replicate}
+use Rattle.std.proofs.lemmas.List.{length-set, get_or-set_same, get_or-set_other, get_or-replicate, length-replicate, ext_get_or}
+use Rattle.std.proofs.lemmas.List.FromFn.{length-map-range_with_len, get_or-map-range_with_len}
+use Rattle.std.proofs.lemmas.Bool.{cases_lt}
+use Rattle.bites_spec.specs.Walks.{IsNew, AllApart}
+use Rattle.bites_spec.specs.Tree.{Tree, Trees, empty, char, class, look, repetition, group, sequence, alternation, no_tree, tree_and, trees_of, groups_in, groups_in_all, greatest, captures_len, is_nullable, IsCount, IsReduced, AllAreReduced}
+use Rattle.bites_spec.specs.Measure.{Size, groups_of, name_in, group_name, groups_left, size_of, repeated_size}
+use Rattle.bites_machine.specs.Names.{filled}
+use Rattle.bites_spec.proofs.regex.LeftLemmas.{number, groups_in-map}
+use Rattle.bites_machine.proofs.compile.FaultLemmas.{greatest-append}
+use Rattle.bites_machine.proofs.compile.LengthLemmas.{product}
+use Rattle.bites_machine.proofs.compile.EmittedLemmas.{loop-room, exact-room, several-room, ranged_or_once-room}
+
+-- a copy at least
+positive_times : (n s : ℕ) → 0 < n → s ≤ n * s
+positive_times zero s h = absurd (omega arith)
+positive_times (suc n) s h = omega (arith, product n s)
+
+body_fits : (min : ℕ) (most : Option ℕ) (is_empty : Bool) (b : Size) → IsCount min most → b.states ≤ (repeated_size min most is_empty b).states
+body_fits zero None true b fit = omega arith
+body_fits zero None false b fit = omega arith
+body_fits (suc n) None is_empty b fit = omega (arith, loop-room is_empty b (suc n) (omega arith))
+body_fits zero (Some zero) is_empty b fit = absurd (omega (arith, fit.1))
+body_fits zero (Some (suc zero)) is_empty b fit = omega arith
+body_fits zero (Some (suc (suc m))) is_empty b fit =
+    omega (arith, several-room is_empty b (suc (suc m)) (omega arith), positive_times (suc (suc m)) b.states (omega arith))
+body_fits (suc n) (Some most) is_empty b fit =
+    ⊎_elim
+    (λ (h : suc n < most). omega (arith, ranged_or_once-room is_empty b (suc n) most h (λ e. absurd (omega (arith, e))), positive_times (suc n) b.states (omega arith)))
+    (λ (h : most ≤ suc n). omega (arith, exact-room is_empty b (suc n) most (omega arith) (omega (arith, fit.0))))
+    (cases_lt (suc n) most)
+
+mutual
+  -- there are no more groups than states
+  pub groups_fit : (t : Tree) → IsReduced t → length (groups_in t) ≤ (size_of t).states
+  groups_fit empty reduced = omega arith
+  groups_fit (char c) reduced = omega arith
+  groups_fit (class rs) reduced = omega arith
+  groups_fit (look l) reduced = omega arith
+  groups_fit (repetition min most greedy t) reduced =
+      omega (arith, groups_fit t reduced.1, body_fits min most (is_nullable t) (size_of t) reduced.0)
+  groups_fit (group k name t) reduced = omega (arith, groups_fit t reduced.1)
+  groups_fit (sequence ts) reduced = all_groups_fit ts reduced.1
+  groups_fit (alternation ts) reduced = omega (arith, all_groups_fit ts reduced.1)
+
+  all_groups_fit : (ts : Trees) → AllAreReduced ts → length (groups_in_all ts) ≤ (size_of (sequence ts)).states
+  all_groups_fit no_tree reduced = omega arith
+  all_groups_fit (tree_and t ts) reduced =
+      omega (arith, length-append (groups_in t) (groups_in_all ts), groups_fit t reduced.0, all_groups_fit ts reduced.1)
+
+pub length-filled : (gs : List (ℕ × Option (List ℕ))) (ns : List (Option (List ℕ))) → length (filled gs ns) ≡ length ns
+length-filled [] ns = refl
+length-filled (g ∷ gs) ns = length-filled gs (slice_set ns g.0 g.1) ∙ length-set ns g.0 g.1
+
+filled-append : (gs hs : List (ℕ × Option (List ℕ))) (ns : List (Option (List ℕ))) → filled (gs ++ hs) ns ≡ filled hs (filled gs ns)
+filled-append [] hs ns = refl
+filled-append (g ∷ gs) hs ns = filled-append gs hs (slice_set ns g.0 g.1)
+
+-- the groups of a part are among those of all parts
+pub groups_at : (ts : List Tree) (i : ℕ) (t : Tree) → t ≡ get_or ts i t → i < length ts → greatest (groups_in t) ≤ greatest (groups_in_all (trees_of ts))
+groups_at [] i t e h = absurd (omega arith)
+groups_at (x ∷ ts) zero t e h = omega (arith, greatest-append (groups_in x) (groups_in_all (trees_of ts)), ap (λ (y : Tree). greatest (groups_in y)) e)
+groups_at (x ∷ ts) (suc i) t e h = omega (arith, greatest-append (groups_in x) (groups_in_all (trees_of ts)), groups_at ts i t e (omega arith))
+
+-- the names of one more part are written
+pub filled-more : (ts : List Tree) (i : ℕ) (t : Tree) (old new all : List (Option (List ℕ))) → trees_of (drop i ts) ≡ tree_and t (trees_of (drop (i + 1) ts)) →
+    filled (groups_of (sequence (trees_of (drop i ts)))) old ≡ all → new ≡ filled (groups_of t) old →
+    filled (groups_of (sequence (trees_of (drop (i + 1) ts)))) new ≡ all
+filled-more ts i t old new all e f g =
+    let rest = groups_of (sequence (trees_of (drop (i + 1) ts))) in
+    ap (λ ns. filled rest ns) g ∙ sym (filled-append (groups_of t) rest old)
+    ∙ ap (λ (xs : Trees). filled (groups_of (sequence xs)) old) (sym e) ∙ f
+
+-- where no group has the number, its place stays as it is
+filled_past : (gs : List (ℕ × Option (List ℕ))) (ns : List (Option (List ℕ))) (i : ℕ) → IsNew i (map number gs) → get_or (filled gs ns) i None ≡ get_or ns i None
+filled_past [] ns i h = refl
+filled_past (g ∷ gs) ns i h =
+    filled_past gs (slice_set ns g.0 g.1) i (λ later. h (inr later)) ∙ get_or-set_other ns g.0 i g.1 None (λ (e : i ≡ g.0). h (inl (sym e)))
+
+eq_cases : (m n : ℕ) → (m ≡ n) ⊎ (m ≢ n)
+eq_cases m n =
+    ⊎_elim (λ (h : m < n). inr (λ (e : m ≡ n). absurd (omega arith)))
+    (λ (h : n ≤ m). ⊎_elim (λ (k : n < m). inr (λ (e : m ≡ n). absurd (omega arith))) (λ (k : m ≤ n). inl (omega arith)) (cases_lt n m)) (cases_lt m n)
+
+filled_at : (gs : List (ℕ × Option (List ℕ))) (ns : List (Option (List ℕ))) (i : ℕ) → i < length ns → AllApart (map number gs) → get_or ns i None ≡ None →
+    get_or (filled gs ns) i None ≡ name_in gs i
+filled_at [] ns i h apart e = e
+filled_at (g ∷ gs) ns i h apart e =
+    ⊎_elim
+    (λ (same : g.0 ≡ i).
+    filled_past gs (slice_set ns g.0 g.1) i (subst (λ k. IsNew k (map number gs)) same apart.0)
+    ∙ ap (λ k. get_or (slice_set ns k g.1) i None) same ∙ get_or-set_same ns i g.1 None h
+    ∙ sym (ap (λ b. cond b g.1 (name_in gs i)) (eq-eqb g.0 i same)))
+    (λ (other : g.0 ≢ i).
+    filled_at gs (slice_set ns g.0 g.1) i (omega (arith, length-set ns g.0 g.1)) apart.1 (get_or-set_other ns g.0 i g.1 None (λ (is : i ≡ g.0). other (sym is)) ∙ e)
+    ∙ sym (ap (λ b. cond b g.1 (name_in gs i)) (ne_eqb g.0 i other)))
+    (eq_cases g.0 i)
+
+-- The names that are written are those of the tree.
+pub filled-groups_left : (t : Tree) → AllApart (groups_in t) → filled (groups_of t) (replicate (captures_len t) None) ≡ groups_left t
+filled-groups_left t apart =
+    let n = captures_len t in
+    let none = replicate {A = Option (List ℕ)} n None in
+    let len = length-filled (groups_of t) none ∙ length-replicate n None in
+    let len' = length-map-range_with_len (group_name t) 0 n in
+    ext_get_or None (filled (groups_of t) none) (groups_left t) (len ∙ sym len')
+    (λ i below.
+    filled_at (groups_of t) none i (omega (arith, len, length-filled (groups_of t) none)) (subst (λ ks. AllApart ks) (groups_in-map t) apart)
+    (get_or-replicate n i None None (omega (arith, len)))
+    ∙ sym (get_or-map-range_with_len (group_name t) 0 n i i None (omega (arith, len)) (omega arith)))

@@ -1,0 +1,187 @@
+-- How many states are written for a tree.
+use Rattle.std.proofs.Common.{◌≡◌, ℕ, zero, suc, ◌+◌, ◌-◌, ◌*◌, ◌<◌, Bool, true, false, cond, List, [], ◌∷◌, ◌++◌, length, Option, Some, None, refl, sym, ap, ap₂, ◌∙◌, true≢false, arith}
+use Rattle.std.specs.Prelude.{◌==◌}
+use Rattle.std.proofs.lemmas.List.{length-set}
+use Rattle.std.proofs.lemmas.Bool.Decides.{nat_tests}
+use Rattle.bites_spec.specs.Tree.{Tree, Trees, empty, char, class, look, repetition, group, sequence, alternation, no_tree, tree_and, is_nullable, IsCount, IsReduced, AllAreReduced}
+use Rattle.bites_spec.specs.Measure.{Size, repeated_size, size_of, copies}
+use Rattle.bites_spec.specs.Program as program
+use Rattle.bites_spec.specs.Program.{State}
+use Rattle.bites_machine.specs.Emitted.{Emitter, again, choice, options, bounded, around, loop, star, optional_loop, copies_up_to, repeated, class_state, grouped, emit, emit_all, emit_each}
+use Rattle.bites_machine.proofs.compile.EmitLemmas.{length_pushed}
+
+-- so many more states
+pub record Grows (ss : List State) (e : List State) (n : ℕ) : Type 0 where
+  pub len : length e ≡ length ss + n
+
+pub product : (n s : ℕ) → suc n * s ≡ n * s + s
+product n s = grind arith
+
+take_first : (c : Bool) (x y : Size) → c ≡ true → cond c x y ≡ x
+take_first true x y e = refl
+take_first false x y e = absurd (true≢false (sym e))
+
+take_second : (c : Bool) (x y : Size) → c ≡ false → cond c x y ≡ y
+take_second false x y e = refl
+take_second true x y e = absurd (true≢false e)
+
+is_positive : (n : ℕ) → (suc n == 0) ≡ false
+is_positive n = grind (arith, nat_tests)
+
+is_several : (n : ℕ) → (suc (suc n) == 1) ≡ false
+is_several n = grind (arith, nat_tests)
+
+is_same : (m n : ℕ) → m ≡ n → (m == n) ≡ true
+is_same m n e = grind (arith, nat_tests)
+
+is_other : (m n : ℕ) → m < n → (m == n) ≡ false
+is_other m n e = grind (arith, nat_tests)
+
+times : (m n a b : ℕ) → m ≡ n → a ≡ b → m * a ≡ n * b
+times m n a b e f = ap₂ (λ x y. x * y) e f
+
+pub sum_times : (m n s : ℕ) → (m + n) * s ≡ m * s + n * s
+sum_times m n s = grind arith
+
+sized : (s n : ℕ) (b : Size) → b.states ≡ s → suc n * b.states ≡ n * s + s
+sized s n b e = ap (λ x. suc n * x) e ∙ product n s
+
+pub unbounded_size : (n : ℕ) (is_empty : Bool) (b : Size) → (repeated_size (suc n) None is_empty b).states ≡ suc n * b.states + 1
+unbounded_size n is_empty b = ap (λ (x : Size). x.states) (take_second (suc n == 0) _ (copies (suc n) 1 2 b) (is_positive n))
+
+pub optional_size : (m : ℕ) (is_empty : Bool) (b : Size) → (repeated_size 0 (Some (suc (suc m))) is_empty b).states ≡ suc (suc m) * b.states + (suc (suc m) + 2)
+optional_size m is_empty b =
+    ap (λ (x : Size). x.states) (take_second (suc (suc m) == 1) _ (copies (suc (suc m)) (suc (suc m) + 2) (2 * suc (suc m)) b) (is_several m))
+
+pub exact_size : (n most : ℕ) (is_empty : Bool) (b : Size) → suc n ≡ most → (repeated_size (suc n) (Some most) is_empty b).states ≡ most * b.states
+exact_size n most is_empty b e =
+    ap (λ (x : Size). x.states)
+    (take_second (suc n == 0) _ _ (is_positive n) ∙ take_first (suc n == most) (copies most 0 0 b) _ (is_same (suc n) most e))
+    ∙ omega arith
+
+pub ranged_size : (n most : ℕ) (is_empty : Bool) (b : Size) → suc n < most →
+    (repeated_size (suc n) (Some most) is_empty b).states ≡ most * b.states + (most - suc n + 1)
+ranged_size n most is_empty b h =
+    ap (λ (x : Size). x.states)
+    (take_second (suc n == 0) _ _ (is_positive n)
+    ∙ take_second (suc n == most) _ (copies most (most - suc n + 1) (2 * (most - suc n)) b) (is_other (suc n) most h))
+
+module _ (body : Emitter) (s : ℕ) (adds : (to : ℕ) (ss : List State) → Grows ss (body to ss).states s) where
+  pub Grows-again : (n to : ℕ) (ss : List State) → Grows ss (again n body to ss).states (n * s)
+  Grows-again zero to ss = record { len = omega arith }
+  Grows-again (suc n) to ss =
+      let e = again n body to ss in
+      record { len = omega (arith, product n s, (Grows-again n to ss).len, (adds e.from e.states).len) }
+
+  pub Grows-options : (n : ℕ) (greedy : Bool) (out : ℕ) (ss : List State) → Grows ss (options n greedy body out ss).states (n * s + n)
+  Grows-options zero greedy out ss = record { len = omega arith }
+  Grows-options (suc n) greedy out ss =
+      let e = options n greedy body out ss in
+      let f = body e.from e.states in
+      record {
+        len = omega (arith, product n s, (Grows-options n greedy out ss).len, (adds e.from e.states).len, length_pushed f.states (choice greedy f.from out));
+      }
+
+  pub Grows-bounded : (n : ℕ) (greedy : Bool) (to : ℕ) (ss : List State) → Grows ss (bounded n greedy body to ss).states (n * s + n + 1)
+  Grows-bounded n greedy to ss =
+      let goto = program.goto to None in
+      record { len = omega (arith, length_pushed ss goto, (Grows-options n greedy (length ss) (ss ++ goto ∷ [])).len) }
+
+  Grows-around : (ss : List State) → length (around body ss).states ≡ length ss + s + 1
+  Grows-around ss = omega (arith, length_pushed ss program.fail, (adds (length ss) (ss ++ program.fail ∷ [])).len)
+
+  pub Grows-loop : (greedy : Bool) (to : ℕ) (ss : List State) → Grows ss (loop greedy body to ss).states (s + 1)
+  Grows-loop greedy to ss =
+      let e = around body ss in
+      record { len = omega (arith, length-set e.states (length ss) (choice greedy e.from to), Grows-around ss) }
+
+  pub Grows-star : (greedy : Bool) (to : ℕ) (ss : List State) → Grows ss (star greedy body to ss).states (s + 1)
+  Grows-star greedy to ss =
+      let e = around body ss in
+      record { len = omega (arith, length-set e.states (length ss) (choice greedy e.from to), Grows-around ss) }
+
+  pub Grows-optional_loop : (greedy : Bool) (to : ℕ) (ss : List State) → Grows ss (optional_loop greedy body to ss).states (s + 3)
+  Grows-optional_loop greedy to ss =
+      let goto = program.goto to None in
+      let e = loop greedy body (length ss) (ss ++ goto ∷ []) in
+      record {
+        len = omega (arith, length_pushed ss goto, (Grows-loop greedy (length ss) (ss ++ goto ∷ [])).len, length_pushed e.states (choice greedy e.from (length ss)));
+      }
+
+  pub Grows-grouped : (k to : ℕ) (ss : List State) → Grows ss (grouped k body to ss).states (s + 2)
+  Grows-grouped k to ss =
+      let closing = program.capture to (2 * k + 1) in
+      let e = body (length ss) (ss ++ closing ∷ []) in
+      record {
+        len = omega (arith, length_pushed ss closing, (adds (length ss) (ss ++ closing ∷ [])).len, length_pushed e.states (program.capture e.from (2 * k)));
+      }
+
+  Grows-ranged : (n more most : ℕ) (greedy is_empty : Bool) (to : ℕ) (ss : List State) (b : Size) → b.states ≡ s → most ≡ suc n + more →
+      Grows ss (copies_up_to n more greedy body to ss).states (repeated_size (suc n) (Some most) is_empty b).states
+  Grows-ranged n zero most greedy is_empty to ss b is e =
+      let f = body to ss in
+      record {
+        len = omega (arith, (adds to ss).len, (Grows-again n f.from f.states).len, exact_size n most is_empty b (omega arith), times most (suc n) b.states s (omega arith) is, product n s);
+      }
+  Grows-ranged n (suc more) most greedy is_empty to ss b is e =
+      let f = bounded (suc more) greedy body to ss in
+      record {
+        len = omega (
+          arith,
+          (Grows-bounded (suc more) greedy to ss).len,
+          (Grows-again (suc n) f.from f.states).len,
+          ranged_size n most is_empty b (omega arith),
+          times most (suc n + suc more) b.states s e is,
+          sum_times (suc n) (suc more) s,
+        );
+      }
+
+  pub Grows-repeated : (min : ℕ) (most : Option ℕ) (greedy is_empty : Bool) (to : ℕ) (ss : List State) (b : Size) → b.states ≡ s → IsCount min most →
+      Grows ss (repeated min most greedy is_empty body to ss).states (repeated_size min most is_empty b).states
+  Grows-repeated zero None greedy true to ss b is fit = record { len = omega (arith, (Grows-optional_loop greedy to ss).len, is) }
+  Grows-repeated zero None greedy false to ss b is fit = record { len = omega (arith, (Grows-star greedy to ss).len, is) }
+  Grows-repeated (suc n) None greedy is_empty to ss b is fit =
+      let e = loop greedy body to ss in
+      record { len = omega (arith, (Grows-loop greedy to ss).len, (Grows-again n e.from e.states).len, sized s n b is, unbounded_size n is_empty b) }
+  Grows-repeated zero (Some zero) greedy is_empty to ss b is fit = absurd (omega (arith, fit.1))
+  Grows-repeated zero (Some (suc zero)) greedy is_empty to ss b is fit = record { len = omega (arith, (Grows-bounded 1 greedy to ss).len, is) }
+  Grows-repeated zero (Some (suc (suc m))) greedy is_empty to ss b is fit =
+      let e = bounded (suc (suc m)) greedy body to ss in
+      record {
+        len = omega (arith, (Grows-bounded (suc (suc m)) greedy to ss).len, length_pushed e.states (program.goto e.from None), sized s (suc m) b is, product (suc m) s, optional_size m is_empty b);
+      }
+  Grows-repeated (suc n) (Some most) greedy is_empty to ss b is fit =
+      Grows-ranged n (most - suc n) most greedy is_empty to ss b is (omega (arith, fit.0))
+
+mutual
+  unfolding emit emit_all emit_each
+
+  -- As many states are written for a tree as its size says.
+  pub Grows-emit : (t : Tree) → IsReduced t → (to : ℕ) (ss : List State) → Grows ss (emit t to ss).states (size_of t).states
+  Grows-emit empty reduced to ss = record { len = omega (arith, length_pushed ss (program.goto to None)) }
+  Grows-emit (char c) reduced to ss = record { len = omega (arith, length_pushed ss (program.char to c)) }
+  Grows-emit (class rs) reduced to ss = record { len = omega (arith, length_pushed ss (class_state rs to)) }
+  Grows-emit (look l) reduced to ss = record { len = omega (arith, length_pushed ss (program.goto to (Some l))) }
+  Grows-emit (repetition min most greedy t) reduced to ss =
+      Grows-repeated (emit t) (size_of t).states (Grows-emit t reduced.1) min most greedy (is_nullable t) to ss (size_of t) refl reduced.0
+  Grows-emit (group k name t) reduced to ss =
+      record { len = omega (arith, (Grows-grouped (emit t) (size_of t).states (Grows-emit t reduced.1) k to ss).len) }
+  Grows-emit (sequence ts) reduced to ss = Grows-emit_all ts reduced.1 to ss
+  Grows-emit (alternation ts) reduced to ss =
+      let goto = program.goto to None in
+      let b = emit_each ts (length ss) (ss ++ goto ∷ []) in
+      record {
+        len = omega (arith, length_pushed ss goto, (Grows-emit_each ts reduced.1 (length ss) (ss ++ goto ∷ [])).len, length_pushed b.states (program.splits b.rounds false));
+      }
+
+  pub Grows-emit_all : (ts : Trees) → AllAreReduced ts → (to : ℕ) (ss : List State) → Grows ss (emit_all ts to ss).states (size_of (sequence ts)).states
+  Grows-emit_all no_tree reduced to ss = record { len = omega arith }
+  Grows-emit_all (tree_and t ts) reduced to ss =
+      let e = emit_all ts to ss in
+      record { len = omega (arith, (Grows-emit_all ts reduced.1 to ss).len, (Grows-emit t reduced.0 e.from e.states).len) }
+
+  pub Grows-emit_each : (ts : Trees) → AllAreReduced ts → (out : ℕ) (ss : List State) → Grows ss (emit_each ts out ss).states (size_of (sequence ts)).states
+  Grows-emit_each no_tree reduced out ss = record { len = omega arith }
+  Grows-emit_each (tree_and t ts) reduced out ss =
+      let e = emit t out ss in
+      record { len = omega (arith, (Grows-emit t reduced.0 out ss).len, (Grows-emit_each ts reduced.1 out e.states).len) }

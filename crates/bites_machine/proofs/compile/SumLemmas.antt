@@ -1,0 +1,144 @@
+-- Sums over lists without repetition, and over all states at some places.
+use Rattle.std.proofs.Common.{◌≡◌, ℕ, zero, suc, ◌+◌, ◌*◌, ◌<◌, ◌≤◌, List, [], ◌∷◌, ◌++◌, length, refl, sym, ap, ◌∙◌, subst, arith, inl, inr, ⊎_elim}
+use Rattle.std.specs.Prelude.{reverse, sum_by, flat_map}
+use Rattle.std.proofs.lemmas.List.Sums.{sum_by-cons, sum_by-append, sum_by_push}
+use mathlib.Core.List.{reverse-cons}
+use Rattle.bites_spec.specs.Walks.{Among, IsNew, AllApart}
+use Rattle.bites_spec.specs.Program.{State, Configuration, at, state_at}
+use Rattle.bites_spec.proofs.programs.SlotLemmas.{Among-left, Among-right}
+use Rattle.bites_machine.proofs.compile.EdgeLemmas.{Among-apart}
+
+-- the order of a list does not matter to what is among it
+pub Among-reverse : {A : Type 0} (xs : List A) (x : A) → Among (reverse xs) x → Among xs x
+Among-reverse [] x h = h
+Among-reverse (y ∷ xs) x h =
+    ⊎_elim (λ a. inr (Among-reverse xs x a)) (⊎_elim (λ (e : y ≡ x). inl e) (λ (no : ⊥). absurd no))
+    (Among-apart (reverse xs) (y ∷ []) x (subst (λ l. Among l x) (reverse-cons y xs) h))
+
+pub Among-reversed : {A : Type 0} (xs : List A) (x : A) → Among xs x → Among (reverse xs) x
+Among-reversed [] x h = h
+Among-reversed (y ∷ xs) x h =
+    subst (λ l. Among l x) (sym (reverse-cons y xs))
+    (⊎_elim (λ (e : y ≡ x). Among-right (reverse xs) (y ∷ []) x (inl e)) (λ later. Among-left (reverse xs) (y ∷ []) x (Among-reversed xs x later)) h)
+
+-- a new element at the end leaves all apart
+pub AllApart_push : {A : Type 0} (xs : List A) (x : A) → AllApart xs → IsNew x xs → AllApart (xs ++ x ∷ [])
+AllApart_push [] x apart new = ((λ h. h), tt)
+AllApart_push (y ∷ xs) x apart new = (
+  (λ h. ⊎_elim (λ a. apart.0 a) (⊎_elim (λ (e : x ≡ y). new (inl (sym e))) (λ (no : ⊥). no)) (Among-apart xs (x ∷ []) y h)),
+  AllApart_push xs x apart.1 (λ h. new (inr h)),
+)
+
+pub AllApart-reverse : {A : Type 0} (xs : List A) → AllApart xs → AllApart (reverse xs)
+AllApart-reverse [] apart = tt
+AllApart-reverse (x ∷ xs) apart =
+    subst AllApart (sym (reverse-cons x xs))
+    (AllApart_push (reverse xs) x (AllApart-reverse xs apart.1) (λ h. apart.0 (Among-reverse xs x h)))
+
+pub sum_by-reverse : {A : Type 0} (f : A → ℕ) (xs : List A) → sum_by f (reverse xs) ≡ sum_by f xs
+sum_by-reverse f [] = refl
+sum_by-reverse f (x ∷ xs) =
+    let turned = ap (sum_by f) (reverse-cons x xs) ∙ sum_by_push f (reverse xs) x in
+    omega (arith, turned, sum_by-reverse f xs, sum_by-cons f x xs)
+
+pub sum_of_ones : {A : Type 0} (xs : List A) → sum_by (λ x. 1) xs ≡ length xs
+sum_of_ones [] = refl
+sum_of_ones {A} (x ∷ xs) = omega (arith, sum_by-cons (λ (y : A). 1) x xs, sum_of_ones xs)
+
+-- a list without one of its elements: what it sums up to, and what is left
+record Without {A : Type 0} (f : A → ℕ) (ys : List A) (x : A) : Type 0 where
+  rest : List A
+  sum : sum_by f ys ≡ f x + sum_by f rest
+  kept : (t : A) → Among ys t → (t ≡ x → ⊥) → Among rest t
+
+without : {A : Type 0} (f : A → ℕ) (ys : List A) (x : A) → Among ys x → Without f ys x
+without f [] x h = absurd h
+without {A} f (y ∷ ys) x h =
+    ⊎_elim
+    (λ (is : y ≡ x). record {
+      rest = ys;
+      sum = sum_by-cons f y ys ∙ ap (λ (z : A). f z + sum_by f ys) is;
+      kept = λ t among other. ⊎_elim (λ (e : y ≡ t). absurd (other (sym e ∙ is))) (λ later. later) among;
+    })
+    (λ later. let w = without f ys x later in record {
+      rest = y ∷ w.rest;
+      sum = omega (arith, sum_by-cons f y ys, w.sum, sum_by-cons f y w.rest);
+      kept = λ t among other. ⊎_elim (λ (e : y ≡ t). inl e) (λ behind. inr (w.kept t behind other)) among;
+    })
+    h
+
+-- elements apart that are all among a list sum up to no more than the list
+pub apart_sum : {A : Type 0} (f : A → ℕ) (xs ys : List A) → AllApart xs → ((t : A) → Among xs t → Among ys t) → sum_by f xs ≤ sum_by f ys
+apart_sum f [] ys apart within = omega arith
+apart_sum {A} f (x ∷ xs) ys apart within =
+    let w = without f ys x (within x (inl refl)) in
+    let rest = apart_sum f xs w.rest apart.1 (λ t h. w.kept t (within t (inr h)) (λ (e : t ≡ x). apart.0 (subst (λ (z : A). Among xs z) e h))) in
+    omega (arith, sum_by-cons f x xs, w.sum, rest)
+
+-- the states at a place, the first of them with this number
+abbrev pub row : List State → ℕ → ℕ → List Configuration
+row [] q i = []
+row (s ∷ ss) q i = at q i ∷ row ss (suc q) i
+
+-- the states at each of the places
+abbrev pub rows : List State → List ℕ → List Configuration
+rows ss ps = flat_map (row ss 0) ps
+
+Among-row : (ss : List State) (q k i : ℕ) → k < length ss → Among (row ss q i) (at (q + k) i)
+Among-row [] q k i lt = absurd (omega arith)
+Among-row (s ∷ ss) q zero i lt = inl (ap (λ (n : ℕ). at n i) (here q))
+  where
+    here : (q : ℕ) → q ≡ q + 0
+    here q = omega arith
+Among-row (s ∷ ss) q (suc k) i lt =
+    inr (subst (λ (n : ℕ). Among (row ss (suc q) i) (at n i)) (next q k) (Among-row ss (suc q) k i (omega arith)))
+  where
+    next : (q k : ℕ) → suc q + k ≡ q + suc k
+    next q k = omega arith
+
+-- each state stands at each place
+pub Among-rows : (ss : List State) (ps : List ℕ) (t : Configuration) → t.state < length ss → Among ps t.place → Among (rows ss ps) t
+Among-rows ss [] t lt h = absurd h
+Among-rows ss (i ∷ ps) t lt h =
+    ⊎_elim
+    (λ (e : i ≡ t.place). Among-left (row ss 0 i) (rows ss ps) t
+    (subst (λ (j : ℕ). Among (row ss 0 j) t) (sym e) (subst (λ (q : ℕ). Among (row ss 0 t.place) (at q t.place)) (from_zero t.state) (Among-row ss 0 t.state t.place lt))))
+    (λ later. Among-right (row ss 0 i) (rows ss ps) t (Among-rows ss ps t lt later))
+    h
+  where
+    from_zero : (n : ℕ) → 0 + n ≡ n
+    from_zero n = omega arith
+
+-- where each configuration weighs at most what its state does, a row weighs at most what the states do
+module _ (f : Configuration → ℕ) (w : State → ℕ) where
+  sum_of_row : (ss : List State) (q i : ℕ) → ((k : ℕ) → f (at (q + k) i) ≤ w (state_at ss k)) → sum_by f (row ss q i) ≤ sum_by w ss
+  sum_of_row [] q i le = omega arith
+  sum_of_row (s ∷ ss) q i le =
+      let here : f (at q i) ≤ w s = subst (λ (n : ℕ). f (at n i) ≤ w s) (none q) (le 0) in
+      let behind = sum_of_row ss (suc q) i (λ k. subst (λ (n : ℕ). f (at n i) ≤ w (state_at ss k)) (next q k) (le (suc k))) in
+      omega (arith, here, behind, sum_by-cons f (at q i) (row ss (suc q) i), sum_by-cons w s ss)
+    where
+      none : (q : ℕ) → q + 0 ≡ q
+      none q = omega arith
+
+      next : (q k : ℕ) → q + suc k ≡ suc q + k
+      next q k = omega arith
+
+  sum_of_rows : (ss : List State) (ps : List ℕ) → ((q i : ℕ) → f (at q i) ≤ w (state_at ss q)) → sum_by f (rows ss ps) ≤ sum_by w ss * length ps
+  sum_of_rows ss [] le = omega arith
+  sum_of_rows ss (i ∷ ps) le =
+      let one = sum_of_row ss 0 i (λ k. subst (λ (n : ℕ). f (at n i) ≤ w (state_at ss k)) (from_zero k) (le k i)) in
+      omega (arith, one, sum_of_rows ss ps le, sum_by-append f (row ss 0 i) (rows ss ps), times_suc (sum_by w ss) (length ps))
+    where
+      from_zero : (n : ℕ) → n ≡ 0 + n
+      from_zero n = omega arith
+
+      times_suc : (m n : ℕ) → m * suc n ≡ m + m * n
+      times_suc m n = grind arith
+
+  -- configurations apart of these states at these places weigh at most as much as the states, once for each place
+  pub sum_of_configurations : (ss : List State) (ps : List ℕ) (ts : List Configuration) → ((q i : ℕ) → f (at q i) ≤ w (state_at ss q)) →
+      AllApart ts → ((t : Configuration) → Among ts t → (t.state < length ss) × Among ps t.place) → sum_by f ts ≤ sum_by w ss * length ps
+  sum_of_configurations ss ps ts le apart within =
+      let fits = apart_sum f ts (rows ss ps) apart (λ t h. Among-rows ss ps t (within t h).0 (within t h).1) in
+      omega (arith, fits, sum_of_rows ss ps le)

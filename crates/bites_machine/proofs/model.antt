@@ -1,0 +1,22 @@
+-- The machine on lists: what it finds, what it visits and how many steps it takes.
+pub mod SweepLemmas
+pub mod PathLemmas
+pub mod MachineCases
+pub mod MachineSlots
+pub mod MachineWaiting
+pub mod MachineTrace
+pub mod MachineSearch
+pub mod MachineFirst
+pub mod MachineCounts
+pub mod MachineClosed
+pub mod MachineOrder
+pub mod MachineLongest
+pub mod MachineWalks
+pub mod MachineRoom
+pub mod MachineAnswers
+pub mod AnchoredRoots
+pub mod AnchoredFirst
+pub mod AnchoredCounts
+pub mod AnchoredClosed
+pub mod AnchoredLongest
+pub mod AnchoredAnswers

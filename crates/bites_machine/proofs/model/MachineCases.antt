@@ -1,0 +1,133 @@
+-- The kinds of a step of the machine on lists, and what every step of a walk keeps.
+use Rattle.std.proofs.Common.{◌≡◌, ℕ, zero, suc, ◌+◌, ◌<◌, Bool, true, false, cond, List, [], ◌∷◌, ◌++◌, Option, Some, None, refl, sym, subst, ⊎_elim, true≢false}
+use Rattle.std.specs.Prelude.{◌==◌}
+use Rattle.std.specs.List.{list_any}
+use Rattle.std.specs.Fn.{iterate}
+use Rattle.std.specs.Option.{option_or}
+use Rattle.std.proofs.lemmas.Bool.{cases_Bool}
+use Rattle.bites_spec.specs.Utf8.{piece}
+use Rattle.bites_spec.specs.Walks.{Among}
+use Rattle.bites_spec.specs.Program.{State, Program, Configuration, state_at, edges, is_match, char, ranges, splits, goto, capture, fail, match}
+use Rattle.bites_machine.specs.Ends.{next_character, targets_over}
+use Rattle.bites_machine.specs.Machine.{Thread, Walking, kept, moved, visited, dropped, stepped, step, WalksTo}
+use Rattle.bites_machine.proofs.compile.EdgeLemmas.{edges_apart}
+
+-- the state takes a character
+abbrev pub takes : State → Bool
+takes (char q c) = true
+takes (ranges q rs) = true
+takes _ = false
+
+over_nothing : (st : State) → takes st ≡ false → (o : Option ℕ) (x : ℕ) → Among (targets_over o st) x → ⊥
+over_nothing st e None x h = h
+over_nothing (char q c) e (Some d) x h = true≢false e
+over_nothing (ranges q rs) e (Some d) x h = true≢false e
+over_nothing (splits qs b) e (Some d) x h = h
+over_nothing (goto q look) e (Some d) x h = h
+over_nothing (capture q k) e (Some d) x h = h
+over_nothing fail e (Some d) x h = h
+over_nothing match e (Some d) x h = h
+
+module _ (hay : List ℕ) (longest : Bool) (i : ℕ) where
+  -- each edge takes the piece
+  abbrev pub LeadsOver : State → Type 0
+  LeadsOver st = (v : Configuration) → Among (edges hay st i) v → (0 < (piece hay i).len) × (v.place ≡ i + (piece hay i).len)
+
+  -- each edge stays at the place
+  abbrev pub LeadsBeside : State → Type 0
+  LeadsBeside st = (v : Configuration) → Among (edges hay st i) v → v.place ≡ i
+
+  char_over : (q c : ℕ) → LeadsOver (char q c)
+  char_over q c v h = ⊎_elim (λ a. absurd a.0) (λ a. (a.1, a.2)) (edges_apart hay i (char q c) v h)
+
+  ranges_over : (q : ℕ) (rs : List (ℕ × ℕ)) → LeadsOver (ranges q rs)
+  ranges_over q rs v h = ⊎_elim (λ a. absurd a.0) (λ a. (a.1, a.2)) (edges_apart hay i (ranges q rs) v h)
+
+  stays : (st : State) → takes st ≡ false → LeadsBeside st
+  stays st e v h = ⊎_elim (λ a. a.1) (λ a. absurd (over_nothing st e (next_character hay i) v.state a.0)) (edges_apart hay i st v h)
+
+  -- a thread at a match
+  abbrev pub at_match : Thread → List Thread → Walking → Walking
+  at_match t rest w = record {
+    stack = kept hay longest (option_or w.first_match (Some t)) rest;
+    seen = t.state ∷ w.seen;
+    next = w.next;
+    first_match = option_or w.first_match (Some t);
+    looks = suc w.looks;
+  }
+
+  -- a thread that takes the piece, if it does
+  abbrev pub taken : State → Thread → List Thread → Walking → Walking
+  taken st t rest w = record {
+    stack = rest;
+    seen = t.state ∷ w.seen;
+    next = w.next ++ moved hay longest i st t;
+    first_match = w.first_match;
+    looks = suc w.looks;
+  }
+
+  -- a thread that goes on at the place
+  abbrev pub gone : State → Thread → List Thread → Walking → Walking
+  gone st t rest w = record {
+    stack = moved hay longest i st t ++ rest;
+    seen = t.state ∷ w.seen;
+    next = w.next;
+    first_match = w.first_match;
+    looks = suc w.looks;
+  }
+
+  -- what a visit makes of a walk, by the kind of the state
+  pub visited_cases : (Q : Walking → Type 0) (st : State) (t : Thread) (rest : List Thread) (w : Walking) →
+      (is_match st ≡ true → Q (at_match t rest w)) → (is_match st ≡ false → LeadsOver st → Q (taken st t rest w)) →
+      (is_match st ≡ false → LeadsBeside st → Q (gone st t rest w)) → Q (visited hay longest i st t rest w)
+  unfolding visited
+  visited_cases Q match t rest w on_match on_taken on_gone = on_match refl
+  visited_cases Q (char q c) t rest w on_match on_taken on_gone = on_taken refl (char_over q c)
+  visited_cases Q (ranges q rs) t rest w on_match on_taken on_gone = on_taken refl (ranges_over q rs)
+  visited_cases Q (splits qs b) t rest w on_match on_taken on_gone = on_gone refl (stays (splits qs b) refl)
+  visited_cases Q (goto q look) t rest w on_match on_taken on_gone = on_gone refl (stays (goto q look) refl)
+  visited_cases Q (capture q k) t rest w on_match on_taken on_gone = on_gone refl (stays (capture q k) refl)
+  visited_cases Q fail t rest w on_match on_taken on_gone = on_gone refl (stays fail refl)
+
+  module _ (p : Program) where
+    -- the state was visited at this place
+    abbrev pub was_seen : List ℕ → ℕ → Bool
+    was_seen seen q = list_any (λ x. x == q) seen
+
+    abbrev pub state_of_thread : Thread → State
+    state_of_thread t = state_at p.states t.state
+
+    -- What a step keeps, by the kind of the step: P of the walk before it, Q of the walk behind it.
+    pub record Keeps (P : Walking → Type 0) : Type 0 where
+      pub on_seen : (t : Thread) (rest : List Thread) (w : Walking) → w.stack ≡ t ∷ rest → was_seen w.seen t.state ≡ true → P w → P (dropped hay longest rest w)
+      pub on_match : (t : Thread) (rest : List Thread) (w : Walking) → w.stack ≡ t ∷ rest → was_seen w.seen t.state ≡ false →
+          is_match (state_of_thread t) ≡ true → P w → P (at_match t rest w)
+      pub on_taken : (t : Thread) (rest : List Thread) (w : Walking) → w.stack ≡ t ∷ rest → was_seen w.seen t.state ≡ false →
+          is_match (state_of_thread t) ≡ false → LeadsOver (state_of_thread t) → P w → P (taken (state_of_thread t) t rest w)
+      pub on_gone : (t : Thread) (rest : List Thread) (w : Walking) → w.stack ≡ t ∷ rest → was_seen w.seen t.state ≡ false →
+          is_match (state_of_thread t) ≡ false → LeadsBeside (state_of_thread t) → P w → P (gone (state_of_thread t) t rest w)
+
+    module _ (P : Walking → Type 0) (keeps : Keeps P) where
+      stepped_keeps : (w : Walking) (stack : List Thread) → w.stack ≡ stack → P w → P (stepped hay longest p i stack w)
+      unfolding stepped
+      stepped_keeps w [] is now = now
+      stepped_keeps w (t ∷ rest) is now =
+          ⊎_elim
+          (λ (seen : was_seen w.seen t.state ≡ true).
+          subst (λ b. P (cond b (dropped hay longest rest w) (visited hay longest i (state_of_thread t) t rest w))) (sym seen)
+          (keeps.on_seen t rest w is seen now))
+          (λ (new : was_seen w.seen t.state ≡ false).
+          subst (λ b. P (cond b (dropped hay longest rest w) (visited hay longest i (state_of_thread t) t rest w))) (sym new)
+          (visited_cases P (state_of_thread t) t rest w
+          (λ found. keeps.on_match t rest w is new found now)
+          (λ no over. keeps.on_taken t rest w is new no over now)
+          (λ no beside. keeps.on_gone t rest w is new no beside now)))
+          (cases_Bool (was_seen w.seen t.state))
+
+      iterate_keeps : (k : ℕ) (w : Walking) → P w → P (iterate (step hay longest p i) k w)
+      iterate_keeps zero w now = now
+      iterate_keeps (suc k) w now = iterate_keeps k (step hay longest p i w) (stepped_keeps w w.stack refl now)
+
+      -- what every step keeps, some steps keep
+      pub walk_keeps : (w v : Walking) → WalksTo hay longest p i w v → P w → P v
+      walk_keeps w v (k, is) now = subst P is (iterate_keeps k w now)

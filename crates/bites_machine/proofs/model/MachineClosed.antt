@@ -1,0 +1,313 @@
+-- Until the machine has a match, every edge of a visited configuration leads to a visited configuration or to a thread.
+use Rattle.std.proofs.Common.{◌≡◌, ℕ, ◌+◌, ◌<◌, ◌≤◌, Bool, true, false, ◌||◌, ◌&&◌, cond, List, [], ◌∷◌, ◌++◌, map, take, length, Option, Some, None, refl, sym, ap, ◌∙◌, subst, inl, inr, ⊎_elim, ◌⊎◌, true≢false, arith, eqb-true}
+use Rattle.std.specs.Prelude.{◌==◌, is_some}
+use Rattle.std.specs.Option.{option_or}
+use Rattle.std.proofs.lemmas.Bool.{cases_Bool}
+use Rattle.bites_spec.specs.Utf8.{piece, places, step_len}
+use Rattle.bites_spec.specs.Walks.{Among}
+use Rattle.bites_spec.specs.Program.{Program, Configuration, at, state_at, is_match}
+use Rattle.bites_spec.specs.Run.{Run, leads, matches, Runs, IsRun, NoRun, LeastEnd, slots}
+use Rattle.bites_spec.specs.Counts.{Record, VisitedAll, VisitedSome}
+use Rattle.bites_spec.proofs.utf8.PieceLemmas.{Among-places}
+use Rattle.bites_spec.proofs.programs.SlotLemmas.{Among-left, Among-right}
+use Rattle.bites_spec.proofs.programs.ListedLemmas.{Among-under}
+use Rattle.bites_machine.specs.Machine.{Thread, Walking, Searching, with_write, thread_on, moved, dropped, started, begun, Searches, at_start, SearchedTo, Searched, is_empty}
+use Rattle.bites_machine.proofs.model.SweepLemmas.{places-here, Runs-forward}
+use Rattle.bites_machine.proofs.model.PathLemmas.{closed_walk}
+use Rattle.bites_machine.proofs.model.MachineCases.{was_seen, taken, gone, Keeps, walk_keeps}
+use Rattle.bites_machine.proofs.model.MachineFirst.{nothing_among, places_end}
+use Rattle.bites_machine.proofs.model.MachineTrace.{Found}
+use Rattle.bites_machine.proofs.model.MachineSearch.{AreTraced, place_traced, traced_on, searched_place, searched_keeps, searched_traced, goes_on, still_open, configurations_of, option_or_cases}
+
+none_some : {A : Type 0} (x : A) → None ≡ Some x → ⊥
+none_some x e = cc
+
+-- a thread of the list is at the configuration
+abbrev pub Waits : List Thread → ℕ → Configuration → Type 0
+Waits ts i v = (u : Thread) × Among ts u × (at u.state i ≡ v)
+
+pub seen_among : (hay : List ℕ) (longest : Bool) (p : Program) (i : ℕ) (seen : List ℕ) (q : ℕ) → was_seen hay longest i p seen q ≡ true →
+    Among (map (λ x. at x i) seen) (at q i)
+seen_among hay longest p i [] q was = absurd (true≢false (sym was))
+seen_among hay longest p i (x ∷ seen) q was =
+    ⊎_elim (λ (e : (x == q) ≡ true). inl (ap (λ (n : ℕ). at n i) (eqb-true x q e)))
+    (λ (e : (x == q) ≡ false). inr (seen_among hay longest p i seen q (ap (λ b. b || was_seen hay longest i p seen q) (sym e) ∙ was)))
+    (cases_Bool (x == q))
+
+module _ (p : Program) (hay : List ℕ) (longest : Bool) (width : ℕ) (start : ℕ) where
+  -- No match was visited, and what leads on from the visited configurations, or is a start before the later ones, was visited or waits.
+  pub record IsClosed (visits : List Configuration) (threads : List Thread) (i later : ℕ) : Type 0 where
+    pub closed : (u : Configuration) → Among visits u → (v : Configuration) → Among (leads p hay u) v → Among visits v ⊎ Waits threads i v
+    pub starts : (k : ℕ) → Among (places hay start) k → Among visits (at p.start k) ⊎ Among (places hay later) k
+    pub no_match : (u : Configuration) → Among visits u → matches p u ≡ false
+
+  module _ (i : ℕ) (old : List Configuration) where
+    abbrev there : ℕ
+    there = i + (piece hay i).len
+
+    -- visited, or waiting at the place
+    abbrev pub IsHere : Walking → Configuration → Type 0
+    IsHere w v = Among (configurations_of i old w.seen) v ⊎ Waits w.stack i v
+
+    -- visited, or waiting in a walk
+    abbrev pub IsMet : Walking → Configuration → Type 0
+    IsMet w v = IsHere w v ⊎ Waits w.next (i + (piece hay i).len) v
+
+    pub record IsClosing (w : Walking) : Type 0 where
+      pub closed : (u : Configuration) → Among (configurations_of i old w.seen) u → (v : Configuration) → Among (leads p hay u) v → IsMet w v
+      pub starts : (k : ℕ) → Among (places hay start) k → IsHere w (at p.start k) ⊎ Among (places hay (i + step_len hay i)) k
+      pub no_match : (u : Configuration) → Among (configurations_of i old w.seen) u → matches p u ≡ false
+
+    -- what was met is met, once the first thread of the stack was visited
+    module _ (t : Thread) (rest : List Thread) (w x : Walking) (is : w.stack ≡ t ∷ rest) (here : Among (configurations_of i old x.seen) (at t.state i))
+        (visits : (u : Configuration) → Among (configurations_of i old w.seen) u → Among (configurations_of i old x.seen) u) (stack : (u : Thread) → Among rest u → Among x.stack u)
+        (next : (u : Thread) → Among w.next u → Among x.next u) where
+      pub here_on : (v : Configuration) → IsHere w v → IsHere x v
+      here_on v met =
+          ⊎_elim (λ a. inl (visits v a))
+          (λ on_stack. ⊎_elim
+          (λ (top : t ≡ on_stack.0).
+          inl (subst (λ (y : Configuration). Among (configurations_of i old x.seen) y) (ap (λ (y : Thread). at y.state i) top ∙ on_stack.2) here))
+          (λ below. inr (on_stack.0, stack on_stack.0 below, on_stack.2))
+          (subst (λ (l : List Thread). Among l on_stack.0) is on_stack.1))
+          met
+
+      met_on : (v : Configuration) → IsMet w v → IsMet x v
+      met_on v met = ⊎_elim (λ a. inl (here_on v a)) (λ in_next. inr (in_next.0, next in_next.0 in_next.1, in_next.2)) met
+
+      closing_on : ((u : Configuration) → Among (configurations_of i old x.seen) u → (at t.state i ≡ u) ⊎ Among (configurations_of i old w.seen) u) →
+          ((v : Configuration) → Among (leads p hay (at t.state i)) v → IsMet x v) → is_match (state_at p.states t.state) ≡ false → IsClosing w → IsClosing x
+      closing_on new led none before = record {
+        closed = λ u h v edge.
+            ⊎_elim (λ (e : at t.state i ≡ u). led v (subst (λ (y : Configuration). Among (leads p hay y) v) (sym e) edge)) (λ a. met_on v (before.closed u a v edge)) (new u h);
+        starts = λ k h. ⊎_elim (λ a. inl (here_on (at p.start k) a)) inr (before.starts k h);
+        no_match = λ u h. ⊎_elim (λ (e : at t.state i ≡ u). subst (λ (y : Configuration). matches p y ≡ false) e none) (before.no_match u) (new u h);
+      }
+
+    moved_waits : (t : Thread) (k : ℕ) (v : Configuration) → Among (leads p hay (at t.state i)) v → v.place ≡ k → Waits (moved hay longest i (state_at p.states t.state) t) k v
+    moved_waits t k v edge is = (
+      thread_on t.start (with_write (state_at p.states t.state) i t.slots) v,
+      Among-under (thread_on t.start (with_write (state_at p.states t.state) i t.slots)) (leads p hay (at t.state i)) v edge,
+      ap (λ (n : ℕ). at v.state n) (sym is),
+    )
+
+    pub never : (o : Option Thread) (t : Thread) → option_or o (Some t) ≡ None → ⊥
+    never None t e = none_some t (sym e)
+    never (Some u) t e = none_some u (sym e)
+
+    abbrev pub IsClosingYet : Walking → Type 0
+    IsClosingYet w = w.first_match ≡ None → IsClosing w
+
+    on_dropped : (t : Thread) (rest : List Thread) (w : Walking) → w.stack ≡ t ∷ rest → was_seen hay longest i p w.seen t.state ≡ true →
+        IsClosing w → IsClosing (dropped hay longest rest w)
+    on_dropped t rest w is was before =
+        let here = Among-left (map (λ x. at x i) w.seen) old (at t.state i) (seen_among hay longest p i w.seen t.state was) in
+        closing_on t rest w (dropped hay longest rest w) is here (λ u h. h) (λ u h. h) (λ u h. h) (λ u h. inr h)
+        (λ v edge. met_on t rest w (dropped hay longest rest w) is here (λ u h. h) (λ u h. h) (λ u h. h) v (before.closed (at t.state i) here v edge))
+        (before.no_match (at t.state i) here) before
+
+    pub closing_keeps : Keeps hay longest i p IsClosingYet
+    closing_keeps = record {
+      on_seen = λ t rest w is was now none. on_dropped t rest w is was (now none);
+      on_match = λ t rest w is new found now none. absurd (never w.first_match t none);
+      on_taken = λ t rest w is new none over now no_hit.
+          let later = moved hay longest i (state_at p.states t.state) t in
+          closing_on t rest w (taken hay longest i (state_at p.states t.state) t rest w) is (inl refl) (λ u h. inr h) (λ u h. h)
+          (λ u h. Among-left w.next later u h) (λ u h. h)
+          (λ v edge. let waits = moved_waits t (i + (piece hay i).len) v edge (over v edge).1 in inr (waits.0, Among-right w.next later waits.0 waits.1, waits.2))
+          none (now no_hit);
+      on_gone = λ t rest w is new none beside now no_hit.
+          let on = moved hay longest i (state_at p.states t.state) t in
+          closing_on t rest w (gone hay longest i (state_at p.states t.state) t rest w) is (inl refl) (λ u h. inr h) (λ u h. Among-right on rest u h)
+          (λ u h. h) (λ u h. h)
+          (λ v edge. let waits = moved_waits t i v edge (beside v edge) in inl (inr (waits.0, Among-left on rest waits.0 waits.1, waits.2)))
+          none (now no_hit);
+    }
+
+  -- one place more
+  module _ (s t : Searching) (le : s.place ≤ length hay) (place : Searches hay longest p width s t) (now : s.best ≡ None → IsClosed s.visits s.threads s.place s.place) where
+    abbrev start_thread : Thread
+    start_thread = started hay longest p width s.place
+
+    begun_closing : (best : Option Thread) → s.best ≡ best → best ≡ None → IsClosing s.place s.visits
+        (record { stack = s.threads ++ cond (is_some best) [] (start_thread ∷ []); seen = []; next = []; first_match = None; looks = s.looks })
+    begun_closing (Some b) is none = absurd (none_some b (sym none))
+    begun_closing None is none =
+        let before = now is in record {
+          closed = λ u h v edge. ⊎_elim (λ a. inl (inl a)) (λ waits. inl (inr (waits.0, Among-left s.threads (start_thread ∷ []) waits.0 waits.1, waits.2))) (before.closed u h v edge);
+          starts = λ k h. ⊎_elim (λ a. inl (inl a))
+              (λ later. ⊎_elim
+              (λ (e : s.place ≡ k).
+              inl (inr (start_thread, Among-right s.threads (start_thread ∷ []) start_thread (inl refl), ap (λ (n : ℕ). at p.start n) e)))
+              inr (subst (λ (l : List ℕ). Among l k) (places-here hay s.place le) later))
+              (before.starts k h);
+          no_match = before.no_match;
+        }
+
+    last_closing : s.best ≡ None → place.last.first_match ≡ None → IsClosing s.place s.visits place.last
+    last_closing no_best =
+        walk_keeps hay longest s.place p (λ w. w.first_match ≡ None → IsClosing s.place s.visits w) (closing_keeps s.place s.visits)
+        (begun hay longest p width s) place.last place.walks (λ none. begun_closing s.best refl no_best)
+
+    both_none : (o q : Option Thread) → option_or o q ≡ None → (o ≡ None) × (q ≡ None)
+    both_none None q e = (refl, e)
+    both_none (Some u) q e = absurd (none_some u (sym e))
+
+    no_stack : (v : Configuration) → Waits place.last.stack s.place v → ⊥
+    no_stack v waits = subst (λ (l : List Thread). Among l waits.0) place.over waits.1
+
+    closed_behind : t.best ≡ None → IsClosed t.visits t.threads (s.place + (piece hay s.place).len) (s.place + step_len hay s.place)
+    closed_behind none =
+        let both = both_none place.last.first_match s.best (ap (λ (x : Searching). x.best) place.is ∙ none) in
+        let last = last_closing both.1 both.0 in
+        subst (λ (x : Searching). IsClosed x.visits x.threads (s.place + (piece hay s.place).len) (s.place + step_len hay s.place)) place.is record {
+          closed = λ u h v edge. ⊎_elim (λ here. inl (visited_here v here)) inr (last.closed u h v edge);
+          starts = λ k h. ⊎_elim (λ here. inl (visited_here (at p.start k) here)) inr (last.starts k h);
+          no_match = last.no_match;
+        }
+      where
+        visited_here : (v : Configuration) → IsHere s.place s.visits place.last v → Among (configurations_of s.place s.visits place.last.seen) v
+        visited_here v here = ⊎_elim (λ a. a) (λ waits. absurd (no_stack v waits)) here
+
+  abbrev IsClosedYet : Searching → Type 0
+  IsClosedYet s = s.best ≡ None → IsClosed s.visits s.threads s.place s.place
+
+  closed_start : IsClosedYet (at_start hay longest p width start)
+  closed_start none = record {
+    closed = λ u h. absurd h;
+    starts = λ k h. inr h;
+    no_match = λ u h. absurd h;
+  }
+
+  -- no run that begins at a place from the start on ends before the place of a search without a match
+  none_before : (visits : List Configuration) (threads : List Thread) (i : ℕ) → IsClosed visits threads i i → (k : ℕ) → Among (places hay start) k →
+      (o : List Configuration) (j : ℕ) → IsRun p hay k o j → j < i → ⊥
+  none_before visits threads i closed k among o j runs lt =
+      ⊎_elim (λ a. goes (at p.start k) o a runs)
+      (λ later. let above = (Among-places hay i k later).0 in let forward = Runs-forward p hay (at p.start k) o j runs in omega arith)
+      (closed.starts k among)
+    where
+      goes : (s : Configuration) (r : List Configuration) → Among visits s → Runs p hay s r j → ⊥
+      goes s [] a runs = true≢false (sym runs.0 ∙ closed.no_match s a)
+      goes s (v ∷ r) a runs =
+          ⊎_elim (λ b. goes v r b runs.1)
+          (λ waits. let forward = Runs-forward p hay v r j runs.1 in let here = ap (λ (x : Configuration). x.place) waits.2 in omega arith)
+          (closed.closed s a v runs.0)
+
+  module _ (earliest : Bool) (within : start ≤ length hay) where
+    searched_closed : (n : ℕ) (s : Searching) → SearchedTo hay longest p width earliest start n s → IsClosedYet s
+    searched_closed n s to =
+        searched_keeps p hay longest width earliest start within IsClosedYet closed_start
+        (λ s t among now place on none.
+        let some = goes_on p hay longest width earliest start within s.place t on in
+        let at_place = ap (λ (x : Searching). x.place) place.is in
+        let later : s.place + step_len hay s.place ≡ t.place = omega arith in
+        subst (λ (k : ℕ). IsClosed t.visits t.threads k t.place) at_place
+        (subst (λ (k : ℕ). IsClosed t.visits t.threads (s.place + (piece hay s.place).len) k) later
+        (closed_behind s t (Among-places hay start s.place among).1 place now none))) n s to
+
+    abbrev record_of : Searching → Record
+    record_of t = record { visits = t.visits; looks = t.looks }
+
+    module _ (fits : width ≤ p.slots) (t : Searching) (end : Searched hay longest p width earliest start t) where
+      place_among : Among (places hay start) end.before.place
+      place_among = searched_place p hay longest width earliest start within end.places end.before end.searched
+
+      place_within : end.before.place ≤ length hay
+      place_within = (Among-places hay start end.before.place place_among).1
+
+      before_traced : AreTraced p hay longest width start fits end.before
+      before_traced = searched_traced p hay longest width start fits earliest within end.places end.before end.searched
+
+      -- a search that found nothing came to the end of the haystack
+      no_piece : t.best ≡ None → (piece hay end.before.place).len ≡ 0
+      no_piece none =
+          eqb-true (piece hay end.before.place).len 0
+          (is_left ((piece hay end.before.place).len == 0) (earliest || is_empty t.threads)
+          (subst (λ (o : Option Thread). (((piece hay end.before.place).len == 0) || (is_some o && (earliest || is_empty t.threads))) ≡ true) none end.over))
+        where
+          is_left : (a b : Bool) → (a || (false && b)) ≡ true → a ≡ true
+          is_left true b e = refl
+          is_left false b e = e
+
+      behind : t.best ≡ None →
+          IsClosed t.visits t.threads (end.before.place + (piece hay end.before.place).len) (end.before.place + step_len hay end.before.place)
+      behind = closed_behind end.before t place_within end.last (searched_closed end.places end.before end.searched)
+
+      no_threads : t.best ≡ None → t.threads ≡ []
+      no_threads none =
+          sym (ap (λ (x : Searching). x.threads) end.last.is)
+          ∙ nothing_among end.last.last.next
+          (λ u h.
+          let some = ((place_traced p hay longest width start fits end.before t place_among before_traced end.last).next u h).0 in
+          let no_len = no_piece none in omega arith)
+
+      led_visited : t.best ≡ None → (u : Configuration) → Among t.visits u → (v : Configuration) → Among (leads p hay u) v → Among t.visits v
+      led_visited none u h v edge =
+          ⊎_elim (λ a. a) (λ waits. absurd (subst (λ (l : List Thread). Among l waits.0) (no_threads none) waits.1)) ((behind none).closed u h v edge)
+
+      start_visited : t.best ≡ None → (k : ℕ) → Among (places hay start) k → Among t.visits (at p.start k)
+      start_visited none k h =
+          ⊎_elim (λ a. a) (λ later. absurd (subst (λ (l : List ℕ). Among l k) (places_end hay end.before.place place_within (no_piece none)) later))
+          ((behind none).starts k h)
+
+      -- a search that found nothing has visited all that is reached
+      pub all_visited : t.best ≡ None → VisitedAll p hay start (record_of t)
+      all_visited none i among u reaches =
+          closed_walk p hay t.visits (led_visited none) (at p.start i) reaches.0 u (start_visited none i among) reaches.1
+
+      -- and there is no run
+      pub no_run : t.best ≡ None → NoRun p hay start
+      no_run none i among r j runs = goes (at p.start i) r (start_visited none i among) runs
+        where
+          goes : (s : Configuration) (r : List Configuration) → Among t.visits s → Runs p hay s r j → ⊥
+          goes s [] a runs = true≢false (sym runs.0 ∙ (behind none).no_match s a)
+          goes s (v ∷ r) a runs = goes v r (led_visited none s a v runs.0) runs.1
+
+      -- what a search found is a run, all of which was visited
+      pub best_found : (b : Thread) → t.best ≡ Some b → (e : ℕ) × Found p hay longest width start t.visits e b
+      best_found = (traced_on p hay longest width start fits end.before t place_among before_traced end.last).best
+
+      pub some_visited : (b : Thread) → t.best ≡ Some b → VisitedSome p hay start (record_of t)
+      some_visited b is = let f = (best_found b is).1 in (f.run, f.runs, f.among, f.was)
+
+  module _ (within : start ≤ length hay) where
+    none_yet : (n : ℕ) (s : Searching) → SearchedTo hay longest p width true start n s → s.best ≡ None
+    none_yet n s to =
+        searched_keeps p hay longest width true start within (λ s. s.best ≡ None) refl
+        (λ s t among now place on. no_best t.best (is_empty t.threads) (still_open p hay longest width true start within s.place t on)) n s to
+      where
+        no_best : (o : Option Thread) (b : Bool) → (is_some o && (true || b)) ≡ false → o ≡ None
+        no_best None b e = refl
+        no_best (Some u) b e = absurd (true≢false e)
+
+    -- Stopped at the first match, a search ends with a run that ends before or with every other.
+    pub least_end : (fits : width ≤ p.slots) (t : Searching) → Searched hay longest p width true start t → (b : Thread) → t.best ≡ Some b →
+        (r : Run) × LeastEnd p hay start (Some r) × (b.slots ≡ take width (slots p r))
+    least_end fits t end b is = (
+      found.run,
+      (found.runs, found.among, λ k among o j runs. not_below (λ lt. none_before end.before.visits end.before.threads end.before.place closed k among o j runs (below j lt))),
+      found.slots,
+    )
+      where
+        none : end.before.best ≡ None
+        none = none_yet end.places end.before end.searched
+
+        closed : IsClosed end.before.visits end.before.threads end.before.place end.before.place
+        closed = searched_closed true within end.places end.before end.searched none
+
+        first_match : end.last.last.first_match ≡ Some b
+        first_match =
+            ⊎_elim (λ here. here) (λ before. absurd (none_some b (sym none ∙ before.1)))
+            (option_or_cases end.last.last.first_match end.before.best b (ap (λ (x : Searching). x.best) end.last.is ∙ is))
+
+        found : Found p hay longest width start (configurations_of end.before.place end.before.visits end.last.last.seen) end.before.place b
+        found =
+            (place_traced p hay longest width start fits end.before t (searched_place p hay longest width true start within end.places end.before end.searched)
+            (searched_traced p hay longest width start fits true within end.places end.before end.searched) end.last).first_match b first_match
+
+        below : (j : ℕ) → j < found.run.end → j < end.before.place
+        below j lt = let e = found.end_is in omega arith
+
+        not_below : {m n : ℕ} → (n < m → ⊥) → m ≤ n
+        not_below never = omega (arith, never)

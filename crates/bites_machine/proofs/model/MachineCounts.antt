@@ -1,0 +1,224 @@
+-- The machine visits no configuration twice, and looks no more often than there are edges, and once more at each place.
+use Rattle.std.proofs.Common.{◌≡◌, ℕ, suc, ◌+◌, ◌*◌, ◌<◌, ◌≤◌, Bool, true, false, ◌||◌, cond, List, [], ◌∷◌, ◌++◌, map, length, Option, Some, None, refl, sym, ap, ◌∙◌, subst, inl, ⊎_elim, true≢false, arith, length-append, eq-eqb}
+use Rattle.std.specs.Prelude.{◌==◌, is_some, nat_le, sum_by}
+use Rattle.std.specs.List.{filter}
+use Rattle.std.specs.Option.{option_or}
+use Rattle.std.proofs.lemmas.List.{length-map}
+use Rattle.std.proofs.lemmas.List.Sums.{sum_by-cons}
+use Rattle.std.proofs.lemmas.Bool.{cases_Bool}
+use Rattle.bites_spec.specs.Utf8.{piece, places, step_len}
+use Rattle.bites_spec.specs.Walks.{Among, IsNew, AllApart}
+use Rattle.bites_spec.specs.Program.{State, Program, Configuration, at, state_at, targets, targets_of, IsWellFormed}
+use Rattle.bites_spec.specs.Run.{leads}
+use Rattle.bites_spec.specs.Counts.{IsBounded}
+use Rattle.bites_spec.proofs.utf8.PieceLemmas.{Among-places}
+use Rattle.bites_machine.specs.Machine.{Thread, Walking, Searching, with_write, thread_on, kept, moved, started, begun, Searches, at_start, SearchedTo, Searched}
+use Rattle.bites_machine.proofs.compile.EdgeLemmas.{Among-apart}
+use Rattle.bites_machine.proofs.model.SweepLemmas.{places-here}
+use Rattle.bites_machine.proofs.compile.SumLemmas.{sum_of_ones, sum_of_configurations}
+use Rattle.bites_machine.proofs.model.PathLemmas.{edges_within}
+use Rattle.bites_machine.proofs.model.MachineCases.{was_seen, Keeps, walk_keeps}
+use Rattle.bites_machine.proofs.model.MachineTrace.{Among-mapped, trace_inside}
+use Rattle.bites_machine.proofs.model.MachineSearch.{IsTraced, traced_keeps, begun_traced, AreTraced, traced_start, traced_on, searched_place, searched_keeps, goes_on, configurations_of}
+
+length-filter : {A : Type 0} (test : A → Bool) (xs : List A) → length (filter test xs) ≤ length xs
+length-filter test [] = omega arith
+length-filter test (x ∷ xs) =
+    ⊎_elim (λ (e : test x ≡ true). rw e (omega (arith, length-filter test xs))) (λ (e : test x ≡ false). rw e (omega (arith, length-filter test xs)))
+    (cases_Bool (test x))
+
+-- a match lets no more threads go on than there were
+pub length-kept : (hay : List ℕ) (longest : Bool) (o : Option Thread) (ts : List Thread) → length (kept hay longest o ts) ≤ length ts
+length-kept hay longest None ts = omega arith
+length-kept hay true (Some first_match) ts = length-filter (λ t. nat_le t.start first_match.start) ts
+length-kept hay false (Some first_match) ts = omega arith
+
+-- a state that was not visited is none of those that were
+pub unseen_here : (hay : List ℕ) (longest : Bool) (p : Program) (i : ℕ) (seen : List ℕ) (q : ℕ) → was_seen hay longest i p seen q ≡ false →
+    IsNew (at q i) (map (λ x. at x i) seen)
+unseen_here hay longest p i [] q new h = h
+unseen_here hay longest p i (x ∷ seen) q new h =
+    ⊎_elim (λ (e : at x i ≡ at q i). true≢false (sym (eq-eqb x q (ap (λ (s : Configuration). s.state) e)) ∙ (both (x == q) (was_seen hay longest i p seen q) new).0))
+    (unseen_here hay longest p i seen q (both (x == q) (was_seen hay longest i p seen q) new).1) h
+  where
+    both : (a b : Bool) → (a || b) ≡ false → (a ≡ false) × (b ≡ false)
+    both true b e = absurd (true≢false e)
+    both false b e = (refl, e)
+
+module _ (p : Program) (hay : List ℕ) (well : IsWellFormed p) (longest : Bool) (width : ℕ) (fits : width ≤ p.slots) (start : ℕ) where
+  abbrev pub led : List Configuration → ℕ
+  led visits = sum_by (λ u. length (leads p hay u)) visits
+
+  module _ (i : ℕ) (among : Among (places hay start) i) (old : List Configuration) (before : (u : Configuration) → Among old u → u.place < i) (to_come : ℕ) where
+    -- what was visited, and how often the walk has looked and has still to look, with so many places to come
+    pub record IsCounted (w : Walking) : Type 0 where
+      pub traced : IsTraced p hay longest width start fits i old w
+      pub apart : AllApart (configurations_of i old w.seen)
+      pub inside : (u : Configuration) → Among (configurations_of i old w.seen) u → (u.state < length p.states) × Among (places hay start) u.place
+      pub looks : w.looks + length w.stack + length w.next + to_come ≤ length (places hay start) + sum_by (λ u. length (leads p hay u)) (configurations_of i old w.seen)
+      pub looked : length (configurations_of i old w.seen) ≤ w.looks
+
+    module _ (t : Thread) (rest : List Thread) (w : Walking) (is : w.stack ≡ t ∷ rest) (now : IsCounted w) where
+      one_less : length w.stack ≡ suc (length rest)
+      one_less = ap length is
+
+      moved_count : length (moved hay longest i (state_at p.states t.state) t) ≡ length (leads p hay (at t.state i))
+      moved_count = length-map (leads p hay (at t.state i)) (thread_on t.start (with_write (state_at p.states t.state) i t.slots))
+
+      led_more : led (configurations_of i old (t.state ∷ w.seen)) ≡ length (leads p hay (at t.state i)) + led (configurations_of i old w.seen)
+      led_more = sum_by-cons (λ (u : Configuration). length (leads p hay u)) (at t.state i) (configurations_of i old w.seen)
+
+      now_apart : was_seen hay longest i p w.seen t.state ≡ false → AllApart (configurations_of i old (t.state ∷ w.seen))
+      now_apart new = (
+        λ h. ⊎_elim (unseen_here hay longest p i w.seen t.state new) (λ (a : Among old (at t.state i)). let lt = before (at t.state i) a in omega arith)
+            (Among-apart (map (λ x. at x i) w.seen) old (at t.state i) h),
+        now.apart,
+      )
+
+      now_inside : (u : Configuration) → Among (configurations_of i old (t.state ∷ w.seen)) u → (u.state < length p.states) × Among (places hay start) u.place
+      now_inside u h =
+          ⊎_elim
+          (λ (e : at t.state i ≡ u). subst (λ (x : Configuration). (x.state < length p.states) × Among (places hay start) x.place) e (
+            (trace_inside p hay longest width start well (configurations_of i old w.seen) i t
+                (now.traced.stack t (subst (λ (l : List Thread). Among l t) (sym is) (inl refl)))).0,
+            among,
+          ))
+          (now.inside u) h
+
+    pub counted_keeps : Keeps hay longest i p IsCounted
+    counted_keeps =
+        let traces = traced_keeps p hay longest width start fits i old in record {
+          on_seen = λ t rest w is was now. record {
+            traced = traces.on_seen t rest w is was now.traced;
+            apart = now.apart;
+            inside = now.inside;
+            looks = let a = one_less t rest w is now in let b = now.looks in omega arith;
+            looked = let b = now.looked in omega arith;
+          };
+          on_match = λ t rest w is new found now. record {
+            traced = traces.on_match t rest w is new found now.traced;
+            apart = now_apart t rest w is now new;
+            inside = now_inside t rest w is now;
+            looks = let a = one_less t rest w is now in let b = now.looks in let c = led_more t rest w is now in
+                let d = length-kept hay longest (option_or w.first_match (Some t)) rest in omega arith;
+            looked = let b = now.looked in omega arith;
+          };
+          on_taken = λ t rest w is new none over now. record {
+            traced = traces.on_taken t rest w is new none over now.traced;
+            apart = now_apart t rest w is now new;
+            inside = now_inside t rest w is now;
+            looks = let a = one_less t rest w is now in let b = now.looks in let c = led_more t rest w is now in let d = moved_count t rest w is now in
+                let e = length-append w.next (moved hay longest i (state_at p.states t.state) t) in omega arith;
+            looked = let b = now.looked in omega arith;
+          };
+          on_gone = λ t rest w is new none beside now. record {
+            traced = traces.on_gone t rest w is new none beside now.traced;
+            apart = now_apart t rest w is now new;
+            inside = now_inside t rest w is now;
+            looks = let a = one_less t rest w is now in let b = now.looks in let c = led_more t rest w is now in let d = moved_count t rest w is now in
+                let e = length-append (moved hay longest i (state_at p.states t.state) t) rest in omega arith;
+            looked = let b = now.looked in omega arith;
+          };
+        }
+
+  -- what a search has visited and looked at so far, with so many places to come
+  pub record HasCounted (s : Searching) (to_come : ℕ) : Type 0 where
+    pub traced : AreTraced p hay longest width start fits s
+    pub apart : AllApart s.visits
+    pub inside : (u : Configuration) → Among s.visits u → (u.state < length p.states) × Among (places hay start) u.place
+    pub looks : s.looks + length s.threads + to_come ≤ length (places hay start) + sum_by (λ u. length (leads p hay u)) s.visits
+    pub looked : length s.visits ≤ s.looks
+
+  -- one place more
+  module _ (s t : Searching) (among : Among (places hay start) s.place) (place : Searches hay longest p width s t) (to_come : ℕ) (now : HasCounted s (suc to_come))
+      (before : (u : Configuration) → Among s.visits u → u.place < s.place) where
+    begin_count : (best : Option Thread) → length (s.threads ++ cond (is_some best) [] (started hay longest p width s.place ∷ [])) ≤ suc (length s.threads)
+    begin_count (Some b) = omega (arith, length-append s.threads [])
+    begin_count None = omega (arith, length-append s.threads (started hay longest p width s.place ∷ []))
+
+    last_counted : IsCounted s.place among s.visits before to_come place.last
+    last_counted =
+        walk_keeps hay longest s.place p _ (counted_keeps s.place among s.visits before to_come) (begun hay longest p width s) place.last place.walks record {
+          traced = begun_traced p hay longest width start fits s among now.traced;
+          apart = now.apart;
+          inside = now.inside;
+          looks = let a = begin_count s.best in let b = now.looks in omega arith;
+          looked = now.looked;
+        }
+
+    counted_behind : HasCounted t to_come
+    counted_behind =
+        let traced = traced_on p hay longest width start fits s t among now.traced place in
+        let threads = ap (λ (x : Searching). x.threads) place.is in
+        let visits = ap (λ (x : Searching). x.visits) place.is in
+        let looks = ap (λ (x : Searching). x.looks) place.is in record {
+          traced = traced;
+          apart = subst AllApart visits last_counted.apart;
+          inside = subst (λ (l : List Configuration). (u : Configuration) → Among l u → (u.state < length p.states) × Among (places hay start) u.place) visits last_counted.inside;
+          looks = subst (λ (x : Searching). x.looks + length x.threads + to_come ≤ length (places hay start) + led x.visits) place.is
+              (let a = last_counted.looks in omega arith);
+          looked = subst (λ (x : Searching). length x.visits ≤ x.looks) place.is last_counted.looked;
+        }
+
+    before_behind : 0 < (piece hay s.place).len → (u : Configuration) → Among t.visits u → u.place < t.place
+    before_behind some =
+        subst (λ (x : Searching). (u : Configuration) → Among x.visits u → u.place < x.place) place.is
+        (λ u h. ⊎_elim (λ a. let m = Among-mapped (λ q. at q s.place) place.last.seen u a in let e = ap (λ (x : Configuration). x.place) m.2 in omega arith)
+        (λ a. let lt = before u a in omega arith) (Among-apart (map (λ q. at q s.place) place.last.seen) s.visits u h))
+
+  record IsCounting (s : Searching) : Type 0 where
+    counted : HasCounted s (length (places hay s.place))
+    before : (u : Configuration) → Among s.visits u → u.place < s.place
+
+  counting_start : IsCounting (at_start hay longest p width start)
+  counting_start = record {
+    counted = record {
+      traced = traced_start p hay longest width start fits;
+      apart = tt;
+      inside = λ u h. absurd h;
+      looks = omega arith;
+      looked = omega arith;
+    };
+    before = λ u h. absurd h;
+  }
+
+  here_and_on : (s : Searching) → Among (places hay start) s.place → IsCounting s → HasCounted s (suc (length (places hay (s.place + step_len hay s.place))))
+  here_and_on s among now =
+      subst (λ (n : ℕ). HasCounted s n) (ap length (places-here hay s.place (Among-places hay start s.place among).1)) now.counted
+
+  -- what was counted keeps to the bounds
+  pub counted_bounded : (t : Searching) (to_come : ℕ) → HasCounted t to_come → IsBounded p hay start (record { visits = t.visits; looks = t.looks })
+  counted_bounded t to_come done =
+      let ones = sum_of_configurations (λ (u : Configuration). 1) (λ (st : State). 1) p.states (places hay start) t.visits (λ q i. omega arith) done.apart done.inside in
+      let edges = sum_of_configurations (λ (u : Configuration). length (leads p hay u)) (λ (st : State). length (targets_of st)) p.states (places hay start) t.visits
+      (λ q i. edges_within hay (state_at p.states q) i) done.apart done.inside in record {
+        apart = done.apart;
+        visits = let a = sum_of_ones t.visits in
+            let b : length t.visits ≤ sum_by (λ (st : State). 1) p.states * length (places hay start) = omega arith in
+            subst (λ (n : ℕ). length t.visits ≤ n * length (places hay start)) (sum_of_ones p.states) b;
+        looks = let a = done.looks in omega (arith, one_more (targets p) (length (places hay start)));
+        looked = done.looked;
+      }
+    where
+      one_more : (m n : ℕ) → (m + 1) * n ≡ m * n + n
+      one_more m n = grind arith
+
+  module _ (earliest : Bool) (within : start ≤ length hay) where
+    counting : (n : ℕ) (s : Searching) → SearchedTo hay longest p width earliest start n s → IsCounting s
+    counting n s to =
+        searched_keeps p hay longest width earliest start within IsCounting counting_start
+        (λ s t among now place on.
+        let some = goes_on p hay longest width earliest start within s.place t on in
+        let next_is : s.place + step_len hay s.place ≡ t.place = (let e = ap (λ (x : Searching). x.place) place.is in omega arith) in record {
+          counted = subst (λ (k : ℕ). HasCounted t (length (places hay k))) next_is
+              (counted_behind s t among place (length (places hay (s.place + step_len hay s.place))) (here_and_on s among now) now.before);
+          before = before_behind s t among place (length (places hay (s.place + step_len hay s.place))) (here_and_on s among now) now.before some;
+        }) n s to
+
+    -- the bounds on what a search visits and on how often it looks
+    pub search_bounded : (t : Searching) → Searched hay longest p width earliest start t → IsBounded p hay start (record { visits = t.visits; looks = t.looks })
+    search_bounded t end =
+        let now = counting end.places end.before end.searched in
+        let among = searched_place p hay longest width earliest start within end.places end.before end.searched in
+        counted_bounded t (length (places hay (end.before.place + step_len hay end.before.place)))
+        (counted_behind end.before t among end.last (length (places hay (end.before.place + step_len hay end.before.place))) (here_and_on end.before among now) now.before)

@@ -1,0 +1,621 @@
+-- The machine answers the longest run.
+use Rattle.std.proofs.Common.{◌≡◌, ℕ, suc, ◌+◌, ◌<◌, ◌≤◌, Bool, true, false, ◌||◌, ◌&&◌, cond, List, [], ◌∷◌, ◌++◌, take, length, Option, Some, None, option_map, refl, sym, ap, ap₂, ◌∙◌, subst, inl, inr, ⊎_elim, ◌⊎◌, true≢false, arith, eqb-true, eq-eqb, le-leb, leb-true}
+use Rattle.std.proofs.lemmas.Option.{same_Some}
+use Rattle.std.specs.Prelude.{◌==◌, nat_le, is_some, replicate}
+use Rattle.std.specs.List.{filter}
+use Rattle.std.specs.Option.{option_or}
+use Rattle.std.proofs.lemmas.List.{append-nil, map-append}
+use Rattle.std.proofs.lemmas.Bool.{cases_Bool, and_parts}
+use Rattle.bites_spec.specs.Utf8.{piece, places, step_len}
+use Rattle.bites_spec.specs.Walks.{Among, Walk, first_among, last_of}
+use Rattle.bites_spec.specs.Program.{Program, Configuration, at, state_at, is_match, IsWellFormed}
+use Rattle.bites_spec.specs.Run.{Run, StartsFirst, Runs, IsRun, LongestRun, is_end_at, is_same_configuration, leads, matches, enough, slots, longest_run}
+use Rattle.bites_spec.proofs.utf8.PieceLemmas.{Among-places}
+use Rattle.bites_spec.proofs.runs.FirstLemmas.{sound}
+use Rattle.bites_spec.proofs.runs.RunLemmas.{same_is, same_refl, match_ends, first_place, no_place}
+use Rattle.bites_spec.proofs.programs.LongestLemmas.{no_run_to, no_walk_no_run, walk_makes_run, below_found, below_some, one_longest_answer, longest_run-LongestRun}
+use Rattle.bites_spec.proofs.runs.WalkLemmas.{pending}
+use Rattle.bites_machine.specs.Machine.{Thread, Walking, Searching, kept, moved, started, begun, Searches, at_start, is_over, SearchedTo, Searched, is_empty}
+use Rattle.bites_machine.proofs.model.SweepLemmas.{places-here, Runs-forward}
+use Rattle.bites_machine.proofs.model.MachineCases.{was_seen, Keeps, walk_keeps}
+use Rattle.bites_machine.proofs.model.MachineSlots.{run_writes}
+use Rattle.bites_machine.proofs.model.MachineWaiting.{Outcome, outcome, worth, wait, wait_all, marks, run, pend, pend-append, pend_later, pend_seen, pend_gone, pend_taken, pend_dead, pend_hit}
+use Rattle.bites_machine.proofs.model.MachineTrace.{Found, trace_inside}
+use Rattle.bites_machine.proofs.model.MachineSearch.{IsTraced, traced_keeps, begun_traced, AreTraced, traced_start, traced_on, place_traced, searched_place, searched_keeps, goes_on, configurations_of}
+use Rattle.bites_machine.proofs.model.MachineClosed.{best_found}
+use Rattle.bites_machine.proofs.model.MachineFirst.{nothing_among, places_end}
+use Rattle.bites_machine.proofs.model.MachineOrder.{AreOrdered, ordered_start, ordered_on, place_ordered}
+
+or_cases : {A : Type 0} (o q : Option A) (x : A) → option_or o q ≡ Some x → (o ≡ Some x) ⊎ ((o ≡ None) × (q ≡ Some x))
+or_cases None q x e = inr (refl, e)
+or_cases (Some y) q x e = inl e
+
+or_true : (a b : Bool) → (a || b) ≡ true → (a ≡ true) ⊎ (b ≡ true)
+or_true true b e = inl refl
+or_true false b e = inr e
+
+empty_is : (ts : List Thread) → is_empty ts ≡ true → ts ≡ []
+empty_is [] e = refl
+empty_is (t ∷ ts) e = absurd (true≢false (sym e))
+
+none_some : {A : Type 0} (x : A) → None ≡ Some x → ⊥
+none_some x e = cc
+
+none_or_some : {A : Type 0} (o : Option A) → (o ≡ None) ⊎ ((x : A) × (o ≡ Some x))
+none_or_some None = inl refl
+none_or_some (Some x) = inr (x, refl)
+
+pub below_or_not : (a b : ℕ) → (a < b) ⊎ (b ≤ a)
+below_or_not a b =
+    ⊎_elim (λ (e : nat_le b a ≡ true). inr (leb-true b a e))
+    (λ (e : nat_le b a ≡ false). let never : b ≤ a → ⊥ = (λ le. true≢false (sym (le-leb b a le) ∙ e)) in inl (less never))
+    (cases_Bool (nat_le b a))
+  where
+    less : (b ≤ a → ⊥) → a < b
+    less never = omega (arith, never)
+
+module _ (p : Program) (hay : List ℕ) (well : IsWellFormed p) (width : ℕ) (fits : width ≤ p.slots) (start : ℕ) (within : start ≤ length hay) where
+  abbrev base : List (Option ℕ)
+  base = replicate width None
+
+  module _ (r : Run) (longest : LongestRun p hay start (Some r)) where
+    abbrev first : StartsFirst p hay start r
+    first = longest.0
+
+    start_within : r.start ≤ length hay
+    start_within = (Among-places hay start r.start first.from).1
+
+    forward : r.start ≤ r.end
+    forward = Runs-forward p hay (at p.start r.start) r.configurations r.end first.runs
+
+    abbrev pub is_end : Configuration → Bool
+    is_end = is_end_at p r.end
+
+    pub end_matches : (s : Configuration) → is_end s ≡ true → matches p s ≡ true
+    end_matches s e = (and_parts (matches p s) (s.place == r.end) e).0
+
+    end_place : (s : Configuration) → is_end s ≡ true → s.place ≡ r.end
+    end_place s e = eqb-true s.place r.end (and_parts (matches p s) (s.place == r.end) e).1
+
+    ends_nowhere : (s : Configuration) → is_end s ≡ true → leads p hay s ≡ []
+    ends_nowhere s e = match_ends p hay s (end_matches s e)
+
+    to_runs : (s : Configuration) (o : List Configuration) → Walk (leads p hay) (λ q. is_end q ≡ true) s o → Runs p hay s o r.end
+    to_runs s [] walk = (end_matches s walk, end_place s walk)
+    to_runs s (t ∷ o) walk = (walk.0, to_runs t o walk.1)
+
+    abbrev pub run_to_end : Configuration → Option (List Configuration)
+    run_to_end s = run p hay is_end end_matches (λ q. false) s
+
+    abbrev pub pended : (Configuration → Bool) → List (Configuration × (List Configuration → Outcome)) → Option Outcome
+    pended seen ws = pend p hay is_end end_matches seen ws
+
+    -- what is found is a run to the end
+    found_run : (seen : Configuration → Bool) (s : Configuration) (l : List Configuration) → run p hay is_end end_matches seen s ≡ Some l → (o : List Configuration) × (l ≡ s ∷ o) × Runs p hay s o r.end
+    found_run seen s l e =
+        let h = sound is_same_configuration (leads p hay) is_end same_is same_refl ends_nowhere (enough p hay) seen s l e in (h.0, h.1, to_runs s h.0 h.2)
+
+    -- the longest run is what is found
+    pub longest_found : run_to_end (at p.start r.start) ≡ Some (at p.start r.start ∷ r.configurations)
+    longest_found = by_answer (run_to_end (at p.start r.start)) refl
+      where
+        by_answer : (o : Option (List Configuration)) → run_to_end (at p.start r.start) ≡ o → o ≡ Some (at p.start r.start ∷ r.configurations)
+        by_answer None e =
+            absurd (no_run_to p hay well r.start r.end (no_walk_no_run p hay r.start r.end e) start_within r.configurations first.runs)
+        by_answer (Some l) e =
+            let f = found_run (λ q. false) (at p.start r.start) l e in
+            let other : Run = record { start = r.start; configurations = f.0; end = r.end } in
+            let below = below_some p hay well (suc r.end) r.start other
+            (below_found p hay r.start r.end other (walk_makes_run p hay r.start r.end f.0 (e ∙ ap (λ (x : List Configuration). Some x) f.1))) start_within in
+            let same = one_longest_answer p hay start (Some r) (Some other) longest (
+              record { runs = below.runs; from = first.from; none_before = first.none_before },
+              longest.1,
+              below.first_of,
+            ) in
+            ap (λ (x : List Configuration). Some x) (f.1 ∙ ap (λ (x : Run). at p.start r.start ∷ x.configurations) (sym (same_Some r other same)))
+
+    -- what the longest run leaves
+    abbrev pub the_outcome : Outcome
+    the_outcome = worth p hay r.start base (at p.start r.start ∷ r.configurations)
+
+    -- the outcome of the first run from a place to the end
+    abbrev answer_from : ℕ → Option Outcome
+    answer_from k = option_map (worth p hay k base) (run_to_end (at p.start k))
+
+    answer_here : answer_from r.start ≡ Some the_outcome
+    answer_here = ap (option_map (worth p hay r.start base)) longest_found
+
+    -- no run begins before
+    answer_before : (k : ℕ) → Among (places hay start) k → k < r.start → answer_from k ≡ None
+    answer_before k among lt = by_answer (run_to_end (at p.start k)) refl
+      where
+        by_answer : (o : Option (List Configuration)) → run_to_end (at p.start k) ≡ o → option_map (worth p hay k base) o ≡ None
+        by_answer None e = refl
+        by_answer (Some l) e = let f = found_run (λ q. false) (at p.start k) l e in absurd (first.none_before k among lt f.0 r.end f.2)
+
+    answer_start : (k : ℕ) (y : Outcome) → answer_from k ≡ Some y → y.start ≡ k
+    answer_start k y e = by_answer (run_to_end (at p.start k)) e
+      where
+        by_answer : (o : Option (List Configuration)) → option_map (worth p hay k base) o ≡ Some y → y.start ≡ k
+        by_answer None e = absurd (none_some y e)
+        by_answer (Some l) e = sym (ap (λ (x : Outcome). x.start) (same_Some (worth p hay k base l) y e))
+
+    answer_first : first_among answer_from (places hay start) ≡ Some the_outcome
+    unfolding places
+    answer_first = by_answer (first_among answer_from (places hay start)) refl
+      where
+        by_answer : (o : Option Outcome) → first_among answer_from (places hay start) ≡ o → o ≡ Some the_outcome
+        by_answer None e = absurd (none_some the_outcome (sym (no_place answer_from (places hay start) e r.start first.from) ∙ answer_here))
+        by_answer (Some y) e =
+            let at_first = first_place answer_from (suc (length hay)) hay start y e in
+            ⊎_elim
+            (λ (lt : at_first.place < r.start). absurd (none_some y (sym (answer_before at_first.place at_first.among lt) ∙ at_first.is)))
+            (λ (le : r.start ≤ at_first.place).
+            ⊎_elim
+            (λ (lt : r.start < at_first.place). absurd (none_some the_outcome (sym (at_first.none_before r.start first.from lt) ∙ answer_here)))
+            (λ (ge : at_first.place ≤ r.start).
+            let same : at_first.place ≡ r.start = omega arith in
+            sym at_first.is ∙ ap answer_from same ∙ answer_here)
+            (below_or_not r.start at_first.place))
+            (below_or_not at_first.place r.start)
+
+    -- an answer from these places on is from one of them
+    answer_behind : (m : ℕ) → first_among answer_from (places hay m) ≡ Some the_outcome → m ≤ r.start
+    answer_behind m e = let x = from_one (places hay m) e in let a = (Among-places hay m x.0 x.1).0 in let b = answer_start x.0 the_outcome x.2 in omega arith
+      where
+        from_one : (ks : List ℕ) → first_among answer_from ks ≡ Some the_outcome → (k : ℕ) × Among ks k × (answer_from k ≡ Some the_outcome)
+        from_one [] e = absurd (none_some the_outcome e)
+        from_one (k ∷ ks) e =
+            ⊎_elim (λ here. (k, inl refl, here)) (λ later. let x = from_one ks later.1 in (x.0, inr x.1, x.2))
+            (or_cases (answer_from k) (first_among answer_from ks) the_outcome e)
+
+    -- from behind the end there is no run to it
+    pub pend_past : (seen : Configuration → Bool) (j : ℕ) (ts : List Thread) → r.end < j → pended seen (wait_all p hay j ts) ≡ None
+    unfolding pending
+    pend_past seen j [] lt = refl
+    pend_past seen j (t ∷ ts) lt =
+        ap₂ option_or (ap (option_map (worth p hay t.start t.slots)) (by_answer (run p hay is_end end_matches seen (at t.state j)) refl)) (pend_past seen j ts lt)
+      where
+        by_answer : (o : Option (List Configuration)) → run p hay is_end end_matches seen (at t.state j) ≡ o → o ≡ None
+        by_answer None e = refl
+        by_answer (Some l) e =
+            let f = found_run seen (at t.state j) l e in let on = Runs-forward p hay (at t.state j) f.0 r.end f.2 in absurd (omega arith)
+
+    pub pend_after : (seen : Configuration → Bool) (j : ℕ) (ts : List Thread) → ((t : Thread) → Among ts t → r.end < j) → pended seen (wait_all p hay j ts) ≡ None
+    unfolding pending
+    pend_after seen j [] behind = refl
+    pend_after seen j (t ∷ ts) behind = pend_past seen j (t ∷ ts) (behind t (inl refl))
+
+    -- what a match lets go on has the success, if it started no later
+    pend_filter : (seen : Configuration → Bool) (i c : ℕ) (ts : List Thread) → r.start ≤ c → pended seen (wait_all p hay i ts) ≡ Some the_outcome →
+        pended seen (wait_all p hay i (filter (λ t. nat_le t.start c) ts)) ≡ Some the_outcome
+    unfolding pending
+    pend_filter seen i c [] le e = e
+    pend_filter seen i c (t ∷ ts) le e =
+        ⊎_elim
+        (λ here.
+        let is : t.start ≡ r.start = start_is (run p hay is_end end_matches seen (at t.state i)) here in
+        subst (λ b. pended seen (wait_all p hay i (cond b (t ∷ filter (λ u. nat_le u.start c) ts) (filter (λ u. nat_le u.start c) ts))) ≡ Some the_outcome)
+        (sym (le-leb t.start c (omega arith)))
+        (ap (λ (o : Option Outcome). option_or o (pended seen (wait_all p hay i (filter (λ u. nat_le u.start c) ts)))) here))
+        (λ later. kept_or_not (nat_le t.start c) later.0 (pend_filter seen i c ts le later.1))
+        (or_cases (option_map (worth p hay t.start t.slots) (run p hay is_end end_matches seen (at t.state i))) (pended seen (wait_all p hay i ts)) the_outcome e)
+      where
+        start_is : (o : Option (List Configuration)) → option_map (worth p hay t.start t.slots) o ≡ Some the_outcome → t.start ≡ r.start
+        start_is None e = absurd (none_some the_outcome e)
+        start_is (Some l) e = ap (λ (x : Outcome). x.start) (same_Some (worth p hay t.start t.slots l) the_outcome e)
+
+        kept_or_not : (b : Bool) → option_map (worth p hay t.start t.slots) (run p hay is_end end_matches seen (at t.state i)) ≡ None →
+            pended seen (wait_all p hay i (filter (λ u. nat_le u.start c) ts)) ≡ Some the_outcome →
+            pended seen (wait_all p hay i (cond b (t ∷ filter (λ u. nat_le u.start c) ts) (filter (λ u. nat_le u.start c) ts))) ≡ Some the_outcome
+        kept_or_not true none some = ap₂ option_or none some
+        kept_or_not false none some = some
+
+    -- what the later starts are worth, while nothing was found
+    abbrev pub later_at : Option Thread → ℕ → Option Outcome
+    later_at None k = first_among answer_from (places hay k)
+    later_at (Some b) k = None
+
+    module _ (i : ℕ) (here : i ≤ length hay) (old : List Configuration) (best : Option Thread) where
+      abbrev pub there : ℕ
+      there = i + (piece hay i).len
+
+      abbrev next_step : ℕ
+      next_step = i + step_len hay i
+
+      abbrev pub later : Option Thread → Option Outcome
+      later o = later_at o (i + step_len hay i)
+
+      abbrev pub waiting : List ℕ → List Thread → List Thread → Option Outcome
+      waiting seen next stack = pended (marks p hay i seen) (wait_all p hay there next ++ wait_all p hay i stack)
+
+      not_later : (o : Option Thread) → r.start ≤ i → later o ≡ Some the_outcome → ⊥
+      not_later None le e = let a = answer_behind next_step e in omega arith
+      not_later (Some b) le e = none_some the_outcome e
+
+      -- a first match has found a run, which begins no earlier than the longest
+      hit_start : (visits : List Configuration) (h : Thread) → Found p hay true width start visits i h → (r.start ≤ h.start) × (h.start ≤ i)
+      hit_start visits h f =
+          let forward = Runs-forward p hay (at p.start f.run.start) f.run.configurations f.run.end f.runs in
+          let is = f.started in
+          let end = f.end_is in (
+            ⊎_elim (λ (lt : f.run.start < r.start). absurd (first.none_before f.run.start f.among lt f.run.configurations f.run.end f.runs)) (λ (le : r.start ≤ f.run.start). omega arith)
+                (below_or_not f.run.start r.start),
+            omega arith,
+          )
+
+      module _ (t : Thread) (rest : List Thread) (w : Walking) (is : w.stack ≡ t ∷ rest) (traced : IsTraced p hay true width start fits i old w) where
+        behind : (u : Thread) → Among w.next u → i < there
+        behind u h = let some = (traced.next u h).0 in omega arith
+
+        inside : t.state < length p.states
+        inside =
+            (trace_inside p hay true width start well (configurations_of i old w.seen) i t
+            (traced.stack t (subst (λ (l : List Thread). Among l t) (sym is) (inl refl)))).0
+
+        now_waiting : waiting w.seen w.next (t ∷ rest) ≡ waiting w.seen w.next w.stack
+        now_waiting = ap (λ (l : List Thread). waiting w.seen w.next l) (sym is)
+
+        seen_waiting : was_seen hay true i p w.seen t.state ≡ true → waiting w.seen w.next rest ≡ waiting w.seen w.next w.stack
+        seen_waiting was = sym (pend_seen p hay is_end end_matches well true i there here w.seen w.next t rest behind was) ∙ now_waiting
+
+        taken_waiting : was_seen hay true i p w.seen t.state ≡ false → is_match (state_at p.states t.state) ≡ false →
+            ((v : Configuration) → Among (leads p hay (at t.state i)) v → v.place ≡ there) →
+            waiting (t.state ∷ w.seen) (w.next ++ moved hay true i (state_at p.states t.state) t) rest ≡ waiting w.seen w.next w.stack
+        taken_waiting new none over =
+            sym (pend_taken p hay is_end end_matches well true i there here w.seen w.next t rest behind new inside none over) ∙ now_waiting
+
+        gone_waiting : was_seen hay true i p w.seen t.state ≡ false → is_match (state_at p.states t.state) ≡ false →
+            ((v : Configuration) → Among (leads p hay (at t.state i)) v → v.place ≡ i) →
+            waiting (t.state ∷ w.seen) w.next (moved hay true i (state_at p.states t.state) t ++ rest) ≡ waiting w.seen w.next w.stack
+        gone_waiting new none beside =
+            sym (pend_gone p hay is_end end_matches well true i there here w.seen w.next t rest behind new inside none beside) ∙ now_waiting
+
+      -- before the end: what waits has the success
+      pub record IsAhead (w : Walking) : Type 0 where
+        pub traced : IsTraced p hay true width start fits i old w
+        pub ahead : option_or (waiting w.seen w.next w.stack) (later (option_or w.first_match best)) ≡ Some the_outcome
+
+      module _ (early : i < r.end) (t : Thread) (rest : List Thread) (w : Walking) (is : w.stack ≡ t ∷ rest) (now : IsAhead w)
+          (new : was_seen hay true i p w.seen t.state ≡ false) (found : is_match (state_at p.states t.state) ≡ true) where
+        not_end : is_end (at t.state i) ≡ false
+        not_end =
+            ⊎_elim (λ (e : is_end (at t.state i) ≡ true). let x = end_place (at t.state i) e in absurd (omega arith)) (λ (e : is_end (at t.state i) ≡ false). e)
+            (cases_Bool (is_end (at t.state i)))
+
+        dead_waiting : waiting (t.state ∷ w.seen) w.next rest ≡ waiting w.seen w.next w.stack
+        dead_waiting =
+            sym (pend_dead p hay is_end end_matches well true i there here w.seen w.next t rest (behind t rest w is now.traced) new (inside t rest w is now.traced) found not_end)
+            ∙ now_waiting t rest w is now.traced
+
+        cut_waiting : (c : ℕ) → r.start ≤ c → r.start ≤ i → waiting (t.state ∷ w.seen) w.next (filter (λ u. nat_le u.start c) rest) ≡ Some the_outcome
+        cut_waiting c le before =
+            ⊎_elim
+            (λ waits. pend-append p hay is_end end_matches seen (wait_all p hay there w.next) (wait_all p hay i (filter (λ u. nat_le u.start c) rest))
+            ∙ ⊎_elim (λ one. ap (λ (o : Option Outcome). option_or o (pended seen (wait_all p hay i (filter (λ u. nat_le u.start c) rest)))) one)
+            (λ two. ap₂ option_or two.0 (pend_filter seen i c rest le two.1))
+            (or_cases (pended seen (wait_all p hay there w.next)) (pended seen (wait_all p hay i rest)) the_outcome
+            (sym (pend-append p hay is_end end_matches seen (wait_all p hay there w.next) (wait_all p hay i rest)) ∙ waits)))
+            (λ none. absurd (not_later (option_or w.first_match best) before none.1))
+            (or_cases (waiting (t.state ∷ w.seen) w.next rest) (later (option_or w.first_match best)) the_outcome
+            (ap (λ (o : Option Outcome). option_or o (later (option_or w.first_match best))) dead_waiting ∙ now.ahead))
+          where
+            seen : Configuration → Bool
+            seen = marks p hay i (t.state ∷ w.seen)
+
+        cut_ahead : (visits : List Configuration) (o : Option Thread) → ((h : Thread) → o ≡ Some h → Found p hay true width start visits i h) → ((o ≡ None) → ⊥) →
+            option_or (waiting (t.state ∷ w.seen) w.next (kept hay true o rest)) (later (option_or o best)) ≡ Some the_outcome
+        cut_ahead visits None f some = absurd (some refl)
+        cut_ahead visits (Some h) f some =
+            let x = hit_start visits h (f h refl) in
+            ap (λ (o : Option Outcome). option_or o None) (cut_waiting h.start x.0 (omega arith))
+
+      changed : (w : Walking) → IsAhead w → (o : Option Outcome) → o ≡ waiting w.seen w.next w.stack → option_or o (later (option_or w.first_match best)) ≡ Some the_outcome
+      changed w now o e = ap (λ (x : Option Outcome). option_or x (later (option_or w.first_match best))) e ∙ now.ahead
+
+      never_none : (o : Option Thread) (t : Thread) → option_or o (Some t) ≡ None → ⊥
+      never_none None t e = none_some t (sym e)
+      never_none (Some u) t e = none_some u (sym e)
+
+      pub ahead_keeps : i < r.end → Keeps hay true i p IsAhead
+      ahead_keeps early =
+          let traces = traced_keeps p hay true width start fits i old in record {
+            on_seen = λ t rest w is was now. record {
+              traced = traces.on_seen t rest w is was now.traced;
+              ahead = changed w now (waiting w.seen w.next rest) (seen_waiting t rest w is now.traced was);
+            };
+            on_match = λ t rest w is new found now.
+                let traced = traces.on_match t rest w is new found now.traced in record {
+                  traced = traced;
+                  ahead = cut_ahead early t rest w is now new found (configurations_of i old (t.state ∷ w.seen)) (option_or w.first_match (Some t)) traced.first_match (never_none w.first_match t);
+                };
+            on_taken = λ t rest w is new none over now. record {
+              traced = traces.on_taken t rest w is new none over now.traced;
+              ahead = changed w now (waiting (t.state ∷ w.seen) (w.next ++ moved hay true i (state_at p.states t.state) t) rest)
+                  (taken_waiting t rest w is now.traced new none (λ v e. (over v e).1));
+            };
+            on_gone = λ t rest w is new none beside now. record {
+              traced = traces.on_gone t rest w is new none beside now.traced;
+              ahead = changed w now (waiting (t.state ∷ w.seen) w.next (moved hay true i (state_at p.states t.state) t ++ rest))
+                  (gone_waiting t rest w is now.traced new none beside);
+            };
+          }
+
+      -- at the end: the first thread that comes to a match is the success
+      abbrev pub AtEnd : Option Thread → Option Outcome → Type 0
+      AtEnd None o = option_or o (later best) ≡ Some the_outcome
+      AtEnd (Some h) o = outcome h ≡ the_outcome
+
+      pub record IsAtEnd (w : Walking) : Type 0 where
+        pub traced : IsTraced p hay true width start fits i old w
+        pub at_end : AtEnd w.first_match (waiting w.seen w.next w.stack)
+
+      same_end : (w : Walking) → IsAtEnd w → (o : Option Outcome) → o ≡ waiting w.seen w.next w.stack → AtEnd w.first_match o
+      same_end w now o e = subst (λ (x : Option Outcome). AtEnd w.first_match x) (sym e) now.at_end
+
+      hit_at_end : i ≡ r.end → (t : Thread) (rest : List Thread) (w : Walking) → w.stack ≡ t ∷ rest → was_seen hay true i p w.seen t.state ≡ false →
+          is_match (state_at p.states t.state) ≡ true → (traced : IsTraced p hay true width start fits i old w) →
+          (o : Option Thread) (x : Option Outcome) → AtEnd o (waiting w.seen w.next w.stack) → AtEnd (option_or o (Some t)) x
+      hit_at_end late t rest w is new found traced (Some h) x now = now
+      hit_at_end late t rest w is new found traced None x now =
+          same_Some (outcome t) the_outcome
+          (ap (λ (o : Option Outcome). option_or (option_or o (Some (outcome t))) (later best)) (sym (pend_after (marks p hay i (t.state ∷ w.seen)) there w.next late_next))
+          ∙ ap (λ (o : Option Outcome). option_or o (later best))
+          (sym (pend_hit p hay is_end end_matches well true i there here w.seen w.next t rest (behind t rest w is traced) new (inside t rest w is traced)
+          (ap₂ ◌&&◌ found (eq-eqb i r.end late))) ∙ now_waiting t rest w is traced)
+          ∙ now)
+        where
+          late_next : (u : Thread) → Among w.next u → r.end < there
+          late_next u h = let some = (traced.next u h).0 in omega arith
+
+      pub at_end_keeps : i ≡ r.end → Keeps hay true i p IsAtEnd
+      at_end_keeps late =
+          let traces = traced_keeps p hay true width start fits i old in record {
+            on_seen = λ t rest w is was now. record {
+              traced = traces.on_seen t rest w is was now.traced;
+              at_end = same_end w now (waiting w.seen w.next rest) (seen_waiting t rest w is now.traced was);
+            };
+            on_match = λ t rest w is new found now. record {
+              traced = traces.on_match t rest w is new found now.traced;
+              at_end = hit_at_end late t rest w is new found now.traced w.first_match
+                  (waiting (t.state ∷ w.seen) w.next (kept hay true (option_or w.first_match (Some t)) rest)) now.at_end;
+            };
+            on_taken = λ t rest w is new none over now. record {
+              traced = traces.on_taken t rest w is new none over now.traced;
+              at_end = same_end w now (waiting (t.state ∷ w.seen) (w.next ++ moved hay true i (state_at p.states t.state) t) rest)
+                  (taken_waiting t rest w is now.traced new none (λ v e. (over v e).1));
+            };
+            on_gone = λ t rest w is new none beside now. record {
+              traced = traces.on_gone t rest w is new none beside now.traced;
+              at_end = same_end w now (waiting (t.state ∷ w.seen) w.next (moved hay true i (state_at p.states t.state) t ++ rest))
+                  (gone_waiting t rest w is now.traced new none beside);
+            };
+          }
+
+    -- what waits, or a later start, has the success
+    abbrev IsAheadAt : ℕ → List Thread → Option Thread → ℕ → Type 0
+    IsAheadAt i threads best k = option_or (pended (λ q. false) (wait_all p hay i threads)) (later_at best k) ≡ Some the_outcome
+
+    -- the best is the success
+    abbrev HasBest : Searching → Type 0
+    HasBest s = (b : Thread) × (s.best ≡ Some b) × (outcome b ≡ the_outcome)
+
+    record Stands (s : Searching) : Type 0 where
+      traced : AreTraced p hay true width start fits s
+      ordered : AreOrdered p hay width fits start s
+      stands : IsAheadAt s.place s.threads s.best s.place ⊎ (HasBest s × (r.end < s.place))
+
+    stands_start : Stands (at_start hay true p width start)
+    stands_start = record {
+      traced = traced_start p hay true width start fits;
+      ordered = ordered_start p hay width fits start;
+      stands = inl (ap (λ (o : Option Outcome). option_or o (first_among answer_from (places hay start))) (pend_after (λ q. false) 0 [] (λ t h. absurd h)) ∙ answer_first);
+    }
+
+    -- a search that has the success ahead is not behind the end
+    not_behind : (s : Searching) → IsAheadAt s.place s.threads s.best s.place → s.place ≤ r.end
+    not_behind s ahead =
+        ⊎_elim
+        (λ (lt : r.end < s.place).
+        absurd (no_later s.best lt (ap (λ (o : Option Outcome). option_or o (later_at s.best s.place)) (sym (pend_past (λ q. false) s.place s.threads lt)) ∙ ahead)))
+        (λ (le : s.place ≤ r.end). le)
+        (below_or_not r.end s.place)
+      where
+        no_later : (o : Option Thread) → r.end < s.place → later_at o s.place ≡ Some the_outcome → ⊥
+        no_later None lt e = let a = answer_behind s.place e in omega (arith, forward)
+        no_later (Some b) lt e = none_some the_outcome e
+
+    pub pend_one : (i : ℕ) (t : Thread) → pended (λ q. false) (wait_all p hay i (t ∷ [])) ≡ option_map (worth p hay t.start t.slots) (run_to_end (at t.state i))
+    unfolding pending
+    pend_one i t = or_none (option_map (worth p hay t.start t.slots) (run_to_end (at t.state i)))
+      where
+        or_none : (o : Option Outcome) → option_or o None ≡ o
+        or_none None = refl
+        or_none (Some x) = refl
+
+    begun_ahead : (s : Searching) (le : s.place ≤ length hay) (best : Option Thread) → IsAheadAt s.place s.threads best s.place →
+        option_or (waiting s.place le s.visits best [] [] (s.threads ++ cond (is_some best) [] (started hay true p width s.place ∷ []))) (later_at best (s.place + step_len hay s.place))
+        ≡ Some the_outcome
+    begun_ahead s le (Some b) e =
+        ap (λ (l : List Thread). option_or (pended (λ q. false) (wait_all p hay s.place l)) None) (append-nil s.threads) ∙ e
+    begun_ahead s le None e =
+        ap (λ (o : Option Outcome). option_or o (first_among answer_from (places hay (s.place + step_len hay s.place))))
+        (ap (pended (λ q. false)) (map-append (wait p hay s.place) s.threads (started hay true p width s.place ∷ []))
+        ∙ pend-append p hay is_end end_matches (λ q. false) (wait_all p hay s.place s.threads) (wait_all p hay s.place (started hay true p width s.place ∷ []))
+        ∙ ap (option_or (pended (λ q. false) (wait_all p hay s.place s.threads))) (pend_one s.place (started hay true p width s.place)))
+        ∙ or_assoc (pended (λ q. false) (wait_all p hay s.place s.threads)) (answer_from s.place) (first_among answer_from (places hay (s.place + step_len hay s.place)))
+        ∙ ap (λ (l : List ℕ). option_or (pended (λ q. false) (wait_all p hay s.place s.threads)) (first_among answer_from l)) (sym (places-here hay s.place le))
+        ∙ e
+      where
+        or_assoc : (o x y : Option Outcome) → option_or (option_or o x) y ≡ option_or o (option_or x y)
+        or_assoc None x y = refl
+        or_assoc (Some z) x y = refl
+
+    -- one place more
+    module _ (s t : Searching) (among : Among (places hay start) s.place) (now : Stands s) (place : Searches hay true p width s t) where
+      place_within : s.place ≤ length hay
+      place_within = (Among-places hay start s.place among).1
+
+      abbrev next_place : ℕ
+      next_place = s.place + (piece hay s.place).len
+
+      abbrev last : Walking
+      last = place.last
+
+      last_traced : IsTraced p hay true width start fits s.place s.visits last
+      last_traced = place_traced p hay true width start fits s t among now.traced place
+
+      best_is : option_or last.first_match s.best ≡ t.best
+      best_is = ap (λ (x : Searching). x.best) place.is
+
+      threads_are : last.next ≡ t.threads
+      threads_are = ap (λ (x : Searching). x.threads) place.is
+
+      begun_traces : IsTraced p hay true width start fits s.place s.visits (begun hay true p width s)
+      begun_traces = begun_traced p hay true width start fits s among now.traced
+
+      last_waiting : waiting s.place place_within s.visits s.best last.seen last.next last.stack ≡ pended (λ q. false) (wait_all p hay next_place t.threads)
+      last_waiting =
+          ap (λ (l : List Thread). pended (marks p hay s.place last.seen) (wait_all p hay next_place last.next ++ wait_all p hay s.place l)) place.over
+          ∙ ap (pended (marks p hay s.place last.seen)) (append-nil (wait_all p hay next_place last.next))
+          ∙ pend_later p hay is_end end_matches s.place next_place last.seen last.next (λ u h. let some = (last_traced.next u h).0 in omega arith)
+          ∙ ap (λ (l : List Thread). pended (λ q. false) (wait_all p hay next_place l)) threads_are
+
+      -- before the end the success stays ahead
+      stays_ahead : IsAheadAt s.place s.threads s.best s.place → s.place < r.end → IsAheadAt next_place t.threads t.best (s.place + step_len hay s.place)
+      stays_ahead ahead early =
+          ap₂ (λ (o : Option Outcome) (b : Option Thread). option_or o (later_at b (s.place + step_len hay s.place))) (sym last_waiting) (sym best_is)
+          ∙ walked.ahead
+        where
+          walked : IsAhead s.place place_within s.visits s.best last
+          walked =
+              walk_keeps hay true s.place p _ (ahead_keeps s.place place_within s.visits s.best early) (begun hay true p width s) last place.walks
+              record { traced = begun_traces; ahead = begun_ahead s place_within s.best ahead }
+
+      -- at the end it becomes the best
+      becomes_best : IsAheadAt s.place s.threads s.best s.place → s.place ≡ r.end → HasBest t
+      becomes_best ahead late = by_hit last.first_match refl walked.at_end
+        where
+          walked : IsAtEnd s.place place_within s.visits s.best last
+          walked =
+              walk_keeps hay true s.place p _ (at_end_keeps s.place place_within s.visits s.best late) (begun hay true p width s) last place.walks
+              record { traced = begun_traces; at_end = begun_ahead s place_within s.best ahead }
+
+          by_hit : (o : Option Thread) → last.first_match ≡ o → AtEnd s.place place_within s.visits s.best o (waiting s.place place_within s.visits s.best last.seen last.next last.stack) →
+              HasBest t
+          by_hit (Some h) is now = (h, sym best_is ∙ ap (λ (o : Option Thread). option_or o s.best) is, now)
+          by_hit None is now =
+              absurd
+              (not_later s.place place_within s.visits s.best s.best (omega (arith, forward))
+              (ap (λ (o : Option Outcome). option_or o (later_at s.best (s.place + step_len hay s.place)))
+              (sym (last_waiting ∙ pend_after (λ q. false) next_place t.threads late_threads))
+              ∙ now))
+            where
+              late_threads : (u : Thread) → Among t.threads u → r.end < next_place
+              late_threads u h = let some = (last_traced.next u (subst (λ (l : List Thread). Among l u) (sym threads_are) h)).0 in omega arith
+
+      -- and stays it
+      stays_best : HasBest s → r.end < s.place → HasBest t
+      stays_best (b, is, same) lt = by_hit last.first_match refl
+        where
+          no_hit : (h : Thread) → last.first_match ≡ Some h → ⊥
+          no_hit h e =
+              let f = last_traced.first_match h e in
+              let x = hit_start s.place place_within s.visits s.best (configurations_of s.place s.visits last.seen) h f in
+              let upto = (place_ordered p hay width fits start s t now.traced now.ordered place).hit_by_best b is h e in
+              let b_start = ap (λ (y : Outcome). y.start) same in
+              let f_start = f.started in
+              let f_end = f.end_is in
+              let at_start : f.run.start ≡ r.start = omega arith in
+              let most = longest.1 f.run.configurations f.run.end (subst (λ (k : ℕ). IsRun p hay k f.run.configurations f.run.end) at_start f.runs) in omega arith
+
+          by_hit : (o : Option Thread) → last.first_match ≡ o → HasBest t
+          by_hit None none = (b, sym best_is ∙ ap (λ (o : Option Thread). option_or o s.best) none ∙ is, same)
+          by_hit (Some h) some = absurd (no_hit h some)
+
+      -- behind the place
+      behind_place : IsAheadAt next_place t.threads t.best (s.place + step_len hay s.place) ⊎ (HasBest t × (r.end ≤ s.place))
+      behind_place =
+          ⊎_elim
+          (λ ahead. ⊎_elim (λ (early : s.place < r.end). inl (stays_ahead ahead early))
+          (λ (late : r.end ≤ s.place). let le = not_behind s ahead in inr (becomes_best ahead (omega arith), late)) (below_or_not s.place r.end))
+          (λ done. let lt = done.1 in inr (stays_best done.0 done.1, omega arith))
+          now.stands
+
+      stands_on : 0 < (piece hay s.place).len → Stands t
+      stands_on some = record {
+        traced = traced_on p hay true width start fits s t among now.traced place;
+        ordered = ordered_on p hay width fits start s t now.traced now.ordered place;
+        stands = ⊎_elim
+            (λ ahead. inl (subst (λ (k : ℕ). IsAheadAt t.place t.threads t.best k) one_step
+            (subst (λ (k : ℕ). IsAheadAt k t.threads t.best (s.place + step_len hay s.place)) at_next ahead)))
+            (λ done. let late = done.1 in let is = at_next in inr (done.0, omega arith))
+            behind_place;
+      }
+        where
+          at_next : next_place ≡ t.place
+          at_next = ap (λ (x : Searching). x.place) place.is
+
+          one_step : s.place + step_len hay s.place ≡ t.place
+          one_step = let is = at_next in omega arith
+
+      stands_end : is_over hay true p width false s.place t ≡ true → HasBest t
+      stands_end over = ⊎_elim (λ ahead. absurd (not_ahead ahead)) (λ done. done.0) behind_place
+        where
+          not_ahead : IsAheadAt next_place t.threads t.best (s.place + step_len hay s.place) → ⊥
+          not_ahead ahead =
+              ⊎_elim
+              (λ (e : ((piece hay s.place).len == 0) ≡ true).
+              let none = eqb-true (piece hay s.place).len 0 e in
+              nothing_left (sym threads_are ∙ nothing_among last.next (λ u h. let some = (last_traced.next u h).0 in omega arith)) (no_places t.best none))
+              (λ (e : (is_some t.best && is_empty t.threads) ≡ true).
+              let both = and_parts (is_some t.best) (is_empty t.threads) e in nothing_left (empty_is t.threads both.1) (has_best t.best both.0))
+              (or_true ((piece hay s.place).len == 0) (is_some t.best && is_empty t.threads) over)
+            where
+              nothing_left : t.threads ≡ [] → later_at t.best (s.place + step_len hay s.place) ≡ None → ⊥
+              nothing_left none last =
+                  none_some the_outcome
+                  (sym (ap (λ (l : List Thread). option_or (pended (λ q. false) (wait_all p hay next_place l)) (later_at t.best (s.place + step_len hay s.place))) none
+                  ∙ ap₂ option_or (pend_after (λ q. false) next_place [] (λ u h. absurd h)) last)
+                  ∙ ahead)
+
+              no_places : (o : Option Thread) → (piece hay s.place).len ≡ 0 → later_at o (s.place + step_len hay s.place) ≡ None
+              no_places None none = ap (first_among answer_from) (places_end hay s.place place_within none)
+              no_places (Some b) none = refl
+
+              has_best : (o : Option Thread) → is_some o ≡ true → later_at o (s.place + step_len hay s.place) ≡ None
+              has_best None e = absurd (true≢false (sym e))
+              has_best (Some b) e = refl
+
+    standing : (n : ℕ) (s : Searching) → SearchedTo hay true p width false start n s → Stands s
+    standing n s to =
+        searched_keeps p hay true width false start within Stands stands_start
+        (λ s t among now place on. stands_on s t among now place (goes_on p hay true width false start within s.place t on)) n s to
+
+    -- the best at the end is the longest run
+    best_is_longest : (t : Searching) → Searched hay true p width false start t → HasBest t
+    best_is_longest t end =
+        stands_end end.before t (searched_place p hay true width false start within end.places end.before end.searched) (standing end.places end.before end.searched) end.last end.over
+
+  -- the front of the slots of a run
+  abbrev pub front_of : Run → List (Option ℕ)
+  front_of r = take width (slots p r)
+
+  pub runs_to_match : (s : Configuration) (o : List Configuration) (j : ℕ) → Runs p hay s o j → matches p (last_of s o) ≡ true
+  runs_to_match s [] j runs = runs.0
+  runs_to_match s (t ∷ o) j runs = runs_to_match t o j runs.1
+
+  -- A search for the longest run ends with the front of its slots, or with nothing where there is none.
+  pub longest_answer : (t : Searching) → Searched hay true p width false start t → option_map (λ b. b.slots) t.best ≡ option_map front_of (longest_run p hay start)
+  longest_answer t end = by_run (longest_run p hay start) (longest_run-LongestRun p hay well start)
+    where
+      by_run : (o : Option Run) → LongestRun p hay start o → option_map (λ b. b.slots) t.best ≡ option_map front_of o
+      by_run (Some r) longest =
+          let best = best_is_longest r longest t end in
+          ap (option_map (λ (b : Thread). b.slots)) best.1
+          ∙ ap (λ (y : Outcome). Some y.slots) best.2
+          ∙ ap (λ (l : List (Option ℕ)). Some l) (run_writes p width r fits (runs_to_match (at p.start r.start) r.configurations r.end longest.0.runs))
+      by_run None none = ap (option_map (λ (b : Thread). b.slots)) (⊎_elim (λ (e : t.best ≡ None). e) (λ some. absurd (no_best some.0 some.1)) (none_or_some t.best))
+        where
+          no_best : (b : Thread) → t.best ≡ Some b → ⊥
+          no_best b is = let f = (best_found p hay true width start false within fits t end b is).1 in none f.run.start f.among f.run.configurations f.run.end f.runs

@@ -1,0 +1,195 @@
+-- How much room a walk takes: for its stack, for the states that it has seen, and for the threads that took the piece.
+use Rattle.std.proofs.Common.{◌≡◌, ℕ, zero, suc, ◌+◌, ◌*◌, ◌<◌, ◌≤◌, Bool, true, false, List, [], ◌∷◌, map, length, Some, refl, sym, ap, ◌∙◌, subst, inl, inr, ⊎_elim, true≢false, arith, length-append}
+use Rattle.std.specs.Prelude.{sum_by}
+use Rattle.std.specs.Fn.{iterate}
+use Rattle.std.specs.Option.{option_or}
+use Rattle.std.proofs.lemmas.List.{length-map}
+use Rattle.std.proofs.lemmas.List.Sums.{sum_by-cons}
+use Rattle.std.proofs.lemmas.Bool.{cases_Bool}
+use Rattle.bites_spec.specs.Walks.{Among, AllApart}
+use Rattle.bites_spec.specs.Program.{State, Program, Configuration, at, state_at, edges, is_match, targets, targets_of, char, ranges, splits, goto, capture, fail, match, IsWellFormed}
+use Rattle.bites_spec.specs.Run.{leads}
+use Rattle.bites_spec.proofs.runs.RunLemmas.{inside_on}
+use Rattle.bites_machine.specs.Machine.{Thread, Walking, with_write, thread_on, moved, visited, dropped, step, WalksTo}
+use Rattle.bites_machine.proofs.compile.EdgeLemmas.{Among-apart}
+use Rattle.bites_machine.proofs.compile.SumLemmas.{sum_of_ones, sum_of_configurations}
+use Rattle.bites_machine.proofs.model.PathLemmas.{edges_within}
+use Rattle.bites_machine.proofs.model.MachineCases.{takes, was_seen, at_match, taken, gone}
+use Rattle.bites_machine.proofs.model.MachineCounts.{length-kept, unseen_here}
+use Rattle.bites_machine.proofs.model.MachineTrace.{Among-mapped, Among-kept}
+use Rattle.bites_machine.proofs.model.MachineWalks.{stack_cases, step_done, step_seen, step_new, visited_match, visited_taken, visited_gone}
+
+module _ (p : Program) where
+  -- the targets of these states, all together
+  abbrev pub pushed : List ℕ → ℕ
+  pushed seen = sum_by (λ q. length (targets_of (state_at p.states q))) seen
+
+  -- the numbers are those of states
+  abbrev pub AreStatesOf : List ℕ → Type 0
+  AreStatesOf seen = (q : ℕ) → Among seen q → q < length p.states
+
+  pub pushed_more : (q : ℕ) (seen : List ℕ) → pushed (q ∷ seen) ≡ length (targets_of (state_at p.states q)) + pushed seen
+  pushed_more q seen = sum_by-cons (λ (x : ℕ). length (targets_of (state_at p.states x))) q seen
+
+  apart_at : (seen : List ℕ) → AllApart seen → AllApart (map (λ q. at q 0) seen)
+  apart_at [] apart = tt
+  apart_at (q ∷ seen) apart = (
+    λ h. let m = Among-mapped (λ x. at x 0) seen (at q 0) h in
+        apart.0 (subst (λ (x : ℕ). Among seen x) (ap (λ (s : Configuration). s.state) m.2) m.1),
+    apart_at seen apart.1,
+  )
+
+  within_at : (seen : List ℕ) → AreStatesOf seen → (s : Configuration) → Among (map (λ q. at q 0) seen) s → (s.state < length p.states) × Among (0 ∷ []) s.place
+  within_at seen inside s h =
+      let m = Among-mapped (λ x. at x 0) seen s h in
+      subst (λ (x : Configuration). (x.state < length p.states) × Among (0 ∷ []) x.place) m.2 (inside m.0 m.1, inl refl)
+
+  sum_at : (f : Configuration → ℕ) (seen : List ℕ) → sum_by f (map (λ q. at q 0) seen) ≡ sum_by (λ q. f (at q 0)) seen
+  sum_at f [] = refl
+  sum_at f (q ∷ seen) =
+      sum_by-cons f (at q 0) (map (λ x. at x 0) seen) ∙ ap (λ (n : ℕ). f (at q 0) + n) (sum_at f seen) ∙ sym (sum_by-cons (λ (x : ℕ). f (at x 0)) q seen)
+
+  times_one : (n : ℕ) → n * 1 ≡ n
+  times_one n = grind arith
+
+  -- each state was seen once: all their targets are no more than those of the program
+  pub pushed_within : (seen : List ℕ) → AllApart seen → AreStatesOf seen → pushed seen ≤ targets p
+  pushed_within seen apart inside =
+      let fits = sum_of_configurations (λ (s : Configuration). length (targets_of (state_at p.states s.state))) (λ (st : State). length (targets_of st)) p.states (0 ∷ [])
+      (map (λ q. at q 0) seen) (λ q i. omega arith) (apart_at seen apart) (within_at seen inside) in
+      let same = sum_at (λ (s : Configuration). length (targets_of (state_at p.states s.state))) seen in
+      let once = times_one (targets p) in omega arith
+
+  -- and there are no more of them than states
+  pub seen_within : (seen : List ℕ) → AllApart seen → AreStatesOf seen → length seen ≤ length p.states
+  seen_within seen apart inside =
+      let fits = sum_of_configurations (λ (s : Configuration). 1) (λ (st : State). 1) p.states (0 ∷ []) (map (λ q. at q 0) seen) (λ q i. omega arith) (apart_at seen apart) (within_at seen inside) in
+      let ones = sum_of_ones (map (λ q. at q 0) seen) in
+      let all = sum_of_ones p.states in
+      let once = times_one (sum_by (λ (st : State). 1) p.states) in
+      let len = length-map seen (λ q. at q 0) in omega arith
+
+  module _ (hay : List ℕ) (well : IsWellFormed p) (longest : Bool) (i : ℕ) (here : i ≤ length hay) (begin : ℕ) where
+    -- what a walk that began with so many threads has room for
+    pub record HasRoom (w : Walking) : Type 0 where
+      pub apart : AllApart w.seen
+      pub inside : AreStatesOf w.seen
+      pub stack : length w.stack ≤ begin + pushed w.seen
+      pub next : length w.next ≤ length w.seen
+      pub stack_inside : (t : Thread) → Among w.stack t → t.state < length p.states
+      pub next_inside : (t : Thread) → Among w.next t → t.state < length p.states
+
+    abbrev st_of : Thread → State
+    st_of t = state_at p.states t.state
+
+    new_apart : (seen : List ℕ) (q : ℕ) → was_seen hay longest i p seen q ≡ false → Among seen q → ⊥
+    new_apart seen q new h = unseen_here hay longest p i seen q new (under seen h)
+      where
+        under : (seen : List ℕ) → Among seen q → Among (map (λ x. at x i) seen) (at q i)
+        under [] h = h
+        under (x ∷ seen) h = ⊎_elim (λ (e : x ≡ q). inl (ap (λ (n : ℕ). at n i) e)) (λ later. inr (under seen later)) h
+
+    moved_inside : (t : Thread) → t.state < length p.states → (u : Thread) → Among (moved hay longest i (st_of t) t) u → u.state < length p.states
+    moved_inside t inside u h =
+        let m = Among-mapped (thread_on t.start (with_write (st_of t) i t.slots)) (leads p hay (at t.state i)) u h in
+        subst (λ (x : Thread). x.state < length p.states) m.2 (inside_on p hay well (at t.state i) m.0 (inside, here) m.1).0
+
+    moved_len : (st : State) (t : Thread) → length (moved hay longest i st t) ≤ length (targets_of st)
+    moved_len st t = let a = length-map (edges hay st i) (thread_on t.start (with_write st i t.slots)) in let b = edges_within hay st i in omega arith
+
+    one_target : (st : State) → takes st ≡ true → length (targets_of st) ≡ 1
+    one_target (char q c) e = refl
+    one_target (ranges q rs) e = refl
+    one_target (splits qs b) e = absurd (true≢false (sym e))
+    one_target (goto q look) e = absurd (true≢false (sym e))
+    one_target (capture q k) e = absurd (true≢false (sym e))
+    one_target fail e = absurd (true≢false (sym e))
+    one_target match e = absurd (true≢false (sym e))
+
+    module _ (t : Thread) (rest : List Thread) (w : Walking) (is : w.stack ≡ t ∷ rest) (now : HasRoom w) where
+      len_is : length w.stack ≡ suc (length rest)
+      len_is = ap length is
+
+      top_inside : t.state < length p.states
+      top_inside = now.stack_inside t (subst (λ (l : List Thread). Among l t) (sym is) (inl refl))
+
+      rest_inside : (u : Thread) → Among rest u → u.state < length p.states
+      rest_inside u h = now.stack_inside u (subst (λ (l : List Thread). Among l u) (sym is) (inr h))
+
+      now_inside : AreStatesOf (t.state ∷ w.seen)
+      now_inside q h = ⊎_elim (λ (e : t.state ≡ q). subst (λ (x : ℕ). x < length p.states) e top_inside) (now.inside q) h
+
+      room_seen : HasRoom (dropped hay longest rest w)
+      room_seen = record {
+        apart = now.apart;
+        inside = now.inside;
+        stack = let a = len_is in let b = now.stack in omega arith;
+        next = now.next;
+        stack_inside = rest_inside;
+        next_inside = now.next_inside;
+      }
+
+      module _ (new : was_seen hay longest i p w.seen t.state ≡ false) where
+        now_apart : AllApart (t.state ∷ w.seen)
+        now_apart = (new_apart w.seen t.state new, now.apart)
+
+        room_match : HasRoom (at_match hay longest i t rest w)
+        room_match = record {
+          apart = now_apart;
+          inside = now_inside;
+          stack = let a = len_is in let b = now.stack in let c = length-kept hay longest (option_or w.first_match (Some t)) rest in let d = pushed_more t.state w.seen in omega arith;
+          next = let b = now.next in omega arith;
+          stack_inside = λ u h. rest_inside u (Among-kept hay longest (option_or w.first_match (Some t)) rest u h);
+          next_inside = now.next_inside;
+        }
+
+        room_taken : takes (st_of t) ≡ true → HasRoom (taken hay longest i (st_of t) t rest w)
+        room_taken one = record {
+          apart = now_apart;
+          inside = now_inside;
+          stack = let a = len_is in let b = now.stack in let d = pushed_more t.state w.seen in omega arith;
+          next = let b = now.next in let c = one_target (st_of t) one in let d = moved_len (st_of t) t in
+              let e = length-append w.next (moved hay longest i (st_of t) t) in omega arith;
+          stack_inside = rest_inside;
+          next_inside = λ u h. ⊎_elim (now.next_inside u) (moved_inside t top_inside u) (Among-apart w.next (moved hay longest i (st_of t) t) u h);
+        }
+
+        room_gone : HasRoom (gone hay longest i (st_of t) t rest w)
+        room_gone = record {
+          apart = now_apart;
+          inside = now_inside;
+          stack = let a = len_is in let b = now.stack in let c = moved_len (st_of t) t in let d = pushed_more t.state w.seen in
+              let e = length-append (moved hay longest i (st_of t) t) rest in omega arith;
+          next = let b = now.next in omega arith;
+          stack_inside = λ u h. ⊎_elim (moved_inside t top_inside u) (rest_inside u) (Among-apart (moved hay longest i (st_of t) t) rest u h);
+          next_inside = now.next_inside;
+        }
+
+        room_new : HasRoom (visited hay longest i (st_of t) t rest w)
+        room_new =
+            ⊎_elim (λ (e : is_match (st_of t) ≡ true). subst HasRoom (sym (visited_match hay longest p i (st_of t) e t rest w)) room_match)
+            (λ (e : is_match (st_of t) ≡ false).
+            ⊎_elim (λ (f : takes (st_of t) ≡ true). subst HasRoom (sym (visited_taken hay longest p i (st_of t) f t rest w)) (room_taken f))
+            (λ (f : takes (st_of t) ≡ false). subst HasRoom (sym (visited_gone hay longest p i (st_of t) e f t rest w)) room_gone)
+            (cases_Bool (takes (st_of t))))
+            (cases_Bool (is_match (st_of t)))
+
+    -- a step keeps the room
+    pub room_on : (w : Walking) → HasRoom w → HasRoom (step hay longest p i w)
+    room_on w now =
+        ⊎_elim (λ (done : w.stack ≡ []). subst HasRoom (sym (step_done hay longest p i w done)) now)
+        (λ some. ⊎_elim
+        (λ (was : was_seen hay longest i p w.seen some.0.state ≡ true).
+        subst HasRoom (sym (step_seen hay longest p i some.0 some.1 w some.2 was)) (room_seen some.0 some.1 w some.2 now))
+        (λ (new : was_seen hay longest i p w.seen some.0.state ≡ false).
+        subst HasRoom (sym (step_new hay longest p i some.0 some.1 w some.2 new)) (room_new some.0 some.1 w some.2 now new))
+        (cases_Bool (was_seen hay longest i p w.seen some.0.state)))
+        (stack_cases hay longest p i w.stack)
+
+    iterate_room : (k : ℕ) (w : Walking) → HasRoom w → HasRoom (iterate (step hay longest p i) k w)
+    iterate_room zero w now = now
+    iterate_room (suc k) w now = iterate_room k (step hay longest p i w) (room_on w now)
+
+    -- and so does a walk
+    pub walk_room : (w v : Walking) → WalksTo hay longest p i w v → HasRoom w → HasRoom v
+    walk_room w v (k, is) now = subst HasRoom is (iterate_room k w now)

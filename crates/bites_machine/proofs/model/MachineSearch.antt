@@ -1,0 +1,204 @@
+-- What every place of a search keeps; the places of a search are those from its start on.
+use Rattle.std.proofs.Common.{◌≡◌, ℕ, zero, suc, ◌+◌, ◌<◌, ◌≤◌, Bool, false, ◌||◌, ◌&&◌, cond, List, [], ◌∷◌, ◌++◌, map, length, Option, Some, None, refl, sym, ◌∙◌, subst, inl, inr, ⊎_elim, ◌⊎◌, true≢false, arith, eq-eqb}
+use Rattle.std.specs.Prelude.{◌==◌, is_some}
+use Rattle.std.specs.Option.{option_or}
+use Rattle.std.proofs.lemmas.Bool.{or_parts}
+use Rattle.bites_spec.specs.Utf8.{piece, places}
+use Rattle.bites_spec.specs.Walks.{Among}
+use Rattle.bites_spec.specs.Program.{Program, Configuration, at, state_at}
+use Rattle.bites_spec.specs.Run.{leads}
+use Rattle.bites_machine.specs.Machine.{Thread, Walking, Searching, with_write, thread_on, moved, started, begun, Searches, at_start, is_over, SearchedTo, is_empty}
+use Rattle.bites_machine.proofs.compile.EdgeLemmas.{Among-apart}
+use Rattle.bites_machine.proofs.model.SweepLemmas.{places-here}
+use Rattle.bites_machine.proofs.model.PathLemmas.{place_on}
+use Rattle.bites_machine.proofs.model.MachineCases.{Keeps, walk_keeps}
+use Rattle.bites_machine.proofs.model.MachineTrace.{Trace, Found, trace_more, found_more, trace_start, trace_on, found_here, Among-mapped, Among-kept}
+use Rattle.bites_spec.proofs.programs.SlotLemmas.{Among-right}
+
+some_len : (n : ℕ) → (n == 0) ≡ false → 0 < n
+some_len zero e = absurd (true≢false (sym (eq-eqb 0 0 refl) ∙ e))
+some_len (suc n) e = omega arith
+
+module _ (p : Program) (hay : List ℕ) (longest : Bool) (width : ℕ) (earliest : Bool) (start : ℕ) (within : start ≤ length hay) where
+  -- a search that is not over goes on to a next place
+  pub goes_on : (i : ℕ) (t : Searching) → is_over hay longest p width earliest i t ≡ false → 0 < (piece hay i).len
+  goes_on i t on = some_len (piece hay i).len (or_parts ((piece hay i).len == 0) (is_some t.best && (earliest || is_empty t.threads)) on).0
+
+  -- and there is something to be found there
+  pub still_open : (i : ℕ) (t : Searching) → is_over hay longest p width earliest i t ≡ false → (is_some t.best && (earliest || is_empty t.threads)) ≡ false
+  still_open i t on = (or_parts ((piece hay i).len == 0) (is_some t.best && (earliest || is_empty t.threads)) on).1
+
+  pub start_among : Among (places hay start) start
+  start_among = subst (λ l. Among l start) (sym (places-here hay start within)) (inl refl)
+
+  -- a search stands at a place from its start on
+  pub searched_place : (n : ℕ) (s : Searching) → SearchedTo hay longest p width earliest start n s → Among (places hay start) s.place
+  searched_place zero s is = subst (λ (x : Searching). Among (places hay start) x.place) is start_among
+  searched_place (suc n) t (s, before, place, on) =
+      subst (λ (x : Searching). Among (places hay start) x.place) place.is
+      (place_on (suc (length hay)) hay start s.place (omega arith) (searched_place n s before) (goes_on s.place t on))
+
+  -- what every place keeps, a search keeps
+  pub searched_keeps : (P : Searching → Type 0) → P (at_start hay longest p width start) →
+      ((s t : Searching) → Among (places hay start) s.place → P s → Searches hay longest p width s t → is_over hay longest p width earliest s.place t ≡ false → P t) →
+      (n : ℕ) (s : Searching) → SearchedTo hay longest p width earliest start n s → P s
+  searched_keeps P first on zero s is = subst P is first
+  searched_keeps P first on (suc n) t (s, before, place, open_) =
+      on s t (searched_place n s before) (searched_keeps P first on n s before) place open_
+
+-- the configurations that were visited, with those of a place
+abbrev pub configurations_of : ℕ → List Configuration → List ℕ → List Configuration
+configurations_of i old seen = map (λ q. at q i) seen ++ old
+
+option_or_some : (o : Option Thread) (t u : Thread) → option_or o (Some t) ≡ Some u → (o ≡ Some u) ⊎ (t ≡ u)
+option_or_some None t u e = inr (same t u e)
+  where
+    same : (t u : Thread) → Some t ≡ Some u → t ≡ u
+    same t u e = cc
+option_or_some (Some v) t u e = inl e
+
+pub option_or_cases : (o q : Option Thread) (u : Thread) → option_or o q ≡ Some u → (o ≡ Some u) ⊎ ((o ≡ None) × (q ≡ Some u))
+option_or_cases None q u e = inr (refl, e)
+option_or_cases (Some v) q u e = inl e
+
+module _ (p : Program) (hay : List ℕ) (longest : Bool) (width : ℕ) (start : ℕ) (fits : width ≤ p.slots) where
+  abbrev TraceAt : List Configuration → ℕ → Thread → Type 0
+  TraceAt visits i t = Trace p hay longest width start visits i t
+
+  abbrev FoundAt : List Configuration → ℕ → Thread → Type 0
+  FoundAt visits end t = Found p hay longest width start visits end t
+
+  -- where a thread goes from its state
+  traced_moved : (visits : List Configuration) (i k : ℕ) (t : Thread) → ((v : Configuration) → Among (leads p hay (at t.state i)) v → v.place ≡ k) → Among visits (at t.state i) →
+      TraceAt visits i t → (u : Thread) → Among (moved hay longest i (state_at p.states t.state) t) u → TraceAt visits k u
+  traced_moved visits i k t there here tr u h =
+      let m = Among-mapped (thread_on t.start (with_write (state_at p.states t.state) i t.slots)) (leads p hay (at t.state i)) u h in
+      subst (λ (x : Thread). TraceAt visits k x) m.2
+      (subst (λ (j : ℕ). TraceAt visits j (thread_on t.start (with_write (state_at p.states t.state) i t.slots) m.0)) (there m.0 m.1)
+      (trace_on p hay longest width start visits i t m.0 here m.1 tr))
+
+  module _ (i : ℕ) (old : List Configuration) where
+    abbrev there : ℕ
+    there = i + (piece hay i).len
+
+    -- the threads of a walk have come by walks, and its first match has found a run
+    pub record IsTraced (w : Walking) : Type 0 where
+      pub stack : (t : Thread) → Among w.stack t → Trace p hay longest width start (configurations_of i old w.seen) i t
+      pub next : (t : Thread) → Among w.next t → (0 < (piece hay i).len) × Trace p hay longest width start (configurations_of i old w.seen) (i + (piece hay i).len) t
+      pub first_match : (t : Thread) → w.first_match ≡ Some t → Found p hay longest width start (configurations_of i old w.seen) i t
+
+    top : (w : Walking) (t : Thread) (rest : List Thread) → w.stack ≡ t ∷ rest → IsTraced w → TraceAt (configurations_of i old w.seen) i t
+    top w t rest is now = now.stack t (subst (λ (l : List Thread). Among l t) (sym is) (inl refl))
+
+    below : (w : Walking) (t : Thread) (rest : List Thread) → w.stack ≡ t ∷ rest → IsTraced w → (u : Thread) → Among rest u → TraceAt (configurations_of i old w.seen) i u
+    below w t rest is now u h = now.stack u (subst (λ (l : List Thread). Among l u) (sym is) (inr h))
+
+    more : (q : ℕ) (seen : List ℕ) (u : Configuration) → Among (configurations_of i old seen) u → Among (configurations_of i old (q ∷ seen)) u
+    more q seen u h = inr h
+
+    module _ (w : Walking) (t : Thread) (rest : List Thread) (is : w.stack ≡ t ∷ rest) (now : IsTraced w) where
+      abbrev visits_now : List Configuration
+      visits_now = configurations_of i old (t.state ∷ w.seen)
+
+      top_now : TraceAt visits_now i t
+      top_now = trace_more p hay longest width start (configurations_of i old w.seen) visits_now i t (more t.state w.seen) (top w t rest is now)
+
+      rest_now : (u : Thread) → Among rest u → TraceAt visits_now i u
+      rest_now u h = trace_more p hay longest width start (configurations_of i old w.seen) visits_now i u (more t.state w.seen) (below w t rest is now u h)
+
+      next_now : (u : Thread) → Among w.next u → (0 < (piece hay i).len) × TraceAt visits_now there u
+      next_now u h =
+          let r = now.next u h in (r.0, trace_more p hay longest width start (configurations_of i old w.seen) visits_now there u (more t.state w.seen) r.1)
+
+      hit_now : (u : Thread) → w.first_match ≡ Some u → FoundAt visits_now i u
+      hit_now u h = found_more p hay longest width start (configurations_of i old w.seen) visits_now i u (more t.state w.seen) (now.first_match u h)
+
+    pub traced_keeps : Keeps hay longest i p IsTraced
+    traced_keeps = record {
+      on_seen = λ t rest w is was now. record { stack = below w t rest is now; next = now.next; first_match = now.first_match };
+      on_match = λ t rest w is new found now. record {
+        stack = λ u h. rest_now w t rest is now u (Among-kept hay longest (option_or w.first_match (Some t)) rest u h);
+        next = next_now w t rest is now;
+        first_match = λ u h. ⊎_elim (hit_now w t rest is now u)
+            (λ (e : t ≡ u). subst (λ (x : Thread). FoundAt (configurations_of i old (t.state ∷ w.seen)) i x) e
+            (found_here p hay longest width start fits (configurations_of i old (t.state ∷ w.seen)) i t found (inl refl) (top_now w t rest is now)))
+            (option_or_some w.first_match t u h);
+      };
+      on_taken = λ t rest w is new none over now. record {
+        stack = rest_now w t rest is now;
+        next = λ u h. ⊎_elim (next_now w t rest is now u)
+            (λ a. (
+              (over (edge_of t u a).0 (edge_of t u a).1).0,
+              traced_moved (configurations_of i old (t.state ∷ w.seen)) i there t (λ v e. (over v e).1) (inl refl) (top_now w t rest is now) u a,
+            ))
+            (Among-apart w.next (moved hay longest i (state_at p.states t.state) t) u h);
+        first_match = hit_now w t rest is now;
+      };
+      on_gone = λ t rest w is new none beside now. record {
+        stack = λ u h. ⊎_elim (λ a. traced_moved (configurations_of i old (t.state ∷ w.seen)) i i t beside (inl refl) (top_now w t rest is now) u a)
+            (rest_now w t rest is now u) (Among-apart (moved hay longest i (state_at p.states t.state) t) rest u h);
+        next = next_now w t rest is now;
+        first_match = hit_now w t rest is now;
+      };
+    }
+      where
+        edge_of : (t u : Thread) → Among (moved hay longest i (state_at p.states t.state) t) u → (v : Configuration) × Among (leads p hay (at t.state i)) v
+            × (thread_on t.start (with_write (state_at p.states t.state) i t.slots) v ≡ u)
+        edge_of t u a = Among-mapped (thread_on t.start (with_write (state_at p.states t.state) i t.slots)) (leads p hay (at t.state i)) u a
+
+  -- the threads of a search have come by walks, and the best has found a run
+  pub record AreTraced (s : Searching) : Type 0 where
+    pub threads : (t : Thread) → Among s.threads t → Trace p hay longest width start s.visits s.place t
+    pub best : (t : Thread) → s.best ≡ Some t → (end : ℕ) × Found p hay longest width start s.visits end t
+
+  pub begun_traced : (s : Searching) → Among (places hay start) s.place → AreTraced s → IsTraced s.place s.visits (begun hay longest p width s)
+  begun_traced s among now = record {
+    stack = λ t h. ⊎_elim (now.threads t) (at_begin s.best t) (Among-apart s.threads (cond (is_some s.best) [] (started hay longest p width s.place ∷ [])) t h);
+    next = λ t h. absurd h;
+    first_match = λ t h. absurd (none_some t h);
+  }
+    where
+      none_some : (t : Thread) → None ≡ Some t → ⊥
+      none_some t e = cc
+
+      at_begin : (o : Option Thread) (t : Thread) → Among (cond (is_some o) [] (started hay longest p width s.place ∷ [])) t → TraceAt s.visits s.place t
+      at_begin (Some b) t h = absurd h
+      at_begin None t h =
+          ⊎_elim
+          (λ (e : started hay longest p width s.place ≡ t). subst (λ (x : Thread). TraceAt s.visits s.place x) e (trace_start p hay longest width start s.visits s.place among))
+          (λ (no : ⊥). absurd no) h
+
+  -- the walk of a place is traced when it is over
+  pub place_traced : (s t : Searching) → Among (places hay start) s.place → AreTraced s → (place : Searches hay longest p width s t) → IsTraced s.place s.visits place.last
+  place_traced s t among now place =
+      walk_keeps hay longest s.place p (IsTraced s.place s.visits) (traced_keeps s.place s.visits) (begun hay longest p width s) place.last place.walks
+      (begun_traced s among now)
+
+  pub traced_on : (s t : Searching) → Among (places hay start) s.place → AreTraced s → Searches hay longest p width s t → AreTraced t
+  traced_on s t among now place =
+      let walk = place_traced s t among now place in
+      subst AreTraced place.is record {
+        threads = λ u h. (walk.next u h).1;
+        best = λ u h. ⊎_elim (λ here. (s.place, walk.first_match u here))
+            (λ before. let f = now.best u before.1 in (
+              f.0,
+              found_more p hay longest width start s.visits (configurations_of s.place s.visits place.last.seen) f.0 u
+                  (λ x a. Among-right (map (λ q. at q s.place) place.last.seen) s.visits x a) f.1,
+            ))
+            (option_or_cases place.last.first_match s.best u h);
+      }
+
+  pub traced_start : AreTraced (at_start hay longest p width start)
+  traced_start = record {
+    threads = λ t h. absurd h;
+    best = λ t h. absurd (none_some t h);
+  }
+    where
+      none_some : (t : Thread) → None ≡ Some t → ⊥
+      none_some t e = cc
+
+  module _ (earliest : Bool) (within : start ≤ length hay) where
+    -- all threads of a search have come by walks
+    pub searched_traced : (n : ℕ) (s : Searching) → SearchedTo hay longest p width earliest start n s → AreTraced s
+    searched_traced n s to =
+        searched_keeps p hay longest width earliest start within AreTraced traced_start (λ s t among now place on. traced_on s t among now place) n s to

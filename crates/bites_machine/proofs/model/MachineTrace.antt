@@ -1,0 +1,154 @@
+-- Each thread of the machine has come by a walk through configurations that were visited, and has the slots of that walk.
+use Rattle.std.proofs.Common.{◌≡◌, ℕ, ◌≤◌, Bool, true, false, cond, List, [], ◌∷◌, ◌++◌, map, take, Option, Some, None, refl, sym, ap, ◌∙◌, subst, inl, inr, ⊎_elim, ◌⊎◌}
+use Rattle.std.specs.Prelude.{replicate, if◌then◌else◌, nat_le}
+use Rattle.std.specs.List.{filter}
+use Rattle.std.proofs.lemmas.Bool.{cases_Bool}
+use Rattle.bites_spec.specs.Utf8.{places}
+use Rattle.bites_spec.specs.Walks.{Among, Walk, last_of}
+use Rattle.bites_spec.specs.Program.{Program, Configuration, at, state_at, is_match, IsWellFormed}
+use Rattle.bites_spec.specs.Run.{Run, leads, matches, Runs, IsRun, slots}
+use Rattle.bites_spec.proofs.runs.RunLemmas.{Inside, inside_on}
+use Rattle.bites_spec.proofs.utf8.PieceLemmas.{Among-places}
+use Rattle.bites_machine.specs.Machine.{Thread, with_write, thread_on, kept, started}
+use Rattle.bites_machine.proofs.compile.EdgeLemmas.{Among-apart}
+use Rattle.bites_machine.proofs.model.PathLemmas.{walk_on}
+use Rattle.bites_machine.proofs.model.MachineSlots.{all_written, run_writes}
+use Rattle.bites_machine.proofs.model.MachineWaiting.{match_keeps}
+
+-- what is among the images is the image of something
+pub Among-mapped : {A B : Type 0} (f : A → B) (xs : List A) (y : B) → Among (map f xs) y → (x : A) × Among xs x × (f x ≡ y)
+Among-mapped f [] y h = absurd h
+Among-mapped f (x ∷ xs) y h =
+    ⊎_elim (λ (e : f x ≡ y). (x, inl refl, e)) (λ later. let r = Among-mapped f xs y later in (r.0, inr r.1, r.2)) h
+
+pub Among-filter : {A : Type 0} (test : A → Bool) (xs : List A) (x : A) → Among (filter test xs) x → Among xs x
+Among-filter test [] x h = h
+Among-filter test (y ∷ xs) x h =
+    ⊎_elim
+    (λ (e : test y ≡ true). ⊎_elim inl (λ later. inr (Among-filter test xs x later)) (subst (λ b. Among (cond b (y ∷ filter test xs) (filter test xs)) x) e h))
+    (λ (e : test y ≡ false). inr (Among-filter test xs x (subst (λ b. Among (cond b (y ∷ filter test xs) (filter test xs)) x) e h)))
+    (cases_Bool (test y))
+
+-- what a match lets go on was there before
+pub Among-kept : (hay : List ℕ) (longest : Bool) (o : Option Thread) (ts : List Thread) (t : Thread) → Among (kept hay longest o ts) t → Among ts t
+Among-kept hay longest None ts t h = h
+Among-kept hay true (Some first_match) ts t h = Among-filter (λ u. nat_le u.start first_match.start) ts t h
+Among-kept hay false (Some first_match) ts t h = absurd h
+
+module _ (p : Program) (hay : List ℕ) (longest : Bool) (width : ℕ) (start : ℕ) where
+  abbrev base : List (Option ℕ)
+  base = replicate width None
+
+  -- where a thread was started, as it notes it
+  abbrev pub start_of : ℕ → ℕ
+  start_of k = if longest then k else 0
+
+  -- the walk by which a thread has come to its state at a place
+  pub record Trace (visits : List Configuration) (i : ℕ) (t : Thread) : Type 0 where
+    pub from : ℕ
+    pub among : Among (places hay start) from
+    pub configurations : List Configuration
+    pub walk : Walk (leads p hay) (λ u. u ≡ at t.state i) (at p.start from) configurations
+    pub was : (u : Configuration) → Among (at p.start from ∷ configurations) u → Among visits u ⊎ (at t.state i ≡ u)
+    pub slots : all_written p base (at p.start from ∷ configurations) ≡ with_write (state_at p.states t.state) i t.slots
+    pub started : t.start ≡ start_of from
+
+  -- a run to a match, all whose configurations were visited, and whose slots a thread has
+  pub record Found (visits : List Configuration) (end : ℕ) (t : Thread) : Type 0 where
+    pub run : Run
+    pub runs : IsRun p hay run.start run.configurations run.end
+    pub among : Among (places hay start) run.start
+    pub was : (u : Configuration) → Among (at p.start run.start ∷ run.configurations) u → Among visits u
+    pub slots : t.slots ≡ take width (slots p run)
+    pub started : t.start ≡ start_of run.start
+    pub end_is : run.end ≡ end
+
+  unfoldable pub trace_more : (visits more : List Configuration) (i : ℕ) (t : Thread) → ((u : Configuration) → Among visits u → Among more u) → Trace visits i t → Trace more i t
+  trace_more visits more i t grow tr = record {
+    from = tr.from;
+    among = tr.among;
+    configurations = tr.configurations;
+    walk = tr.walk;
+    was = λ u h. ⊎_elim (λ a. inl (grow u a)) inr (tr.was u h);
+    slots = tr.slots;
+    started = tr.started;
+  }
+
+  unfoldable pub found_more : (visits more : List Configuration) (end : ℕ) (t : Thread) → ((u : Configuration) → Among visits u → Among more u) → Found visits end t → Found more end t
+  found_more visits more end t grow f = record {
+    run = f.run;
+    runs = f.runs;
+    among = f.among;
+    was = λ u h. grow u (f.was u h);
+    slots = f.slots;
+    started = f.started;
+    end_is = f.end_is;
+  }
+
+  -- a thread at the start
+  unfoldable pub trace_start : (visits : List Configuration) (i : ℕ) → Among (places hay start) i → Trace visits i (started hay longest p width i)
+  trace_start visits i among = record {
+    from = i;
+    among = among;
+    configurations = [];
+    walk = refl;
+    was = λ u h. ⊎_elim inr (λ (no : ⊥). absurd no) h;
+    slots = refl;
+    started = refl;
+  }
+
+  pub all_written-push : (slots : List (Option ℕ)) (r : List Configuration) (v : Configuration) →
+      all_written p slots (r ++ v ∷ []) ≡ with_write (state_at p.states v.state) v.place (all_written p slots r)
+  all_written-push slots [] v = refl
+  all_written-push slots (s ∷ r) v = all_written-push (with_write (state_at p.states s.state) s.place slots) r v
+
+  -- a thread goes on along an edge
+  unfoldable pub trace_on : (visits : List Configuration) (i : ℕ) (t : Thread) (v : Configuration) → Among visits (at t.state i) → Among (leads p hay (at t.state i)) v → Trace visits i t →
+      Trace visits v.place (thread_on t.start (with_write (state_at p.states t.state) i t.slots) v)
+  trace_on visits i t v here edge tr = record {
+    from = tr.from;
+    among = tr.among;
+    configurations = tr.configurations ++ v ∷ [];
+    walk = walk_on p hay (at p.start tr.from) tr.configurations (at t.state i) v tr.walk edge;
+    was = λ u h. ⊎_elim
+        (λ before. ⊎_elim inl (λ (e : at t.state i ≡ u). inl (subst (λ (x : Configuration). Among visits x) e here)) (tr.was u before))
+        (λ last. ⊎_elim (λ (e : v ≡ u). inr e) (λ (no : ⊥). absurd no) last)
+        (Among-apart (at p.start tr.from ∷ tr.configurations) (v ∷ []) u h);
+    slots = all_written-push (with_write (state_at p.states p.start) tr.from base) tr.configurations v ∙ ap (with_write (state_at p.states v.state) v.place) tr.slots;
+    started = tr.started;
+  }
+
+  pub walk_runs : (s : Configuration) (r : List Configuration) (q i : ℕ) → Walk (leads p hay) (λ u. u ≡ at q i) s r → is_match (state_at p.states q) ≡ true → Runs p hay s r i
+  walk_runs s [] q i walk found =
+      (ap (λ (u : Configuration). matches p u) walk ∙ found, ap (λ (u : Configuration). u.place) walk)
+  walk_runs s (t ∷ r) q i walk found = (walk.0, walk_runs t r q i walk.1 found)
+
+  pub walk_ends : (s : Configuration) (r : List Configuration) (u : Configuration) → Walk (leads p hay) (λ v. v ≡ u) s r → last_of s r ≡ u
+  walk_ends s [] u walk = walk
+  walk_ends s (t ∷ r) u walk = walk_ends t r u walk.1
+
+  -- a thread at a match that was visited has found a run
+  unfoldable pub found_here : width ≤ p.slots → (visits : List Configuration) (i : ℕ) (t : Thread) → is_match (state_at p.states t.state) ≡ true → Among visits (at t.state i) →
+      Trace visits i t → Found visits i t
+  found_here fits visits i t found here tr = record {
+    run = the_run;
+    runs = walk_runs (at p.start tr.from) tr.configurations t.state i tr.walk found;
+    among = tr.among;
+    was = λ u h. ⊎_elim (λ a. a) (λ (e : at t.state i ≡ u). subst (λ (x : Configuration). Among visits x) e here) (tr.was u h);
+    slots = sym (match_keeps (state_at p.states t.state) i t.slots found) ∙ sym tr.slots
+        ∙ run_writes p width the_run fits (ap (matches p) (walk_ends (at p.start tr.from) tr.configurations (at t.state i) tr.walk) ∙ found);
+    started = tr.started;
+    end_is = refl;
+  }
+    where
+      the_run : Run
+      the_run = record { start = tr.from; configurations = tr.configurations; end = i }
+
+  walk_inside : IsWellFormed p → (s : Configuration) (r : List Configuration) (u : Configuration) → Inside p hay s → Walk (leads p hay) (λ v. v ≡ u) s r → Inside p hay u
+  walk_inside well s [] u inside walk = subst (λ (v : Configuration). Inside p hay v) walk inside
+  walk_inside well s (t ∷ r) u inside walk = walk_inside well t r u (inside_on p hay well s t inside walk.0) walk.1
+
+  -- the state of a thread is one of the program
+  pub trace_inside : IsWellFormed p → (visits : List Configuration) (i : ℕ) (t : Thread) → Trace visits i t → Inside p hay (at t.state i)
+  trace_inside well visits i t tr =
+      walk_inside well (at p.start tr.from) tr.configurations (at t.state i) (well.start, (Among-places hay start tr.from tr.among).1) tr.walk

@@ -1,0 +1,193 @@
+-- The threads of the machine as the configurations that are pending in a depth-first walk.
+use Rattle.std.proofs.Common.{◌≡◌, ℕ, suc, ◌+◌, ◌*◌, ◌<◌, ◌≤◌, Bool, true, false, ◌&&◌, ◌||◌, List, [], ◌∷◌, ◌++◌, map, length, Option, Some, option_map, refl, sym, ap, ap₂, ◌∙◌, subst, inl, inr, ⊎_elim, true≢false, arith, append_assoc, eqb-true, eq-eqb, ne_eqb}
+use Rattle.std.specs.Prelude.{◌==◌}
+use Rattle.std.specs.Option.{option_or}
+use Rattle.std.proofs.lemmas.List.{map-append}
+use Rattle.std.proofs.lemmas.Bool.{cases_Bool}
+use Rattle.bites_spec.specs.Utf8.{piece}
+use Rattle.bites_spec.specs.Walks.{Among, first_among, with_configuration}
+use Rattle.bites_spec.specs.Walks as walks
+use Rattle.bites_spec.specs.Program.{State, Program, Configuration, at, state_at, edges, is_match, char, ranges, splits, goto, capture, fail, match, IsWellFormed}
+use Rattle.bites_spec.specs.Run.{is_same_configuration, leads, matches, enough}
+use Rattle.bites_spec.proofs.runs.RunLemmas.{Inside, unseen, fewer, enough_for_all, inside_on, same_is, same_refl, match_ends}
+use Rattle.bites_spec.proofs.runs.WalkLemmas.{waiting, pending, pending-append, pending_seen, pending_visit_behind, run_away, run_match, first_among_cong_in}
+use Rattle.bites_machine.specs.Machine.{Thread, with_write, thread_on, moved}
+use Rattle.bites_machine.proofs.compile.EdgeLemmas.{edges_apart}
+use Rattle.bites_machine.proofs.model.MachineCases.{was_seen, LeadsBeside}
+use Rattle.bites_machine.proofs.model.MachineSlots.{all_written}
+
+-- what a thread is worth at a match: where it was started, and its slots
+pub record Outcome : Type 0 where
+  pub start : ℕ
+  pub slots : List (Option ℕ)
+
+abbrev pub outcome : Thread → Outcome
+outcome t = record { start = t.start; slots = t.slots }
+
+-- a match writes nothing
+pub match_keeps : (st : State) (i : ℕ) (slots : List (Option ℕ)) → is_match st ≡ true → with_write st i slots ≡ slots
+match_keeps match i slots e = refl
+match_keeps (char q c) i slots e = refl
+match_keeps (ranges q rs) i slots e = refl
+match_keeps (splits qs b) i slots e = refl
+match_keeps (goto q look) i slots e = refl
+match_keeps (capture q k) i slots e = absurd (true≢false (sym e))
+match_keeps fail i slots e = refl
+
+module _ (p : Program) (hay : List ℕ) where
+  -- a thread with these slots that runs through these configurations
+  abbrev pub worth : ℕ → List (Option ℕ) → List Configuration → Outcome
+  worth start slots r = record { start = start; slots = all_written p slots r }
+
+  -- a thread that waits at a place
+  abbrev pub wait : ℕ → Thread → Configuration × (List Configuration → Outcome)
+  wait i t = (at t.state i, worth t.start t.slots)
+
+  abbrev pub wait_all : ℕ → List Thread → List (Configuration × (List Configuration → Outcome))
+  wait_all i ts = map (wait i) ts
+
+  -- the configurations of these states at a place
+  abbrev pub marks : ℕ → List ℕ → Configuration → Bool
+  marks i [] = λ s. false
+  marks i (q ∷ seen) = with_configuration is_same_configuration (leads p hay) (matches p) (marks i seen) (at q i)
+
+  same_number : (q x i : ℕ) → ((q == x) && (i == i)) ≡ (x == q)
+  same_number q x i =
+      ⊎_elim (λ (e : (x == q) ≡ true). ap₂ ◌&&◌ (eq-eqb q x (sym (eqb-true x q e))) (eq-eqb i i refl) ∙ sym e)
+      (λ (e : (x == q) ≡ false).
+      ap (λ (b : Bool). b && (i == i)) (ne_eqb q x (λ (is : q ≡ x). true≢false (sym (eq-eqb x q (sym is)) ∙ e))) ∙ sym e)
+      (cases_Bool (x == q))
+
+  marks_here : (i : ℕ) (seen : List ℕ) (q : ℕ) → marks i seen (at q i) ≡ was_seen hay false i p seen q
+  marks_here i [] q = refl
+  marks_here i (x ∷ seen) q = ap₂ ◌||◌ (same_number q x i) (marks_here i seen q)
+
+  -- edges lead on
+  later_on : (i : ℕ) (s t : Configuration) → i < s.place → Among (leads p hay s) t → i < t.place
+  later_on i s t lt h =
+      ⊎_elim (λ beside. let e : t.place ≡ s.place = beside.1 in omega arith)
+      (λ over. let e : t.place ≡ s.place + (piece hay s.place).len = over.2 in omega arith)
+      (edges_apart hay s.place (state_at p.states s.state) t h)
+
+  not_later : (i : ℕ) (q : ℕ) (s : Configuration) → i < s.place → is_same_configuration s (at q i) ≡ false
+  not_later i q s lt =
+      ⊎_elim (λ (e : is_same_configuration s (at q i) ≡ true). let is : s.place ≡ i = ap (λ (t : Configuration). t.place) (same_is s (at q i) e) in absurd (omega arith))
+      (λ (e : is_same_configuration s (at q i) ≡ false). e) (cases_Bool (is_same_configuration s (at q i)))
+
+  waits_behind : (i j : ℕ) (ts : List Thread) → ((t : Thread) → Among ts t → i < j) → (w : Configuration × (List Configuration → Outcome)) → Among (wait_all j ts) w → i < w.0.place
+  waits_behind i j [] behind w h = absurd h
+  waits_behind i j (t ∷ ts) behind w h =
+      ⊎_elim (λ (e : wait j t ≡ w). subst (λ (x : Configuration × (List Configuration → Outcome)). i < x.0.place) e (behind t (inl refl)))
+      (λ later. waits_behind i j ts (λ u a. behind u (inr a)) w later) h
+
+  module _ (fin : Configuration → Bool) (fin_matches : (s : Configuration) → fin s ≡ true → matches p s ≡ true) where
+    -- the first walk from a configuration, around those that were seen
+    abbrev pub run : (Configuration → Bool) → Configuration → Option (List Configuration)
+    run seen s = walks.first_walk is_same_configuration (leads p hay) fin (enough p hay) seen s
+
+    -- the first success of those that wait
+    abbrev pub pend : (Configuration → Bool) → List (Configuration × (List Configuration → Outcome)) → Option Outcome
+    pend seen ws = pending is_same_configuration (leads p hay) fin same_is same_refl (enough p hay) seen ws
+
+    pub pend-append : (seen : Configuration → Bool) (xs ys : List (Configuration × (List Configuration → Outcome))) → pend seen (xs ++ ys) ≡ option_or (pend seen xs) (pend seen ys)
+    pend-append seen xs ys = pending-append is_same_configuration (leads p hay) fin same_is same_refl (enough p hay) seen xs ys
+
+    -- a configuration of a later place does not see what was visited at this one
+    pub run_later : (i : ℕ) (seen : List ℕ) (s : Configuration) → i < s.place → run (marks i seen) s ≡ run (λ q. false) s
+    run_later i [] s lt = refl
+    run_later i (q ∷ seen) s lt =
+        run_away is_same_configuration (leads p hay) fin same_is same_refl (at q i) (λ t. i < t.place) (not_later i q) (later_on i) (enough p hay) (marks i seen) s lt
+        ∙ run_later i seen s lt
+
+    pub pend_later : (i j : ℕ) (seen : List ℕ) (ts : List Thread) → ((t : Thread) → Among ts t → i < j) →
+        pend (marks i seen) (wait_all j ts) ≡ pend (λ q. false) (wait_all j ts)
+    unfolding pending
+    pend_later i j seen ts behind =
+        first_among_cong_in _ _ (wait_all j ts)
+        (λ w h. ap (option_map w.1) (run_later i seen w.0 (waits_behind i j ts behind w h)))
+
+    waiting_moved : (k start : ℕ) (slots : List (Option ℕ)) (s : Configuration) (qs : List Configuration) → ((q : Configuration) → Among qs q → q.place ≡ k) →
+        waiting is_same_configuration (leads p hay) fin same_is same_refl s (worth start slots) qs
+        ≡ wait_all k (map (thread_on start (with_write (state_at p.states s.state) s.place slots)) qs)
+    waiting_moved k start slots s [] there = refl
+    waiting_moved k start slots s (q ∷ qs) there =
+        ap₂ ◌∷◌
+        (ap (λ (n : ℕ). (at q.state n, worth start (with_write (state_at p.states s.state) s.place slots))) (there q (inl refl)))
+        (waiting_moved k start slots s qs (λ x h. there x (inr h)))
+
+    module _ (well : IsWellFormed p) (longest : Bool) (i j : ℕ) (within : i ≤ length hay) (seen : List ℕ) (next : List Thread) (t : Thread) (rest : List Thread)
+        (behind : (u : Thread) → Among next u → i < j) where
+      -- those that took the piece, and then those that are still to be walked
+      abbrev waits : List Thread → List Thread → List (Configuration × (List Configuration → Outcome))
+      waits over here = wait_all j over ++ wait_all i here
+
+      -- a thread at a state that was visited is dropped
+      pub pend_seen : was_seen hay longest i p seen t.state ≡ true → pend (marks i seen) (waits next (t ∷ rest)) ≡ pend (marks i seen) (waits next rest)
+      pend_seen was =
+          pend-append (marks i seen) (wait_all j next) (wait_all i (t ∷ rest))
+          ∙ ap (option_or (pend (marks i seen) (wait_all j next)))
+          (pending_seen is_same_configuration (leads p hay) fin same_is same_refl (Inside p hay) (inside_on p hay well) (unseen p hay) (fewer p hay)
+          (enough p hay) (marks i seen) (at t.state i) (worth t.start t.slots) (wait_all i rest) (marks_here i seen t.state ∙ was))
+          ∙ sym (pend-append (marks i seen) (wait_all j next) (wait_all i rest))
+
+      module _ (new : was_seen hay longest i p seen t.state ≡ false) (inside : t.state < length p.states) where
+        fresh : marks i seen (at t.state i) ≡ false
+        fresh = marks_here i seen t.state ∙ new
+
+        visit : fin (at t.state i) ≡ false →
+            pend (marks i seen) (waits next (t ∷ rest))
+            ≡ pend (marks i (t.state ∷ seen))
+            (wait_all j next ++ (waiting is_same_configuration (leads p hay) fin same_is same_refl (at t.state i) (worth t.start t.slots) (leads p hay (at t.state i)) ++ wait_all i rest))
+        visit goes =
+            pending_visit_behind is_same_configuration (leads p hay) fin same_is same_refl (Inside p hay) (inside_on p hay well) (unseen p hay) (fewer p hay)
+            (enough p hay) (marks i seen) (at t.state i) (worth t.start t.slots) (wait_all j next) (wait_all i rest)
+            (inside, within) (enough_for_all p hay (marks i seen)) fresh goes
+            (λ s. i < s.place) (not_later i t.state) (later_on i) (waits_behind i j next behind)
+
+        no_end : is_match (state_at p.states t.state) ≡ false → fin (at t.state i) ≡ false
+        no_end none =
+            ⊎_elim (λ (e : fin (at t.state i) ≡ true). absurd (true≢false (sym (fin_matches (at t.state i) e) ∙ none)))
+            (λ (e : fin (at t.state i) ≡ false). e) (cases_Bool (fin (at t.state i)))
+
+        -- a thread that goes on at the place
+        pub pend_gone : is_match (state_at p.states t.state) ≡ false → LeadsBeside hay longest i (state_at p.states t.state) →
+            pend (marks i seen) (waits next (t ∷ rest))
+            ≡ pend (marks i (t.state ∷ seen)) (waits next (moved hay longest i (state_at p.states t.state) t ++ rest))
+        pend_gone none beside =
+            visit (no_end none)
+            ∙ ap (λ (l : List (Configuration × (List Configuration → Outcome))). pend (marks i (t.state ∷ seen)) (wait_all j next ++ l))
+            (ap (λ (l : List (Configuration × (List Configuration → Outcome))). l ++ wait_all i rest) (waiting_moved i t.start t.slots (at t.state i) (leads p hay (at t.state i)) beside)
+            ∙ sym (map-append (wait i) (moved hay longest i (state_at p.states t.state) t) rest))
+
+        -- a thread that takes the piece
+        pub pend_taken : is_match (state_at p.states t.state) ≡ false → ((v : Configuration) → Among (edges hay (state_at p.states t.state) i) v → v.place ≡ j) →
+            pend (marks i seen) (waits next (t ∷ rest))
+            ≡ pend (marks i (t.state ∷ seen)) (waits (next ++ moved hay longest i (state_at p.states t.state) t) rest)
+        pend_taken none over =
+            visit (no_end none)
+            ∙ ap (pend (marks i (t.state ∷ seen)))
+            (ap (λ (l : List (Configuration × (List Configuration → Outcome))). wait_all j next ++ (l ++ wait_all i rest))
+            (waiting_moved j t.start t.slots (at t.state i) (leads p hay (at t.state i)) over)
+            ∙ sym (append_assoc (wait_all j next) (wait_all j (moved hay longest i (state_at p.states t.state) t)) (wait_all i rest))
+            ∙ ap (λ (l : List (Configuration × (List Configuration → Outcome))). l ++ wait_all i rest) (sym (map-append (wait j) next (moved hay longest i (state_at p.states t.state) t))))
+
+        -- a match that is not sought leads nowhere
+        pub pend_dead : is_match (state_at p.states t.state) ≡ true → fin (at t.state i) ≡ false →
+            pend (marks i seen) (waits next (t ∷ rest)) ≡ pend (marks i (t.state ∷ seen)) (waits next rest)
+        pend_dead found other =
+            visit other
+            ∙ ap (λ (l : List Configuration). pend (marks i (t.state ∷ seen))
+            (wait_all j next ++ (waiting is_same_configuration (leads p hay) fin same_is same_refl (at t.state i) (worth t.start t.slots) l ++ wait_all i rest)))
+            (match_ends p hay (at t.state i) found)
+
+        -- a match that is sought is the success, but for what took the piece before
+        pub pend_hit : fin (at t.state i) ≡ true →
+            pend (marks i seen) (waits next (t ∷ rest)) ≡ option_or (pend (marks i (t.state ∷ seen)) (wait_all j next)) (Some (outcome t))
+        unfolding pending
+        pend_hit found =
+            pend-append (marks i seen) (wait_all j next) (wait_all i (t ∷ rest))
+            ∙ ap₂ option_or
+            (pend_later i j seen next behind ∙ sym (pend_later i j (t.state ∷ seen) next behind))
+            (ap (λ (o : Option (List Configuration)). option_or (option_map (worth t.start t.slots) o) (pend (marks i seen) (wait_all i rest)))
+            (run_match is_same_configuration (leads p hay) fin same_is same_refl (length p.states * suc (length hay)) (marks i seen) (at t.state i) fresh found)
+            ∙ ap (λ (slots : List (Option ℕ)). Some (record { start = t.start; slots = slots })) (match_keeps (state_at p.states t.state) i t.slots (fin_matches (at t.state i) found)))

@@ -1,0 +1,165 @@
+-- Steps of the machine on lists that are made one by one, and a walk of some threads with others below them.
+use Rattle.std.proofs.Common.{◌≡◌, ℕ, zero, suc, ◌+◌, Bool, true, false, cond, List, [], ◌∷◌, ◌++◌, Option, Some, None, refl, sym, ap, ◌∙◌, subst, inl, inr, ⊎_elim, ◌⊎◌, true≢false, arith, append_assoc}
+use Rattle.std.specs.Prelude.{nat_le}
+use Rattle.std.specs.List.{filter}
+use Rattle.std.specs.Fn.{iterate}
+use Rattle.std.specs.Option.{option_or}
+use Rattle.std.proofs.lemmas.List.Elements.{filter-append}
+use Rattle.std.proofs.lemmas.Bool.{cases_Bool}
+use Rattle.bites_spec.specs.Program.{State, Program, state_at, is_match, char, ranges, splits, goto, capture, fail, match}
+use Rattle.bites_machine.specs.Machine.{Thread, Walking, kept, moved, visited, dropped, stepped, step, WalksTo}
+use Rattle.bites_machine.proofs.model.MachineCases.{takes, was_seen, at_match, taken, gone, state_of_thread}
+
+module _ (hay : List ℕ) (longest : Bool) (p : Program) (i : ℕ) where
+  -- no step
+  pub walks_here : (w : Walking) → WalksTo hay longest p i w w
+  walks_here w = (0, refl)
+
+  iterate_through : (k m : ℕ) (w v : Walking) → iterate (step hay longest p i) k w ≡ v → iterate (step hay longest p i) (k + m) w ≡ iterate (step hay longest p i) m v
+  iterate_through zero m w v is = subst (λ (n : ℕ). iterate (step hay longest p i) n w ≡ iterate (step hay longest p i) m v) (from_zero m) (ap (iterate (step hay longest p i) m) is)
+    where
+      from_zero : (m : ℕ) → m ≡ zero + m
+      from_zero m = omega arith
+  iterate_through (suc k) m w v is =
+      subst (λ (n : ℕ). iterate (step hay longest p i) n w ≡ iterate (step hay longest p i) m v) (next k m) (iterate_through k m (step hay longest p i w) v is)
+    where
+      next : (k m : ℕ) → suc (k + m) ≡ suc k + m
+      next k m = omega arith
+
+  -- some steps, and then some more
+  pub walks_through : (w v u : Walking) → WalksTo hay longest p i w v → WalksTo hay longest p i v u → WalksTo hay longest p i w u
+  walks_through w v u (k, is) (m, more) = (k + m, iterate_through k m w v is ∙ more)
+
+  -- one step more
+  pub walks_on : (w v : Walking) → WalksTo hay longest p i w v → WalksTo hay longest p i w (step hay longest p i v)
+  walks_on w v to = walks_through w v (step hay longest p i v) to (1, refl)
+
+  -- what a step makes of a walk
+  pub step_done : (w : Walking) → w.stack ≡ [] → step hay longest p i w ≡ w
+  unfolding stepped
+  step_done w is = ap (λ (l : List Thread). stepped hay longest p i l w) is
+
+  pub step_seen : (t : Thread) (rest : List Thread) (w : Walking) → w.stack ≡ t ∷ rest → was_seen hay longest i p w.seen t.state ≡ true →
+      step hay longest p i w ≡ dropped hay longest rest w
+  unfolding stepped
+  step_seen t rest w is was =
+      ap (λ (l : List Thread). stepped hay longest p i l w) is
+      ∙ ap (λ (b : Bool). cond b (dropped hay longest rest w) (visited hay longest i (state_of_thread hay longest i p t) t rest w)) was
+
+  pub step_new : (t : Thread) (rest : List Thread) (w : Walking) → w.stack ≡ t ∷ rest → was_seen hay longest i p w.seen t.state ≡ false →
+      step hay longest p i w ≡ visited hay longest i (state_at p.states t.state) t rest w
+  unfolding stepped
+  step_new t rest w is new =
+      ap (λ (l : List Thread). stepped hay longest p i l w) is
+      ∙ ap (λ (b : Bool). cond b (dropped hay longest rest w) (visited hay longest i (state_of_thread hay longest i p t) t rest w)) new
+
+  -- what a visit makes of it, by the kind of the state
+  pub visited_match : (st : State) → is_match st ≡ true → (t : Thread) (rest : List Thread) (w : Walking) →
+      visited hay longest i st t rest w ≡ at_match hay longest i t rest w
+  unfolding visited
+  visited_match match e t rest w = refl
+  visited_match (char q c) e t rest w = absurd (true≢false (sym e))
+  visited_match (ranges q rs) e t rest w = absurd (true≢false (sym e))
+  visited_match (splits qs b) e t rest w = absurd (true≢false (sym e))
+  visited_match (goto q look) e t rest w = absurd (true≢false (sym e))
+  visited_match (capture q k) e t rest w = absurd (true≢false (sym e))
+  visited_match fail e t rest w = absurd (true≢false (sym e))
+
+  pub visited_taken : (st : State) → takes st ≡ true → (t : Thread) (rest : List Thread) (w : Walking) →
+      visited hay longest i st t rest w ≡ taken hay longest i st t rest w
+  unfolding visited
+  visited_taken (char q c) e t rest w = refl
+  visited_taken (ranges q rs) e t rest w = refl
+  visited_taken match e t rest w = absurd (true≢false (sym e))
+  visited_taken (splits qs b) e t rest w = absurd (true≢false (sym e))
+  visited_taken (goto q look) e t rest w = absurd (true≢false (sym e))
+  visited_taken (capture q k) e t rest w = absurd (true≢false (sym e))
+  visited_taken fail e t rest w = absurd (true≢false (sym e))
+
+  pub visited_gone : (st : State) → is_match st ≡ false → takes st ≡ false → (t : Thread) (rest : List Thread) (w : Walking) →
+      visited hay longest i st t rest w ≡ gone hay longest i st t rest w
+  unfolding visited
+  visited_gone (splits qs b) e f t rest w = refl
+  visited_gone (goto q look) e f t rest w = refl
+  visited_gone (capture q k) e f t rest w = refl
+  visited_gone fail e f t rest w = refl
+  visited_gone match e f t rest w = absurd (true≢false e)
+  visited_gone (char q c) e f t rest w = absurd (true≢false f)
+  visited_gone (ranges q rs) e f t rest w = absurd (true≢false f)
+
+  -- the walk with other threads below its own, as far as its first match lets them go on
+  abbrev pub above : List Thread → Walking → Walking
+  above below w = record { stack = w.stack ++ kept hay longest w.first_match below; seen = w.seen; next = w.next; first_match = w.first_match; looks = w.looks }
+
+  filter_again : (test : Thread → Bool) (ts : List Thread) → filter test (filter test ts) ≡ filter test ts
+  filter_again test [] = refl
+  filter_again test (t ∷ ts) =
+      ⊎_elim
+      (λ (e : test t ≡ true). rw (e, e) (ap (λ (l : List Thread). t ∷ l) (filter_again test ts)))
+      (λ (e : test t ≡ false). rw e (filter_again test ts))
+      (cases_Bool (test t))
+
+  kept_above : (longest : Bool) (o : Option Thread) (t : Thread) (rest below : List Thread) →
+      kept hay longest (option_or o (Some t)) (rest ++ kept hay longest o below)
+      ≡ kept hay longest (option_or o (Some t)) rest ++ kept hay longest (option_or o (Some t)) below
+  kept_above true None t rest below = filter-append (λ u. nat_le u.start t.start) rest below
+  kept_above true (Some h) t rest below =
+      filter-append (λ u. nat_le u.start h.start) rest (filter (λ u. nat_le u.start h.start) below)
+      ∙ ap (λ (l : List Thread). filter (λ u. nat_le u.start h.start) rest ++ l) (filter_again (λ u. nat_le u.start h.start) below)
+  kept_above false None t rest below = refl
+  kept_above false (Some h) t rest below = refl
+
+  abbrev with_stack : Walking → List Thread → Walking
+  with_stack w stack = record { stack = stack; seen = w.seen; next = w.next; first_match = w.first_match; looks = w.looks }
+
+  gone_above : (below : List Thread) (st : State) (t : Thread) (rest : List Thread) (w : Walking) →
+      gone hay longest i st t (rest ++ kept hay longest w.first_match below) (above below w) ≡ above below (gone hay longest i st t rest w)
+  gone_above below st t rest w =
+      ap (with_stack (gone hay longest i st t rest w)) (sym (append_assoc (moved hay longest i st t) rest (kept hay longest w.first_match below)))
+
+  visited_above : (below : List Thread) (st : State) (t : Thread) (rest : List Thread) (w : Walking) →
+      visited hay longest i st t (rest ++ kept hay longest w.first_match below) (above below w) ≡ above below (visited hay longest i st t rest w)
+  unfolding visited
+  visited_above below match t rest w = ap (with_stack (at_match hay longest i t rest w)) (kept_above longest w.first_match t rest below)
+  visited_above below (char q c) t rest w = refl
+  visited_above below (ranges q rs) t rest w = refl
+  visited_above below (splits qs b) t rest w = gone_above below (splits qs b) t rest w
+  visited_above below (goto q look) t rest w = gone_above below (goto q look) t rest w
+  visited_above below (capture q k) t rest w = gone_above below (capture q k) t rest w
+  visited_above below fail t rest w = gone_above below fail t rest w
+
+  -- a step of the threads above is a step of all
+  step_above : (below : List Thread) (t : Thread) (rest : List Thread) (w : Walking) → w.stack ≡ t ∷ rest →
+      step hay longest p i (above below w) ≡ above below (step hay longest p i w)
+  step_above below t rest w is =
+      ⊎_elim
+      (λ (was : was_seen hay longest i p w.seen t.state ≡ true).
+      step_seen t (rest ++ kept hay longest w.first_match below) (above below w) (ap (λ (l : List Thread). l ++ kept hay longest w.first_match below) is) was
+      ∙ ap (above below) (sym (step_seen t rest w is was)))
+      (λ (new : was_seen hay longest i p w.seen t.state ≡ false).
+      step_new t (rest ++ kept hay longest w.first_match below) (above below w) (ap (λ (l : List Thread). l ++ kept hay longest w.first_match below) is) new
+      ∙ visited_above below (state_at p.states t.state) t rest w
+      ∙ ap (above below) (sym (step_new t rest w is new)))
+      (cases_Bool (was_seen hay longest i p w.seen t.state))
+
+  pub stack_cases : (ts : List Thread) → (ts ≡ []) ⊎ ((t : Thread) × (rest : List Thread) × (ts ≡ t ∷ rest))
+  stack_cases [] = inl refl
+  stack_cases (t ∷ ts) = inr (t, ts, refl)
+
+  iterate_done : (k : ℕ) (w : Walking) → w.stack ≡ [] → iterate (step hay longest p i) k w ≡ w
+  iterate_done zero w is = refl
+  iterate_done (suc k) w is = ap (iterate (step hay longest p i) k) (step_done w is) ∙ iterate_done k w is
+
+  iterate_above : (below : List Thread) (k : ℕ) (w v : Walking) → iterate (step hay longest p i) k w ≡ v → WalksTo hay longest p i (above below w) (above below v)
+  iterate_above below zero w v is = (0, ap (above below) is)
+  iterate_above below (suc k) w v is =
+      ⊎_elim
+      (λ (done : w.stack ≡ []). (0, ap (above below) (sym (iterate_done (suc k) w done) ∙ is)))
+      (λ some.
+      let on = iterate_above below k (step hay longest p i w) v is in
+      (suc on.0, ap (iterate (step hay longest p i) on.0) (step_above below some.0 some.1 w some.2) ∙ on.1))
+      (stack_cases w.stack)
+
+  -- a walk of the threads above is a walk of all
+  pub walks_above : (below : List Thread) (w v : Walking) → WalksTo hay longest p i w v → WalksTo hay longest p i (above below w) (above below v)
+  walks_above below w v (k, is) = iterate_above below k w v is

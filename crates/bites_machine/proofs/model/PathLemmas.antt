@@ -1,0 +1,67 @@
+-- Walks along edges: what they pass, and where they stay.
+use Rattle.std.proofs.Common.{◌≡◌, ℕ, zero, suc, ◌+◌, ◌<◌, ◌≤◌, Bool, true, false, ◌&&◌, List, [], ◌∷◌, ◌++◌, length, Option, Some, None, refl, sym, subst, arith, inl, inr, ⊎_elim, cond}
+use Rattle.std.specs.Prelude.{nat_lt, ◌==◌}
+use Rattle.std.proofs.lemmas.List.{length-map}
+use Rattle.bites_spec.specs.Utf8.{piece, places, step_len, character}
+use Rattle.bites_spec.specs.Look.{Look, holds}
+use Rattle.bites_spec.specs.Range.{in_ranges}
+use Rattle.bites_spec.specs.Walks.{Among, Walk}
+use Rattle.bites_spec.specs.Program.{State, Program, Configuration, at, edges, looking, targets_of, char, ranges, splits, goto, capture, fail, match}
+use Rattle.bites_spec.specs.Run.{leads, Runs, Reaches}
+use Rattle.bites_spec.proofs.utf8.PieceLemmas.{piece_within, Among-places}
+use Rattle.bites_machine.proofs.model.SweepLemmas.{places-here, places-past}
+
+-- a state has at each place at most as many edges as targets
+taking_one : (b : Bool) (t : Configuration) → length (cond b (t ∷ []) []) ≤ 1
+taking_one true t = omega arith
+taking_one false t = omega arith
+
+looking_one : (hay : List ℕ) (look : Option Look) (q i : ℕ) → length (looking hay look q i) ≤ 1
+looking_one hay None q i = omega arith
+looking_one hay (Some l) q i = taking_one (holds l hay i) (at q i)
+
+pub edges_within : (hay : List ℕ) (s : State) (i : ℕ) → length (edges hay s i) ≤ length (targets_of s)
+edges_within hay (char q c) i = taking_one (nat_lt 0 (piece hay i).len && (character (piece hay i) == c)) (at q (i + (piece hay i).len))
+edges_within hay (ranges q rs) i = taking_one (nat_lt 0 (piece hay i).len && in_ranges rs (character (piece hay i))) (at q (i + (piece hay i).len))
+edges_within hay (splits qs b) i = omega (arith, length-map (targets_of (splits qs b)) (λ q. at q i))
+edges_within hay (goto q look) i = looking_one hay look q i
+edges_within hay (capture q k) i = omega arith
+edges_within hay fail i = omega arith
+edges_within hay match i = omega arith
+
+-- behind a place of the list comes the one behind its piece
+pub place_on : (n : ℕ) (hay : List ℕ) (s i : ℕ) → length hay < n + s → Among (places hay s) i → 0 < (piece hay i).len → Among (places hay s) (i + (piece hay i).len)
+place_on zero hay s i room h some = absurd (subst (λ (l : List ℕ). Among l i) (places-past hay s (omega arith)) h)
+place_on (suc n) hay s i room h some =
+    let le : s ≤ length hay = (let r = Among-places hay s i h in omega (arith, r)) in
+    subst (λ (l : List ℕ). Among l (i + (piece hay i).len)) (sym (places-here hay s le))
+    (⊎_elim
+    (λ (here : s ≡ i). inr (subst (λ (k : ℕ). Among (places hay (s + step_len hay s)) k) (step here)
+    (subst (λ (l : List ℕ). Among l (s + step_len hay s)) (sym (places-here hay (s + step_len hay s) (fits here))) (inl refl))))
+    (λ later. inr (place_on n hay (s + step_len hay s) i (omega arith) later some))
+    (subst (λ (l : List ℕ). Among l i) (places-here hay s le) h))
+  where
+    step : s ≡ i → s + step_len hay s ≡ i + (piece hay i).len
+    step here = subst (λ (k : ℕ). k + step_len hay k ≡ i + (piece hay i).len) (sym here) (omega arith)
+
+    fits : s ≡ i → s + step_len hay s ≤ length hay
+    fits here = let le = (Among-places hay s i h).1 in omega (arith, step here, piece_within hay i le)
+
+module _ (p : Program) (hay : List ℕ) where
+  -- a list that no edge leaves has all that is reached from one of its configurations
+  pub closed_walk : (seen : List Configuration) → ((u : Configuration) → Among seen u → (v : Configuration) → Among (leads p hay u) v → Among seen v) →
+      (s : Configuration) (r : List Configuration) (t : Configuration) → Among seen s → Walk (leads p hay) (λ u. u ≡ t) s r → Among seen t
+  closed_walk seen closed s [] t h walk = subst (λ u. Among seen u) walk h
+  closed_walk seen closed s (q ∷ r) t h walk = closed_walk seen closed q r t (closed s h q walk.0) walk.1
+
+  -- one edge more
+  pub walk_on : (s : Configuration) (r : List Configuration) (u v : Configuration) → Walk (leads p hay) (λ x. x ≡ u) s r → Among (leads p hay u) v →
+      Walk (leads p hay) (λ x. x ≡ v) s (r ++ v ∷ [])
+  walk_on s [] u v walk edge = (subst (λ x. Among (leads p hay x) v) (sym walk) edge, refl)
+  walk_on s (q ∷ r) u v walk edge = (walk.0, walk_on q r u v walk.1 edge)
+
+  -- a run reaches each of its configurations
+  pub run_reaches : (s : Configuration) (r : List Configuration) (j : ℕ) (t : Configuration) → Runs p hay s r j → Among (s ∷ r) t → Reaches p hay s t
+  run_reaches s [] j t runs h = ⊎_elim (λ (e : s ≡ t). ([], e)) (λ (no : ⊥). absurd no) h
+  run_reaches s (q ∷ r) j t runs h =
+      ⊎_elim (λ (e : s ≡ t). ([], e)) (λ later. let on = run_reaches q r j t runs.1 later in (q ∷ on.0, (runs.0, on.1))) h

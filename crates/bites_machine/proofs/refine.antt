@@ -1,0 +1,14 @@
+-- The code takes the steps of the machine on lists.
+pub mod SearchResultLemmas
+pub mod IdleLemmas
+pub mod ClosesThreadLemmas
+pub mod ClosureSteps
+pub mod PlaceSteps
+pub mod PlaceLemmas
+pub mod BetweenStepsLemmas
+pub mod PlaceSearches
+pub mod HuntSteps
+pub mod AnchoredSteps
+pub mod SkipLemmas
+pub mod RestSteps
+pub mod StayLemmas

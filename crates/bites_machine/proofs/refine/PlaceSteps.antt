@@ -1,0 +1,180 @@
+-- A search that goes from place to place, and what it answers where it ends.
+use Rattle.std.proofs.Common.{◌≡◌, ℕ, zero, suc, ◌+◌, ◌<◌, ◌≤◌, Bool, true, false, ◌||◌, ◌&&◌, cond, List, [], ◌∷◌, map, length, Option, Some, None, replicate, refl, sym, ap, ap₂, ◌∙◌, subst, arith, true≢false}
+use Rattle.std.specs.Prelude.{◌==◌, is_some, IfSome}
+use Rattle.bites_spec.specs.Utf8.{piece}
+use Rattle.bites_spec.specs.Walks.{Among}
+use Rattle.bites_spec.specs.Program as program
+use Rattle.bites_spec.specs.Program.{Program, Configuration}
+use Rattle.bites_spec.specs.Counts.{Record, fit_of}
+use Rattle.bites_machine.specs.Machine as machine
+use Rattle.bites_machine.specs.Machine.{Searching, Searches, SearchedTo, at_start, is_over, is_empty}
+use Rattle.bites_machine.specs.SlotTable.{Pool}
+use Rattle.bites_machine.specs.Threads.{Listed}
+use Rattle.bites_machine.specs.Used.{IsUsed, slots_at}
+use Rattle.bites_machine.specs.Scratch.{thread_of, row_of}
+use Rattle.bites_machine.specs.Sweep.{SearchResult, InvariantBetweenSteps, HasRoom, IsIdle, IsProgramOf, StandsFor, PlaceSearched, HasReached, HasSearched}
+use Rattle.bites_machine.proofs.refine.IdleLemmas.{used_by_none}
+use Rattle.bites_machine.specs.declared.vm.threads.Thread.{Thread}
+use Rattle.bites_machine.specs.declared.vm.closure.Scratch.{Scratch}
+
+-- whether a search is over behind a place, as the code tests it
+abbrev pub ends_by : Bool → ℕ → Bool → ℕ → Bool
+ends_by earliest len is_found threads = (len == 0) || (is_found && (earliest || (threads == 0)))
+
+-- a search that is not over has a piece before it
+pub some_piece : (earliest : Bool) (len : ℕ) (is_found : Bool) (threads : ℕ) → ends_by earliest len is_found threads ≡ false → 0 < len
+some_piece earliest zero is_found threads on = absurd (true≢false on)
+some_piece earliest (suc n) is_found threads on = omega arith
+
+-- what holds of the state where runs start holds of the one that is explored, if one is
+pub of_first : (P : ℕ → Type 0) (is_found : Bool) (begins : Option ℕ) (first : ℕ) → begins ≡ cond is_found None (Some first) → P first →
+    IfSome begins P
+of_first P is_found begins first is holds = subst (λ (o : Option ℕ). IfSome o P) (sym is) (by_found is_found)
+  where
+    by_found : (b : Bool) → IfSome (cond b None (Some first)) P
+    by_found true = tt
+    by_found false = holds
+
+-- a program with room for its searches leaves a scratch between two places
+pub between_first : (p : Program) (states : List program.State) (place : ℕ) (walked : Record) (scratch : Scratch) (list : Listed) (slots_per_row : ℕ) →
+    p.states ≡ states → HasRoom (fit_of p) scratch list → IsIdle scratch list → walked.visits ≡ [] → slots_per_row ≡ scratch.rows.slots_per_row →
+    slots_at scratch.rows 0 ≡ replicate scratch.rows.slots_per_row None → length scratch.rows.rows ≡ length scratch.rows.ref_counts →
+    InvariantBetweenSteps states place walked scratch list slots_per_row
+between_first p states place walked scratch list slots_per_row same room idle visits wide nothing even =
+    subst (λ (ss : List program.State). InvariantBetweenSteps ss place walked scratch list slots_per_row) same (record {
+      visited_set = room.visited_set;
+      visits = λ v h. absurd (subst (λ (vs : List Configuration). Among vs v) visits h);
+      pending_len = room.pending_len;
+      stack = room.stack;
+      empty = room.empty;
+      more = room.next;
+      room = room.threads;
+      few = subst (λ (ts : List Thread). length ts ≤ length p.states) (sym idle.threads) (omega arith);
+      known = λ t h. absurd (subst (λ (ts : List Thread). Among ts t) idle.threads h);
+      used = subst (λ (ts : List Thread). IsUsed scratch.rows (map row_of ts)) (sym idle.threads) (used_by_none scratch.rows idle.free even nothing);
+      rows = room.rows;
+      wide = wide;
+    })
+
+-- a scratch between two places is so at a later place too
+pub between_later : (states : List program.State) (place later : ℕ) (walked : Record) (scratch : Scratch) (list : Listed) (slots_per_row : ℕ) →
+    place ≤ later → InvariantBetweenSteps states place walked scratch list slots_per_row → InvariantBetweenSteps states later walked scratch list slots_per_row
+between_later states place later walked scratch list slots_per_row le b = record {
+  visited_set = b.visited_set;
+  visits = λ v h. let lt = b.visits v h in omega arith;
+  pending_len = b.pending_len;
+  stack = b.stack;
+  empty = b.empty;
+  more = b.more;
+  room = b.room;
+  few = b.few;
+  known = b.known;
+  used = b.used;
+  rows = b.rows;
+  wide = b.wide;
+}
+
+-- between two places there is room for other searches of the program
+pub room_between : (p : Program) (states : List program.State) (place : ℕ) (walked : Record) (scratch : Scratch) (list : Listed) (slots_per_row : ℕ) (rows : Pool) (empty : Listed) →
+    p.states ≡ states → InvariantBetweenSteps states place walked scratch list slots_per_row → p.slots ≤ rows.max_slots → length rows.ref_counts ≡ length scratch.rows.ref_counts →
+    rows.pending ≡ scratch.rows.pending → empty.room ≡ list.room →
+    HasRoom (fit_of p) (record { visited_set = scratch.visited_set; stack = scratch.stack; rows = rows; next = scratch.next; first_match = scratch.first_match }) empty
+room_between p states place walked scratch list slots_per_row rows empty same between max_slots ref_counts pending room =
+    let b = subst (λ (ss : List program.State). InvariantBetweenSteps ss place walked scratch list slots_per_row) (sym same) between in
+    record {
+      visited_set = b.visited_set;
+      pending_len = ap length pending ∙ b.pending_len;
+      stack = b.stack;
+      empty = b.empty;
+      next = b.more;
+      threads = room ∙ b.room;
+      rows = ref_counts ∙ b.rows;
+      max_slots = max_slots;
+    }
+
+module _ (p : Program) (hay : List ℕ) (longest earliest : Bool) (start : ℕ) (old : List (Option ℕ)) where
+  -- a search begins at its start
+  pub reached_first : (walked : Record) (pool : Pool) (threads : List Thread) → walked.visits ≡ [] → walked.looks ≡ 0 → threads ≡ [] →
+      HasReached p hay longest earliest start old start false walked pool threads old
+  reached_first walked pool threads visits looks none = record {
+    places = 0;
+    now = at_start hay longest p (length old) start;
+    searched = refl;
+    stands = record {
+      place = refl;
+      threads = sym (ap (λ (ts : List Thread). map (thread_of pool) ts) none);
+      found = refl;
+      slots = refl;
+      visits = sym visits;
+      looks = sym looks;
+    };
+  }
+
+  -- one place more is searched
+  pub has_searched : (place here len first : ℕ) (text : List ℕ) (states : List program.State) (begins : Option ℕ) (is_found found : Bool) (was now : Record) (scratch new : Scratch) (threads later : List Thread) (slots left : List (Option ℕ)) →
+      text ≡ hay → here ≡ place → len ≡ (piece hay place).len → length slots ≡ length old → IsProgramOf p states first →
+      begins ≡ cond is_found None (Some first) → found ≡ (is_found || is_some new.first_match) →
+      HasReached p hay longest earliest start old place is_found was scratch.rows threads slots → PlaceSearched text longest here len states begins was now scratch new threads later slots left →
+      HasSearched p hay longest earliest start old place found now new.rows later left
+  has_searched place here len first text states begins is_found found was now scratch new threads later slots left texts heres lens same is begun founds gone one =
+      let there : PlaceSearched hay longest place (piece hay place).len states begins was now scratch new threads later slots left =
+      subst (λ (h : List ℕ). PlaceSearched h longest place (piece hay place).len states begins was now scratch new threads later slots left) texts
+      (subst (λ i. PlaceSearched text longest i (piece hay place).len states begins was now scratch new threads later slots left) heres
+      (subst (λ n. PlaceSearched text longest here n states begins was now scratch new threads later slots left) lens one)) in
+      let on = there.searches p is.states gone.now old is_found (begun ∙ ap (λ q. cond is_found None (Some q)) (sym is.start)) gone.stands in
+      record {
+        places = gone.places;
+        before = gone.now;
+        now = on.0;
+        searched = gone.searched;
+        place_is = gone.stands.place;
+        last = subst (λ n. Searches hay longest p n gone.now on.0) same on.1;
+        stands = subst (λ b. StandsFor on.0 (place + (piece hay place).len) new.rows later now old left b) (sym founds) on.2;
+      }
+
+  pub empty_by : (pool : Pool) (ts : List Thread) → is_empty (map (thread_of pool) ts) ≡ (length ts == 0)
+  empty_by pool [] = refl
+  empty_by pool (t ∷ ts) = grind arith
+
+  over_by : (place : ℕ) (is_found : Bool) (walked : Record) (pool : Pool) (threads : List Thread) (slots : List (Option ℕ)) →
+      (h : HasSearched p hay longest earliest start old place is_found walked pool threads slots) →
+      is_over hay longest p (length old) earliest h.before.place h.now ≡ ends_by earliest (piece hay place).len is_found (length threads)
+  over_by place is_found walked pool threads slots h =
+      ap (λ (i : ℕ). ((piece hay i).len == 0) || (is_some h.now.best && (earliest || is_empty h.now.threads))) h.place_is
+      ∙ ap₂ (λ (b e : Bool). ((piece hay place).len == 0) || (b && (earliest || e))) h.stands.found
+      (ap (λ (ts : List machine.Thread). is_empty ts) h.stands.threads ∙ empty_by pool threads)
+
+  -- a search that is not over has gone on to the next place
+  pub reached_next : (place len : ℕ) (is_found : Bool) (walked : Record) (pool : Pool) (threads : List Thread) (slots : List (Option ℕ)) (left : ℕ) →
+      HasSearched p hay longest earliest start old place is_found walked pool threads slots → len ≡ (piece hay place).len → left ≡ length threads → ends_by earliest len is_found left ≡ false →
+      HasReached p hay longest earliest start old (place + len) is_found walked pool threads slots
+  reached_next place len is_found walked pool threads slots left h lens lefts on = record {
+    places = suc h.places;
+    now = h.now;
+    searched = (
+      h.before,
+      h.searched,
+      h.last,
+      over_by place is_found walked pool threads slots h ∙ sym (ap₂ (λ n k. ends_by earliest n is_found k) lens lefts) ∙ on,
+    );
+    stands = subst (λ n. StandsFor h.now (place + n) pool threads walked old slots is_found) (sym lens) h.stands;
+  }
+
+  -- a search that is over was this one
+  pub result_by : (place len : ℕ) (is_found : Bool) (walked : Record) (pool : Pool) (threads : List Thread) (slots : List (Option ℕ)) (left : ℕ) →
+      HasSearched p hay longest earliest start old place is_found walked pool threads slots → len ≡ (piece hay place).len → left ≡ length threads → ends_by earliest len is_found left ≡ true →
+      SearchResult p hay longest earliest start is_found old slots walked
+  result_by place len is_found walked pool threads slots left h lens lefts over = record {
+    last = h.now;
+    searched = record {
+      places = h.places;
+      before = h.before;
+      searched = h.searched;
+      last = h.last;
+      over = over_by place is_found walked pool threads slots h ∙ sym (ap₂ (λ n k. ends_by earliest n is_found k) lens lefts) ∙ over;
+    };
+    found = h.stands.found;
+    slots = h.stands.slots;
+    visits = h.stands.visits;
+    looks = h.stands.looks;
+  }

@@ -1,0 +1,283 @@
+-- A visit of a state that writes a slot, or of a match, is a step of the machine on lists.
+use Rattle.std.proofs.Common.{◌≡◌, ℕ, suc, ◌+◌, ◌<◌, ◌≤◌, ◌⊎◌, ⊎_elim, inl, Bool, true, false, cond, List, [], ◌∷◌, ◌++◌, map, take, length, Option, Some, None, refl, sym, ap, ap₂, ◌∙◌, subst, arith, ltb-true, ltb-false, sum}
+use Rattle.std.specs.Prelude.{slice_index, slice_set, nat_lt, nat_le, if◌then◌else◌, is_some, slice_index_or, replicate}
+use Rattle.std.specs.Option.{option_or}
+use Rattle.std.specs.List.{filter}
+use Rattle.std.proofs.lemmas.List.{length-set, get_or-set_same, get_or-set_other, take_more_set, take-set-le, set_past}
+use Rattle.std.proofs.lemmas.Bool.{le-leb}
+use Rattle.std.proofs.lemmas.List.Elements.{filter-append}
+use Rattle.bites_spec.specs.Walks.{Among}
+use Rattle.bites_spec.specs.Program as program
+use Rattle.bites_spec.specs.Program.{Configuration, at, is_match}
+use Rattle.bites_machine.specs.Machine as machine
+use Rattle.bites_machine.specs.Machine.{Walking, kept, moved, visited, thread_on, with_write}
+use Rattle.bites_machine.specs.SlotTable.{Pool, with_pending}
+use Rattle.bites_machine.specs.Used.{IsUsed, slots_at}
+use Rattle.bites_machine.specs.Threads.{Listed}
+use Rattle.bites_machine.specs.Framed.{frame_at}
+use Rattle.bites_machine.specs.Scratch.{frame_of, first_match_of, walking_of, users_of, next_of, thread_of, row_of}
+use Rattle.bites_machine.specs.Visits.{ArePending, IsStarted, VisitsTo}
+use Rattle.bites_machine.specs.declared.vm.threads.Thread.{Thread}
+use Rattle.bites_machine.specs.declared.vm.stack.Frame.{Frame}
+use Rattle.bites_machine.specs.declared.vm.closure.FirstMatch.{FirstMatch}
+use Rattle.bites_machine.specs.declared.vm.closure.Scratch.{Scratch}
+use Rattle.bites_machine.proofs.tables.RowLemmas.{with_pending-push, length-with_pending}
+use Rattle.bites_machine.proofs.steps.VisitLemmas.{visited_capture, visited_match, pending_more, pending_kept, known_framed}
+
+-- the rows are the same under other pending slots
+same_rows : (old new : Pool) (users : List ℕ) → new.rows ≡ old.rows → new.ref_counts ≡ old.ref_counts → new.slots_per_row ≡ old.slots_per_row → IsUsed old users → IsUsed new users
+same_rows old new users rows ref_counts slots_per_row used = record {
+  ref_counts = λ r other. ap (λ (c : List ℕ). slice_index c r) ref_counts ∙ used.ref_counts r other;
+  known = λ r h. subst (λ (c : List ℕ). r < length c) (sym ref_counts) (used.known r h);
+  rows = ap length rows ∙ used.rows ∙ sym (ap length ref_counts);
+  nothing = slots 0 ∙ used.nothing ∙ ap (λ w. replicate w None) (sym slots_per_row);
+  wide = λ r h. ap length (slots r) ∙ used.wide r h ∙ sym slots_per_row;
+}
+  where
+    slots : (r : ℕ) → slots_at new r ≡ slots_at old r
+    slots r = ap (λ (rs : List (List (Option ℕ))). slice_index_or rs r []) rows
+
+-- pending slots behind those of the frames change nothing for them
+module _ (place : ℕ) (old new : Pool) (slot : ℕ) (t : Thread) (n : ℕ) (room : n < length old.pending) (pending : new.pending ≡ slice_set old.pending n slot) (rows : new.rows ≡ old.rows)
+    (slots_per_row : new.slots_per_row ≡ old.slots_per_row) where
+  front_same : (k : ℕ) → k ≤ n → take k new.pending ≡ take k old.pending
+  front_same k le = ap (take k) pending ∙ take-set-le k old.pending n slot le
+
+  pending_slot_same : (k : ℕ) → k < n → slice_index new.pending k ≡ slice_index old.pending k
+  pending_slot_same k lt = ap (λ (ks : List ℕ). slice_index ks k) pending ∙ get_or-set_other old.pending n k slot 0 (λ e. absurd (omega (arith, e, lt)))
+
+  own_same : slots_at new t.row ≡ slots_at old t.row
+  own_same = ap (λ (rs : List (List (Option ℕ))). slice_index_or rs t.row []) rows
+
+  frames_same : (max_slots : ℕ) (fs : List Frame) → max_slots ≤ n → ArePending old max_slots fs → map (frame_of place new t) fs ≡ map (frame_of place old t) fs
+  frames_same max_slots [] le pending_len = refl
+  frames_same max_slots (f ∷ fs) le pending_len =
+      ap₂ ◌∷◌
+      (ap₂ (λ ks row. record { state = f.state; start = t.start; slots = with_pending place ks row }) (front_same f.pending_len (omega (arith, pending_len.0, le))) own_same)
+      (frames_same f.pending_len fs (omega (arith, pending_len.0, le)) pending_len.2)
+
+  pending_same : (max_slots : ℕ) (fs : List Frame) → max_slots ≤ n → ArePending old max_slots fs → ArePending new max_slots fs
+  pending_same max_slots [] le pending_len = tt
+  pending_same max_slots (f ∷ fs) le pending_len = (
+    pending_len.0,
+    (λ k lt. subst (λ w. slice_index new.pending k < w) (sym slots_per_row) (subst (λ m. m < old.slots_per_row) (sym (pending_slot_same k (omega (arith, lt, pending_len.0, le)))) (pending_len.1 k lt))),
+    pending_same f.pending_len fs (omega (arith, pending_len.0, le)) pending_len.2,
+  )
+
+  one_pending_more : with_pending place (take (n + 1) new.pending) (slots_at new t.row) ≡ slice_set (with_pending place (take n old.pending) (slots_at old t.row)) slot (Some place)
+  one_pending_more =
+      ap₂ (with_pending place) (ap (take (n + 1)) pending ∙ take_more_set old.pending n slot room) own_same
+      ∙ with_pending-push place (take n old.pending) slot (slots_at old t.row)
+
+  all_pending : (max_slots : ℕ) → slot < old.slots_per_row → ((k : ℕ) → k < n → slice_index old.pending k < old.slots_per_row) → (k : ℕ) → k < n + 1 → slice_index new.pending k < new.slots_per_row
+  all_pending max_slots within before k lt =
+      subst (λ w. slice_index new.pending k < w) (sym slots_per_row)
+      (⊎_elim
+      (λ (a : k < n). subst (λ m. m < old.slots_per_row) (sym (pending_slot_same k a)) (before k a))
+      (λ (e : k ≡ n). subst (λ m. m < old.slots_per_row) (sym (ap₂ slice_index pending e ∙ get_or-set_same old.pending n slot 0 room)) within)
+      (below_or k n lt))
+    where
+      below_or : (k n : ℕ) → k < n + 1 → (k < n) ⊎ (k ≡ n)
+      below_or k n lt = grind (arith)
+
+module _ (hay : List ℕ) (longest : Bool) (place : ℕ) where
+  -- the scratch with other pending slots
+  abbrev with_rows : Scratch → Pool → Scratch
+  with_rows old pool = record { visited_set = old.visited_set; stack = old.stack; rows = pool; next = old.next; first_match = old.first_match }
+
+  -- a slot that is asked for becomes pending
+  pub capture_pending : (q slot : ℕ) (t : Thread) (f : Frame) (old : Scratch) (pool : Pool) (slots : List (Option ℕ)) → slot < old.rows.slots_per_row → f.pending_len < length old.rows.pending →
+      pool.pending ≡ slice_set old.rows.pending f.pending_len slot → pool.rows ≡ old.rows.rows → pool.ref_counts ≡ old.rows.ref_counts → pool.slots_per_row ≡ old.rows.slots_per_row → pool.max_slots ≡ old.rows.max_slots →
+      ArePending old.rows f.pending_len (f ∷ old.stack.frames) → IsStarted longest t.start old.first_match →
+      VisitsTo hay longest place (program.capture q slot) t f old (with_rows old pool) slots slots (Some (frame_at (f.pending_len + 1) q))
+  capture_pending q slot t f old pool slots within room pending rows ref_counts slots_per_row max_slots pending_len starts = record {
+    moves = λ others rest seen looks used.
+        visited_capture hay longest place q slot (frame_of place old.rows t f) (map (frame_of place old.rows t) old.stack.frames ++ rest) (walking_of place t old slots (f ∷ old.stack.frames) rest seen looks)
+        ∙ ap₂ (λ (row : List (Option ℕ)) (fs : List machine.Thread). record { stack = (record { state = q; start = t.start; slots = row } ∷ fs) ++ rest; seen = f.state ∷ seen; next = next_of old; first_match = first_match_of old.first_match slots; looks = suc looks })
+        (sym (one_pending_more place old.rows pool slot t f.pending_len room pending rows slots_per_row))
+        (sym (frames_same place old.rows pool slot t f.pending_len room pending rows slots_per_row f.pending_len old.stack.frames (omega arith) pending_len.2))
+        ∙ ap (λ (rs : List (List (Option ℕ))). record { stack = map (frame_of place pool t) (frame_at (f.pending_len + 1) q ∷ old.stack.frames) ++ rest; seen = f.state ∷ seen; next = map (λ (u : Thread). record { state = u.state; start = u.start; slots = slice_index_or rs u.row [] }) old.next.threads; first_match = first_match_of old.first_match slots; looks = suc looks })
+        (sym rows);
+    users = λ others used. same_rows old.rows pool (users_of old t others) rows ref_counts slots_per_row used;
+    pending = (
+      omega arith,
+      all_pending place old.rows pool slot t f.pending_len room pending rows slots_per_row 0 within pending_len.1,
+      pending_more pool f.pending_len (f.pending_len + 1) old.stack.frames (omega arith) (pending_same place old.rows pool slot t f.pending_len room pending rows slots_per_row f.pending_len old.stack.frames (omega arith) pending_len.2),
+    );
+    known = λ m targets known g h. known_framed m (f.pending_len + 1) (q ∷ []) old.stack.frames targets known g h;
+    hits = λ e. refl;
+    kept = λ r h. ap (λ (rs : List (List (Option ℕ))). slice_index_or rs r []) rows;
+    visited_set = refl;
+    slots_per_row = slots_per_row;
+    len = refl;
+    frames = omega arith;
+    next = omega arith;
+    sum = subst (λ (c : List ℕ). sum c ≤ sum old.rows.ref_counts + 1) (sym ref_counts) (omega arith);
+    rows = ap length ref_counts;
+    pending_len = ap length pending ∙ length-set old.rows.pending f.pending_len slot;
+    room = refl;
+    more = refl;
+    starts = starts;
+    stays = record { threads = λ row h. h; max_slots = max_slots; none = λ e. (e, refl) };
+  }
+
+  -- a slot that is not asked for does not
+  capture_passed : (q slot : ℕ) (t : Thread) (f : Frame) (old : Scratch) (pool : Pool) (slots : List (Option ℕ)) → old.rows.slots_per_row ≤ slot →
+      pool.pending ≡ old.rows.pending → pool.rows ≡ old.rows.rows → pool.ref_counts ≡ old.rows.ref_counts → pool.slots_per_row ≡ old.rows.slots_per_row → pool.max_slots ≡ old.rows.max_slots →
+      ArePending old.rows f.pending_len (f ∷ old.stack.frames) → IsStarted longest t.start old.first_match →
+      VisitsTo hay longest place (program.capture q slot) t f old (with_rows old pool) slots slots (Some (frame_at f.pending_len q))
+  capture_passed q slot t f old pool slots past pending rows ref_counts slots_per_row max_slots pending_len starts = record {
+    moves = λ others rest seen looks used.
+        let wide : length (with_pending place (take f.pending_len old.rows.pending) (slots_at old.rows t.row)) ≡ old.rows.slots_per_row =
+        length-with_pending place (take f.pending_len old.rows.pending) (slots_at old.rows t.row) ∙ used.wide t.row (inl refl) in
+        visited_capture hay longest place q slot (frame_of place old.rows t f) (map (frame_of place old.rows t) old.stack.frames ++ rest) (walking_of place t old slots (f ∷ old.stack.frames) rest seen looks)
+        ∙ ap (λ (row : List (Option ℕ)). record { stack = (record { state = q; start = t.start; slots = row } ∷ map (frame_of place old.rows t) old.stack.frames) ++ rest; seen = f.state ∷ seen; next = next_of old; first_match = first_match_of old.first_match slots; looks = suc looks })
+        (set_past (with_pending place (take f.pending_len old.rows.pending) (slots_at old.rows t.row)) slot (Some place) (omega (arith, wide, past)))
+        ∙ ap₂ (λ (ks : List ℕ) (rs : List (List (Option ℕ))). record {
+          stack = map (λ (g : Frame). record { state = g.state; start = t.start; slots = with_pending place (take g.pending_len ks) (slice_index_or rs t.row []) }) (frame_at f.pending_len q ∷ old.stack.frames) ++ rest;
+          seen = f.state ∷ seen;
+          next = map (λ (u : Thread). record { state = u.state; start = u.start; slots = slice_index_or rs u.row [] }) old.next.threads;
+          first_match = first_match_of old.first_match slots;
+          looks = suc looks;
+        })
+        (sym pending) (sym rows);
+    users = λ others used. same_rows old.rows pool (users_of old t others) rows ref_counts slots_per_row used;
+    pending = pending_kept hay longest place old.rows pool (f.pending_len + 1) (frame_at f.pending_len q ∷ old.stack.frames) pending slots_per_row (omega arith, pending_len.1, pending_len.2);
+    known = λ m targets known g h. known_framed m f.pending_len (q ∷ []) old.stack.frames targets known g h;
+    hits = λ e. refl;
+    kept = λ r h. ap (λ (rs : List (List (Option ℕ))). slice_index_or rs r []) rows;
+    visited_set = refl;
+    slots_per_row = slots_per_row;
+    len = refl;
+    frames = omega arith;
+    next = omega arith;
+    sum = subst (λ (c : List ℕ). sum c ≤ sum old.rows.ref_counts + 1) (sym ref_counts) (omega arith);
+    rows = ap length ref_counts;
+    pending_len = ap length pending;
+    room = refl;
+    more = refl;
+    starts = starts;
+    stays = record { threads = λ row h. h; max_slots = max_slots; none = λ e. (e, refl) };
+  }
+
+  pub visits_capture : (q slot n : ℕ) (t : Thread) (f : Frame) (old : Scratch) (pool : Pool) (slots : List (Option ℕ)) → f.pending_len < length old.rows.pending →
+      n ≡ (if nat_lt slot old.rows.slots_per_row then f.pending_len + 1 else f.pending_len) → pool.pending ≡ (if nat_lt slot old.rows.slots_per_row then slice_set old.rows.pending f.pending_len slot else old.rows.pending) →
+      pool.rows ≡ old.rows.rows → pool.ref_counts ≡ old.rows.ref_counts → pool.slots_per_row ≡ old.rows.slots_per_row → pool.max_slots ≡ old.rows.max_slots →
+      ArePending old.rows f.pending_len (f ∷ old.stack.frames) → IsStarted longest t.start old.first_match →
+      VisitsTo hay longest place (program.capture q slot) t f old (with_rows old pool) slots slots (Some (frame_at n q))
+  visits_capture q slot n t f old pool slots room count pending rows ref_counts slots_per_row max_slots pending_len starts =
+      by_test (nat_lt slot old.rows.slots_per_row) refl count pending
+    where
+      by_test : (b : Bool) → nat_lt slot old.rows.slots_per_row ≡ b → n ≡ (if b then f.pending_len + 1 else f.pending_len) → pool.pending ≡ (if b then slice_set old.rows.pending f.pending_len slot else old.rows.pending) →
+          VisitsTo hay longest place (program.capture q slot) t f old (with_rows old pool) slots slots (Some (frame_at n q))
+      by_test true e count pending =
+          subst (λ k. VisitsTo hay longest place (program.capture q slot) t f old (with_rows old pool) slots slots (Some (frame_at k q))) (sym count)
+          (capture_pending q slot t f old pool slots (ltb-true slot old.rows.slots_per_row e) room pending rows ref_counts slots_per_row max_slots pending_len starts)
+      by_test false e count pending =
+          subst (λ k. VisitsTo hay longest place (program.capture q slot) t f old (with_rows old pool) slots slots (Some (frame_at k q))) (sym count)
+          (capture_passed q slot t f old pool slots (ltb-false slot old.rows.slots_per_row e) pending rows ref_counts slots_per_row max_slots pending_len starts)
+
+  -- the frames of a thread stay where one that did not start before it came to a match
+  frames_stay : (pool : Pool) (t : Thread) (start : ℕ) (fs : List Frame) → t.start ≤ start →
+      filter (λ (u : machine.Thread). nat_le u.start start) (map (frame_of place pool t) fs) ≡ map (frame_of place pool t) fs
+  frames_stay pool t start [] le = refl
+  frames_stay pool t start (f ∷ fs) le =
+      ap (λ b. cond b (frame_of place pool t f ∷ filter (λ (u : machine.Thread). nat_le u.start start) (map (frame_of place pool t) fs)) (filter (λ (u : machine.Thread). nat_le u.start start) (map (frame_of place pool t) fs))) (le-leb t.start start le)
+      ∙ ap (λ us. frame_of place pool t f ∷ us) (frames_stay pool t start fs le)
+
+  -- what a match keeps of the frames and of the threads behind them
+  kept_parts : (pool : Pool) (t : Thread) (h : machine.Thread) (fs : List Frame) (rest : List machine.Thread) → (longest ≡ true → t.start ≤ h.start) →
+      kept hay longest (Some h) (map (frame_of place pool t) fs ++ rest) ≡ map (frame_of place pool t) (if longest then fs else []) ++ kept hay longest (Some h) rest
+  kept_parts pool t h fs rest starts = by_test longest refl
+    where
+      by_test : (b : Bool) → longest ≡ b →
+          (if b then filter (λ (u : machine.Thread). nat_le u.start h.start) (map (frame_of place pool t) fs ++ rest) else [])
+          ≡ map (frame_of place pool t) (if b then fs else []) ++ (if b then filter (λ (u : machine.Thread). nat_le u.start h.start) rest else [])
+      by_test false e = refl
+      by_test true e =
+          filter-append (λ (u : machine.Thread). nat_le u.start h.start) (map (frame_of place pool t) fs) rest
+          ∙ ap (λ us. us ++ filter (λ (u : machine.Thread). nat_le u.start h.start) rest) (frames_stay pool t h.start fs (starts e))
+
+  -- what a match makes of the first match
+  hit_same : (o : Option FirstMatch) (h : FirstMatch) (slots row : List (Option ℕ)) →
+      option_or (first_match_of o slots) (Some (record { state = h.state; start = h.start; slots = row })) ≡ first_match_of (option_or o (Some h)) (if is_some o then slots else row)
+  hit_same None h slots row = refl
+  hit_same (Some g) h slots row = refl
+
+  hit_parts : (o : Option FirstMatch) (t : Thread) (u : machine.Thread) (pool : Pool) (slots : List (Option ℕ)) (fs : List Frame) (rest : List machine.Thread) → u.start ≡ t.start → IsStarted longest t.start o →
+      kept hay longest (option_or (first_match_of o slots) (Some u)) (map (frame_of place pool t) fs ++ rest)
+      ≡ map (frame_of place pool t) (if longest then fs else []) ++ kept hay longest (option_or (first_match_of o slots) (Some u)) rest
+  hit_parts None t u pool slots fs rest same starts = kept_parts pool t u fs rest (λ e. omega (arith, same))
+  hit_parts (Some g) t u pool slots fs rest same starts = kept_parts pool t (record { state = g.state; start = g.start; slots = slots }) fs rest (λ e. starts e)
+
+  hit_started : (o : Option FirstMatch) (t : Thread) (f : Frame) → IsStarted longest t.start o → IsStarted longest t.start (option_or o (Some (record { state = f.state; start = t.start })))
+  hit_started None t f starts e = omega arith
+  hit_started (Some g) t f starts e = starts e
+
+  hit_len : (o : Option FirstMatch) (slots row : List (Option ℕ)) → length row ≡ length slots → length (if is_some o then slots else row) ≡ length slots
+  hit_len None slots row e = e
+  hit_len (Some g) slots row e = refl
+
+  hit_some : (o : Option FirstMatch) (h : FirstMatch) → option_or o (Some h) ≡ None → ⊥
+  hit_some None h e = cc
+  hit_some (Some g) h e = cc
+
+  cut_pending : (b : Bool) (pool : Pool) (max_slots : ℕ) (fs : List Frame) → ArePending pool max_slots fs → ArePending pool max_slots (if b then fs else [])
+  cut_pending true pool max_slots fs pending_len = pending_len
+  cut_pending false pool max_slots fs pending_len = tt
+
+  cut_among : (b : Bool) (fs : List Frame) (g : Frame) → Among (if b then fs else []) g → Among fs g
+  cut_among true fs g h = h
+  cut_among false fs g h = absurd h
+
+  cut_length : (b : Bool) (fs : List Frame) → length (if b then fs else []) ≤ length fs
+  cut_length true fs = omega arith
+  cut_length false fs = omega arith
+
+  pub visits_match : (t : Thread) (f : Frame) (old new : Scratch) (slots left : List (Option ℕ)) →
+      new.first_match ≡ option_or old.first_match (Some (record { state = f.state; start = t.start })) →
+      left ≡ (if is_some old.first_match then slots else with_pending place (take f.pending_len old.rows.pending) (slots_at old.rows t.row)) →
+      new.stack.frames ≡ (if longest then old.stack.frames else []) → new.stack.room ≡ old.stack.room → new.visited_set ≡ old.visited_set → new.rows ≡ old.rows → new.next ≡ old.next →
+      length (slots_at old.rows t.row) ≡ length slots → ArePending old.rows f.pending_len (f ∷ old.stack.frames) → IsStarted longest t.start old.first_match →
+      VisitsTo hay longest place program.match t f old new slots left None
+  visits_match t f old new slots left first_match kept_slots frames room visited_set rows next wide pending_len starts = record {
+    moves = λ others rest seen looks used.
+        visited_match hay longest place (frame_of place old.rows t f) (map (frame_of place old.rows t) old.stack.frames ++ rest) (walking_of place t old slots (f ∷ old.stack.frames) rest seen looks)
+        ∙ ap (λ (ts : List machine.Thread). record { stack = ts; seen = f.state ∷ seen; next = next_of old; first_match = option_or (first_match_of old.first_match slots) (Some (frame_of place old.rows t f)); looks = suc looks })
+        (hit_parts old.first_match t (frame_of place old.rows t f) old.rows slots old.stack.frames rest refl starts)
+        ∙ ap (λ (h : Option machine.Thread). record { stack = map (frame_of place old.rows t) (if longest then old.stack.frames else []) ++ kept hay longest h rest; seen = f.state ∷ seen; next = next_of old; first_match = h; looks = suc looks })
+        (hit_same old.first_match (record { state = f.state; start = t.start }) slots (with_pending place (take f.pending_len old.rows.pending) (slots_at old.rows t.row)) ∙ sym (ap₂ first_match_of first_match kept_slots))
+        ∙ ap₂ (λ (pool : Pool) (fs : List Frame). record { stack = map (frame_of place pool t) fs ++ kept hay longest (first_match_of new.first_match left) rest; seen = f.state ∷ seen; next = map (thread_of pool) old.next.threads; first_match = first_match_of new.first_match left; looks = suc looks })
+        (sym rows) (sym frames)
+        ∙ ap (λ (l : Listed). record { stack = map (frame_of place new.rows t) new.stack.frames ++ kept hay longest (first_match_of new.first_match left) rest; seen = f.state ∷ seen; next = map (thread_of new.rows) l.threads; first_match = first_match_of new.first_match left; looks = suc looks })
+        (sym next);
+    users = λ others used.
+        subst (λ (pool : Pool). IsUsed pool (users_of new t others)) (sym rows)
+        (subst (λ (l : Listed). IsUsed old.rows (t.row ∷ (map row_of l.threads ++ others))) (sym next) used);
+    pending = subst (λ (pool : Pool). ArePending pool (f.pending_len + 1) new.stack.frames) (sym rows)
+        (subst (ArePending old.rows (f.pending_len + 1)) (sym frames)
+        (cut_pending longest old.rows (f.pending_len + 1) old.stack.frames (pending_more old.rows f.pending_len (f.pending_len + 1) old.stack.frames (omega arith) pending_len.2)));
+    known = λ n targets known g h. known g (cut_among longest old.stack.frames g (subst (λ (gs : List Frame). Among gs g) frames h));
+    hits = λ e. absurd (differ e);
+    kept = λ r h. ap (λ (pool : Pool). slots_at pool r) rows;
+    visited_set = visited_set;
+    slots_per_row = ap (λ (pool : Pool). pool.slots_per_row) rows;
+    len = ap length kept_slots ∙ hit_len old.first_match slots (with_pending place (take f.pending_len old.rows.pending) (slots_at old.rows t.row))
+        (length-with_pending place (take f.pending_len old.rows.pending) (slots_at old.rows t.row) ∙ wide);
+    frames = omega (arith, ap length frames, cut_length longest old.stack.frames);
+    next = omega (arith, ap (λ (l : Listed). length l.threads) next);
+    sum = subst (λ (pool : Pool). sum pool.ref_counts ≤ sum old.rows.ref_counts + 1) (sym rows) (omega arith);
+    rows = ap (λ (pool : Pool). length pool.ref_counts) rows;
+    pending_len = ap (λ (pool : Pool). length pool.pending) rows;
+    room = room;
+    more = ap (λ (l : Listed). l.room) next;
+    starts = subst (IsStarted longest t.start) (sym first_match) (hit_started old.first_match t f starts);
+    stays = record {
+      threads = λ row h. subst (λ (l : Listed). Among (map row_of l.threads) row) (sym next) h;
+      max_slots = ap (λ (pool : Pool). pool.max_slots) rows;
+      none = λ e. absurd (hit_some old.first_match (record { state = f.state; start = t.start }) (sym first_match ∙ e));
+    };
+  }
+    where
+      differ : true ≡ false → ⊥
+      differ e = cc

@@ -1,0 +1,284 @@
+-- A visit of a state is a step of the machine on lists.
+use Rattle.std.proofs.Common.{◌≡◌, ℕ, suc, ◌+◌, ◌<◌, ◌≤◌, ⊎_elim, inl, inr, Bool, true, false, cond, ◌&&◌, List, [], ◌∷◌, ◌++◌, map, take, length, Option, Some, None, refl, sym, ap, ap₂, ◌∙◌, subst, arith, append_assoc, length-append}
+use Rattle.std.specs.Prelude.{option_to_list, slice_index, nat_lt, if◌then◌else◌, ◌==◌}
+use Rattle.std.proofs.lemmas.List.{map-append, append-nil, length-map}
+use Rattle.bites_spec.specs.Utf8.{piece, character}
+use Rattle.bites_spec.specs.Look.{Look}
+use Rattle.bites_spec.specs.Walks.{Among}
+use Rattle.bites_spec.specs.Program as program
+use Rattle.bites_spec.specs.Program.{Configuration, at, targets_of, is_match, taking, looking, edges}
+use Rattle.bites_machine.specs.Ends.{next_character, takes_by}
+use Rattle.bites_machine.specs.Machine as machine
+use Rattle.bites_machine.specs.Machine.{Walking, kept, moved, visited, thread_on, with_write}
+use Rattle.bites_machine.specs.SlotTable.{Pool, with_pending}
+use Rattle.bites_machine.specs.Used.{slots_at}
+use Rattle.bites_machine.specs.Stack.{Frames}
+use Rattle.bites_machine.specs.Framed.{framed, frame_at}
+use Rattle.bites_machine.specs.Scratch.{frame_of, first_match_of, walking_of, users_of, next_of, AddsThread}
+use Rattle.bites_machine.specs.Visits.{lets_on, ArePending, IsStarted, VisitsTo, behind}
+use Rattle.bites_machine.specs.declared.vm.threads.Thread.{Thread}
+use Rattle.bites_machine.specs.declared.vm.stack.Frame.{Frame}
+use Rattle.bites_machine.specs.declared.vm.closure.FirstMatch.{FirstMatch}
+use Rattle.bites_machine.specs.declared.vm.closure.Scratch.{Scratch}
+use Rattle.bites_machine.proofs.model.MachineCases.{gone, taken, at_match}
+use Rattle.bites_machine.proofs.tables.ScratchLemmas.{row_kept}
+use Rattle.std.specs.Bool.{MatchBool}
+use Rattle.bites_spec.specs.Range.{in_ranges}
+
+-- more pending slots may stand in front
+pub pending_more : (pool : Pool) (a b : ℕ) (fs : List Frame) → a ≤ b → ArePending pool a fs → ArePending pool b fs
+pending_more pool a b [] le pending_len = tt
+pending_more pool a b (f ∷ fs) le pending_len = (omega (arith, pending_len.0, le), pending_len.1, pending_len.2)
+
+-- the frames of a split have the pending slots of the thread
+pub pending_framed : (pool : Pool) (f : Frame) (qs : List ℕ) (fs : List Frame) → ArePending pool f.pending_len (f ∷ fs) → ArePending pool f.pending_len (framed f.pending_len qs ++ fs)
+pending_framed pool f [] fs pending_len = pending_len.2
+pending_framed pool f (q ∷ qs) fs pending_len = (omega arith, pending_len.1, pending_framed pool f qs fs pending_len)
+
+-- frames of known states
+abbrev pub AreKnown : ℕ → List Frame → Type 0
+AreKnown n fs = (g : Frame) → Among fs g → g.state < n
+
+pub known_framed : (n pending_len : ℕ) (qs : List ℕ) (fs : List Frame) → ((q : ℕ) → Among qs q → q < n) → AreKnown n fs → AreKnown n (framed pending_len qs ++ fs)
+known_framed n pending_len [] fs targets known g h = known g h
+known_framed n pending_len (q ∷ qs) fs targets known g h =
+    ⊎_elim (λ (e : frame_at pending_len q ≡ g). subst (λ (k : Frame). k.state < n) e (targets q (inl refl))) (λ l. known_framed n pending_len qs fs (λ r m. targets r (inr m)) known g l) h
+
+module _ (hay : List ℕ) (longest : Bool) (place : ℕ) where
+  visited_splits : (qs : List ℕ) (b : Bool) (t : machine.Thread) (rest : List machine.Thread) (w : Walking) →
+      visited hay longest place (program.splits qs b) t rest w ≡ gone hay longest place (program.splits qs b) t rest w
+  unfolding visited
+  visited_splits qs b t rest w = refl
+
+  visited_goto : (q : ℕ) (look : Option Look) (t : machine.Thread) (rest : List machine.Thread) (w : Walking) →
+      visited hay longest place (program.goto q look) t rest w ≡ gone hay longest place (program.goto q look) t rest w
+  unfolding visited
+  visited_goto q look t rest w = refl
+
+  pub visited_capture : (q k : ℕ) (t : machine.Thread) (rest : List machine.Thread) (w : Walking) →
+      visited hay longest place (program.capture q k) t rest w ≡ gone hay longest place (program.capture q k) t rest w
+  unfolding visited
+  visited_capture q k t rest w = refl
+
+  visited_fail : (t : machine.Thread) (rest : List machine.Thread) (w : Walking) →
+      visited hay longest place program.fail t rest w ≡ gone hay longest place program.fail t rest w
+  unfolding visited
+  visited_fail t rest w = refl
+
+  pub visited_char : (q c : ℕ) (t : machine.Thread) (rest : List machine.Thread) (w : Walking) →
+      visited hay longest place (program.char q c) t rest w ≡ taken hay longest place (program.char q c) t rest w
+  unfolding visited
+  visited_char q c t rest w = refl
+
+  pub visited_ranges : (q : ℕ) (rs : List (ℕ × ℕ)) (t : machine.Thread) (rest : List machine.Thread) (w : Walking) →
+      visited hay longest place (program.ranges q rs) t rest w ≡ taken hay longest place (program.ranges q rs) t rest w
+  unfolding visited
+  visited_ranges q rs t rest w = refl
+
+  pub visited_match : (t : machine.Thread) (rest : List machine.Thread) (w : Walking) →
+      visited hay longest place program.match t rest w ≡ at_match hay longest place t rest w
+  unfolding visited
+  visited_match t rest w = refl
+
+  -- the scratch with another stack
+  abbrev with_stack : Scratch → Frames → Scratch
+  with_stack old s = record { visited_set = old.visited_set; stack = s; rows = old.rows; next = old.next; first_match = old.first_match }
+
+  -- a state whose edges stay at the place
+  beside : (st : program.State) (t : Thread) (f : Frame) (old : Scratch) (s : Frames) (slots : List (Option ℕ)) (on : Option Frame) → is_match st ≡ false →
+      ((u : machine.Thread) (rest : List machine.Thread) (w : Walking) → visited hay longest place st u rest w ≡ gone hay longest place st u rest w) →
+      map (frame_of place old.rows t) (option_to_list on ++ s.frames) ≡ moved hay longest place st (frame_of place old.rows t f) ++ map (frame_of place old.rows t) old.stack.frames →
+      ArePending old.rows (f.pending_len + 1) (option_to_list on ++ s.frames) → length (option_to_list on ++ s.frames) ≤ length old.stack.frames + length (targets_of st) →
+      ((n : ℕ) → ((q : ℕ) → Among (targets_of st) q → q < n) → AreKnown n old.stack.frames → AreKnown n (option_to_list on ++ s.frames)) →
+      s.room ≡ old.stack.room → IsStarted longest t.start old.first_match → VisitsTo hay longest place st t f old (with_stack old s) slots slots on
+  beside st t f old s slots on plain opens frames pending len known room starts = record {
+    moves = λ others rest seen looks used.
+        opens (frame_of place old.rows t f) (map (frame_of place old.rows t) old.stack.frames ++ rest) (walking_of place t old slots (f ∷ old.stack.frames) rest seen looks)
+        ∙ ap (λ (ts : List machine.Thread). record { stack = ts; seen = f.state ∷ seen; next = next_of old; first_match = first_match_of old.first_match slots; looks = suc looks })
+        (sym (append_assoc (moved hay longest place st (frame_of place old.rows t f)) (map (frame_of place old.rows t) old.stack.frames) rest))
+        ∙ ap₂ (λ (ts rs : List machine.Thread). record { stack = ts ++ rs; seen = f.state ∷ seen; next = next_of old; first_match = first_match_of old.first_match slots; looks = suc looks }) (sym frames)
+        (ap (λ b. cond b (kept hay longest (first_match_of old.first_match slots) rest) rest) (sym plain));
+    users = λ others used. used;
+    pending = pending;
+    known = known;
+    hits = λ e. refl;
+    kept = λ row h. refl;
+    visited_set = refl;
+    slots_per_row = refl;
+    len = refl;
+    frames = len;
+    next = omega arith;
+    sum = omega arith;
+    rows = refl;
+    pending_len = refl;
+    room = room;
+    more = refl;
+    starts = starts;
+    stays = record { threads = λ row h. h; max_slots = refl; none = λ e. (e, refl) };
+  }
+
+  -- the targets of a split as threads
+  same_frames : (pool : Pool) (t : Thread) (f : Frame) (qs : List ℕ) →
+      map (frame_of place pool t) (framed f.pending_len qs)
+      ≡ map (thread_on t.start (with_pending place (take f.pending_len pool.pending) (slots_at pool t.row))) (map (λ q. at q place) qs)
+  same_frames pool t f [] = refl
+  same_frames pool t f (q ∷ qs) = ap (λ ts. frame_of place pool t (frame_at f.pending_len q) ∷ ts) (same_frames pool t f qs)
+
+  pub visits_splits : (qs : List ℕ) (b : Bool) (t : Thread) (f : Frame) (old : Scratch) (s : Frames) (slots : List (Option ℕ)) (on : Option Frame) →
+      option_to_list on ++ s.frames ≡ framed f.pending_len (targets_of (program.splits qs b)) ++ old.stack.frames → s.room ≡ old.stack.room →
+      ArePending old.rows f.pending_len (f ∷ old.stack.frames) → IsStarted longest t.start old.first_match →
+      VisitsTo hay longest place (program.splits qs b) t f old (with_stack old s) slots slots on
+  visits_splits qs b t f old s slots on frames room pending_len starts =
+      beside (program.splits qs b) t f old s slots on refl (visited_splits qs b)
+      (ap (map (frame_of place old.rows t)) frames ∙ map-append (frame_of place old.rows t) (framed f.pending_len (targets_of (program.splits qs b))) old.stack.frames
+      ∙ ap (λ ts. ts ++ map (frame_of place old.rows t) old.stack.frames) (same_frames old.rows t f (targets_of (program.splits qs b))))
+      (subst (ArePending old.rows (f.pending_len + 1)) (sym frames)
+      (pending_more old.rows f.pending_len (f.pending_len + 1) (framed f.pending_len (targets_of (program.splits qs b)) ++ old.stack.frames) (omega arith)
+      (pending_framed old.rows f (targets_of (program.splits qs b)) old.stack.frames pending_len)))
+      (omega (arith, ap length frames, length-append (framed f.pending_len (targets_of (program.splits qs b))) old.stack.frames, length-map (targets_of (program.splits qs b)) (frame_at f.pending_len)))
+      (λ n targets known g h. known_framed n f.pending_len (targets_of (program.splits qs b)) old.stack.frames targets known g (subst (λ (gs : List Frame). Among gs g) frames h))
+      room starts
+
+  let_on : (look : Option Look) (q : ℕ) → lets_on look hay place ≡ true → looking hay look q place ≡ at q place ∷ []
+  let_on None q e = refl
+  let_on (Some look) q e = ap (λ b. cond b (at q place ∷ []) []) e
+
+  held_up : (look : Option Look) (q : ℕ) → lets_on look hay place ≡ false → looking hay look q place ≡ []
+  held_up None q e = absurd (cc)
+  held_up (Some look) q e = ap (λ b. cond b (at q place ∷ []) []) e
+
+  pub visits_on : (q : ℕ) (look : Option Look) (t : Thread) (f : Frame) (old : Scratch) (slots : List (Option ℕ)) → lets_on look hay place ≡ true →
+      ArePending old.rows f.pending_len (f ∷ old.stack.frames) → IsStarted longest t.start old.first_match →
+      VisitsTo hay longest place (program.goto q look) t f old old slots slots (Some (frame_at f.pending_len q))
+  visits_on q look t f old slots e pending_len starts =
+      beside (program.goto q look) t f old old.stack slots (Some (frame_at f.pending_len q)) refl (visited_goto q look)
+      (ap (λ ss. map (thread_on t.start (with_pending place (take f.pending_len old.rows.pending) (slots_at old.rows t.row))) ss ++ map (frame_of place old.rows t) old.stack.frames) (sym (let_on look q e)))
+      (omega arith, pending_len.1, pending_len.2) (omega arith)
+      (λ n targets known g h. known_framed n f.pending_len (q ∷ []) old.stack.frames targets known g h) refl starts
+
+  pub visits_not_on : (q : ℕ) (look : Option Look) (t : Thread) (f : Frame) (old : Scratch) (slots : List (Option ℕ)) → lets_on look hay place ≡ false →
+      ArePending old.rows f.pending_len (f ∷ old.stack.frames) → IsStarted longest t.start old.first_match →
+      VisitsTo hay longest place (program.goto q look) t f old old slots slots None
+  visits_not_on q look t f old slots e pending_len starts =
+      beside (program.goto q look) t f old old.stack slots None refl (visited_goto q look)
+      (ap (λ ss. map (thread_on t.start (with_pending place (take f.pending_len old.rows.pending) (slots_at old.rows t.row))) ss ++ map (frame_of place old.rows t) old.stack.frames) (sym (held_up look q e)))
+      (pending_more old.rows f.pending_len (f.pending_len + 1) old.stack.frames (omega arith) pending_len.2) (omega arith) (λ n targets known g h. known g h) refl starts
+
+  pub visits_fail : (t : Thread) (f : Frame) (old : Scratch) (slots : List (Option ℕ)) →
+      ArePending old.rows f.pending_len (f ∷ old.stack.frames) → IsStarted longest t.start old.first_match →
+      VisitsTo hay longest place program.fail t f old old slots slots None
+  visits_fail t f old slots pending_len starts =
+      beside program.fail t f old old.stack slots None refl visited_fail refl
+      (pending_more old.rows f.pending_len (f.pending_len + 1) old.stack.frames (omega arith) pending_len.2) (omega arith) (λ n targets known g h. known g h) refl starts
+
+  -- whether a state that takes a character does
+  pub taking_by : (test : ℕ → Bool) (q : ℕ) → taking hay test q place ≡ (if takes_by test (next_character hay place) then at q (place + (piece hay place).len) ∷ [] else [])
+  taking_by test q = by_test (nat_lt 0 (piece hay place).len)
+    where
+      by_test : (b : Bool) →
+          (if b && test (character (piece hay place)) then at q (place + (piece hay place).len) ∷ [] else [])
+          ≡ (if takes_by test (if b then Some (character (piece hay place)) else None) then at q (place + (piece hay place).len) ∷ [] else [])
+      by_test true = refl
+      by_test false = refl
+
+  -- frames under rows whose pending slots and slots of the thread are the same
+  frames_kept : (pool next : Pool) (t : Thread) (fs : List Frame) → next.pending ≡ pool.pending → slots_at next t.row ≡ slots_at pool t.row →
+      map (frame_of place next t) fs ≡ map (frame_of place pool t) fs
+  frames_kept pool next t fs pending slots =
+      ap₂ (λ (ks : List ℕ) (row : List (Option ℕ)). map (λ (f : Frame). record { state = f.state; start = t.start; slots = with_pending place (take f.pending_len ks) row }) fs) pending slots
+
+  pub pending_kept : (pool next : Pool) (max_slots : ℕ) (fs : List Frame) → next.pending ≡ pool.pending → next.slots_per_row ≡ pool.slots_per_row → ArePending pool max_slots fs → ArePending next max_slots fs
+  pending_kept pool next max_slots [] pending slots_per_row pending_len = tt
+  pending_kept pool next max_slots (f ∷ fs) pending slots_per_row pending_len = (
+    pending_len.0,
+    (λ k lt. subst (λ w. slice_index next.pending k < w) (sym slots_per_row) (subst (λ (ks : List ℕ). slice_index ks k < pool.slots_per_row) (sym pending) (pending_len.1 k lt))),
+    pending_kept pool next f.pending_len fs pending slots_per_row pending_len.2,
+  )
+
+  module _ (st : program.State) (target : ℕ) (test : ℕ → Bool) (plain : is_match st ≡ false)
+      (opens : (u : machine.Thread) (rest : List machine.Thread) (w : Walking) → visited hay longest place st u rest w ≡ taken hay longest place st u rest w)
+      (leads : (u : machine.Thread) → moved hay longest place st u ≡ map (thread_on u.start u.slots) (taking hay test target place)) where
+    stays_out : (t : Thread) (f : Frame) (old : Scratch) (slots : List (Option ℕ)) → takes_by test (next_character hay place) ≡ false →
+        ArePending old.rows f.pending_len (f ∷ old.stack.frames) → IsStarted longest t.start old.first_match → VisitsTo hay longest place st t f old old slots slots None
+    stays_out t f old slots not pending_len starts = record {
+      moves = λ others rest seen looks used.
+          opens (frame_of place old.rows t f) (map (frame_of place old.rows t) old.stack.frames ++ rest) (walking_of place t old slots (f ∷ old.stack.frames) rest seen looks)
+          ∙ ap₂ (λ (ts rs : List machine.Thread). record { stack = map (frame_of place old.rows t) old.stack.frames ++ rs; seen = f.state ∷ seen; next = next_of old ++ ts; first_match = first_match_of old.first_match slots; looks = suc looks })
+          (leads (frame_of place old.rows t f)
+          ∙ ap (map (thread_on t.start (with_pending place (take f.pending_len old.rows.pending) (slots_at old.rows t.row))))
+          (taking_by test target ∙ ap (λ b. cond b (at target (place + (piece hay place).len) ∷ []) []) not))
+          (ap (λ b. cond b (kept hay longest (first_match_of old.first_match slots) rest) rest) (sym plain))
+          ∙ ap (λ (ts : List machine.Thread). record { stack = map (frame_of place old.rows t) old.stack.frames ++ behind hay longest st (first_match_of old.first_match slots) rest; seen = f.state ∷ seen; next = ts; first_match = first_match_of old.first_match slots; looks = suc looks })
+          (append-nil (next_of old));
+      users = λ others used. used;
+      pending = pending_more old.rows f.pending_len (f.pending_len + 1) old.stack.frames (omega arith) pending_len.2;
+      known = λ n targets known g h. known g h;
+      hits = λ e. refl;
+      kept = λ row h. refl;
+      visited_set = refl;
+      slots_per_row = refl;
+      len = refl;
+      frames = omega arith;
+      next = omega arith;
+      sum = omega arith;
+      rows = refl;
+      pending_len = refl;
+      room = refl;
+      more = refl;
+      starts = starts;
+      stays = record { threads = λ row h. h; max_slots = refl; none = λ e. (e, refl) };
+    }
+
+    goes_in : (t : Thread) (f : Frame) (old new : Scratch) (slots : List (Option ℕ)) → takes_by test (next_character hay place) ≡ true → AddsThread place target f.pending_len t old new →
+        ArePending old.rows f.pending_len (f ∷ old.stack.frames) → IsStarted longest t.start old.first_match → VisitsTo hay longest place st t f old new slots slots None
+    goes_in t f old new slots does puts pending_len starts = record {
+      moves = λ others rest seen looks used.
+          let own = row_kept old.rows new.rows (users_of old t others) used puts.only.kept t.row (inl refl) in
+          let frames : map (frame_of place new.rows t) new.stack.frames ≡ map (frame_of place old.rows t) old.stack.frames =
+          ap (λ (s : Frames). map (frame_of place new.rows t) s.frames) puts.only.stack ∙ frames_kept old.rows new.rows t old.stack.frames puts.only.pending own in
+          opens (frame_of place old.rows t f) (map (frame_of place old.rows t) old.stack.frames ++ rest) (walking_of place t old slots (f ∷ old.stack.frames) rest seen looks)
+          ∙ ap₂ (λ (ts rs : List machine.Thread). record { stack = map (frame_of place old.rows t) old.stack.frames ++ rs; seen = f.state ∷ seen; next = next_of old ++ ts; first_match = first_match_of old.first_match slots; looks = suc looks })
+          (leads (frame_of place old.rows t f)
+          ∙ ap (map (thread_on t.start (with_pending place (take f.pending_len old.rows.pending) (slots_at old.rows t.row))))
+          (taking_by test target ∙ ap (λ b. cond b (at target (place + (piece hay place).len) ∷ []) []) does))
+          (ap (λ b. cond b (kept hay longest (first_match_of old.first_match slots) rest) rest) (sym plain))
+          ∙ ap₂ (λ (fs ts : List machine.Thread). record { stack = fs ++ behind hay longest st (first_match_of old.first_match slots) rest; seen = f.state ∷ seen; next = ts; first_match = first_match_of old.first_match slots; looks = suc looks })
+          (sym frames) (sym (puts.next others used))
+          ∙ ap (λ (h : Option FirstMatch). record { stack = map (frame_of place new.rows t) new.stack.frames ++ behind hay longest st (first_match_of h slots) rest; seen = f.state ∷ seen; next = next_of new; first_match = first_match_of h slots; looks = suc looks })
+          (sym puts.only.first_match);
+      users = puts.users;
+      pending = pending_kept old.rows new.rows (f.pending_len + 1) new.stack.frames puts.only.pending puts.only.slots_per_row
+          (subst (λ (s : Frames). ArePending old.rows (f.pending_len + 1) s.frames) (sym puts.only.stack) (pending_more old.rows f.pending_len (f.pending_len + 1) old.stack.frames (omega arith) pending_len.2));
+      known = λ n targets known g h. known g (subst (λ (s : Frames). Among s.frames g) puts.only.stack h);
+      hits = λ e. ap (λ (h : Option FirstMatch). first_match_of h slots) puts.only.first_match;
+      kept = puts.only.kept;
+      visited_set = puts.only.visited_set;
+      slots_per_row = puts.only.slots_per_row;
+      len = refl;
+      frames = omega (arith, ap (λ (s : Frames). length s.frames) puts.only.stack);
+      next = omega (arith, puts.len);
+      sum = puts.only.sum;
+      rows = puts.only.rows;
+      pending_len = ap length puts.only.pending;
+      room = ap (λ (s : Frames). s.room) puts.only.stack;
+      more = puts.only.room;
+      starts = subst (IsStarted longest t.start) (sym puts.only.first_match) starts;
+      stays = record { threads = puts.threads; max_slots = puts.only.max_slots; none = λ e. (sym puts.only.first_match ∙ e, refl) };
+    }
+
+    pub visits_taken : (t : Thread) (f : Frame) (old new : Scratch) (slots : List (Option ℕ)) (takes : Bool) → takes ≡ takes_by test (next_character hay place) →
+        MatchBool takes (AddsThread place target f.pending_len t old new) (new ≡ old) →
+        ArePending old.rows f.pending_len (f ∷ old.stack.frames) → IsStarted longest t.start old.first_match → VisitsTo hay longest place st t f old new slots slots None
+    visits_taken t f old new slots true e put pending_len starts = goes_in t f old new slots (sym e) put pending_len starts
+    visits_taken t f old new slots false e same pending_len starts =
+        subst (λ (d : Scratch). VisitsTo hay longest place st t f old d slots slots None) (sym same) (stays_out t f old slots (sym e) pending_len starts)
+
+  pub visits_char : (q c : ℕ) (t : Thread) (f : Frame) (old new : Scratch) (slots : List (Option ℕ)) (takes : Bool) → takes ≡ takes_by (λ d. d == c) (next_character hay place) →
+      MatchBool takes (AddsThread place q f.pending_len t old new) (new ≡ old) →
+      ArePending old.rows f.pending_len (f ∷ old.stack.frames) → IsStarted longest t.start old.first_match → VisitsTo hay longest place (program.char q c) t f old new slots slots None
+  visits_char q c = visits_taken (program.char q c) q (λ d. d == c) refl (visited_char q c) (λ u. refl)
+
+  pub visits_ranges : (q : ℕ) (rs : List (ℕ × ℕ)) (t : Thread) (f : Frame) (old new : Scratch) (slots : List (Option ℕ)) (takes : Bool) → takes ≡ takes_by (in_ranges rs) (next_character hay place) →
+      MatchBool takes (AddsThread place q f.pending_len t old new) (new ≡ old) →
+      ArePending old.rows f.pending_len (f ∷ old.stack.frames) → IsStarted longest t.start old.first_match → VisitsTo hay longest place (program.ranges q rs) t f old new slots slots None
+  visits_ranges q rs = visits_taken (program.ranges q rs) q (in_ranges rs) refl (visited_ranges q rs) (λ u. refl)

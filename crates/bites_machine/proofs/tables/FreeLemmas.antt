@@ -1,0 +1,263 @@
+-- The free rows of a slot table.
+use Rattle.std.proofs.Common.{◌≡◌, ◌≢◌, ℕ, zero, suc, ◌+◌, ◌-◌, ◌*◌, ◌<◌, ◌≤◌, ⊎_elim, inl, inr, Bool, true, false, not, List, [], ◌∷◌, ◌++◌, take, length, sum, refl, sym, ap, ap₂, ◌∙◌, subst, arith, append_assoc, length-append, ne_eqb, cond}
+use Rattle.std.specs.Prelude.{slice_set, slice_index, count_by, replicate}
+use Rattle.std.proofs.lemmas.List.{length-set, get_or-set_same, get_or-set_other, length-replicate, set-append_left, set-append_right}
+use Rattle.std.proofs.lemmas.List.Sums.{sum_by-append, sum_by-set, sum_by-le-sum_by}
+use Rattle.std.proofs.lemmas.List.Folds.{sum_by-replicate}
+use Rattle.bites_spec.specs.Walks.{Among, AllApart, IsNew}
+use Rattle.bites_spec.proofs.programs.SlotLemmas.{Among-left, Among-right, AllApart-append}
+use Rattle.bites_machine.proofs.compile.EdgeLemmas.{Among-apart}
+use Rattle.bites_machine.specs.SlotTable.{AreFree, AreTaken, ref_counts_of, is_used, one_more, one_less}
+
+used_by : (n : ℕ) → ℕ
+used_by n = count_by is_used (n ∷ [])
+
+used_none : count_by is_used (0 ∷ []) ≡ 0
+used_none = refl
+
+used_some : (n : ℕ) → 0 < n → count_by is_used (n ∷ []) ≡ 1
+used_some zero h = absurd (omega arith)
+used_some (suc n) h = ap (λ b. 0 + cond (not b) 1 0) (ne_eqb (suc n) 0 (λ e. absurd (omega (arith, e))))
+
+-- how many rows are used after one count changed
+used_set : (ref_counts : List ℕ) (row v : ℕ) → row < length ref_counts →
+    count_by is_used (slice_set ref_counts row v) + count_by is_used (slice_index ref_counts row ∷ []) ≡ count_by is_used ref_counts + count_by is_used (v ∷ [])
+used_set ref_counts row v lt = grind (arith, sum_by-set)
+
+-- new last elements of distinct ones
+apart_push : (xs : List ℕ) (x : ℕ) → AllApart xs → IsNew x xs → AllApart (xs ++ x ∷ [])
+apart_push [] x apart new = (λ h. absurd h, tt)
+apart_push (y ∷ xs) x apart new = (
+  λ h. ⊎_elim (λ a. apart.0 a) (λ (b : Among (x ∷ []) y). ⊎_elim (λ (e : x ≡ y). new (inl (sym e))) (λ n. absurd n) b) (Among-apart xs (x ∷ []) y h),
+  apart_push xs x apart.1 (λ h. new (inr h)),
+)
+
+-- a row whose last user goes is free
+pub freed : (free ref_counts : List ℕ) (row : ℕ) → AreFree free ref_counts → row < length ref_counts → row ≢ 0 → 0 < slice_index ref_counts row →
+    AreFree (free ++ row ∷ []) (slice_set ref_counts row 0)
+freed free ref_counts row are known other used = record {
+  first = get_or-set_other ref_counts row 0 0 0 (λ e. other (sym e)) ∙ are.first;
+  some = subst (λ n. 0 < n) (sym (length-set ref_counts row 0)) are.some;
+  known = λ r h. ⊎_elim
+      (λ (a : Among free r). let old = are.known r a in
+      (subst (λ n. r < n) (sym (length-set ref_counts row 0)) old.0, old.1, get_or-set_other ref_counts row r 0 0 (apart_from r old.2) ∙ old.2))
+      (λ (b : Among (row ∷ []) r). ⊎_elim
+      (λ (e : row ≡ r). (subst (λ n. r < n) (sym (length-set ref_counts row 0)) (subst (λ q. q < length ref_counts) e known), (λ z. other (e ∙ z)), subst (λ q. slice_index (slice_set ref_counts row 0) q ≡ 0) e (get_or-set_same ref_counts row 0 0 known)))
+      (λ n. absurd n) b)
+      (Among-apart free (row ∷ []) r h);
+  apart = apart_push free row are.apart (λ h. absurd (omega (arith, (are.known row h).2)));
+  number = let e = used_set ref_counts row 0 known in
+      let one = used_some (slice_index ref_counts row) used in
+      omega (arith, length-append free (row ∷ []), e, one, used_none, are.number, length-set ref_counts row 0);
+}
+  where
+    apart_from : (r : ℕ) → slice_index ref_counts r ≡ 0 → r ≢ row
+    apart_from r none e = absurd (omega (arith, ap (λ q. slice_index ref_counts q) e))
+
+-- a row of some users has other users
+pub recounted : (free ref_counts : List ℕ) (row v : ℕ) → AreFree free ref_counts → row < length ref_counts → row ≢ 0 → 0 < slice_index ref_counts row → 0 < v →
+    AreFree free (slice_set ref_counts row v)
+recounted free ref_counts row v are known other used stays = record {
+  first = get_or-set_other ref_counts row 0 v 0 (λ e. other (sym e)) ∙ are.first;
+  some = subst (λ n. 0 < n) (sym (length-set ref_counts row v)) are.some;
+  known = λ r h. let old = are.known r h in
+      (subst (λ n. r < n) (sym (length-set ref_counts row v)) old.0, old.1, get_or-set_other ref_counts row r v 0 (apart_from r old.2) ∙ old.2);
+  apart = are.apart;
+  number = let e = used_set ref_counts row v known in
+      omega (arith, e, used_some (slice_index ref_counts row) used, used_some v stays, are.number, length-set ref_counts row v);
+}
+  where
+    apart_from : (r : ℕ) → slice_index ref_counts r ≡ 0 → r ≢ row
+    apart_from r none e = absurd (omega (arith, ap (λ q. slice_index ref_counts q) e))
+
+-- the last free row gets a user
+pub taken : (free ref_counts : List ℕ) (row : ℕ) → AreFree (free ++ row ∷ []) ref_counts → AreFree free (slice_set ref_counts row 1)
+taken free ref_counts row are =
+    let mine = are.known row (Among-right free (row ∷ []) row (inl refl)) in
+    record {
+      first = get_or-set_other ref_counts row 0 1 0 (λ e. mine.1 (sym e)) ∙ are.first;
+      some = subst (λ n. 0 < n) (sym (length-set ref_counts row 1)) are.some;
+      known = λ r h. let old = are.known r (Among-left free (row ∷ []) r h) in
+          (subst (λ n. r < n) (sym (length-set ref_counts row 1)) old.0, old.1, get_or-set_other ref_counts row r 1 0 (λ e. new r h e) ∙ old.2);
+      apart = (AllApart-append free (row ∷ []) are.apart).0;
+      number = let e = used_set ref_counts row 1 mine.0 in
+          let none = ap (λ n. count_by is_used (n ∷ [])) mine.2 in
+          omega (arith, e, none, used_none, used_some 1 (omega arith), are.number, length-append free (row ∷ []), length-set ref_counts row 1);
+    }
+  where
+    not_among : (xs : List ℕ) (x : ℕ) → AllApart (xs ++ x ∷ []) → Among xs x → ⊥
+    not_among [] x apart h = h
+    not_among (y ∷ xs) x apart h = ⊎_elim (λ (e : y ≡ x). apart.0 (Among-right xs (x ∷ []) y (inl (sym e)))) (λ l. not_among xs x apart.1 l) h
+
+    new : (r : ℕ) → Among free r → r ≢ row
+    new r h e = not_among free row are.apart (subst (λ q. Among free q) e h)
+
+used-le-sum : (ref_counts : List ℕ) → count_by is_used ref_counts ≤ sum ref_counts
+used-le-sum ref_counts = sum_by-le-sum_by (λ n. cond (is_used n) 1 0) (λ n. n) ref_counts one_at_most
+  where
+    cond_most : (b : Bool) (n : ℕ) → cond b 1 0 ≤ suc n
+    cond_most true n = omega arith
+    cond_most false n = omega arith
+
+    one_at_most : (n : ℕ) → cond (is_used n) 1 0 ≤ n
+    one_at_most zero = omega arith
+    one_at_most (suc n) = cond_most (is_used (suc n)) n
+
+sum-ref_counts_of : (row_count : ℕ) (ref_counts : List ℕ) → sum (ref_counts_of row_count ref_counts) ≡ sum ref_counts
+sum-ref_counts_of row_count ref_counts =
+    omega (
+      arith,
+      sum_by-append (λ n. n) ref_counts (replicate (row_count - length ref_counts) 0),
+      sum_by-replicate (λ n. n) (row_count - length ref_counts) 0,
+      nothing (row_count - length ref_counts),
+    )
+  where
+    nothing : (n : ℕ) → n * 0 ≡ 0
+    nothing n = omega arith
+
+pub length-ref_counts_of : (row_count : ℕ) (ref_counts : List ℕ) → length ref_counts ≤ row_count → length (ref_counts_of row_count ref_counts) ≡ row_count
+length-ref_counts_of row_count ref_counts few =
+    omega (arith, length-append ref_counts (replicate (row_count - length ref_counts) 0), length-replicate {A = ℕ} (row_count - length ref_counts) 0, few)
+
+-- some row was never taken where none is free and there are fewer users than rows
+pub some_left : (row_count : ℕ) (ref_counts : List ℕ) → AreFree [] ref_counts → length ref_counts ≤ row_count →
+    sum (ref_counts_of row_count ref_counts) + 1 < length (ref_counts_of row_count ref_counts) → length ref_counts < row_count
+some_left row_count ref_counts are few room =
+    let number : 0 + count_by is_used ref_counts + 1 ≡ length ref_counts = are.number in
+    omega (arith, number, used-le-sum ref_counts, sum-ref_counts_of row_count ref_counts, length-ref_counts_of row_count ref_counts few, room)
+
+-- a row that was never taken gets a user
+pub grown : (ref_counts : List ℕ) → AreFree [] ref_counts → AreFree [] (ref_counts ++ 1 ∷ [])
+grown ref_counts are = record {
+  first = first ref_counts are.some are.first;
+  some = omega (arith, length-append ref_counts (1 ∷ []));
+  known = λ r h. absurd h;
+  apart = tt;
+  number = let number : 0 + count_by is_used ref_counts + 1 ≡ length ref_counts = are.number in
+      omega (arith, number, sum_by-append (λ n. cond (is_used n) 1 0) ref_counts (1 ∷ []), used_some 1 (omega arith), length-append ref_counts (1 ∷ []));
+}
+  where
+    first : (ref_counts : List ℕ) → 0 < length ref_counts → slice_index ref_counts 0 ≡ 0 → slice_index (ref_counts ++ 1 ∷ []) 0 ≡ 0
+    first [] some is = absurd (omega arith)
+    first (n ∷ ref_counts) some is = is
+
+-- at first row 0 alone is taken
+pub first_taken : AreFree [] (0 ∷ [])
+first_taken = record {
+  first = refl;
+  some = omega arith;
+  known = λ r h. absurd h;
+  apart = tt;
+  number = refl;
+}
+
+-- row 0 alone is left where a search begins
+pub first_left : (free ref_counts : List ℕ) → AreFree free ref_counts → take 1 ref_counts ≡ 0 ∷ []
+first_left free ref_counts are = only ref_counts are.some are.first
+  where
+    only : (ref_counts : List ℕ) → 0 < length ref_counts → slice_index ref_counts 0 ≡ 0 → take 1 ref_counts ≡ 0 ∷ []
+    only [] some is = absurd (omega arith)
+    only (n ∷ ref_counts) some is = ap (λ k. k ∷ []) is
+
+-- no row has users at first
+pub none_at : (n row : ℕ) → slice_index (replicate n 0) row ≡ 0
+none_at zero row = refl
+none_at (suc n) zero = refl
+none_at (suc n) (suc row) = none_at n row
+
+none_behind : (ref_counts : List ℕ) (n row : ℕ) → slice_index (ref_counts ++ replicate n 0) row ≡ slice_index ref_counts row
+none_behind [] n row = none_at n row
+none_behind (c ∷ ref_counts) n zero = refl
+none_behind (c ∷ ref_counts) n (suc row) = none_behind ref_counts n row
+
+-- a row that was never taken has no users
+pub count_at : (row_count : ℕ) (ref_counts : List ℕ) (row : ℕ) → slice_index (ref_counts_of row_count ref_counts) row ≡ slice_index ref_counts row
+count_at row_count ref_counts row = none_behind ref_counts (row_count - length ref_counts) row
+
+-- no row has users where row 0 alone is taken
+pub no_users : (row_count row : ℕ) → slice_index (ref_counts_of row_count (0 ∷ [])) row ≡ 0
+no_users row_count row = count_at row_count (0 ∷ []) row ∙ none_at 1 row
+
+-- a row that has users was taken
+used_taken : (ref_counts : List ℕ) (row : ℕ) → 0 < slice_index ref_counts row → row < length ref_counts
+used_taken [] row used = absurd (omega arith)
+used_taken (c ∷ ref_counts) zero used = omega arith
+used_taken (c ∷ ref_counts) (suc row) used = let rest = used_taken ref_counts row used in omega (arith, rest)
+
+-- a row that has users, and row 0, was taken
+pub is_taken : (row_count : ℕ) (free ref_counts : List ℕ) (row : ℕ) → AreFree free ref_counts → (row ≢ 0 → 0 < slice_index (ref_counts_of row_count ref_counts) row) → row < length ref_counts
+is_taken row_count free ref_counts zero are used = are.some
+is_taken row_count free ref_counts (suc row) are used =
+    used_taken ref_counts (suc row) (subst (λ n. 0 < n) (count_at row_count ref_counts (suc row)) (used (λ e. absurd (omega (arith, e)))))
+
+-- another count of a row that was taken
+pub count_set : (row_count : ℕ) (ref_counts : List ℕ) (row v : ℕ) → row < length ref_counts → ref_counts_of row_count (slice_set ref_counts row v) ≡ slice_set (ref_counts_of row_count ref_counts) row v
+count_set row_count ref_counts row v known =
+    ap (λ n. slice_set ref_counts row v ++ replicate (row_count - n) 0) (length-set ref_counts row v)
+    ∙ sym (set-append_left ref_counts (replicate (row_count - length ref_counts) 0) row v known)
+
+-- one row more is taken
+pub count_pushed : (row_count : ℕ) (ref_counts : List ℕ) (v : ℕ) → length ref_counts < row_count → ref_counts_of row_count (ref_counts ++ v ∷ []) ≡ slice_set (ref_counts_of row_count ref_counts) (length ref_counts) v
+count_pushed row_count ref_counts v few =
+    append_assoc ref_counts (v ∷ []) (replicate (row_count - length (ref_counts ++ v ∷ [])) 0)
+    ∙ ap (λ n. ref_counts ++ (v ∷ replicate n 0)) (less row_count (length ref_counts) (length (ref_counts ++ v ∷ [])) (length-append ref_counts (v ∷ [])))
+    ∙ ap (λ l. ref_counts ++ l) (at_first (row_count - length ref_counts) v (omega (arith, few)))
+    ∙ sym (set-append_right ref_counts (replicate (row_count - length ref_counts) 0) (length ref_counts) (length ref_counts) v refl (omega arith)
+    ∙ ap (λ n. ref_counts ++ slice_set (replicate (row_count - length ref_counts) 0) n v) (no_more (length ref_counts)))
+  where
+    less : (row_count n m : ℕ) → m ≡ n + 1 → row_count - m ≡ row_count - n - 1
+    less row_count n m e = omega (arith, e)
+
+    no_more : (n : ℕ) → n - n ≡ 0
+    no_more n = omega arith
+
+    at_first : (n v : ℕ) → 0 < n → v ∷ replicate (n - 1) 0 ≡ slice_set (replicate n 0) 0 v
+    at_first zero v some = absurd (omega arith)
+    at_first (suc n) v some = ap (λ k. v ∷ replicate k 0) (one_less n)
+      where
+        one_less : (n : ℕ) → suc n - 1 ≡ n
+        one_less n = omega arith
+
+-- one user more of a row that was taken
+pub count_more : (row_count : ℕ) (ref_counts : List ℕ) (row n : ℕ) → row ≢ 0 → row < length ref_counts → n ≡ slice_index ref_counts row →
+    ref_counts_of row_count (slice_set ref_counts row (n + 1)) ≡ one_more (ref_counts_of row_count ref_counts) row
+count_more row_count ref_counts row n other known is =
+    count_set row_count ref_counts row (n + 1) known
+    ∙ ap (λ k. slice_set (ref_counts_of row_count ref_counts) row (k + 1)) (is ∙ sym (count_at row_count ref_counts row))
+    ∙ ap (λ b. cond b (ref_counts_of row_count ref_counts) (slice_set (ref_counts_of row_count ref_counts) row (slice_index (ref_counts_of row_count ref_counts) row + 1))) (sym (ne_eqb row 0 other))
+
+-- one user less of a row that was taken
+pub count_less : (row_count : ℕ) (ref_counts : List ℕ) (row n : ℕ) → row ≢ 0 → row < length ref_counts → n ≡ slice_index ref_counts row →
+    ref_counts_of row_count (slice_set ref_counts row (n - 1)) ≡ one_less (ref_counts_of row_count ref_counts) row
+count_less row_count ref_counts row n other known is =
+    count_set row_count ref_counts row (n - 1) known
+    ∙ ap (λ k. slice_set (ref_counts_of row_count ref_counts) row (k - 1)) (is ∙ sym (count_at row_count ref_counts row))
+    ∙ ap (λ b. cond b (ref_counts_of row_count ref_counts) (slice_set (ref_counts_of row_count ref_counts) row (slice_index (ref_counts_of row_count ref_counts) row - 1))) (sym (ne_eqb row 0 other))
+
+-- a row that was taken has another count
+pub taken_set : (row_count slots_per_row max_slots row v : ℕ) (words ref_counts unused rest : List ℕ) → AreTaken row_count slots_per_row max_slots words ref_counts unused →
+    AreFree rest (slice_set ref_counts row v) → AreTaken row_count slots_per_row max_slots words (slice_set ref_counts row v) rest
+taken_set row_count slots_per_row max_slots row v words ref_counts unused rest are free = record {
+  free = free;
+  few = subst (λ n. n ≤ row_count) (sym (length-set ref_counts row v)) are.few;
+  slots = are.slots ∙ ap (λ n. n * slots_per_row) (sym (length-set ref_counts row v));
+  wide = are.wide;
+}
+
+-- one row more is taken
+pub taken_more : (row_count slots_per_row max_slots : ℕ) (words ref_counts more : List ℕ) → AreTaken row_count slots_per_row max_slots words ref_counts [] →
+    length ref_counts < row_count → length more ≡ slots_per_row → AreTaken row_count slots_per_row max_slots (words ++ more) (ref_counts ++ 1 ∷ []) []
+taken_more row_count slots_per_row max_slots words ref_counts more are few len = record {
+  free = grown ref_counts are.free;
+  few = omega (arith, length-append ref_counts (1 ∷ []), few);
+  slots = length-append words more ∙ ap₂ ◌+◌ are.slots len ∙ sym (ap (λ n. n * slots_per_row) (length-append ref_counts (1 ∷ [])) ∙ one_row (length ref_counts) slots_per_row);
+  wide = are.wide;
+}
+  where
+    one_row : (n w : ℕ) → (n + 1) * w ≡ n * w + w
+    one_row n w = grind arith
+
+-- the last of the free rows
+pub last_free : (free ref_counts : List ℕ) (row : ℕ) (rest : List ℕ) → free ≡ rest ++ row ∷ [] → AreFree free ref_counts →
+    (row < length ref_counts) × (row ≢ 0) × (slice_index ref_counts row ≡ 0)
+last_free free ref_counts row rest is are = are.known row (subst (λ xs. Among xs row) (sym is) (Among-right rest (row ∷ []) row (inl refl)))

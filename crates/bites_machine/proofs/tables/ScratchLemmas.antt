@@ -1,0 +1,117 @@
+-- The threads that the machine holds, when one comes.
+use Rattle.std.proofs.Common.{◌≡◌, ◌≢◌, ℕ, ◌+◌, ◌<◌, ⊎_elim, inl, inr, cond, List, [], ◌∷◌, ◌++◌, map, length, refl, sym, ap, ap₂, ◌∙◌, subst, arith, length-append}
+use Rattle.std.specs.Prelude.{◌==◌, slice_index, count_by}
+use Rattle.std.proofs.lemmas.List.{map-append}
+use Rattle.std.proofs.lemmas.List.Sums.{sum_by-cons, sum_by-append}
+use Rattle.bites_spec.specs.Walks.{Among}
+use Rattle.bites_spec.proofs.programs.SlotLemmas.{Among-left, Among-right}
+use Rattle.bites_machine.proofs.compile.EdgeLemmas.{Among-apart}
+use Rattle.bites_machine.specs.SlotTable.{Pool}
+use Rattle.bites_machine.specs.Used.{IsUsed, KeepsRows, ForksTo, slots_at}
+use Rattle.bites_machine.specs.Scratch.{thread_of, users_of, row_of, AddsThread}
+use Rattle.bites_machine.specs.declared.vm.threads.Thread.{Thread}
+use Rattle.bites_machine.specs.declared.vm.closure.Scratch.{Scratch}
+use Rattle.bites_machine.proofs.tables.UsedLemmas.{same_or_not, users_more}
+
+-- how often a row is used
+abbrev pub uses : ℕ → List ℕ → ℕ
+uses r users = count_by (λ u. u == r) users
+
+-- the same users in another order
+pub reordered : (pool : Pool) (xs ys : List ℕ) → IsUsed pool xs → ((r : ℕ) → uses r ys ≡ uses r xs) → ((r : ℕ) → Among ys r → Among xs r) → IsUsed pool ys
+reordered pool xs ys used same within = record {
+  ref_counts = λ r other. used.ref_counts r other ∙ sym (same r);
+  known = λ r h. used.known r (within r h);
+  rows = used.rows;
+  nothing = used.nothing;
+  wide = λ r h. used.wide r (within r h);
+}
+
+pub uses-cons : (r u : ℕ) (users : List ℕ) → uses r (u ∷ users) ≡ cond (u == r) 1 0 + uses r users
+uses-cons r u users = sum_by-cons (λ v. cond (v == r) 1 0) u users
+
+pub uses-append : (r : ℕ) (xs ys : List ℕ) → uses r (xs ++ ys) ≡ uses r xs + uses r ys
+uses-append r xs ys = sum_by-append (λ v. cond (v == r) 1 0) xs ys
+
+-- a user is counted
+pub counted_user : (r : ℕ) (users : List ℕ) → Among users r → 0 < uses r users
+counted_user r [] h = absurd h
+counted_user r (u ∷ users) h =
+    ⊎_elim (λ (e : u ≡ r). omega (arith, users_more r u users e))
+    (λ l. omega (arith, uses-cons r u users, counted_user r users l)) h
+
+-- the row of a user is 0, or is counted
+pub row_kept : (old new : Pool) (users : List ℕ) → IsUsed old users → KeepsRows old new → (r : ℕ) → Among users r → slots_at new r ≡ slots_at old r
+row_kept old new users used kept r h =
+    kept r (⊎_elim (λ e. inl e) (λ (n : r ≢ 0). let some : 0 < slice_index old.ref_counts r = omega (arith, used.ref_counts r n, counted_user r users h) in inr some) (same_or_not r 0))
+
+-- threads whose rows are kept have the slots that they had
+pub threads_kept : (old new : Pool) (ts : List Thread) → ((r : ℕ) → Among (map row_of ts) r → slots_at new r ≡ slots_at old r) → map (thread_of new) ts ≡ map (thread_of old) ts
+threads_kept old new [] kept = refl
+threads_kept old new (t ∷ ts) kept =
+    ap₂ ◌∷◌ (ap (λ s. record { state = t.state; start = t.start; slots = s }) (kept t.row (inl refl))) (threads_kept old new ts (λ r h. kept r (inr h)))
+
+-- the users, a new one among the threads that took the piece
+moved_users : (r mine fresh : ℕ) (xs others : List ℕ) → uses r (mine ∷ ((xs ++ fresh ∷ []) ++ others)) ≡ uses r (fresh ∷ mine ∷ (xs ++ others))
+moved_users r mine fresh xs others =
+    omega (
+      arith,
+      uses-cons r mine ((xs ++ fresh ∷ []) ++ others),
+      uses-append r (xs ++ fresh ∷ []) others,
+      uses-append r xs (fresh ∷ []),
+      uses-cons r fresh [],
+      uses-cons r fresh (mine ∷ (xs ++ others)),
+      uses-cons r mine (xs ++ others),
+      uses-append r xs others,
+      nothing r,
+    )
+  where
+    nothing : (r : ℕ) → uses r [] ≡ 0
+    nothing r = refl
+
+moved_among : (mine fresh : ℕ) (xs others : List ℕ) (r : ℕ) → Among (mine ∷ ((xs ++ fresh ∷ []) ++ others)) r → Among (fresh ∷ mine ∷ (xs ++ others)) r
+moved_among mine fresh xs others r h =
+    ⊎_elim (λ (e : mine ≡ r). inr (inl e))
+    (λ l. ⊎_elim
+    (λ (a : Among (xs ++ fresh ∷ []) r). ⊎_elim (λ (b : Among xs r). inr (inr (Among-left xs others r b)))
+    (λ (b : Among (fresh ∷ []) r). ⊎_elim (λ (e : fresh ≡ r). inl e) (λ n. absurd n) b) (Among-apart xs (fresh ∷ []) r a))
+    (λ (b : Among others r). inr (inr (Among-right xs others r b)))
+    (Among-apart (xs ++ fresh ∷ []) others r l)) h
+
+-- a thread is put in behind the others
+pub puts_in : (place target pending_len fresh : ℕ) (t : Thread) (old new : Scratch) → ForksTo place t.row pending_len fresh old.rows new.rows →
+    new.next.threads ≡ old.next.threads ++ record { state = target; row = fresh; start = t.start } ∷ [] → new.next.room ≡ old.next.room →
+    new.visited_set ≡ old.visited_set → new.stack ≡ old.stack → new.first_match ≡ old.first_match → AddsThread place target pending_len t old new
+puts_in place target pending_len fresh t old new by threads room visited_set stack first_match = record {
+  only = record {
+    visited_set = visited_set;
+    stack = stack;
+    first_match = first_match;
+    room = room;
+    pending = by.pending;
+    slots_per_row = by.slots_per_row;
+    max_slots = by.max_slots;
+    kept = by.kept;
+    rows = by.rows;
+    sum = by.sum;
+  };
+  users = λ others used.
+      let rows : map row_of new.next.threads ≡ map row_of old.next.threads ++ fresh ∷ [] =
+      ap (map row_of) threads ∙ map-append row_of old.next.threads (record { state = target; row = fresh; start = t.start } ∷ []) in
+      subst (λ xs. IsUsed new.rows (t.row ∷ (xs ++ others))) (sym rows)
+      (reordered new.rows (fresh ∷ t.row ∷ (map row_of old.next.threads ++ others)) (t.row ∷ ((map row_of old.next.threads ++ fresh ∷ []) ++ others))
+      (by.users (map row_of old.next.threads ++ others) used)
+      (λ r. moved_users r t.row fresh (map row_of old.next.threads) others)
+      (λ r h. moved_among t.row fresh (map row_of old.next.threads) others r h));
+  next = λ others used.
+      ap (map (thread_of new.rows)) threads ∙ map-append (thread_of new.rows) old.next.threads (record { state = target; row = fresh; start = t.start } ∷ [])
+      ∙ ap₂ ◌++◌
+      (threads_kept old.rows new.rows old.next.threads
+      (λ r h. row_kept old.rows new.rows (users_of old t others) used by.kept r (inr (Among-left (map row_of old.next.threads) others r h))))
+      (ap (λ s. record { state = target; start = t.start; slots = s } ∷ []) by.slots);
+  len = ap length threads ∙ length-append old.next.threads (record { state = target; row = fresh; start = t.start } ∷ []);
+  threads = λ r h.
+      let rows : map row_of new.next.threads ≡ map row_of old.next.threads ++ fresh ∷ [] =
+      ap (map row_of) threads ∙ map-append row_of old.next.threads (record { state = target; row = fresh; start = t.start } ∷ []) in
+      subst (λ (xs : List ℕ). Among xs r) (sym rows) (Among-left (map row_of old.next.threads) (fresh ∷ []) r h);
+}

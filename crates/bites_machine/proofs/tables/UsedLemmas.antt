@@ -1,0 +1,177 @@
+-- The users of rows, when one comes or goes.
+use Rattle.std.proofs.Common.{◌≡◌, ◌≢◌, ℕ, ◌+◌, ◌-◌, ◌<◌, ◌≤◌, ◌⊎◌, ⊎_elim, inl, inr, Bool, true, false, cond, List, [], ◌∷◌, take, length, sum, Option, None, refl, sym, ap, ◌∙◌, subst, arith, eq-eqb, ne_eqb, eqb-true}
+use Rattle.std.specs.Prelude.{◌==◌, slice_set, slice_index, slice_index_or, count_by, replicate}
+use Rattle.std.proofs.lemmas.List.{length-set, get_or-set_same, get_or-set_other}
+use Rattle.std.proofs.lemmas.List.Sums.{sum_by-cons, sum_by-set, get_or-le-sum_by}
+use Rattle.bites_machine.specs.SlotTable.{Pool, with_pending, one_more, one_less}
+use Rattle.bites_machine.proofs.tables.RowLemmas.{length-with_pending}
+use Rattle.bites_machine.specs.Used.{IsUsed, ForksTo, slots_at}
+
+-- the number of users of a row, one user more
+pub users_more : (row user : ℕ) (users : List ℕ) → user ≡ row → count_by (λ u. u == row) (user ∷ users) ≡ count_by (λ u. u == row) users + 1
+users_more row user users e =
+    sum_by-cons (λ u. cond (u == row) 1 0) user users
+    ∙ ap (λ b. cond b 1 0 + count_by (λ u. u == row) users) (eq-eqb user row e) ∙ omega arith
+
+-- another user more
+pub users_same : (row user : ℕ) (users : List ℕ) → user ≢ row → count_by (λ u. u == row) (user ∷ users) ≡ count_by (λ u. u == row) users
+users_same row user users e =
+    sum_by-cons (λ u. cond (u == row) 1 0) user users
+    ∙ ap (λ b. cond b 1 0 + count_by (λ u. u == row) users) (ne_eqb user row e) ∙ omega arith
+
+pub same_or_not : (a b : ℕ) → (a ≡ b) ⊎ (a ≢ b)
+same_or_not a b = by_test (a == b) refl
+  where
+    by_test : (t : Bool) → (a == b) ≡ t → (a ≡ b) ⊎ (a ≢ b)
+    by_test true e = inl (eqb-true a b e)
+    by_test false e = inr (λ s. absurd (differ (sym (eq-eqb a b s) ∙ e)))
+      where
+        differ : true ≡ false → ⊥
+        differ h = cc
+
+-- a user's row is known, and has a user
+pub user_known : (pool : Pool) (row : ℕ) (users : List ℕ) → IsUsed pool (row ∷ users) → row < length pool.ref_counts
+user_known pool row users used = used.known row (inl refl)
+
+pub user_counted : (pool : Pool) (row : ℕ) (users : List ℕ) → IsUsed pool (row ∷ users) → row ≢ 0 → 0 < slice_index pool.ref_counts row
+user_counted pool row users used other = omega (arith, used.ref_counts row other, users_more row row users refl)
+
+-- no row has as many users as there are rows
+pub few_users : (pool : Pool) (row : ℕ) → row < length pool.ref_counts → sum pool.ref_counts + 1 < length pool.ref_counts → slice_index pool.ref_counts row < length pool.ref_counts
+few_users pool row known room = omega (arith, get_or-le-sum_by (λ n. n) pool.ref_counts row 0 known)
+
+-- a user of the row comes, the counts follow
+counts_more : (ref_counts : List ℕ) (row : ℕ) (users : List ℕ) → row < length ref_counts →
+    ((r : ℕ) → r ≢ 0 → slice_index ref_counts r ≡ count_by (λ u. u == r) users) →
+    (r : ℕ) → r ≢ 0 → slice_index (one_more ref_counts row) r ≡ count_by (λ u. u == r) (row ∷ users)
+counts_more ref_counts row users known are r other =
+    ⊎_elim
+    (λ (z : row ≡ 0). subst (λ b. slice_index (cond b ref_counts (slice_set ref_counts row (slice_index ref_counts row + 1))) r ≡ count_by (λ u. u == r) (row ∷ users)) (sym (eq-eqb row 0 z))
+    (are r other ∙ sym (users_same r row users (λ e. other (sym e ∙ z)))))
+    (λ (n : row ≢ 0). subst (λ b. slice_index (cond b ref_counts (slice_set ref_counts row (slice_index ref_counts row + 1))) r ≡ count_by (λ u. u == r) (row ∷ users)) (sym (ne_eqb row 0 n))
+    (⊎_elim
+    (λ (e : row ≡ r).
+    ap (slice_index (slice_set ref_counts row (slice_index ref_counts row + 1))) (sym e) ∙ get_or-set_same ref_counts row (slice_index ref_counts row + 1) 0 known
+    ∙ ap (λ k. slice_index ref_counts k + 1) e ∙ ap (λ k. k + 1) (are r other) ∙ sym (users_more r row users e))
+    (λ (d : row ≢ r). get_or-set_other ref_counts row r (slice_index ref_counts row + 1) 0 (λ e. d (sym e)) ∙ are r other ∙ sym (users_same r row users d))
+    (same_or_not row r)))
+    (same_or_not row 0)
+
+length-one_more : (ref_counts : List ℕ) (row : ℕ) → length (one_more ref_counts row) ≡ length ref_counts
+length-one_more ref_counts row = by_test (row == 0)
+  where
+    by_test : (b : Bool) → length (cond b ref_counts (slice_set ref_counts row (slice_index ref_counts row + 1))) ≡ length ref_counts
+    by_test true = refl
+    by_test false = length-set ref_counts row (slice_index ref_counts row + 1)
+
+sum-one_more : (ref_counts : List ℕ) (row : ℕ) → row < length ref_counts → sum (one_more ref_counts row) ≤ sum ref_counts + 1
+sum-one_more ref_counts row known = by_test (row == 0)
+  where
+    by_test : (b : Bool) → sum (cond b ref_counts (slice_set ref_counts row (slice_index ref_counts row + 1))) ≤ sum ref_counts + 1
+    by_test true = omega arith
+    by_test false = omega (arith, sum_by-set (λ n. n) ref_counts row (slice_index ref_counts row + 1) 0 known)
+
+-- a thread goes on with its row
+pub shared : (place row : ℕ) (old new : Pool) → row < length old.ref_counts → new.ref_counts ≡ one_more old.ref_counts row → new.rows ≡ old.rows → new.pending ≡ old.pending → new.slots_per_row ≡ old.slots_per_row →
+    new.max_slots ≡ old.max_slots → ForksTo place row 0 row old new
+shared place row old new known ref_counts rows pending slots_per_row max_slots = record {
+  users = λ users used. record {
+    ref_counts = λ r other. ap (λ (c : List ℕ). slice_index c r) ref_counts ∙ counts_more old.ref_counts row (row ∷ users) known used.ref_counts r other;
+    known = λ r h. subst (λ n. r < n) (sym (ap length ref_counts ∙ length-one_more old.ref_counts row)) (used.known r (⊎_elim (λ e. inl e) (λ l. l) h));
+    rows = ap length rows ∙ used.rows ∙ sym (ap length ref_counts ∙ length-one_more old.ref_counts row);
+    nothing = ap (λ (rs : List (List (Option ℕ))). slice_index_or rs 0 []) rows ∙ used.nothing ∙ ap (λ w. replicate w None) (sym slots_per_row);
+    wide = λ r h. ap (λ (rs : List (List (Option ℕ))). length (slice_index_or rs r [])) rows ∙ used.wide r (⊎_elim (λ e. inl e) (λ l. l) h) ∙ sym slots_per_row;
+  };
+  slots = ap (λ (rs : List (List (Option ℕ))). slice_index_or rs row []) rows;
+  kept = λ r h. ap (λ (rs : List (List (Option ℕ))). slice_index_or rs r []) rows;
+  sum = subst (λ (c : List ℕ). sum c ≤ sum old.ref_counts + 1) (sym ref_counts) (sum-one_more old.ref_counts row known);
+  rows = ap length ref_counts ∙ length-one_more old.ref_counts row;
+  pending = pending;
+  slots_per_row = slots_per_row;
+  max_slots = max_slots;
+}
+
+-- a thread goes on with a row of its own
+pub copied : (place row pending_len fresh : ℕ) (old new : Pool) → fresh < length old.ref_counts → slice_index old.ref_counts fresh ≡ 0 → fresh ≢ 0 →
+    new.ref_counts ≡ slice_set old.ref_counts fresh 1 → new.rows ≡ slice_set old.rows fresh (with_pending place (take pending_len old.pending) (slots_at old row)) →
+    new.pending ≡ old.pending → new.slots_per_row ≡ old.slots_per_row → length old.rows ≡ length old.ref_counts → new.max_slots ≡ old.max_slots → ForksTo place row pending_len fresh old new
+copied place row pending_len fresh old new known none other ref_counts rows pending slots_per_row even max_slots = record {
+  users = λ users used. record {
+    ref_counts = λ r apart. ap (λ (c : List ℕ). slice_index c r) ref_counts
+        ∙ ⊎_elim
+        (λ (e : fresh ≡ r). ap (slice_index (slice_set old.ref_counts fresh 1)) (sym e) ∙ get_or-set_same old.ref_counts fresh 1 0 known
+        ∙ ap (λ k. k + 1) (sym none ∙ ap (slice_index old.ref_counts) e ∙ used.ref_counts r apart) ∙ sym (users_more r fresh (row ∷ users) e))
+        (λ (d : fresh ≢ r). get_or-set_other old.ref_counts fresh r 1 0 (λ e. d (sym e)) ∙ used.ref_counts r apart ∙ sym (users_same r fresh (row ∷ users) d))
+        (same_or_not fresh r);
+    known = λ r h. subst (λ n. r < n) (sym (ap length ref_counts ∙ length-set old.ref_counts fresh 1))
+        (⊎_elim (λ (e : fresh ≡ r). subst (λ k. k < length old.ref_counts) e known) (λ l. used.known r l) h);
+    rows = ap length rows ∙ length-set old.rows fresh (with_pending place (take pending_len old.pending) (slots_at old row)) ∙ used.rows ∙ sym (ap length ref_counts ∙ length-set old.ref_counts fresh 1);
+    nothing = written 0 (λ e. other (sym e)) ∙ used.nothing ∙ ap (λ w. replicate w None) (sym slots_per_row);
+    wide = λ r h. ⊎_elim
+        (λ (e : r ≡ fresh). ap (λ k. length (slots_at new k)) e ∙ ap length own
+        ∙ length-with_pending place (take pending_len old.pending) (slots_at old row) ∙ used.wide row (inl refl) ∙ sym slots_per_row)
+        (λ (d : r ≢ fresh). ap length (written r d) ∙ used.wide r (⊎_elim (λ (e : fresh ≡ r). absurd (d (sym e))) (λ l. l) h) ∙ sym slots_per_row)
+        (same_or_not r fresh);
+  };
+  slots = own;
+  kept = λ r h. written r (λ e. not_fresh r h e);
+  sum = subst (λ (c : List ℕ). sum c ≤ sum old.ref_counts + 1) (sym ref_counts) (omega (arith, sum_by-set (λ n. n) old.ref_counts fresh 1 0 known));
+  rows = ap length ref_counts ∙ length-set old.ref_counts fresh 1;
+  pending = pending;
+  slots_per_row = slots_per_row;
+  max_slots = max_slots;
+}
+  where
+    own : slots_at new fresh ≡ with_pending place (take pending_len old.pending) (slots_at old row)
+    own =
+        ap (λ (rs : List (List (Option ℕ))). slice_index_or rs fresh []) rows
+        ∙ get_or-set_same old.rows fresh (with_pending place (take pending_len old.pending) (slots_at old row)) [] (omega (arith, known, even))
+
+    written : (r : ℕ) → r ≢ fresh → slots_at new r ≡ slots_at old r
+    written r apart =
+        ap (λ (rs : List (List (Option ℕ))). slice_index_or rs r []) rows
+        ∙ get_or-set_other old.rows fresh r (with_pending place (take pending_len old.pending) (slots_at old row)) [] apart
+
+    not_fresh : (r : ℕ) → (r ≡ 0) ⊎ (0 < slice_index old.ref_counts r) → r ≡ fresh → ⊥
+    not_fresh r h e = ⊎_elim (λ (z : r ≡ 0). other (sym e ∙ z)) (λ (p : 0 < slice_index old.ref_counts r). absurd (omega (arith, p, ap (slice_index old.ref_counts) e, none))) h
+
+-- the counts of users when one goes
+counts_less : (ref_counts : List ℕ) (row : ℕ) (users : List ℕ) → row < length ref_counts →
+    ((r : ℕ) → r ≢ 0 → slice_index ref_counts r ≡ count_by (λ u. u == r) (row ∷ users)) →
+    (r : ℕ) → r ≢ 0 → slice_index (one_less ref_counts row) r ≡ count_by (λ u. u == r) users
+counts_less ref_counts row users known are r other =
+    ⊎_elim
+    (λ (z : row ≡ 0). subst (λ b. slice_index (cond b ref_counts (slice_set ref_counts row (slice_index ref_counts row - 1))) r ≡ count_by (λ u. u == r) users) (sym (eq-eqb row 0 z))
+    (are r other ∙ users_same r row users (λ e. other (sym e ∙ z))))
+    (λ (n : row ≢ 0). subst (λ b. slice_index (cond b ref_counts (slice_set ref_counts row (slice_index ref_counts row - 1))) r ≡ count_by (λ u. u == r) users) (sym (ne_eqb row 0 n))
+    (⊎_elim
+    (λ (e : row ≡ r).
+    ap (slice_index (slice_set ref_counts row (slice_index ref_counts row - 1))) (sym e) ∙ get_or-set_same ref_counts row (slice_index ref_counts row - 1) 0 known
+    ∙ ap (λ k. slice_index ref_counts k - 1) e ∙ ap (λ k. k - 1) (are r other ∙ users_more r row users e) ∙ omega arith)
+    (λ (d : row ≢ r). get_or-set_other ref_counts row r (slice_index ref_counts row - 1) 0 (λ e. d (sym e)) ∙ are r other ∙ users_same r row users d)
+    (same_or_not row r)))
+    (same_or_not row 0)
+
+pub length-one_less : (ref_counts : List ℕ) (row : ℕ) → length (one_less ref_counts row) ≡ length ref_counts
+length-one_less ref_counts row = by_test (row == 0)
+  where
+    by_test : (b : Bool) → length (cond b ref_counts (slice_set ref_counts row (slice_index ref_counts row - 1))) ≡ length ref_counts
+    by_test true = refl
+    by_test false = length-set ref_counts row (slice_index ref_counts row - 1)
+
+pub sum-one_less : (ref_counts : List ℕ) (row : ℕ) → row < length ref_counts → sum (one_less ref_counts row) ≤ sum ref_counts
+sum-one_less ref_counts row known = by_test (row == 0)
+  where
+    by_test : (b : Bool) → sum (cond b ref_counts (slice_set ref_counts row (slice_index ref_counts row - 1))) ≤ sum ref_counts
+    by_test true = omega arith
+    by_test false = omega (arith, sum_by-set (λ n. n) ref_counts row (slice_index ref_counts row - 1) 0 known)
+
+-- a thread that is over lets its row go
+pub released : (row : ℕ) (users : List ℕ) (old new : Pool) → IsUsed old (row ∷ users) → new.ref_counts ≡ one_less old.ref_counts row → new.rows ≡ old.rows → new.slots_per_row ≡ old.slots_per_row → IsUsed new users
+released row users old new used ref_counts rows slots_per_row = record {
+  ref_counts = λ r other. ap (λ (c : List ℕ). slice_index c r) ref_counts ∙ counts_less old.ref_counts row users (used.known row (inl refl)) used.ref_counts r other;
+  known = λ r h. subst (λ n. r < n) (sym (ap length ref_counts ∙ length-one_less old.ref_counts row)) (used.known r (inr h));
+  rows = ap length rows ∙ used.rows ∙ sym (ap length ref_counts ∙ length-one_less old.ref_counts row);
+  nothing = ap (λ (rs : List (List (Option ℕ))). slice_index_or rs 0 []) rows ∙ used.nothing ∙ ap (λ w. replicate w None) (sym slots_per_row);
+  wide = λ r h. ap (λ (rs : List (List (Option ℕ))). length (slice_index_or rs r [])) rows ∙ used.wide r (inr h) ∙ sym slots_per_row;
+}

@@ -1,0 +1,71 @@
+-- Slots as words.
+use Rattle.std.proofs.Common.{◌≡◌, ℕ, zero, suc, ◌+◌, ◌-◌, ◌*◌, ◌<◌, ◌≤◌, List, [], ◌∷◌, ◌++◌, map, take, drop, replicate, length, Option, Some, None, cond, refl, sym, ap, ap₂, ◌∙◌, arith, ne_eqb}
+use Rattle.std.specs.Prelude.{slice_set, slice_index_or}
+use Rattle.std.proofs.lemmas.List.{length-map, length-set, length-replicate, map-append, map-set, take-map, drop-map, take_all}
+use Rattle.bites_machine.specs.SlotTable.{no_slot, slot_of, rows_of, with_pending, with_words}
+use Rattle.bites_machine.proofs.tables.RowLemmas.{row_copied, row_pushed}
+
+-- a word below the greatest is an offset
+pub slot_of_place : (place : ℕ) → place < no_slot → slot_of place ≡ Some place
+slot_of_place place lt = ap (λ b. cond b None (Some place)) (ne_eqb place no_slot (λ e. absurd (omega (arith, e, lt))))
+
+-- nothing is written in a new row
+pub nothing_written : (n : ℕ) → map slot_of (replicate n no_slot) ≡ replicate n None
+nothing_written zero = refl
+nothing_written (suc n) = ap (λ l. None ∷ l) (nothing_written n)
+
+-- an empty list of words is filled up
+pub filled : (w : ℕ) → take w [] ++ replicate (w - 0) no_slot ≡ replicate w no_slot
+filled zero = refl
+filled (suc w) = ap (λ n. replicate n no_slot) (whole (suc w))
+  where
+    whole : (n : ℕ) → n - 0 ≡ n
+    whole n = omega arith
+
+-- row 0 where a search begins
+pub first_row : (w row_count : ℕ) → 0 < row_count → slice_index_or (rows_of w row_count (map slot_of (replicate w no_slot))) 0 [] ≡ replicate w None
+first_row w zero some = absurd (omega arith)
+first_row w (suc row_count) some = ap (take w) (nothing_written w) ∙ take_all w (replicate w None) (le (length-replicate {A = Option ℕ} w None))
+  where
+    le : {n : ℕ} → n ≡ w → n ≤ w
+    le e = omega (arith, e)
+
+pub length-with_words : (word : ℕ) (ks words : List ℕ) → length (with_words word ks words) ≡ length words
+length-with_words word [] words = refl
+length-with_words word (k ∷ ks) words = length-with_words word ks (slice_set words k word) ∙ length-set words k word
+
+written_slots : (place : ℕ) → place < no_slot → (ks words : List ℕ) → map slot_of (with_words place ks words) ≡ with_pending place ks (map slot_of words)
+written_slots place lt [] words = refl
+written_slots place lt (k ∷ ks) words =
+    written_slots place lt ks (slice_set words k place)
+    ∙ ap (with_pending place ks) (map-set slot_of words k place ∙ ap (λ s. slice_set (map slot_of words) k s) (slot_of_place place lt))
+
+module _ (w row_count taken row place : ℕ) (ks cells : List ℕ) (lt : place < no_slot) (known : row < taken) (len : length cells ≡ taken * w) where
+  slots : List (Option ℕ)
+  slots = map slot_of cells
+
+  copied_slots : map slot_of (with_words place ks (take w (drop (row * w) cells))) ≡ with_pending place ks (take w (drop (row * w) (map slot_of cells)))
+  copied_slots =
+      written_slots place lt ks (take w (drop (row * w) cells))
+      ∙ ap (with_pending place ks) (sym (take-map slot_of w (drop (row * w) cells)) ∙ ap (take w) (sym (drop-map slot_of (row * w) cells)))
+
+  -- a row that was taken before is the copy of another
+  pub words_copied : (fresh : ℕ) → fresh < taken → taken ≤ row_count →
+      rows_of w row_count (map slot_of (take (fresh * w) cells ++ (with_words place ks (take w (drop (row * w) cells)) ++ drop (fresh * w + w) cells)))
+      ≡ slice_set (rows_of w row_count (map slot_of cells)) fresh (with_pending place ks (slice_index_or (rows_of w row_count (map slot_of cells)) row []))
+  words_copied fresh new few =
+      ap (rows_of w row_count)
+      (map-append slot_of (take (fresh * w) cells) (with_words place ks (take w (drop (row * w) cells)) ++ drop (fresh * w + w) cells)
+      ∙ ap₂ ◌++◌ (sym (take-map slot_of (fresh * w) cells))
+      (map-append slot_of (with_words place ks (take w (drop (row * w) cells))) (drop (fresh * w + w) cells)
+      ∙ ap₂ ◌++◌ copied_slots (sym (drop-map slot_of (fresh * w + w) cells))))
+      ∙ row_copied w row_count taken row place ks (map slot_of cells) known (length-map cells slot_of ∙ len) fresh new few
+
+  -- a row that was never taken is the copy of another
+  pub words_pushed : taken < row_count →
+      rows_of w row_count (map slot_of (cells ++ with_words place ks (take w (drop (row * w) cells))))
+      ≡ slice_set (rows_of w row_count (map slot_of cells)) taken (with_pending place ks (slice_index_or (rows_of w row_count (map slot_of cells)) row []))
+  words_pushed few =
+      ap (rows_of w row_count)
+      (map-append slot_of cells (with_words place ks (take w (drop (row * w) cells))) ∙ ap (λ l. map slot_of cells ++ l) copied_slots)
+      ∙ row_pushed w row_count taken row place ks (map slot_of cells) known (length-map cells slot_of ∙ len) few

@@ -1,0 +1,3 @@
+-- Templates: the parts that they are cut into.
+pub mod InterpolateLemmas
+pub mod InterpolateTexts

@@ -1,0 +1,61 @@
+//! A place of a haystack, with the character that stands there.
+
+ghost use Rattle.std.specs.Prelude.{◌≡◌, ◌<◌, ◌==◌, ℕ};
+ghost use Rattle.bites_spec.specs.Program.{AreRanges};
+ghost use Rattle.bites_spec.specs.Range.{in_ranges};
+ghost use Rattle.bites_machine.specs.Ends.{code_of, takes_by};
+
+use crate::ranges::Ranges;
+
+// The number at the end of a haystack. No character has it.
+const NO_CHARACTER: u32 = 1114112;
+
+/// A place of the haystack, with the character of its piece, the length of the piece, and whether the longest run is
+/// asked for.
+#[derive(Clone, Copy, Drop)]
+pub struct Position<'h> {
+    pub haystack: &'h [u8],
+    pub place: usize,
+    pub ch: Option<char>,
+    /// The number of the character. It is tested in one comparison.
+    pub code: u32,
+    pub ch_len: usize,
+    pub longest: bool,
+    ghost code_is: { code ≡ code_of ch },
+}
+
+impl Position<'_> {
+    /// Returns whether this character stands here.
+    #[inline(always)]
+    pub(super) fn is_char(&self, ch: char) -> bool
+        ensures { result ≡ takes_by (λ d. d == ch) self.now.ch }
+    {
+        self.code == ch as u32
+    }
+
+    /// Returns whether a character of these ranges stands here.
+    #[inline(always)]
+    pub(super) fn is_in(&self, ranges: &Ranges) -> bool
+        requires { AreRanges ranges.now }
+        ensures { result ≡ takes_by (in_ranges ranges.now) self.now.ch }
+    {
+        if self.code < 128 {
+            return ranges.takes_ascii(self.code);
+        }
+        match self.ch {
+            None => false,
+            Some(ch) => ranges.takes(ch),
+        }
+    }
+}
+
+/// The number of a character, or the one at the end of a haystack.
+#[inline(always)]
+pub(super) fn code(ch: Option<char>) -> u32
+    ensures { result ≡ code_of ch }
+{
+    match ch {
+        None => NO_CHARACTER,
+        Some(ch) => ch as u32,
+    }
+}

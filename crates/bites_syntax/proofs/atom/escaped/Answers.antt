@@ -1,9 +1,0 @@
-use Rattle.std.proofs.Common.{◌∙◌, subst}
-use Rattle.bites_syntax.specs.FlagsView.{flags_of}
-use Rattle.bites_syntax.specs.Meanings.{IsMeaning}
-use Rattle.bites_syntax.proofs.AtomLemmas.{class_meant}
-use Rattle.bites_syntax.proofs.atom.escaped.Goals as goal
-
-pub returns-in-Characters : goal.returns-in-Characters
-returns-in-Characters c = λ m is.
-    c.class.ensures ∙ class_meant (flags_of c.args.flags) m c.in-Characters.class (subst (λ x. IsMeaning x m) c.in-Characters.is is)
