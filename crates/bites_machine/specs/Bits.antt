@@ -1,5 +1,5 @@
 -- What is kept beside a list, so that it need not be walked.
-use Rattle.std.specs.Prelude.{◌≡◌, ℕ, ◌<◌, ◌/◌, ◌%◌, ◌-◌, Bool, List, ◌==◌, Option, Some, None, if◌then◌else◌, length, slice_index}
+use Rattle.std.specs.Prelude.{◌≡◌, ℕ, ◌<◌, ◌/◌, ◌%◌, ◌-◌, Bool, List, ◌==◌, if◌then◌else◌, length, slice_index}
 use Rattle.std.specs.Int.{bit_at}
 use Rattle.bites_spec.specs.Range.{Range, in_ranges}
 
@@ -20,8 +20,3 @@ pub record HasEnds (len : ℕ) (ends numbers : List ℕ) : Type 0 where
   pub len_is : len ≡ length numbers
   pub first : 0 < len → slice_index ends 0 ≡ slice_index numbers 0
   pub last : 0 < len → slice_index ends 1 ≡ slice_index numbers (len - 1)
-
--- the list that is kept, or else a few of its ranges
-abbrev pub listed : Option (List Range) → List Range → List Range
-listed None few = few
-listed (Some rs) few = rs

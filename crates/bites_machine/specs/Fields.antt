@@ -20,4 +20,4 @@ IsSound a =
     × (a.targets ≡ targets (program_of a.states.items a.start a.slots))
     × ForSome a.prefix (λ x. IsPrefix (states_of a.states.items) a.start x)
     × AreLoops (states_of a.states.items) a.loops
-    × ForSome a.prefix (AreCovered (states_of a.states.items) a.loops)
+    × ForSome a.prefix (λ x. AreCovered (states_of a.states.items) a.loops x.visited.value)

@@ -29,4 +29,5 @@ pub mod Prefix
 pub mod Skipped
 pub mod SelfLoop
 pub mod Staying
+pub mod KeptRanges
 pub mod LoopClosure

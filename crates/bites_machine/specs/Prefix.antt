@@ -6,7 +6,7 @@ use Rattle.bites_spec.specs.Look as look
 use Rattle.bites_spec.specs.Walks.{Among}
 use Rattle.bites_spec.specs.Program.{State, char, ranges, splits, goto, capture, fail, match, targets_of, state_at, takes}
 use Rattle.bites_machine.specs.Bits.{has_bit}
-use Rattle.bites_machine.specs.declared.prefix.Closure.{Closure}
+use Rattle.bites_machine.specs.declared.prefix.StartClosure.{StartClosure}
 use Rattle.bites_machine.specs.declared.prefix.StartPrefix.{StartPrefix}
 
 -- An epsilon closure that takes nothing: the states that are still to be looked at, those that were visited, the last one first, and the number of looks.
@@ -68,11 +68,11 @@ TakesAlone states seen q = (r c : ℕ) → Among seen r → takes (state_at stat
 -- so many looks from the start visit the states of the prefix, and nothing is left
 pub record IsPrefix (states : List State) (start : ℕ) (x : StartPrefix) : Type 0 where
   pub stack : (blind_from states start x.looks.value).stack ≡ []
-  pub seen : (blind_from states start x.looks.value).seen ≡ x.visited
+  pub seen : (blind_from states start x.looks.value).seen ≡ x.visited.value
   pub looks : (blind_from states start x.looks.value).looks ≡ x.looks.value
-  pub idle : AreIdle states x.visited x.ascii x.others x.anchored
-  pub targets : x.targets.value ≡ map (count_of states) x.visited
-  pub alone : IfSome x.taker (TakesAlone states x.visited)
+  pub idle : AreIdle states x.visited.value x.ascii x.others x.anchored
+  pub targets : x.targets.value ≡ map (count_of states) x.visited.value
+  pub alone : IfSome x.taker (TakesAlone states x.visited.value)
 
 -- those of the states that are not among the old ones
 abbrev pub fresh_of : List ℕ → List ℕ → List ℕ
@@ -102,7 +102,7 @@ abbrev pub IsApart : StartPrefix → ℕ → Type 0
 IsApart x i = x.anchored ≡ true → 0 < i
 
 -- A visited state was followed: what it leads to is on the stack, and the set has the characters that it takes.
-pub record Follows (number : ℕ) (st : State) (from onto : List ℕ) (old new : Closure) : Type 0 where
+pub record Follows (number : ℕ) (st : State) (from onto : List ℕ) (old new : StartClosure) : Type 0 where
   pub stack : onto ≡ blind_targets st ++ from
   pub visited : new.visited ≡ old.visited
   pub targets : new.targets ≡ old.targets
@@ -118,7 +118,7 @@ abbrev pub IsAlone : List State → List ℕ → Bool → Option ℕ → Type 0
 IsAlone states seen several taker = several ≡ false → (r c : ℕ) → Among seen r → takes (state_at states r) c ≡ true → taker ≡ Some r
 
 -- So many looks from the start have this stack left, and have visited the states of the prefix.
-pub record HasFound (states : List State) (start looks : ℕ) (stack : List ℕ) (x : Closure) : Type 0 where
+pub record HasFound (states : List State) (start looks : ℕ) (stack : List ℕ) (x : StartClosure) : Type 0 where
   pub all : blind_from states start looks ≡ record { stack = stack; seen = x.visited; looks = looks }
   pub idle : AreIdle states x.visited x.ascii x.others x.anchored
   pub targets : x.targets ≡ map (count_of states) x.visited

@@ -9,7 +9,6 @@ use Rattle.bites_machine.specs.Machine.{Thread, Walking, WalksTo}
 use Rattle.bites_machine.specs.SlotTable.{with_pending}
 use Rattle.bites_machine.specs.Prefix.{in_set}
 use Rattle.bites_machine.specs.declared.character_set.CharacterSet.{CharacterSet}
-use Rattle.bites_machine.specs.declared.prefix.StartPrefix.{StartPrefix}
 use Rattle.bites_machine.specs.declared.self_loop.SelfLoop.{SelfLoop}
 
 -- whether a thread that takes this character stays at the state, and no other thread comes of its closure
@@ -47,10 +46,10 @@ AreLoops states loops = (x : SelfLoop) → Among loops x → IsSelfLoop states x
 abbrev pub LeavesOut : List State → List ℕ → ℕ → CharacterSet → Type 0
 LeavesOut states visited q s = (c : ℕ) → takes (state_at states q) c ≡ true → in_set s.ascii s.others c ≡ false → Among visited q
 
--- Each state of the start prefix is visited by the closure, or takes characters of the set `behind` alone.
-abbrev pub IsCovered : List State → SelfLoop → StartPrefix → Type 0
-IsCovered states x r = (q : ℕ) → Among r.visited q → LeavesOut states x.visited.value q x.behind
+-- Each of these states is visited by the closure, or takes characters of the set `behind` alone.
+abbrev pub IsCovered : List State → SelfLoop → List ℕ → Type 0
+IsCovered states x qs = (q : ℕ) → Among qs q → LeavesOut states x.visited.value q x.behind
 
--- that holds for each of these
-abbrev pub AreCovered : List State → List SelfLoop → StartPrefix → Type 0
-AreCovered states loops r = (x : SelfLoop) → Among loops x → IsCovered states x r
+-- that holds for each of these self-loops
+abbrev pub AreCovered : List State → List SelfLoop → List ℕ → Type 0
+AreCovered states loops qs = (x : SelfLoop) → Among loops x → IsCovered states x qs

@@ -24,12 +24,12 @@ closed_at x place vs = map (λ q. at q place) x.visited.value ++ vs
 -- and then what was left of the start prefix, if it is given
 abbrev pub visits_at : SelfLoop → Option StartPrefix → ℕ → List Configuration → List Configuration
 visits_at x None place vs = closed_at x place vs
-visits_at x (Some r) place vs = map (λ q. at q place) (fresh_of (seen_here place (closed_at x place vs)) r.visited) ++ closed_at x place vs
+visits_at x (Some r) place vs = map (λ q. at q place) (fresh_of (seen_here place (closed_at x place vs)) r.visited.value) ++ closed_at x place vs
 
 -- the looks of these closures and those before them
 abbrev pub looks_at : SelfLoop → Option StartPrefix → ℕ → Record → ℕ
 looks_at x None place w = w.looks + x.looks.value
-looks_at x (Some r) place w = w.looks + x.looks.value + 1 + fresh_sum (seen_here place (closed_at x place w.visits)) r.visited r.targets.value
+looks_at x (Some r) place w = w.looks + x.looks.value + 1 + fresh_sum (seen_here place (closed_at x place w.visits)) r.visited.value r.targets.value
 
 -- A search may pass a place: it does not stop there, and the start is not explored, or its prefix is given.
 pub record MayPass (x : SelfLoop) (rest : Option StartPrefix) (earliest found : Bool) : Type 0 where

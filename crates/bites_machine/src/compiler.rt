@@ -174,7 +174,7 @@ fn with_names(
     let mut program = Program::new(alloc, states, start, slots, pattern, names, at_least).ok_or(
         Error::Memory,
     )?;
-    program.find_self_loops()?;
+    program.find_shortcuts()?;
     Ok(program)
 }
 

@@ -5,10 +5,10 @@ ghost use Rattle.bites_spec.specs.Range.{in_ranges};
 
 use std::marker::Model;
 
-/// Up to eight ranges of characters, whose ends belong to them. Contracts see their list, the last one first.
+/// Up to four ranges of characters, whose ends belong to them. Contracts see their list, the last one first.
 #[derive(Drop)]
 pub struct FewRanges {
-    ranges: [(char, char); 8],
+    ranges: [(char, char); 4],
     len: usize,
 }
 
@@ -20,7 +20,7 @@ impl Model for FewRanges {
 
     ghost view = { λ a. reverse (take a.len a.ranges) };
 
-    ghost invariant = { λ a. (a.len ≤ length a.ranges) × (length a.ranges ≡ 8) };
+    ghost invariant = { λ a. (a.len ≤ length a.ranges) × (length a.ranges ≡ 4) };
 }
 
 impl FewRanges {
@@ -29,28 +29,30 @@ impl FewRanges {
         ensures { result ≡ [] }
     {
         FewRanges {
-            ranges: [('\0', '\0'); 8],
+            ranges: [('\0', '\0'); 4],
             len: 0,
         }
     }
 
-    /// Keeps those of these ranges that end past ASCII, or the first eight of them, instead of those kept before.
-    pub(crate) fn keep_past_ascii(&mut self, ranges: &[(char, char)])
-        ensures { (c : ℕ) → in_ranges self.new c ≡ true → in_ranges ranges.now c ≡ true }
+    /// Those of these ranges that end past ASCII, or the first four of them.
+    pub(crate) fn past_ascii(ranges: &[(char, char)]) -> FewRanges
+        ensures { (c : ℕ) → in_ranges result c ≡ true → in_ranges ranges.now c ≡ true }
     {
-        self.clear();
+        let mut few = FewRanges::new();
         for (first, last) in ranges {
-            if *last > '\u{7F}' && self.push(*first, *last).is_none() {
-                return;
+            if *last > '\u{7F}' && few.push(*first, *last).is_none() {
+                return few;
             }
         }
+        few
     }
 
-    // Keeps no range.
-    fn clear(&mut self)
-        ensures { self.new ≡ [] }
+    /// Whether there is no range.
+    #[inline(always)]
+    pub(crate) fn is_empty(&self) -> bool
+        ensures { result ≡ true → self.now ≡ [] }
     {
-        self.len = 0;
+        self.len == 0
     }
 
     // Puts a range after the others. Returns `None` if there is no room.

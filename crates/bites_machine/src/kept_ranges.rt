@@ -4,24 +4,30 @@ ghost use Rattle.std.specs.Prelude.{◌≡◌, ℕ, [], true};
 ghost use Rattle.bites_spec.specs.Range.{in_ranges};
 
 use crate::few_ranges::FewRanges;
-use crate::ranges::Ranges;
+use crate::ranges::{Ranges, reaches_past_ascii};
 use std::marker::Model;
 
-/// The ranges of a state, if a copy of them takes no memory; else a few of those past ASCII. Contracts see their list.
+/// Ranges of a state with characters past ASCII: all, if a copy of them takes no memory, else a few. Contracts see their
+/// list.
 #[derive(Drop)]
 pub struct KeptRanges {
-    list: Option<Ranges>,
-    few: FewRanges,
+    kept: Kept,
+}
+
+#[derive(Drop)]
+enum Kept {
+    All(Ranges),
+    Few(FewRanges),
 }
 
 impl Model for KeptRanges {
     ghost use Rattle.std.specs.Prelude.{List};
     ghost use Rattle.bites_spec.specs.Range.{Range};
-    ghost use Rattle.bites_machine.specs.Bits.{listed};
+    ghost use Rattle.bites_machine.specs.KeptRanges.{kept_in};
 
     ghost Value = { List Range };
 
-    ghost view = { λ a. listed a.list a.few };
+    ghost view = { λ a. kept_in a.kept };
 }
 
 impl KeptRanges {
@@ -30,25 +36,32 @@ impl KeptRanges {
         ensures { result ≡ [] }
     {
         KeptRanges {
-            list: None,
-            few: FewRanges::new(),
+            kept: Kept::Few(FewRanges::new()),
         }
     }
 
-    /// These ranges, or a few of them.
+    /// These ranges, or a few of them; none if all their characters are ASCII.
     pub(crate) fn of(ranges: &Ranges) -> KeptRanges
         ensures { (c : ℕ) → in_ranges result c ≡ true → in_ranges ranges.now c ≡ true }
     {
-        let mut few = FewRanges::new();
-        match ranges.copy_in_place() {
-            Some(list) => KeptRanges {
-                list: Some(list),
-                few,
-            },
-            None => {
-                few.keep_past_ascii(ranges.as_slice());
-                KeptRanges { list: None, few }
-            }
+        if !reaches_past_ascii(ranges.as_slice()) {
+            return KeptRanges::none();
+        }
+        let kept = match ranges.copy_in_place() {
+            Some(all) => Kept::All(all),
+            None => Kept::Few(FewRanges::past_ascii(ranges.as_slice())),
+        };
+        KeptRanges { kept }
+    }
+
+    /// Whether no ranges are kept.
+    #[inline(always)]
+    pub(crate) fn is_empty(&self) -> bool
+        ensures { result ≡ true → self.now ≡ [] }
+    {
+        match &self.kept {
+            Kept::All(_) => false,
+            Kept::Few(few) => few.is_empty(),
         }
     }
 
@@ -57,9 +70,9 @@ impl KeptRanges {
     pub(crate) fn contains(&self, ch: char) -> bool
         ensures { result ≡ true → in_ranges self.now ch ≡ true }
     {
-        match &self.list {
-            None => self.few.contains(ch),
-            Some(ranges) => ranges.takes_past_ascii(ch),
+        match &self.kept {
+            Kept::All(ranges) => ranges.takes_past_ascii(ch),
+            Kept::Few(few) => few.contains(ch),
         }
     }
 }

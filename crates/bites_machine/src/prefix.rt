@@ -20,8 +20,8 @@ const MOST_LOOKS: usize = 272;
 /// offsets above 0: some of these states assert the start of the haystack.
 #[derive(Drop)]
 pub struct StartPrefix {
-    /// The states, the last one first.
-    pub visited: ShortStack,
+    /// The states, the last one first. Contracts alone see them.
+    pub visited: Snapshot<ShortStack>,
     /// To how many states each of them leads without taking anything. Contracts alone see these numbers.
     pub targets: Snapshot<ShortStack>,
     /// How often the closure looks at a state.
@@ -39,29 +39,13 @@ impl StartPrefix {
     ghost use Rattle.bites_machine.specs.Prefix.{in_set, IsApart, TakesNone, IsPrefix};
     ghost use Rattle.bites_machine.specs.States.{states_of};
 
-    /// The prefix of a program of these states that starts in this one. `None` if a match or another
-    /// assertion is met, or if there are too many states.
+    /// The prefix of a program of these states that starts in this one. `None` if a match or an assertion other than
+    /// `\A` is met, or if there are too many states.
     pub(crate) fn of(states: &[State], start: u32) -> Option<StartPrefix>
         ensures { IfSome result (IsPrefix (states_of states.now) start) }
     {
-        let mut found = Closure {
-            visited: ShortStack::new(),
-            targets: ShortStack::new(),
-            ascii: [0, 0],
-            others: false,
-            anchored: false,
-            taker: None,
-            several: false,
-        };
-        let mut stack = ShortStack::new();
-        stack.push(start)?;
-        for looks in 0..MOST_LOOKS {
-            let Some(number) = stack.pop() else {
-                return Some(found.finish(looks));
-            };
-            found.look(states, number, &mut stack)?;
-        }
-        None
+        let (found, looks) = StartClosure::of(states, start)?;
+        Some(found.finish(looks))
     }
 
     /// Returns whether some state may take the character.
@@ -121,10 +105,10 @@ impl StartPrefix {
     }
 }
 
-// What the closure has visited so far, and what these states take. It is gone once the prefix is found: of the
-// states the prefix keeps nothing at run time.
+/// What the closure of the start has visited so far, and what these states take. It is gone once the shortcuts of a
+/// program are found: of the states the prefix keeps nothing at run time.
 #[derive(Drop)]
-pub struct Closure {
+pub struct StartClosure {
     pub visited: ShortStack,
     pub targets: ShortStack,
     pub ascii: [u64; 2],
@@ -135,10 +119,35 @@ pub struct Closure {
     pub several: bool,
 }
 
-impl Closure {
-    ghost use Rattle.std.specs.Prelude.{Some, None};
-    ghost use Rattle.bites_machine.specs.Prefix.{in_set, Follows, HasFound};
+impl StartClosure {
+    ghost use Rattle.std.specs.Prelude.{List, [], Some, None};
+    ghost use Rattle.bites_machine.specs.Prefix.{in_set, Follows, HasFound, IsPrefix};
     ghost use Rattle.bites_machine.specs.States.{state_of, states_of};
+
+    /// The closure of the state where a program of these states starts, and how often it looks at a state. `None` if a
+    /// match or an assertion other than `\A` is met, or if there are too many states.
+    pub(crate) fn of(states: &[State], start: u32) -> Option<(StartClosure, usize)>
+        ensures { IfSome result (λ found. HasFound (states_of states.now) start found.1 [] found.0) }
+    {
+        let mut found = StartClosure {
+            visited: ShortStack::new(),
+            targets: ShortStack::new(),
+            ascii: [0, 0],
+            others: false,
+            anchored: false,
+            taker: None,
+            several: false,
+        };
+        let mut stack = ShortStack::new();
+        stack.push(start)?;
+        for looks in 0..MOST_LOOKS {
+            let Some(number) = stack.pop() else {
+                return Some((found, looks));
+            };
+            found.look(states, number, &mut stack)?;
+        }
+        None
+    }
 
     // Looks at a state that was on top of the stack. `None` if it can't be followed, or if there is no room.
     fn look(&mut self, states: &[State], number: u32, stack: &mut ShortStack) -> Option<()>
@@ -210,34 +219,20 @@ impl Closure {
         self.others |= others;
     }
 
-    // The prefix, after so many looks.
-    fn finish(self, looks: usize) -> StartPrefix
-        ensures visited { result.visited ≡ self.visited }
-        ensures targets { result.targets.value ≡ self.targets }
-        ensures looks { result.looks.value ≡ looks }
-        ensures ascii { result.ascii ≡ self.ascii }
-        ensures others { result.others ≡ self.others }
-        ensures anchored { result.anchored ≡ self.anchored }
-        ensures taker { IfSome result.taker (λ q. (self.several ≡ false)
-            × (self.taker ≡ Some q)) }
+    /// The prefix, after so many looks.
+    pub(crate) fn finish(&self, looks: usize) -> StartPrefix
+        ensures prefix { (states : List program.State) (start : ℕ) →
+            HasFound states start looks [] self.now → IsPrefix states start result }
+        ensures visited { result.visited.value ≡ self.now.visited }
     {
-        let taker = self.lone_taker();
-        let targets = Snapshot::of(&self.targets);
-        let Closure {
-            visited,
-            ascii,
-            others,
-            anchored,
-            ..
-        } = self;
         StartPrefix {
-            visited,
-            targets,
+            visited: Snapshot::of(&self.visited),
+            targets: Snapshot::of(&self.targets),
             looks: Snapshot::of(&looks),
-            ascii,
-            others,
-            anchored,
-            taker,
+            ascii: self.ascii,
+            others: self.others,
+            anchored: self.anchored,
+            taker: self.lone_taker(),
         }
     }
 

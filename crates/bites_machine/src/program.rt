@@ -11,7 +11,7 @@ ghost use Rattle.bites_machine.specs.Bad.{IsBad};
 pub use crate::compiler::{compile, compile_with_groups};
 pub use crate::fault::BadProgram;
 use crate::fault::first_fault_of;
-use crate::prefix::StartPrefix;
+use crate::prefix::{StartClosure, StartPrefix};
 pub use crate::ranges::Ranges;
 use crate::self_loop::SelfLoops;
 pub use crate::state::State;
@@ -88,9 +88,10 @@ impl Program {
         }
         let pattern = String::new(alloc);
         let names = Vec::new(alloc);
-        Program::new(alloc, states, start, slots as usize, pattern, names, None).ok_or(
-            BadProgram::Memory,
-        )
+        let program = Program::new(alloc, states, start, slots as usize, pattern, names, None);
+        let mut program = program.ok_or(BadProgram::Memory)?;
+        program.find_prefix();
+        Ok(program)
     }
 
     /// A program of states that have no fault. None if a `usize` cannot hold the number of edges.
@@ -109,8 +110,6 @@ impl Program {
         ensures none { IfNone result (2 ^ 64 ≤ targets (program_of states.items start slots)) }
     {
         let targets = edges(&states)?;
-        let prefix = StartPrefix::of(&states, start);
-        let loops = SelfLoops::none(alloc);
         Some(Program {
             alloc,
             states,
@@ -120,16 +119,30 @@ impl Program {
             pattern,
             names,
             static_captures_len,
-            prefix,
-            loops,
+            prefix: None,
+            loops: SelfLoops::none(alloc),
         })
     }
 
-    /// Looks for the self-loops of the states. The error is out of memory.
-    pub(crate) fn find_self_loops(&mut self) -> Result<(), AllocError>
+    // Looks for the start prefix. It takes no memory.
+    fn find_prefix(&mut self)
         ensures { self.new ≡ self.old }
     {
-        self.loops = SelfLoops::of(self.alloc, &self.states, self.prefix.as_ref())?;
+        self.loops = SelfLoops::none(self.alloc);
+        self.prefix = StartPrefix::of(&self.states, self.start);
+    }
+
+    /// Looks for the start prefix and for the self-loops of the states. The error is out of memory.
+    pub(crate) fn find_shortcuts(&mut self) -> Result<(), AllocError>
+        ensures { self.new ≡ self.old }
+    {
+        let Some((found, looks)) = StartClosure::of(&self.states, self.start) else {
+            self.prefix = None;
+            self.loops = SelfLoops::of(self.alloc, &self.states, None)?;
+            return Ok(());
+        };
+        self.loops = SelfLoops::of(self.alloc, &self.states, Some(&found.visited))?;
+        self.prefix = Some(found.finish(looks));
         Ok(())
     }
 
@@ -168,7 +181,7 @@ impl Program {
             IsPrefix self.now.program.states self.now.program.start x.now) }
         ensures loops { AreLoops self.now.program.states result.loops.now }
         ensures covered { IfSome result.prefix (λ x. AreCovered self.now.program.states
-            result.loops.now x.now) }
+            result.loops.now x.now.visited.value) }
     {
         let _ = &self.states;
         let _ = self.start;

@@ -7,7 +7,7 @@ ghost use Rattle.bites_machine.specs.Bits.{has_bit};
 
 use crate::character_set::CharacterSet;
 use crate::kept_ranges::KeptRanges;
-use crate::prefix::{StartPrefix, push_all};
+use crate::prefix::push_all;
 use crate::ranges::{Ranges, reaches_past_ascii};
 use crate::short_stack::ShortStack;
 use crate::state::State;
@@ -51,12 +51,13 @@ impl SelfLoop {
     ghost use Rattle.bites_machine.specs.SelfLoop.{IsSelfLoop, IsCovered, stays_by};
     ghost use Rattle.bites_machine.specs.States.{states_of};
 
-    /// The self-loop of this state. `None` if it has none, if an assertion is met, or if there are too many states.
-    pub(crate) fn of(states: &[State], state: u32, prefix: Option<&StartPrefix>) -> Option<SelfLoop>
+    /// The self-loop of this state. `None` if it has none, if an assertion is met, or if there are too many states. The
+    /// states of the start prefix are given, if there is one.
+    pub(crate) fn of(states: &[State], state: u32, prefix: Option<&ShortStack>) -> Option<SelfLoop>
         ensures walks { IfSome result (IsSelfLoop (states_of states.now)) }
         ensures state { IfSome result (λ x. x.state ≡ state) }
-        ensures covered { IfSome result (λ x. IfSome prefix.entry (λ r.
-            IsCovered (states_of states.now) x r.now)) }
+        ensures covered { IfSome result (λ x. IfSome prefix.entry (λ qs.
+            IsCovered (states_of states.now) x qs.now)) }
     {
         let mut closure = LoopClosure::new(state);
         let mut stack = ShortStack::new();
@@ -248,16 +249,16 @@ impl LoopClosure {
         })
     }
 
-    // The characters that those states of the prefix take which the closure doesn't visit, if it is given.
-    fn behind(&self, states: &[State], prefix: Option<&StartPrefix>) -> CharacterSet
-        ensures { IfSome prefix.entry (λ r. (q : ℕ) → Among r.now.visited q →
+    // The characters that those states of the prefix take which the closure doesn't visit, if they are given.
+    fn behind(&self, states: &[State], prefix: Option<&ShortStack>) -> CharacterSet
+        ensures { IfSome prefix.entry (λ qs. (q : ℕ) → Among qs.now q →
             LeavesOut (states_of states.now) self.now.visited q result) }
     {
         let mut behind = CharacterSet::new();
         let Some(prefix) = prefix else {
             return behind;
         };
-        for number in prefix.visited.as_slice() {
+        for number in prefix.as_slice() {
             self.leave_out(states, *number, &mut behind);
         }
         behind
@@ -329,15 +330,16 @@ impl SelfLoops {
         }
     }
 
-    /// The self-loops of these states, or the first sixteen of them.
+    /// The self-loops of these states, or the first sixteen of them. The states of the start prefix are given, if there
+    /// is one.
     pub(crate) fn of(
         alloc: Global,
         states: &[State],
-        prefix: Option<&StartPrefix>,
+        prefix: Option<&ShortStack>,
     ) -> Result<SelfLoops, AllocError>
         ensures loops { IfOk result (λ found. AreLoops (states_of states.now) found) }
-        ensures covered { IfOk result (λ found. IfSome prefix.entry (λ r.
-            AreCovered (states_of states.now) found r.now)) }
+        ensures covered { IfOk result (λ found. IfSome prefix.entry (λ qs.
+            AreCovered (states_of states.now) found qs.now)) }
     {
         let mut found = SelfLoops::none(alloc);
         for number in 0..states.len().min(MOST_STATES) {
@@ -354,13 +356,13 @@ impl SelfLoops {
         &mut self,
         states: &[State],
         state: u32,
-        prefix: Option<&StartPrefix>,
+        prefix: Option<&ShortStack>,
     ) -> Result<(), AllocError>
         ensures loops { OnOk result (AreLoops (states_of states.now) self.old →
             AreLoops (states_of states.now) self.new) }
-        ensures covered { OnOk result (IfSome prefix.entry (λ r.
-            AreCovered (states_of states.now) self.old r.now →
-            AreCovered (states_of states.now) self.new r.now)) }
+        ensures covered { OnOk result (IfSome prefix.entry (λ qs.
+            AreCovered (states_of states.now) self.old qs.now →
+            AreCovered (states_of states.now) self.new qs.now)) }
     {
         if self.loops.len() == MOST_LOOPS {
             return Ok(());

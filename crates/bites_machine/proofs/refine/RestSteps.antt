@@ -48,8 +48,8 @@ visited_here states place walked scratch width within_step q is =
 pub all_rest : (hay : List ℕ) (longest : Bool) (place : ℕ) (states : List program.State) (threads : List Thread) (q : ℕ) (x : StartPrefix) (was mid now : Record) (old new : Scratch) (slots left : List (Option ℕ)) →
     IsPrefix states q x → RestTakesNone x (seen_here place mid.visits) (next_character hay place) → IsApart x place → new.first_match ≡ None → ((v : Configuration) → Among was.visits v → v.place < place) →
     ClosesThreads hay longest place states threads [] was mid old new slots left →
-    now.visits ≡ map (λ r. at r place) (fresh_of (seen_here place mid.visits) x.visited) ++ mid.visits →
-    now.looks ≡ mid.looks + 1 + fresh_sum (seen_here place mid.visits) x.visited x.targets.value →
+    now.visits ≡ map (λ r. at r place) (fresh_of (seen_here place mid.visits) x.visited.value) ++ mid.visits →
+    now.looks ≡ mid.looks + 1 + fresh_sum (seen_here place mid.visits) x.visited.value x.targets.value →
     ClosesAll hay longest place states (Some q) threads was now old new slots left
 all_rest hay longest place states threads q x was mid now old new slots left prefix out apart no_hit fresh w visits looks = record {
   within_step = record {
@@ -81,10 +81,10 @@ all_rest hay longest place states threads q x was mid now old new slots left pre
       λ r hr s hs. ⊎_elim (λ e. inl e) (λ e. ⊎_elim (λ (f : q ≡ s). inr (sym f)) (λ none. absurd none) e) (shut refl r s hr hs) in
       let rest = walks_rest seen q hay longest place p x apart closed (next_of new) mid.looks
       (taken_by seen q hay longest place p x apart closed (next_of new) mid.looks out mine) mine t refl in
-      let last = walking (next_of new) [] (fresh_of seen x.visited ++ seen) (suc (mid.looks + fresh_sum seen x.visited x.targets.value)) in
-      let count : suc (mid.looks + fresh_sum seen x.visited x.targets.value) ≡ now.looks = omega (arith, looks) in
+      let last = walking (next_of new) [] (fresh_of seen x.visited.value ++ seen) (suc (mid.looks + fresh_sum seen x.visited.value x.targets.value)) in
+      let count : suc (mid.looks + fresh_sum seen x.visited.value x.targets.value) ≡ now.looks = omega (arith, looks) in
       let end : last ≡ walking_at place new left [] now =
-      ap₂ (λ (l : List ℕ) (n : ℕ). walking (next_of new) [] l n) (sym (ap (seen_here place) visits ∙ seen_more place (fresh_of seen x.visited) mid.visits)) count
+      ap₂ (λ (l : List ℕ) (n : ℕ). walking (next_of new) [] l n) (sym (ap (seen_here place) visits ∙ seen_more place (fresh_of seen x.visited.value) mid.visits)) count
       ∙ ap (λ (h : Option FirstMatch). walking_at place (record { visited_set = new.visited_set; stack = new.stack; rows = new.rows; next = new.next; first_match = h }) left [] now) (sym no_hit) in
       subst (λ (v : Walking). WalksTo hay longest p place a v) end (walks_through hay longest p place a c last to rest);
 }
@@ -93,4 +93,4 @@ all_rest hay longest place states threads q x was mid now old new slots left pre
     seen = seen_here place mid.visits
 
     before : visited_before place now.visits ≡ visited_before place mid.visits
-    before = ap (visited_before place) visits ∙ before_more place (fresh_of seen x.visited) mid.visits
+    before = ap (visited_before place) visits ∙ before_more place (fresh_of seen x.visited.value) mid.visits

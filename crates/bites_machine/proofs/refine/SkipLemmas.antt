@@ -36,7 +36,7 @@ visited_behind place later (q ∷ qs) vs lt before v h =
 module _ (hay : List ℕ) (longest : Bool) (place : ℕ) (states : List State) (q : ℕ) (x : StartPrefix) (prefix : IsPrefix states q x) (out : TakesNone x (next_character hay place)) (apart : IsApart x place) where
   -- the machine on lists skips the place
   place_skipped : (len : ℕ) (was now : Record) (scratch : Scratch) (slots : List (Option ℕ)) → len ≡ (piece hay place).len → scratch.first_match ≡ None →
-      now.visits ≡ map (λ r. at r place) x.visited ++ was.visits → now.looks ≡ was.looks + x.looks.value →
+      now.visits ≡ map (λ r. at r place) x.visited.value ++ was.visits → now.looks ≡ was.looks + x.looks.value →
       PlaceSearched hay longest place len states (Some q) was now scratch scratch [] [] slots slots
   place_skipped len was now scratch slots lens first_match visits looks = record {
     searches = λ p is s first found begins stands. by_found p is s first found begins stands;
@@ -50,7 +50,7 @@ module _ (hay : List ℕ) (longest : Bool) (place : ℕ) (states : List State) (
           let start : q ≡ p.start = cc in
           let mine : IsPrefix p.states q x = subst (λ (ss : List State). IsPrefix ss q x) (sym is) prefix in
           let t = started hay longest p (length slots) s.place in
-          let over = idle [] x.visited (s.looks + x.looks.value) in
+          let over = idle [] x.visited.value (s.looks + x.looks.value) in
           let begun_is : begun hay longest p (length slots) s ≡ idle (t ∷ []) [] s.looks =
           ap₂ (λ (ts : List machine.Thread) (b : Bool). record { stack = ts ++ cond b [] (t ∷ []); seen = []; next = []; first_match = None; looks = s.looks }) stands.threads stands.found in
           let walk : WalksTo hay longest p place (idle (t ∷ []) [] s.looks) over = walks_prefix hay longest place p x apart out q mine t (sym start) s.looks in (
@@ -66,7 +66,7 @@ module _ (hay : List ℕ) (longest : Bool) (place : ℕ) (states : List State) (
               threads = refl;
               found = stands.found ∙ sym (ap (λ (h : Option FirstMatch). is_some h) first_match);
               slots = stands.slots;
-              visits = ap₂ (λ j (vs : List Configuration). map (λ r. at r j) x.visited ++ vs) stands.place stands.visits ∙ sym visits;
+              visits = ap₂ (λ j (vs : List Configuration). map (λ r. at r j) x.visited.value ++ vs) stands.place stands.visits ∙ sym visits;
               looks = omega (arith, stands.looks, looks);
             },
           )
@@ -118,7 +118,7 @@ skips_first hay longest place states q was = record { gone = λ p is earliest st
 -- places were skipped, and this one is
 pub skips_on : (hay : List ℕ) (longest : Bool) (place here len : ℕ) (states : List State) (q : ℕ) (x : StartPrefix) (was mid now : Record) →
     IsPrefix states q x → TakesNone x (next_character hay here) → IsApart x here → len ≡ (piece hay here).len → 0 < len →
-    now.visits ≡ map (λ r. at r here) x.visited ++ mid.visits → now.looks ≡ mid.looks + x.looks.value →
+    now.visits ≡ map (λ r. at r here) x.visited.value ++ mid.visits → now.looks ≡ mid.looks + x.looks.value →
     Passes hay longest place here states q was mid → Passes hay longest place (here + len) states q was now
 skips_on hay longest place here len states q x was mid now prefix out apart lens some visits looks passes = record {
   gone = λ p is earliest start first slots pool slots_per_row gone.
@@ -132,7 +132,7 @@ skips_on hay longest place here len states q x was mid now prefix out apart lens
 -- places were skipped, and an ASCII character that no state takes stands behind them
 pub skips_byte : (hay : List ℕ) (longest : Bool) (place here : ℕ) (states : List State) (q : ℕ) (x : StartPrefix) (was mid now : Record) →
     IsPrefix states q x → here < length hay → in_set x.ascii true (get_or hay here 0) ≡ false → IsApart x here →
-    now.visits ≡ map (λ r. at r here) x.visited ++ mid.visits → now.looks ≡ mid.looks + x.looks.value →
+    now.visits ≡ map (λ r. at r here) x.visited.value ++ mid.visits → now.looks ≡ mid.looks + x.looks.value →
     Passes hay longest place here states q was mid → Passes hay longest place (here + 1) states q was now
 skips_byte hay longest place here states q x was mid now prefix lt out apart visits looks passes =
     let b = get_or hay here 0 in
@@ -182,7 +182,7 @@ pub record SkipsAll (hay : List ℕ) (longest : Bool) (place : ℕ) (states : Li
 skips_within : (hay : List ℕ) (longest : Bool) (place : ℕ) (states : List State) (q : ℕ) (x : StartPrefix) (was : Record) → IsPrefix states q x →
     ((c : ℕ) → in_set x.ascii x.others c ≡ false) → IsApart x place → (n here : ℕ) (mid : Record) → place ≤ here → here ≤ length hay → length hay ≤ here + n →
     ((v : Configuration) → Among mid.visits v → v.place < here) → Passes hay longest place here states q was mid →
-    SkipsAll hay longest place states q was (skipped_within hay x.visited x.looks.value n here mid)
+    SkipsAll hay longest place states q was (skipped_within hay x.visited.value x.looks.value n here mid)
 unfolding skipped_within
 skips_within hay longest place states q x was prefix none apart zero here mid from to fuel before passes =
     let at_end : here ≡ length hay = omega arith in
@@ -195,14 +195,14 @@ skips_within hay longest place states q x was prefix none apart (suc n) here mid
     let some : 0 < (piece hay here).len = piece_some hay here less in
     let within : here + (piece hay here).len ≤ length hay = piece_within hay here to in
     let later : here < here + (piece hay here).len = omega arith in
-    skips_within hay longest place states q x was prefix none apart n (here + (piece hay here).len) (visited_at hay x.visited x.looks.value here mid) (omega arith) within (omega arith)
-    (visited_behind here (here + (piece hay here).len) x.visited mid.visits later before)
-    (skips_on hay longest place here (piece hay here).len states q x was mid (visited_at hay x.visited x.looks.value here mid) prefix (idle_always x none (next_character hay here))
+    skips_within hay longest place states q x was prefix none apart n (here + (piece hay here).len) (visited_at hay x.visited.value x.looks.value here mid) (omega arith) within (omega arith)
+    (visited_behind here (here + (piece hay here).len) x.visited.value mid.visits later before)
+    (skips_on hay longest place here (piece hay here).len states q x was mid (visited_at hay x.visited.value x.looks.value here mid) prefix (idle_always x none (next_character hay here))
     (λ a. let pos = apart a in omega arith) refl some refl refl passes))
   where
     by_test : (b : Bool) → nat_lt here (length hay) ≡ b →
-        (here < length hay → SkipsAll hay longest place states q was (skipped_within hay x.visited x.looks.value n (here + (piece hay here).len) (visited_at hay x.visited x.looks.value here mid))) →
-        SkipsAll hay longest place states q was (cond b (skipped_within hay x.visited x.looks.value n (here + (piece hay here).len) (visited_at hay x.visited x.looks.value here mid)) mid)
+        (here < length hay → SkipsAll hay longest place states q was (skipped_within hay x.visited.value x.looks.value n (here + (piece hay here).len) (visited_at hay x.visited.value x.looks.value here mid))) →
+        SkipsAll hay longest place states q was (cond b (skipped_within hay x.visited.value x.looks.value n (here + (piece hay here).len) (visited_at hay x.visited.value x.looks.value here mid)) mid)
     by_test true e rest = rest (grind (arith, nat_tests))
     by_test false e rest =
         let at_end : here ≡ length hay = grind (arith, nat_tests) in
@@ -214,6 +214,6 @@ skips_within hay longest place states q x was prefix none apart (suc n) here mid
 -- where no character is taken all places up to the end are skipped
 pub skips_all : (hay : List ℕ) (longest : Bool) (place : ℕ) (states : List State) (q : ℕ) (x : StartPrefix) (was : Record) → IsPrefix states q x →
     ((c : ℕ) → in_set x.ascii x.others c ≡ false) → IsApart x place → place ≤ length hay → ((v : Configuration) → Among was.visits v → v.place < place) →
-    SkipsAll hay longest place states q was (skipped hay x.visited x.looks.value place was)
+    SkipsAll hay longest place states q was (skipped hay x.visited.value x.looks.value place was)
 skips_all hay longest place states q x was prefix none apart to before =
     skips_within hay longest place states q x was prefix none apart (length hay) place was (omega arith) to (omega arith) before (skips_first hay longest place states q was)

@@ -126,7 +126,7 @@ module _ (hay : List ℕ) (i : ℕ) (states : List State) (x : SelfLoop) (t : Th
   -- the place is searched where what is left of the prefix takes nothing
   with_rest : (p : Program) (s : Searching) (first slots : List (Option ℕ)) (len c : ℕ) (r : StartPrefix) (was now : Record) → IsSelfLoop p.states x → t.state ≡ x.state →
       len ≡ (piece hay i).len → next_character hay i ≡ Some c → stays_by x c ≡ true → StandsFor s i pool (t ∷ []) was first slots false → x.end ≡ None →
-      IsPrefix p.states p.start r → IsApart r i → in_set x.behind.ascii x.behind.others c ≡ false → IsCovered p.states x r → ((v : Configuration) → Among was.visits v → v.place < i) →
+      IsPrefix p.states p.start r → IsApart r i → in_set x.behind.ascii x.behind.others c ≡ false → IsCovered p.states x r.visited.value → ((v : Configuration) → Among was.visits v → v.place < i) →
       now.visits ≡ visits_at x (Some r) i was.visits → now.looks ≡ looks_at x (Some r) i was →
       (u : Searching) × Searches hay false p (length slots) s u × StandsFor u (i + len) pool (t ∷ []) now first (left_here x i (slots_at pool t.row) slots) (false || is_some (hit_of x t))
   with_rest p s first slots len c r was now self_loop at_state lens stands_here stays stands endless prefix apart out covered before visits looks =
@@ -144,7 +144,7 @@ module _ (hay : List ℕ) (i : ℕ) (states : List State) (x : SelfLoop) (t : Th
       }) endless in
       let to : WalksTo hay false p i a mid = subst (λ (w : Walking). WalksTo hay false p i a w) there (self_loop.walks p refl hay i c stands_here stays mine at_state (st ∷ []) was.looks) in
       let shut = walks_shut hay false i p a mid refl to in
-      let takes_none : (q : ℕ) → Among r.visited q → old seen q ≡ false → (d : ℕ) → next_character hay i ≡ Some d → takes (state_at p.states q) d ≡ false =
+      let takes_none : (q : ℕ) → Among r.visited.value q → old seen q ≡ false → (d : ℕ) → next_character hay i ≡ Some d → takes (state_at p.states q) d ≡ false =
       λ q hq new d is. ⊎_elim
       (λ (e : takes (state_at p.states q) d ≡ true).
       let same : c ≡ d = same_character (sym stands_here ∙ is) in
@@ -152,13 +152,13 @@ module _ (hay : List ℕ) (i : ℕ) (states : List State) (x : SelfLoop) (t : Th
       (λ e. e) (cases_Bool (takes (state_at p.states q) d)) in
       let rest = walks_rest seen p.start hay false i p r apart
       (λ q hq s hs. ⊎_elim (λ e. inl e) (λ e. ⊎_elim (λ (g : p.start ≡ s). inr (sym g)) (λ none. absurd none) e) (shut refl q s hq hs)) (mine ∷ []) (was.looks + x.looks.value) takes_none prefix st refl in
-      let last = walking (mine ∷ []) [] (fresh_of seen r.visited ++ seen) (suc (was.looks + x.looks.value + fresh_sum seen r.visited r.targets.value)) in
+      let last = walking (mine ∷ []) [] (fresh_of seen r.visited.value ++ seen) (suc (was.looks + x.looks.value + fresh_sum seen r.visited.value r.targets.value)) in
       let here : seen_here i (map (λ q. at q i) seen ++ was.visits) ≡ seen = seen_more i seen was.visits ∙ ap (λ (l : List ℕ). seen ++ l) (none_here i was.visits before) ∙ append-nil seen in
       searched p s first slots false len was now last lens stands
       (subst (λ (w : Walking). WalksTo hay false p i w last) (sym (begun_is p s first slots false was stands)) (walks_through hay false p i a mid last to rest))
       refl refl (sym (ap (λ (e : Option ℕ). option_map matched e) endless))
-      (visits ∙ ap (λ (l : List ℕ). map (λ q. at q i) (fresh_of l r.visited) ++ (map (λ q. at q i) seen ++ was.visits)) here ∙ both (λ q. at q i) (fresh_of seen r.visited) seen was.visits)
-      (looks ∙ ap (λ (l : List ℕ). was.looks + x.looks.value + 1 + fresh_sum l r.visited r.targets.value) here ∙ omega arith)
+      (visits ∙ ap (λ (l : List ℕ). map (λ q. at q i) (fresh_of l r.visited.value) ++ (map (λ q. at q i) seen ++ was.visits)) here ∙ both (λ q. at q i) (fresh_of seen r.visited.value) seen was.visits)
+      (looks ∙ ap (λ (l : List ℕ). was.looks + x.looks.value + 1 + fresh_sum l r.visited.value r.targets.value) here ∙ omega arith)
     where
       both : {A B : Type 0} (g : A → B) (qs rs : List A) (vs : List B) → (map g qs ++ (map g rs ++ vs)) ≡ (map g (qs ++ rs) ++ vs)
       both g [] rs vs = refl
@@ -171,7 +171,7 @@ module _ (hay : List ℕ) (states : List State) (x : SelfLoop) (q : ℕ) where
   -- what a search needs to know of the start where the character stands
   abbrev pub RestStays : Option StartPrefix → ℕ → ℕ → Type 0
   RestStays None i c = Unit {0}
-  RestStays (Some r) i c = IsPrefix states q r × IsApart r i × (in_set x.behind.ascii x.behind.others c ≡ false) × IsCovered states x r
+  RestStays (Some r) i c = IsPrefix states q r × IsApart r i × (in_set x.behind.ascii x.behind.others c ≡ false) × IsCovered states x r.visited.value
 
   same_found : (f found : Bool) (start : ℕ) → cond f None (Some q) ≡ cond found None (Some start) → f ≡ found
   same_found true true start e = refl
@@ -197,7 +197,7 @@ module _ (hay : List ℕ) (states : List State) (x : SelfLoop) (q : ℕ) where
         let start : q ≡ p.start = same_start p.start (sym (ap (λ (b : Bool). cond b None (Some q)) same) ∙ begins) in
         let prefix : IsPrefix p.states p.start r = subst (λ (ss : List State). IsPrefix ss p.start r) (sym is) (subst (λ n. IsPrefix states n r) start rests.0) in
         with_rest hay i states x t pool p s first slots len c r was now (subst (λ (ss : List State). IsSelfLoop ss x) (sym is) self_loop) at_state lens stands_here stays stands may.start.1
-        prefix rests.1 rests.2 (subst (λ (ss : List State). IsCovered ss x r) (sym is) rests.3) before visits looks
+        prefix rests.1 rests.2 (subst (λ (ss : List State). IsCovered ss x r.visited.value) (sym is) rests.3) before visits looks
 
     place_stayed : (rest : Option StartPrefix) → MayPass x rest earliest f → RestStays rest i c → now.visits ≡ visits_at x rest i was.visits → now.looks ≡ looks_at x rest i was →
         PlaceSearched hay false i len states (cond f None (Some q)) was now (scratch_of pool None) (scratch_of pool (hit_of x t)) (t ∷ []) (t ∷ []) slots (left_here x i (slots_at pool t.row) slots)
@@ -300,7 +300,7 @@ module _ (hay : List ℕ) (states : List State) (x : SelfLoop) (q : ℕ) where
 
   -- what is known of the prefix that is given, at the place of a character
   pub rest_stays : (o : Option (Bor StartPrefix)) (from i c : ℕ) → from ≤ i → IfSome o (λ r. IsPrefix states q r.now) → IfSome o (λ r. IsApart r.now from) →
-      IfSome o (λ r. IsCovered states x r.now) → IfSome o (λ r. in_set x.behind.ascii x.behind.others c ≡ false) → RestStays (lent o) i c
+      IfSome o (λ r. IsCovered states x r.now.visited.value) → IfSome o (λ r. in_set x.behind.ascii x.behind.others c ≡ false) → RestStays (lent o) i c
   rest_stays None from i c le prefix apart covered out = tt
   rest_stays (Some r) from i c le prefix apart covered out = (prefix, λ a. let above = apart a in omega (arith, above, le), out, covered)
 
@@ -335,7 +335,7 @@ visits_behind x rest place later vs lt before = by_rest rest
 
     by_rest : (o : Option StartPrefix) (v : Configuration) → Among (visits_at x o place vs) v → v.place < later
     by_rest None = closed
-    by_rest (Some r) = more (fresh_of (seen_here place (closed_at x place vs)) r.visited) (closed_at x place vs) closed
+    by_rest (Some r) = more (fresh_of (seen_here place (closed_at x place vs)) r.visited.value) (closed_at x place vs) closed
 
 -- what holds of the prefix of a search holds of the one that is given
 pub given_rest : (P : Bor StartPrefix → Type 0) (rest prefix : Option (Bor StartPrefix)) → IfSome rest (λ r. prefix ≡ Some r) → IfSome prefix P → IfSome rest P

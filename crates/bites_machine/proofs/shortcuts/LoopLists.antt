@@ -3,7 +3,6 @@ use Rattle.std.proofs.Common.{◌≡◌, ℕ, zero, suc, ◌<◌, List, [], ◌�
 use Rattle.bites_spec.specs.Walks.{Among}
 use Rattle.bites_spec.specs.Program.{State}
 use Rattle.bites_machine.specs.SelfLoop.{IsSelfLoop, IsCovered, AreLoops, AreCovered}
-use Rattle.bites_machine.specs.declared.prefix.StartPrefix.{StartPrefix}
 use Rattle.bites_machine.specs.declared.self_loop.SelfLoop.{SelfLoop}
 use Rattle.bites_machine.proofs.compile.EdgeLemmas.{Among-apart}
 
@@ -23,7 +22,7 @@ among_more {A} P xs ys y is all one x h =
 pub loops_more : (states : List State) (xs ys : List SelfLoop) (y : SelfLoop) → ys ≡ xs ++ y ∷ [] → IsSelfLoop states y → AreLoops states xs → AreLoops states ys
 loops_more states xs ys y is one all = among_more (IsSelfLoop states) xs ys y is all one
 
-pub covered_more : (states : List State) (prefix : Option (Bor StartPrefix)) (xs ys : List SelfLoop) (y : SelfLoop) → ys ≡ xs ++ y ∷ [] → IfSome prefix (λ r. IsCovered states y r.now) →
+pub covered_more : (states : List State) (prefix : Option (Bor (List ℕ))) (xs ys : List SelfLoop) (y : SelfLoop) → ys ≡ xs ++ y ∷ [] → IfSome prefix (λ r. IsCovered states y r.now) →
     IfSome prefix (λ r. AreCovered states xs r.now → AreCovered states ys r.now)
 covered_more states None xs ys y is one = tt
 covered_more states (Some r) xs ys y is one = λ all. among_more (λ (x : SelfLoop). IsCovered states x r.now) xs ys y is all one

@@ -6,7 +6,7 @@ use Rattle.std.specs.List.{list_any}
 use Rattle.bites_spec.specs.Walks.{Among}
 use Rattle.bites_spec.specs.Program.{State, state_at, takes}
 use Rattle.bites_machine.specs.Prefix.{Blind, blind_look, blind_step, blind_from, blind_targets, count_of, may_stay, AreIdle, IsAlone, Follows, HasFound}
-use Rattle.bites_machine.specs.declared.prefix.Closure.{Closure}
+use Rattle.bites_machine.specs.declared.prefix.StartClosure.{StartClosure}
 use Rattle.bites_machine.proofs.shortcuts.PrefixSets.{may_stay-more}
 
 -- a closure by its parts
@@ -40,7 +40,7 @@ module _ (states : List State) where
   look_new q rest seen looks e = ap (λ (b : Bool). cond b (blind rest seen (suc looks)) (blind (blind_targets (state_at states q) ++ rest) (q ∷ seen) (suc looks))) e
 
   -- a state that was visited is looked at again
-  pub found_seen : (start looks q : ℕ) (rest : List ℕ) (x : Closure) → list_any (λ n. n == q) x.visited ≡ true → HasFound states start looks (q ∷ rest) x → HasFound states start (looks + 1) rest x
+  pub found_seen : (start looks q : ℕ) (rest : List ℕ) (x : StartClosure) → list_any (λ n. n == q) x.visited ≡ true → HasFound states start looks (q ∷ rest) x → HasFound states start (looks + 1) rest x
   found_seen start looks q rest x seen f =
       let next : suc looks ≡ looks + 1 = omega arith in
       subst (λ n. HasFound states start n rest x) next (record {
@@ -50,7 +50,7 @@ module _ (states : List State) where
         alone = f.alone;
       })
 
-  idle_more : (q : ℕ) (seen : List ℕ) (rest onto : List ℕ) (y z : Closure) → Follows q (state_at states q) rest onto y z → AreIdle states seen y.ascii y.others y.anchored →
+  idle_more : (q : ℕ) (seen : List ℕ) (rest onto : List ℕ) (y z : StartClosure) → Follows q (state_at states q) rest onto y z → AreIdle states seen y.ascii y.others y.anchored →
       AreIdle states (q ∷ seen) z.ascii z.others z.anchored
   idle_more q seen rest onto y z follows idle = record {
     stay = λ r h. ⊎_elim (λ (e : q ≡ r). subst (λ n. may_stay z.anchored (state_at states n) ≡ true) e follows.stays)
@@ -59,7 +59,7 @@ module _ (states : List State) where
         (λ l. follows.grows c (idle.take r c l t)) h;
   }
 
-  alone_more : (q : ℕ) (seen : List ℕ) (rest onto : List ℕ) (y z : Closure) → Follows q (state_at states q) rest onto y z → IsAlone states seen y.several y.taker →
+  alone_more : (q : ℕ) (seen : List ℕ) (rest onto : List ℕ) (y z : StartClosure) → Follows q (state_at states q) rest onto y z → IsAlone states seen y.several y.taker →
       IsAlone states (q ∷ seen) z.several z.taker
   alone_more q seen rest onto y z follows alone none r c h t =
       let keeps = follows.keeps none in
@@ -71,7 +71,7 @@ module _ (states : List State) where
   count_is q count rest onto is e = omega (arith, e, ap length is, length-append (blind_targets (state_at states q)) rest)
 
   -- another state is visited and followed
-  pub found_new : (start looks q count : ℕ) (rest onto : List ℕ) (x y z v : Closure) → list_any (λ n. n == q) x.visited ≡ false →
+  pub found_new : (start looks q count : ℕ) (rest onto : List ℕ) (x y z v : StartClosure) → list_any (λ n. n == q) x.visited ≡ false →
       y.visited ≡ q ∷ x.visited → y.targets ≡ x.targets → y.ascii ≡ x.ascii → y.others ≡ x.others → y.anchored ≡ x.anchored → y.taker ≡ x.taker → y.several ≡ x.several → Follows q (state_at states q) rest onto y z →
       count ≡ length onto - length rest → v.targets ≡ count ∷ z.targets → v.visited ≡ z.visited → v.ascii ≡ z.ascii → v.others ≡ z.others → v.anchored ≡ z.anchored → v.taker ≡ z.taker → v.several ≡ z.several →
       HasFound states start looks (q ∷ rest) x → HasFound states start (looks + 1) onto v

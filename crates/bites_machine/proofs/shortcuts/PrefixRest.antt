@@ -253,19 +253,19 @@ module _ (old : List ℕ) where
       some_looks prefix (suc m) is = (m, is)
 
       -- where what is left of the prefix takes nothing, a state that is not old doesn't take the character that stands here
-      pub taken_by : RestTakesNone x old (next_character hay i) → IsPrefix p.states start x → (r : ℕ) → Among x.visited r → was old r ≡ false → (c : ℕ) → next_character hay i ≡ Some c → takes (state_at p.states r) c ≡ false
+      pub taken_by : RestTakesNone x old (next_character hay i) → IsPrefix p.states start x → (r : ℕ) → Among x.visited.value r → was old r ≡ false → (c : ℕ) → next_character hay i ≡ Some c → takes (state_at p.states r) c ≡ false
       taken_by out prefix r mine new =
           ⊎_elim
           (λ (none : TakesNone x (next_character hay i)). takes-none x.ascii x.others (takes (state_at p.states r)) (λ c. prefix.idle.take r c mine) (next_character hay i) none)
           (λ (has : HasTaken x old). λ c is.
-          let alone : TakesAlone p.states x.visited has.0 = subst (λ (o : Option ℕ). IfSome o (TakesAlone p.states x.visited)) has.1 prefix.alone in
+          let alone : TakesAlone p.states x.visited.value has.0 = subst (λ (o : Option ℕ). IfSome o (TakesAlone p.states x.visited.value)) has.1 prefix.alone in
           ⊎_elim (λ (e : takes (state_at p.states r) c ≡ true). absurd (true≢false (sym (among_was old r (subst (Among old) (alone r c mine e) has.2)) ∙ new))) (λ e. e)
           (cases_Bool (takes (state_at p.states r) c)))
           out
 
       -- the walk from the start, behind others
-      pub walks_rest : ((r : ℕ) → Among x.visited r → was old r ≡ false → (c : ℕ) → next_character hay i ≡ Some c → takes (state_at p.states r) c ≡ false) → IsPrefix p.states start x → (t : Thread) → t.state ≡ start →
-          WalksTo hay longest p i (walking next (t ∷ []) old base) (walking next [] (fresh_of old x.visited ++ old) (suc (base + fresh_sum old x.visited x.targets.value)))
+      pub walks_rest : ((r : ℕ) → Among x.visited.value r → was old r ≡ false → (c : ℕ) → next_character hay i ≡ Some c → takes (state_at p.states r) c ≡ false) → IsPrefix p.states start x → (t : Thread) → t.state ≡ start →
+          WalksTo hay longest p i (walking next (t ∷ []) old base) (walking next [] (fresh_of old x.visited.value ++ old) (suc (base + fresh_sum old x.visited.value x.targets.value)))
       walks_rest takes_none prefix t is =
           let some = some_looks prefix x.looks.value refl in
           let m = some.0 in
@@ -273,7 +273,7 @@ module _ (old : List ℕ) where
           let all = iterate (blind_step p.states) m (blind_step p.states b) in
           let same : blind_from p.states start x.looks.value ≡ all =
           ap (blind_from p.states start) some.1 ∙ from_is p.states start (suc m) ∙ ap (λ n. iterate (blind_step p.states) m (blind_step p.states (blind (n ∷ []) [] 0))) (sym is) in
-          let seen : all.seen ≡ x.visited = ap (λ (c : Blind). c.seen) (sym same) ∙ prefix.seen in
+          let seen : all.seen ≡ x.visited.value = ap (λ (c : Blind). c.seen) (sym same) ∙ prefix.seen in
           let stack : all.stack ≡ [] = ap (λ (c : Blind). c.stack) (sym same) ∙ prefix.stack in
           let quiet : Quiet all = λ r h new. let mine = subst (λ (l : List ℕ). Among l r) seen h in (prefix.idle.stay r mine, takes_none r mine new) in
           let count : base + suc 0 ≡ suc (base + sum_of []) = omega arith in
@@ -281,8 +281,8 @@ module _ (old : List ℕ) where
           let more = all_rests m (blind_step p.states b) first.last quiet first.rests first.began in
           let r = more.rests in
           let none : r.threads ≡ [] = no_numbers r.threads (subst (λ (l : List ℕ). Over l (numbers r.threads)) stack r.over) in
-          let looks : r.looks ≡ suc (base + fresh_sum old x.visited x.targets.value) =
-          omega (arith, r.sum, ap length none, ap sum_of seen, ap (fresh_sum old x.visited) prefix.targets) in
+          let looks : r.looks ≡ suc (base + fresh_sum old x.visited.value x.targets.value) =
+          omega (arith, r.sum, ap length none, ap sum_of seen, ap (fresh_sum old x.visited.value) prefix.targets) in
           subst (λ (v : Walking). WalksTo hay longest p i (walking next (t ∷ []) old base) v)
-          (r.walk ∙ ap₂ (λ (ts : List Thread) (l : List ℕ). walking next ts (fresh_of old l ++ old) r.looks) none seen ∙ ap (walking next [] (fresh_of old x.visited ++ old)) looks)
+          (r.walk ∙ ap₂ (λ (ts : List Thread) (l : List ℕ). walking next ts (fresh_of old l ++ old) r.looks) none seen ∙ ap (walking next [] (fresh_of old x.visited.value ++ old)) looks)
           (walks_through hay longest p i (walking next (t ∷ []) old base) first.last more.last first.to more.to)

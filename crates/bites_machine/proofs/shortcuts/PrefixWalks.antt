@@ -174,12 +174,12 @@ module _ (hay : List ℕ) (longest : Bool) (i : ℕ) (p : Program) (x : StartPre
       (one_look base w b (λ q h. quiet q (seen_kept p.states n (blind_step p.states b) q h)) s)
 
   -- the walk from the start
-  pub walks_prefix : TakesNone x (next_character hay i) → (q : ℕ) → IsPrefix p.states q x → (t : Thread) → t.state ≡ q → (base : ℕ) → WalksTo hay longest p i (idle (t ∷ []) [] base) (idle [] x.visited (base + x.looks.value))
+  pub walks_prefix : TakesNone x (next_character hay i) → (q : ℕ) → IsPrefix p.states q x → (t : Thread) → t.state ≡ q → (base : ℕ) → WalksTo hay longest p i (idle (t ∷ []) [] base) (idle [] x.visited.value (base + x.looks.value))
   walks_prefix out q prefix t is base =
       let none : base ≡ base + 0 = omega arith in
       let all = iterate (blind_step p.states) x.looks.value (blind (q ∷ []) [] 0) in
       let same : blind_from p.states q x.looks.value ≡ all = from_is p.states q x.looks.value in
-      let seen : all.seen ≡ x.visited = ap (λ (b : Blind). b.seen) (sym same) ∙ prefix.seen in
+      let seen : all.seen ≡ x.visited.value = ap (λ (b : Blind). b.seen) (sym same) ∙ prefix.seen in
       let looks : all.looks ≡ x.looks.value = ap (λ (b : Blind). b.looks) (sym same) ∙ prefix.looks in
       let stack : all.stack ≡ [] = ap (λ (b : Blind). b.stack) (sym same) ∙ prefix.stack in
       let first : Shadows base (idle (t ∷ []) [] base) (blind (q ∷ []) [] 0) = record { threads = t ∷ []; walk = ap (idle (t ∷ []) []) none; stack = ap (λ n. n ∷ []) (sym is) } in
@@ -187,5 +187,5 @@ module _ (hay : List ℕ) (longest : Bool) (i : ℕ) (p : Program) (x : StartPre
       (λ r h. let mine = subst (λ (l : List ℕ). Among l r) seen h in (prefix.idle.stay r mine, takes-none x.ascii x.others (takes (state_at p.states r)) (λ c. prefix.idle.take r c mine) (next_character hay i) out)) first in (
         x.looks.value,
         last.walk ∙ ap₂ (λ (ts : List Thread) (l : List ℕ). idle ts l (base + all.looks)) (no_numbers last.threads (sym last.stack ∙ stack)) seen
-            ∙ ap (λ n. idle [] x.visited (base + n)) looks,
+            ∙ ap (λ n. idle [] x.visited.value (base + n)) looks,
       )

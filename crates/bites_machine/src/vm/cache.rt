@@ -128,7 +128,7 @@ impl Cache {
         requires loops { AreLoops (states_of counted.states.now)
             request.now.loops.now }
         requires covered { IfSome request.now.prefix (λ x. AreCovered
-            (states_of counted.states.now) request.now.loops.now x.now) }
+            (states_of counted.states.now) request.now.loops.now x.now.visited.value) }
         requires slots_per_row { length slots.old ≤ self.old.fits.slots }
         ensures search_result { request.now.start ≤ length request.now.haystack.now →
             (p : program.Program) →
@@ -223,7 +223,7 @@ fn search_width<const WIDTH: usize, const LONGEST: bool>(
     requires loops { AreLoops (states_of counted.old.states.now)
         request.now.loops.now }
     requires covered { IfSome request.now.prefix (λ x. AreCovered
-        (states_of counted.old.states.now) request.now.loops.now x.now) }
+        (states_of counted.old.states.now) request.now.loops.now x.now.visited.value) }
     requires idle { IsIdle scratch.old threads.old }
     requires slots_per_row { length slots.old ≡ scratch.old.rows.slots_per_row }
     requires one { WIDTH < 3 → length slots.old ≡ WIDTH }

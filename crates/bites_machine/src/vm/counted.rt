@@ -95,7 +95,7 @@ impl Trace {
 
     fn visit_prefix(&mut self, prefix: &StartPrefix, place: usize)
         ensures visits { self.new.visits
-            ≡ map (λ q. at q place) prefix.now.visited ++ self.old.visits }
+            ≡ map (λ q. at q place) prefix.now.visited.value ++ self.old.visits }
         ensures looks { self.new.looks ≡ self.old.looks + prefix.now.looks.value }
     {
         let earlier = mem::replace(&mut self.history, Snapshot::of(&History::Nothing));
@@ -109,9 +109,9 @@ impl Trace {
 
     fn visit_rest(&mut self, prefix: &StartPrefix, place: usize)
         ensures visits { self.new.visits ≡ map (λ q. at q place)
-            (fresh_of (seen_here place self.old.visits) prefix.now.visited) ++ self.old.visits }
+            (fresh_of (seen_here place self.old.visits) prefix.now.visited.value) ++ self.old.visits }
         ensures looks { self.new.looks ≡ self.old.looks + 1
-            + fresh_sum (seen_here place self.old.visits) prefix.now.visited prefix.now.targets.value }
+            + fresh_sum (seen_here place self.old.visits) prefix.now.visited.value prefix.now.targets.value }
     {
         let earlier = mem::replace(&mut self.history, Snapshot::of(&History::Nothing));
         let rest = History::Rest {
@@ -137,7 +137,7 @@ impl Trace {
 
     fn skip(&mut self, prefix: &StartPrefix, haystack: &[u8], from: usize)
         ensures { self.new
-            ≡ skipped haystack.now prefix.now.visited prefix.now.looks.value from self.old }
+            ≡ skipped haystack.now prefix.now.visited.value prefix.now.looks.value from self.old }
     {
         let earlier = mem::replace(&mut self.history, Snapshot::of(&History::Nothing));
         let skip = History::Skip {
@@ -207,11 +207,11 @@ impl<'p> Counted<'p> {
     /// Visits the states of the prefix at a place where none of them was visited before. It reads no state.
     #[inline(always)]
     pub(super) fn visit_prefix(&mut self, prefix: &StartPrefix, place: usize)
-        requires fresh { (q : ℕ) → Among prefix.now.visited q
+        requires fresh { (q : ℕ) → Among prefix.now.visited.value q
             → IsNew (at q place) self.old.walked.visits }
         ensures states { self.new.states ≡ self.old.states }
         ensures visits { self.new.walked.visits
-            ≡ map (λ q. at q place) prefix.now.visited ++ self.old.walked.visits }
+            ≡ map (λ q. at q place) prefix.now.visited.value ++ self.old.walked.visits }
         ensures looks { self.new.walked.looks ≡ self.old.walked.looks + prefix.now.looks.value }
     {
         self.walked.visit_prefix(prefix, place);
@@ -225,11 +225,11 @@ impl<'p> Counted<'p> {
             → v.place < place }
         ensures states { self.new.states ≡ self.old.states }
         ensures visits { self.new.walked.visits ≡ map (λ q. at q place)
-            (fresh_of (seen_here place self.old.walked.visits) prefix.now.visited)
+            (fresh_of (seen_here place self.old.walked.visits) prefix.now.visited.value)
             ++ self.old.walked.visits }
         ensures looks { self.new.walked.looks ≡ self.old.walked.looks + 1
             + fresh_sum (seen_here place self.old.walked.visits)
-            prefix.now.visited prefix.now.targets.value }
+            prefix.now.visited.value prefix.now.targets.value }
     {
         self.walked.visit_rest(prefix, place);
     }
@@ -253,7 +253,7 @@ impl<'p> Counted<'p> {
     pub(super) fn skip_to_end(&mut self, prefix: &StartPrefix, haystack: &[u8], from: usize)
         requires fresh { (v : Configuration) → Among self.old.walked.visits v → v.place < from }
         ensures states { self.new.states ≡ self.old.states }
-        ensures walked { self.new.walked ≡ skipped haystack.now prefix.now.visited
+        ensures walked { self.new.walked ≡ skipped haystack.now prefix.now.visited.value
             prefix.now.looks.value from self.old.walked }
     {
         self.walked.skip(prefix, haystack, from);

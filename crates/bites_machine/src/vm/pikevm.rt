@@ -354,7 +354,7 @@ pub(super) fn search(
     requires loops { AreLoops (states_of counted.old.states.now)
         request.now.loops.now }
     requires covered { IfSome request.now.prefix (λ x. AreCovered
-        (states_of counted.old.states.now) request.now.loops.now x.now) }
+        (states_of counted.old.states.now) request.now.loops.now x.now.visited.value) }
     requires idle { IsIdle scratch.old threads.old }
     requires slots_per_row { length slots.old ≡ scratch.old.rows.slots_per_row }
     requires nothing { slots_at scratch.old.rows 0 ≡ replicate scratch.old.rows.slots_per_row None }

@@ -78,7 +78,7 @@ fn pass_places(
         IsPrefix (states_of counted.old.states.now) first r.now) }
     requires apart { IfSome rest (λ r. IsApart r.now from) }
     requires covered { IfSome rest (λ r.
-        IsCovered (states_of counted.old.states.now) body.now r.now) }
+        IsCovered (states_of counted.old.states.now) body.now r.now.visited.value) }
     requires before { (v : program.Configuration) → Among counted.old.walked.visits v → v.place < from }
     ensures states { counted.new.states ≡ counted.old.states }
     ensures onward { from ≤ result.place }
@@ -106,10 +106,17 @@ fn pass_places(
     Passed { place, last }
 }
 
-// Whether an ASCII character stands here by which a thread of the self-loop does not stay. It only spares a call.
+// Whether it is known from one byte that a thread of the self-loop does not stay here. It only spares a call.
 #[inline(always)]
 fn leaves(body: &SelfLoop, haystack: &[u8], place: usize) -> bool {
-    place >= haystack.len() || (haystack[place] < 128 && !body.stays(haystack[place] as char))
+    if place >= haystack.len() {
+        return true;
+    }
+    if haystack[place] < 128 {
+        !body.stays(haystack[place] as char)
+    } else {
+        body.others.is_empty()
+    }
 }
 
 // The self-loop of the only thread, if there is one, and if a search does not stop at the places that it passes.
@@ -184,7 +191,7 @@ fn pass(
     requires prefix { IfSome request.now.prefix (λ r.
         IsPrefix (states_of counted.old.states.now) request.now.first r.now) }
     requires covered { IfSome request.now.prefix (λ r.
-        IsCovered (states_of counted.old.states.now) body.now r.now) }
+        IsCovered (states_of counted.old.states.now) body.now r.now.visited.value) }
     requires alone { (t : thread.Thread) × (threads.now.threads ≡ t ∷ [])
         × (t.state ≡ body.now.state) }
     requires longest { request.now.longest ≡ false }
@@ -245,7 +252,7 @@ pub(super) fn pass_self_loop(
     requires loops { AreLoops (states_of counted.old.states.now)
         request.now.loops.now }
     requires covered { IfSome request.now.prefix (λ r. AreCovered
-        (states_of counted.old.states.now) request.now.loops.now r.now) }
+        (states_of counted.old.states.now) request.now.loops.now r.now.visited.value) }
     requires between { InvariantBetweenSteps (states_of counted.old.states.now) place
         counted.old.walked scratch.now threads.now (length slots.old) }
     ensures states { counted.new.states ≡ counted.old.states }

@@ -3,7 +3,6 @@ use Rattle.std.proofs.lemmas.Bool.{cases_lt}
 use Rattle.bites_spec.specs.Walks.{Among}
 use Rattle.bites_machine.specs.States.{states_of}
 use Rattle.bites_machine.specs.SelfLoop.{LeavesOut}
-use Rattle.bites_machine.specs.declared.prefix.StartPrefix.{StartPrefix}
 use Rattle.bites_machine.proofs.compile.EdgeLemmas.{Among-reversed}
 use Rattle.bites_machine.proofs.shortcuts.LoopLists.{among_index}
 use Rattle.bites_machine.proofs.self_loop.LoopClosure.behind.Goals as goal
@@ -25,7 +24,7 @@ returns c =
     let seen = c.args.self.now.visited in
     let behind = c.loop-number.behind in
     let items = c.as_slice-number-items.result.now in
-    subst (λ (o : Option (Bor StartPrefix)). IfSome o (λ r. (q : ℕ) → Among r.now.visited q → LeavesOut states seen q behind)) (sym c.in-Some.is)
+    subst (λ (o : Option (Bor (List ℕ))). IfSome o (λ qs. (q : ℕ) → Among qs.now q → LeavesOut states seen q behind)) (sym c.in-Some.is)
     (λ q h.
-    let at = among_index items q (subst (λ (l : List ℕ). Among l q) (sym c.as_slice-number-items.ensures) (Among-reversed c.in-Some.prefix.now.visited q h)) in
+    let at = among_index items q (subst (λ (l : List ℕ). Among l q) (sym c.as_slice-number-items.ensures) (Among-reversed c.in-Some.prefix.now q h)) in
     subst (λ n. LeavesOut states seen n behind) at.2 (c.loop-number.invariant at.0 (omega (arith, at.1, c.loop-number-test.false))))

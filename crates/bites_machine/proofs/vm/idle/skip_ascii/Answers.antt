@@ -21,7 +21,7 @@ places-preserved c =
       onward = omega (arith, inv.onward);
       within = omega (arith, c.places-test.true);
       states = c.visit_prefix.ensures.states ∙ inv.states;
-      before = λ v h. visited_behind place (place + 1) x.visited was.visits later inv.before v
+      before = λ v h. visited_behind place (place + 1) x.visited.value was.visits later inv.before v
           (subst (λ vs. Among vs v) c.visit_prefix.ensures.visits h);
       passes = λ longest. skips_byte hay longest c.args.from place states c.args.first x c.args.counted.now.walked was now
           c.requires.prefix c.places-test.true (sym c.may_take_byte.ensures ∙ c.if-may_take_byte.false)

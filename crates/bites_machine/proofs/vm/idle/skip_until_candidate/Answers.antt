@@ -44,7 +44,7 @@ places-preserved c =
       onward = omega (arith, inv.onward, ascii.onward);
       within = omega (arith, e.within, e.place, ap length e.haystack);
       states = c.visit_prefix.ensures.states ∙ ascii.states ∙ inv.states;
-      before = λ v h. visited_behind place (place + here.ch_len) x.visited was.visits later ascii.before v
+      before = λ v h. visited_behind place (place + here.ch_len) x.visited.value was.visits later ascii.before v
           (subst (λ vs. Among vs v) c.visit_prefix.ensures.visits h);
       passes = λ longest. skips_on hay longest c.args.from place here.ch_len states c.args.first x c.args.counted.now.walked was now
           c.requires.prefix out (λ a. let from = c.requires.apart a in omega (arith, from, inv.onward, ascii.onward)) e.len some

@@ -40,7 +40,7 @@ pass_self_loop-reached-requires-clause-loops c =
 
 pub pass_self_loop-reached-requires-clause-covered : goal.pass_self_loop-reached-requires-clause-covered
 pass_self_loop-reached-requires-clause-covered c =
-    subst (λ (b : Bor (List State)). IfSome c.args.request.now.prefix (λ (x : Bor StartPrefix). AreCovered (states_of b.now) c.args.request.now.loops.now x.now)) (sym c.places.invariant.states) c.requires.covered
+    subst (λ (b : Bor (List State)). IfSome c.args.request.now.prefix (λ (x : Bor StartPrefix). AreCovered (states_of b.now) c.args.request.now.loops.now x.now.visited.value)) (sym c.places.invariant.states) c.requires.covered
 
 -- what a passed self-loop leaves
 between_passed : (states : List program.State) (place later width wide : ℕ) (was now : Record) (scratch : Scratch) (list : Listed) → wide ≡ width → ((v : program.Configuration) → Among now.visits v → v.place < later) →

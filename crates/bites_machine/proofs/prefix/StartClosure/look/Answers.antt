@@ -3,9 +3,9 @@ use Rattle.std.proofs.lemmas.List.{get_or-map}
 use Rattle.bites_spec.specs.Program as program
 use Rattle.bites_machine.specs.States.{state_of, states_of}
 use Rattle.bites_machine.specs.Prefix.{Follows}
-use Rattle.bites_machine.specs.declared.prefix.Closure.{Closure}
+use Rattle.bites_machine.specs.declared.prefix.StartClosure.{StartClosure}
 use Rattle.bites_machine.proofs.shortcuts.PrefixLemmas.{found_seen, found_new}
-use Rattle.bites_machine.proofs.prefix.Closure.look.Goals as goal
+use Rattle.bites_machine.proofs.prefix.StartClosure.look.Goals as goal
 
 pub returns-then-contains : goal.returns-then-contains
 returns-then-contains c = λ start looks found.
@@ -22,8 +22,8 @@ returns c =
     let number = c.args.number in
     let on = c.follow.new.self in
     let count = c.len.result - c.len-before.result in
-    let pushed : Closure = record { visited = c.push.new.self; targets = old.targets; ascii = old.ascii; others = old.others; anchored = old.anchored; taker = old.taker; several = old.several } in
-    let last : Closure = record { visited = on.visited; targets = c.push-2.new.self; ascii = on.ascii; others = on.others; anchored = on.anchored; taker = on.taker; several = on.several } in
+    let pushed : StartClosure = record { visited = c.push.new.self; targets = old.targets; ascii = old.ascii; others = old.others; anchored = old.anchored; taker = old.taker; several = old.several } in
+    let last : StartClosure = record { visited = on.visited; targets = c.push-2.new.self; ascii = on.ascii; others = on.others; anchored = on.anchored; taker = on.taker; several = on.several } in
     let is : state_of c.index-states-number.result ≡ program.state_at (states_of states) number =
     ap state_of c.index-states-number.is ∙ sym (get_or-map state_of states number _ program.fail (omega (arith, c.if-number-states.false))) in
     some_on c.push-2.result

@@ -3,7 +3,7 @@ use Rattle.bites_spec.specs.Walks.{Among}
 use Rattle.bites_machine.specs.States.{states_of}
 use Rattle.bites_machine.specs.Prefix.{count_of}
 use Rattle.bites_machine.proofs.shortcuts.PrefixLemmas.{blind, from_first}
-use Rattle.bites_machine.proofs.prefix.StartPrefix.of.Goals as goal
+use Rattle.bites_machine.proofs.prefix.StartClosure.of.Goals as goal
 
 pub loop-looks-init : goal.loop-looks-init
 loop-looks-init c = record {
