@@ -8,39 +8,36 @@
 
 enum { SUM = 1000000007, GROUPS = 64 };
 
-/* What a job is done with. */
+/* What a job is done with. The cache is kept over all searches, as the Rust crate's regex keeps its own. */
 struct work {
     bites regex;
+    bites_cache cache;
     const uint8_t *haystack, *template_text;
     size_t len, template_len;
 };
 
 /* What a job makes of a match; `groups` are asked for where `has_groups` is set. */
 struct matches {
-    bites_cache cache;
     bites_span groups[GROUPS];
     size_t last;
     bool has_groups;
 };
 
-static struct matches all_matches(struct work *work, bool has_groups) {
-    struct matches matches = {.last = BITES_NONE, .has_groups = has_groups};
-    bites_cache_new(&work->regex, &matches.cache);
-    return matches;
+static struct matches all_matches(bool has_groups) {
+    return (struct matches){.last = BITES_NONE, .has_groups = has_groups};
 }
 
 /* Goes to the next match, whose span is group 0. */
 static bool next(struct work *work, struct matches *matches) {
     uint32_t code = matches->has_groups
-        ? bites_captures_next(&work->regex, &matches->cache, work->haystack, work->len, matches->last, matches->groups, GROUPS).code
-        : bites_find_next(&work->regex, &matches->cache, work->haystack, work->len, matches->last, matches->groups);
+        ? bites_captures_next(&work->regex, &work->cache, work->haystack, work->len, matches->last, matches->groups, GROUPS).code
+        : bites_find_next(&work->regex, &work->cache, work->haystack, work->len, matches->last, matches->groups);
     matches->last = matches->groups[0].end;
-    if (code != BITES_MATCH) bites_cache_free(&matches->cache);
     return code == BITES_MATCH;
 }
 
 static size_t count(struct work *work) {
-    struct matches matches = all_matches(work, false);
+    struct matches matches = all_matches(false);
     size_t number = 0;
     while (next(work, &matches)) number++;
     return number;
@@ -50,7 +47,7 @@ static size_t count_pieces(struct work *work) { return count(work) + 1; }
 
 /* The sum of the ends of this group, where it participates. */
 static size_t sum_ends(struct work *work, size_t group) {
-    struct matches matches = all_matches(work, true);
+    struct matches matches = all_matches(true);
     size_t sum = 0;
     while (next(work, &matches))
         if (matches.groups[group].end != BITES_NONE) sum = (sum + matches.groups[group].end) % SUM;
@@ -61,13 +58,10 @@ static size_t sum_third(struct work *work) { return sum_ends(work, 3); }
 
 static size_t sum_whole(struct work *work) { return sum_ends(work, 0); }
 
-/* The first match, with a cache of its own; empty at 0 where there is none. */
+/* The first match; empty at 0 where there is none. */
 static bites_span first(struct work *work, const uint8_t *haystack, size_t len) {
-    bites_cache cache = {0};
     bites_span found = {0, 0};
-    bites_cache_new(&work->regex, &cache);
-    if (bites_find_at(&work->regex, &cache, haystack, len, 0, &found) != BITES_MATCH) found = (bites_span){0, 0};
-    bites_cache_free(&cache);
+    if (bites_find_at(&work->regex, &work->cache, haystack, len, 0, &found) != BITES_MATCH) found = (bites_span){0, 0};
     return found;
 }
 
@@ -86,21 +80,14 @@ static size_t sum_lines(struct work *work) {
 static size_t end_of_first(struct work *work) { return first(work, work->haystack, work->len).end; }
 
 static size_t matches(struct work *work) {
-    bites_cache cache = {0};
-    bites_cache_new(&work->regex, &cache);
-    uint32_t code = bites_is_match_at(&work->regex, &cache, work->haystack, work->len, 0);
-    bites_cache_free(&cache);
-    return code == BITES_MATCH;
+    return bites_is_match_at(&work->regex, &work->cache, work->haystack, work->len, 0) == BITES_MATCH;
 }
 
 static size_t sum_replaced(struct work *work) {
     size_t room = 2 * work->len + 1024, sum = 0;
     uint8_t *out = malloc(room);
     if (out == NULL) return SIZE_MAX;
-    bites_cache cache = {0};
-    bites_cache_new(&work->regex, &cache);
-    bites_size size = bites_replace(&work->regex, &cache, work->haystack, work->len, 0, work->template_text, work->template_len, out, room);
-    bites_cache_free(&cache);
+    bites_size size = bites_replace(&work->regex, &work->cache, work->haystack, work->len, 0, work->template_text, work->template_len, out, room);
     const uint8_t *text = size.code == BITES_MATCH ? out : work->haystack; /* Where nothing matches it is the haystack. */
     for (size_t at = 0; at < size.size; at++) sum = (sum + text[at]) % SUM;
     free(out);
@@ -113,14 +100,16 @@ enum { MAKE = 7, TEXTS = 8, JOBS = sizeof jobs / sizeof *jobs };
 
 size_t bites_bench(uint32_t job, const uint8_t *pattern, size_t pattern_len, const uint8_t *haystack, size_t haystack_len,
                    const uint8_t *template_text, size_t template_len, size_t times) {
-    struct work work = {{0}, haystack, template_text, haystack_len, template_len};
+    struct work work = {.haystack = haystack, .template_text = template_text, .len = haystack_len, .template_len = template_len};
     size_t answer = SIZE_MAX, makes = job == MAKE ? times : 1;
     if (job >= JOBS) return SIZE_MAX;
     for (size_t time = 0; time < makes; time++)
         if (bites_new(pattern, pattern_len, job == TEXTS ? BITES_TEXT : 0, BITES_SIZE_LIMIT, BITES_NEST_LIMIT, &work.regex) != BITES_DONE)
             return SIZE_MAX;
     if (job == MAKE) answer = bites_captures_len(&work.regex);
+    else bites_cache_new(&work.regex, &work.cache);
     for (size_t time = 0; job != MAKE && time < times; time++) answer = jobs[job](&work);
+    bites_cache_free(&work.cache);
     bites_free(&work.regex);
     return answer;
 }

@@ -11,7 +11,7 @@
  * each line; 3 is the end of the first match, 0 for none; 4 is 1 where something matches, else 0; 5 counts the pieces between the
  * matches; 6 sums the bytes of the haystack with each match replaced by `template`; 7 makes the regex, each time, and returns how
  * many groups it has; 8 counts as 0 does, with a regex over texts; 9 sums the ends of the successive matches, whose groups are read.
- * Sums are modulo 1000000007. Jobs 2, 3 and 4 make a cache for each search, the others make one each time. */
+ * Sums are modulo 1000000007. All jobs but 7 search with one cache, which is made before the first time. */
 size_t bites_bench(uint32_t job, const uint8_t *pattern, size_t pattern_len, const uint8_t *haystack, size_t haystack_len,
                    const uint8_t *template_text, size_t template_len, size_t times);
 #endif
