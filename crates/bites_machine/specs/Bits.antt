@@ -1,5 +1,5 @@
 -- What is kept beside a list, so that it need not be walked.
-use Rattle.std.specs.Prelude.{◌≡◌, ℕ, ◌<◌, ◌/◌, ◌%◌, ◌-◌, Bool, List, ◌==◌, if◌then◌else◌, length, slice_index}
+use Rattle.std.specs.Prelude.{◌≡◌, ℕ, ◌<◌, ◌≤◌, ◌/◌, ◌%◌, ◌-◌, Bool, true, List, ◌==◌, if◌then◌else◌, length, slice_index}
 use Rattle.std.specs.Int.{bit_at}
 use Rattle.bites_spec.specs.Range.{Range, in_ranges}
 
@@ -10,6 +10,10 @@ has_bit bits n = bit_at bits n == 1
 -- of each ASCII character a bit says whether it lies in one of the ranges, 64 characters a word
 abbrev pub HasAscii : List ℕ → List Range → Type 0
 HasAscii words ranges = (c : ℕ) → c < 128 → has_bit (slice_index words (c / 64)) (c % 64) ≡ in_ranges ranges c
+
+-- whether one of the ranges may have a character above the ASCII characters
+abbrev pub ReachesPast : Bool → List Range → Type 0
+ReachesPast reaches ranges = (c : ℕ) → 128 ≤ c → in_ranges ranges c ≡ true → reaches ≡ true
 
 -- all targets; two are kept in place
 abbrev pub all_targets : ℕ → List ℕ → List ℕ → List ℕ

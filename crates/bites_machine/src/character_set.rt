@@ -6,7 +6,7 @@ ghost use Rattle.bites_spec.specs.Program.{takes};
 ghost use Rattle.bites_machine.specs.Prefix.{in_set};
 ghost use Rattle.bites_machine.specs.States.{state_of};
 
-use crate::ranges::{reaches_past_ascii, words_of};
+use crate::ranges::words_of;
 use crate::state::State;
 
 /// A set of ASCII characters, and of all others or none.
@@ -36,9 +36,7 @@ impl CharacterSet {
     {
         match state {
             State::Char { ch, .. } => self.join(&words_of(&[(*ch, *ch)]), *ch > '\u{7F}'),
-            State::Ranges { ranges, .. } => {
-                self.join(&ranges.ascii(), reaches_past_ascii(ranges.as_slice()))
-            }
+            State::Ranges { ranges, .. } => self.join(&ranges.ascii(), ranges.reaches_past_ascii()),
             _ => {}
         }
     }

@@ -4,7 +4,7 @@ ghost use Rattle.std.specs.Prelude.{◌≡◌, ℕ, [], true};
 ghost use Rattle.bites_spec.specs.Range.{in_ranges};
 
 use crate::few_ranges::FewRanges;
-use crate::ranges::{Ranges, reaches_past_ascii};
+use crate::ranges::Ranges;
 use std::marker::Model;
 
 /// Ranges of a state with characters past ASCII: all, if a copy of them takes no memory, else a few. Contracts see their
@@ -44,7 +44,7 @@ impl KeptRanges {
     pub(crate) fn of(ranges: &Ranges) -> KeptRanges
         ensures { (c : ℕ) → in_ranges result c ≡ true → in_ranges ranges.now c ≡ true }
     {
-        if !reaches_past_ascii(ranges.as_slice()) {
+        if !ranges.reaches_past_ascii() {
             return KeptRanges::none();
         }
         let kept = match ranges.copy_in_place() {

@@ -3,7 +3,7 @@
 ghost use Rattle.std.specs.Prelude.{◌≡◌, ◌∷◌, ◌+◌, ◌++◌, ◌||◌, ℕ, IfSome, true, false};
 ghost use Rattle.bites_spec.specs.Program as program;
 
-use crate::ranges::{reaches_past_ascii, words_of};
+use crate::ranges::words_of;
 use crate::short_stack::ShortStack;
 use crate::state::State;
 use crate::targets::Targets;
@@ -180,11 +180,7 @@ impl StartClosure {
                 Some(())
             }
             State::Ranges { ranges, .. } => {
-                self.add(
-                    number,
-                    &ranges.ascii(),
-                    reaches_past_ascii(ranges.as_slice()),
-                );
+                self.add(number, &ranges.ascii(), ranges.reaches_past_ascii());
                 Some(())
             }
             State::Splits { targets, reverse } => push_all(stack, targets, *reverse),

@@ -3,7 +3,7 @@
 ghost use Rattle.std.specs.Prelude.{◌≡◌, ℕ, ◌<◌, ◌≤◌, ◌^◌, IfOk, IfSome, [], ◌∷◌, true};
 ghost use Rattle.bites_spec.specs.Range.{in_range, in_ranges};
 ghost use Rattle.bites_spec.specs.Program.{AreRanges};
-ghost use Rattle.bites_machine.specs.Bits.{has_bit, HasAscii};
+ghost use Rattle.bites_machine.specs.Bits.{has_bit, HasAscii, ReachesPast};
 
 use bites_syntax::range_list::RangeList;
 use std::alloc::{AllocError, Global};
@@ -15,18 +15,20 @@ pub struct Ranges {
     list: RangeList,
     /// Of each ASCII character, whether it lies in one of the ranges, as the bit of its number.
     ascii: [u64; 2],
+    /// Whether one of the ranges ends above the ASCII characters.
+    past_ascii: bool,
 }
 
 impl Model for Ranges {
     ghost use Rattle.std.specs.Prelude.{List};
     ghost use Rattle.bites_spec.specs.Range.{Range};
-    ghost use Rattle.bites_machine.specs.Bits.{HasAscii};
+    ghost use Rattle.bites_machine.specs.Bits.{HasAscii, ReachesPast};
 
     ghost Value = { List Range };
 
     ghost view = { λ a. a.list };
 
-    ghost invariant = { λ a. HasAscii a.ascii a.list };
+    ghost invariant = { λ a. HasAscii a.ascii a.list × ReachesPast a.past_ascii a.list };
 }
 
 impl Ranges {
@@ -46,22 +48,40 @@ impl Ranges {
         self.ascii
     }
 
+    /// Whether one of the ranges ends above the ASCII characters.
+    #[inline(always)]
+    pub(crate) fn reaches_past_ascii(&self) -> bool
+        ensures { ReachesPast result self.now }
+    {
+        let _ = &self.list;
+        self.past_ascii
+    }
+
     /// The ranges of this list. It takes memory only if the list does.
     pub(crate) fn copy_of(alloc: Global, list: &RangeList) -> Result<Ranges, AllocError>
         ensures { IfOk result (λ ranges. ranges ≡ list.now) }
     {
-        let list = list.copy(alloc)?;
+        Ok(Ranges::new(list.copy(alloc)?))
+    }
+
+    // These ranges, with what is kept beside them.
+    fn new(list: RangeList) -> Ranges
+        ensures { result ≡ list }
+    {
         let ascii = words_of(list.as_slice());
-        Ok(Ranges { list, ascii })
+        let past_ascii = reaches_past_ascii(list.as_slice());
+        Ranges {
+            list,
+            ascii,
+            past_ascii,
+        }
     }
 
     /// The range of one character. It takes no memory.
     pub(crate) fn one(ch: char) -> Ranges
         ensures { result ≡ (ch, ch) ∷ [] }
     {
-        let list = RangeList::one((ch, ch));
-        let ascii = words_of(list.as_slice());
-        Ranges { list, ascii }
+        Ranges::new(RangeList::one((ch, ch)))
     }
 
     /// The same ranges, if they take no memory.
@@ -72,6 +92,7 @@ impl Ranges {
         Some(Ranges {
             list,
             ascii: self.ascii,
+            past_ascii: self.past_ascii,
         })
     }
 
@@ -80,7 +101,7 @@ impl Ranges {
     pub(crate) fn takes_past_ascii(&self, ch: char) -> bool
         ensures { result ≡ true → in_ranges self.now ch ≡ true }
     {
-        is_in_ranges(self.list.as_slice(), ch)
+        self.past_ascii && is_in_ranges(self.list.as_slice(), ch)
     }
 
     /// The same ranges. It takes memory only if their list does.
@@ -91,6 +112,7 @@ impl Ranges {
         Ok(Ranges {
             list,
             ascii: self.ascii,
+            past_ascii: self.past_ascii,
         })
     }
 
@@ -106,7 +128,8 @@ impl Ranges {
 
     /// Whether the character lies in one of the ranges, each of which begins above the one before.
     ///
-    /// One look for an ASCII character, else as many as the number of ranges has bits.
+    /// One look for an ASCII character, and for any other one where all ranges are of ASCII; else as many looks as the number of
+    /// ranges has bits.
     #[inline]
     pub fn takes(&self, ch: char) -> bool
         requires { AreRanges self.now }
@@ -115,7 +138,7 @@ impl Ranges {
         if ch.is_ascii() {
             self.takes_ascii(ch as u32)
         } else {
-            is_in_ranges(self.list.as_slice(), ch)
+            self.past_ascii && is_in_ranges(self.list.as_slice(), ch)
         }
     }
 }
@@ -125,11 +148,7 @@ impl From<Vec<(char, char)>> for Ranges {
 
     /// The ranges of this list; it takes no memory.
     fn from(list: Vec<(char, char)>) -> Ranges {
-        let ascii = words_of(&list);
-        Ranges {
-            list: list.into(),
-            ascii,
-        }
+        Ranges::new(list.into())
     }
 }
 
@@ -141,9 +160,9 @@ pub(crate) fn words_of(ranges: &[(char, char)]) -> [u64; 2]
     [(bits & 0xFFFF_FFFF_FFFF_FFFF) as u64, (bits >> 64) as u64]
 }
 
-/// Whether one of the ranges ends above the ASCII characters.
-pub(crate) fn reaches_past_ascii(ranges: &[(char, char)]) -> bool
-    ensures { (c : ℕ) → 128 ≤ c → in_ranges ranges.now c ≡ true → result ≡ true }
+// Whether one of the ranges ends above the ASCII characters.
+fn reaches_past_ascii(ranges: &[(char, char)]) -> bool
+    ensures { ReachesPast result ranges.now }
 {
     for (_, last) in ranges {
         if *last > '\u{7F}' {

@@ -8,7 +8,7 @@ ghost use Rattle.bites_machine.specs.Bits.{has_bit};
 use crate::character_set::CharacterSet;
 use crate::kept_ranges::KeptRanges;
 use crate::prefix::push_all;
-use crate::ranges::{Ranges, reaches_past_ascii};
+use crate::ranges::Ranges;
 use crate::short_stack::ShortStack;
 use crate::state::State;
 use std::alloc::{AllocError, Global};
@@ -185,7 +185,7 @@ impl LoopClosure {
         } else {
             let ascii = ranges.ascii();
             self.taken = [self.taken[0] | ascii[0], self.taken[1] | ascii[1]];
-            self.taken_past_ascii |= reaches_past_ascii(ranges.as_slice());
+            self.taken_past_ascii |= ranges.reaches_past_ascii();
         }
     }
 

@@ -242,9 +242,8 @@ fn search_width<const WIDTH: usize, const LONGEST: bool>(
     if WIDTH < ANY && slots.len() != WIDTH {
         unreachable!()
     }
-    let request = Request {
-        longest: LONGEST,
-        ..*request
-    };
-    pikevm::search(counted, scratch, threads, &request, slots)
+    if request.longest != LONGEST {
+        unreachable!()
+    }
+    pikevm::search(counted, scratch, threads, request, slots)
 }

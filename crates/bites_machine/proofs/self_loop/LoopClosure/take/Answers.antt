@@ -1,5 +1,4 @@
-use Rattle.std.proofs.Common.{◌≡◌, List, true, refl, sym, subst, inr}
-use Rattle.bites_spec.specs.Range.{Range, in_ranges}
+use Rattle.std.proofs.Common.{refl, inr}
 use Rattle.bites_machine.proofs.shortcuts.LoopSets.{out_of_both}
 use Rattle.bites_machine.proofs.self_loop.LoopClosure.take.Goals as goal
 
@@ -15,7 +14,7 @@ returns-else-not-self c =
       taken = inr (record {
         found = refl;
         allows = λ n h.
-            let out = out_of_both old.taken c.ascii-ascii.result old.taken_past_ascii c.reaches_past_ascii.result c.args.ranges.now c.ascii-ascii.ensures (λ m past is. c.reaches_past_ascii.ensures m past (subst (λ (rs : List Range). in_ranges rs m ≡ true) (sym c.as_slice.ensures) is)) n h.1 in
+            let out = out_of_both old.taken c.ascii-ascii.result old.taken_past_ascii c.reaches_past_ascii.result c.args.ranges.now c.ascii-ascii.ensures c.reaches_past_ascii.ensures n h.1 in
             ((h.0, out.0), out.1);
       });
     }
