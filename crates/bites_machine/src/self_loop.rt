@@ -48,29 +48,7 @@ pub struct SelfLoop {
 }
 
 impl SelfLoop {
-    ghost use Rattle.bites_machine.specs.SelfLoop.{IsSelfLoop, IsCovered, stays_by};
-    ghost use Rattle.bites_machine.specs.States.{states_of};
-
-    /// The self-loop of this state. `None` if it has none, if an assertion is met, or if there are too many states. The
-    /// states of the start prefix are given, if there is one.
-    pub(crate) fn of(states: &[State], state: u32, prefix: Option<&ShortStack>) -> Option<SelfLoop>
-        ensures walks { IfSome result (IsSelfLoop (states_of states.now)) }
-        ensures state { IfSome result (λ x. x.state ≡ state) }
-        ensures covered { IfSome result (λ x. IfSome prefix.entry (λ qs.
-            IsCovered (states_of states.now) x qs.now)) }
-    {
-        let mut closure = LoopClosure::new(state);
-        let mut stack = ShortStack::new();
-        stack.push(state)?;
-        for looks in 0..MOST_LOOKS {
-            let Some(number) = stack.pop() else {
-                let behind = closure.behind(states, prefix);
-                return closure.finish(looks, behind);
-            };
-            closure.look(states, number, &mut stack)?;
-        }
-        None
-    }
+    ghost use Rattle.bites_machine.specs.SelfLoop.{stays_by};
 
     /// Returns whether a thread that takes the character stays at the state.
     #[inline(always)]
@@ -128,6 +106,26 @@ impl LoopClosure {
             taken_past_ascii: false,
             end: None,
         }
+    }
+
+    // Explores the closure. Returns how often it looks at a state. `None` if no state leads back, if an assertion is met, or if
+    // there are too many states.
+    fn explore(&mut self, states: &[State]) -> Option<usize>
+        ensures state { self.new.state ≡ self.old.state }
+        ensures looped { IfSome result (λ looks.
+            HasLooped (states_of states.now) 0 (self.old.state ∷ []) self.old →
+            HasLooped (states_of states.now) looks [] self.new) }
+        ensures found { IfSome result (λ _. self.new.is_found ≡ true) }
+    {
+        let mut stack = ShortStack::new();
+        stack.push(self.state)?;
+        for looks in 0..MOST_LOOKS {
+            let Some(number) = stack.pop() else {
+                return if self.is_found { Some(looks) } else { None };
+            };
+            self.look(states, number, &mut stack)?;
+        }
+        None
     }
 
     // Looks at a state that was on top of the stack. `None` if it can't be followed, or if there is no room.
@@ -221,23 +219,21 @@ impl LoopClosure {
         Some(())
     }
 
-    // The self-loop that the closure has come to, after so many looks. `None` if no state leads back.
-    fn finish(self, looks: usize, behind: CharacterSet) -> Option<SelfLoop>
-        ensures walks { IfSome result (λ x. (states : List program.State) →
-            HasLooped states looks [] self → IsSelfLoop states x) }
-        ensures state { IfSome result (λ x. x.state ≡ self.state) }
-        ensures visited { IfSome result (λ x. x.visited.value ≡ self.visited) }
-        ensures behind { IfSome result (λ x. x.behind ≡ behind) }
+    // The self-loop that the closure has come to, after so many looks.
+    fn finish(self, looks: usize, behind: CharacterSet) -> SelfLoop
+        requires { self.is_found ≡ true }
+        ensures walks { (states : List program.State) →
+            HasLooped states looks [] self → IsSelfLoop states result }
+        ensures state { result.state ≡ self.state }
+        ensures visited { result.visited.value ≡ self.visited }
+        ensures behind { result.behind ≡ behind }
     {
-        if !self.is_found {
-            return None;
-        }
         let visited = Snapshot::of(&self.visited);
         let ascii = [
             without(self.ascii[0], self.taken[0]),
             without(self.ascii[1], self.taken[1]),
         ];
-        Some(SelfLoop {
+        SelfLoop {
             state: self.state,
             visited,
             looks: Snapshot::of(&looks),
@@ -246,7 +242,7 @@ impl LoopClosure {
             end: self.end,
             pending: self.pending,
             behind,
-        })
+        }
     }
 
     // The characters that those states of the prefix take which the closure doesn't visit, if they are given.
@@ -367,11 +363,13 @@ impl SelfLoops {
         if self.loops.len() == MOST_LOOPS {
             return Ok(());
         }
-        let Some(one) = SelfLoop::of(states, state, prefix) else {
+        let mut closure = LoopClosure::new(state);
+        let Some(looks) = closure.explore(states) else {
             return Ok(());
         };
+        let behind = closure.behind(states, prefix);
         self.filter |= 1 << (state % 64);
-        self.loops.push(one)?;
+        self.loops.push(closure.finish(looks, behind))?;
         Ok(())
     }
 
