@@ -57,9 +57,10 @@ pub record AreFree (free ref_counts : List ℕ) : Type 0 where
 abbrev pub ref_counts_of : ℕ → List ℕ → List ℕ
 ref_counts_of row_count ref_counts = ref_counts ++ replicate (row_count - length ref_counts) 0
 
--- The rows that were taken, of so many: the words of their slots, their counts, and those of them that are free.
+-- The rows that were taken, of so many: the words of their slots, their counts, and those of them that are free. Nothing is written in row 0.
 pub record AreTaken (row_count slots_per_row max_slots : ℕ) (words ref_counts unused : List ℕ) : Type 0 where
   pub free : AreFree unused ref_counts
   pub few : length ref_counts ≤ row_count
   pub slots : length words ≡ length ref_counts * slots_per_row
   pub wide : slots_per_row ≤ max_slots
+  pub first : take slots_per_row words ≡ replicate slots_per_row no_slot

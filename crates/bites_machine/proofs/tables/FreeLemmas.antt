@@ -1,13 +1,14 @@
 -- The free rows of a slot table.
 use Rattle.std.proofs.Common.{◌≡◌, ◌≢◌, ℕ, zero, suc, ◌+◌, ◌-◌, ◌*◌, ◌<◌, ◌≤◌, ⊎_elim, inl, inr, Bool, true, false, not, List, [], ◌∷◌, ◌++◌, take, length, sum, refl, sym, ap, ap₂, ◌∙◌, subst, arith, append_assoc, length-append, ne_eqb, cond}
 use Rattle.std.specs.Prelude.{slice_set, slice_index, count_by, replicate}
-use Rattle.std.proofs.lemmas.List.{length-set, get_or-set_same, get_or-set_other, length-replicate, set-append_left, set-append_right}
+use Rattle.std.proofs.lemmas.List.{length-set, get_or-set_same, get_or-set_other, length-replicate, set-append_left, set-append_right, take-append-le, take-take, length-take-le}
 use Rattle.std.proofs.lemmas.List.Sums.{sum_by-append, sum_by-set, sum_by-le-sum_by}
 use Rattle.std.proofs.lemmas.List.Folds.{sum_by-replicate}
 use Rattle.bites_spec.specs.Walks.{Among, AllApart, IsNew}
 use Rattle.bites_spec.proofs.programs.SlotLemmas.{Among-left, Among-right, AllApart-append}
 use Rattle.bites_machine.proofs.compile.EdgeLemmas.{Among-apart}
-use Rattle.bites_machine.specs.SlotTable.{AreFree, AreTaken, ref_counts_of, is_used, one_more, one_less}
+use Rattle.bites_machine.proofs.tables.RowLemmas.{row_fits, rows_apart}
+use Rattle.bites_machine.specs.SlotTable.{AreFree, AreTaken, no_slot, ref_counts_of, is_used, one_more, one_less}
 
 used_by : (n : ℕ) → ℕ
 used_by n = count_by is_used (n ∷ [])
@@ -242,7 +243,25 @@ taken_set row_count slots_per_row max_slots row v words ref_counts unused rest a
   few = subst (λ n. n ≤ row_count) (sym (length-set ref_counts row v)) are.few;
   slots = are.slots ∙ ap (λ n. n * slots_per_row) (sym (length-set ref_counts row v));
   wide = are.wide;
+  first = are.first;
 }
+
+-- row 0 is there
+pub first_there : (row_count slots_per_row max_slots : ℕ) (words ref_counts unused : List ℕ) → AreTaken row_count slots_per_row max_slots words ref_counts unused →
+    slots_per_row ≤ length words
+first_there row_count slots_per_row max_slots words ref_counts unused are =
+    omega (arith, row_fits slots_per_row slots_per_row (length ref_counts) 0 are.free.some (omega arith), are.slots)
+
+-- row 0 stays where another row is written
+pub first_stays : (row_count slots_per_row max_slots fresh : ℕ) (words ref_counts unused old new row : List ℕ) → AreTaken row_count slots_per_row max_slots words ref_counts unused →
+    old ≡ words → fresh ≢ 0 → fresh * slots_per_row ≤ length words → new ≡ take (fresh * slots_per_row) old ++ row → take slots_per_row new ≡ replicate slots_per_row no_slot
+first_stays row_count slots_per_row max_slots fresh words ref_counts unused old new row are same other there is =
+    let behind : slots_per_row ≤ fresh * slots_per_row = omega (arith, rows_apart slots_per_row 0 fresh (omega (arith, other))) in
+    ap (take slots_per_row) is
+    ∙ take-append-le slots_per_row (take (fresh * slots_per_row) old) row (omega (arith, behind, there, length-take-le (fresh * slots_per_row) old (omega (arith, there, ap length same))))
+    ∙ take-take slots_per_row (fresh * slots_per_row) old behind
+    ∙ ap (take slots_per_row) same
+    ∙ are.first
 
 -- one row more is taken
 pub taken_more : (row_count slots_per_row max_slots : ℕ) (words ref_counts more : List ℕ) → AreTaken row_count slots_per_row max_slots words ref_counts [] →
@@ -252,6 +271,7 @@ taken_more row_count slots_per_row max_slots words ref_counts more are few len =
   few = omega (arith, length-append ref_counts (1 ∷ []), few);
   slots = length-append words more ∙ ap₂ ◌+◌ are.slots len ∙ sym (ap (λ n. n * slots_per_row) (length-append ref_counts (1 ∷ [])) ∙ one_row (length ref_counts) slots_per_row);
   wide = are.wide;
+  first = take-append-le slots_per_row words more (first_there row_count slots_per_row max_slots words ref_counts [] are) ∙ are.first;
 }
   where
     one_row : (n w : ℕ) → (n + 1) * w ≡ n * w + w

@@ -91,11 +91,16 @@ impl SlotTable {
         ensures pending { self.new.pending ≡ self.old.pending }
         ensures max_slots { self.new.max_slots ≡ self.old.max_slots }
     {
-        self.slots_per_row = slots_per_row;
         self.free.clear();
         self.ref_counts.truncate(1);
-        self.slots.clear();
-        let _ = self.slots.resize(slots_per_row, NONE);
+        // Row 0 is there from the search before, and stays if its width does.
+        if slots_per_row == self.slots_per_row {
+            self.slots.truncate(slots_per_row);
+        } else {
+            self.slots_per_row = slots_per_row;
+            self.slots.clear();
+            let _ = self.slots.resize(slots_per_row, NONE);
+        }
     }
 
     /// How many rows there are.

@@ -5,7 +5,7 @@ use Rattle.std.proofs.Common.{length-drop}
 use Rattle.bites_machine.specs.SlotTable.{AreFree, AreTaken, ref_counts_of, slot_of, with_pending, with_words, rows_of}
 use Rattle.bites_machine.proofs.tables.RowLemmas.{row_fits, rows_apart, whole_again}
 use Rattle.bites_machine.proofs.tables.WordLemmas.{length-with_words, words_copied, words_pushed}
-use Rattle.bites_machine.proofs.tables.FreeLemmas.{is_taken, taken, taken_more, some_left, last_free, count_at, count_set, count_pushed, length-ref_counts_of}
+use Rattle.bites_machine.proofs.tables.FreeLemmas.{is_taken, taken, taken_more, some_left, last_free, first_stays, count_at, count_set, count_pushed, length-ref_counts_of}
 use Rattle.bites_machine.proofs.vm.slot_table.SlotTable.copy.Goals as goal
 use Rattle.bites_machine.proofs.vm.slot_table.SlotTable.copy.Goals.{After-copy_row, After-pop, After-push, After-push_row, In-Some, In_default}
 
@@ -152,6 +152,8 @@ invariant_of-self-2 c =
         few = subst (λ n. n ≤ c.self.inside.row_count) (sym (length-set _ _ _)) c.self.invariant.0.few;
         slots = len ∙ c.self.invariant.0.slots ∙ ap (λ n. n * c.self.inside.slots_per_row) (sym (length-set _ _ _));
         wide = c.self.invariant.0.wide;
+        first = first_stays c.self.inside.row_count c.self.inside.slots_per_row c.self.inside.max_slots c.in-Some.fresh c.self.inside.slots.items _ _ _ _ _
+            c.self.invariant.0 c.deref_mut.ensures.value (mine (goal.at.invariant_of-self-2 c).In-Some).1 (omega (arith, fits (goal.at.invariant_of-self-2 c).In-Some)) c.copy_row.ensures;
       },
       c.self.invariant.1,
       c.self.invariant.2,

@@ -1,29 +1,73 @@
-use Rattle.std.proofs.Common.{◌≡◌, ◌<◌, ◌≤◌, ◌-◌, ◌∷◌, ◌++◌, [], length, take, map, replicate, cond, ap, ap₂, sym, ◌∙◌, subst, arith, vec_len, vec_capacity}
+use Rattle.std.proofs.Common.{◌≡◌, ◌<◌, ◌≤◌, ◌-◌, ◌∷◌, ◌++◌, [], length, take, map, replicate, cond, refl, ap, ap₂, sym, ◌∙◌, subst, arith, vec_len, vec_capacity}
 use Rattle.std.specs.Prelude.{slice_index_or}
+use Rattle.std.proofs.lemmas.List.{length-replicate, take_all}
 use Rattle.bites_machine.specs.SlotTable.{no_slot, slot_of, rows_of}
 use Rattle.bites_machine.proofs.tables.RowLemmas.{length-rows_of, row_fits}
 use Rattle.bites_machine.proofs.tables.WordLemmas.{first_row, filled}
 use Rattle.bites_machine.proofs.tables.FreeLemmas.{first_left, length-ref_counts_of}
 use Rattle.bites_machine.proofs.vm.slot_table.SlotTable.setup_search.Goals as goal
+use Rattle.bites_machine.proofs.vm.slot_table.SlotTable.setup_search.Goals.{After-resize, After-truncate}
 
-pub returns-clause-nothing : goal.returns-clause-nothing
-returns-clause-nothing c =
+some : (c : After-truncate) → 0 < c.self.inside.row_count
+some c = omega (arith, c.self.invariant.0.free.some, c.self.invariant.0.few)
+
+left : (c : After-truncate) → c.truncate.new.self.items ≡ 0 ∷ []
+left c = c.truncate.ensures.items ∙ first_left _ _ c.self.invariant.0.free
+
+-- where rows are as wide as in the search before
+
+pub returns-then-slots_per_row-self-clause-nothing : goal.returns-then-slots_per_row-self-clause-nothing
+returns-then-slots_per_row-self-clause-nothing c =
+    let same : c.args.slots_per_row ≡ c.self.inside.slots_per_row = c.if-slots_per_row-self.true in
+    ap₂ (λ w words. slice_index_or (rows_of w c.self.inside.row_count (map slot_of words)) 0 []) (sym same)
+    (c.truncate-then-slots_per_row-self.ensures.items ∙ subst (λ w. take w c.self.inside.slots.items ≡ replicate w no_slot) (sym same) c.self.invariant.0.first)
+    ∙ first_row c.args.slots_per_row c.self.inside.row_count (some (goal.at.returns-then-slots_per_row-self-clause-nothing c).After-truncate)
+
+pub returns-then-slots_per_row-self-clause-even : goal.returns-then-slots_per_row-self-clause-even
+returns-then-slots_per_row-self-clause-even c =
+    let left : c.truncate.new.self.items ≡ 0 ∷ [] = left (goal.at.returns-then-slots_per_row-self-clause-even c).After-truncate in
+    length-rows_of c.self.inside.slots_per_row c.self.inside.row_count _
+    ∙ sym (length-ref_counts_of c.self.inside.row_count c.truncate.new.self.items (omega (arith, ap length left, c.self.invariant.0.free.some, c.self.invariant.0.few)))
+
+-- where they are not
+
+written : (c : After-resize) → 0 < c.self.inside.row_count → c.resize.new.self.items ≡ replicate c.args.slots_per_row no_slot
+written c rows =
     let w = c.args.slots_per_row in
-    let some : 0 < c.self.inside.row_count = omega (arith, c.self.invariant.0.free.some, c.self.invariant.0.few) in
     let wide : w ≤ c.self.inside.max_slots = subst (λ p. w ≤ p.max_slots) (sym c.self.view_is) c.requires in
-    let fits : w ≤ vec_capacity c.clear-2.new.self =
-    omega (arith, row_fits w c.self.inside.max_slots c.self.inside.row_count 0 some wide, c.self.invariant.1, c.clear-2.ensures.capacity) in
-    let cleared = c.clear-2.new.self in
-    let written : c.resize.new.self.items ≡ replicate w no_slot =
+    let cleared = c.clear-else-slots_per_row-self.new.self in
+    let fits : w ≤ vec_capacity cleared =
+    omega (arith, row_fits w c.self.inside.max_slots c.self.inside.row_count 0 rows wide, c.self.invariant.1, c.clear-else-slots_per_row-self.ensures.capacity) in
     c.resize.ensures.items
     ∙ ap (λ b. cond b (take w cleared.items ++ replicate (w - vec_len cleared) no_slot) cleared.items) (c.resize.ensures.succeeds fits)
-    ∙ ap₂ (λ xs n. take w xs ++ replicate (w - n) no_slot) c.clear-2.ensures.items c.clear-2.ensures.len
-    ∙ filled w in
-    ap (λ words. slice_index_or (rows_of c.args.slots_per_row c.self.inside.row_count (map slot_of words)) 0 []) written
-    ∙ first_row c.args.slots_per_row c.self.inside.row_count some
+    ∙ ap₂ (λ xs n. take w xs ++ replicate (w - n) no_slot) c.clear-else-slots_per_row-self.ensures.items c.clear-else-slots_per_row-self.ensures.len
+    ∙ filled w
 
-pub returns-clause-even : goal.returns-clause-even
-returns-clause-even c =
-    let left : c.truncate.new.self.items ≡ 0 ∷ [] = c.truncate.ensures.items ∙ first_left _ _ c.self.invariant.0.free in
+pub invariant_of-self-else-slots_per_row-self : goal.invariant_of-self-else-slots_per_row-self
+invariant_of-self-else-slots_per_row-self c =
+    let w = c.args.slots_per_row in
+    let rows : 0 < c.self.inside.row_count = some (goal.at.invariant_of-self-else-slots_per_row-self c).After-truncate in
+    rw (left (goal.at.invariant_of-self-else-slots_per_row-self c).After-truncate, written c rows, c.clear.ensures.items) (
+      record {
+        free = record { first = refl; some = omega arith; known = λ row h. absurd h; apart = tt; number = refl };
+        few = rows;
+        slots = length-replicate w no_slot ∙ omega arith;
+        wide = subst (λ p. w ≤ p.max_slots) (sym c.self.view_is) c.requires;
+        first = take_all w (replicate w no_slot) (omega (arith, length-replicate w no_slot));
+      },
+      omega (arith, c.self.invariant.1, c.clear-else-slots_per_row-self.ensures.capacity, c.resize.ensures.capacity),
+      omega (arith, c.self.invariant.2, c.truncate.ensures.capacity),
+      omega (arith, c.self.invariant.3, c.clear.ensures.capacity),
+    )
+
+pub returns-else-slots_per_row-self-clause-nothing : goal.returns-else-slots_per_row-self-clause-nothing
+returns-else-slots_per_row-self-clause-nothing c =
+    let rows : 0 < c.self.inside.row_count = some (goal.at.returns-else-slots_per_row-self-clause-nothing c).After-truncate in
+    ap (λ words. slice_index_or (rows_of c.args.slots_per_row c.self.inside.row_count (map slot_of words)) 0 []) (written c rows)
+    ∙ first_row c.args.slots_per_row c.self.inside.row_count rows
+
+pub returns-else-slots_per_row-self-clause-even : goal.returns-else-slots_per_row-self-clause-even
+returns-else-slots_per_row-self-clause-even c =
+    let left : c.truncate.new.self.items ≡ 0 ∷ [] = left (goal.at.returns-else-slots_per_row-self-clause-even c).After-truncate in
     length-rows_of c.args.slots_per_row c.self.inside.row_count _
     ∙ sym (length-ref_counts_of c.self.inside.row_count c.truncate.new.self.items (omega (arith, ap length left, c.self.invariant.0.free.some, c.self.invariant.0.few)))
