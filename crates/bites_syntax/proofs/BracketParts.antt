@@ -11,6 +11,8 @@ use Rattle.bites_spec.proofs.classes.ClassLemmas.{in_ranges-append, in_ranges-pu
 use Rattle.bites_syntax.specs.declared.escape.Meaning as code
 use Rattle.bites_syntax.specs.declared.escape.Meaning.TheVariants.{Character, Characters}
 use Rattle.bites_syntax.specs.Meanings.{IsMeaning}
+use Rattle.bites_syntax.specs.Ranges.{constant_set}
+use Rattle.bites_syntax.specs.declared.range_list.Constant.{Constant}
 use Rattle.bites_syntax.specs.Members.{Has}
 
 -- a range of one character
@@ -86,11 +88,11 @@ add_character m a old new is pushed k means rest go set has =
     (union set (single a), rw same refl, Has_single old new set a has pushed)
 
 -- a class alone
-pub add_class : (m : code.Meaning) (class added old new : List Range) → m ≡ Characters class → added ≡ class → new ≡ old ++ added →
+pub add_class : (m : code.Meaning) (constant : Constant) (added old new : List Range) → m ≡ Characters constant → Lists added (constant_set constant) → new ≡ old ++ added →
     (k : Meaning) → IsMeaning m k → (rest : Text) (go : Members) (set : Set) → Has old set → (more : Set) × (alone go set k rest ≡ go more rest) × Has new more
-add_class m class added old new is ranges extended k means rest go set has =
-    let found : (more : Set) × (k ≡ characters more) × Lists class more = (let P : code.Meaning → Type 0 = λ x. IsMeaning x k in subst P is means) in
-    (union set found.0, ap (λ x. alone go set x rest) found.1, Has_extend old new added set found.0 has (rw ranges found.2) extended)
+add_class m constant added old new is lists extended k means rest go set has =
+    let found : k ≡ characters (constant_set constant) = (let P : code.Meaning → Type 0 = λ x. IsMeaning x k in subst P is means) in
+    (union set (constant_set constant), ap (λ x. alone go set x rest) found, Has_extend old new added set (constant_set constant) has lists extended)
 
 -- a range
 pub add_between : (m n : code.Meaning) (low high : ℕ) (old new : List Range) → m ≡ Character low → n ≡ Character high → low ≤ high → new ≡ old ++ (low, high) ∷ [] →

@@ -68,7 +68,7 @@ fn escape_tree(flags: Flags, meaning: Meaning) -> Tree
 {
     match meaning {
         Meaning::Character(c) => literal(flags, c),
-        Meaning::Characters(class) => Tree::class(class),
+        Meaning::Characters(set) => Tree::class(Class::constant(set)),
         Meaning::Assertion(look) => Tree::look(look),
     }
 }

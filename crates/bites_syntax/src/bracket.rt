@@ -105,7 +105,7 @@ fn add_alone(builder: &mut ClassBuilder, member: Meaning) -> Result<(), Error>
 {
     match member {
         Meaning::Character(c) => builder.push(c, c)?,
-        Meaning::Characters(class) => builder.extend(class.ranges())?,
+        Meaning::Characters(set) => builder.extend(set.ranges())?,
         Meaning::Assertion(_) => return Err(Error::InvalidClassEscape),
     }
     Ok(())

@@ -4,17 +4,18 @@ ghost use Rattle.std.specs.Prelude.{◌≡◌, ◌≤◌, length, IfOk, OnOk, op
 ghost use Rattle.bites_spec.specs.Escape.{assertion_of, boundary_of, class_of, control_of, digits_of, escapes_itself, is_boundary_letter};
 ghost use Rattle.bites_spec.specs.Reader.{boundary, boundary_name, escape, meaning_of, simple};
 ghost use Rattle.bites_syntax.specs.FlagsView.{flags_of};
-ghost use Rattle.bites_syntax.specs.Meanings.{IsClassOf, IsMeaning, IsMeaningOf, IsLook};
+ghost use Rattle.bites_syntax.specs.Meanings.{IsMeaning, IsMeaningOf, IsLook};
+ghost use Rattle.bites_syntax.specs.Ranges.{constant_set};
 ghost use Rattle.bites_syntax.specs.Parts.{Agrees, WithSteps};
 ghost use Rattle.bites_syntax.specs.Steps.{each_of};
 ghost use Rattle.bites_syntax.specs.View.{look_of};
 
-use crate::class::Class;
 use crate::cursor::{Characters, Cursor};
 use crate::flags::Flags;
 use crate::hexadecimal::hexadecimal;
 use crate::look::Look;
 use crate::named_class::NamedClass;
+use crate::range_list::Constant;
 use bites_text::error::Error;
 use std::alloc::{AllocError, Global};
 
@@ -22,7 +23,7 @@ use std::alloc::{AllocError, Global};
 #[derive(Drop)]
 pub(crate) enum Meaning {
     Character(char),
-    Characters(Class),
+    Characters(Constant),
     Assertion(Look),
 }
 
@@ -53,19 +54,18 @@ fn assertion(c: char) -> Option<Look>
     }
 }
 
-fn perl_class(c: char) -> Option<Class>
-    ensures { IsClassOf result (class_of c) }
+fn perl_class(c: char) -> Option<Constant>
+    ensures { option_map constant_set result ≡ class_of c }
 {
-    let class = match c {
-        'd' => Class::named(NamedClass::Digit),
-        's' => Class::named(NamedClass::Space),
-        'w' => Class::named(NamedClass::Word),
-        'D' => Class::all_but_named(NamedClass::Digit),
-        'S' => Class::all_but_named(NamedClass::Space),
-        'W' => Class::all_but_named(NamedClass::Word),
-        _ => return None,
-    };
-    Some(class)
+    match c {
+        'd' => Some(Constant::Named(NamedClass::Digit)),
+        's' => Some(Constant::Named(NamedClass::Space)),
+        'w' => Some(Constant::Named(NamedClass::Word)),
+        'D' => Some(Constant::Others(NamedClass::Digit)),
+        'S' => Some(Constant::Others(NamedClass::Space)),
+        'W' => Some(Constant::Others(NamedClass::Word)),
+        _ => None,
+    }
 }
 
 fn escapes_itself(c: char) -> bool
@@ -96,8 +96,8 @@ fn meaning_alone(c: char) -> Option<Meaning>
     if let Some(look) = assertion(c) {
         return Some(Meaning::Assertion(look));
     }
-    if let Some(class) = perl_class(c) {
-        return Some(Meaning::Characters(class));
+    if let Some(set) = perl_class(c) {
+        return Some(Meaning::Characters(set));
     }
     if escapes_itself(c) {
         return Some(Meaning::Character(c));

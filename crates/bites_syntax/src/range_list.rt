@@ -22,7 +22,7 @@ pub enum Constant {
 
 impl Constant {
     /// Returns the canonical ranges of the set.
-    fn ranges(self) -> &'static [(char, char)]
+    pub(crate) fn ranges(self) -> &'static [(char, char)]
         ensures { Lists result.now (constant_set self) }
     {
         match self {

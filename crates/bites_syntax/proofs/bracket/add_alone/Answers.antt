@@ -6,4 +6,4 @@ returns-in_ok-push-in-Character c = add_character _ _ _ _ c.in-Character.is c.in
 
 pub returns-in_ok-extend-in-Characters : goal.returns-in_ok-extend-in-Characters
 returns-in_ok-extend-in-Characters c =
-    add_class _ _ _ _ _ c.in-Characters.is c.ranges-in-Characters.ensures.ranges c.in_ok-extend-in-Characters.ensures.added
+    add_class _ _ _ _ _ c.in-Characters.is c.ranges-in-Characters.ensures c.in_ok-extend-in-Characters.ensures.added
