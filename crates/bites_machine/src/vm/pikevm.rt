@@ -22,7 +22,7 @@ use super::closure::{FirstMatch, Scratch, epsilon_closure};
 use super::counted::Counted;
 use super::idle::{idle_prefix, skip};
 use super::position::{Position, code};
-use super::self_loops::pass_self_loop;
+use super::self_loops::{Reached, pass_self_loop};
 use super::slot_table::SlotTable;
 use super::threads::{Thread, Threads};
 use crate::prefix::StartPrefix;
@@ -380,7 +380,8 @@ pub(super) fn search(
     let mut is_found = false;
     let mut place = start;
     'places: loop {
-        let reached = pass_self_loop(counted, scratch, threads, request, place, is_found, slots);
+        let from = Reached { place, is_found };
+        let reached = pass_self_loop(counted, scratch, threads, request, from, slots);
         is_found = reached.is_found;
         let here = piece_at(haystack, reached.place, longest);
         let begins = first_of(is_found, first);

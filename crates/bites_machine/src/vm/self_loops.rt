@@ -26,7 +26,7 @@ pub struct Passed {
 }
 
 /// The place that a search has reached, and whether it has found a match.
-#[derive(Drop)]
+#[derive(Clone, Copy, Drop)]
 pub struct Reached {
     pub place: usize,
     pub is_found: bool,
@@ -124,24 +124,23 @@ fn leaves(body: &SelfLoop, haystack: &[u8], place: usize) -> bool {
 fn loop_of<'p>(
     request: &Request<'_, 'p>,
     threads: &Threads,
-    place: usize,
-    is_found: bool,
+    from: Reached,
 ) -> Option<&'p SelfLoop>
     ensures among { IfSome result (λ x. Among request.now.loops.now x.now) }
     ensures alone { IfSome result (λ x. (t : thread.Thread) × (threads.now.threads ≡ t ∷ [])
         × (t.state ≡ x.now.state)) }
     ensures longest { IfSome result (λ x. request.now.longest ≡ false) }
     ensures on { IfSome result (λ x. request.now.earliest ≡ true →
-        (is_found ≡ false) × (x.now.end ≡ None)) }
+        (from.is_found ≡ false) × (x.now.end ≡ None)) }
 {
     if threads.len() != 1 || request.longest {
         return None;
     }
     let body = request.loops.at(threads.at(0).state)?;
-    if request.earliest && (is_found || body.end.is_some()) {
+    if request.earliest && (from.is_found || body.end.is_some()) {
         return None;
     }
-    if leaves(body, request.haystack, place) {
+    if leaves(body, request.haystack, from.place) {
         None
     } else {
         Some(body)
@@ -154,20 +153,19 @@ fn loop_of<'p>(
 fn rest_of<'p>(
     request: &Request<'_, 'p>,
     body: &SelfLoop,
-    place: usize,
-    is_found: bool,
+    from: Reached,
 ) -> Option<Option<&'p StartPrefix>>
     ensures start { IfSome result (λ rest. MatchOption (lent rest)
-        ((is_found ≡ true) ⊎ (is_some body.now.end ≡ true))
-        (λ r. (is_found ≡ false) × (body.now.end ≡ None))) }
+        ((from.is_found ≡ true) ⊎ (is_some body.now.end ≡ true))
+        (λ r. (from.is_found ≡ false) × (body.now.end ≡ None))) }
     ensures prefix { IfSome result (λ rest. IfSome rest (λ r. request.now.prefix ≡ Some r)) }
-    ensures apart { IfSome result (λ rest. IfSome rest (λ r. IsApart r.now place)) }
+    ensures apart { IfSome result (λ rest. IfSome rest (λ r. IsApart r.now from.place)) }
 {
-    if is_found || body.end.is_some() {
+    if from.is_found || body.end.is_some() {
         return Some(None);
     }
     let prefix = request.prefix?;
-    if prefix.is_apart(place) {
+    if prefix.is_apart(from.place) {
         Some(Some(prefix))
     } else {
         None
@@ -182,11 +180,10 @@ fn pass(
     threads: &Threads,
     request: &Request<'_, '_>,
     body: &SelfLoop,
-    place: usize,
-    is_found: bool,
+    from: Reached,
     slots: &mut [Option<usize>],
 ) -> Reached
-    requires place { place ≤ length request.now.haystack.now }
+    requires place { from.place ≤ length request.now.haystack.now }
     requires self_loop { IsSelfLoop (states_of counted.old.states.now) body.now }
     requires prefix { IfSome request.now.prefix (λ r.
         IsPrefix (states_of counted.old.states.now) request.now.first r.now) }
@@ -195,11 +192,11 @@ fn pass(
     requires alone { (t : thread.Thread) × (threads.now.threads ≡ t ∷ [])
         × (t.state ≡ body.now.state) }
     requires longest { request.now.longest ≡ false }
-    requires on { request.now.earliest ≡ true → (is_found ≡ false) × (body.now.end ≡ None) }
-    requires between { InvariantBetweenSteps (states_of counted.old.states.now) place
+    requires on { request.now.earliest ≡ true → (from.is_found ≡ false) × (body.now.end ≡ None) }
+    requires between { InvariantBetweenSteps (states_of counted.old.states.now) from.place
         counted.old.walked scratch.now threads.now (length slots.old) }
     ensures states { counted.new.states ≡ counted.old.states }
-    ensures onward { place ≤ result.place }
+    ensures onward { from.place ≤ result.place }
     ensures within { result.place ≤ length request.now.haystack.now }
     ensures before { (v : program.Configuration) → Among counted.new.walked.visits v
         → v.place < result.place }
@@ -208,19 +205,26 @@ fn pass(
         IsProgramOf p (states_of counted.old.states.now) request.now.first →
         (start : ℕ) (first : List (Option ℕ)) → length slots.old ≡ length first →
         HasReached p request.now.haystack.now request.now.longest request.now.earliest start first
-        place is_found counted.old.walked scratch.now.rows threads.now.threads slots.old →
+        from.place from.is_found counted.old.walked scratch.now.rows threads.now.threads slots.old →
         HasReached p request.now.haystack.now request.now.longest request.now.earliest start first
         result.place result.is_found counted.new.walked scratch.now.rows threads.now.threads
         slots.new }
 {
-    let Some(rest) = rest_of(request, body, place, is_found) else {
-        return Reached { place, is_found };
+    let Some(rest) = rest_of(request, body, from) else {
+        return from;
     };
-    let passed = pass_places(counted, request.haystack, place, request.first, body, rest);
-    if passed.place == place || body.end.is_none() {
+    let passed = pass_places(
+        counted,
+        request.haystack,
+        from.place,
+        request.first,
+        body,
+        rest,
+    );
+    if passed.place == from.place || body.end.is_none() {
         return Reached {
             place: passed.place,
-            is_found,
+            ..from
         };
     }
     scratch.rows.write_later_match(
@@ -235,28 +239,28 @@ fn pass(
     }
 }
 
-/// Passes the places over which a lone thread stays at its state, if there are any. Returns the place that is reached.
+/// Passes the places from the reached one on over which a lone thread stays at its state, if there are any. Returns the place
+/// that is reached then.
 #[inline(always)]
 pub(super) fn pass_self_loop(
     counted: &mut Counted<'_>,
     scratch: &Scratch,
     threads: &Threads,
     request: &Request<'_, '_>,
-    place: usize,
-    is_found: bool,
+    from: Reached,
     slots: &mut [Option<usize>],
 ) -> Reached
-    requires place { place ≤ length request.now.haystack.now }
+    requires place { from.place ≤ length request.now.haystack.now }
     requires prefix { IfSome request.now.prefix (λ r.
         IsPrefix (states_of counted.old.states.now) request.now.first r.now) }
     requires loops { AreLoops (states_of counted.old.states.now)
         request.now.loops.now }
     requires covered { IfSome request.now.prefix (λ r. AreCovered
         (states_of counted.old.states.now) request.now.loops.now r.now.visited.value) }
-    requires between { InvariantBetweenSteps (states_of counted.old.states.now) place
+    requires between { InvariantBetweenSteps (states_of counted.old.states.now) from.place
         counted.old.walked scratch.now threads.now (length slots.old) }
     ensures states { counted.new.states ≡ counted.old.states }
-    ensures onward { place ≤ result.place }
+    ensures onward { from.place ≤ result.place }
     ensures within { result.place ≤ length request.now.haystack.now }
     ensures before { (v : program.Configuration) → Among counted.new.walked.visits v
         → v.place < result.place }
@@ -265,15 +269,13 @@ pub(super) fn pass_self_loop(
         IsProgramOf p (states_of counted.old.states.now) request.now.first →
         (start : ℕ) (first : List (Option ℕ)) → length slots.old ≡ length first →
         HasReached p request.now.haystack.now request.now.longest request.now.earliest start first
-        place is_found counted.old.walked scratch.now.rows threads.now.threads slots.old →
+        from.place from.is_found counted.old.walked scratch.now.rows threads.now.threads slots.old →
         HasReached p request.now.haystack.now request.now.longest request.now.earliest start first
         result.place result.is_found counted.new.walked scratch.now.rows threads.now.threads
         slots.new }
 {
-    let Some(body) = loop_of(request, threads, place, is_found) else {
-        return Reached { place, is_found };
+    let Some(body) = loop_of(request, threads, from) else {
+        return from;
     };
-    pass(
-        counted, scratch, threads, request, body, place, is_found, slots,
-    )
+    pass(counted, scratch, threads, request, body, from, slots)
 }
