@@ -62,7 +62,7 @@ fn build(
     ensures message { IfErr result (λ e. e ≢ Memory →
         Refuses (asked pattern.now flags size_limit nest_limit) e) }
 {
-    configured(alloc, pattern, flags, size_limit, nest_limit)?.build()
+    configured(alloc, pattern, flags, size_limit, nest_limit)?.into_regex()
 }
 
 fn configured(

@@ -1,6 +1,6 @@
 //! From the tree of a pattern to its program.
 
-ghost use Rattle.std.specs.Prelude.{◌≡◌, ◌+◌, ◌*◌, ◌<◌, ◌≤◌, ◌^◌, ℕ, IfOk, IfErr, OnOk, length, sum_by};
+ghost use Rattle.std.specs.Prelude.{◌≡◌, ◌+◌, ◌*◌, ◌<◌, ◌≤◌, ◌^◌, ℕ, IfOk, IfErr, OnOk, length, string_bytes, sum_by};
 ghost use Rattle.std.specs.Option.{SomeIff};
 ghost use Rattle.bites_spec.specs.Tree.{groups_in, greatest, captures_len, IsReduced};
 ghost use Rattle.bites_spec.specs.Measure.{states, size_of, group_weight, groups_left, static_captures_len, HasItsGroups, TreeLimits, TreeLimitsWith};
@@ -23,7 +23,7 @@ use bites_syntax::tree::Tree;
 use bites_text::error::Error;
 use std::alloc::{AllocError, Global};
 
-/// The program of a tree that was read from this pattern, with the groups that are left in the tree.
+/// The program of a tree that was read from this pattern, which it keeps, with the groups that are left in the tree.
 ///
 /// `size_limit` bounds the weight of the program: 32 for each state, 4 for each target of a split,
 /// 8 for each range, 16 for each number from 0 to the greatest of a group, and for each name its bytes
@@ -33,11 +33,11 @@ use std::alloc::{AllocError, Global};
 pub fn compile(
     alloc: Global,
     tree: &Tree,
-    pattern: &str,
+    pattern: String,
     size_limit: usize,
 ) -> Result<Program, Error>
     requires { IsCompilable tree.now }
-    ensures pattern { IfOk result (λ p. p.pattern ≡ pattern.now) }
+    ensures pattern { IfOk result (λ p. p.pattern ≡ string_bytes pattern) }
     ensures names { IfOk result (λ p. p.names ≡ groups_left tree.now) }
     ensures slots { IfOk result (λ p. p.program.slots ≡ 2 * captures_len tree.now) }
     ensures static_len { IfOk result
@@ -59,12 +59,12 @@ pub fn compile_with_groups(
     alloc: Global,
     tree: &Tree,
     groups: &Groups,
-    pattern: &str,
+    pattern: String,
     size_limit: usize,
 ) -> Result<Program, Error>
     requires compilable { IsCompilable tree.now }
     requires groups { HasItsGroups groups.now tree.now }
-    ensures pattern { IfOk result (λ p. p.pattern ≡ pattern.now) }
+    ensures pattern { IfOk result (λ p. p.pattern ≡ string_bytes pattern) }
     ensures names { IfOk result (λ p. p.names ≡ groups.now) }
     ensures slots { IfOk result (λ p. p.program.slots ≡ 2 * length groups.now) }
     ensures static_len { IfOk result
@@ -151,14 +151,14 @@ fn with_names(
     tree: &Tree,
     capacity: usize,
     names: Vec<Option<String>>,
-    pattern: &str,
+    pattern: String,
 ) -> Result<Program, Error>
     requires compilable { IsCompilable tree.now }
     requires classes { HasClasses tree.now }
     requires few_states { states tree.now ≤ 4294967295 }
     requires few_groups { length names.items ≤ 2147483648 }
     requires room { captures_len tree.now ≤ length names.items }
-    ensures pattern { IfOk result (λ p. p.pattern ≡ pattern.now) }
+    ensures pattern { IfOk result (λ p. p.pattern ≡ string_bytes pattern) }
     ensures names { IfOk result (λ p. p.names ≡ bytes_of names.items) }
     ensures slots { IfOk result (λ p. p.program.slots ≡ 2 * length names.items) }
     ensures static_len { IfOk result
@@ -169,7 +169,6 @@ fn with_names(
 {
     let (states, start) = whole_states(alloc, tree, capacity)?;
     let slots = 2 * names.len();
-    let pattern = String::from_str(alloc, pattern)?;
     let at_least = static_captures_len(tree, names.len());
     let mut program = Program::new(alloc, states, start, slots, pattern, names, at_least).ok_or(
         Error::Memory,

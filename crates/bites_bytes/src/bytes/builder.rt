@@ -1,13 +1,14 @@
 //! The builder of regexes.
 
-ghost use Rattle.std.specs.Prelude.{◌≡◌, ◌≢◌, ◌*◌, IfOk, IfErr, OnOk, chars, length};
-ghost use Rattle.bites_spec.specs.Measure.{HasItsGroups, TreeLimitsWith, static_captures_len};
+ghost use Rattle.std.specs.Prelude.{◌≡◌, ◌≢◌, ◌*◌, IfOk, IfErr, OnOk, chars, length, string_bytes};
+ghost use Rattle.bites_spec.specs.Measure as measure;
+ghost use Rattle.bites_spec.specs.Measure.{HasItsGroups, TreeLimitsWith, groups_opened, static_captures_len};
+ghost use Rattle.bites_spec.specs.Grammar.{Reading};
 ghost use Rattle.bites_spec.specs.Built.{Built, IsCompilable};
 ghost use Rattle.bites_spec.specs.Program.{IsWellFormed};
 ghost use Rattle.bites_machine.specs.Compiled as compiled;
 ghost use Rattle.bites_spec.specs.Tree.{Tree};
-ghost use Rattle.bites_syntax.specs.FlagsView.{flags_of};
-ghost use Rattle.bites_spec.specs.Settings.{Accepts, by_default, settings};
+ghost use Rattle.bites_spec.specs.Settings.{Accepts, by_default};
 ghost use Rattle.bites_bytes.specs.Settings.{Refuses};
 ghost use Rattle.bites_bytes.specs.Parts.{chosen};
 
@@ -17,7 +18,7 @@ use bites_syntax::groups::Groups;
 use bites_syntax::parse::{Flags, parse_with_groups};
 use bites_syntax::tree as syntax;
 use bites_text::error::Error;
-use std::alloc::Global;
+use std::alloc::{AllocError, Global};
 use std::fmt;
 use std::marker::Model;
 
@@ -220,39 +221,80 @@ impl RegexBuilder {
             Accepts self.now t → ⊥) }
         ensures message { IfErr result (λ e. e ≢ Error.Memory → Refuses self.now e) }
     {
-        build(
-            self.alloc,
-            &self.pattern,
-            self.flags,
-            self.limits,
-            self.keep_dropped_groups,
-            self.leftmost_longest,
-        )
+        let (tree, groups) = self.read()?;
+        self.copy()?.compiled(&tree, &groups)
     }
-}
 
-// A regex of the pattern under these flags and limits, with all of its groups kept or those that are left, whose searches answer
-// the longest match or the preferred one.
-fn build(
-    alloc: Global,
-    pattern: &str,
-    flags: Flags,
-    limits: Limits,
-    keep: bool,
-    leftmost_longest: bool,
-) -> Result<Regex, Error>
-    ensures kept { IfOk result (λ r. (r.pattern ≡ pattern.now) × (r.flags ≡ flags_of flags)
-        × (r.keep_dropped_groups ≡ keep) × (r.leftmost_longest ≡ leftmost_longest)) }
-    ensures accepted { IfOk result
-        (λ r. Accepts (settings pattern.now (flags_of flags) limits.size limits.nest keep leftmost_longest) r.tree) }
-    ensures refused { IfErr result (λ e. e ≢ Error.Memory → (t : Tree) →
-        Accepts (settings pattern.now (flags_of flags) limits.size limits.nest keep leftmost_longest) t → ⊥) }
-    ensures message { IfErr result (λ e. e ≢ Error.Memory →
-        Refuses (settings pattern.now (flags_of flags) limits.size limits.nest keep leftmost_longest) e) }
-{
-    let (tree, groups) = parse_with_groups(alloc, pattern, flags, limits.nest)?;
-    let program = compile_kept(alloc, &tree, &groups, keep, pattern, limits.size)?;
-    Regex::from_parts(alloc, &tree, flags, keep, leftmost_longest, program)
+    /// Returns the regex that [`RegexBuilder::build`] returns, and gives the builder up, so that the pattern is not
+    /// copied again.
+    ///
+    /// For proofs: the contract is that of [`RegexBuilder::build`].
+    pub fn into_regex(self) -> Result<Regex, Error>
+        ensures kept { IfOk result (λ r. (r.pattern ≡ self.pattern) × (r.flags ≡ self.flags)
+            × (r.keep_dropped_groups ≡ self.keep_dropped_groups)
+            × (r.leftmost_longest ≡ self.leftmost_longest)) }
+        ensures accepted { IfOk result (λ r. Accepts self r.tree) }
+        ensures refused { IfErr result (λ e. e ≢ Error.Memory → (t : Tree) →
+            Accepts self t → ⊥) }
+        ensures message { IfErr result (λ e. e ≢ Error.Memory → Refuses self e) }
+    {
+        let (tree, groups) = self.read()?;
+        self.compiled(&tree, &groups)
+    }
+
+    // The tree of the pattern, and all groups that the pattern opens.
+    fn read(&self) -> Result<(syntax::Tree, Groups), Error>
+        ensures read { IfOk result
+            (λ r. measure.Limits (chars self.now.pattern) self.now.flags self.now.nest_limit r.0) }
+        ensures groups { IfOk result
+            (λ r. (reading : Reading (chars self.now.pattern) self.now.flags r.0) →
+            r.1 ≡ groups_opened reading) }
+        ensures compilable { IfOk result (λ r. IsCompilable r.0) }
+        ensures refused { IfErr result (λ e. e ≢ Error.Memory → (t : Tree) →
+            Accepts self.now t → ⊥) }
+        ensures message { IfErr result (λ e. e ≢ Error.Memory → Refuses self.now e) }
+    {
+        parse_with_groups(self.alloc, &self.pattern, self.flags, self.limits.nest)
+    }
+
+    fn copy(&self) -> Result<RegexBuilder, AllocError>
+        ensures { IfOk result (λ b. b ≡ self.now) }
+    {
+        Ok(RegexBuilder {
+            alloc: self.alloc,
+            pattern: String::from_str(self.alloc, &self.pattern)?,
+            flags: self.flags,
+            limits: self.limits,
+            keep_dropped_groups: self.keep_dropped_groups,
+            leftmost_longest: self.leftmost_longest,
+        })
+    }
+
+    // The regex of the tree that was read from the pattern, and of all groups that the pattern opens.
+    fn compiled(self, tree: &syntax::Tree, groups: &Groups) -> Result<Regex, Error>
+        requires read { measure.Limits (chars self.pattern) self.flags self.nest_limit tree.now }
+        requires groups { (reading : Reading (chars self.pattern) self.flags tree.now) →
+            groups.now ≡ groups_opened reading }
+        requires compilable { IsCompilable tree.now }
+        ensures kept { IfOk result (λ r. (r.pattern ≡ self.pattern) × (r.flags ≡ self.flags)
+            × (r.keep_dropped_groups ≡ self.keep_dropped_groups)
+            × (r.leftmost_longest ≡ self.leftmost_longest)) }
+        ensures accepted { IfOk result (λ r. Accepts self r.tree) }
+        ensures refused { IfErr result (λ e. e ≢ Error.Memory → (t : Tree) →
+            Accepts self t → ⊥) }
+        ensures message { IfErr result (λ e. e ≢ Error.Memory → Refuses self e) }
+    {
+        let RegexBuilder {
+            alloc,
+            pattern,
+            flags,
+            limits,
+            keep_dropped_groups: keep,
+            leftmost_longest,
+        } = self;
+        let program = compile_kept(alloc, tree, groups, keep, pattern, limits.size)?;
+        Regex::from_parts(alloc, tree, flags, keep, leftmost_longest, program)
+    }
 }
 
 // The program of the tree, with all of the groups or with those that are left in the tree.
@@ -261,12 +303,12 @@ fn compile_kept(
     tree: &syntax::Tree,
     groups: &Groups,
     keep: bool,
-    pattern: &str,
+    pattern: String,
     size_limit: usize,
 ) -> Result<Program, Error>
     requires compilable { IsCompilable tree.now }
     requires groups { HasItsGroups groups.now tree.now }
-    ensures pattern { IfOk result (λ p. p.pattern ≡ pattern.now) }
+    ensures pattern { IfOk result (λ p. p.pattern ≡ string_bytes pattern) }
     ensures names { IfOk result (λ p. p.names ≡ chosen keep groups.now tree.now) }
     ensures slots { IfOk result
         (λ p. p.program.slots ≡ 2 * length (chosen keep groups.now tree.now)) }

@@ -156,7 +156,7 @@ impl Regex {
         ensures message { IfErr result (λ e. e ≢ Error.Memory →
             Refuses (by_default pattern.now) e) }
     {
-        RegexBuilder::new(alloc, pattern)?.build()
+        RegexBuilder::new(alloc, pattern)?.into_regex()
     }
 
     // A regex of a tree and its program.

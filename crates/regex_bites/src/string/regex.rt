@@ -7,7 +7,6 @@ ghost use Rattle.bites_spec.specs.Regex.{IsCompiled, NamesAreKept};
 ghost use Rattle.bites_spec.specs.Settings.{Accepts, by_default, no_flags};
 ghost use Rattle.bites_bytes.specs.Settings.{Refuses};
 
-use crate::string::RegexBuilder;
 use bites_bytes::bytes;
 use bites_bytes::bytes::CaptureNames;
 use bites_text::error::Error;
@@ -67,7 +66,8 @@ impl Regex {
         ensures message { IfErr result (λ e. e ≢ Error.Memory →
             Refuses (by_default pattern.now) e) }
     {
-        RegexBuilder::new(alloc, pattern)?.build()
+        let regex = bytes::Regex::new(alloc, pattern)?;
+        Ok(Regex::from_bytes(alloc, regex))
     }
 
     // The regex over texts with this pattern and program. The contract of `as_str` says that it is compiled.

@@ -1,7 +1,10 @@
+use Rattle.bites_bytes.proofs.SettingsLemmas.{handed_on}
 use Rattle.regex_bites.proofs.string.regex.Regex.new.Goals as goal
 
-pub returns-clause-message : goal.returns-clause-message
-returns-clause-message c = rw (← c.in_ok-new.ensures.made) c.build-2.ensures.message
+pub returns-in_err-regex-clause-refused : goal.returns-in_err-regex-clause-refused
+returns-in_err-regex-clause-refused c =
+    handed_on c.from_residual.result c.in_err-regex.field-0.0 _ c.from_residual.ensures.1 c.in_err-regex.ensures.refused
 
-pub returns-clause-refused : goal.returns-clause-refused
-returns-clause-refused c = rw (← c.in_ok-new.ensures.made) c.build-2.ensures.refused
+pub returns-in_err-regex-clause-message : goal.returns-in_err-regex-clause-message
+returns-in_err-regex-clause-message c =
+    handed_on c.from_residual.result c.in_err-regex.field-0.0 _ c.from_residual.ensures.1 c.in_err-regex.ensures.message

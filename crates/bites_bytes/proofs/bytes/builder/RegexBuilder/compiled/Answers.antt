@@ -1,0 +1,63 @@
+use Rattle.std.proofs.Common.{◌≡◌, refl, sym, subst}
+use Rattle.std.specs.Prelude.{chars}
+use Rattle.bites_spec.specs.Grammar.{Reading}
+use Rattle.bites_spec.specs.Measure.{HasItsGroups, TreeLimitsWith, groups_opened}
+use Rattle.bites_spec.specs.Settings.{Settings}
+use Rattle.bites_spec.proofs.regex.KeptLemmas.{opened_has_groups}
+use Rattle.bites_syntax.specs.FlagsView.{flags_of}
+use Rattle.bites_machine.specs.Compiled as compiled
+use Rattle.bites_bytes.specs.Parts.{chosen, regex_of}
+use Rattle.bites_bytes.specs.Settings.{limit}
+use Rattle.bites_bytes.proofs.SettingsLemmas.{handed_on, no_other_tree, accepted_clause, refused_kept, compiled_of}
+use Rattle.bites_bytes.proofs.bytes.builder.RegexBuilder.compiled.Goals as goal
+
+pub compile_kept-requires-clause-groups : goal.compile_kept-requires-clause-groups
+compile_kept-requires-clause-groups c =
+    let reading = c.requires.read.reading in
+    subst (λ groups. HasItsGroups groups c.args.tree.now) (sym (c.requires.groups reading)) (opened_has_groups reading)
+
+pub returns-in_err-program-clause-refused : goal.returns-in_err-program-clause-refused
+returns-in_err-program-clause-refused c =
+    let s = c.args.self in
+    let t = c.args.tree.now in
+    let groups = c.args.groups.now in
+    let read = c.requires.read in
+    let e = c.in_err-program.field-0.0 in
+    let Passed : Settings → Type 0 = λ x. compiled.RefusesTree x.size_limit (chosen x.keep_dropped_groups groups t) t e in
+    handed_on c.from_residual.result e _ c.from_residual.ensures.1
+    (λ ne u a. no_other_tree s t e read
+    (refused_kept s t groups read (c.requires.groups read.reading) e (subst Passed c.self.view_is c.in_err-program.ensures.refused)) ne u a)
+
+pub returns-in_err-program-clause-message : goal.returns-in_err-program-clause-message
+returns-in_err-program-clause-message c =
+    let s = c.args.self in
+    let t = c.args.tree.now in
+    let groups = c.args.groups.now in
+    let read = c.requires.read in
+    let e = c.in_err-program.field-0.0 in
+    let Passed : Settings → Type 0 = λ x. compiled.RefusesTree x.size_limit (chosen x.keep_dropped_groups groups t) t e in
+    handed_on c.from_residual.result e _ c.from_residual.ensures.1
+    (λ ne. limit t read
+    (refused_kept s t groups read (c.requires.groups read.reading) e (subst Passed c.self.view_is c.in_err-program.ensures.refused)))
+
+pub from_parts-requires : goal.from_parts-requires
+from_parts-requires c =
+    let x = c.self.inside in
+    let t = c.args.tree.now in
+    let groups = c.args.groups.now in
+    let Reads : Settings → Type 0 = λ s. Reading (chars s.pattern) s.flags t in
+    let Opens : Settings → Type 0 = λ s. (r : Reads s) → groups ≡ groups_opened r in
+    let reading = subst Reads (sym c.self.view_is) c.requires.read.reading in
+    let made = c.in_ok-program.ensures in
+    compiled_of (flags_of x.flags) t x.keep_dropped_groups x.leftmost_longest c.in_ok-program.program _ groups reading
+    (subst Opens (sym c.self.view_is) c.requires.groups reading) c.requires.compilable made.pattern made.names made.slots made.static_len made.built made.well_formed
+
+pub returns-clause-accepted : goal.returns-clause-accepted
+returns-clause-accepted c =
+    let x = c.self.inside in
+    let t = c.args.tree.now in
+    let groups = c.args.groups.now in
+    let read = c.requires.read in
+    let Within : Settings → Type 0 = λ s. TreeLimitsWith s.size_limit (chosen s.keep_dropped_groups groups t) t in
+    accepted_clause c.args.self t groups read (c.requires.groups read.reading) (subst Within c.self.view_is c.in_ok-program.ensures.limits) c.from_parts.result
+    (regex_of (flags_of x.flags) t x.keep_dropped_groups x.leftmost_longest c.in_ok-program.program) refl c.from_parts.ensures.made
