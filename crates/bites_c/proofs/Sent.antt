@@ -7,6 +7,7 @@ use Rattle.bites_machine.proofs.state.State.TheSendSync as state
 use Rattle.bites_machine.specs.contracts.prefix.StartPrefix as StartPrefix
 use Rattle.bites_machine.proofs.vm.threads.Threads.TheSendSync as threads
 use Rattle.bites_machine.proofs.vm.closure.Scratch.TheSendSync as scratch
+use Rattle.bites_machine.proofs.group_names.GroupNames.TheSendSync as group_names
 use Rattle.bites_machine.proofs.kept_ranges.KeptRanges.TheSendSync as kept_ranges
 use Rattle.bites_machine.specs.contracts.self_loop.SelfLoop as SelfLoop
 use Rattle.bites_machine.specs.contracts.self_loop.SelfLoops as SelfLoops
@@ -39,10 +40,10 @@ loops_sync : IsSync SelfLoops.the_row
 loops_sync = search (sendable, crosses, loop_sync) depth 20
 
 program_send : IsSend Program.the_row
-program_send = search (sendable, crosses, prefix_send, loops_send, state.the_send) depth 30
+program_send = search (sendable, crosses, prefix_send, loops_send, group_names.the_send, state.the_send) depth 30
 
 program_sync : IsSync Program.the_row
-program_sync = search (sendable, crosses, prefix_sync, loops_sync, state.the_sync) depth 30
+program_sync = search (sendable, crosses, prefix_sync, loops_sync, group_names.the_sync, state.the_sync) depth 30
 
 compiled_send : IsSend Compiled.the_row
 compiled_send = search (sendable, crosses, tree_crosses, flags.the_field_send, program_send) depth 20

@@ -11,7 +11,7 @@ use Rattle.bites_machine.specs.Contents.{contents_by}
 use Rattle.bites_machine.specs.declared.program.Program.TheInside.{Inside}
 
 abbrev pub contents_of : Inside → Contents
-contents_of a = contents_by a.states.items a.start a.slots a.pattern a.names.items a.static_captures_len
+contents_of a = contents_by a.states.items a.start a.slots a.pattern a.names a.static_captures_len
 
 -- the program has no fault, its edges are counted, its prefix, if it has one, is that of its start, and its self-loops are some
 abbrev pub IsSound : Inside → Type 0

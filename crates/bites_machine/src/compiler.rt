@@ -8,11 +8,11 @@ ghost use Rattle.bites_spec.specs.Program.{IsWellFormed};
 ghost use Rattle.bites_spec.specs.Built.{Built, IsCompilable};
 ghost use Rattle.bites_machine.specs.Classes.{HasClasses};
 ghost use Rattle.bites_machine.specs.Sizes.{held, held_size, weight_by};
-ghost use Rattle.bites_machine.specs.Names.{bytes_of};
 ghost use Rattle.bites_machine.specs.States.{states_of, program_of};
 ghost use Rattle.bites_machine.specs.Compiled.{program_of_tree, LimitsBy, RefusesTree, RefusesBy};
 
 use crate::emit::States;
+use crate::group_names::GroupNames;
 use crate::groups::{names_left, names_of, static_captures_len, weight_left, weight_of_groups};
 use crate::program::Program;
 use crate::size::{Size, size_of};
@@ -150,17 +150,17 @@ fn with_names(
     alloc: Global,
     tree: &Tree,
     capacity: usize,
-    names: Vec<Option<String>>,
+    names: GroupNames,
     pattern: String,
 ) -> Result<Program, Error>
     requires compilable { IsCompilable tree.now }
     requires classes { HasClasses tree.now }
     requires few_states { states tree.now ≤ 4294967295 }
-    requires few_groups { length names.items ≤ 2147483648 }
-    requires room { captures_len tree.now ≤ length names.items }
+    requires few_groups { length names ≤ 2147483648 }
+    requires room { captures_len tree.now ≤ length names }
     ensures pattern { IfOk result (λ p. p.pattern ≡ string_bytes pattern) }
-    ensures names { IfOk result (λ p. p.names ≡ bytes_of names.items) }
-    ensures slots { IfOk result (λ p. p.program.slots ≡ 2 * length names.items) }
+    ensures names { IfOk result (λ p. p.names ≡ names) }
+    ensures slots { IfOk result (λ p. p.program.slots ≡ 2 * length names) }
     ensures static_len { IfOk result
         (λ p. p.static_captures_len ≡ static_captures_len tree.now) }
     ensures built { IfOk result (λ p. Built tree.now p.program) }

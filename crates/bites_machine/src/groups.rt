@@ -8,6 +8,7 @@ ghost use Rattle.std.specs.Option.{option_copied};
 ghost use Rattle.bites_machine.specs.Sizes.{held};
 ghost use Rattle.bites_machine.specs.Names.{bytes_of, filled};
 
+use crate::group_names::GroupNames;
 use bites_syntax::groups::Groups;
 use bites_syntax::measure::static_count;
 use bites_syntax::tree::{Kind, Name, Tree};
@@ -131,17 +132,18 @@ pub fn names_left(
     alloc: Global,
     tree: &Tree,
     captures: usize,
-) -> Result<Vec<Option<String>>, AllocError>
+) -> Result<GroupNames, AllocError>
     requires reduced { IsReduced tree.now }
     requires apart { AllApart (groups_in tree.now) }
     requires captures { captures ≡ captures_len tree.now }
-    ensures { IfOk result (λ names. bytes_of names.items ≡ groups_left tree.now) }
+    ensures { IfOk result (λ names. names ≡ groups_left tree.now) }
 {
-    let mut names = no_names(alloc, captures)?;
-    if captures > 1 {
-        write_names(alloc, tree, &mut names)?;
+    if captures == 1 {
+        return Ok(GroupNames::none(alloc, 1));
     }
-    Ok(names)
+    let mut names = no_names(alloc, captures)?;
+    write_names(alloc, tree, &mut names)?;
+    Ok(GroupNames::of(names))
 }
 
 /// What the groups that are left in the tree weigh. A weight that is too large for a `usize` is held as the greatest.
@@ -180,14 +182,14 @@ pub fn weight_of_groups(groups: &Groups) -> usize
 }
 
 /// The name of each of these groups.
-pub fn names_of(alloc: Global, groups: &Groups) -> Result<Vec<Option<String>>, AllocError>
-    ensures { IfOk result (λ names. bytes_of names.items ≡ groups.now) }
+pub fn names_of(alloc: Global, groups: &Groups) -> Result<GroupNames, AllocError>
+    ensures { IfOk result (λ names. names ≡ groups.now) }
 {
     let mut names = Vec::with_capacity(alloc, groups.len())?;
     for i in 0..groups.len() {
         names.push(copy_of_text(alloc, groups.name(i))?)?;
     }
-    Ok(names)
+    Ok(GroupNames::of(names))
 }
 
 fn copy_of_text(alloc: Global, name: Option<&str>) -> Result<Option<String>, AllocError>

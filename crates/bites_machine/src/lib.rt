@@ -6,6 +6,7 @@ mod compiler;
 mod emit;
 mod fault;
 mod few_ranges;
+mod group_names;
 mod groups;
 pub mod interpolate;
 mod kept_ranges;

@@ -11,6 +11,7 @@ ghost use Rattle.bites_machine.specs.Bad.{IsBad};
 pub use crate::compiler::{compile, compile_with_groups};
 pub use crate::fault::BadProgram;
 use crate::fault::first_fault_of;
+use crate::group_names::GroupNames;
 use crate::prefix::{StartClosure, StartPrefix};
 pub use crate::ranges::Ranges;
 use crate::self_loop::SelfLoops;
@@ -28,7 +29,7 @@ pub struct Program {
     slots: usize,
     targets: usize,
     pattern: String,
-    names: Vec<Option<String>>,
+    names: GroupNames,
     static_captures_len: Option<usize>,
     prefix: Option<StartPrefix>,
     loops: SelfLoops,
@@ -87,7 +88,7 @@ impl Program {
             return Err(fault);
         }
         let pattern = String::new(alloc);
-        let names = Vec::new(alloc);
+        let names = GroupNames::none(alloc, 0);
         let program = Program::new(alloc, states, start, slots as usize, pattern, names, None);
         let mut program = program.ok_or(BadProgram::Memory)?;
         program.find_prefix();
@@ -101,12 +102,12 @@ impl Program {
         start: u32,
         slots: usize,
         pattern: String,
-        names: Vec<Option<String>>,
+        names: GroupNames,
         static_captures_len: Option<usize>,
     ) -> Option<Program>
         requires { first_fault (program_of states.items start slots) ≡ None }
         ensures made { IfSome result (λ p. p
-            ≡ contents_by states.items start slots pattern names.items static_captures_len) }
+            ≡ contents_by states.items start slots pattern names static_captures_len) }
         ensures none { IfNone result (2 ^ 64 ≤ targets (program_of states.items start slots)) }
     {
         let targets = edges(&states)?;
@@ -231,10 +232,7 @@ impl Program {
     pub fn name(&self, group: usize) -> Option<&str>
         ensures { option_copied result ≡ slice_index_or self.now.names group None }
     {
-        match self.names.get(group) {
-            Some(Some(name)) => Some(name.as_str()),
-            _ => None,
-        }
+        self.names.get(group)
     }
 
     /// The number of the first group with this name.
