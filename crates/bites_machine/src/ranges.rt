@@ -65,6 +65,7 @@ impl Ranges {
     }
 
     // These ranges, with what is kept beside them.
+    #[inline(always)]
     fn new(list: RangeList) -> Ranges
         ensures { result ≡ list }
     {
