@@ -128,11 +128,7 @@ fn no_names(alloc: Global, count: usize) -> Result<Vec<Option<String>>, AllocErr
 }
 
 /// The name of each group that is left in the tree, from group 0 on.
-pub fn names_left(
-    alloc: Global,
-    tree: &Tree,
-    captures: usize,
-) -> Result<GroupNames, AllocError>
+pub fn names_left(alloc: Global, tree: &Tree, captures: usize) -> Result<GroupNames, AllocError>
     requires reduced { IsReduced tree.now }
     requires apart { AllApart (groups_in tree.now) }
     requires captures { captures ≡ captures_len tree.now }

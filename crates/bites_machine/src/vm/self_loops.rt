@@ -121,11 +121,7 @@ fn leaves(body: &SelfLoop, haystack: &[u8], place: usize) -> bool {
 
 // The self-loop of the only thread, if there is one, and if a search does not stop at the places that it passes.
 #[inline(always)]
-fn loop_of<'p>(
-    request: &Request<'_, 'p>,
-    threads: &Threads,
-    from: Reached,
-) -> Option<&'p SelfLoop>
+fn loop_of<'p>(request: &Request<'_, 'p>, threads: &Threads, from: Reached) -> Option<&'p SelfLoop>
     ensures among { IfSome result (λ x. Among request.now.loops.now x.now) }
     ensures alone { IfSome result (λ x. (t : thread.Thread) × (threads.now.threads ≡ t ∷ [])
         × (t.state ≡ x.now.state)) }
