@@ -14,4 +14,4 @@ pub mod GroupLemmas
 pub mod GrouplessLemmas
 pub mod BadLemmas
 pub mod SumLemmas
-pub mod LeftWeights
+pub mod GroupSizes

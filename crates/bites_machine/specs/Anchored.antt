@@ -6,7 +6,7 @@ use Rattle.bites_spec.specs.Program.{Program}
 use Rattle.bites_spec.specs.Counts.{Record}
 use Rattle.bites_machine.specs.Machine.{Walking, Searching, WalksTo, started, after, is_empty}
 use Rattle.bites_machine.specs.SlotTable.{Pool}
-use Rattle.bites_machine.specs.Sweep.{StandsFor, left_in}
+use Rattle.bites_machine.specs.Sweep.{Represents, left_in}
 use Rattle.bites_machine.specs.declared.vm.threads.Thread.{Thread}
 use Rattle.bites_machine.specs.declared.vm.closure.Scratch.{Scratch}
 
@@ -47,8 +47,8 @@ module _ (hay : List ℕ) (longest : Bool) (p : Program) (width : ℕ) where
 
 -- The closures of the threads of a place were explored, and the machine on lists does so too.
 pub record ThreadsSearched (hay : List ℕ) (longest : Bool) (place len : ℕ) (states : List program.State) (was now : Record) (old new : Scratch) (threads later : List Thread) (slots left : List (Option ℕ)) : Type 0 where
-  pub steps : (p : Program) → p.states ≡ states → (s : Searching) (first : List (Option ℕ)) (found : Bool) → StandsFor s place old.rows threads was first slots found →
-      (t : Searching) × Steps hay longest p (length slots) s t × StandsFor t (place + len) new.rows later now first left (found || is_some new.first_match)
+  pub steps : (p : Program) → p.states ≡ states → (s : Searching) (first : List (Option ℕ)) (found : Bool) → Represents s place old.rows threads was first slots found →
+      (t : Searching) × Steps hay longest p (length slots) s t × Represents t (place + len) new.rows later now first left (found || is_some new.first_match)
 
 module _ (p : Program) (hay : List ℕ) (longest earliest : Bool) (start : ℕ) (old : List (Option ℕ)) where
   -- the machine on lists has gone on to this place
@@ -56,7 +56,7 @@ module _ (p : Program) (hay : List ℕ) (longest earliest : Bool) (start : ℕ) 
     pub places : ℕ
     pub now : Searching
     pub stepped : SteppedTo hay longest p (length old) earliest start places now
-    pub stands : StandsFor now place pool threads walked old slots is_found
+    pub stands : Represents now place pool threads walked old slots is_found
 
   -- the place was searched, and whether the search is over is not known yet
   pub record HasSteppedOver (place : ℕ) (is_found : Bool) (walked : Record) (pool : Pool) (threads : List Thread) (slots : List (Option ℕ)) : Type 0 where
@@ -66,7 +66,7 @@ module _ (p : Program) (hay : List ℕ) (longest earliest : Bool) (start : ℕ) 
     pub stepped : SteppedTo hay longest p (length old) earliest start places before
     pub place_is : before.place ≡ place
     pub last : Steps hay longest p (length old) before now
-    pub stands : StandsFor now (place + (piece hay place).len) pool threads walked old slots is_found
+    pub stands : Represents now (place + (piece hay place).len) pool threads walked old slots is_found
 
 -- The machine on lists searched from the start alone, and this is what it found and did.
 pub record AnchoredResult (p : Program) (hay : List ℕ) (longest earliest : Bool) (start : ℕ) (answer : Bool) (old new : List (Option ℕ)) (walked : Record) : Type 0 where

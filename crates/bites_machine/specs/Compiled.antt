@@ -1,13 +1,13 @@
 -- The program of a tree, and when there is none.
 use Rattle.std.specs.Prelude.{ℕ, ◌*◌, ◌<◌, ◌≤◌, List, [], ◌∷◌, length, Option}
 use Rattle.bites_spec.specs.Tree.{Tree}
-use Rattle.bites_spec.specs.Measure.{weight_with, states, TreeLimitsWith}
+use Rattle.bites_spec.specs.Measure.{size_with, states, TreeLimitsWith}
 use Rattle.bites_spec.specs.Program as program
 use Rattle.bites_spec.specs.Program.{Program}
 use Rattle.bites_text.specs.declared.error.Error.{Error}
 use Rattle.bites_text.specs.declared.error.Error.TheVariants.{TooBig, TooManyStates, TooManySlots, Memory}
 use Rattle.bites_machine.specs.Emitted.{Emitted, emit, grouped}
-use Rattle.bites_machine.specs.Sizes.{weight_by}
+use Rattle.bites_machine.specs.Sizes.{size_by}
 
 -- the match, and group 0 around the tree in front of it
 abbrev pub whole : Tree → Emitted
@@ -19,23 +19,23 @@ program_of_tree n t = record { states = (whole t).states; start = (whole t).from
 
 -- when an error is answered: the first limit that is exceeded, or want of memory where none is
 abbrev pub RefusesTree : ℕ → List (Option (List ℕ)) → Tree → Error → Type 0
-RefusesTree size_limit groups t TooBig = size_limit < weight_with groups t
-RefusesTree size_limit groups t TooManyStates = (weight_with groups t ≤ size_limit) × (4294967295 < states t)
+RefusesTree size_limit groups t TooBig = size_limit < size_with groups t
+RefusesTree size_limit groups t TooManyStates = (size_with groups t ≤ size_limit) × (4294967295 < states t)
 RefusesTree size_limit groups t TooManySlots =
-    (weight_with groups t ≤ size_limit) × (states t ≤ 4294967295) × (2147483648 < length groups)
+    (size_with groups t ≤ size_limit) × (states t ≤ 4294967295) × (2147483648 < length groups)
 RefusesTree size_limit groups t Memory = TreeLimitsWith size_limit groups t
 RefusesTree size_limit groups t _ = ⊥
 
 -- the limits with so many groups that weigh so much
-pub record LimitsBy (size_limit captures weight : ℕ) (t : Tree) : Type 0 where
-  pub light : weight_by weight t ≤ size_limit
+pub record LimitsBy (size_limit captures groups_size : ℕ) (t : Tree) : Type 0 where
+  pub light : size_by groups_size t ≤ size_limit
   pub few_states : states t ≤ 4294967295
   pub few_groups : captures ≤ 2147483648
 
 -- when one of them is exceeded
 abbrev pub RefusesBy : ℕ → ℕ → ℕ → Tree → Error → Type 0
-RefusesBy size_limit captures weight t TooBig = size_limit < weight_by weight t
-RefusesBy size_limit captures weight t TooManyStates = (weight_by weight t ≤ size_limit) × (4294967295 < states t)
-RefusesBy size_limit captures weight t TooManySlots =
-    (weight_by weight t ≤ size_limit) × (states t ≤ 4294967295) × (2147483648 < captures)
-RefusesBy size_limit captures weight t _ = ⊥
+RefusesBy size_limit captures groups_size t TooBig = size_limit < size_by groups_size t
+RefusesBy size_limit captures groups_size t TooManyStates = (size_by groups_size t ≤ size_limit) × (4294967295 < states t)
+RefusesBy size_limit captures groups_size t TooManySlots =
+    (size_by groups_size t ≤ size_limit) × (states t ≤ 4294967295) × (2147483648 < captures)
+RefusesBy size_limit captures groups_size t _ = ⊥

@@ -16,5 +16,5 @@ abbrev pub both_sizes : Size → Size → Size
 both_sizes s t = size (s.states + t.states) (s.targets + t.targets) (s.ranges + t.ranges)
 
 -- the weight of a tree with groups that weigh so much
-abbrev pub weight_by : ℕ → Tree → ℕ
-weight_by groups t = 32 * states t + 4 * (size_of t).targets + 8 * (size_of t).ranges + groups
+abbrev pub size_by : ℕ → Tree → ℕ
+size_by groups t = 32 * states t + 4 * (size_of t).targets + 8 * (size_of t).ranges + groups

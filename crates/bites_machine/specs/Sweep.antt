@@ -142,7 +142,7 @@ pub record InvariantBetweenSteps (states : List program.State) (place : ℕ) (wa
   pub wide : slots_per_row ≡ scratch.rows.slots_per_row
 
 -- A search of the machine on lists stands at a place, with these threads, and this is what it found and did.
-pub record StandsFor (s : Searching) (i : ℕ) (pool : Pool) (list : List Thread) (walked : Record) (first left : List (Option ℕ)) (is_found : Bool) : Type 0 where
+pub record Represents (s : Searching) (i : ℕ) (pool : Pool) (list : List Thread) (walked : Record) (first left : List (Option ℕ)) (is_found : Bool) : Type 0 where
   pub place : s.place ≡ i
   pub threads : s.threads ≡ map (thread_of pool) list
   pub found : is_some s.best ≡ is_found
@@ -153,8 +153,8 @@ pub record StandsFor (s : Searching) (i : ℕ) (pool : Pool) (list : List Thread
 -- A place was searched, with the start behind the threads if nothing was found before.
 pub record PlaceSearched (hay : List ℕ) (longest : Bool) (place len : ℕ) (states : List program.State) (begins : Option ℕ) (was now : Record) (old new : Scratch) (threads later : List Thread) (slots left : List (Option ℕ)) : Type 0 where
   pub searches : (p : Program) → p.states ≡ states → (s : Searching) (first : List (Option ℕ)) (found : Bool) →
-      begins ≡ (if found then None else Some p.start) → StandsFor s place old.rows threads was first slots found →
-      (t : Searching) × Searches hay longest p (length slots) s t × StandsFor t (place + len) new.rows later now first left (found || is_some new.first_match)
+      begins ≡ (if found then None else Some p.start) → Represents s place old.rows threads was first slots found →
+      (t : Searching) × Searches hay longest p (length slots) s t × Represents t (place + len) new.rows later now first left (found || is_some new.first_match)
 
 module _ (p : Program) (hay : List ℕ) (longest earliest : Bool) (start : ℕ) (old : List (Option ℕ)) where
   -- the machine on lists has gone on to this place
@@ -162,7 +162,7 @@ module _ (p : Program) (hay : List ℕ) (longest earliest : Bool) (start : ℕ) 
     pub places : ℕ
     pub now : Searching
     pub searched : SearchedTo hay longest p (length old) earliest start places now
-    pub stands : StandsFor now place pool threads walked old slots is_found
+    pub stands : Represents now place pool threads walked old slots is_found
 
   -- the place was searched, and whether the search is over is not known yet
   pub record HasSearched (place : ℕ) (is_found : Bool) (walked : Record) (pool : Pool) (threads : List Thread) (slots : List (Option ℕ)) : Type 0 where
@@ -172,7 +172,7 @@ module _ (p : Program) (hay : List ℕ) (longest earliest : Bool) (start : ℕ) 
     pub searched : SearchedTo hay longest p (length old) earliest start places before
     pub place_is : before.place ≡ place
     pub last : Searches hay longest p (length old) before now
-    pub stands : StandsFor now (place + (piece hay place).len) pool threads walked old slots is_found
+    pub stands : Represents now (place + (piece hay place).len) pool threads walked old slots is_found
 
 -- there is a program with these states, and with that start if one is given
 abbrev pub IsOfProgram : List program.State → Option ℕ → Type 0

@@ -3,17 +3,17 @@
 ghost use Rattle.std.specs.Prelude.{◌≡◌, ◌+◌, ◌*◌, ◌<◌, ◌≤◌, ◌^◌, ℕ, IfOk, IfErr, OnOk, length, string_bytes, sum_by};
 ghost use Rattle.std.specs.Option.{SomeIff};
 ghost use Rattle.bites_spec.specs.Tree.{groups_in, greatest, captures_len, IsReduced};
-ghost use Rattle.bites_spec.specs.Measure.{states, size_of, group_weight, groups_left, static_captures_len, HasItsGroups, TreeLimits, TreeLimitsWith};
+ghost use Rattle.bites_spec.specs.Measure.{states, size_of, group_size, groups_left, static_captures_len, HasItsGroups, TreeLimits, TreeLimitsWith};
 ghost use Rattle.bites_spec.specs.Program.{IsWellFormed};
 ghost use Rattle.bites_spec.specs.Built.{Built, IsCompilable};
 ghost use Rattle.bites_machine.specs.Classes.{HasClasses};
-ghost use Rattle.bites_machine.specs.Sizes.{held, held_size, weight_by};
+ghost use Rattle.bites_machine.specs.Sizes.{held, held_size, size_by};
 ghost use Rattle.bites_machine.specs.States.{states_of, program_of};
 ghost use Rattle.bites_machine.specs.Compiled.{program_of_tree, LimitsBy, RefusesTree, RefusesBy};
 
 use crate::emit::States;
 use crate::group_names::GroupNames;
-use crate::groups::{names_left, names_of, static_captures_len, weight_left, weight_of_groups};
+use crate::groups::{names_left, names_of, static_captures_len, size_of_groups_left, size_of_groups};
 use crate::program::Program;
 use crate::size::{Size, size_of};
 use crate::state::State;
@@ -87,7 +87,7 @@ fn left_within_limits(tree: &Tree, captures: usize, size_limit: usize) -> Result
     ensures classes { OnOk result (HasClasses tree.now) }
     ensures refused { IfErr result (RefusesTree size_limit (groups_left tree.now) tree.now) }
 {
-    within_limits(tree, captures, weight_left(tree, captures), size_limit)
+    within_limits(tree, captures, size_of_groups_left(tree, captures), size_limit)
 }
 
 /// Asks the limits with these groups. Returns the number of states that the program has.
@@ -99,7 +99,7 @@ fn groups_within_limits(tree: &Tree, groups: &Groups, size_limit: usize) -> Resu
     ensures classes { OnOk result (HasClasses tree.now) }
     ensures refused { IfErr result (RefusesTree size_limit groups.now tree.now) }
 {
-    within_limits(tree, groups.len(), weight_of_groups(groups), size_limit)
+    within_limits(tree, groups.len(), size_of_groups(groups), size_limit)
 }
 
 /// Asks the limits, the weight first, with so many groups that weigh so much. Returns the number of states that the
@@ -107,17 +107,17 @@ fn groups_within_limits(tree: &Tree, groups: &Groups, size_limit: usize) -> Resu
 fn within_limits(
     tree: &Tree,
     captures: usize,
-    weight_of_groups: usize,
+    size_of_groups: usize,
     size_limit: usize,
 ) -> Result<usize, Error>
     requires { IsReduced tree.now }
-    ensures limits { OnOk result (LimitsBy size_limit captures weight_of_groups tree.now) }
+    ensures limits { OnOk result (LimitsBy size_limit captures size_of_groups tree.now) }
     ensures classes { HasClasses tree.now }
-    ensures refused { IfErr result (RefusesBy size_limit captures weight_of_groups tree.now) }
+    ensures refused { IfErr result (RefusesBy size_limit captures size_of_groups tree.now) }
 {
     let size = size_of(tree);
-    match weight_of(tree, size, weight_of_groups) {
-        Some(weight) if weight <= size_limit => {}
+    match program_size(tree, size, size_of_groups) {
+        Some(size) if size <= size_limit => {}
         _ => return Err(Error::TooBig),
     }
     if size.states() > 4294967292 {
@@ -130,10 +130,10 @@ fn within_limits(
 }
 
 /// The weight of the tree's program with groups that weigh so much, if a `usize` can hold it.
-fn weight_of(tree: &Tree, size: Size, weight_of_groups: usize) -> Option<usize>
+fn program_size(tree: &Tree, size: Size, size_of_groups: usize) -> Option<usize>
     requires { size ≡ held_size (size_of tree.now) }
-    ensures { SomeIff result (weight_by weight_of_groups tree.now < 2 ^ 64)
-        (weight_by weight_of_groups tree.now) }
+    ensures { SomeIff result (size_by size_of_groups tree.now < 2 ^ 64)
+        (size_by size_of_groups tree.now) }
 {
     let states = size.states().saturating_add(3).checked_mul(32)?;
     let targets = size.targets().checked_mul(4)?;
@@ -141,7 +141,7 @@ fn weight_of(tree: &Tree, size: Size, weight_of_groups: usize) -> Option<usize>
     states
         .checked_add(targets)?
         .checked_add(ranges)?
-        .checked_add(weight_of_groups)
+        .checked_add(size_of_groups)
 }
 
 /// The program of a tree that is within the limits, with two slots for each group of these names. Room for so many

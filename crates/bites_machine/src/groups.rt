@@ -2,7 +2,7 @@
 
 ghost use Rattle.std.specs.Prelude.{◌≡◌, ◌+◌, ◌<◌, ◌≤◌, ◌==◌, length, replicate, None, IfOk, OnOk, sum_by, option_map, string_bytes};
 ghost use Rattle.bites_spec.specs.Tree.{trees_of, sequence, groups_in, groups_in_all, greatest, captures_len, names_in, names_in_all, IsReduced};
-ghost use Rattle.bites_spec.specs.Measure.{name_weight, group_weight, groups_of, groups_left, size_of, static_captures_len};
+ghost use Rattle.bites_spec.specs.Measure.{name_size, group_size, groups_of, groups_left, size_of, static_captures_len};
 ghost use Rattle.bites_spec.specs.Walks.{AllApart};
 ghost use Rattle.std.specs.Option.{option_copied};
 ghost use Rattle.bites_machine.specs.Sizes.{held};
@@ -15,42 +15,42 @@ use bites_syntax::tree::{Kind, Name, Tree};
 use std::alloc::{AllocError, Global};
 
 /// What the names of the groups weigh. A weight that is too large for a `usize` is held as the greatest.
-#[cycle(names_weight)]
-fn names_weight(tree: &Tree) -> usize
-    ensures { result ≡ held (sum_by name_weight (names_in tree.now)) }
+#[cycle(size_of_names)]
+fn size_of_names(tree: &Tree) -> usize
+    ensures { result ≡ held (sum_by name_size (names_in tree.now)) }
 {
     match tree.kind() {
         Kind::Empty | Kind::Char(_) | Kind::Class(_) | Kind::Look(_) => 0,
-        Kind::Repetition { sub, .. } => names_weight(sub),
+        Kind::Repetition { sub, .. } => size_of_names(sub),
         Kind::Capture {
             name: Some(name),
             sub,
             ..
-        } => weight_of_name(name).saturating_add(names_weight(sub)),
-        Kind::Capture { sub, .. } => names_weight(sub),
-        Kind::Concat(parts) | Kind::Alternation(parts) => names_weight_of_all(parts),
+        } => size_of_name(name).saturating_add(size_of_names(sub)),
+        Kind::Capture { sub, .. } => size_of_names(sub),
+        Kind::Concat(parts) | Kind::Alternation(parts) => size_of_names_of_all(parts),
     }
 }
 
-#[cycle(names_weight)]
-fn names_weight_of_all(parts: &[Tree]) -> usize
-    ensures { result ≡ held (sum_by name_weight (names_in_all (trees_of parts.now))) }
+#[cycle(size_of_names)]
+fn size_of_names_of_all(parts: &[Tree]) -> usize
+    ensures { result ≡ held (sum_by name_size (names_in_all (trees_of parts.now))) }
 {
     let mut all = 0usize;
     for part in parts {
-        all = all.saturating_add(names_weight(part));
+        all = all.saturating_add(size_of_names(part));
     }
     all
 }
 
-fn weight_of_name(name: &Name) -> usize
-    ensures { result ≡ held (name_weight name.now) }
+fn size_of_name(name: &Name) -> usize
+    ensures { result ≡ held (name_size name.now) }
 {
-    weight_of_text(name.as_str())
+    size_of_text(name.as_str())
 }
 
-fn weight_of_text(text: &str) -> usize
-    ensures { result ≡ held (name_weight text.now) }
+fn size_of_text(text: &str) -> usize
+    ensures { result ≡ held (name_size text.now) }
 {
     text.len().saturating_add(4)
 }
@@ -143,36 +143,36 @@ pub fn names_left(alloc: Global, tree: &Tree, captures: usize) -> Result<GroupNa
 }
 
 /// What the groups that are left in the tree weigh. A weight that is too large for a `usize` is held as the greatest.
-pub fn weight_left(tree: &Tree, captures: usize) -> usize
+pub fn size_of_groups_left(tree: &Tree, captures: usize) -> usize
     requires reduced { IsReduced tree.now }
     requires apart { AllApart (groups_in tree.now) }
     requires captures { captures ≡ captures_len tree.now }
-    ensures { result ≡ held (sum_by group_weight (groups_left tree.now)) }
+    ensures { result ≡ held (sum_by group_size (groups_left tree.now)) }
 {
     if captures == 1 {
         return 16;
     }
     captures
         .saturating_mul(16)
-        .saturating_add(names_weight(tree))
+        .saturating_add(size_of_names(tree))
 }
 
-fn weight_of_group(name: Option<&str>) -> usize
-    ensures { result ≡ held (group_weight (option_copied name.entry)) }
+fn size_of_group(name: Option<&str>) -> usize
+    ensures { result ≡ held (group_size (option_copied name.entry)) }
 {
     match name {
-        Some(name) => weight_of_text(name).saturating_add(16),
+        Some(name) => size_of_text(name).saturating_add(16),
         None => 16,
     }
 }
 
 /// What these groups weigh. A weight that is too large for a `usize` is held as the greatest.
-pub fn weight_of_groups(groups: &Groups) -> usize
-    ensures { result ≡ held (sum_by group_weight groups.now) }
+pub fn size_of_groups(groups: &Groups) -> usize
+    ensures { result ≡ held (sum_by group_size groups.now) }
 {
     let mut all = 0usize;
     for i in 0..groups.len() {
-        all = all.saturating_add(weight_of_group(groups.name(i)));
+        all = all.saturating_add(size_of_group(groups.name(i)));
     }
     all
 }

@@ -6,7 +6,7 @@ pub enum Question {
     Message,
     Tree,
     Build,
-    Weight,
+    LeastSize,
     Escape,
     Program,
 }
@@ -71,7 +71,7 @@ const CALLS: [(&str, Call); 21] = [
     ("message", Call::Pattern(Question::Message)),
     ("tree", Call::Pattern(Question::Tree)),
     ("build", Call::Pattern(Question::Build)),
-    ("weight", Call::Pattern(Question::Weight)),
+    ("least_size", Call::Pattern(Question::LeastSize)),
     ("escape", Call::Pattern(Question::Escape)),
     ("program", Call::Pattern(Question::Program)),
     ("is", Call::Search(Search::Is)),

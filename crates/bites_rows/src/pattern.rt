@@ -28,7 +28,7 @@ pub fn push_answer(
     let (pattern, settings) = (asked.pattern.as_str(), asked.settings);
     let told = match question {
         Question::Message => push_message(alloc, pattern, settings, is_text, text),
-        Question::Weight => push_weight(alloc, pattern, settings, is_text, text),
+        Question::LeastSize => push_least_size(alloc, pattern, settings, is_text, text),
         Question::Build => push_build(alloc, pattern, settings, is_text, text),
         Question::Tree => push_tree(alloc, pattern, settings, text),
         Question::Program => push_program(alloc, pattern, settings, text),
@@ -133,7 +133,7 @@ fn build(alloc: Global, pattern: &str, settings: Settings, is_text: bool) -> Res
 }
 
 // Adds the least size limit at which the pattern is accepted, or `above` where the greatest one refuses it.
-fn push_weight(
+fn push_least_size(
     alloc: Global,
     pattern: &str,
     settings: Settings,

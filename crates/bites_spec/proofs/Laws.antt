@@ -8,7 +8,7 @@ use Rattle.bites_spec.specs.CallerLaws.{NamesAreAscii, AnchoredIsBegun, Anchored
 use Rattle.bites_spec.specs.Captured.{SlotsAreFound, SlotsAreGroups}
 use Rattle.bites_spec.specs.Class.{ListsOnce}
 use Rattle.bites_spec.specs.EscapedLaws.{EscapedIsText, EscapedFindsText, EscapedIsAccepted, EscapedIsFlat, EscapedIsRead, EscapedMatchesText}
-use Rattle.bites_spec.specs.Found.{way}
+use Rattle.bites_spec.specs.Found.{parse_to}
 use Rattle.bites_spec.specs.FoundLaws.{AnswersBeginAlike, FoundLies, LeastEndIsAtMost, StaticLenIsLeast}
 use Rattle.bites_spec.specs.GrammarLaws.{FaultsOnce, ListsAll, ReadIsCompilable, ReadOrRefused, ReaderReads, ReaderRefuses, ReadsOnce, RefusedHasNoTree, StuckBracketIsNotRead}
 use Rattle.bites_spec.specs.GroupLaws.{DroppedHaveNoPlace, KeptAnswerAlike, LeftAreKept, OpenedAreKept, OpenedOnce}
@@ -16,7 +16,7 @@ use Rattle.bites_spec.specs.Iteration.{CapturesHaveSpans}
 use Rattle.bites_spec.specs.Laws.{AnsweredKeepsLength, FirstRunIsFirst, FirstRunIsFound, FirstRunIsOne, FoundIsSome, LeastEndIsLeast, LongestIsFound, MatchIsParse, ParsesAreListed, ParsesEndAtMatches, PlainRunsAreSimple, ReplacesOnce, RunsAreParses, StaticCountIsLeast}
 use Rattle.bites_spec.specs.Match.{Matches}
 use Rattle.bites_spec.specs.Pieces.{limited, text_at}
-use Rattle.bites_spec.specs.Preference.{Way, parses}
+use Rattle.bites_spec.specs.Preference.{ParseTo, parses}
 use Rattle.bites_spec.specs.RangesOf.{RangesOfList, ranges_of}
 use Rattle.bites_spec.specs.Refused.{IterationsEnd}
 use Rattle.bites_spec.specs.Refutations.{BoundsAreReached, SearchesReachBounds, BoundsRefuse, VisitsRefuse, AnsweredRefuses, FoundRefuses, PreferredRefuses, LeftmostRefuses, SpansRefuse, LeavingOutRefuses, BordersRefuse, ParticipantsRefuse, ItsGroupsRefuse, AppendsRefuse}
@@ -140,12 +140,12 @@ longest_is_found = λ t p hay fit built s o h. FoundLemmas.LongestRun-FoundLonge
 pub ranges_of_a_set_are_unique : ListsOnce
 ranges_of_a_set_are_unique = RangeLemmas.lists_once
 
-listed-matches : (hay : List ℕ) (t : Tree) → IsReduced t → (i j : ℕ) (w : Way) → Among (parses hay t i) w → w.end ≡ j → Matches hay t i j
+listed-matches : (hay : List ℕ) (t : Tree) → IsReduced t → (i j : ℕ) (w : ParseTo) → Among (parses hay t i) w → w.end ≡ j → Matches hay t i j
 listed-matches hay t reduced i j w among e =
     let P : ℕ → Type 0 = λ l. Matches hay t i l in subst P e (EventLemmas.Parse-Matches hay t i w.end w.marks (ListedLemmas.listed-Parse hay t reduced i w among))
 
-matches-listed : (hay : List ℕ) (t : Tree) → IsPlain t → (i j : ℕ) → Matches hay t i j → (w : Way) × Among (parses hay t i) w × (w.end ≡ j)
-matches-listed hay t plain i j m = let p = EventLemmas.Matches-Parse hay t i j m in (way j p.0, ListedLemmas.Parse-listed hay t plain i j p.0 p.1, refl)
+matches-listed : (hay : List ℕ) (t : Tree) → IsPlain t → (i j : ℕ) → Matches hay t i j → (w : ParseTo) × Among (parses hay t i) w × (w.end ≡ j)
+matches-listed hay t plain i j m = let p = EventLemmas.Matches-Parse hay t i j m in (parse_to j p.0, ListedLemmas.Parse-listed hay t plain i j p.0 p.1, refl)
 
 pub parses_end_at_matches : ParsesEndAtMatches
 parses_end_at_matches = λ hay t reduced plain i j. (λ (w, among, e). listed-matches hay t reduced i j w among e, λ m. matches-listed hay t plain i j m)

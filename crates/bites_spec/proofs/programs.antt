@@ -4,7 +4,7 @@ pub mod EnterLemmas
 pub mod SlotLemmas
 pub mod BuiltLemmas
 pub mod OrderLemmas
-pub mod WayLemmas
+pub mod TracedParses
 pub mod ListedLemmas
 pub mod FormOrderLemmas
 pub mod PlainLemmas

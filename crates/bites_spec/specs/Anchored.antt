@@ -7,7 +7,7 @@ use Rattle.bites_spec.specs.Preference.{parses}
 use Rattle.bites_spec.specs.Program.{Program, Configuration, at}
 use Rattle.bites_spec.specs.Run.{Run, IsRun, Reaches, first_run_from, first_run_to, longest_run_below, slots}
 use Rattle.bites_spec.specs.Counts.{Record, VisitedRun, IsBounded}
-use Rattle.bites_spec.specs.Found.{Answer, head_of, first_ending, way}
+use Rattle.bites_spec.specs.Found.{Answer, head_of, first_ending, parse_to}
 use Rattle.bites_spec.specs.Slots.{span_of_run}
 use Rattle.bites_spec.specs.Captured.{Excerpt, excerpt, IsInSlots}
 use Rattle.bites_spec.specs.Regex.{Regex}
@@ -66,12 +66,12 @@ module _ (t : Tree) (hay : List ℕ) where
 
   -- if the tree is plain, its preferred parse from s
   abbrev pub FoundFrom : ℕ → Option Answer → Type 0
-  FoundFrom s = FoundFromBy (λ j ms. IsPlain t → head_of (parses hay t s) ≡ Some (way j ms)) s
+  FoundFrom s = FoundFromBy (λ j ms. IsPlain t → head_of (parses hay t s) ≡ Some (parse_to j ms)) s
 
   -- the greatest end, and if the tree is plain the first parse that ends there
   abbrev pub FoundLongestFrom : ℕ → Option Answer → Type 0
   FoundLongestFrom s =
-      FoundFromBy (λ j ms. ((l : ℕ) → Matches hay t s l → l ≤ j) × (IsPlain t → first_ending j (parses hay t s) ≡ Some (way j ms))) s
+      FoundFromBy (λ j ms. ((l : ℕ) → Matches hay t s l → l ≤ j) × (IsPlain t → first_ending j (parses hay t s) ≡ Some (parse_to j ms))) s
 
   -- the least end of any match from s
   abbrev pub IsLeastEndFrom : ℕ → Option ℕ → Type 0
@@ -89,7 +89,7 @@ module _ (t : Tree) (hay : List ℕ) where
     pub marks : List Mark
     pub parse : Parse hay t 0 (length hay) marks
     pub groups : (k : ℕ) → a.group k ≡ groups 0 (length hay) marks k
-    pub chosen : IsPlain t → first_ending (length hay) (parses hay t 0) ≡ Some (way (length hay) marks)
+    pub chosen : IsPlain t → first_ending (length hay) (parses hay t 0) ≡ Some (parse_to (length hay) marks)
 
   -- a match of the whole haystack answers so
   abbrev pub FoundFull : Option Answer → Type 0

@@ -6,7 +6,7 @@ use Rattle.bites_spec.specs.Range.{Range, in_ranges}
 use Rattle.bites_spec.specs.Class.{Set, is_letter, none, single, between, union, is_scalar, AreCanonical}
 use Rattle.bites_spec.specs.RangesOf.{ranges_of}
 use Rattle.bites_spec.specs.Look.{start, end}
-use Rattle.bites_spec.specs.Tree.{Tree, look, sequence, trees_of, choice_of}
+use Rattle.bites_spec.specs.Tree.{Tree, look, sequence, trees_of, alternation_of}
 use Rattle.bites_spec.specs.Match.{Matches}
 use Rattle.bites_spec.specs.Found.{Answer, HasMatch, Finds}
 use Rattle.bites_spec.specs.Anchored.{FindsFrom}
@@ -39,8 +39,8 @@ abbrev pub AnchoredIsRead : Type 0
 AnchoredIsRead =
     (pattern : Text) (flags : Flags) (branches : List Tree) (behind : Front) →
     ReadsChoice (at_front flags) (pattern ++ codes ")\\z") branches behind (codes ")\\z") →
-    Reads (codes "\\A(?:" ++ pattern ++ codes ")\\z") flags (anchored (choice_of branches))
-    × ((u : Tree) → Reads (codes "\\A(?:" ++ pattern ++ codes ")\\z") flags u → u ≡ anchored (choice_of branches))
+    Reads (codes "\\A(?:" ++ pattern ++ codes ")\\z") flags (anchored (alternation_of branches))
+    × ((u : Tree) → Reads (codes "\\A(?:" ++ pattern ++ codes ")\\z") flags u → u ≡ anchored (alternation_of branches))
 
 -- what `\A(?:p)` is read as, where p is read as t
 abbrev pub begun : Tree → Tree

@@ -2,7 +2,7 @@
 use Rattle.std.specs.Prelude.{◌≡◌, ℕ, ◌+◌, ◌≤◌, ◌↔◌, List, [], length, Option, option_map, chars, encode_utf8_all, IsUtf8, IsCharBoundary}
 use Rattle.bites_spec.specs.Pattern.{Text}
 use Rattle.bites_spec.specs.Tree.{groups_in}
-use Rattle.bites_spec.specs.Measure.{Limits, height, weight}
+use Rattle.bites_spec.specs.Measure.{Limits, height, program_size}
 use Rattle.bites_spec.specs.Match.{Matches, span}
 use Rattle.bites_spec.specs.Found.{FoundSome}
 use Rattle.bites_spec.specs.Settings.{no_flags, by_default, Accepts}
@@ -25,7 +25,7 @@ EscapedIsFlat = (text : Text) → (groups_in (text_tree text) ≡ []) × (height
 -- under the limits that a builder begins with, only its weight can refuse it
 abbrev pub EscapedIsAccepted : Type 0
 EscapedIsAccepted =
-    (text : List ℕ) → IsUtf8 text → weight (text_tree (chars text)) ≤ 10485760 →
+    (text : List ℕ) → IsUtf8 text → program_size (text_tree (chars text)) ≤ 10485760 →
     Accepts (by_default (encode_utf8_all (escaped (chars text)))) (text_tree (chars text))
 
 -- in a text it matches from a border on just where its text stands

@@ -4,7 +4,7 @@ use Rattle.bites_spec.specs.Utf8.{places}
 use Rattle.bites_spec.specs.Walks.{Among}
 use Rattle.bites_spec.specs.Tree.{Tree, IsPlain}
 use Rattle.bites_spec.specs.Match.{Span, Mark, Matches, Parse, groups}
-use Rattle.bites_spec.specs.Preference.{Way, parses}
+use Rattle.bites_spec.specs.Preference.{ParseTo, parses}
 
 -- where a match begins and ends, and where each group last took part
 pub record Answer : Type 0 where
@@ -13,18 +13,18 @@ pub record Answer : Type 0 where
   pub group : ℕ → Option Span
 
 -- the first of the list
-abbrev pub head_of : List Way → Option Way
+abbrev pub head_of : List ParseTo → Option ParseTo
 head_of [] = None
 head_of (w ∷ ws) = Some w
 
 -- the first of the list that ends at j
-abbrev pub first_ending : ℕ → List Way → Option Way
+abbrev pub first_ending : ℕ → List ParseTo → Option ParseTo
 first_ending j [] = None
 first_ending j (w ∷ ws) = if w.end == j then Some w else first_ending j ws
 
 -- a way by its end and marks
-abbrev pub way : ℕ → List Mark → Way
-way j ms = record { end = j; marks = ms }
+abbrev pub parse_to : ℕ → List Mark → ParseTo
+parse_to j ms = record { end = j; marks = ms }
 
 module _ (t : Tree) (hay : List ℕ) where
   -- the tree matches at no place from s on
@@ -60,12 +60,12 @@ module _ (t : Tree) (hay : List ℕ) where
 
   -- if the tree is plain, its preferred parse from the first place
   abbrev pub Found : ℕ → Option Answer → Type 0
-  Found = FoundBy (λ i j ms. IsPlain t → head_of (parses hay t i) ≡ Some (way j ms))
+  Found = FoundBy (λ i j ms. IsPlain t → head_of (parses hay t i) ≡ Some (parse_to j ms))
 
   -- the greatest end, and if the tree is plain the first parse that ends there
   abbrev pub FoundLongest : ℕ → Option Answer → Type 0
   FoundLongest = FoundBy (λ i j ms.
-      ((l : ℕ) → Matches hay t i l → l ≤ j) × (IsPlain t → first_ending j (parses hay t i) ≡ Some (way j ms)))
+      ((l : ℕ) → Matches hay t i l → l ≤ j) × (IsPlain t → first_ending j (parses hay t i) ≡ Some (parse_to j ms)))
 
   -- the least end of any match from a place from s on
   abbrev pub IsLeastEnd : ℕ → Option ℕ → Type 0

@@ -4,7 +4,7 @@ use Rattle.bites_spec.specs.Look.{Look, start, end, start_lf, end_lf, start_crlf
 use Rattle.bites_spec.specs.Class as class
 use Rattle.bites_spec.specs.Range.{Range}
 use Rattle.bites_spec.specs.Class.{Set, single, complement, is_letter, is_lower, Lists}
-use Rattle.bites_spec.specs.Tree.{Tree, char, sequence_of, choice_of, repetition_of}
+use Rattle.bites_spec.specs.Tree.{Tree, char, sequence_of, alternation_of, repetition_of}
 use Rattle.bites_spec.specs.Tree as tree
 use Rattle.bites_spec.specs.Pattern.{Text, Flags, Front, skip, one_of, dot, caret, dollar, bar, question, left_parenthesis, right_parenthesis}
 use Rattle.bites_spec.specs.Operator.{ReadsOperator}
@@ -58,8 +58,8 @@ pub data ReadsAtom (flags : Flags) : Text → Tree → Text → Type 0 where
 
 -- the node of a group with these branches, where so many groups with a number were opened before
 abbrev pub group_of : Opening → ℕ → List Tree → Tree
-group_of (numbered name) before branches = tree.group (before + 1) (option_map encode_utf8_all name) (choice_of branches)
-group_of unnumbered before branches = choice_of branches
+group_of (numbered name) before branches = tree.group (before + 1) (option_map encode_utf8_all name) (alternation_of branches)
+group_of unnumbered before branches = alternation_of branches
 
 -- a sequence ends before the end, a bar or a closing parenthesis
 abbrev pub ends_sequence : Text → Bool
@@ -109,7 +109,7 @@ pub record Reading (pattern : Text) (flags : Flags) (t : Tree) : Type 0 where
   pub branches : List Tree
   pub behind : Front
   pub reads : ReadsChoice (at_front flags) pattern branches behind []
-  pub is_choice : t ≡ choice_of branches
+  pub is_choice : t ≡ alternation_of branches
 
 -- the pattern is read as this tree
 abbrev pub Reads : Text → Flags → Tree → Type 0

@@ -163,21 +163,21 @@ abbrev pub states : Tree → ℕ
 states t = (size_of t).states + 3
 
 -- what a group's name weighs: its bytes and 4
-abbrev pub name_weight : List ℕ → ℕ
-name_weight name = length name + 4
+abbrev pub name_size : List ℕ → ℕ
+name_size name = length name + 4
 
 -- what a group weighs: 16, and where it has a name what that weighs
-abbrev pub group_weight : Option (List ℕ) → ℕ
-group_weight None = 16
-group_weight (Some name) = 16 + name_weight name
+abbrev pub group_size : Option (List ℕ) → ℕ
+group_size None = 16
+group_size (Some name) = 16 + name_size name
 
 -- the weight of a tree, and of groups that its program is to have
-abbrev pub weight_with : List (Option (List ℕ)) → Tree → ℕ
-weight_with groups t = 32 * states t + 4 * (size_of t).targets + 8 * (size_of t).ranges + sum_by group_weight groups
+abbrev pub size_with : List (Option (List ℕ)) → Tree → ℕ
+size_with groups t = 32 * states t + 4 * (size_of t).targets + 8 * (size_of t).ranges + sum_by group_size groups
 
 -- the weight of a tree with the groups that are left in it
-abbrev pub weight : Tree → ℕ
-weight t = weight_with (groups_left t) t
+abbrev pub program_size : Tree → ℕ
+program_size t = size_with (groups_left t) t
 
 abbrev mutual
   -- how many groups are open at most
@@ -231,7 +231,7 @@ pub record Limits (pattern : Text) (flags : Flags) (nest_limit : ℕ) (t : Tree)
 -- the limits on the tree and the groups that its program is to have, in the order in which they are asked; groups are numbered
 -- from 0 on, below 2147483648
 pub record TreeLimitsWith (size_limit : ℕ) (groups : List (Option (List ℕ))) (t : Tree) : Type 0 where
-  pub light : weight_with groups t ≤ size_limit
+  pub light : size_with groups t ≤ size_limit
   pub few_states : states t ≤ 4294967295
   pub few_groups : length groups ≤ 2147483648
 

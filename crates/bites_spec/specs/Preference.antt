@@ -7,33 +7,33 @@ use Rattle.bites_spec.specs.Tree.{Tree, Trees, empty, char, class, look, repetit
 use Rattle.bites_spec.specs.Match.{Mark, mark}
 
 -- where a parse ends, and its marks
-pub record Way : Type 0 where
+pub record ParseTo : Type 0 where
   pub end : ℕ
   pub marks : List Mark
 
 -- the way of the empty text
-abbrev pub here : ℕ → Way
+abbrev pub here : ℕ → ParseTo
 here i = record { end = i; marks = [] }
 
 -- the way, and behind it another
-abbrev pub joined : Way → Way → Way
+abbrev pub joined : ParseTo → ParseTo → ParseTo
 joined w v = record { end = v.end; marks = w.marks ++ v.marks }
 
 -- the group k, begun at i, ends where the way does
-abbrev pub grouped : ℕ → ℕ → Way → Way
+abbrev pub grouped : ℕ → ℕ → ParseTo → ParseTo
 grouped k i w = record { end = w.end; marks = w.marks ++ mark k i w.end ∷ [] }
 
 -- each first way, and behind it each way to go on; the choice of the first counts first
-abbrev pub then_each : List Way → (ℕ → List Way) → List Way
+abbrev pub then_each : List ParseTo → (ℕ → List ParseTo) → List ParseTo
 then_each firsts rest = flat_map (λ w. map (joined w) (rest w.end)) firsts
 
 -- n turns of the body, and then the rest
-abbrev pub after_turns : ℕ → (ℕ → List Way) → (ℕ → List Way) → ℕ → List Way
+abbrev pub after_turns : ℕ → (ℕ → List ParseTo) → (ℕ → List ParseTo) → ℕ → List ParseTo
 after_turns zero body rest i = rest i
 after_turns (suc n) body rest i = then_each (body i) (after_turns n body rest)
 
 -- up to n turns of the body; one turn more comes before stopping if that is preferred
-abbrev pub up_to : ℕ → Bool → (ℕ → List Way) → ℕ → List Way
+abbrev pub up_to : ℕ → Bool → (ℕ → List ParseTo) → ℕ → List ParseTo
 up_to zero greedy body i = here i ∷ []
 up_to (suc n) greedy body i =
     if greedy then then_each (body i) (up_to n greedy body) ++ here i ∷ []
@@ -41,18 +41,18 @@ up_to (suc n) greedy body i =
 
 module _ (hay : List ℕ) where
   -- the character at the place, if it passes the test
-  abbrev pub taken : (ℕ → Bool) → ℕ → List Way
+  abbrev pub taken : (ℕ → Bool) → ℕ → List ParseTo
   taken test i =
       if nat_lt 0 (piece hay i).len && test (character (piece hay i)) then here (i + (piece hay i).len) ∷ [] else []
 
   -- without a bound each turn more takes a byte at least, so there are at most as many as bytes
-  abbrev pub turns : ℕ → Option ℕ → Bool → (ℕ → List Way) → ℕ → List Way
+  abbrev pub turns : ℕ → Option ℕ → Bool → (ℕ → List ParseTo) → ℕ → List ParseTo
   turns min None greedy body = after_turns min body (up_to (length hay) greedy body)
   turns min (Some most) greedy body = after_turns min body (up_to (most - min) greedy body)
 
   unfoldable mutual
     -- all parses of a plain tree from i, in Perl's order of preference
-    pub parses : Tree → ℕ → List Way
+    pub parses : Tree → ℕ → List ParseTo
     parses empty i = here i ∷ []
     parses (char c) i = taken (λ d. d == c) i
     parses (class rs) i = taken (in_ranges rs) i
@@ -63,11 +63,11 @@ module _ (hay : List ℕ) where
     parses (alternation ts) i = parses_of_one ts i
 
     -- the same of trees one behind the other
-    pub parses_of_all : Trees → ℕ → List Way
+    pub parses_of_all : Trees → ℕ → List ParseTo
     parses_of_all no_tree i = here i ∷ []
     parses_of_all (tree_and t ts) i = then_each (parses t i) (parses_of_all ts)
 
     -- the same of a choice between trees, an earlier one preferred
-    pub parses_of_one : Trees → ℕ → List Way
+    pub parses_of_one : Trees → ℕ → List ParseTo
     parses_of_one no_tree i = []
     parses_of_one (tree_and t ts) i = parses t i ++ parses_of_one ts i

@@ -9,7 +9,7 @@ use Rattle.bites_spec.specs.Class.{Set, NamedClass, named_classes, class_name, m
 use Rattle.bites_spec.specs.Class as class
 use Rattle.bites_spec.specs.Look.{Look, word}
 use Rattle.bites_spec.specs.Tree as tree
-use Rattle.bites_spec.specs.Tree.{Tree, sequence_of, choice_of, repetition_of}
+use Rattle.bites_spec.specs.Tree.{Tree, sequence_of, alternation_of, repetition_of}
 use Rattle.bites_spec.specs.Pattern.{Text, Flags, Front, given, skip, skip_white, one_of, begins, number, question, star, plus, dot, caret, dollar, bar, backslash, dash, comma, colon, left_parenthesis, right_parenthesis, left_bracket, right_bracket, left_brace, right_brace, right_angle}
 use Rattle.bites_spec.specs.Operator.{is_greedy}
 use Rattle.bites_spec.specs.Escape.{Meaning, character, characters, assertion, control_of, escapes_itself, assertion_of, class_of, digits_of, is_hex_digit, is_boundary_letter, boundary_of}
@@ -435,4 +435,4 @@ module _ (list_of : Set → List Range) (nest_limit : ℕ) where
   -- the tree of a pattern, or the first fault
   abbrev pub read : Text → Flags → Result Tree Stop
   read pattern flags =
-      elim (inner (suc (length pattern)) 0 (at_front flags) [] [] pattern) [ Ok f ↦ Ok (choice_of f.branches) | Err e ↦ Err e ]
+      elim (inner (suc (length pattern)) 0 (at_front flags) [] [] pattern) [ Ok f ↦ Ok (alternation_of f.branches) | Err e ↦ Err e ]

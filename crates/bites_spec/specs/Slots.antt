@@ -4,7 +4,7 @@ use Rattle.std.specs.List.{filter_map, range_with_len}
 use Rattle.bites_spec.specs.Program.{Program}
 use Rattle.bites_spec.specs.Run.{Run, slots}
 use Rattle.bites_spec.specs.Match.{Span, span, Mark, groups}
-use Rattle.bites_spec.specs.Preference.{Way}
+use Rattle.bites_spec.specs.Preference.{ParseTo}
 use Rattle.bites_spec.specs.Found.{Answer}
 
 -- the place in the slot of this number; none past the last slot
@@ -29,7 +29,7 @@ HasGroups p r ms =
     × (slot_in (slots p r) (2 * k + 1) ≡ option_map (λ s. s.end) (groups r.start r.end ms k))
 
 -- each run ends where the way of its number does, and has its groups
-abbrev pub Correspond : Program → List Run → List Way → Type 0
+abbrev pub Correspond : Program → List Run → List ParseTo → Type 0
 Correspond p [] [] = Unit {0}
 Correspond p [] (w ∷ ws) = ⊥
 Correspond p (r ∷ rs) [] = ⊥

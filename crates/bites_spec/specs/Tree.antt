@@ -35,10 +35,10 @@ sequence_of (t ∷ []) = t
 sequence_of (t ∷ u ∷ ts) = sequence (trees_of (t ∷ u ∷ ts))
 
 -- a choice between branches: one branch is itself
-abbrev pub choice_of : List Tree → Tree
-choice_of [] = empty
-choice_of (t ∷ []) = t
-choice_of (t ∷ u ∷ ts) = alternation (trees_of (t ∷ u ∷ ts))
+abbrev pub alternation_of : List Tree → Tree
+alternation_of [] = empty
+alternation_of (t ∷ []) = t
+alternation_of (t ∷ u ∷ ts) = alternation (trees_of (t ∷ u ∷ ts))
 
 -- a repetition: none at all is Empty, just once is the body
 abbrev pub repetition_of : ℕ → Option ℕ → Bool → Tree → Tree

@@ -1,7 +1,7 @@
 -- Nodes and the trees that they stand for.
 use Rattle.std.proofs.Common.{◌≡◌, ◌≤◌, ℕ, suc, max, List, [], ◌∷◌, ◌++◌, length, refl, ap, subst, ◌∙◌, arith, inl, inr}
 use Rattle.bites_spec.specs.Measure.{height, IsTooTall}
-use Rattle.bites_spec.specs.Tree.{Tree, sequence, choice_of, trees_of}
+use Rattle.bites_spec.specs.Tree.{Tree, sequence, alternation_of, trees_of}
 use Rattle.bites_syntax.specs.declared.node.Node.{Node}
 use Rattle.bites_syntax.specs.declared.node.Node.TheVariants.{Kept, TooTall}
 use Rattle.bites_syntax.specs.Nodes.{IsNodeOf, AreNodes}
@@ -100,7 +100,7 @@ two_of limit (n ∷ m ∷ nodes) (t ∷ u ∷ ts) some are = record { first = t;
 
 -- a node where there are no others is the choice
 pub node_alone : (limit : ℕ) (nodes : List Node) (node : Node) (ts : List Tree) (t : Tree) → length nodes ≡ 0 → AreNodes limit nodes ts → IsNodeOf limit node t →
-    IsNodeOf limit node (choice_of (ts ++ t ∷ []))
+    IsNodeOf limit node (alternation_of (ts ++ t ∷ []))
 node_alone limit [] node [] t none are is = is
 node_alone limit [] node (u ∷ ts) t none are is = absurd are
 node_alone limit (n ∷ nodes) node ts t none are is = absurd (omega (arith, none))

@@ -4,7 +4,7 @@ use Rattle.bites_spec.specs.Grammar.{at_front, group_of}
 use Rattle.bites_spec.specs.Pattern as pattern
 use Rattle.bites_spec.specs.RangesOf.{ranges_of}
 use Rattle.bites_spec.specs.Reader.{ReadChoice, Stop, and_found, at_item, behind_group, inner, read}
-use Rattle.bites_spec.specs.Tree.{Tree, choice_of, sequence_of}
+use Rattle.bites_spec.specs.Tree.{Tree, alternation_of, sequence_of}
 use Rattle.bites_text.specs.declared.error.Error.{Error}
 use Rattle.bites_syntax.specs.declared.node.Node.{Node}
 use Rattle.bites_syntax.specs.declared.parse.OpenGroup.{OpenGroup}
@@ -71,7 +71,7 @@ module _ (limit depth n : ℕ) (start : pattern.Front) (text : pattern.Text) (p 
   -- at the end of the choice
   pub reached_end : (q : Parser) (after : Branches) (node : Node) (r : ReachesItem limit depth n start text p parsed) →
       EndsReading limit q after r.g (at_item ranges_of limit (inner ranges_of limit r.steps) r.steps depth r.g r.branches r.nodes p.cursor) →
-      ((bs ts : List Tree) → AreNodes q.limit after.complete.items bs → AreNodes q.limit after.nodes.items ts → IsNodeOf q.limit node (choice_of (bs ++ sequence_of ts ∷ []))) →
+      ((bs ts : List Tree) → AreNodes q.limit after.complete.items bs → AreNodes q.limit after.nodes.items ts → IsNodeOf q.limit node (alternation_of (bs ++ sequence_of ts ∷ []))) →
       ReadsAs limit q node (inner ranges_of limit (suc n) depth start [] [] text)
   reached_end q after node r ends stands = record {
     found = record { branches = ends.branches ++ sequence_of ends.nodes ∷ []; behind = r.g; rest = q.cursor };
@@ -80,7 +80,7 @@ module _ (limit depth n : ℕ) (start : pattern.Front) (text : pattern.Text) (p 
     limit_is = ends.limit_is;
     state = ends.state;
     node_is =
-        subst (λ l. (bs ts : List Tree) → AreNodes l after.complete.items bs → AreNodes l after.nodes.items ts → IsNodeOf l node (choice_of (bs ++ sequence_of ts ∷ []))) ends.limit_is stands
+        subst (λ l. (bs ts : List Tree) → AreNodes l after.complete.items bs → AreNodes l after.nodes.items ts → IsNodeOf l node (alternation_of (bs ++ sequence_of ts ∷ []))) ends.limit_is stands
         ends.branches ends.nodes ends.branches_are ends.nodes_are;
   }
 
@@ -120,7 +120,7 @@ module _ (limit depth n : ℕ) (start : pattern.Front) (text : pattern.Text) (p 
       length inside.cursor ≤ length q.cursor → behind.cursor ≡ drop 1 inside.cursor → length behind.cursor ≤ length inside.cursor →
       behind.limit ≡ inside.limit → behind.state ≡ record (inside.state) { flags = opens.flags } →
       AreNodes limit after.complete.items r.branches → AreNodes limit nodes r.nodes →
-      ((branches : List Tree) → IsNodeOf inside.limit node (choice_of branches) → AreNodes inside.limit nodes r.nodes →
+      ((branches : List Tree) → IsNodeOf inside.limit node (alternation_of branches) → AreNodes inside.limit nodes r.nodes →
       AreNodes inside.limit after.nodes.items (r.nodes ++ group_of enters.opening r.g.groups branches ∷ [])) →
       Reached limit depth n start text behind after
   reached_group inside behind nodes after node reads forward bumped shorter bound state branches_are before_are nodes_are = by_steps r.steps refl
@@ -128,9 +128,9 @@ module _ (limit depth n : ℕ) (start : pattern.Front) (text : pattern.Text) (p 
       here : ReadsAs limit inside node (inner ranges_of limit r.steps (suc depth) enters.inside [] [] q.cursor)
       here = inside_by limit depth r.steps q opens r.g r.branches r.nodes _ enters (λ a. ReadsAs limit inside node a) (omega (arith, r.room)) reads
 
-      nodes_by : (branches : List Tree) → IsNodeOf limit node (choice_of branches) → AreNodes limit nodes r.nodes → AreNodes limit after.nodes.items (r.nodes ++ group_of enters.opening r.g.groups branches ∷ [])
+      nodes_by : (branches : List Tree) → IsNodeOf limit node (alternation_of branches) → AreNodes limit nodes r.nodes → AreNodes limit after.nodes.items (r.nodes ++ group_of enters.opening r.g.groups branches ∷ [])
       nodes_by =
-          subst (λ l. (branches : List Tree) → IsNodeOf l node (choice_of branches) → AreNodes l nodes r.nodes → AreNodes l after.nodes.items (r.nodes ++ group_of enters.opening r.g.groups branches ∷ []))
+          subst (λ l. (branches : List Tree) → IsNodeOf l node (alternation_of branches) → AreNodes l nodes r.nodes → AreNodes l after.nodes.items (r.nodes ++ group_of enters.opening r.g.groups branches ∷ []))
           here.limit_is nodes_are
 
       state_is : IsStateOf behind.state (record (here.found.behind) { flags = r.g.flags })
@@ -157,5 +157,5 @@ module _ (limit depth n : ℕ) (start : pattern.Front) (text : pattern.Text) (p 
 
 -- the whole pattern
 pub read_is : (limit : ℕ) (text : pattern.Text) (flags : pattern.Flags) (found : ReadChoice) → inner ranges_of limit (suc (length text)) 0 (at_front flags) [] [] text ≡ Ok found →
-    read ranges_of limit text flags ≡ Ok (choice_of found.branches)
+    read ranges_of limit text flags ≡ Ok (alternation_of found.branches)
 read_is limit text flags found same = rw (same, read) refl

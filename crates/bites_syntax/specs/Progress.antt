@@ -5,7 +5,7 @@ use Rattle.bites_spec.specs.Pattern as pattern
 use Rattle.bites_spec.specs.Pattern.{Text, left_parenthesis, right_parenthesis}
 use Rattle.bites_spec.specs.RangesOf.{ranges_of}
 use Rattle.bites_spec.specs.Reader.{ReadChoice, Stop, and_found, at_item, behind_group, inner}
-use Rattle.bites_spec.specs.Tree.{Tree, choice_of, sequence_of}
+use Rattle.bites_spec.specs.Tree.{Tree, alternation_of, sequence_of}
 use Rattle.bites_text.specs.declared.error.Error.{Error}
 use Rattle.bites_syntax.specs.declared.node.Node.{Node}
 use Rattle.bites_syntax.specs.declared.parse.OpenGroup.{OpenGroup}
@@ -93,7 +93,7 @@ pub record ReadsAs (limit : ℕ) (p : Parser) (node : Node) (a : Result ReadChoi
   pub rest : found.rest ≡ p.cursor
   pub limit_is : p.limit ≡ limit
   pub state : IsStateOf p.state found.behind
-  pub node_is : IsNodeOf limit node (choice_of found.branches)
+  pub node_is : IsNodeOf limit node (alternation_of found.branches)
 
 -- the reader reads the choice too, or stops
 abbrev pub IsChoice : ℕ → Result Node Error → Parser → Result ReadChoice Stop → Type 0

@@ -6,7 +6,7 @@ ghost use Rattle.bites_spec.specs.Grammar.{group_of};
 ghost use Rattle.bites_spec.specs.Group.{Opening};
 ghost use Rattle.bites_spec.specs.Measure.{height, IsTooTall};
 ghost use Rattle.bites_spec.specs.Tree as spec;
-ghost use Rattle.bites_spec.specs.Tree.{choice_of, repetition_of, sequence_of, trees_of};
+ghost use Rattle.bites_spec.specs.Tree.{alternation_of, repetition_of, sequence_of, trees_of};
 ghost use Rattle.bites_syntax.specs.Nodes.{AreNodes, ArePartsOf, IsNumbered, IsNodeOf};
 
 use crate::name::Name;
@@ -129,7 +129,7 @@ pub(crate) fn group_of(
     limit: u32,
 ) -> Result<Node, AllocError>
     ensures { (opening : Opening) → (before : ℕ) → (branches : List spec.Tree) →
-        IsNumbered numbered opening before → IsNodeOf limit choice (choice_of branches) →
+        IsNumbered numbered opening before → IsNodeOf limit choice (alternation_of branches) →
         IfOk result (λ node. IsNodeOf limit node (group_of opening before branches)) }
 {
     match numbered {
@@ -204,7 +204,7 @@ pub(crate) fn alternation_of(
     limit: u32,
 ) -> Result<Node, AllocError>
     ensures { (ts : List spec.Tree) → AreNodes limit nodes.items ts →
-        IfOk result (λ node. IsNodeOf limit node (choice_of ts)) }
+        IfOk result (λ node. IsNodeOf limit node (alternation_of ts)) }
 {
     Ok(match parts_of(alloc, nodes, limit)? {
         Parts::None => Node::leaf(Tree::empty()),

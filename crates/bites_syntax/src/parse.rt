@@ -9,7 +9,7 @@ ghost use Rattle.bites_spec.specs.Reader.{and_then, at_item, at_opened, at_opera
 ghost use Rattle.bites_spec.specs.Grammar.{Reading, group_of, literal_of};
 ghost use Rattle.bites_spec.specs.Group.{Opening};
 ghost use Rattle.bites_spec.specs.Tree as spec;
-ghost use Rattle.bites_spec.specs.Tree.{choice_of, sequence_of};
+ghost use Rattle.bites_spec.specs.Tree.{alternation_of, sequence_of};
 ghost use Rattle.bites_syntax.specs.Atoms.{atom, begins_atom};
 ghost use Rattle.bites_syntax.specs.Nodes.{AreNodes, IsNumbered, IsNodeOf};
 ghost use Rattle.bites_syntax.specs.Progress.{HasDepth, IsAt, IsChoice, IsForward, ReadsItem, ReadsItems, Steps, ends_items};
@@ -117,7 +117,7 @@ impl Branches {
     fn into_alternation(self, alloc: Global, limit: u32) -> Result<Node, AllocError>
         ensures { (bs ts : List spec.Tree) → AreNodes limit self.complete.items bs →
             AreNodes limit self.nodes.items ts →
-            IfOk result (λ node. IsNodeOf limit node (choice_of (bs ++ sequence_of ts ∷ []))) }
+            IfOk result (λ node. IsNodeOf limit node (alternation_of (bs ++ sequence_of ts ∷ []))) }
     {
         let Branches {
             mut complete,
@@ -158,7 +158,7 @@ fn close_group(
     ensures complete { branches.new.complete.items ≡ branches.old.complete.items }
     ensures flags { IfOk result (λ flags. flags ≡ group.flags) }
     ensures nodes { (opening : Opening) → (before : ℕ) → (bs ts : List spec.Tree) →
-        IsNumbered group.numbered opening before → IsNodeOf limit choice (choice_of bs) →
+        IsNumbered group.numbered opening before → IsNodeOf limit choice (alternation_of bs) →
         AreNodes limit branches.old.nodes.items ts →
         IfOk result
         (λ _.

@@ -4,7 +4,7 @@ use Rattle.std.specs.Prelude.{chars, encode_utf8_all, Result, Ok, Err, IfErr}
 use Rattle.std.proofs.lemmas.Str.{IsCharBoundary-start}
 use Rattle.bites_spec.specs.Pattern.{Text}
 use Rattle.bites_spec.specs.Tree.{Tree}
-use Rattle.bites_spec.specs.Measure.{Limits, weight, groups_left}
+use Rattle.bites_spec.specs.Measure.{Limits, program_size, groups_left}
 use Rattle.bites_spec.specs.Match.{span}
 use Rattle.bites_spec.specs.Found.{Answer, FoundSome}
 use Rattle.bites_spec.specs.Regex.{Regex}
@@ -22,12 +22,12 @@ above : (n m : ℕ) → (n ≤ m → ⊥) → m < n
 above n m h = omega (arith, h)
 
 -- an error that refuses a tree that is refused by its weight alone
-by_weight : (t : Tree) → (weight t ≤ 10485760 → ⊥) → (e : Error) → e ≢ Memory → RefusesTree 10485760 (groups_left t) t e → e ≡ TooBig
-by_weight t heavy TooBig known h = refl
-by_weight t heavy TooManyStates known h = absurd (heavy h.0)
-by_weight t heavy TooManySlots known h = absurd (heavy h.0)
-by_weight t heavy Memory known h = absurd (known refl)
-by_weight t heavy _ known h = absurd h
+by_size : (t : Tree) → (program_size t ≤ 10485760 → ⊥) → (e : Error) → e ≢ Memory → RefusesTree 10485760 (groups_left t) t e → e ≡ TooBig
+by_size t heavy TooBig known h = refl
+by_size t heavy TooManyStates known h = absurd (heavy h.0)
+by_size t heavy TooManySlots known h = absurd (heavy h.0)
+by_size t heavy Memory known h = absurd (known refl)
+by_size t heavy _ known h = absurd h
 
 module _ (text pattern : List ℕ) (utf8 : IsUtf8 text) (is : pattern ≡ encode_utf8_all (escaped (chars text))) where
   is_read : Limits (chars pattern) no_flags 50 (text_tree (chars text))
@@ -41,23 +41,23 @@ module _ (text pattern : List ℕ) (utf8 : IsUtf8 text) (is : pattern ≡ encode
   tree_of_text t read = laws.patterns_have_one_tree (chars pattern) no_flags t (text_tree (chars text)) read.reading is_read.reading
 
   module _ (refused : (t : Tree) → Accepts (by_default pattern) t → ⊥) where
-    heavy : weight (text_tree (chars text)) ≤ 10485760 → ⊥
+    heavy : program_size (text_tree (chars text)) ≤ 10485760 → ⊥
     heavy light = refused (text_tree (chars text)) (subst (λ p. Accepts (by_default p) (text_tree (chars text))) (sym is) (laws.escaped_texts_are_accepted text utf8 light))
 
     too_big : (e : Error) → e ≢ Memory → Refuses (by_default pattern) e → e ≡ TooBig
     too_big e known (fault m f same) =
         absurd (laws.refused_patterns_have_no_tree (chars pattern) no_flags 50 m (text_tree (chars text)) f is_read)
     too_big e known (limit t read h) =
-        by_weight t (λ light. heavy (subst (λ u. weight u ≤ 10485760) (tree_of_text t read) light)) e known h
+        by_size t (λ light. heavy (subst (λ u. program_size u ≤ 10485760) (tree_of_text t read) light)) e known h
 
     -- a build of it is refused only for its size
-    pub only_too_big : (e : Error) → e ≢ Memory → Refuses (by_default pattern) e → (e ≡ TooBig) × (10485760 < weight (text_tree (chars text)))
-    only_too_big e known h = (too_big e known h, above (weight (text_tree (chars text))) 10485760 heavy)
+    pub only_too_big : (e : Error) → e ≢ Memory → Refuses (by_default pattern) e → (e ≡ TooBig) × (10485760 < program_size (text_tree (chars text)))
+    only_too_big e known h = (too_big e known h, above (program_size (text_tree (chars text))) 10485760 heavy)
 
 -- so it is, where its refusal says both that no tree is accepted and why
 pub refused_by_size : {R : Type 0} (text pattern : List ℕ) → IsUtf8 text → pattern ≡ encode_utf8_all (escaped (chars text)) → (r : Result R Error) →
     IfErr r (λ e. e ≢ Memory → (t : Tree) → Accepts (by_default pattern) t → ⊥) → IfErr r (λ e. e ≢ Memory → Refuses (by_default pattern) e) →
-    IfErr r (λ e. e ≢ Memory → (e ≡ TooBig) × (10485760 < weight (text_tree (chars text))))
+    IfErr r (λ e. e ≢ Memory → (e ≡ TooBig) × (10485760 < program_size (text_tree (chars text))))
 refused_by_size text pattern utf8 is (Ok x) refused message = tt
 refused_by_size text pattern utf8 is (Err e) refused message = λ known. only_too_big text pattern utf8 is (refused known) e known (message known)
 

@@ -10,8 +10,8 @@ use Rattle.bites_spec.specs.GrammarLaws.{IsRefusedBy}
 use Rattle.bites_spec.specs.Settings.{by_default, no_flags}
 use Rattle.bites_spec.specs.Tree.{Tree, char}
 use Rattle.bites_spec.specs.Match.{Span, span, Mark, mark, Matches, Parse, groups}
-use Rattle.bites_spec.specs.Preference.{Way, parses}
-use Rattle.bites_spec.specs.Found.{head_of, way}
+use Rattle.bites_spec.specs.Preference.{ParseTo, parses}
+use Rattle.bites_spec.specs.Found.{head_of, parse_to}
 use Rattle.bites_spec.proofs.Laws as laws
 use Rattle.bites_text.specs.Messages.{error_of}
 use Rattle.bites_text.specs.declared.error.Error.{Error}
@@ -37,11 +37,11 @@ apart_refuses = (
   λ h. let le : 2 ≤ 1 = h.0.2 in absurd (omega arith),
 )
 
-end_of : Option Way → ℕ
+end_of : Option ParseTo → ℕ
 end_of None = 0
 end_of (Some w) = w.end
 
-preferred_is_1 : (j : ℕ) (ms : List Mark) → head_of (parses (codes "ab") a_or_ab 0) ≡ Some (way j ms) → j ≡ 1
+preferred_is_1 : (j : ℕ) (ms : List Mark) → head_of (parses (codes "ab") a_or_ab 0) ≡ Some (parse_to j ms) → j ≡ 1
 unfolding places piece front_piece parses end_of
 preferred_is_1 j ms e = sym (ap end_of e)
 
@@ -110,7 +110,7 @@ choice_refuses = (
       let at = start_of_whole 0 2 h.start h.end (h.groups 0) in
       let to = end_of_whole 0 2 h.start h.end (h.groups 0) in
       let same = preferred_is_1 h.end h.marks
-      (subst (λ i. head_of (parses (codes "ab") a_or_ab i) ≡ Some (way h.end h.marks)) (sym at) h.chosen) in
+      (subst (λ i. head_of (parses (codes "ab") a_or_ab i) ≡ Some (parse_to h.end h.marks)) (sym at) h.chosen) in
       absurd (omega arith),
   λ h.
       let at = start_of_whole 0 1 h.start h.end (h.groups 0) in

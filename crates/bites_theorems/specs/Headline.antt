@@ -3,7 +3,7 @@ use Rattle.std.specs.Prelude.{◌≡◌, ℕ, ◌≤◌, true, false, List, leng
 use Rattle.bites_spec.specs.Tree.{Tree, IsPlain}
 use Rattle.bites_spec.specs.Match.{Span, Mark, Matches, Parse, groups}
 use Rattle.bites_spec.specs.Preference.{parses}
-use Rattle.bites_spec.specs.Found.{NoMatch, IsFirstPlace, head_of, first_ending, way}
+use Rattle.bites_spec.specs.Found.{NoMatch, IsFirstPlace, head_of, first_ending, parse_to}
 use Rattle.bites_spec.specs.Anchored.{HasMatchFrom, IsFullMatch}
 use Rattle.bites_spec.specs.Slots.{group_in}
 use Rattle.bites_spec.specs.Regex.{Regex}
@@ -16,7 +16,7 @@ module _ (t : Tree) (hay : List ℕ) (g : Span) where
 
   -- it ends where the parse does that the pattern prefers from its start
   abbrev pub EndsAsPreferred : Type 0
-  EndsAsPreferred = (ms : List Mark) × (head_of (parses hay t g.start) ≡ Some (way g.end ms))
+  EndsAsPreferred = (ms : List Mark) × (head_of (parses hay t g.start) ≡ Some (parse_to g.end ms))
 
   -- no match from its start ends after it
   abbrev pub EndsLast : Type 0
@@ -39,7 +39,7 @@ module _ (t : Tree) (hay : List ℕ) (s : ℕ) where
 
   -- of the parse that the pattern prefers
   abbrev pub AreOfPreferredParse : List (Option ℕ) → Type 0
-  AreOfPreferredParse = AreOfParse (λ i j ms. head_of (parses hay t i) ≡ Some (way j ms))
+  AreOfPreferredParse = AreOfParse (λ i j ms. head_of (parses hay t i) ≡ Some (parse_to j ms))
 
   -- of a parse to the greatest end
   abbrev pub AreOfLongestParse : List (Option ℕ) → Type 0
@@ -48,7 +48,7 @@ module _ (t : Tree) (hay : List ℕ) (s : ℕ) where
   -- of the one that the pattern prefers among the parses to that end
   abbrev pub AreOfPreferredLongestParse : List (Option ℕ) → Type 0
   AreOfPreferredLongestParse =
-      AreOfParse (λ i j ms. ((l : ℕ) → Matches hay t i l → l ≤ j) × (first_ending j (parses hay t i) ≡ Some (way j ms)))
+      AreOfParse (λ i j ms. ((l : ℕ) → Matches hay t i l → l ≤ j) × (first_ending j (parses hay t i) ≡ Some (parse_to j ms)))
 
 module _ (regex : Regex) (hay : List ℕ) (start : ℕ) where
   -- A match that begins at the first place from the start on at which the tree matches. Where the tree is plain it ends as the
@@ -98,7 +98,7 @@ module _ (t : Tree) (hay : List ℕ) (s : ℕ) where
 
   -- of the parse that the pattern prefers
   abbrev pub AreOfPreferredParseAt : List (Option ℕ) → Type 0
-  AreOfPreferredParseAt = AreOfParseAt (λ j ms. head_of (parses hay t s) ≡ Some (way j ms))
+  AreOfPreferredParseAt = AreOfParseAt (λ j ms. head_of (parses hay t s) ≡ Some (parse_to j ms))
 
   -- of a parse to the greatest end
   abbrev pub AreOfLongestParseAt : List (Option ℕ) → Type 0
@@ -107,7 +107,7 @@ module _ (t : Tree) (hay : List ℕ) (s : ℕ) where
   -- of the one that the pattern prefers among the parses to that end
   abbrev pub AreOfPreferredLongestParseAt : List (Option ℕ) → Type 0
   AreOfPreferredLongestParseAt =
-      AreOfParseAt (λ j ms. ((l : ℕ) → Matches hay t s l → l ≤ j) × (first_ending j (parses hay t s) ≡ Some (way j ms)))
+      AreOfParseAt (λ j ms. ((l : ℕ) → Matches hay t s l → l ≤ j) × (first_ending j (parses hay t s) ≡ Some (parse_to j ms)))
 
 module _ (regex : Regex) (hay : List ℕ) (start : ℕ) where
   -- A match that begins at the start itself. Where the tree is plain it ends as the pattern prefers; where the longest match is
@@ -149,7 +149,7 @@ module _ (regex : Regex) (hay : List ℕ) where
   pub record AreFullGroups (slots : List (Option ℕ)) : Type 0 where
     pub one_parse : AreOfParseAt regex.tree hay 0 (λ j ms. j ≡ length hay) slots
     pub preferred : IsPlain regex.tree →
-        AreOfParseAt regex.tree hay 0 (λ j ms. (j ≡ length hay) × (first_ending (length hay) (parses hay regex.tree 0) ≡ Some (way j ms))) slots
+        AreOfParseAt regex.tree hay 0 (λ j ms. (j ≡ length hay) × (first_ending (length hay) (parses hay regex.tree 0) ≡ Some (parse_to j ms))) slots
 
   -- captures that this regex found in this haystack, with such groups
   pub record AreFullCaptures (c : Captured) : Type 0 where

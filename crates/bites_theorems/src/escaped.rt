@@ -1,7 +1,7 @@
 //! Texts that are searched for.
 
 ghost use Rattle.std.specs.Prelude.{◌≡◌, ◌≢◌, ◌<◌, chars, option_map, IfOk, IfErr};
-ghost use Rattle.bites_spec.specs.Measure.{weight};
+ghost use Rattle.bites_spec.specs.Measure.{program_size};
 ghost use Rattle.bites_spec.specs.Escaped.{text_tree};
 ghost use Rattle.bites_spec.specs.Occurrence.{IsLeftmost};
 ghost use Rattle.regex_bites.specs.Matched.{excerpt_of};
@@ -15,7 +15,7 @@ use std::alloc::Global;
 pub fn regex_of_text(alloc: Global, text: &str) -> Result<Regex, Error>
     ensures tree { IfOk result (λ r. r.tree ≡ text_tree (chars text.now)) }
     ensures refused { IfErr result (λ e. e ≢ Error.Memory →
-        (e ≡ Error.TooBig) × (10485760 < weight (text_tree (chars text.now)))) }
+        (e ≡ Error.TooBig) × (10485760 < program_size (text_tree (chars text.now)))) }
 {
     let pattern = escape(alloc, text)?;
     Regex::new(alloc, &pattern)

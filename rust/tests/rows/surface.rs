@@ -3,8 +3,8 @@
 use crate::row::{escaped, Row};
 use std::borrow::Cow;
 
-/// The greatest size limit that `weight` asks for.
-const GREATEST_WEIGHT: usize = 67_108_864;
+/// The greatest size limit that `least_size` asks for.
+const GREATEST_SIZE: usize = 67_108_864;
 
 /// The answers over bytes.
 pub fn over_bytes(row: &Row, pattern: &str) -> Vec<String> {
@@ -46,8 +46,8 @@ macro_rules! surface {
                 if row.call == "escape" {
                     return vec![new(regex_bites::escape(pattern).as_bytes())];
                 }
-                if row.call == "weight" {
-                    return vec![weight(row, pattern)];
+                if row.call == "least_size" {
+                    return vec![least_size(row, pattern)];
                 }
                 match builder(row, pattern).build() {
                     Err(error) => vec![format!("err: {error}")],
@@ -75,9 +75,9 @@ macro_rules! surface {
                 builder
             }
 
-            /// The wanted weight, if it builds and a smaller one does not; else where it does not hold.
-            fn weight(row: &Row, pattern: &str) -> String {
-                let least = row.wanted.parse().unwrap_or(GREATEST_WEIGHT + 1);
+            /// The wanted size, if it builds and a smaller one does not; else where it does not hold.
+            fn least_size(row: &Row, pattern: &str) -> String {
+                let least = row.wanted.parse().unwrap_or(GREATEST_SIZE + 1);
                 let mut builder = builder(row, pattern);
                 if let Err(error) = builder.size_limit(least).build() {
                     return match row.wanted.as_str() {

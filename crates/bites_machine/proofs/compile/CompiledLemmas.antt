@@ -3,7 +3,7 @@ use Rattle.std.proofs.Common.{◌≡◌, ℕ, ◌+◌, ◌*◌, ◌%◌, ◌≤�
 use Rattle.std.specs.Prelude.{nat_lt, nat_le, ◌==◌, sum_by}
 use Rattle.std.proofs.lemmas.Bool.Decides.{nat_tests}
 use Rattle.bites_spec.specs.Tree.{Tree, group, captures_len, IsReduced}
-use Rattle.bites_spec.specs.Measure.{size_of, states, group_weight, TreeLimitsWith}
+use Rattle.bites_spec.specs.Measure.{size_of, states, group_size, TreeLimitsWith}
 use Rattle.bites_spec.specs.Program as program
 use Rattle.bites_spec.specs.Program.{State, state_at, IsWellFormed}
 use Rattle.bites_spec.specs.Built.{Built, HasForm}
@@ -80,29 +80,29 @@ pub IsWellFormed-compiled : (n : ℕ) (t : Tree) → captures_len t ≤ n → Ha
 IsWellFormed-compiled n t room classes few = first_fault-IsWellFormed (program_of_tree n t) (first_fault-compiled n t room classes few)
 
 -- what holds of groups that weigh so much, as far as 64 bits count, holds of the groups
-limits_of : (size_limit captures weight : ℕ) (groups : List (Option (List ℕ))) (t : Tree) → size_limit < 18446744073709551616 →
-    captures ≡ length groups → weight ≡ held (sum_by group_weight groups) → LimitsBy size_limit captures weight t →
+limits_of : (size_limit captures program_size : ℕ) (groups : List (Option (List ℕ))) (t : Tree) → size_limit < 18446744073709551616 →
+    captures ≡ length groups → program_size ≡ held (sum_by group_size groups) → LimitsBy size_limit captures program_size t →
     TreeLimitsWith size_limit groups t
-limits_of size_limit captures weight groups t fits len is h = record {
+limits_of size_limit captures program_size groups t fits len is h = record {
   light = omega (arith, h.light);
   few_states = h.few_states;
   few_groups = omega (arith, h.few_groups);
 }
 
-refused_of : (size_limit captures weight : ℕ) (groups : List (Option (List ℕ))) (t : Tree) (e : Error) → size_limit < 18446744073709551616 →
-    captures ≡ length groups → weight ≡ held (sum_by group_weight groups) → RefusesBy size_limit captures weight t e → RefusesTree size_limit groups t e
-refused_of size_limit captures weight groups t TooBig fits len is h = omega (arith, h)
-refused_of size_limit captures weight groups t TooManyStates fits len is h = (omega (arith, h.0), h.1)
-refused_of size_limit captures weight groups t TooManySlots fits len is h = (omega (arith, h.0), h.1, omega (arith, h.2))
-refused_of size_limit captures weight groups t _ fits len is h = absurd h
+refused_of : (size_limit captures program_size : ℕ) (groups : List (Option (List ℕ))) (t : Tree) (e : Error) → size_limit < 18446744073709551616 →
+    captures ≡ length groups → program_size ≡ held (sum_by group_size groups) → RefusesBy size_limit captures program_size t e → RefusesTree size_limit groups t e
+refused_of size_limit captures program_size groups t TooBig fits len is h = omega (arith, h)
+refused_of size_limit captures program_size groups t TooManyStates fits len is h = (omega (arith, h.0), h.1)
+refused_of size_limit captures program_size groups t TooManySlots fits len is h = (omega (arith, h.0), h.1, omega (arith, h.2))
+refused_of size_limit captures program_size groups t _ fits len is h = absurd h
 
 -- the same of what is answered
-module _ {A : Type 0} (size_limit captures weight : ℕ) (groups : List (Option (List ℕ))) (t : Tree) (fits : size_limit < 18446744073709551616)
-    (len : captures ≡ length groups) (is : weight ≡ held (sum_by group_weight groups)) where
-  pub limits_clause : (o : Result A Error) → OnOk o (LimitsBy size_limit captures weight t) → OnOk o (TreeLimitsWith size_limit groups t)
-  limits_clause (Ok x) h = limits_of size_limit captures weight groups t fits len is h
+module _ {A : Type 0} (size_limit captures program_size : ℕ) (groups : List (Option (List ℕ))) (t : Tree) (fits : size_limit < 18446744073709551616)
+    (len : captures ≡ length groups) (is : program_size ≡ held (sum_by group_size groups)) where
+  pub limits_clause : (o : Result A Error) → OnOk o (LimitsBy size_limit captures program_size t) → OnOk o (TreeLimitsWith size_limit groups t)
+  limits_clause (Ok x) h = limits_of size_limit captures program_size groups t fits len is h
   limits_clause (Err e) h = h
 
-  pub refused_clause : (o : Result A Error) → IfErr o (RefusesBy size_limit captures weight t) → IfErr o (RefusesTree size_limit groups t)
+  pub refused_clause : (o : Result A Error) → IfErr o (RefusesBy size_limit captures program_size t) → IfErr o (RefusesTree size_limit groups t)
   refused_clause (Ok x) h = h
-  refused_clause (Err e) h = refused_of size_limit captures weight groups t e fits len is h
+  refused_clause (Err e) h = refused_of size_limit captures program_size groups t e fits len is h

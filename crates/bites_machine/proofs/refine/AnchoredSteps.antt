@@ -13,7 +13,7 @@ use Rattle.bites_machine.specs.SlotTable.{Pool}
 use Rattle.bites_machine.specs.Threads.{Listed}
 use Rattle.bites_machine.specs.Used.{IsUsed, slots_at}
 use Rattle.bites_machine.specs.Scratch.{thread_of, row_of}
-use Rattle.bites_machine.specs.Sweep.{ClosesAll, InvariantBetweenSteps, HasRoom, IsIdle, StandsFor, walking_at, left_in}
+use Rattle.bites_machine.specs.Sweep.{ClosesAll, InvariantBetweenSteps, HasRoom, IsIdle, Represents, walking_at, left_in}
 use Rattle.bites_machine.specs.declared.vm.threads.Thread.{Thread}
 use Rattle.bites_machine.specs.declared.vm.closure.Scratch.{Scratch}
 use Rattle.bites_machine.proofs.refine.IdleLemmas.{used_by_none}
@@ -26,7 +26,7 @@ module _ (hay : List ℕ) (longest : Bool) (place : ℕ) (states : List program.
     by_best : (len : ℕ) → len ≡ (piece hay place).len → (p : Program) → p.states ≡ states → (best : Option machine.Thread) (first : List (Option ℕ)) (found : Bool) → is_some best ≡ found →
         left_in best first ≡ slots →
         (t : Searching) × Steps hay longest p (length slots) (searching_at place (map (thread_of old.rows) threads) best was.visits was.looks) t
-        × StandsFor t (place + len) new.rows new.next.threads now first left (found || is_some new.first_match)
+        × Represents t (place + len) new.rows new.next.threads now first left (found || is_some new.first_match)
     by_best len len_is p is best first found found_is slots_is =
         let s = searching_at place (map (thread_of old.rows) threads) best was.visits was.looks in (
           after hay longest p (length slots) s (walking_at place new left [] now),
@@ -50,15 +50,15 @@ module _ (hay : List ℕ) (longest : Bool) (place : ℕ) (states : List program.
 
     -- the machine on lists explores the closures too
     pub threads_steps : (len : ℕ) → len ≡ (piece hay place).len → (p : Program) → p.states ≡ states → (s : Searching) (first : List (Option ℕ)) (found : Bool) →
-        StandsFor s place old.rows threads was first slots found →
-        (t : Searching) × Steps hay longest p (length slots) s t × StandsFor t (place + len) new.rows new.next.threads now first left (found || is_some new.first_match)
+        Represents s place old.rows threads was first slots found →
+        (t : Searching) × Steps hay longest p (length slots) s t × Represents t (place + len) new.rows new.next.threads now first left (found || is_some new.first_match)
     threads_steps len len_is p is s first found stands =
         let same : s ≡ searching_at place (map (thread_of old.rows) threads) s.best was.visits was.looks =
         ap (λ (i : ℕ). searching_at i s.threads s.best s.visits s.looks) stands.place
         ∙ ap (λ (l : List machine.Thread). searching_at place l s.best s.visits s.looks) stands.threads
         ∙ ap (λ (l : List Configuration). searching_at place (map (thread_of old.rows) threads) s.best l s.looks) stands.visits
         ∙ ap (λ (n : ℕ). searching_at place (map (thread_of old.rows) threads) s.best was.visits n) stands.looks in
-        subst (λ (x : Searching). (t : Searching) × Steps hay longest p (length slots) x t × StandsFor t (place + len) new.rows new.next.threads now first left (found || is_some new.first_match)) (sym same)
+        subst (λ (x : Searching). (t : Searching) × Steps hay longest p (length slots) x t × Represents t (place + len) new.rows new.next.threads now first left (found || is_some new.first_match)) (sym same)
         (by_best len len_is p is s.best first found stands.found stands.slots)
 
 -- whether a search is over after a place, as the code tests it
@@ -140,7 +140,7 @@ module _ (p : Program) (hay : List ℕ) (longest earliest : Bool) (start : ℕ) 
         stepped = gone.stepped;
         place_is = gone.stands.place;
         last = subst (λ n. Steps hay longest p n gone.now on.0) same on.1;
-        stands = subst (λ b. StandsFor on.0 (place + (piece hay place).len) new.rows later now old left b) (sym founds) on.2;
+        stands = subst (λ b. Represents on.0 (place + (piece hay place).len) new.rows later now old left b) (sym founds) on.2;
       }
 
   over_by : (place : ℕ) (is_found : Bool) (walked : Record) (pool : Pool) (threads : List Thread) (slots : List (Option ℕ)) →
@@ -165,7 +165,7 @@ module _ (p : Program) (hay : List ℕ) (longest earliest : Bool) (start : ℕ) 
       h.last,
       over_by place is_found walked pool threads slots h ∙ sym (ap₂ (λ n k. ends_after earliest n is_found k) lens lefts) ∙ on,
     );
-    stands = subst (λ n. StandsFor h.now (place + n) pool threads walked old slots is_found) (sym lens) h.stands;
+    stands = subst (λ n. Represents h.now (place + n) pool threads walked old slots is_found) (sym lens) h.stands;
   }
 
   -- a search that is over was this one

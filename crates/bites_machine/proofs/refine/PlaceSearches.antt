@@ -15,7 +15,7 @@ use Rattle.bites_machine.specs.Threads.{Listed}
 use Rattle.bites_machine.specs.Used.{IsUsed}
 use Rattle.bites_machine.specs.Scratch.{thread_of, first_match_of, row_of}
 use Rattle.bites_machine.specs.Explore.{seen_here}
-use Rattle.bites_machine.specs.Sweep.{ClosesAll, InvariantBetweenSteps, StandsFor, starts_of, walking_at, left_in}
+use Rattle.bites_machine.specs.Sweep.{ClosesAll, InvariantBetweenSteps, Represents, starts_of, walking_at, left_in}
 use Rattle.bites_machine.specs.declared.vm.threads.Thread.{Thread}
 use Rattle.bites_machine.specs.declared.vm.closure.FirstMatch.{FirstMatch}
 use Rattle.bites_machine.specs.declared.vm.closure.Scratch.{Scratch}
@@ -125,7 +125,7 @@ module _ (hay : List ℕ) (longest : Bool) (place : ℕ) (states : List program.
     by_best : (len : ℕ) → len ≡ (piece hay place).len → (p : Program) → p.states ≡ states → (best : Option machine.Thread) (first : List (Option ℕ)) (found : Bool) → is_some best ≡ found →
         left_in best first ≡ slots → begins ≡ (if found then None else Some p.start) →
         (t : Searching) × Searches hay longest p (length slots) (searching_at place (map (thread_of old.rows) threads) best was.visits was.looks) t
-        × StandsFor t (place + len) new.rows new.next.threads now first left (found || is_some new.first_match)
+        × Represents t (place + len) new.rows new.next.threads now first left (found || is_some new.first_match)
     by_best len len_is p is best first found found_is slots_is begins_is =
         let s = searching_at place (map (thread_of old.rows) threads) best was.visits was.looks in
         let starts : starts_of longest place (length slots) begins
@@ -152,13 +152,13 @@ module _ (hay : List ℕ) (longest : Bool) (place : ℕ) (states : List program.
 
     -- the machine on lists searches the place too
     pub place_searches : (len : ℕ) → len ≡ (piece hay place).len → (p : Program) → p.states ≡ states → (s : Searching) (first : List (Option ℕ)) (found : Bool) →
-        begins ≡ (if found then None else Some p.start) → StandsFor s place old.rows threads was first slots found →
-        (t : Searching) × Searches hay longest p (length slots) s t × StandsFor t (place + len) new.rows new.next.threads now first left (found || is_some new.first_match)
+        begins ≡ (if found then None else Some p.start) → Represents s place old.rows threads was first slots found →
+        (t : Searching) × Searches hay longest p (length slots) s t × Represents t (place + len) new.rows new.next.threads now first left (found || is_some new.first_match)
     place_searches len len_is p is s first found begins_is stands =
         let same : s ≡ searching_at place (map (thread_of old.rows) threads) s.best was.visits was.looks =
         ap (λ (i : ℕ). searching_at i s.threads s.best s.visits s.looks) stands.place
         ∙ ap (λ (l : List machine.Thread). searching_at place l s.best s.visits s.looks) stands.threads
         ∙ ap (λ (l : List Configuration). searching_at place (map (thread_of old.rows) threads) s.best l s.looks) stands.visits
         ∙ ap (λ (n : ℕ). searching_at place (map (thread_of old.rows) threads) s.best was.visits n) stands.looks in
-        subst (λ (x : Searching). (t : Searching) × Searches hay longest p (length slots) x t × StandsFor t (place + len) new.rows new.next.threads now first left (found || is_some new.first_match)) (sym same)
+        subst (λ (x : Searching). (t : Searching) × Searches hay longest p (length slots) x t × Represents t (place + len) new.rows new.next.threads now first left (found || is_some new.first_match)) (sym same)
         (by_best len len_is p is s.best first found stands.found stands.slots begins_is)

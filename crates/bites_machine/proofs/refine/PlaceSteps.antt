@@ -12,7 +12,7 @@ use Rattle.bites_machine.specs.SlotTable.{Pool}
 use Rattle.bites_machine.specs.Threads.{Listed}
 use Rattle.bites_machine.specs.Used.{IsUsed, slots_at}
 use Rattle.bites_machine.specs.Scratch.{thread_of, row_of}
-use Rattle.bites_machine.specs.Sweep.{SearchResult, InvariantBetweenSteps, HasRoom, IsIdle, IsProgramOf, StandsFor, PlaceSearched, HasReached, HasSearched}
+use Rattle.bites_machine.specs.Sweep.{SearchResult, InvariantBetweenSteps, HasRoom, IsIdle, IsProgramOf, Represents, PlaceSearched, HasReached, HasSearched}
 use Rattle.bites_machine.proofs.refine.IdleLemmas.{used_by_none}
 use Rattle.bites_machine.specs.declared.vm.threads.Thread.{Thread}
 use Rattle.bites_machine.specs.declared.vm.closure.Scratch.{Scratch}
@@ -129,7 +129,7 @@ module _ (p : Program) (hay : List ℕ) (longest earliest : Bool) (start : ℕ) 
         searched = gone.searched;
         place_is = gone.stands.place;
         last = subst (λ n. Searches hay longest p n gone.now on.0) same on.1;
-        stands = subst (λ b. StandsFor on.0 (place + (piece hay place).len) new.rows later now old left b) (sym founds) on.2;
+        stands = subst (λ b. Represents on.0 (place + (piece hay place).len) new.rows later now old left b) (sym founds) on.2;
       }
 
   pub empty_by : (pool : Pool) (ts : List Thread) → is_empty (map (thread_of pool) ts) ≡ (length ts == 0)
@@ -157,7 +157,7 @@ module _ (p : Program) (hay : List ℕ) (longest earliest : Bool) (start : ℕ) 
       h.last,
       over_by place is_found walked pool threads slots h ∙ sym (ap₂ (λ n k. ends_by earliest n is_found k) lens lefts) ∙ on,
     );
-    stands = subst (λ n. StandsFor h.now (place + n) pool threads walked old slots is_found) (sym lens) h.stands;
+    stands = subst (λ n. Represents h.now (place + n) pool threads walked old slots is_found) (sym lens) h.stands;
   }
 
   -- a search that is over was this one

@@ -14,7 +14,7 @@ use Rattle.bites_machine.specs.Machine.{Walking, Searching, WalksTo, Searches, s
 use Rattle.bites_machine.specs.Prefix.{in_set, IsPrefix, TakesNone, IsApart}
 use Rattle.bites_machine.specs.Skipped.{visited_at, skipped_within, skipped}
 use Rattle.bites_machine.specs.Threads.{Listed}
-use Rattle.bites_machine.specs.Sweep.{PlaceSearched, StandsFor, Passes, InvariantBetweenSteps}
+use Rattle.bites_machine.specs.Sweep.{PlaceSearched, Represents, Passes, InvariantBetweenSteps}
 use Rattle.bites_machine.specs.declared.prefix.StartPrefix.{StartPrefix}
 use Rattle.bites_machine.specs.declared.vm.closure.Scratch.{Scratch}
 use Rattle.bites_machine.specs.declared.vm.closure.FirstMatch.{FirstMatch}
@@ -43,8 +43,8 @@ module _ (hay : List ℕ) (longest : Bool) (place : ℕ) (states : List State) (
   }
     where
       by_found : (p : Program) → p.states ≡ states → (s : Searching) (first : List (Option ℕ)) (found : Bool) → Some q ≡ (if found then None else Some p.start) →
-          StandsFor s place scratch.rows [] was first slots found →
-          (t : Searching) × Searches hay longest p (length slots) s t × StandsFor t (place + len) scratch.rows [] now first slots (found || is_some scratch.first_match)
+          Represents s place scratch.rows [] was first slots found →
+          (t : Searching) × Searches hay longest p (length slots) s t × Represents t (place + len) scratch.rows [] now first slots (found || is_some scratch.first_match)
       by_found p is s first true begins stands = absurd (no_start q begins)
       by_found p is s first false begins stands =
           let start : q ≡ p.start = cc in

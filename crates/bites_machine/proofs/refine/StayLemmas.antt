@@ -17,7 +17,7 @@ use Rattle.bites_machine.specs.SlotTable.{Pool, with_pending}
 use Rattle.bites_machine.specs.Used.{slots_at}
 use Rattle.bites_machine.specs.Scratch.{thread_of}
 use Rattle.bites_machine.specs.Explore.{seen_here}
-use Rattle.bites_machine.specs.Sweep.{PlaceSearched, StandsFor, IsProgramOf, HasReached, left_in}
+use Rattle.bites_machine.specs.Sweep.{PlaceSearched, Represents, IsProgramOf, HasReached, left_in}
 use Rattle.bites_machine.specs.SelfLoop.{IsSelfLoop, IsCovered, stays_by, match_of, fresh_walk, stayed}
 use Rattle.bites_machine.specs.Staying.{MayPass, StaysAlong, has_ended, left_at, closed_at, visits_at, looks_at, lent}
 use Rattle.bites_machine.specs.declared.prefix.StartPrefix.{StartPrefix}
@@ -65,10 +65,10 @@ module _ (hay : List ℕ) (i : ℕ) (states : List State) (x : SelfLoop) (t : Th
 
   -- the machine on lists walks from the thread and these to a walk that is over, and so searches the place
   searched : (p : Program) (s : Searching) (first slots : List (Option ℕ)) (f : Bool) (len : ℕ) (was now : Record) (last : Walking) →
-      len ≡ (piece hay i).len → StandsFor s i pool (t ∷ []) was first slots f →
+      len ≡ (piece hay i).len → Represents s i pool (t ∷ []) was first slots f →
       WalksTo hay false p i (begun hay false p (length slots) s) last → last.stack ≡ [] → last.next ≡ mine ∷ [] → last.first_match ≡ match_of x i mine →
       now.visits ≡ map (λ r. at r i) last.seen ++ was.visits → now.looks ≡ last.looks →
-      (u : Searching) × Searches hay false p (length slots) s u × StandsFor u (i + len) pool (t ∷ []) now first (left_here x i (slots_at pool t.row) slots) (f || is_some (hit_of x t))
+      (u : Searching) × Searches hay false p (length slots) s u × Represents u (i + len) pool (t ∷ []) now first (left_here x i (slots_at pool t.row) slots) (f || is_some (hit_of x t))
   searched p s first slots f len was now last lens stands walk over next hit visits looks = (
     after hay false p (length slots) s last,
     record {
@@ -100,7 +100,7 @@ module _ (hay : List ℕ) (i : ℕ) (states : List State) (x : SelfLoop) (t : Th
   abbrev pub behind : Program → ℕ → Bool → List machine.Thread
   behind p width f = cond f [] (started hay false p width i ∷ [])
 
-  begun_is : (p : Program) (s : Searching) (first slots : List (Option ℕ)) (f : Bool) (was : Record) → StandsFor s i pool (t ∷ []) was first slots f →
+  begun_is : (p : Program) (s : Searching) (first slots : List (Option ℕ)) (f : Bool) (was : Record) → Represents s i pool (t ∷ []) was first slots f →
       begun hay false p (length slots) s ≡ fresh_walk (mine ∷ behind p (length slots) f) was.looks
   begun_is p s first slots f was stands =
       ap₂ (λ (ts : List machine.Thread) (b : Bool). record { stack = ts ++ cond b [] (started hay false p (length slots) i ∷ []); seen = []; next = []; first_match = None; looks = s.looks }) stands.threads stands.found
@@ -112,9 +112,9 @@ module _ (hay : List ℕ) (i : ℕ) (states : List State) (x : SelfLoop) (t : Th
 
   -- the place is searched where the start is not explored
   alone : (p : Program) (s : Searching) (first slots : List (Option ℕ)) (f : Bool) (len c : ℕ) (was now : Record) → IsSelfLoop p.states x → t.state ≡ x.state →
-      len ≡ (piece hay i).len → next_character hay i ≡ Some c → stays_by x c ≡ true → StandsFor s i pool (t ∷ []) was first slots f → (f ≡ true) ⊎ (is_some x.end ≡ true) →
+      len ≡ (piece hay i).len → next_character hay i ≡ Some c → stays_by x c ≡ true → Represents s i pool (t ∷ []) was first slots f → (f ≡ true) ⊎ (is_some x.end ≡ true) →
       now.visits ≡ visits_at x None i was.visits → now.looks ≡ looks_at x None i was →
-      (u : Searching) × Searches hay false p (length slots) s u × StandsFor u (i + len) pool (t ∷ []) now first (left_here x i (slots_at pool t.row) slots) (f || is_some (hit_of x t))
+      (u : Searching) × Searches hay false p (length slots) s u × Represents u (i + len) pool (t ∷ []) now first (left_here x i (slots_at pool t.row) slots) (f || is_some (hit_of x t))
   alone p s first slots f len c was now self_loop at_state lens stands_here stays stands ends visits looks =
       let b = behind p (length slots) f in
       let last = stayed x i mine b was.looks in
@@ -125,10 +125,10 @@ module _ (hay : List ℕ) (i : ℕ) (states : List State) (x : SelfLoop) (t : Th
 
   -- the place is searched where what is left of the prefix takes nothing
   with_rest : (p : Program) (s : Searching) (first slots : List (Option ℕ)) (len c : ℕ) (r : StartPrefix) (was now : Record) → IsSelfLoop p.states x → t.state ≡ x.state →
-      len ≡ (piece hay i).len → next_character hay i ≡ Some c → stays_by x c ≡ true → StandsFor s i pool (t ∷ []) was first slots false → x.end ≡ None →
+      len ≡ (piece hay i).len → next_character hay i ≡ Some c → stays_by x c ≡ true → Represents s i pool (t ∷ []) was first slots false → x.end ≡ None →
       IsPrefix p.states p.start r → IsApart r i → in_set x.behind.ascii x.behind.others c ≡ false → IsCovered p.states x r.visited.value → ((v : Configuration) → Among was.visits v → v.place < i) →
       now.visits ≡ visits_at x (Some r) i was.visits → now.looks ≡ looks_at x (Some r) i was →
-      (u : Searching) × Searches hay false p (length slots) s u × StandsFor u (i + len) pool (t ∷ []) now first (left_here x i (slots_at pool t.row) slots) (false || is_some (hit_of x t))
+      (u : Searching) × Searches hay false p (length slots) s u × Represents u (i + len) pool (t ∷ []) now first (left_here x i (slots_at pool t.row) slots) (false || is_some (hit_of x t))
   with_rest p s first slots len c r was now self_loop at_state lens stands_here stays stands endless prefix apart out covered before visits looks =
       let st = started hay false p (length slots) i in
       let a = fresh_walk (mine ∷ st ∷ []) was.looks in
@@ -187,8 +187,8 @@ module _ (hay : List ℕ) (states : List State) (x : SelfLoop) (q : ℕ) where
     -- the machine on lists searches the place
     by_rest : (rest : Option StartPrefix) → MayPass x rest earliest f → RestStays rest i c → now.visits ≡ visits_at x rest i was.visits → now.looks ≡ looks_at x rest i was →
         (p : Program) → p.states ≡ states → (s : Searching) (first : List (Option ℕ)) (found : Bool) → f ≡ found → cond f None (Some q) ≡ cond found None (Some p.start) →
-        StandsFor s i pool (t ∷ []) was first slots found →
-        (u : Searching) × Searches hay false p (length slots) s u × StandsFor u (i + len) pool (t ∷ []) now first (left_here x i (slots_at pool t.row) slots) (found || is_some (hit_of x t))
+        Represents s i pool (t ∷ []) was first slots found →
+        (u : Searching) × Searches hay false p (length slots) s u × Represents u (i + len) pool (t ∷ []) now first (left_here x i (slots_at pool t.row) slots) (found || is_some (hit_of x t))
     by_rest None may rests visits looks p is s first found same begins stands =
         alone hay i states x t pool p s first slots found len c was now (subst (λ (ss : List State). IsSelfLoop ss x) (sym is) self_loop) at_state lens stands_here stays stands
         (⊎_elim (λ (e : f ≡ true). inl (sym same ∙ e)) (λ e. inr e) may.start) visits looks

@@ -6,7 +6,7 @@ use Rattle.bites_spec.specs.Utf8.{piece, front_piece, places}
 use Rattle.bites_spec.specs.Walks.{Among, AllApart, Walk}
 use Rattle.bites_spec.specs.Tree.{char}
 use Rattle.bites_spec.specs.Match.{Span, span, Matches}
-use Rattle.bites_spec.specs.Preference.{Way, parses}
+use Rattle.bites_spec.specs.Preference.{ParseTo, parses}
 use Rattle.bites_spec.specs.Program.{Configuration, at, match, fail}
 use Rattle.bites_spec.specs.Run.{run, IsRun, Ends, leads}
 use Rattle.bites_spec.specs.Refutations.{BoundsAreReached, BoundsRefuse, one_way, VisitsRefuse, AnsweredRefuses, FoundRefuses, PreferredRefuses, LeftmostRefuses, SpansRefuse, LeavingOutRefuses, BordersRefuse, ParticipantsRefuse, ItsGroupsRefuse, AppendsRefuse}
@@ -96,7 +96,7 @@ found_refuses = (
   λ least. let le : 2 ≤ 1 = least.1 0 (inl refl) 1 a_at_0 in absurd (omega arith),
 )
 
-end_of : Option Way → ℕ
+end_of : Option ParseTo → ℕ
 end_of None = 0
 end_of (Some w) = w.end
 

@@ -8,7 +8,7 @@ use Rattle.bites_spec.specs.Utf8.{piece, front_piece, places}
 use Rattle.bites_spec.specs.Look.{holds, start_crlf, end_crlf}
 use Rattle.bites_spec.specs.Tree.{Tree, empty, char, repetition, group, sequence, alternation, no_tree, tree_and, is_plain}
 use Rattle.bites_spec.specs.Match.{Span, span, mark, groups}
-use Rattle.bites_spec.specs.Preference.{Way, parses}
+use Rattle.bites_spec.specs.Preference.{ParseTo, parses}
 use Rattle.bites_spec.specs.Found.{head_of, first_ending}
 use Rattle.bites_spec.specs.Walks.{first_among}
 use Rattle.bites_spec.specs.Walks as walks
@@ -54,7 +54,7 @@ unfolding holds
 lines_end = (refl, refl, refl, refl)
 
 -- the first place with a parse, and its preferred parse
-abbrev preferred : Tree → List ℕ → ℕ → Option (ℕ × Way)
+abbrev preferred : Tree → List ℕ → ℕ → Option (ℕ × ParseTo)
 preferred t hay s = first_among (λ i. option_map (λ w. (i, w)) (head_of (parses hay t i))) (places hay s)
 
 abbrev span_found : Tree → List ℕ → ℕ → Option Span

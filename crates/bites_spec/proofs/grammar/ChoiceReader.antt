@@ -7,7 +7,7 @@ use Rattle.bites_spec.specs.Range.{Range}
 use Rattle.bites_spec.specs.Class
 use Rattle.bites_spec.specs.Class.{Set, Lists}
 use Rattle.bites_spec.specs.Tree as tree
-use Rattle.bites_spec.specs.Tree.{Tree, sequence_of, choice_of, repetition_of}
+use Rattle.bites_spec.specs.Tree.{Tree, sequence_of, alternation_of, repetition_of}
 use Rattle.bites_spec.specs.Pattern as pattern
 use Rattle.bites_spec.specs.Pattern.{Text, Flags, Front, skip, bar, question, star, plus, dot, caret, dollar, backslash, left_parenthesis, right_parenthesis, left_bracket, left_brace, ReadsLazy}
 use Rattle.bites_spec.specs.Operator as operator

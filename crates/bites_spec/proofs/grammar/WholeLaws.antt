@@ -4,7 +4,7 @@ use Rattle.bites_spec.specs.Message as message
 use Rattle.bites_spec.specs.Message.{Message, rank}
 use Rattle.bites_spec.specs.Range.{Range}
 use Rattle.bites_spec.specs.Class.{Set, Lists}
-use Rattle.bites_spec.specs.Tree.{Tree, choice_of}
+use Rattle.bites_spec.specs.Tree.{Tree, alternation_of}
 use Rattle.bites_spec.specs.Pattern.{Text, Flags}
 use Rattle.bites_spec.specs.Grammar.{Reading, at_front}
 use Rattle.bites_spec.specs.Measure.{Limits, IsTooTall, height, open_in_choice, count_in_choice}
@@ -20,7 +20,7 @@ use Rattle.bites_spec.proofs.grammar.WholeRanks.{rank_once}
 
 -- the end of the reader
 abbrev ended : Result ReadChoice Stop → Result Tree Stop
-ended a = elim a [ Ok f ↦ Ok (choice_of f.branches) | Err e ↦ Err e ]
+ended a = elim a [ Ok f ↦ Ok (alternation_of f.branches) | Err e ↦ Err e ]
 
 -- the reader answers this tree, or stops at a limit that the reading passes
 pub data Leads (nest_limit : ℕ) {pattern : Text} {flags : Flags} {t : Tree} (r : Reading pattern flags t) (a : Result Tree Stop) : Type 0 where

@@ -3,7 +3,7 @@ use Rattle.std.proofs.Common.{◌≡◌, ℕ, ◌<◌, Bool, true, false, ◌==�
 use Rattle.std.specs.Prelude.{codes, if◌then◌else◌}
 use Rattle.std.proofs.lemmas.Bool.{cases_Bool, or_parts}
 use Rattle.bites_spec.specs.Class.{single}
-use Rattle.bites_spec.specs.Tree.{Tree, sequence_of, choice_of, repetition_of}
+use Rattle.bites_spec.specs.Tree.{Tree, sequence_of, alternation_of, repetition_of}
 use Rattle.bites_spec.specs.Pattern.{Text, Flags, Front, skip, next_is, one_of, bar, left_parenthesis, right_parenthesis}
 use Rattle.bites_spec.specs.Operator as operator
 use Rattle.bites_spec.specs.Operator.{ReadsOperator}
@@ -168,7 +168,7 @@ mutual
 
 -- a pattern has at most one tree
 pub reads_once : ReadsOnce
-reads_once pattern flags t u r s = r.is_choice ∙ ap choice_of (choice_once r.reads s.reads refl refl refl refl).0 ∙ sym s.is_choice
+reads_once pattern flags t u r s = r.is_choice ∙ ap alternation_of (choice_once r.reads s.reads refl refl refl refl).0 ∙ sym s.is_choice
 
 -- a pattern opens its groups in one way
 pub opened_once : OpenedOnce

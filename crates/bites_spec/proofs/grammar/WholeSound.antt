@@ -3,7 +3,7 @@ use Rattle.std.proofs.Common.{◌≡◌, ℕ, suc, ◌<◌, ◌≤◌, ◌⊎◌
 use Rattle.std.proofs.lemmas.Bool.{cases_lt}
 use Rattle.bites_spec.specs.Range.{Range}
 use Rattle.bites_spec.specs.Class.{Set, Lists}
-use Rattle.bites_spec.specs.Tree.{Tree, choice_of}
+use Rattle.bites_spec.specs.Tree.{Tree, alternation_of}
 use Rattle.bites_spec.specs.Pattern.{Text, Flags}
 use Rattle.bites_spec.specs.OperatorFault.{greatest_number}
 use Rattle.bites_spec.specs.Grammar.{Reading, at_front}
@@ -26,7 +26,7 @@ ReadSays pattern flags nest_limit (Ok t) = Within pattern flags nest_limit t
 ReadSays pattern flags nest_limit (Err e) = IsStuck pattern flags nest_limit e.message e.place
 
 whole : (pattern : Text) (flags : Flags) (nest_limit : ℕ) (a : Result ReadChoice Stop) → Says nest_limit 0 (at_front flags) [] [] pattern a →
-    ReadSays pattern flags nest_limit (elim a [ Ok f ↦ Ok (choice_of f.branches) | Err e ↦ Err e ])
+    ReadSays pattern flags nest_limit (elim a [ Ok f ↦ Ok (alternation_of f.branches) | Err e ↦ Err e ])
 whole pattern flags nest_limit (Ok f) found =
     let first : Choice nest_limit 0 (at_front flags) f.behind pattern f.rest found.added = adds_choice found.adds in
     let second : Choice nest_limit 0 (at_front flags) f.behind pattern f.rest f.branches =

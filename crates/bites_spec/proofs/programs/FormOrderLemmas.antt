@@ -12,63 +12,63 @@ use Rattle.bites_spec.specs.Program as program
 use Rattle.bites_spec.specs.Run.{Runs, write_of}
 use Rattle.bites_spec.specs.Built.{Fragment, One, Behind, Copies, Loop, Star, Bounded, CopiesUpTo, Repeated, class_state, HasForm, HasFormAll, HasFormEach, Built}
 use Rattle.bites_spec.proofs.parses.EventLemmas.{Event, opened, closed, writes_of}
-use Rattle.bites_spec.proofs.programs.OrderLemmas.{Trip, trip, stay, Tour, tour_of, prefix, behind, onward, Every, up_to, after_turns, wrap, turns, ways, ways_of_all, ways_of_one, nothing_before, onward-append, runs_within, AreRuns, EachAre, all_before, AreRuns-step, same_runs, Does, One-does, Behind-does, over, Advances, Star-does, Loop-does, Bounded-does, Copies-does, Every-append, Every-also}
-use Rattle.bites_spec.proofs.programs.WayLemmas.{ways_advance}
+use Rattle.bites_spec.proofs.programs.OrderLemmas.{TracedParse, traced, stay, Tour, tour_of, prefix, behind, onward, Every, up_to, after_turns, wrap, turns, traced_parses, traced_parses_of_all, traced_parses_of_one, nothing_before, onward-append, runs_within, AreRuns, EachAre, all_before, AreRuns-step, same_runs, Does, One-does, Behind-does, over, Advances, Star-does, Loop-does, Bounded-does, Copies-does, Every-append, Every-also}
+use Rattle.bites_spec.proofs.programs.TracedParses.{traced_parses_advance}
 
 not_true : (b : Bool) → not b ≡ true → b ≡ false
 not_true true e = absurd (true≢false (sym e))
 not_true false e = refl
 
-same_lists : (v w : ℕ → List Trip) → ((i : ℕ) → v i ≡ w i) → v ≡ w
+same_lists : (v w : ℕ → List TracedParse) → ((i : ℕ) → v i ≡ w i) → v ≡ w
 same_lists v w h = λ x. λ i. h i x
 
-nothing_prefix : (ts : List Trip) → map (prefix []) ts ≡ ts
+nothing_prefix : (ts : List TracedParse) → map (prefix []) ts ≡ ts
 nothing_prefix [] = refl
 nothing_prefix (t ∷ ts) = ap (λ us. t ∷ us) (nothing_prefix ts)
 
-behind-stay : (i : ℕ) (f : ℕ → List Trip) → behind (stay i ∷ []) f ≡ f i
+behind-stay : (i : ℕ) (f : ℕ → List TracedParse) → behind (stay i ∷ []) f ≡ f i
 unfolding behind
 behind-stay i f = append-nil (map (prefix []) (f i)) ∙ nothing_prefix (f i)
 
-behind_one : (i : ℕ) (es : List Event) (f : ℕ → List Trip) → behind (trip i es ∷ []) f ≡ map (prefix es) (f i)
+behind_one : (i : ℕ) (es : List Event) (f : ℕ → List TracedParse) → behind (traced i es ∷ []) f ≡ map (prefix es) (f i)
 unfolding behind
 behind_one i es f = append-nil (map (prefix es) (f i))
 
-behind_stays : (ts : List Trip) → behind ts (λ l. stay l ∷ []) ≡ ts
+behind_stays : (ts : List TracedParse) → behind ts (λ l. stay l ∷ []) ≡ ts
 unfolding behind
 behind_stays [] = refl
-behind_stays (t ∷ ts) = ap₂ {C = List Trip} (λ (es : List Event) (us : List Trip). trip t.end es ∷ us) (append-nil t.events) (behind_stays ts)
+behind_stays (t ∷ ts) = ap₂ {C = List TracedParse} (λ (es : List Event) (us : List TracedParse). traced t.end es ∷ us) (append-nil t.events) (behind_stays ts)
 
-after_turns-suc : (w u : ℕ → List Trip) (n i : ℕ) → after_turns n w (λ i. behind (w i) u) i ≡ after_turns (suc n) w u i
+after_turns-suc : (w u : ℕ → List TracedParse) (n i : ℕ) → after_turns n w (λ i. behind (w i) u) i ≡ after_turns (suc n) w u i
 unfolding after_turns
 after_turns-suc w u zero i = refl
 after_turns-suc w u (suc n) i = ap (behind (w i)) (same_lists (after_turns n w (λ i. behind (w i) u)) (after_turns (suc n) w u) (after_turns-suc w u n))
 
-wrapped : (k i : ℕ) (ts : List Trip) →
-    map (prefix (opened k i ∷ [])) (behind ts (λ l. trip l (closed k i l ∷ []) ∷ [])) ≡ map (wrap k i) ts
+wrapped : (k i : ℕ) (ts : List TracedParse) →
+    map (prefix (opened k i ∷ [])) (behind ts (λ l. traced l (closed k i l ∷ []) ∷ [])) ≡ map (wrap k i) ts
 unfolding behind
 wrapped k i [] = refl
 wrapped k i (t ∷ ts) = ap (λ us. wrap k i t ∷ us) (wrapped k i ts)
 
 module _ (p : Program) (hay : List ℕ) where
-  Does-same : (part : Fragment) (v w : ℕ → List Trip) → ((i : ℕ) → v i ≡ w i) → Does p hay part v → Does p hay part w
+  Does-same : (part : Fragment) (v w : ℕ → List TracedParse) → ((i : ℕ) → v i ≡ w i) → Does p hay part v → Does p hay part w
   Does-same part v w h does = subst (λ u. Does p hay part u) (same_lists v w h) does
 
   goto_does : Does p hay (One p.states (λ to. program.goto to None)) (λ i. stay i ∷ [])
   goto_does = One-does p hay (λ to. program.goto to None) (λ i. true) (λ i. i) (λ i. []) (λ to. refl) (λ to i. refl) (λ to i. refl)
 
-  after_turns-zero : (w u : ℕ → List Trip) (i : ℕ) → u i ≡ after_turns zero w u i
+  after_turns-zero : (w u : ℕ → List TracedParse) (i : ℕ) → u i ≡ after_turns zero w u i
   unfolding after_turns
   after_turns-zero w u i = refl
 
-  up_to-zero : (greedy : Bool) (w : ℕ → List Trip) (i : ℕ) → stay i ∷ [] ≡ up_to 0 greedy w i
+  up_to-zero : (greedy : Bool) (w : ℕ → List TracedParse) (i : ℕ) → stay i ∷ [] ≡ up_to 0 greedy w i
   unfolding up_to
   up_to-zero greedy w i = refl
 
   minus_zero : (n : ℕ) → n ≡ n - 0
   minus_zero n = omega arith
 
-  module _ (greedy : Bool) (body : Fragment) (w : ℕ → List Trip) (does : Does p hay body w) where
+  module _ (greedy : Bool) (body : Fragment) (w : ℕ → List TracedParse) (does : Does p hay body w) where
     CopiesUpTo-does : (n more : ℕ) → Does p hay (CopiesUpTo p.states n more greedy body) (after_turns (suc n) w (up_to more greedy w))
     CopiesUpTo-does n zero =
         Does-same (Copies p.states n body body) _ (after_turns (suc n) w (up_to 0 greedy w)) (after_turns-suc w (up_to 0 greedy w) n)
@@ -122,19 +122,19 @@ module _ (p : Program) (hay : List ℕ) where
   class_no_write [] to i = refl
   class_no_write (r ∷ rs) to i = refl
 
-  pub group-does : (k : ℕ) (name : Option (List ℕ)) (t : Tree) (w : ℕ → List Trip) → Does p hay (HasForm p.states t) w →
+  pub group-does : (k : ℕ) (name : Option (List ℕ)) (t : Tree) (w : ℕ → List TracedParse) → Does p hay (HasForm p.states t) w →
       Does p hay (HasForm p.states (group k name t)) (λ i. map (wrap k i) (w i))
   group-does k name t w does from to used h i run each =
-      let inside = λ (b : ℕ). Behind-does p hay (HasForm p.states t) (One p.states (λ to. program.capture to (2 * k + 1))) w (λ l. trip l (closed k b l ∷ []) ∷ []) does
+      let inside = λ (b : ℕ). Behind-does p hay (HasForm p.states t) (One p.states (λ to. program.capture to (2 * k + 1))) w (λ l. traced l (closed k b l ∷ []) ∷ []) does
       (One-does p hay (λ to. program.capture to (2 * k + 1)) (λ i. true) (λ i. i) (λ l. closed k b l ∷ []) (λ to. refl) (λ to i. refl) (λ to i. refl)) in
       let all = Behind-does p hay (One p.states (λ to. program.capture to (2 * k)))
       (Behind p.states (HasForm p.states t) (One p.states (λ to. program.capture to (2 * k + 1))))
-      (λ i. trip i (opened k i ∷ []) ∷ []) (λ l. behind (w l) (λ l. trip l (closed k i l ∷ []) ∷ []))
+      (λ i. traced i (opened k i ∷ []) ∷ []) (λ l. behind (w l) (λ l. traced l (closed k i l ∷ []) ∷ []))
       (One-does p hay (λ to. program.capture to (2 * k)) (λ i. true) (λ i. i) (λ i. opened k i ∷ []) (λ to. refl) (λ to i. refl) (λ to i. refl)) (inside i) in
-      let same : behind (trip i (opened k i ∷ []) ∷ []) (λ l. behind (w l) (λ l. trip l (closed k i l ∷ []) ∷ [])) ≡ map (wrap k i) (w i) =
-      behind_one i (opened k i ∷ []) (λ l. behind (w l) (λ l. trip l (closed k i l ∷ []) ∷ [])) ∙ wrapped k i (w i) in
-      subst (λ (ts : List Trip). AreRuns p hay (at from i) (onward ts run)) same
-      (all from to used h i run (subst (λ (ts : List Trip). Every (λ t. AreRuns p hay (at to t.end) (run t.end)) ts) (sym same) each))
+      let same : behind (traced i (opened k i ∷ []) ∷ []) (λ l. behind (w l) (λ l. traced l (closed k i l ∷ []) ∷ [])) ≡ map (wrap k i) (w i) =
+      behind_one i (opened k i ∷ []) (λ l. behind (w l) (λ l. traced l (closed k i l ∷ []) ∷ [])) ∙ wrapped k i (w i) in
+      subst (λ (ts : List TracedParse). AreRuns p hay (at from i) (onward ts run)) same
+      (all from to used h i run (subst (λ (ts : List TracedParse). Every (λ t. AreRuns p hay (at to t.end) (run t.end)) ts) (sym same) each))
 
   -- the runs from each of several configurations
   record Branches (ts : List Configuration) (all : List Tour) : Type 0 where
@@ -143,10 +143,10 @@ module _ (p : Program) (hay : List ℕ) where
     same : all_before p hay [] each ≡ all
 
   mutual
-    unfolding ways onward
+    unfolding traced_parses onward
 
     -- What a part of a plain tree's program does are the listed ways of the tree.
-    pub HasForm-does : (t : Tree) → IsReduced t → is_plain t ≡ true → Does p hay (HasForm p.states t) (ways hay t)
+    pub HasForm-does : (t : Tree) → IsReduced t → is_plain t ≡ true → Does p hay (HasForm p.states t) (traced_parses hay t)
     HasForm-does empty reduced plain = goto_does
     HasForm-does (char c) reduced plain =
         One-does p hay (λ to. program.char to c) (λ i. nat_lt 0 (piece hay i).len && (character (piece hay i) == c)) (λ i. i + (piece hay i).len) (λ i. [])
@@ -158,40 +158,40 @@ module _ (p : Program) (hay : List ℕ) where
         One-does p hay (λ to. program.goto to (Some l)) (λ i. holds l hay i) (λ i. i) (λ i. []) (λ to. refl) (looks l) (λ to i. refl)
     HasForm-does (repetition min most greedy t) reduced plain =
         let both = and_parts (is_some most || not (is_nullable t)) (is_plain t) plain in
-        Repeated-does greedy (HasForm p.states t) (ways hay t) (HasForm-does t reduced.1 both.1) min most (is_nullable t) reduced.0 both.0
-        (λ e i. ways_advance hay t reduced.1 e i)
-    HasForm-does (group k name t) reduced plain = group-does k name t (ways hay t) (HasForm-does t reduced.1 plain)
+        Repeated-does greedy (HasForm p.states t) (traced_parses hay t) (HasForm-does t reduced.1 both.1) min most (is_nullable t) reduced.0 both.0
+        (λ e i. traced_parses_advance hay t reduced.1 e i)
+    HasForm-does (group k name t) reduced plain = group-does k name t (traced_parses hay t) (HasForm-does t reduced.1 plain)
     HasForm-does (sequence ts) reduced plain = HasFormAll-does ts reduced.1 plain
     HasForm-does (alternation ts) reduced plain = λ from to used h i k each.
         let b = HasFormEach-does ts reduced.1 plain h.1 h.0 h.2 h.4 i k
-        (Every-also _ _ (ways_of_one hay ts i) (λ t ready. over p hay h.0 to t.end (k t.end) h.5 ready) each) in
+        (Every-also _ _ (traced_parses_of_one hay ts i) (λ t ready. over p hay h.0 to t.end (k t.end) h.5 ready) each) in
         same_runs p hay (at from i) _ _ b.same (AreRuns-step p hay (at from i) (program.splits h.1 false) b.each h.3 refl b.are)
 
-    HasFormAll-does : (ts : Trees) → AllAreReduced ts → all_are_plain ts ≡ true → Does p hay (HasFormAll p.states ts) (ways_of_all hay ts)
+    HasFormAll-does : (ts : Trees) → AllAreReduced ts → all_are_plain ts ≡ true → Does p hay (HasFormAll p.states ts) (traced_parses_of_all hay ts)
     HasFormAll-does no_tree reduced plain = λ from to used h i k each.
         same_runs p hay (at from i) _ _ (sym (append-nil _ ∙ nothing_before (k i)))
         (subst (λ q. AreRuns p hay (at q i) (k i)) (sym h.0) each.0)
     HasFormAll-does (tree_and t ts) reduced plain =
         let both = and_parts (is_plain t) (all_are_plain ts) plain in
-        Behind-does p hay (HasForm p.states t) (HasFormAll p.states ts) (ways hay t) (ways_of_all hay ts)
+        Behind-does p hay (HasForm p.states t) (HasFormAll p.states ts) (traced_parses hay t) (traced_parses_of_all hay ts)
         (HasForm-does t reduced.0 both.0) (HasFormAll-does ts reduced.1 both.1)
 
     HasFormEach-does : (ts : Trees) → AllAreReduced ts → all_are_plain ts ≡ true → (rounds : List ℕ) (out : ℕ) (used : List ℕ) →
         HasFormEach p.states ts rounds out used → (i : ℕ) (k : ℕ → List Tour) →
-        Every (λ t. AreRuns p hay (at out t.end) (k t.end)) (ways_of_one hay ts i) →
-        Branches (map (λ q. at q i) rounds) (onward (ways_of_one hay ts i) k)
+        Every (λ t. AreRuns p hay (at out t.end) (k t.end)) (traced_parses_of_one hay ts i) →
+        Branches (map (λ q. at q i) rounds) (onward (traced_parses_of_one hay ts i) k)
     HasFormEach-does no_tree reduced plain [] out used h i k each = record { each = []; are = tt; same = refl }
     HasFormEach-does no_tree reduced plain (q ∷ rounds) out used h i k each = absurd h
     HasFormEach-does (tree_and t ts) reduced plain [] out used h i k each = absurd h
     HasFormEach-does (tree_and t ts) reduced plain (q ∷ rounds) out used (a, b, one, more, e) i k each =
         let both = and_parts (is_plain t) (all_are_plain ts) plain in
-        let parts = Every-append (λ t. AreRuns p hay (at out t.end) (k t.end)) (ways hay t i) (ways_of_one hay ts i) each in
+        let parts = Every-append (λ t. AreRuns p hay (at out t.end) (k t.end)) (traced_parses hay t i) (traced_parses_of_one hay ts i) each in
         let first = HasForm-does t reduced.0 both.0 q out a one i k parts.0 in
         let rest = HasFormEach-does ts reduced.1 both.1 rounds out b more i k parts.1 in
         record {
-          each = onward (ways hay t i) k ∷ rest.each;
+          each = onward (traced_parses hay t i) k ∷ rest.each;
           are = (first, rest.are);
-          same = ap₂ ◌++◌ (nothing_before (onward (ways hay t i) k)) rest.same ∙ sym (onward-append (ways hay t i) (ways_of_one hay ts i) k);
+          same = ap₂ ◌++◌ (nothing_before (onward (traced_parses hay t i) k)) rest.same ∙ sym (onward-append (traced_parses hay t i) (traced_parses_of_one hay ts i) k);
         }
 
   -- at the match one run ends
@@ -207,7 +207,7 @@ module _ (p : Program) (hay : List ℕ) where
   match_runs : (q i : ℕ) → state_at p.states q ≡ program.match → AreRuns p hay (at q i) (record { end = i; writes = [] } ∷ [])
   match_runs q i is = record { bound = 1; are = match_runs_are q i is; short = match_runs_short q i is }
 
-  onward_ended : (ts : List Trip) → onward ts (λ l. record { end = l; writes = [] } ∷ []) ≡ map tour_of ts
+  onward_ended : (ts : List TracedParse) → onward ts (λ l. record { end = l; writes = [] } ∷ []) ≡ map tour_of ts
   unfolding onward
   onward_ended [] = refl
   onward_ended (t ∷ ts) =
@@ -219,8 +219,8 @@ module _ (p : Program) (hay : List ℕ) where
 
   -- All runs of a plain tree's program from a place, in order, are its listed ways, in order, and none is longer than a bound.
   pub all_runs : (t : Tree) → IsReduced t → is_plain t ≡ true → (built : Built t p) → (i : ℕ) →
-      AreRuns p hay (at p.start i) (map tour_of (map (wrap 0 i) (ways hay t i)))
+      AreRuns p hay (at p.start i) (map tour_of (map (wrap 0 i) (traced_parses hay t i)))
   all_runs t reduced plain built i =
-      same_runs p hay (at p.start i) _ _ (onward_ended (map (wrap 0 i) (ways hay t i)))
-      (group-does 0 None t (ways hay t) (HasForm-does t reduced plain) p.start built.last built.used built.form i (λ l. record { end = l; writes = [] } ∷ [])
-      (every (λ t. AreRuns p hay (at built.last t.end) (record { end = t.end; writes = [] } ∷ [])) (map (wrap 0 i) (ways hay t i)) (λ t. match_runs built.last t.end built.ends)))
+      same_runs p hay (at p.start i) _ _ (onward_ended (map (wrap 0 i) (traced_parses hay t i)))
+      (group-does 0 None t (traced_parses hay t) (HasForm-does t reduced plain) p.start built.last built.used built.form i (λ l. record { end = l; writes = [] } ∷ [])
+      (every (λ t. AreRuns p hay (at built.last t.end) (record { end = t.end; writes = [] } ∷ [])) (map (wrap 0 i) (traced_parses hay t i)) (λ t. match_runs built.last t.end built.ends)))

@@ -6,16 +6,16 @@ use Rattle.std.proofs.lemmas.Bool.{cases_Bool}
 use Rattle.bites_spec.specs.Walks.{Before}
 use Rattle.bites_spec.specs.Tree.{Tree, is_plain}
 use Rattle.bites_spec.specs.Match.{Span, Mark, Matches, Parse, groups}
-use Rattle.bites_spec.specs.Preference.{Way, parses}
+use Rattle.bites_spec.specs.Preference.{ParseTo, parses}
 use Rattle.bites_spec.specs.Program.{Program, Configuration, at, IsWellFormed}
 use Rattle.bites_spec.specs.Run.{Run, run, writes, leads, IsRun, IsSimple, NoRun, StartsFirst, FirstRun, LeastEnd, LongestRun, first_run}
 use Rattle.bites_spec.specs.Built.{Built, IsCompilable}
-use Rattle.bites_spec.specs.Found.{NoMatch, IsFirstPlace, FoundSome, Found, FoundLongest, IsLeastEnd, head_of, first_ending, way}
+use Rattle.bites_spec.specs.Found.{NoMatch, IsFirstPlace, FoundSome, Found, FoundLongest, IsLeastEnd, head_of, first_ending, parse_to}
 use Rattle.bites_spec.specs.Slots.{HasGroups, answer_of, span_between}
 use Rattle.bites_spec.specs.RunLaws.{Group0IsSpan}
 use Rattle.bites_spec.proofs.parses.EventLemmas.{Event, opened, closed, writes_of, marks_of, Steps, Steps-Parse}
-use Rattle.bites_spec.proofs.programs.OrderLemmas.{Trip, Tour, tour_of, wrap, ways, Every}
-use Rattle.bites_spec.proofs.programs.WayLemmas.{ways_are, way_of, ways-parses}
+use Rattle.bites_spec.proofs.programs.OrderLemmas.{TracedParse, Tour, tour_of, wrap, traced_parses, Every}
+use Rattle.bites_spec.proofs.programs.TracedParses.{traced_parses_are, parse_of, traced_parses-parses}
 use Rattle.bites_spec.proofs.programs.FormOrderLemmas.{all_runs}
 use Rattle.bites_spec.proofs.programs.PlainLemmas.{pick, tour, first_is_head, ends_at, simple}
 use Rattle.bites_spec.proofs.programs.BuiltLemmas.{run_is_parse, run_is_match, match_is_run, has_groups, whole}
@@ -26,43 +26,43 @@ span_between-ends None a b e f = ap₂ span_between e f
 span_between-ends (Some s) a b e f = ap₂ span_between e f
 
 -- the first parse of the list whose end passes the test
-abbrev pick_way : (ℕ → Bool) → List Way → Option Way
-pick_way ok [] = None
-pick_way ok (w ∷ ws) = if ok w.end then Some w else pick_way ok ws
+abbrev pick_parse : (ℕ → Bool) → List ParseTo → Option ParseTo
+pick_parse ok [] = None
+pick_parse ok (w ∷ ws) = if ok w.end then Some w else pick_parse ok ws
 
-pick_head : (ws : List Way) → pick_way (λ j. true) ws ≡ head_of ws
+pick_head : (ws : List ParseTo) → pick_parse (λ j. true) ws ≡ head_of ws
 pick_head [] = refl
 pick_head (w ∷ ws) = refl
 
-pick_ending : (j : ℕ) (ws : List Way) → pick_way (λ k. k == j) ws ≡ first_ending j ws
+pick_ending : (j : ℕ) (ws : List ParseTo) → pick_parse (λ k. k == j) ws ≡ first_ending j ws
 pick_ending j [] = refl
 pick_ending j (w ∷ ws) = ap (λ o. if w.end == j then Some w else o) (pick_ending j ws)
 
 -- the listed way that a picked tour is
-pub record Picked (ok : ℕ → Bool) (hay : List ℕ) (t : Tree) (i : ℕ) (ws : List Trip) (o : Tour) : Type 0 where
-  pub way : Trip
-  pub steps : Steps hay t i way.end way.events
-  pub same : tour_of (wrap 0 i way) ≡ o
-  pub first : pick_way ok (map (way_of hay) ws) ≡ Some (way_of hay way)
+pub record Picked (ok : ℕ → Bool) (hay : List ℕ) (t : Tree) (i : ℕ) (ws : List TracedParse) (o : Tour) : Type 0 where
+  pub parse_to : TracedParse
+  pub steps : Steps hay t i parse_to.end parse_to.events
+  pub same : tour_of (wrap 0 i parse_to) ≡ o
+  pub first : pick_parse ok (map (parse_of hay) ws) ≡ Some (parse_of hay parse_to)
 
-pick_ways : (ok : ℕ → Bool) (hay : List ℕ) (t : Tree) (i : ℕ) (ws : List Trip) (o : Tour) → Every (λ w. Steps hay t i w.end w.events) ws →
+pick_parses : (ok : ℕ → Bool) (hay : List ℕ) (t : Tree) (i : ℕ) (ws : List TracedParse) (o : Tour) → Every (λ w. Steps hay t i w.end w.events) ws →
     pick ok (map tour_of (map (wrap 0 i) ws)) ≡ Some o → Picked ok hay t i ws o
-pick_ways ok hay t i [] o are e = absurd (none-some o e)
-pick_ways ok hay t i (w ∷ ws) o are e =
+pick_parses ok hay t i [] o are e = absurd (none-some o e)
+pick_parses ok hay t i (w ∷ ws) o are e =
     ⊎_elim
     (λ (b : ok w.end ≡ true). record {
-      way = w;
+      parse_to = w;
       steps = are.0;
       same = same_Some _ _ (sym (ap (λ c. cond c (Some (tour_of (wrap 0 i w))) (pick ok (map tour_of (map (wrap 0 i) ws)))) b) ∙ e);
-      first = ap (λ c. cond c (Some (way_of hay w)) (pick_way ok (map (way_of hay) ws))) b;
+      first = ap (λ c. cond c (Some (parse_of hay w)) (pick_parse ok (map (parse_of hay) ws))) b;
     })
     (λ (b : ok w.end ≡ false).
-    let m = pick_ways ok hay t i ws o are.1 (sym (ap (λ c. cond c (Some (tour_of (wrap 0 i w))) (pick ok (map tour_of (map (wrap 0 i) ws)))) b) ∙ e) in
+    let m = pick_parses ok hay t i ws o are.1 (sym (ap (λ c. cond c (Some (tour_of (wrap 0 i w))) (pick ok (map tour_of (map (wrap 0 i) ws)))) b) ∙ e) in
     record {
-      way = m.way;
+      parse_to = m.parse_to;
       steps = m.steps;
       same = m.same;
-      first = ap (λ c. cond c (Some (way_of hay w)) (pick_way ok (map (way_of hay) ws))) b ∙ m.first;
+      first = ap (λ c. cond c (Some (parse_of hay w)) (pick_parse ok (map (parse_of hay) ws))) b ∙ m.first;
     })
     (cases_Bool (ok w.end))
 
@@ -91,19 +91,19 @@ module _ (t : Tree) (p : Program) (hay : List ℕ) (fit : IsCompilable t) (built
     pub marks : List Mark
     pub parse : Parse hay t r.start r.end marks
     pub has : HasGroups p r marks
-    pub first : pick_way ok (parses hay t r.start) ≡ Some (way r.end marks)
+    pub first : pick_parse ok (parses hay t r.start) ≡ Some (parse_to r.end marks)
 
   preferred : (ok : ℕ → Bool) (r : Run) → is_plain t ≡ true → IsRun p hay r.start r.configurations r.end → ok r.end ≡ true →
       ((o : List Configuration) (k : ℕ) → IsRun p hay r.start o k → IsSimple p hay r.start o → ok k ≡ true →
       (o ≡ r.configurations) ⊎ Before (leads p hay) (at p.start r.start) r.configurations o) → Preferred ok r
   preferred ok r plain runs counts first =
-      at_ways (pick_ways ok hay t r.start (ways hay t r.start) (tour p hay (at p.start r.start) r.configurations) (ways_are hay t fit.reduced r.start)
-      (first_is_head p hay ok (at p.start r.start) (map tour_of (map (wrap 0 r.start) (ways hay t r.start))) r.configurations r.end
+      at_parses (pick_parses ok hay t r.start (traced_parses hay t r.start) (tour p hay (at p.start r.start) r.configurations) (traced_parses_are hay t fit.reduced r.start)
+      (first_is_head p hay ok (at p.start r.start) (map tour_of (map (wrap 0 r.start) (traced_parses hay t r.start))) r.configurations r.end
       (all_runs p hay t fit.reduced plain built r.start) runs counts first))
     where
-      at_ways : Picked ok hay t r.start (ways hay t r.start) (tour p hay (at p.start r.start) r.configurations) → Preferred ok r
-      at_ways x =
-          let w = x.way in
+      at_parses : Picked ok hay t r.start (traced_parses hay t r.start) (tour p hay (at p.start r.start) r.configurations) → Preferred ok r
+      at_parses x =
+          let w = x.parse_to in
           let end : w.end ≡ r.end = ap (λ x. x.end) x.same ∙ ends_at p hay (at p.start r.start) r.configurations r.end runs in
           record {
             marks = marks_of w.events;
@@ -111,7 +111,7 @@ module _ (t : Tree) (p : Program) (hay : List ℕ) (fit : IsCompilable t) (built
             has = subst (λ j. HasGroups p (run r.start r.configurations j) (marks_of w.events)) end
                 (has_groups t p hay fit built r.start w.end r.configurations w.events x.steps
                 (unfold_whole t p hay fit built r.start w.end w.events (writes p (at p.start r.start) r.configurations) (sym (ap (λ x. x.writes) x.same))));
-            first = ap (pick_way ok) (sym (ways-parses hay t r.start)) ∙ x.first ∙ ap (λ j. Some (way j (marks_of w.events))) end;
+            first = ap (pick_parse ok) (sym (traced_parses-parses hay t r.start)) ∙ x.first ∙ ap (λ j. Some (parse_to j (marks_of w.events))) end;
           }
 
   -- What `FirstRun` says of the program, `Found` says of the tree.

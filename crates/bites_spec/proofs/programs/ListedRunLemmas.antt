@@ -9,7 +9,7 @@ use Rattle.bites_spec.specs.Look.{Look, holds}
 use Rattle.bites_spec.specs.Range.{in_ranges}
 use Rattle.bites_spec.specs.Walks.{Among, AllApart, AreOrdered, Earlier, Walk, Before, last_of}
 use Rattle.bites_spec.specs.Tree.{Tree}
-use Rattle.bites_spec.specs.Preference.{Way}
+use Rattle.bites_spec.specs.Preference.{ParseTo}
 use Rattle.bites_spec.specs.Program.{State, Program, Configuration, at, state_at, edges, taking, looking, targets_of, is_match}
 use Rattle.bites_spec.specs.Program as program
 use Rattle.bites_spec.specs.Run.{Run, run, leads, matches, Runs, IsRun, AreAllRuns, writes, write_of}
@@ -18,8 +18,8 @@ use Rattle.bites_spec.specs.Slots.{HasGroups, Correspond}
 use Rattle.bites_spec.specs.RunLaws.{RunsAreParsesInOrder}
 use Rattle.bites_spec.proofs.runs.RunLemmas.{match_ends}
 use Rattle.bites_spec.proofs.parses.EventLemmas.{marks_of, Steps}
-use Rattle.bites_spec.proofs.programs.OrderLemmas.{Trip, Tour, before, tour_of, wrap, ways, Every, runs_within, map-append}
-use Rattle.bites_spec.proofs.programs.WayLemmas.{ways_are, way_of, ways-parses}
+use Rattle.bites_spec.proofs.programs.OrderLemmas.{TracedParse, Tour, before, tour_of, wrap, traced_parses, Every, runs_within, map-append}
+use Rattle.bites_spec.proofs.programs.TracedParses.{traced_parses_are, parse_of, traced_parses-parses}
 use Rattle.bites_spec.proofs.programs.FormOrderLemmas.{all_runs}
 use Rattle.bites_spec.proofs.programs.PlainLemmas.{tour, ends_at}
 use Rattle.bites_spec.proofs.programs.BuiltLemmas.{Among-append, has_groups}
@@ -317,8 +317,8 @@ module _ (t : Tree) (p : Program) (hay : List ℕ) (fit : IsCompilable t) (built
     }
 
     -- each walk and the listed way that it is
-    correspond : (rs : List (List Configuration)) (ts : List Trip) → Every (λ w. Steps hay t i w.end w.events) ts →
-        map (tour p hay first) rs ≡ map tour_of (map (wrap 0 i) ts) → Correspond p (map run_along rs) (map (way_of hay) ts)
+    correspond : (rs : List (List Configuration)) (ts : List TracedParse) → Every (λ w. Steps hay t i w.end w.events) ts →
+        map (tour p hay first) rs ≡ map tour_of (map (wrap 0 i) ts) → Correspond p (map run_along rs) (map (parse_of hay) ts)
     correspond [] [] are e = tt
     correspond [] (w ∷ ts) are e = none_some (map tour_of (map (wrap 0 i) ts)) (tour_of (wrap 0 i w)) e
       where
@@ -347,7 +347,7 @@ runs_are_parses_in_order t p hay fit built plain i =
     let walks = walks_within p hay are.bound (at p.start i) in (
       map (run_along t p hay fit built i) walks,
       are_all_runs t p hay fit built i are.bound are.short,
-      subst (λ (ws : List Way). Correspond p (map (run_along t p hay fit built i) walks) ws) (ways-parses hay t i)
-          (correspond t p hay fit built i walks (ways hay t i) (ways_are hay t fit.reduced i)
+      subst (λ (ws : List ParseTo). Correspond p (map (run_along t p hay fit built i) walks) ws) (traced_parses-parses hay t i)
+          (correspond t p hay fit built i walks (traced_parses hay t i) (traced_parses_are hay t fit.reduced i)
           (tours_within p hay are.bound (at p.start i) ∙ are.are are.bound (omega arith))),
     )

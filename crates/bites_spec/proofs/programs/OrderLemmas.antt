@@ -13,37 +13,37 @@ use Rattle.bites_spec.specs.Built.{Fragment, One, Behind, Copies, Options, Loop,
 use Rattle.bites_spec.proofs.parses.EventLemmas.{Event, opened, closed, writes_of, writes_of-append}
 
 -- where a way ends, and its events
-pub record Trip : Type 0 where
+pub record TracedParse : Type 0 where
   pub end : ℕ
   pub events : List Event
 
-abbrev pub trip : ℕ → List Event → Trip
-trip l es = record { end = l; events = es }
+abbrev pub traced : ℕ → List Event → TracedParse
+traced l es = record { end = l; events = es }
 
-abbrev pub stay : ℕ → Trip
-stay i = trip i []
+abbrev pub stay : ℕ → TracedParse
+stay i = traced i []
 
 -- where a run ends, and what it writes
 pub record Tour : Type 0 where
   pub end : ℕ
   pub writes : List (ℕ × ℕ)
 
-abbrev pub tour_of : Trip → Tour
+abbrev pub tour_of : TracedParse → Tour
 tour_of t = record { end = t.end; writes = writes_of t.events }
 
-abbrev pub prefix : List Event → Trip → Trip
-prefix es t = trip t.end (es ++ t.events)
+abbrev pub prefix : List Event → TracedParse → TracedParse
+prefix es t = traced t.end (es ++ t.events)
 
 abbrev pub before : List (ℕ × ℕ) → Tour → Tour
 before ws t = record { end = t.end; writes = ws ++ t.writes }
 
 -- each first trip, and behind it each that follows from its end
-unfoldable pub behind : List Trip → (ℕ → List Trip) → List Trip
+unfoldable pub behind : List TracedParse → (ℕ → List TracedParse) → List TracedParse
 behind [] f = []
 behind (t ∷ ts) f = map (prefix t.events) (f t.end) ++ behind ts f
 
 -- each trip, and behind it each tour from its end
-unfoldable pub onward : List Trip → (ℕ → List Tour) → List Tour
+unfoldable pub onward : List TracedParse → (ℕ → List Tour) → List Tour
 onward [] k = []
 onward (t ∷ ts) k = map (before (writes_of t.events)) (k t.end) ++ onward ts k
 
@@ -81,28 +81,28 @@ pub nothing_before : (ts : List Tour) → map (before []) ts ≡ ts
 nothing_before [] = refl
 nothing_before (t ∷ ts) = ap (λ us. t ∷ us) (nothing_before ts)
 
-pub onward-append : (xs ys : List Trip) (k : ℕ → List Tour) → onward (xs ++ ys) k ≡ onward xs k ++ onward ys k
+pub onward-append : (xs ys : List TracedParse) (k : ℕ → List Tour) → onward (xs ++ ys) k ≡ onward xs k ++ onward ys k
 unfolding onward
 onward-append [] ys k = refl
 onward-append (x ∷ xs) ys k =
     ap (λ ts. map (before (writes_of x.events)) (k x.end) ++ ts) (onward-append xs ys k)
     ∙ sym (append_assoc (map (before (writes_of x.events)) (k x.end)) _ _)
 
-onward-map : (es : List Event) (ts : List Trip) (k : ℕ → List Tour) → onward (map (prefix es) ts) k ≡ map (before (writes_of es)) (onward ts k)
+onward-map : (es : List Event) (ts : List TracedParse) (k : ℕ → List Tour) → onward (map (prefix es) ts) k ≡ map (before (writes_of es)) (onward ts k)
 unfolding onward
 onward-map es [] k = refl
 onward-map es (t ∷ ts) k =
     ap₂ ◌++◌ (tours_twice es t.events (k t.end)) (onward-map es ts k)
     ∙ sym (map-append (before (writes_of es)) (map (before (writes_of t.events)) (k t.end)) (onward ts k))
 
-pub onward_twice : (ts : List Trip) (f : ℕ → List Trip) (k : ℕ → List Tour) → onward (behind ts f) k ≡ onward ts (λ l. onward (f l) k)
+pub onward_twice : (ts : List TracedParse) (f : ℕ → List TracedParse) (k : ℕ → List Tour) → onward (behind ts f) k ≡ onward ts (λ l. onward (f l) k)
 unfolding onward behind
 onward_twice [] f k = refl
 onward_twice (t ∷ ts) f k =
     onward-append (map (prefix t.events) (f t.end)) (behind ts f) k
     ∙ ap₂ ◌++◌ (onward-map t.events (f t.end) k) (onward_twice ts f k)
 
-pub Every-behind : (P : ℕ → Type 0) (ts : List Trip) (f : ℕ → List Trip) → Every (λ t. P t.end) (behind ts f) →
+pub Every-behind : (P : ℕ → Type 0) (ts : List TracedParse) (f : ℕ → List TracedParse) → Every (λ t. P t.end) (behind ts f) →
     Every (λ t. Every (λ u. P u.end) (f t.end)) ts
 unfolding behind
 Every-behind P [] f h = tt
@@ -111,45 +111,45 @@ Every-behind P (t ∷ ts) f h =
     (Every-map (λ u. P u.end) (prefix t.events) (f t.end) r.0, Every-behind P ts f r.1)
 
 -- up to n turns of the body, one more being preferred or not
-unfoldable pub up_to : ℕ → Bool → (ℕ → List Trip) → ℕ → List Trip
+unfoldable pub up_to : ℕ → Bool → (ℕ → List TracedParse) → ℕ → List TracedParse
 up_to zero greedy body i = stay i ∷ []
 up_to (suc n) greedy body i = if greedy then behind (body i) (up_to n greedy body) ++ stay i ∷ [] else stay i ∷ behind (body i) (up_to n greedy body)
 
 -- n turns of the body, and then the rest
-unfoldable pub after_turns : ℕ → (ℕ → List Trip) → (ℕ → List Trip) → ℕ → List Trip
+unfoldable pub after_turns : ℕ → (ℕ → List TracedParse) → (ℕ → List TracedParse) → ℕ → List TracedParse
 after_turns zero body rest i = rest i
 after_turns (suc n) body rest i = behind (body i) (after_turns n body rest)
 
-abbrev pub wrap : ℕ → ℕ → Trip → Trip
-wrap k i t = trip t.end (opened k i ∷ (t.events ++ closed k i t.end ∷ []))
+abbrev pub wrap : ℕ → ℕ → TracedParse → TracedParse
+wrap k i t = traced t.end (opened k i ∷ (t.events ++ closed k i t.end ∷ []))
 
 module _ (hay : List ℕ) where
-  abbrev pub taken : (ℕ → Bool) → ℕ → List Trip
+  abbrev pub taken : (ℕ → Bool) → ℕ → List TracedParse
   taken test i = if nat_lt 0 (piece hay i).len && test (character (piece hay i)) then stay (i + (piece hay i).len) ∷ [] else []
 
-  abbrev pub turns : ℕ → Option ℕ → Bool → (ℕ → List Trip) → ℕ → List Trip
+  abbrev pub turns : ℕ → Option ℕ → Bool → (ℕ → List TracedParse) → ℕ → List TracedParse
   turns min None greedy body = after_turns min body (up_to (length hay) greedy body)
   turns min (Some most) greedy body = after_turns min body (up_to (most - min) greedy body)
 
   unfoldable mutual
     -- the ways of `parses`, with their events
-    pub ways : Tree → ℕ → List Trip
-    ways empty i = stay i ∷ []
-    ways (char c) i = taken (λ d. d == c) i
-    ways (class rs) i = taken (in_ranges rs) i
-    ways (look l) i = if holds l hay i then stay i ∷ [] else []
-    ways (repetition min most greedy t) i = turns min most greedy (ways t) i
-    ways (group k name t) i = map (wrap k i) (ways t i)
-    ways (sequence ts) i = ways_of_all ts i
-    ways (alternation ts) i = ways_of_one ts i
+    pub traced_parses : Tree → ℕ → List TracedParse
+    traced_parses empty i = stay i ∷ []
+    traced_parses (char c) i = taken (λ d. d == c) i
+    traced_parses (class rs) i = taken (in_ranges rs) i
+    traced_parses (look l) i = if holds l hay i then stay i ∷ [] else []
+    traced_parses (repetition min most greedy t) i = turns min most greedy (traced_parses t) i
+    traced_parses (group k name t) i = map (wrap k i) (traced_parses t i)
+    traced_parses (sequence ts) i = traced_parses_of_all ts i
+    traced_parses (alternation ts) i = traced_parses_of_one ts i
 
-    pub ways_of_all : Trees → ℕ → List Trip
-    ways_of_all no_tree i = stay i ∷ []
-    ways_of_all (tree_and t ts) i = behind (ways t i) (ways_of_all ts)
+    pub traced_parses_of_all : Trees → ℕ → List TracedParse
+    traced_parses_of_all no_tree i = stay i ∷ []
+    traced_parses_of_all (tree_and t ts) i = behind (traced_parses t i) (traced_parses_of_all ts)
 
-    pub ways_of_one : Trees → ℕ → List Trip
-    ways_of_one no_tree i = []
-    ways_of_one (tree_and t ts) i = ways t i ++ ways_of_one ts i
+    pub traced_parses_of_one : Trees → ℕ → List TracedParse
+    traced_parses_of_one no_tree i = []
+    traced_parses_of_one (tree_and t ts) i = traced_parses t i ++ traced_parses_of_one ts i
 
 module _ (p : Program) (hay : List ℕ) where
   abbrev writes_at : Configuration → List (ℕ × ℕ)
@@ -220,14 +220,14 @@ module _ (p : Program) (hay : List ℕ) where
   same_runs s a b e h = subst (AreRuns s) e h
 
   -- The runs from where the part is entered are the ways of the part, each with the runs from where the part leads.
-  abbrev pub Does : Fragment → (ℕ → List Trip) → Type 0
-  Does part ways = (from to : ℕ) (used : List ℕ) → part from to used → (i : ℕ) (k : ℕ → List Tour) →
-      Every (λ t. AreRuns (at to t.end) (k t.end)) (ways i) → AreRuns (at from i) (onward (ways i) k)
+  abbrev pub Does : Fragment → (ℕ → List TracedParse) → Type 0
+  Does part traced_parses = (from to : ℕ) (used : List ℕ) → part from to used → (i : ℕ) (k : ℕ → List Tour) →
+      Every (λ t. AreRuns (at to t.end) (k t.end)) (traced_parses i) → AreRuns (at from i) (onward (traced_parses i) k)
 
   -- a state with one edge at most
   pub One-does : (make : ℕ → State) (b : ℕ → Bool) (l : ℕ → ℕ) (es : ℕ → List Event) → ((to : ℕ) → is_match (make to) ≡ false) →
       ((to i : ℕ) → edges hay (make to) i ≡ cond (b i) (at to (l i) ∷ []) []) → ((to i : ℕ) → write_of (make to) i ≡ writes_of (es i)) →
-      Does (One p.states make) (λ i. cond (b i) (trip (l i) (es i) ∷ []) [])
+      Does (One p.states make) (λ i. cond (b i) (traced (l i) (es i) ∷ []) [])
   unfolding onward
   One-does make b l es no_match edges_are writes_are from to used part i k each =
       same_runs (at from i) _ _
@@ -235,16 +235,16 @@ module _ (p : Program) (hay : List ℕ) where
       (AreRuns-step (at from i) (make to) (cond (b i) (k (l i) ∷ []) []) part.0 (no_match to)
       (subst (λ ts. EachAre ts (cond (b i) (k (l i) ∷ []) [])) (sym (edges_are to i)) (ready (b i) each)))
     where
-      same : (c : Bool) → all_before (writes_of (es i)) (cond c (k (l i) ∷ []) []) ≡ onward (cond c (trip (l i) (es i) ∷ []) []) k
+      same : (c : Bool) → all_before (writes_of (es i)) (cond c (k (l i) ∷ []) []) ≡ onward (cond c (traced (l i) (es i) ∷ []) []) k
       same true = refl
       same false = refl
 
-      ready : (c : Bool) → Every (λ t. AreRuns (at to t.end) (k t.end)) (cond c (trip (l i) (es i) ∷ []) []) →
+      ready : (c : Bool) → Every (λ t. AreRuns (at to t.end) (k t.end)) (cond c (traced (l i) (es i) ∷ []) []) →
           EachAre (cond c (at to (l i) ∷ []) []) (cond c (k (l i) ∷ []) [])
       ready true each = each
       ready false each = tt
 
-  pub Behind-does : (first second : Fragment) (v w : ℕ → List Trip) → Does first v → Does second w →
+  pub Behind-does : (first second : Fragment) (v w : ℕ → List TracedParse) → Does first v → Does second w →
       Does (Behind p.states first second) (λ i. behind (v i) w)
   Behind-does first second v w one two from to used (mid, a, b, h, g, e) i k each =
       same_runs (at from i) _ _ (sym (onward_twice (v i) w k))
@@ -267,7 +267,7 @@ module _ (p : Program) (hay : List ℕ) where
   over q to i x is runs =
       same_runs (at q i) _ _ (append-nil _ ∙ nothing_before x) (AreRuns-step (at q i) (program.goto to None) (x ∷ []) is refl (runs, tt))
 
-  assembled : (greedy : Bool) (q i round leave : ℕ) (vs : List Trip) (f : ℕ → List Trip) (k : ℕ → List Tour) →
+  assembled : (greedy : Bool) (q i round leave : ℕ) (vs : List TracedParse) (f : ℕ → List TracedParse) (k : ℕ → List Tour) →
       state_at p.states q ≡ choice p.states greedy round leave →
       AreRuns (at round i) (onward vs (λ l. onward (f l) k)) → AreRuns (at leave i) (k i) →
       AreRuns (at q i) (onward (if greedy then behind vs f ++ stay i ∷ [] else stay i ∷ behind vs f) k)
@@ -288,70 +288,70 @@ module _ (p : Program) (hay : List ℕ) where
   assembled_past false q i round leave k is one two =
       same_runs (at q i) _ _ (append-nil _ ∙ sym (append-nil _ ∙ nothing_before (k i))) (choice_runs false q i round leave [] (k i) is one two)
 
-  each_of : (greedy : Bool) (P : ℕ → Type 0) (i : ℕ) (ts : List Trip) →
+  each_of : (greedy : Bool) (P : ℕ → Type 0) (i : ℕ) (ts : List TracedParse) →
       Every (λ t. P t.end) (if greedy then ts ++ stay i ∷ [] else stay i ∷ ts) → Every (λ t. P t.end) ts × P i
   each_of true P i ts each = let r = Every-append (λ t. P t.end) ts (stay i ∷ []) each in (r.0, r.1.0)
   each_of false P i ts each = (each.1, each.0)
 
   -- the ends of the ways lie further on, within the haystack
-  abbrev pub Advances : (ℕ → List Trip) → Type 0
-  Advances ways = (i : ℕ) → Every (λ t. (i < t.end) × (t.end ≤ length hay)) (ways i)
+  abbrev pub Advances : (ℕ → List TracedParse) → Type 0
+  Advances traced_parses = (i : ℕ) → Every (λ t. (i < t.end) × (t.end ≤ length hay)) (traced_parses i)
 
-  no_ways : (i : ℕ) (ts : List Trip) → length hay ≤ i → Every (λ t. (i < t.end) × (t.end ≤ length hay)) ts → ts ≡ []
-  no_ways i [] past all = refl
-  no_ways i (t ∷ ts) past all = absurd (omega (arith, all.0.0, all.0.1))
+  no_traced : (i : ℕ) (ts : List TracedParse) → length hay ≤ i → Every (λ t. (i < t.end) × (t.end ≤ length hay)) ts → ts ≡ []
+  no_traced i [] past all = refl
+  no_traced i (t ∷ ts) past all = absurd (omega (arith, all.0.0, all.0.1))
 
-  module _ (greedy : Bool) (body : Fragment) (ways : ℕ → List Trip) (does : Does body ways) where
-    module _ (advances : Advances ways) where
+  module _ (greedy : Bool) (body : Fragment) (traced_parses : ℕ → List TracedParse) (does : Does body traced_parses) where
+    module _ (advances : Advances traced_parses) where
       -- at the choice of a loop
       star_turns : (from to round : ℕ) (a : List ℕ) → body round from a → state_at p.states from ≡ choice p.states greedy round to →
-          (n i : ℕ) (k : ℕ → List Tour) → length hay ≤ i + n → Every (λ t. AreRuns (at to t.end) (k t.end)) (up_to n greedy ways i) →
-          AreRuns (at from i) (onward (up_to n greedy ways i) k)
+          (n i : ℕ) (k : ℕ → List Tour) → length hay ≤ i + n → Every (λ t. AreRuns (at to t.end) (k t.end)) (up_to n greedy traced_parses i) →
+          AreRuns (at from i) (onward (up_to n greedy traced_parses i) k)
       unfolding up_to onward
       star_turns from to round a h is zero i k room each =
-          let none = no_ways i (ways i) (omega arith) (advances i) in
+          let none = no_traced i (traced_parses i) (omega arith) (advances i) in
           let dead = does round from a h i (λ l. []) (subst (Every (λ t. AreRuns (at from t.end) [])) (sym none) tt) in
-          assembled_past greedy from i round to k is (subst (λ (ts : List Trip). AreRuns (at round i) (onward ts (λ l. []))) none dead) each.0
+          assembled_past greedy from i round to k is (subst (λ (ts : List TracedParse). AreRuns (at round i) (onward ts (λ l. []))) none dead) each.0
       star_turns from to round a h is (suc n) i k room each =
-          let parts = each_of greedy (λ l. AreRuns (at to l) (k l)) i (behind (ways i) (up_to n greedy ways)) each in
-          assembled greedy from i round to (ways i) (up_to n greedy ways) k is
-          (does round from a h i (λ l. onward (up_to n greedy ways l) k)
-          (Every-both _ _ _ (ways i) (λ t further later. star_turns from to round a h is n t.end k (omega (arith, further.0)) later) (advances i)
-          (Every-behind (λ l. AreRuns (at to l) (k l)) (ways i) (up_to n greedy ways) parts.0)))
+          let parts = each_of greedy (λ l. AreRuns (at to l) (k l)) i (behind (traced_parses i) (up_to n greedy traced_parses)) each in
+          assembled greedy from i round to (traced_parses i) (up_to n greedy traced_parses) k is
+          (does round from a h i (λ l. onward (up_to n greedy traced_parses l) k)
+          (Every-both _ _ _ (traced_parses i) (λ t further later. star_turns from to round a h is n t.end k (omega (arith, further.0)) later) (advances i)
+          (Every-behind (λ l. AreRuns (at to l) (k l)) (traced_parses i) (up_to n greedy traced_parses) parts.0)))
           parts.1
 
-      pub Star-does : Does (Star p.states greedy body) (up_to (length hay) greedy ways)
+      pub Star-does : Does (Star p.states greedy body) (up_to (length hay) greedy traced_parses)
       Star-does from to used (round, a, h, is, e) i k each = star_turns from to round a h is (length hay) i k (omega arith) each
 
-      pub Loop-does : Does (Loop p.states greedy body) (λ i. behind (ways i) (up_to (length hay) greedy ways))
+      pub Loop-does : Does (Loop p.states greedy body) (λ i. behind (traced_parses i) (up_to (length hay) greedy traced_parses))
       Loop-does from to used (again, a, h, is, e) i k each =
-          same_runs (at from i) _ _ (sym (onward_twice (ways i) (up_to (length hay) greedy ways) k))
-          (does from again a h i (λ l. onward (up_to (length hay) greedy ways l) k)
-          (Every-also _ _ (ways i) (λ t later. star_turns again to from a h is (length hay) t.end k (omega arith) later)
-          (Every-behind (λ l. AreRuns (at to l) (k l)) (ways i) (up_to (length hay) greedy ways) each)))
+          same_runs (at from i) _ _ (sym (onward_twice (traced_parses i) (up_to (length hay) greedy traced_parses) k))
+          (does from again a h i (λ l. onward (up_to (length hay) greedy traced_parses l) k)
+          (Every-also _ _ (traced_parses i) (λ t later. star_turns again to from a h is (length hay) t.end k (omega arith) later)
+          (Every-behind (λ l. AreRuns (at to l) (k l)) (traced_parses i) (up_to (length hay) greedy traced_parses) each)))
 
-    Options-does : (n out : ℕ) → Does (Options p.states n greedy out body) (up_to n greedy ways)
+    Options-does : (n out : ℕ) → Does (Options p.states n greedy out body) (up_to n greedy traced_parses)
     unfolding up_to onward
     Options-does zero out from to used (start, end, e) i k each =
         same_runs (at from i) _ _ (sym (append-nil _ ∙ nothing_before (k i)))
         (subst (λ q. AreRuns (at q i) (k i)) (sym start) each.0)
     Options-does (suc n) out from to used (round, mid, a, b, is, h, more, e) i k each =
-        let parts = each_of greedy (λ l. AreRuns (at to l) (k l)) i (behind (ways i) (up_to n greedy ways)) each in
-        assembled greedy from i round out (ways i) (up_to n greedy ways) k is
-        (does round mid a h i (λ l. onward (up_to n greedy ways l) k)
-        (Every-also _ _ (ways i) (λ t later. Options-does n out mid to b more t.end k later)
-        (Every-behind (λ l. AreRuns (at to l) (k l)) (ways i) (up_to n greedy ways) parts.0)))
+        let parts = each_of greedy (λ l. AreRuns (at to l) (k l)) i (behind (traced_parses i) (up_to n greedy traced_parses)) each in
+        assembled greedy from i round out (traced_parses i) (up_to n greedy traced_parses) k is
+        (does round mid a h i (λ l. onward (up_to n greedy traced_parses l) k)
+        (Every-also _ _ (traced_parses i) (λ t later. Options-does n out mid to b more t.end k later)
+        (Every-behind (λ l. AreRuns (at to l) (k l)) (traced_parses i) (up_to n greedy traced_parses) parts.0)))
         (subst (λ q. AreRuns (at q i) (k i)) (options_end n mid to b more) parts.1)
       where
         options_end : (n mid to : ℕ) (b : List ℕ) → Options p.states n greedy out body mid to b → to ≡ out
         options_end zero mid to b h = h.1
         options_end (suc n) mid to b (round, next, c, d, is, h, more, e) = options_end n next to d more
 
-    pub Bounded-does : (n : ℕ) → Does (Bounded p.states n greedy body) (up_to n greedy ways)
+    pub Bounded-does : (n : ℕ) → Does (Bounded p.states n greedy body) (up_to n greedy traced_parses)
     Bounded-does n from to used (out, a, h, goes, e) i k each =
-        Options-does n out from out a h i k (Every-also _ _ (up_to n greedy ways i) (λ t ready. over out to t.end (k t.end) goes ready) each)
+        Options-does n out from out a h i k (Every-also _ _ (up_to n greedy traced_parses i) (λ t ready. over out to t.end (k t.end) goes ready) each)
 
-    pub Copies-does : (n : ℕ) (rest : Fragment) (w : ℕ → List Trip) → Does rest w → Does (Copies p.states n body rest) (after_turns n ways w)
+    pub Copies-does : (n : ℕ) (rest : Fragment) (w : ℕ → List TracedParse) → Does rest w → Does (Copies p.states n body rest) (after_turns n traced_parses w)
     unfolding after_turns
     Copies-does zero rest w more = more
-    Copies-does (suc n) rest w more = Behind-does body (Copies p.states n body rest) ways (after_turns n ways w) does (Copies-does n rest w more)
+    Copies-does (suc n) rest w more = Behind-does body (Copies p.states n body rest) traced_parses (after_turns n traced_parses w) does (Copies-does n rest w more)

@@ -15,17 +15,17 @@ use Rattle.bites_spec.specs.Built.{Fragment, One, Behind, Copies, Options, Loop,
 use Rattle.bites_spec.proofs.parses.EventLemmas.{Event, opened, closed, writes_of, writes_of-append, Steps, StepsAll, StepsOne}
 
 -- what a part may do: from i to l, with these events
-abbrev pub Ways : Type 1
-Ways = ℕ → ℕ → List Event → Type 0
+abbrev pub Traces : Type 1
+Traces = ℕ → ℕ → List Event → Type 0
 
-abbrev pub Nothing : Ways
+abbrev pub Nothing : Traces
 Nothing i l es = (l ≡ i) × (es ≡ [])
 
-abbrev pub Both : Ways → Ways → Ways
+abbrev pub Both : Traces → Traces → Traces
 Both R T i l es = (m : ℕ) × (a : List Event) × (b : List Event) × R i m a × T m l b × (es ≡ a ++ b)
 
 -- some number of turns, of which P holds
-abbrev pub Several : (ℕ → Type 0) → Ways → Ways
+abbrev pub Several : (ℕ → Type 0) → Traces → Traces
 Several P R i l es = (n : ℕ) × P n × Turns R n i l es
 
 abbrev pub Any : ℕ → Type 0
@@ -51,24 +51,24 @@ module _ (p : Program) (hay : List ℕ) where
   written = writes p
 
   -- a way to l, and a run from there that is no longer
-  pub record Onward (R : Ways) (to i j n : ℕ) (ws : List (ℕ × ℕ)) : Type 0 where
+  pub record Onward (R : Traces) (to i j n : ℕ) (ws : List (ℕ × ℕ)) : Type 0 where
     pub l : ℕ
     pub events : List Event
-    pub way : R i l events
+    pub parse_to : R i l events
     pub rest : List Configuration
     pub runs : RunsTo (at to l) rest j
     pub same : ws ≡ writes_of events ++ written (at to l) rest
     pub shorter : length rest ≤ n
 
   -- a run from where the part is entered is a way through it, and a run from where it leads
-  abbrev pub Leaves : Fragment → Ways → Type 0
+  abbrev pub Leaves : Fragment → Traces → Type 0
   Leaves part R = (from to : ℕ) (used : List ℕ) → part from to used → (i j : ℕ) (r : List Configuration) →
       RunsTo (at from i) r j → Onward R to i j (length r) (written (at from i) r)
 
-  also : (R T : Ways) (to i j n : ℕ) (ws : List (ℕ × ℕ)) → ((l : ℕ) (es : List Event) → R i l es → T i l es) → Onward R to i j n ws → Onward T to i j n ws
-  also R T to i j n ws f x = record { l = x.l; events = x.events; way = f x.l x.events x.way; rest = x.rest; runs = x.runs; same = x.same; shorter = x.shorter }
+  also : (R T : Traces) (to i j n : ℕ) (ws : List (ℕ × ℕ)) → ((l : ℕ) (es : List Event) → R i l es → T i l es) → Onward R to i j n ws → Onward T to i j n ws
+  also R T to i j n ws f x = record { l = x.l; events = x.events; parse_to = f x.l x.events x.parse_to; rest = x.rest; runs = x.runs; same = x.same; shorter = x.shorter }
 
-  Leaves-also : (part : Fragment) (R T : Ways) → ((i l : ℕ) (es : List Event) → R i l es → T i l es) → Leaves part R → Leaves part T
+  Leaves-also : (part : Fragment) (R T : Traces) → ((i l : ℕ) (es : List Event) → R i l es → T i l es) → Leaves part R → Leaves part T
   Leaves-also part R T f leaves from to used h i j r runs = also R T to i j (length r) _ (f i) (leaves from to used h i j r runs)
 
   -- a run goes on from a state that is no match
@@ -93,18 +93,18 @@ module _ (p : Program) (hay : List ℕ) where
   }
 
   -- one state does R: each edge of it leads on, in one way of R
-  abbrev Does : (ℕ → State) → Ways → Type 0
+  abbrev Does : (ℕ → State) → Traces → Type 0
   Does make R = (to i : ℕ) (t : Configuration) → Among (edges hay (make to) i) t →
       (l : ℕ) × (at to l ≡ t) × ((es : List Event) × R i l es × (write_of (make to) i ≡ writes_of es))
 
-  One-leaves : (make : ℕ → State) (R : Ways) → ((to : ℕ) → is_match (make to) ≡ false) → Does make R → Leaves (One p.states make) R
+  One-leaves : (make : ℕ → State) (R : Traces) → ((to : ℕ) → is_match (make to) ≡ false) → Does make R → Leaves (One p.states make) R
   One-leaves make R no_match does from to used part i j r runs =
       let s = stepped from i j (make to) r part.0 (no_match to) runs in
       let d = does to i s.next s.edge in
       record {
         l = d.0;
         events = d.2.0;
-        way = d.2.1;
+        parse_to = d.2.1;
         rest = s.rest;
         runs = subst (λ (x : Configuration). RunsTo x s.rest j) (sym d.1) s.runs;
         same = s.same ∙ ap₂ ◌++◌ d.2.2 (ap (λ (x : Configuration). written x s.rest) (sym d.1));
@@ -135,10 +135,10 @@ module _ (p : Program) (hay : List ℕ) where
   class_no_match [] to = refl
   class_no_match (r ∷ rs) to = refl
 
-  abbrev Opens : ℕ → Ways
+  abbrev Opens : ℕ → Traces
   Opens k i l es = (l ≡ i) × (es ≡ opened k i ∷ [])
 
-  abbrev Closes : ℕ → ℕ → Ways
+  abbrev Closes : ℕ → ℕ → Traces
   Closes k b i l es = (l ≡ i) × (es ≡ closed k b i ∷ [])
 
   open_does : (k : ℕ) → Does (λ to. program.capture to (2 * k)) (Opens k)
@@ -147,14 +147,14 @@ module _ (p : Program) (hay : List ℕ) where
   close_does : (k b : ℕ) → Does (λ to. program.capture to (2 * k + 1)) (Closes k b)
   close_does k b to i t h = (i, Among-only (at to i) t h, (closed k b i ∷ [], (refl, refl), refl))
 
-  Behind-leaves : (first second : Fragment) (R T : Ways) → Leaves first R → Leaves second T → Leaves (Behind p.states first second) (Both R T)
+  Behind-leaves : (first second : Fragment) (R T : Traces) → Leaves first R → Leaves second T → Leaves (Behind p.states first second) (Both R T)
   Behind-leaves first second R T one two from to used (mid, a, b, h, k, e) i j r runs =
       let x = one from mid a h i j r runs in
       let y = two mid to b k x.l j x.rest x.runs in
       record {
         l = y.l;
         events = x.events ++ y.events;
-        way = (x.l, x.events, y.events, x.way, y.way, refl);
+        parse_to = (x.l, x.events, y.events, x.parse_to, y.parse_to, refl);
         rest = y.rest;
         runs = y.runs;
         same = x.same ∙ ap (λ w. writes_of x.events ++ w) y.same
@@ -200,16 +200,16 @@ module _ (p : Program) (hay : List ℕ) where
       (choice_cases greedy round leave i s.next s.edge)
 
   -- no turn, and one turn before some others
-  none_more : (P : ℕ → Type 0) (R : Ways) (to i j n : ℕ) (ws : List (ℕ × ℕ)) → P 0 → Went to i j n ws → Onward (Several P R) to i j n ws
+  none_more : (P : ℕ → Type 0) (R : Traces) (to i j n : ℕ) (ws : List (ℕ × ℕ)) → P 0 → Went to i j n ws → Onward (Several P R) to i j n ws
   none_more P R to i j n ws at_zero w =
-      record { l = i; events = []; way = (zero, at_zero, (refl, refl)); rest = w.rest; runs = w.runs; same = w.same; shorter = omega (arith, w.len) }
+      record { l = i; events = []; parse_to = (zero, at_zero, (refl, refl)); rest = w.rest; runs = w.runs; same = w.same; shorter = omega (arith, w.len) }
 
-  one_more : (P Q : ℕ → Type 0) (R : Ways) (mid to i j n : ℕ) (ws : List (ℕ × ℕ)) → ((m : ℕ) → P m → Q (suc m)) → (x : Onward R mid i j n ws) →
+  one_more : (P Q : ℕ → Type 0) (R : Traces) (mid to i j n : ℕ) (ws : List (ℕ × ℕ)) → ((m : ℕ) → P m → Q (suc m)) → (x : Onward R mid i j n ws) →
       Onward (Several P R) to x.l j (length x.rest) (written (at mid x.l) x.rest) → Onward (Several Q R) to i j n ws
   one_more P Q R mid to i j n ws f x y = record {
     l = y.l;
     events = x.events ++ y.events;
-    way = (suc y.way.0, f y.way.0 y.way.1, (x.l, x.events, y.events, x.way, y.way.2, refl));
+    parse_to = (suc y.parse_to.0, f y.parse_to.0 y.parse_to.1, (x.l, x.events, y.events, x.parse_to, y.parse_to.2, refl));
     rest = y.rest;
     runs = y.runs;
     same = x.same ∙ ap (λ w. writes_of x.events ++ w) y.same
@@ -217,11 +217,11 @@ module _ (p : Program) (hay : List ℕ) where
     shorter = omega (arith, x.shorter, y.shorter);
   }
 
-  longer : (R : Ways) (to i j n m : ℕ) (ws vs : List (ℕ × ℕ)) → m ≤ n → ws ≡ vs → Onward R to i j m vs → Onward R to i j n ws
+  longer : (R : Traces) (to i j n m : ℕ) (ws vs : List (ℕ × ℕ)) → m ≤ n → ws ≡ vs → Onward R to i j m vs → Onward R to i j n ws
   longer R to i j n m ws vs le e x =
-      record { l = x.l; events = x.events; way = x.way; rest = x.rest; runs = x.runs; same = e ∙ x.same; shorter = omega (arith, x.shorter) }
+      record { l = x.l; events = x.events; parse_to = x.parse_to; rest = x.rest; runs = x.runs; same = e ∙ x.same; shorter = omega (arith, x.shorter) }
 
-  module _ (greedy : Bool) (body : Fragment) (R : Ways) (inside : Leaves body R) where
+  module _ (greedy : Bool) (body : Fragment) (R : Traces) (inside : Leaves body R) where
     star_rounds : (from to round : ℕ) (a : List ℕ) → body round from a → state_at p.states from ≡ choice p.states greedy round to →
         (n i j : ℕ) (r : List Configuration) → length r < n → RunsTo (at from i) r j → Onward (Several Any R) to i j (length r) (written (at from i) r)
     star_rounds from to round a h is zero i j r le runs = absurd (omega arith)
@@ -266,7 +266,7 @@ module _ (p : Program) (hay : List ℕ) where
         record {
           l = x.l;
           events = x.events;
-          way = (x.way.0, tt, x.way.2);
+          parse_to = (x.parse_to.0, tt, x.parse_to.2);
           rest = v.rest;
           runs = v.runs;
           same = w.same ∙ x.same ∙ ap (λ ws. writes_of x.events ++ ws) v.same;
@@ -274,14 +274,14 @@ module _ (p : Program) (hay : List ℕ) where
         })
         (λ (w : Went out i j (length r) (written (at from i) r)).
         let v = went_on out to i j w.rest goes w.runs in
-        record { l = i; events = []; way = (zero, tt, (refl, refl)); rest = v.rest; runs = v.runs; same = w.same ∙ v.same; shorter = omega (arith, w.len, v.len) })
+        record { l = i; events = []; parse_to = (zero, tt, (refl, refl)); rest = v.rest; runs = v.runs; same = w.same ∙ v.same; shorter = omega (arith, w.len, v.len) })
         (chosen greedy from round out i j r is runs)
 
     Options-leaves : (n out : ℕ) → Leaves (Options p.states n greedy out body) (Several (λ m. m ≤ n) R)
     Options-leaves zero out from to used (start, end, e) i j r runs = record {
       l = i;
       events = [];
-      way = (zero, omega arith, (refl, refl));
+      parse_to = (zero, omega arith, (refl, refl));
       rest = r;
       runs = subst (λ q. RunsTo (at q i) r j) start runs;
       same = ap (λ q. written (at q i) r) start;
@@ -311,7 +311,7 @@ module _ (p : Program) (hay : List ℕ) where
         record {
           l = x.l;
           events = x.events;
-          way = x.way;
+          parse_to = x.parse_to;
           rest = v.rest;
           runs = v.runs;
           same = x.same ∙ ap (λ ws. writes_of x.events ++ ws) v.same;
@@ -375,9 +375,9 @@ module _ (p : Program) (hay : List ℕ) where
         (λ i l es h. let c = h.1 in (h.0, c.0, omega (arith, c.1, is_count.0), h.2))
         (CopiesUpTo-leaves n (most - suc n))
 
-  group_way : (k : ℕ) (name : Option (List ℕ)) (t : Tree) (i l : ℕ) (es : List Event) → Both (Opens k) (Both (Steps hay t) (Closes k i)) i l es →
+  group_trace : (k : ℕ) (name : Option (List ℕ)) (t : Tree) (i l : ℕ) (es : List Event) → Both (Opens k) (Both (Steps hay t) (Closes k i)) i l es →
       Steps hay (group k name t) i l es
-  group_way k name t i l es (m, a, b, (m_is, a_is), (n, c, d, steps, (l_is, d_is), b_is), es_is) = (
+  group_trace k name t i l es (m, a, b, (m_is, a_is), (n, c, d, steps, (l_is, d_is), b_is), es_is) = (
     c,
     subst (λ x. Steps hay t i x c) (sym l_is) (subst (λ x. Steps hay t x n c) m_is steps),
     es_is ∙ ap₂ ◌++◌ a_is (b_is ∙ ap (λ x. c ++ x) (d_is ∙ ap (λ x. closed k i x ∷ []) (sym l_is))),
@@ -386,7 +386,7 @@ module _ (p : Program) (hay : List ℕ) where
   pub group-leaves : (k : ℕ) (name : Option (List ℕ)) (t : Tree) → Leaves (HasForm p.states t) (Steps hay t) →
       Leaves (HasForm p.states (group k name t)) (Steps hay (group k name t))
   group-leaves k name t leaves from to used h i j r runs =
-      also (Both (Opens k) (Both (Steps hay t) (Closes k i))) (Steps hay (group k name t)) to i j (length r) _ (group_way k name t i)
+      also (Both (Opens k) (Both (Steps hay t) (Closes k i))) (Steps hay (group k name t)) to i j (length r) _ (group_trace k name t i)
       (Behind-leaves (One p.states (λ to. program.capture to (2 * k)))
       (Behind p.states (HasForm p.states t) (One p.states (λ to. program.capture to (2 * k + 1)))) (Opens k) (Both (Steps hay t) (Closes k i))
       (One-leaves (λ to. program.capture to (2 * k)) (Opens k) (λ to. refl) (open_does k))
@@ -414,7 +414,7 @@ module _ (p : Program) (hay : List ℕ) where
         record {
           l = x.l;
           events = x.events;
-          way = x.way;
+          parse_to = x.parse_to;
           rest = v.rest;
           runs = v.runs;
           same = w.same ∙ x.same ∙ ap (λ ws. writes_of x.events ++ ws) v.same;
@@ -425,7 +425,7 @@ module _ (p : Program) (hay : List ℕ) where
     HasFormAll-leaves no_tree reduced = λ from to used h i j r runs. record {
       l = i;
       events = [];
-      way = (refl, refl);
+      parse_to = (refl, refl);
       rest = r;
       runs = subst (λ q. RunsTo (at q i) r j) h.0 runs;
       same = ap (λ q. written (at q i) r) h.0;

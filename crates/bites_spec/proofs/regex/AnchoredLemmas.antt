@@ -16,7 +16,7 @@ use Rattle.bites_spec.specs.Built.{Built, IsCompilable}
 use Rattle.bites_spec.specs.Run.{Run, run, IsRun, StartsFirst, FirstRun, LongestRun, slots, first_run_from, first_run_to, longest_run_below}
 use Rattle.bites_spec.specs.Slots.{group_in, span_of_run, answer_of}
 use Rattle.bites_spec.specs.Spans.{LiesFrom}
-use Rattle.bites_spec.specs.Found.{Answer, IsFoundBy, FoundSome, Finds, head_of, first_ending, way}
+use Rattle.bites_spec.specs.Found.{Answer, IsFoundBy, FoundSome, Finds, head_of, first_ending, parse_to}
 use Rattle.bites_spec.specs.Regex.{Regex, IsCompiled}
 use Rattle.bites_spec.specs.Captured.{AreGroups}
 use Rattle.bites_spec.specs.Anchored.{anchored_run, NoRunFrom, HasMatchFrom, IsFoundFromBy, FoundFromBy, FindsFrom, IsFullMatch, FoundFull, anchored_run_at, anchored_span_at, anchored_slots_at, full_run, full_slots, FindsSpanFrom, FindsGroupsFrom, FindsGroupsFull}
@@ -174,8 +174,8 @@ module _ (t : Tree) (p : Program) (hay : List ℕ) (fit : IsCompilable t) (built
           marks = f.marks;
           parse = subst (λ (i : ℕ). Parse hay t i (length hay) f.marks) is.0 (subst (λ (j : ℕ). Parse hay t x.start j f.marks) is.1 f.parse);
           groups = λ k. f.groups k ∙ ap₂ (λ (i j : ℕ). groups i j f.marks k) is.0 is.1;
-          chosen = λ plain. subst (λ (i : ℕ). first_ending (length hay) (parses hay t i) ≡ Some (way (length hay) f.marks)) is.0
-              (subst (λ (j : ℕ). first_ending j (parses hay t x.start) ≡ Some (way j f.marks)) is.1 (f.chosen.1 plain));
+          chosen = λ plain. subst (λ (i : ℕ). first_ending (length hay) (parses hay t i) ≡ Some (parse_to (length hay) f.marks)) is.0
+              (subst (λ (j : ℕ). first_ending j (parses hay t x.start) ≡ Some (parse_to j f.marks)) is.1 (f.chosen.1 plain));
         }
 
 pub anchored_run_is_found : AnchoredRunIsFound
@@ -298,8 +298,8 @@ anchored_finds_some t hay o = (λ longest s f. finds_from_some longest t hay s o
 
 finds_from_found : (longest : Bool) (t : Tree) (hay : List ℕ) (s : ℕ) (a : Answer) → FindsFrom longest t hay s (Some a) → Finds longest t hay s (Some a)
 finds_from_found true t hay s a f =
-    to_found t hay (λ i j ms. ((l : ℕ) → Matches hay t i l → l ≤ j) × (IsPlain t → first_ending j (parses hay t i) ≡ Some (way j ms))) s a f
-finds_from_found false t hay s a f = to_found t hay (λ i j ms. IsPlain t → head_of (parses hay t i) ≡ Some (way j ms)) s a f
+    to_found t hay (λ i j ms. ((l : ℕ) → Matches hay t i l → l ≤ j) × (IsPlain t → first_ending j (parses hay t i) ≡ Some (parse_to j ms))) s a f
+finds_from_found false t hay s a f = to_found t hay (λ i j ms. IsPlain t → head_of (parses hay t i) ≡ Some (parse_to j ms)) s a f
 
 full_some : (t : Tree) (hay : List ℕ) (a : Answer) → FoundFull t hay (Some a) → FoundSome t hay 0 (Some a)
 full_some t hay a f =

@@ -6,8 +6,8 @@ use Rattle.bites_spec.specs.Walks.{Among}
 use Rattle.bites_spec.specs.Look.{holds}
 use Rattle.bites_spec.specs.Tree.{Tree, IsPlain, is_plain}
 use Rattle.bites_spec.specs.Match.{Mark, Matches, Parse, groups}
-use Rattle.bites_spec.specs.Preference.{Way, here, joined, then_each, parses}
-use Rattle.bites_spec.specs.Found.{Answer, IsFoundBy, Finds, NoMatch, head_of, first_ending, way}
+use Rattle.bites_spec.specs.Preference.{ParseTo, here, joined, then_each, parses}
+use Rattle.bites_spec.specs.Found.{Answer, IsFoundBy, Finds, NoMatch, head_of, first_ending, parse_to}
 use Rattle.bites_spec.specs.Anchored.{HasMatchFrom, IsFoundFromBy, FindsFrom}
 use Rattle.bites_spec.specs.CallerLaws.{begun, AnchoredIsBegun}
 use Rattle.bites_spec.proofs.regex.CallerLemmas.{start_is_place, at_start, holds_start}
@@ -35,13 +35,13 @@ module _ (hay : List ℕ) (t : Tree) where
   parse_of : (j : ℕ) (ms : List Mark) → Parse hay t 0 j ms → Parse hay (begun t) 0 j ms
   parse_of j ms p = (0, [], ms, (holds_start hay, refl, refl), (j, ms, [], p, (refl, refl), sym (append-nil ms)), refl)
 
-  and_here : (ws : List Way) → then_each ws (λ i. here i ∷ []) ≡ ws
+  and_here : (ws : List ParseTo) → then_each ws (λ i. here i ∷ []) ≡ ws
   and_here [] = refl
-  and_here (w ∷ ws) = ap₂ (λ (ms : List Mark) (vs : List Way). way w.end ms ∷ vs) (append-nil w.marks) (and_here ws)
+  and_here (w ∷ ws) = ap₂ (λ (ms : List Mark) (vs : List ParseTo). parse_to w.end ms ∷ vs) (append-nil w.marks) (and_here ws)
 
-  behind_here : (i : ℕ) (ws : List Way) → map (joined (here i)) ws ≡ ws
+  behind_here : (i : ℕ) (ws : List ParseTo) → map (joined (here i)) ws ≡ ws
   behind_here i [] = refl
-  behind_here i (w ∷ ws) = ap (λ (vs : List Way). w ∷ vs) (behind_here i ws)
+  behind_here i (w ∷ ws) = ap (λ (vs : List ParseTo). w ∷ vs) (behind_here i ws)
 
   same_parses : parses hay (begun t) 0 ≡ parses hay t 0
   unfolding parses holds
@@ -94,17 +94,17 @@ module _ (hay : List ℕ) (t : Tree) where
       }
 
   abbrev First : (i j : ℕ) → List Mark → Type 0
-  First i j ms = IsPlain (begun t) → head_of (parses hay (begun t) i) ≡ Some (way j ms)
+  First i j ms = IsPlain (begun t) → head_of (parses hay (begun t) i) ≡ Some (parse_to j ms)
 
   abbrev FirstFrom : (j : ℕ) → List Mark → Type 0
-  FirstFrom j ms = IsPlain t → head_of (parses hay t 0) ≡ Some (way j ms)
+  FirstFrom j ms = IsPlain t → head_of (parses hay t 0) ≡ Some (parse_to j ms)
 
   abbrev Last : (i j : ℕ) → List Mark → Type 0
   Last i j ms =
-      ((l : ℕ) → Matches hay (begun t) i l → l ≤ j) × (IsPlain (begun t) → first_ending j (parses hay (begun t) i) ≡ Some (way j ms))
+      ((l : ℕ) → Matches hay (begun t) i l → l ≤ j) × (IsPlain (begun t) → first_ending j (parses hay (begun t) i) ≡ Some (parse_to j ms))
 
   abbrev LastFrom : (j : ℕ) → List Mark → Type 0
-  LastFrom j ms = ((l : ℕ) → Matches hay t 0 l → l ≤ j) × (IsPlain t → first_ending j (parses hay t 0) ≡ Some (way j ms))
+  LastFrom j ms = ((l : ℕ) → Matches hay t 0 l → l ≤ j) × (IsPlain t → first_ending j (parses hay t 0) ≡ Some (parse_to j ms))
 
   first_to : (j : ℕ) (ms : List Mark) → FirstFrom j ms → First 0 j ms
   first_to j ms chosen plain = ap head_of same_parses ∙ chosen (plain_to plain)

@@ -5,7 +5,7 @@ use Rattle.std.proofs.lemmas.Slice.Eq.{bytes_eq-Decides}
 use Rattle.std.proofs.lemmas.Bool.{cases_Bool, or_parts}
 use Rattle.bites_spec.specs.Walks.{Among, AllApart}
 use Rattle.bites_spec.specs.Tree as tree
-use Rattle.bites_spec.specs.Tree.{Tree, trees_of, sequence_of, choice_of, repetition_of, repetition, groups_in, groups_in_all, names_in, names_in_all, IsReduced, AllAreReduced, IsCount}
+use Rattle.bites_spec.specs.Tree.{Tree, trees_of, sequence_of, alternation_of, repetition_of, repetition, groups_in, groups_in_all, names_in, names_in_all, IsReduced, AllAreReduced, IsCount}
 use Rattle.bites_spec.specs.Built.{IsCompilable}
 use Rattle.bites_spec.specs.Pattern.{Text, Flags, Front, given}
 use Rattle.bites_spec.specs.Operator as operator
@@ -154,23 +154,23 @@ sequence_reduced (t ∷ u ∷ nodes) h = (omega arith, h)
 Fits-sequence : {front behind : Front} (nodes : List Tree) → Fits front behind nodes → Fits front behind (sequence_of nodes ∷ [])
 Fits-sequence nodes h = Fits-one (sequence_of nodes) (sequence_numbers nodes) (sequence_names nodes) (sequence_reduced nodes h.reduced) h
 
-choice_numbers : (nodes : List Tree) → groups_in (choice_of nodes) ≡ numbers_of nodes
+choice_numbers : (nodes : List Tree) → groups_in (alternation_of nodes) ≡ numbers_of nodes
 choice_numbers [] = refl
 choice_numbers (t ∷ []) = sym (append-nil (groups_in t))
 choice_numbers (t ∷ u ∷ nodes) = refl
 
-choice_names : (nodes : List Tree) → names_in (choice_of nodes) ≡ names_of nodes
+choice_names : (nodes : List Tree) → names_in (alternation_of nodes) ≡ names_of nodes
 choice_names [] = refl
 choice_names (t ∷ []) = sym (append-nil (names_in t))
 choice_names (t ∷ u ∷ nodes) = refl
 
-choice_reduced : (nodes : List Tree) → AllAreReduced (trees_of nodes) → IsReduced (choice_of nodes)
+choice_reduced : (nodes : List Tree) → AllAreReduced (trees_of nodes) → IsReduced (alternation_of nodes)
 choice_reduced [] h = tt
 choice_reduced (t ∷ []) h = h.0
 choice_reduced (t ∷ u ∷ nodes) h = (omega arith, h)
 
-Fits-choice : {front behind : Front} (nodes : List Tree) → Fits front behind nodes → Fits front behind (choice_of nodes ∷ [])
-Fits-choice nodes h = Fits-one (choice_of nodes) (choice_numbers nodes) (choice_names nodes) (choice_reduced nodes h.reduced) h
+Fits-choice : {front behind : Front} (nodes : List Tree) → Fits front behind nodes → Fits front behind (alternation_of nodes ∷ [])
+Fits-choice nodes h = Fits-one (alternation_of nodes) (choice_numbers nodes) (choice_names nodes) (choice_reduced nodes h.reduced) h
 
 -- a node that an operator makes of the last one: it has its groups, or none
 record Repeats (last node : Tree) : Type 0 where
@@ -254,7 +254,7 @@ Fits-numbered {front} {inner} {middle} name branches one_more own h = record {
   reduced = ((omega arith, choice_reduced branches h.reduced), tt);
   numbers =
       subst (λ x. AreNew (IsOpened front) (IsOpened middle) ((front.groups + 1) ∷ x))
-      (sym (append-nil (groups_in (choice_of branches)) ∙ choice_numbers branches))
+      (sym (append-nil (groups_in (alternation_of branches)) ∙ choice_numbers branches))
       (AreNew-append (IsOpened front) (IsOpened inner) (IsOpened middle) ((front.groups + 1) ∷ []) (numbers_of branches)
       (one_new (IsOpened front) (IsOpened inner) (front.groups + 1) (λ y k. omega (arith, one_more, k)) (λ k. omega (arith, k)) (omega (arith, one_more)))
       h.numbers);

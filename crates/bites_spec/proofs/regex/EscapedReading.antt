@@ -11,7 +11,7 @@ use Rattle.bites_spec.specs.Pattern.{Text, Front, one_of}
 use Rattle.bites_spec.specs.Tree.{Tree, char, sequence_of, trees_of, groups_in, groups_in_all, greatest, captures_len}
 use Rattle.bites_spec.specs.Escape.{escapes_itself, character, itself}
 use Rattle.bites_spec.specs.Grammar.{is_special, ReadsAtom, literal, escaped_character, atom, ReadsSequence, ends, goes_on, one, at_front}
-use Rattle.bites_spec.specs.Measure.{Limits, height, tallest, weight, group_name, groups_left, open_in_sequence, count_in_sequence}
+use Rattle.bites_spec.specs.Measure.{Limits, height, tallest, program_size, group_name, groups_left, open_in_sequence, count_in_sequence}
 use Rattle.bites_spec.specs.Settings.{no_flags, by_default, Accepts}
 use Rattle.bites_spec.specs.Escaped.{is_marked, escaped, text_tree}
 
@@ -114,7 +114,7 @@ escaped_chars text utf8 = chars-encodes (escaped (chars text)) (escaped_scalars 
 one_group : (t : Tree) → groups_in t ≡ [] → length (groups_left t) ≡ 1
 one_group t none = length-map-range_with_len (group_name t) 0 (captures_len t) ∙ ap (λ (ks : List ℕ). suc (greatest ks)) none
 
-pub escaped_is_accepted : (text : List ℕ) → IsUtf8 text → weight (text_tree (chars text)) ≤ 10485760 →
+pub escaped_is_accepted : (text : List ℕ) → IsUtf8 text → program_size (text_tree (chars text)) ≤ 10485760 →
     Accepts (by_default (encode_utf8_all (escaped (chars text)))) (text_tree (chars text))
 escaped_is_accepted text utf8 light = record {
   read = subst (λ (l : Text). Limits l no_flags 50 (text_tree (chars text))) (sym (escaped_chars text utf8))

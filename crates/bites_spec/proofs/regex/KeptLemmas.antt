@@ -4,7 +4,7 @@ use Rattle.std.proofs.lemmas.List.{length-append, get_or_append_left, get_or_at,
 use Rattle.std.specs.Prelude.{encode_utf8_all, option_map, slice_index_or}
 use Rattle.std.proofs.lemmas.Bool.{cases_Bool}
 use Rattle.bites_spec.specs.Walks.{Among}
-use Rattle.bites_spec.specs.Tree.{Tree, trees_of, sequence_of, choice_of, repetition_of}
+use Rattle.bites_spec.specs.Tree.{Tree, trees_of, sequence_of, alternation_of, repetition_of}
 use Rattle.bites_spec.specs.Measure.{groups_of, groups_of_all, HasItsGroups, groups_opened, opened_by}
 use Rattle.bites_spec.specs.Pattern.{Text, Flags, Front}
 use Rattle.bites_spec.specs.Class.{is_letter}
@@ -86,7 +86,7 @@ sequence_entries [] = refl
 sequence_entries (t ∷ []) = sym (append-nil (groups_of t))
 sequence_entries (t ∷ u ∷ nodes) = refl
 
-choice_entries : (nodes : List Tree) → groups_of (choice_of nodes) ≡ entries nodes
+choice_entries : (nodes : List Tree) → groups_of (alternation_of nodes) ≡ entries nodes
 choice_entries [] = refl
 choice_entries (t ∷ []) = sym (append-nil (groups_of t))
 choice_entries (t ∷ u ∷ nodes) = refl
@@ -94,8 +94,8 @@ choice_entries (t ∷ u ∷ nodes) = refl
 Keeps-sequence : {front behind : Front} (nodes : List Tree) → Keeps front behind nodes → Keeps front behind (sequence_of nodes ∷ [])
 Keeps-sequence nodes h = Keeps-among nodes (sequence_of nodes ∷ []) (same_entries nodes (sequence_of nodes) (sequence_entries nodes)) h
 
-Keeps-choice : {front behind : Front} (nodes : List Tree) → Keeps front behind nodes → Keeps front behind (choice_of nodes ∷ [])
-Keeps-choice nodes h = Keeps-among nodes (choice_of nodes ∷ []) (same_entries nodes (choice_of nodes) (choice_entries nodes)) h
+Keeps-choice : {front behind : Front} (nodes : List Tree) → Keeps front behind nodes → Keeps front behind (alternation_of nodes ∷ [])
+Keeps-choice nodes h = Keeps-among nodes (alternation_of nodes ∷ []) (same_entries nodes (alternation_of nodes) (choice_entries nodes)) h
 
 -- an operator leaves the groups of the last node, or none
 repeated_entries : (min : ℕ) (max : Option ℕ) (greedy : Bool) (last : Tree) →
@@ -135,7 +135,7 @@ Keeps-numbered {front} {middle} name branches h =
       grows = λ g s. h.grows g (grows g s);
       stand = λ c g among.
           ⊎_elim (λ (e : (front.groups + 1, option_map encode_utf8_all name) ≡ g). subst (λ x. Stands (opened_by middle) x) e (h.grows _ (own c)))
-          (λ later. h.stand (counted c) g (subst (λ gs. Among gs g) (append-nil (groups_of (choice_of branches)) ∙ choice_entries branches) later))
+          (λ later. h.stand (counted c) g (subst (λ gs. Among gs g) (append-nil (groups_of (alternation_of branches)) ∙ choice_entries branches) later))
           among;
     }
 

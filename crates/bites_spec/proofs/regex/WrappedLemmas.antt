@@ -4,7 +4,7 @@ use Rattle.std.specs.Prelude.{codes, ◌==◌}
 use Rattle.std.specs.Char.{is_whitespace}
 use Rattle.std.proofs.lemmas.Bool.{cases_Bool}
 use Rattle.bites_spec.specs.Look.{start, end}
-use Rattle.bites_spec.specs.Tree.{Tree, look, choice_of, sequence_of}
+use Rattle.bites_spec.specs.Tree.{Tree, look, alternation_of, sequence_of}
 use Rattle.bites_spec.specs.Pattern.{Text, Flags, Front, skip, skip_blank, hash}
 use Rattle.bites_spec.specs.Escape.{anchor}
 use Rattle.bites_spec.specs.Group as opening
@@ -37,10 +37,10 @@ module _ (pattern : Text) (flags : Flags) (branches : List Tree) (behind : Front
   first = look start ∷ []
 
   abbrev second : List Tree
-  second = look start ∷ choice_of branches ∷ []
+  second = look start ∷ alternation_of branches ∷ []
 
   abbrev third : List Tree
-  third = look start ∷ choice_of branches ∷ look end ∷ []
+  third = look start ∷ alternation_of branches ∷ look end ∷ []
 
   begins : ReadsItem front (codes "\\A(?:" ++ inside) [] first front (codes "(?:" ++ inside)
   begins =
@@ -70,7 +70,7 @@ module _ (pattern : Text) (flags : Flags) (branches : List Tree) (behind : Front
       (subst (λ (t : Text). ReadsItem back t second third back []) (sym (skip_stays flags 92 (codes "z") refl)) closes)
       (ends back back [] [] third third (sym (skip_nil flags)) refl refl refl)))
 
-  pub wrapped : Reads (codes "\\A(?:" ++ inside) flags (anchored (choice_of branches))
+  pub wrapped : Reads (codes "\\A(?:" ++ inside) flags (anchored (alternation_of branches))
   wrapped = record {
     branches = sequence_of third ∷ [];
     behind = back;
@@ -81,4 +81,4 @@ module _ (pattern : Text) (flags : Flags) (branches : List Tree) (behind : Front
 pub anchored_is_read : AnchoredIsRead
 anchored_is_read pattern flags branches behind reads =
     let reading = wrapped pattern flags branches behind reads in
-    (reading, λ u other. reads_once (codes "\\A(?:" ++ pattern ++ codes ")\\z") flags u (anchored (choice_of branches)) other reading)
+    (reading, λ u other. reads_once (codes "\\A(?:" ++ pattern ++ codes ")\\z") flags u (anchored (alternation_of branches)) other reading)

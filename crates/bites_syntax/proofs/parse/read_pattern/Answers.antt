@@ -4,7 +4,7 @@ use Rattle.bites_spec.specs.Grammar.{at_front}
 use Rattle.bites_spec.specs.RangesOf.{ranges_of}
 use Rattle.bites_spec.specs.Reader.{inner}
 use Rattle.bites_spec.specs.Measure.{opened_by}
-use Rattle.bites_spec.specs.Tree.{choice_of}
+use Rattle.bites_spec.specs.Tree.{alternation_of}
 use Rattle.bites_spec.proofs.classes.ClassLemmas.{ranges_of_list}
 use Rattle.bites_spec.proofs.grammar.WholeLaws.{behind_found}
 use Rattle.bites_syntax.specs.declared.node.Node.TheVariants.{Kept}
@@ -18,8 +18,8 @@ returns-in-Kept-clause-reads c =
     let text = chars c.args.pattern.now in
     let reads = c.in_ok-tree.ensures.reads c.args.nest_limit refl (at_front (flags_of c.args.flags)) (record { flags = refl; groups = refl; names = c.new.ensures; opened = c.new-2.ensures }) (length text)
     (omega (arith, ap length c.new-cursor.ensures)) in
-    let stands : IsNodeOf c.args.nest_limit (Kept c.in-Kept.tree c.in-Kept.height) (choice_of reads.found.branches) =
-    subst (λ x. IsNodeOf c.args.nest_limit x (choice_of reads.found.branches)) c.in-Kept.is reads.node_is in
+    let stands : IsNodeOf c.args.nest_limit (Kept c.in-Kept.tree c.in-Kept.height) (alternation_of reads.found.branches) =
+    subst (λ x. IsNodeOf c.args.nest_limit x (alternation_of reads.found.branches)) c.in-Kept.is reads.node_is in
     let same : inner ranges_of c.args.nest_limit (suc (length text)) 0 (at_front (flags_of c.args.flags)) [] [] text ≡ Ok reads.found =
     ap (inner ranges_of c.args.nest_limit (suc (length text)) 0 (at_front (flags_of c.args.flags)) [] []) (sym c.new-cursor.ensures) ∙ reads.same in
     (read_is c.args.nest_limit text (flags_of c.args.flags) reads.found same ∙ ap Ok (sym stands.0), rw stands.0 stands.2, rw stands.0 stands.3)

@@ -7,12 +7,12 @@ use Rattle.bites_spec.specs.Look.{holds}
 use Rattle.bites_spec.specs.Range.{in_ranges}
 use Rattle.bites_spec.specs.Tree.{Tree, Trees, empty, char, class, look, repetition, group, sequence, alternation, no_tree, tree_and, is_nullable, all_are_nullable, some_is_nullable, IsReduced, AllAreReduced, IsCount}
 use Rattle.bites_spec.specs.Match.{Mark, Turns, Takes, IsWithin}
-use Rattle.bites_spec.specs.Preference.{Way, here, joined, grouped, then_each, parses, parses_of_all, parses_of_one}
+use Rattle.bites_spec.specs.Preference.{ParseTo, here, joined, grouped, then_each, parses, parses_of_all, parses_of_one}
 use Rattle.bites_spec.specs.Preference as preference
 use Rattle.bites_spec.proofs.utf8.PieceLemmas.{piece_within, piece_none}
 use Rattle.bites_spec.proofs.parses.EventLemmas.{Event, closed, marks_of, marks_of-append, Steps, StepsAll, StepsOne}
-use Rattle.bites_spec.proofs.programs.PartLemmas.{Ways, Both, Several}
-use Rattle.bites_spec.proofs.programs.OrderLemmas.{Trip, stay, prefix, behind, Every, up_to, after_turns, wrap, taken, turns, ways, ways_of_all, ways_of_one, map-append}
+use Rattle.bites_spec.proofs.programs.PartLemmas.{Traces, Both, Several}
+use Rattle.bites_spec.proofs.programs.OrderLemmas.{TracedParse, stay, prefix, behind, Every, up_to, after_turns, wrap, taken, turns, traced_parses, traced_parses_of_all, traced_parses_of_one, map-append}
 
 and_either : (a b : Bool) → (a && b) ≡ false → (a ≡ false) ⊎ (b ≡ false)
 and_either true b e = inr e
@@ -31,23 +31,23 @@ Every-weak P Q [] f h = tt
 Every-weak P Q (t ∷ ts) f h = (f t h.0, Every-weak P Q ts f h.1)
 
 -- each trip of the list is one of these ways from i
-abbrev pub Listed : Ways → ℕ → List Trip → Type 0
+abbrev pub Listed : Traces → ℕ → List TracedParse → Type 0
 Listed R i ts = Every (λ w. R i w.end w.events) ts
 
-Listed-behind : (R T : Ways) (i : ℕ) (ts : List Trip) (f : ℕ → List Trip) → Listed R i ts → ((m : ℕ) → Listed T m (f m)) → Listed (Both R T) i (behind ts f)
+Listed-behind : (R T : Traces) (i : ℕ) (ts : List TracedParse) (f : ℕ → List TracedParse) → Listed R i ts → ((m : ℕ) → Listed T m (f m)) → Listed (Both R T) i (behind ts f)
 unfolding behind
 Listed-behind R T i [] f h g = tt
 Listed-behind R T i (t ∷ ts) f h g =
     Every-join (λ w. Both R T i w.end w.events) (map (prefix t.events) (f t.end)) (behind ts f)
     (Every-under (λ w. Both R T i w.end w.events) (prefix t.events) (f t.end)
     (Every-weak (λ v. T t.end v.end v.events) (λ v. Both R T i v.end (t.events ++ v.events)) (f t.end)
-    (λ v way. (t.end, t.events, v.events, h.0, way, refl)) (g t.end)))
+    (λ v parse_to. (t.end, t.events, v.events, h.0, parse_to, refl)) (g t.end)))
     (Listed-behind R T i ts f h.1 g)
 
-one_more : (R : Ways) (P Q : ℕ → Type 0) → ((m : ℕ) → P m → Q (suc m)) → (i l : ℕ) (es : List Event) → Both R (Several P R) i l es → Several Q R i l es
-one_more R P Q f i l es (m, a, b, way, (n, h, turns), e) = (suc n, f n h, (m, a, b, way, turns, e))
+one_more : (R : Traces) (P Q : ℕ → Type 0) → ((m : ℕ) → P m → Q (suc m)) → (i l : ℕ) (es : List Event) → Both R (Several P R) i l es → Several Q R i l es
+one_more R P Q f i l es (m, a, b, parse_to, (n, h, turns), e) = (suc n, f n h, (m, a, b, parse_to, turns, e))
 
-Listed-up_to : (R : Ways) (body : ℕ → List Trip) → ((i : ℕ) → Listed R i (body i)) → (greedy : Bool) (n i : ℕ) → Listed (Several (λ m. m ≤ n) R) i (up_to n greedy body i)
+Listed-up_to : (R : Traces) (body : ℕ → List TracedParse) → ((i : ℕ) → Listed R i (body i)) → (greedy : Bool) (n i : ℕ) → Listed (Several (λ m. m ≤ n) R) i (up_to n greedy body i)
 unfolding up_to
 Listed-up_to R body h greedy zero i = ((zero, omega arith, (refl, refl)), tt)
 Listed-up_to R body h true (suc n) i =
@@ -65,7 +65,7 @@ Listed-up_to R body h false (suc n) i = (
       (Listed-behind R (Several (λ m. m ≤ n) R) i (body i) (up_to n false body) (h i) (Listed-up_to R body h false n)),
 )
 
-Listed-after : (R : Ways) (body rest : ℕ → List Trip) (P : ℕ → Type 0) → ((i : ℕ) → Listed R i (body i)) → ((i : ℕ) → Listed (Several P R) i (rest i)) →
+Listed-after : (R : Traces) (body rest : ℕ → List TracedParse) (P : ℕ → Type 0) → ((i : ℕ) → Listed R i (body i)) → ((i : ℕ) → Listed (Several P R) i (rest i)) →
     (n i : ℕ) → Listed (Several (λ m. (k : ℕ) × P k × (m ≡ n + k)) R) i (after_turns n body rest i)
 unfolding after_turns
 Listed-after R body rest P h g zero i =
@@ -90,11 +90,11 @@ module _ (hay : List ℕ) where
       subst (λ c. Listed (λ i l es. Takes hay test i l × (es ≡ [])) i (cond c (stay (i + (piece hay i).len) ∷ []) [])) (sym b) tt)
       (cases_Bool (nat_lt 0 (piece hay i).len && test (character (piece hay i))))
 
-  Listed-if : (R : Ways) (i : ℕ) (b : Bool) → (b ≡ true → R i i []) → Listed R i (cond b (stay i ∷ []) [])
+  Listed-if : (R : Traces) (i : ℕ) (b : Bool) → (b ≡ true → R i i []) → Listed R i (cond b (stay i ∷ []) [])
   Listed-if R i true h = (h refl, tt)
   Listed-if R i false h = tt
 
-  Listed-turns : (R : Ways) (body : ℕ → List Trip) → ((i : ℕ) → Listed R i (body i)) → (min : ℕ) (most : Option ℕ) (greedy : Bool) → IsCount min most →
+  Listed-turns : (R : Traces) (body : ℕ → List TracedParse) → ((i : ℕ) → Listed R i (body i)) → (min : ℕ) (most : Option ℕ) (greedy : Bool) → IsCount min most →
       (i : ℕ) → Listed (λ i l es. (n : ℕ) × (min ≤ n) × IsWithin most n × Turns R n i l es) i (turns hay min most greedy body i)
   Listed-turns R body h min None greedy is_count i =
       Every-weak (λ w. Several (λ m. (k : ℕ) × (k ≤ length hay) × (m ≡ min + k)) R i w.end w.events) _ (after_turns min body (up_to (length hay) greedy body) i)
@@ -106,32 +106,32 @@ module _ (hay : List ℕ) where
       (Listed-after R body (up_to (most - min) greedy body) (λ k. k ≤ most - min) h (Listed-up_to R body h greedy (most - min)) min i)
 
   mutual
-    unfolding ways
+    unfolding traced_parses
 
     -- each listed way is a way of the tree
-    pub ways_are : (t : Tree) → IsReduced t → (i : ℕ) → Listed (Steps hay t) i (ways hay t i)
-    ways_are empty reduced i = ((refl, refl), tt)
-    ways_are (char c) reduced i = Listed-taken (λ d. d == c) i
-    ways_are (class rs) reduced i = Listed-taken (in_ranges rs) i
-    ways_are (look l) reduced i = Listed-if (Steps hay (look l)) i (holds l hay i) (λ e. (e, refl, refl))
-    ways_are (repetition min most greedy t) reduced i = Listed-turns (Steps hay t) (ways hay t) (ways_are t reduced.1) min most greedy reduced.0 i
-    ways_are (group k name t) reduced i =
-        Every-under (λ w. Steps hay (group k name t) i w.end w.events) (wrap k i) (ways hay t i)
-        (Every-weak (λ w. Steps hay t i w.end w.events) _ (ways hay t i) (λ w h. (w.events, h, refl)) (ways_are t reduced.1 i))
-    ways_are (sequence ts) reduced i = ways_all_are ts reduced.1 i
-    ways_are (alternation ts) reduced i = ways_one_are ts reduced.1 i
+    pub traced_parses_are : (t : Tree) → IsReduced t → (i : ℕ) → Listed (Steps hay t) i (traced_parses hay t i)
+    traced_parses_are empty reduced i = ((refl, refl), tt)
+    traced_parses_are (char c) reduced i = Listed-taken (λ d. d == c) i
+    traced_parses_are (class rs) reduced i = Listed-taken (in_ranges rs) i
+    traced_parses_are (look l) reduced i = Listed-if (Steps hay (look l)) i (holds l hay i) (λ e. (e, refl, refl))
+    traced_parses_are (repetition min most greedy t) reduced i = Listed-turns (Steps hay t) (traced_parses hay t) (traced_parses_are t reduced.1) min most greedy reduced.0 i
+    traced_parses_are (group k name t) reduced i =
+        Every-under (λ w. Steps hay (group k name t) i w.end w.events) (wrap k i) (traced_parses hay t i)
+        (Every-weak (λ w. Steps hay t i w.end w.events) _ (traced_parses hay t i) (λ w h. (w.events, h, refl)) (traced_parses_are t reduced.1 i))
+    traced_parses_are (sequence ts) reduced i = traced_all_are ts reduced.1 i
+    traced_parses_are (alternation ts) reduced i = traced_one_are ts reduced.1 i
 
-    ways_all_are : (ts : Trees) → AllAreReduced ts → (i : ℕ) → Listed (StepsAll hay ts) i (ways_of_all hay ts i)
-    ways_all_are no_tree reduced i = ((refl, refl), tt)
-    ways_all_are (tree_and t ts) reduced i =
-        Listed-behind (Steps hay t) (StepsAll hay ts) i (ways hay t i) (ways_of_all hay ts) (ways_are t reduced.0 i) (ways_all_are ts reduced.1)
+    traced_all_are : (ts : Trees) → AllAreReduced ts → (i : ℕ) → Listed (StepsAll hay ts) i (traced_parses_of_all hay ts i)
+    traced_all_are no_tree reduced i = ((refl, refl), tt)
+    traced_all_are (tree_and t ts) reduced i =
+        Listed-behind (Steps hay t) (StepsAll hay ts) i (traced_parses hay t i) (traced_parses_of_all hay ts) (traced_parses_are t reduced.0 i) (traced_all_are ts reduced.1)
 
-    ways_one_are : (ts : Trees) → AllAreReduced ts → (i : ℕ) → Listed (StepsOne hay ts) i (ways_of_one hay ts i)
-    ways_one_are no_tree reduced i = tt
-    ways_one_are (tree_and t ts) reduced i =
-        Every-join (λ w. StepsOne hay (tree_and t ts) i w.end w.events) (ways hay t i) (ways_of_one hay ts i)
-        (Every-weak (λ w. Steps hay t i w.end w.events) _ (ways hay t i) (λ w h. inl h) (ways_are t reduced.0 i))
-        (Every-weak (λ w. StepsOne hay ts i w.end w.events) _ (ways_of_one hay ts i) (λ w h. inr h) (ways_one_are ts reduced.1 i))
+    traced_one_are : (ts : Trees) → AllAreReduced ts → (i : ℕ) → Listed (StepsOne hay ts) i (traced_parses_of_one hay ts i)
+    traced_one_are no_tree reduced i = tt
+    traced_one_are (tree_and t ts) reduced i =
+        Every-join (λ w. StepsOne hay (tree_and t ts) i w.end w.events) (traced_parses hay t i) (traced_parses_of_one hay ts i)
+        (Every-weak (λ w. Steps hay t i w.end w.events) _ (traced_parses hay t i) (λ w h. inl h) (traced_parses_are t reduced.0 i))
+        (Every-weak (λ w. StepsOne hay ts i w.end w.events) _ (traced_parses_of_one hay ts i) (λ w h. inr h) (traced_one_are ts reduced.1 i))
 
   -- a way does not go back, and where it goes forward it ends within the haystack
   abbrev pub Forward : ℕ → ℕ → Type 0
@@ -164,7 +164,7 @@ module _ (hay : List ℕ) where
       past : (a b : ℕ) → nat_lt a b ≡ false → b ≤ a
       past a b e = omega (arith, ltb-false a b e)
 
-  turns_forward : (R : Ways) → ((i j : ℕ) (es : List Event) → R i j es → Forward i j) → (n i j : ℕ) (es : List Event) → Turns R n i j es → Forward i j
+  turns_forward : (R : Traces) → ((i j : ℕ) (es : List Event) → R i j es → Forward i j) → (n i j : ℕ) (es : List Event) → Turns R n i j es → Forward i j
   turns_forward R f zero i j es h = stays i j h.0
   turns_forward R f (suc n) i j es (m, a, b, one, more, e) = Forward-both i m j (f i m a one) (turns_forward R f n m j b more)
 
@@ -187,7 +187,7 @@ module _ (hay : List ℕ) where
     forward_one no_tree i j es h = absurd h
     forward_one (tree_and t ts) i j es h = ⊎_elim (λ a. forward t i j es a) (λ b. forward_one ts i j es b) h
 
-  first_turn : (R : Ways) → ((i j : ℕ) (es : List Event) → R i j es → Forward i j) → ((i j : ℕ) (es : List Event) → R i j es → i < j) →
+  first_turn : (R : Traces) → ((i j : ℕ) (es : List Event) → R i j es → Forward i j) → ((i j : ℕ) (es : List Event) → R i j es → i < j) →
       (n i j : ℕ) (es : List Event) → 1 ≤ n → Turns R n i j es → i < j
   first_turn R f g zero i j es le h = absurd (omega arith)
   first_turn R f g (suc n) i j es le (m, a, b, one, more, e) =
@@ -232,84 +232,84 @@ module _ (hay : List ℕ) where
         ⊎_elim (λ a. advance t both.0 i j es a) (λ b. advance_one ts both.1 i j es b) h
 
   -- the listed ways of such a tree lie further on
-  pub ways_advance : (t : Tree) → IsReduced t → is_nullable t ≡ false → (i : ℕ) → Every (λ w. (i < w.end) × (w.end ≤ length hay)) (ways hay t i)
-  ways_advance t reduced non i =
-      Every-weak (λ w. Steps hay t i w.end w.events) _ (ways hay t i)
-      (λ w h. let lt = advance t non i w.end w.events h in let f = forward t i w.end w.events h in (lt, f.1 lt)) (ways_are t reduced i)
+  pub traced_parses_advance : (t : Tree) → IsReduced t → is_nullable t ≡ false → (i : ℕ) → Every (λ w. (i < w.end) × (w.end ≤ length hay)) (traced_parses hay t i)
+  traced_parses_advance t reduced non i =
+      Every-weak (λ w. Steps hay t i w.end w.events) _ (traced_parses hay t i)
+      (λ w h. let lt = advance t non i w.end w.events h in let f = forward t i w.end w.events h in (lt, f.1 lt)) (traced_parses_are t reduced i)
 
   -- where a way ends, and the marks of its events
-  abbrev pub way_of : Trip → Way
-  way_of t = record { end = t.end; marks = marks_of t.events }
+  abbrev pub parse_of : TracedParse → ParseTo
+  parse_of t = record { end = t.end; marks = marks_of t.events }
 
-  same_way : (l : ℕ) (a b : List Mark) → a ≡ b → ◌≡◌ {A = Way} (record { end = l; marks = a }) (record { end = l; marks = b })
-  same_way l a b e = ap (λ (ms : List Mark). record { end = l; marks = ms }) e
+  same_parse : (l : ℕ) (a b : List Mark) → a ≡ b → ◌≡◌ {A = ParseTo} (record { end = l; marks = a }) (record { end = l; marks = b })
+  same_parse l a b e = ap (λ (ms : List Mark). record { end = l; marks = ms }) e
 
-  way_of-prefix : (es : List Event) (l : ℕ) (ts : List Trip) → map way_of (map (prefix es) ts) ≡ map (joined (record { end = l; marks = marks_of es })) (map way_of ts)
-  way_of-prefix es l [] = refl
-  way_of-prefix es l (t ∷ ts) = ap₂ {C = List Way} (λ (w : Way) (ws : List Way). w ∷ ws) (same_way t.end _ _ (marks_of-append es t.events)) (way_of-prefix es l ts)
+  parse_of-prefix : (es : List Event) (l : ℕ) (ts : List TracedParse) → map parse_of (map (prefix es) ts) ≡ map (joined (record { end = l; marks = marks_of es })) (map parse_of ts)
+  parse_of-prefix es l [] = refl
+  parse_of-prefix es l (t ∷ ts) = ap₂ {C = List ParseTo} (λ (w : ParseTo) (ws : List ParseTo). w ∷ ws) (same_parse t.end _ _ (marks_of-append es t.events)) (parse_of-prefix es l ts)
 
-  way_of-behind : (ts : List Trip) (f : ℕ → List Trip) (g : ℕ → List Way) → ((l : ℕ) → map way_of (f l) ≡ g l) →
-      map way_of (behind ts f) ≡ then_each (map way_of ts) g
+  parse_of-behind : (ts : List TracedParse) (f : ℕ → List TracedParse) (g : ℕ → List ParseTo) → ((l : ℕ) → map parse_of (f l) ≡ g l) →
+      map parse_of (behind ts f) ≡ then_each (map parse_of ts) g
   unfolding behind
-  way_of-behind [] f g h = refl
-  way_of-behind (t ∷ ts) f g h =
-      map-append way_of (map (prefix t.events) (f t.end)) (behind ts f)
-      ∙ ap₂ ◌++◌ (way_of-prefix t.events t.end (f t.end) ∙ ap (map (joined (way_of t))) (h t.end)) (way_of-behind ts f g h)
+  parse_of-behind [] f g h = refl
+  parse_of-behind (t ∷ ts) f g h =
+      map-append parse_of (map (prefix t.events) (f t.end)) (behind ts f)
+      ∙ ap₂ ◌++◌ (parse_of-prefix t.events t.end (f t.end) ∙ ap (map (joined (parse_of t))) (h t.end)) (parse_of-behind ts f g h)
 
-  module _ (body : ℕ → List Trip) (all : ℕ → List Way) (same : (i : ℕ) → map way_of (body i) ≡ all i) where
-    way_of-up_to : (greedy : Bool) (n i : ℕ) → map way_of (up_to n greedy body i) ≡ preference.up_to n greedy all i
+  module _ (body : ℕ → List TracedParse) (all : ℕ → List ParseTo) (same : (i : ℕ) → map parse_of (body i) ≡ all i) where
+    parse_of-up_to : (greedy : Bool) (n i : ℕ) → map parse_of (up_to n greedy body i) ≡ preference.up_to n greedy all i
     unfolding up_to
-    way_of-up_to greedy zero i = refl
-    way_of-up_to true (suc n) i =
-        map-append way_of (behind (body i) (up_to n true body)) (stay i ∷ [])
-        ∙ ap (λ ws. ws ++ here i ∷ []) (way_of-behind (body i) (up_to n true body) (preference.up_to n true all) (way_of-up_to true n)
+    parse_of-up_to greedy zero i = refl
+    parse_of-up_to true (suc n) i =
+        map-append parse_of (behind (body i) (up_to n true body)) (stay i ∷ [])
+        ∙ ap (λ ws. ws ++ here i ∷ []) (parse_of-behind (body i) (up_to n true body) (preference.up_to n true all) (parse_of-up_to true n)
         ∙ ap (λ ws. then_each ws (preference.up_to n true all)) (same i))
-    way_of-up_to false (suc n) i =
-        ap (λ ws. here i ∷ ws) (way_of-behind (body i) (up_to n false body) (preference.up_to n false all) (way_of-up_to false n)
+    parse_of-up_to false (suc n) i =
+        ap (λ ws. here i ∷ ws) (parse_of-behind (body i) (up_to n false body) (preference.up_to n false all) (parse_of-up_to false n)
         ∙ ap (λ ws. then_each ws (preference.up_to n false all)) (same i))
 
-    way_of-after : (rest : ℕ → List Trip) (more : ℕ → List Way) → ((i : ℕ) → map way_of (rest i) ≡ more i) → (n i : ℕ) →
-        map way_of (after_turns n body rest i) ≡ preference.after_turns n all more i
+    parse_of-after : (rest : ℕ → List TracedParse) (more : ℕ → List ParseTo) → ((i : ℕ) → map parse_of (rest i) ≡ more i) → (n i : ℕ) →
+        map parse_of (after_turns n body rest i) ≡ preference.after_turns n all more i
     unfolding after_turns
-    way_of-after rest more h zero i = h i
-    way_of-after rest more h (suc n) i =
-        way_of-behind (body i) (after_turns n body rest) (preference.after_turns n all more) (way_of-after rest more h n)
+    parse_of-after rest more h zero i = h i
+    parse_of-after rest more h (suc n) i =
+        parse_of-behind (body i) (after_turns n body rest) (preference.after_turns n all more) (parse_of-after rest more h n)
         ∙ ap (λ ws. then_each ws (preference.after_turns n all more)) (same i)
 
-    way_of-turns : (min : ℕ) (most : Option ℕ) (greedy : Bool) (i : ℕ) → map way_of (turns hay min most greedy body i) ≡ preference.turns hay min most greedy all i
-    way_of-turns min None greedy i = way_of-after _ _ (way_of-up_to greedy (length hay)) min i
-    way_of-turns min (Some most) greedy i = way_of-after _ _ (way_of-up_to greedy (most - min)) min i
+    parse_of-turns : (min : ℕ) (most : Option ℕ) (greedy : Bool) (i : ℕ) → map parse_of (turns hay min most greedy body i) ≡ preference.turns hay min most greedy all i
+    parse_of-turns min None greedy i = parse_of-after _ _ (parse_of-up_to greedy (length hay)) min i
+    parse_of-turns min (Some most) greedy i = parse_of-after _ _ (parse_of-up_to greedy (most - min)) min i
 
-  way_of-if : (b : Bool) (l : ℕ) → map way_of (cond b (stay l ∷ []) []) ≡ cond b (here l ∷ []) []
-  way_of-if true l = refl
-  way_of-if false l = refl
+  parse_of-if : (b : Bool) (l : ℕ) → map parse_of (cond b (stay l ∷ []) []) ≡ cond b (here l ∷ []) []
+  parse_of-if true l = refl
+  parse_of-if false l = refl
 
-  way_of-wrap : (k i : ℕ) (ts : List Trip) → map way_of (map (wrap k i) ts) ≡ map (grouped k i) (map way_of ts)
-  way_of-wrap k i [] = refl
-  way_of-wrap k i (t ∷ ts) =
-      ap₂ {C = List Way} (λ (w : Way) (ws : List Way). w ∷ ws) (same_way t.end _ _ (marks_of-append t.events (closed k i t.end ∷ []))) (way_of-wrap k i ts)
+  parse_of-wrap : (k i : ℕ) (ts : List TracedParse) → map parse_of (map (wrap k i) ts) ≡ map (grouped k i) (map parse_of ts)
+  parse_of-wrap k i [] = refl
+  parse_of-wrap k i (t ∷ ts) =
+      ap₂ {C = List ParseTo} (λ (w : ParseTo) (ws : List ParseTo). w ∷ ws) (same_parse t.end _ _ (marks_of-append t.events (closed k i t.end ∷ []))) (parse_of-wrap k i ts)
 
   mutual
-    unfolding ways parses
+    unfolding traced_parses parses
 
     -- The marks of the listed ways are the listed parses.
-    pub ways-parses : (t : Tree) (i : ℕ) → map way_of (ways hay t i) ≡ parses hay t i
-    ways-parses empty i = refl
-    ways-parses (char c) i = way_of-if (nat_lt 0 (piece hay i).len && (character (piece hay i) == c)) (i + (piece hay i).len)
-    ways-parses (class rs) i = way_of-if (nat_lt 0 (piece hay i).len && in_ranges rs (character (piece hay i))) (i + (piece hay i).len)
-    ways-parses (look l) i = way_of-if (holds l hay i) i
-    ways-parses (repetition min most greedy t) i = way_of-turns (ways hay t) (parses hay t) (ways-parses t) min most greedy i
-    ways-parses (group k name t) i = way_of-wrap k i (ways hay t i) ∙ ap (map (grouped k i)) (ways-parses t i)
-    ways-parses (sequence ts) i = ways_all-parses ts i
-    ways-parses (alternation ts) i = ways_one-parses ts i
+    pub traced_parses-parses : (t : Tree) (i : ℕ) → map parse_of (traced_parses hay t i) ≡ parses hay t i
+    traced_parses-parses empty i = refl
+    traced_parses-parses (char c) i = parse_of-if (nat_lt 0 (piece hay i).len && (character (piece hay i) == c)) (i + (piece hay i).len)
+    traced_parses-parses (class rs) i = parse_of-if (nat_lt 0 (piece hay i).len && in_ranges rs (character (piece hay i))) (i + (piece hay i).len)
+    traced_parses-parses (look l) i = parse_of-if (holds l hay i) i
+    traced_parses-parses (repetition min most greedy t) i = parse_of-turns (traced_parses hay t) (parses hay t) (traced_parses-parses t) min most greedy i
+    traced_parses-parses (group k name t) i = parse_of-wrap k i (traced_parses hay t i) ∙ ap (map (grouped k i)) (traced_parses-parses t i)
+    traced_parses-parses (sequence ts) i = traced_all-parses ts i
+    traced_parses-parses (alternation ts) i = traced_one-parses ts i
 
-    ways_all-parses : (ts : Trees) (i : ℕ) → map way_of (ways_of_all hay ts i) ≡ parses_of_all hay ts i
-    ways_all-parses no_tree i = refl
-    ways_all-parses (tree_and t ts) i =
-        way_of-behind (ways hay t i) (ways_of_all hay ts) (parses_of_all hay ts) (ways_all-parses ts)
-        ∙ ap (λ ws. then_each ws (parses_of_all hay ts)) (ways-parses t i)
+    traced_all-parses : (ts : Trees) (i : ℕ) → map parse_of (traced_parses_of_all hay ts i) ≡ parses_of_all hay ts i
+    traced_all-parses no_tree i = refl
+    traced_all-parses (tree_and t ts) i =
+        parse_of-behind (traced_parses hay t i) (traced_parses_of_all hay ts) (parses_of_all hay ts) (traced_all-parses ts)
+        ∙ ap (λ ws. then_each ws (parses_of_all hay ts)) (traced_parses-parses t i)
 
-    ways_one-parses : (ts : Trees) (i : ℕ) → map way_of (ways_of_one hay ts i) ≡ parses_of_one hay ts i
-    ways_one-parses no_tree i = refl
-    ways_one-parses (tree_and t ts) i =
-        map-append way_of (ways hay t i) (ways_of_one hay ts i) ∙ ap₂ ◌++◌ (ways-parses t i) (ways_one-parses ts i)
+    traced_one-parses : (ts : Trees) (i : ℕ) → map parse_of (traced_parses_of_one hay ts i) ≡ parses_of_one hay ts i
+    traced_one-parses no_tree i = refl
+    traced_one-parses (tree_and t ts) i =
+        map-append parse_of (traced_parses hay t i) (traced_parses_of_one hay ts i) ∙ ap₂ ◌++◌ (traced_parses-parses t i) (traced_one-parses ts i)

@@ -1,11 +1,11 @@
 use Rattle.std.proofs.Common.{◌≡◌, ◌+◌, ◌≤◌, drop}
 use Rattle.std.specs.Prelude.{sum_by}
-use Rattle.bites_spec.specs.Measure.{group_weight}
+use Rattle.bites_spec.specs.Measure.{group_size}
 use Rattle.bites_machine.specs.Sizes.{held}
-use Rattle.bites_machine.proofs.groups.weight_of_groups.Given as goal
+use Rattle.bites_machine.proofs.groups.size_of_groups.Given as goal
 
 abbrev pub invariant-loop-i : goal.invariant-loop-i
 invariant-loop-i l = record {
-  total : held (l.all + sum_by group_weight (drop l.i l.groups)) ≡ held (sum_by group_weight l.groups);
+  total : held (l.all + sum_by group_size (drop l.i l.groups)) ≡ held (sum_by group_size l.groups);
   within : l.all ≤ 18446744073709551615;
 }

@@ -1,0 +1,83 @@
+-- What the groups that are left in a tree weigh.
+use Rattle.std.proofs.Common.{◌≡◌, ◌≢◌, ℕ, zero, suc, ◌+◌, ◌*◌, ◌<◌, List, [], ◌∷◌, length, map, get_or, Option, Some, None, refl, sym, ap, ◌∙◌, subst, inl, inr, arith, slice_set}
+use Rattle.std.specs.Prelude.{sum_by, replicate}
+use Rattle.std.proofs.lemmas.List.{length-set, get_or-set_other, get_or-replicate, length-replicate}
+use Rattle.std.proofs.lemmas.List.Sums.{sum_by-append, sum_by-cons, sum_by-set}
+use Rattle.bites_spec.specs.Walks.{Among, AllApart}
+use Rattle.bites_spec.specs.Tree.{Tree, Trees, empty, char, class, look, repetition, group, sequence, alternation, no_tree, tree_and, groups_in, names_in, names_in_all, captures_len}
+use Rattle.bites_spec.specs.Measure.{name_size, group_size, groups_of, groups_left}
+use Rattle.bites_spec.proofs.regex.LeftLemmas.{number, groups_in-map, Among-number, left_has_groups, length-left}
+use Rattle.bites_machine.specs.Names.{filled}
+use Rattle.bites_machine.proofs.compile.GroupLemmas.{filled-groups_left}
+
+-- what a group's name weighs, if it has one
+abbrev named : Option (List ℕ) → ℕ
+named None = 0
+named (Some name) = name_size name
+
+abbrev name_of_entry : ℕ × Option (List ℕ) → ℕ
+name_of_entry g = named g.1
+
+mutual
+  names_have_size : (t : Tree) → sum_by name_size (names_in t) ≡ sum_by name_of_entry (groups_of t)
+  names_have_size empty = refl
+  names_have_size (char c) = refl
+  names_have_size (class rs) = refl
+  names_have_size (look l) = refl
+  names_have_size (repetition min most greedy t) = names_have_size t
+  names_have_size (group k None t) = (let none : sum_by name_of_entry ((k, None) ∷ groups_of t) ≡ 0 + sum_by name_of_entry (groups_of t) = sum_by-cons name_of_entry (k, None) (groups_of t) in
+      omega (arith, names_have_size t, none))
+  names_have_size (group k (Some name) t) =
+      sum_by-cons name_size name (names_in t) ∙ ap (λ n. name_size name + n) (names_have_size t)
+      ∙ sym (sum_by-cons name_of_entry (k, Some name) (groups_of t))
+  names_have_size (sequence ts) = all_names_have_size ts
+  names_have_size (alternation ts) = all_names_have_size ts
+
+  all_names_have_size : (ts : Trees) → sum_by name_size (names_in_all ts) ≡ sum_by name_of_entry (groups_of (sequence ts))
+  all_names_have_size no_tree = refl
+  all_names_have_size (tree_and t ts) =
+      omega (
+        arith,
+        names_have_size t,
+        all_names_have_size ts,
+        sum_by-append name_size (names_in t) (names_in_all ts),
+        sum_by-append name_of_entry (groups_of t) (groups_of (sequence ts)),
+      )
+
+size_named : (o : Option (List ℕ)) → group_size o ≡ 16 + named o
+size_named None = refl
+size_named (Some name) = refl
+
+-- a name that is written to a place without one
+set_has_size : (ns : List (Option (List ℕ))) (i : ℕ) (o : Option (List ℕ)) → i < length ns → get_or ns i None ≡ None →
+    sum_by group_size (slice_set ns i o) ≡ sum_by group_size ns + named o
+set_has_size ns i o below none =
+    omega (arith, sum_by-set group_size ns i o None below, ap group_size none, size_named o)
+
+filled_has_size : (gs : List (ℕ × Option (List ℕ))) (ns : List (Option (List ℕ))) → AllApart (map number gs) →
+    ((g : ℕ × Option (List ℕ)) → Among gs g → (g.0 < length ns) × (get_or ns g.0 None ≡ None)) →
+    sum_by group_size (filled gs ns) ≡ sum_by group_size ns + sum_by name_of_entry gs
+filled_has_size [] ns apart free = omega arith
+filled_has_size (g ∷ gs) ns apart free =
+    let own = free g (inl refl) in
+    let rest = filled_has_size gs (slice_set ns g.0 g.1) apart.1
+    (λ h among.
+    let there = free h (inr among) in
+    let other : h.0 ≢ g.0 = λ (e : h.0 ≡ g.0). apart.0 (subst (λ k. Among (map number gs) k) e (Among-number gs h among)) in
+    (omega (arith, there.0, length-set ns g.0 g.1), get_or-set_other ns g.0 h.0 g.1 None other ∙ there.1)) in
+    omega (arith, rest, set_has_size ns g.0 g.1 own.0 own.1, sum_by-cons name_of_entry g gs)
+
+replicate_has_size : (n : ℕ) → sum_by group_size (replicate {A = Option (List ℕ)} n None) ≡ 16 * n
+replicate_has_size zero = refl
+replicate_has_size (suc n) = omega (arith, replicate_has_size n, sum_by-cons group_size None (replicate {A = Option (List ℕ)} n None))
+
+-- 16 for each number up to the greatest, and what the names weigh
+pub left_have_size : (t : Tree) → AllApart (groups_in t) → sum_by group_size (groups_left t) ≡ 16 * captures_len t + sum_by name_size (names_in t)
+left_have_size t apart =
+    let none = replicate {A = Option (List ℕ)} (captures_len t) None in
+    let filled_is = ap (sum_by group_size) (filled-groups_left t apart) in
+    let sum = filled_has_size (groups_of t) none (subst (λ ks. AllApart ks) (groups_in-map t) apart)
+    (λ g among.
+    let below : g.0 < captures_len t = omega (arith, (left_has_groups t apart g among).0, length-left t) in
+    (omega (arith, below, length-replicate {A = Option (List ℕ)} (captures_len t) None), get_or-replicate (captures_len t) g.0 None None below)) in
+    omega (arith, filled_is, sum, replicate_has_size (captures_len t), names_have_size t)
