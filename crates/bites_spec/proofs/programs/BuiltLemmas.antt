@@ -99,11 +99,11 @@ module _ (t : Tree) (p : Program) (hay : List ℕ) (fit : IsCompilable t) (built
   run_is_parse i j r runs =
       let x = group-leaves p hay 0 None t (HasForm-leaves p hay t fit.reduced) p.start built.last built.used built.form i j r runs in
       let over = ends_there x.l j x.rest x.runs in
-      let inner = x.parse_to.0 in
-      let steps : Steps hay t i j inner = subst (λ l. Steps hay t i l inner) over.0 x.parse_to.1 in
+      let inner = x.parse.0 in
+      let steps : Steps hay t i j inner = subst (λ l. Steps hay t i l inner) over.0 x.parse.1 in
       let same : writes p (at p.start i) r ≡ writes_of (whole i j inner) =
       x.same ∙ ap (λ rest. writes_of x.events ++ writes p (at built.last x.l) rest) over.1 ∙ append-nil (writes_of x.events)
-      ∙ ap writes_of (x.parse_to.2 ∙ ap (λ l. whole i l inner) over.0) in
+      ∙ ap writes_of (x.parse.2 ∙ ap (λ l. whole i l inner) over.0) in
       (marks_of inner, Steps-Parse hay t i j inner steps, has_groups i j r inner steps same)
 
   -- each parse is a run with its groups in the slots

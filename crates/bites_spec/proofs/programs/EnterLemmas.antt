@@ -39,7 +39,7 @@ module _ (p : Program) (hay : List ℕ) where
   renamed s j ws vs e x = record { configurations = x.configurations; runs = x.runs; same = x.same ∙ e }
 
   Enters-also : (part : Fragment) (R T : Traces) → ((i l : ℕ) (es : List Event) → T i l es → R i l es) → Enters part R → Enters part T
-  Enters-also part R T f enters from to used h i l es parse_to j rest runs = enters from to used h i l es (f i l es parse_to) j rest runs
+  Enters-also part R T f enters from to used h i l es parse j rest runs = enters from to used h i l es (f i l es parse) j rest runs
 
   -- an edge, and a run from where it leads
   step_in : (q i j : ℕ) (s : State) (t : Configuration) (rest : List Configuration) → state_at p.states q ≡ s → Among (edges hay s i) t → RunsTo t rest j →
@@ -54,8 +54,8 @@ module _ (p : Program) (hay : List ℕ) where
   DoesTo make R = (to i l : ℕ) (es : List Event) → R i l es → Among (edges hay (make to) i) (at to l) × (write_of (make to) i ≡ writes_of es)
 
   One-enters : (make : ℕ → State) (R : Traces) → DoesTo make R → Enters (One p.states make) R
-  One-enters make R does from to used part i l es parse_to j rest runs =
-      let d = does to i l es parse_to in
+  One-enters make R does from to used part i l es parse j rest runs =
+      let d = does to i l es parse in
       renamed (at from i) j _ _ (ap (λ ws. ws ++ written (at to l) rest) d.1) (step_in from i j (make to) (at to l) rest part.0 d.0 runs)
 
   Among-if : {A : Type 0} (b : Bool) (x : A) → b ≡ true → Among (cond b (x ∷ []) []) x
@@ -104,9 +104,9 @@ module _ (p : Program) (hay : List ℕ) where
       ∙ ap (λ ws. ws ++ vs) (sym (writes_of-append a b))) y
 
   Behind-enters : (first second : Fragment) (R T : Traces) → Enters first R → Enters second T → Enters (Behind p.states first second) (Both R T)
-  Behind-enters first second R T one two from to used (mid, c, d, h, k, e) i l es (m, a, b, parse_to, more, es_is) j rest runs =
+  Behind-enters first second R T one two from to used (mid, c, d, h, k, e) i l es (m, a, b, parse, more, es_is) j rest runs =
       let x = two mid to d k m l b more j rest runs in
-      let y = one from mid c h i m a parse_to j x.configurations x.runs in
+      let y = one from mid c h i m a parse j x.configurations x.runs in
       renamed (at from i) j _ _ (ap (λ es. writes_of es ++ written (at to l) rest) (sym es_is))
       (joined (at from i) (at mid m) j a b (written (at to l) rest) x y)
 
@@ -151,9 +151,9 @@ module _ (p : Program) (hay : List ℕ) where
     -- one turn, and behind it what is entered where the turn leads
     turn : (from mid : ℕ) (a : List ℕ) → body from mid a → (i m j : ℕ) (first more es : List Event) (vs : List (ℕ × ℕ)) →
         R i m first → es ≡ first ++ more → Entered (at mid m) j (writes_of more ++ vs) → Entered (at from i) j (writes_of es ++ vs)
-    turn from mid a h i m j first more es vs parse_to es_is x =
+    turn from mid a h i m j first more es vs parse es_is x =
         renamed (at from i) j _ _ (ap (λ es. writes_of es ++ vs) (sym es_is))
-        (joined (at from i) (at mid m) j first more vs x (inside from mid a h i m first parse_to j x.configurations x.runs))
+        (joined (at from i) (at mid m) j first more vs x (inside from mid a h i m first parse j x.configurations x.runs))
 
     star_in : (from to round : ℕ) (a : List ℕ) → body round from a → state_at p.states from ≡ choice p.states greedy round to →
         (n i l : ℕ) (es : List Event) → Turns R n i l es → (j : ℕ) (rest : List Configuration) → RunsTo (at to l) rest j →
@@ -161,9 +161,9 @@ module _ (p : Program) (hay : List ℕ) where
     star_in from to round a h is zero i l es (l_is, es_is) j rest runs =
         at_end from to i l j es rest l_is es_is
         (out_of greedy from round to i j _ is (stays (at to i) j rest (back to i l j rest l_is runs)))
-    star_in from to round a h is (suc n) i l es (m, first, more, parse_to, turns, es_is) j rest runs =
+    star_in from to round a h is (suc n) i l es (m, first, more, parse, turns, es_is) j rest runs =
         into greedy from round to i j _ is
-        (turn round from a h i m j first more es _ parse_to es_is (star_in from to round a h is n m l more turns j rest runs))
+        (turn round from a h i m j first more es _ parse es_is (star_in from to round a h is n m l more turns j rest runs))
 
     Star-enters : Enters (Star p.states greedy body) (Several Any R)
     Star-enters from to used (round, a, h, is, e) i l es (n, u, turns) j rest runs = star_in from to round a h is n i l es turns j rest runs
@@ -171,12 +171,12 @@ module _ (p : Program) (hay : List ℕ) where
     loop_in : (from to again : ℕ) (a : List ℕ) → body from again a → state_at p.states again ≡ choice p.states greedy from to →
         (n i l : ℕ) (es : List Event) → Turns R (suc n) i l es → (j : ℕ) (rest : List Configuration) → RunsTo (at to l) rest j →
         Entered (at from i) j (writes_of es ++ written (at to l) rest)
-    loop_in from to again a h is zero i l es (m, first, more, parse_to, (l_is, more_is), es_is) j rest runs =
-        turn from again a h i m j first more es _ parse_to es_is
+    loop_in from to again a h is zero i l es (m, first, more, parse, (l_is, more_is), es_is) j rest runs =
+        turn from again a h i m j first more es _ parse es_is
         (at_end again to m l j more rest l_is more_is
         (out_of greedy again from to m j _ is (stays (at to m) j rest (back to m l j rest l_is runs))))
-    loop_in from to again a h is (suc n) i l es (m, first, more, parse_to, turns, es_is) j rest runs =
-        turn from again a h i m j first more es _ parse_to es_is
+    loop_in from to again a h is (suc n) i l es (m, first, more, parse, turns, es_is) j rest runs =
+        turn from again a h i m j first more es _ parse es_is
         (into greedy again from to m j _ is (loop_in from to again a h is n m l more turns j rest runs))
 
     Loop-enters : Enters (Loop p.states greedy body) (Several (λ m. 1 ≤ m) R)
@@ -211,21 +211,21 @@ module _ (p : Program) (hay : List ℕ) where
         at_end from to i l j es rest l_is es_is
         (out_of greedy from round out i j _ is
         (subst (λ q. Entered (at q i) j (written (at to i) rest)) (options_end n out mid to b more) (stays (at to i) j rest (back to i l j rest l_is runs))))
-    Options-enters (suc n) out from to used (round, mid, a, b, is, h, more, e) i l es (suc m, le, (k, first, others, parse_to, turns, es_is)) j rest runs =
+    Options-enters (suc n) out from to used (round, mid, a, b, is, h, more, e) i l es (suc m, le, (k, first, others, parse, turns, es_is)) j rest runs =
         into greedy from round out i j _ is
-        (turn round mid a h i k j first others es _ parse_to es_is
+        (turn round mid a h i k j first others es _ parse es_is
         (Options-enters n out mid to b more k l others (m, omega arith, turns) j rest runs))
 
     Bounded-enters : (n : ℕ) → Enters (Bounded p.states n greedy body) (Several (λ m. m ≤ n) R)
-    Bounded-enters n from to used (out, a, h, goes, e) i l es parse_to j rest runs =
+    Bounded-enters n from to used (out, a, h, goes, e) i l es parse j rest runs =
         let x = over out to l j rest goes runs in
-        renamed (at from i) j _ _ (ap (λ ws. writes_of es ++ ws) x.same) (Options-enters n out from out a h i l es parse_to j x.configurations x.runs)
+        renamed (at from i) j _ _ (ap (λ ws. writes_of es ++ ws) x.same) (Options-enters n out from out a h i l es parse j x.configurations x.runs)
 
     once : Enters body (Several (λ m. m ≡ 1) R)
     once from to used h i l es (zero, one, turns) j rest runs = absurd (omega arith)
-    once from to used h i l es (suc zero, one, (m, first, more, parse_to, (l_is, more_is), es_is)) j rest runs =
+    once from to used h i l es (suc zero, one, (m, first, more, parse, (l_is, more_is), es_is)) j rest runs =
         inside from to used h i l es
-        (subst (λ x. R i x es) (sym l_is) (subst (λ x. R i m x) (sym (es_is ∙ ap (λ x. first ++ x) more_is ∙ append-nil first)) parse_to)) j rest runs
+        (subst (λ x. R i x es) (sym l_is) (subst (λ x. R i m x) (sym (es_is ∙ ap (λ x. first ++ x) more_is ∙ append-nil first)) parse)) j rest runs
     once from to used h i l es (suc (suc n), one, turns) j rest runs = absurd (omega arith)
 
     Copies-enters : (n : ℕ) (rest : Fragment) (P : ℕ → Type 0) → Enters rest (Several P R) →
@@ -244,8 +244,8 @@ module _ (p : Program) (hay : List ℕ) where
         split : (m : ℕ) → ((k : ℕ) × P k × (m ≡ suc n + k)) → (i l : ℕ) (es : List Event) → Turns R m i l es →
             Both R (Several (λ m. (k : ℕ) × P k × (m ≡ n + k)) R) i l es
         split zero c i l es turns = absurd (omega (arith, c.2))
-        split (suc m) c i l es (x, first, more, parse_to, turns, es_is) =
-            (x, first, more, parse_to, (m, (c.0, c.1, omega (arith, c.2)), turns), es_is)
+        split (suc m) c i l es (x, first, more, parse, turns, es_is) =
+            (x, first, more, parse, (m, (c.0, c.1, omega (arith, c.2)), turns), es_is)
 
     CopiesUpTo-enters : (n more : ℕ) → Enters (CopiesUpTo p.states n more greedy body) (Several (λ m. (suc n ≤ m) × (m ≤ suc n + more)) R)
     CopiesUpTo-enters n zero =
@@ -294,13 +294,13 @@ module _ (p : Program) (hay : List ℕ) where
 
   pub group-enters : (k : ℕ) (name : Option (List ℕ)) (t : Tree) → Enters (HasForm p.states t) (Steps hay t) →
       Enters (HasForm p.states (group k name t)) (Steps hay (group k name t))
-  group-enters k name t enters from to used h i l es parse_to j rest runs =
+  group-enters k name t enters from to used h i l es parse j rest runs =
       Behind-enters (One p.states (λ to. program.capture to (2 * k)))
       (Behind p.states (HasForm p.states t) (One p.states (λ to. program.capture to (2 * k + 1)))) (Opens k) (Both (Steps hay t) (Closes k i))
       (One-enters (λ to. program.capture to (2 * k)) (Opens k) (open_to k))
       (Behind-enters (HasForm p.states t) (One p.states (λ to. program.capture to (2 * k + 1))) (Steps hay t) (Closes k i) enters
       (One-enters (λ to. program.capture to (2 * k + 1)) (Closes k i) (close_to k i)))
-      from to used h i l es (group_trace k name t i l es parse_to) j rest runs
+      from to used h i l es (group_trace k name t i l es parse) j rest runs
 
   mutual
     -- Each way through a tree is a run through its part.
@@ -313,16 +313,16 @@ module _ (p : Program) (hay : List ℕ) where
         Repeated-enters greedy (HasForm p.states t) (Steps hay t) (HasForm-enters t reduced.1) min most (is_nullable t) reduced.0
     HasForm-enters (group k name t) reduced = group-enters k name t (HasForm-enters t reduced.1)
     HasForm-enters (sequence ts) reduced = HasFormAll-enters ts reduced.1
-    HasForm-enters (alternation ts) reduced = λ from to used h i l es parse_to j rest runs.
+    HasForm-enters (alternation ts) reduced = λ from to used h i l es parse j rest runs.
         let v = over h.0 to l j rest h.5 runs in
-        let x = HasFormEach-enters ts reduced.1 h.1 h.0 h.2 h.4 i l es parse_to j v.configurations v.runs in
+        let x = HasFormEach-enters ts reduced.1 h.1 h.0 h.2 h.4 i l es parse j v.configurations v.runs in
         renamed (at from i) j _ _ (x.2.same ∙ ap (λ ws. writes_of es ++ ws) v.same)
         (step_in from i j (program.splits h.1 false) (at x.0 i) x.2.configurations h.3 (Among-to h.1 i x.0 x.1) x.2.runs)
 
     HasFormAll-enters : (ts : Trees) → AllAreReduced ts → Enters (HasFormAll p.states ts) (StepsAll hay ts)
-    HasFormAll-enters no_tree reduced = λ from to used h i l es parse_to j rest runs.
-        at_end from to i l j es rest parse_to.0 parse_to.1
-        (subst (λ q. Entered (at q i) j (written (at to i) rest)) (sym h.0) (stays (at to i) j rest (back to i l j rest parse_to.0 runs)))
+    HasFormAll-enters no_tree reduced = λ from to used h i l es parse j rest runs.
+        at_end from to i l j es rest parse.0 parse.1
+        (subst (λ q. Entered (at q i) j (written (at to i) rest)) (sym h.0) (stays (at to i) j rest (back to i l j rest parse.0 runs)))
     HasFormAll-enters (tree_and t ts) reduced =
         Behind-enters (HasForm p.states t) (HasFormAll p.states ts) (Steps hay t) (StepsAll hay ts)
         (HasForm-enters t reduced.0) (HasFormAll-enters ts reduced.1)
@@ -330,11 +330,11 @@ module _ (p : Program) (hay : List ℕ) where
     HasFormEach-enters : (ts : Trees) → AllAreReduced ts → (rounds : List ℕ) (out : ℕ) (used : List ℕ) → HasFormEach p.states ts rounds out used →
         (i l : ℕ) (es : List Event) → StepsOne hay ts i l es → (j : ℕ) (rest : List Configuration) → RunsTo (at out l) rest j →
         (q : ℕ) × Among rounds q × Entered (at q i) j (writes_of es ++ written (at out l) rest)
-    HasFormEach-enters no_tree reduced rounds out used h i l es parse_to j rest runs = absurd parse_to
-    HasFormEach-enters (tree_and t ts) reduced [] out used h i l es parse_to j rest runs = absurd h
-    HasFormEach-enters (tree_and t ts) reduced (x ∷ rounds) out used (a, b, one, more, e) i l es parse_to j rest runs =
+    HasFormEach-enters no_tree reduced rounds out used h i l es parse j rest runs = absurd parse
+    HasFormEach-enters (tree_and t ts) reduced [] out used h i l es parse j rest runs = absurd h
+    HasFormEach-enters (tree_and t ts) reduced (x ∷ rounds) out used (a, b, one, more, e) i l es parse j rest runs =
         ⊎_elim
         (λ (here : Steps hay t i l es). (x, inl refl, HasForm-enters t reduced.0 x out a one i l es here j rest runs))
         (λ (later : StepsOne hay ts i l es).
         let r = HasFormEach-enters ts reduced.1 rounds out b more i l es later j rest runs in (r.0, inr r.1, r.2))
-        parse_to
+        parse

@@ -40,10 +40,10 @@ pick_ending j (w ∷ ws) = ap (λ o. if w.end == j then Some w else o) (pick_end
 
 -- the listed way that a picked tour is
 pub record Picked (ok : ℕ → Bool) (hay : List ℕ) (t : Tree) (i : ℕ) (ws : List TracedParse) (o : Tour) : Type 0 where
-  pub parse_to : TracedParse
-  pub steps : Steps hay t i parse_to.end parse_to.events
-  pub same : tour_of (wrap 0 i parse_to) ≡ o
-  pub first : pick_parse ok (map (parse_of hay) ws) ≡ Some (parse_of hay parse_to)
+  pub parse : TracedParse
+  pub steps : Steps hay t i parse.end parse.events
+  pub same : tour_of (wrap 0 i parse) ≡ o
+  pub first : pick_parse ok (map (parse_of hay) ws) ≡ Some (parse_of hay parse)
 
 pick_parses : (ok : ℕ → Bool) (hay : List ℕ) (t : Tree) (i : ℕ) (ws : List TracedParse) (o : Tour) → Every (λ w. Steps hay t i w.end w.events) ws →
     pick ok (map tour_of (map (wrap 0 i) ws)) ≡ Some o → Picked ok hay t i ws o
@@ -51,7 +51,7 @@ pick_parses ok hay t i [] o are e = absurd (none-some o e)
 pick_parses ok hay t i (w ∷ ws) o are e =
     ⊎_elim
     (λ (b : ok w.end ≡ true). record {
-      parse_to = w;
+      parse = w;
       steps = are.0;
       same = same_Some _ _ (sym (ap (λ c. cond c (Some (tour_of (wrap 0 i w))) (pick ok (map tour_of (map (wrap 0 i) ws)))) b) ∙ e);
       first = ap (λ c. cond c (Some (parse_of hay w)) (pick_parse ok (map (parse_of hay) ws))) b;
@@ -59,7 +59,7 @@ pick_parses ok hay t i (w ∷ ws) o are e =
     (λ (b : ok w.end ≡ false).
     let m = pick_parses ok hay t i ws o are.1 (sym (ap (λ c. cond c (Some (tour_of (wrap 0 i w))) (pick ok (map tour_of (map (wrap 0 i) ws)))) b) ∙ e) in
     record {
-      parse_to = m.parse_to;
+      parse = m.parse;
       steps = m.steps;
       same = m.same;
       first = ap (λ c. cond c (Some (parse_of hay w)) (pick_parse ok (map (parse_of hay) ws))) b ∙ m.first;
@@ -103,7 +103,7 @@ module _ (t : Tree) (p : Program) (hay : List ℕ) (fit : IsCompilable t) (built
     where
       at_parses : Picked ok hay t r.start (traced_parses hay t r.start) (tour p hay (at p.start r.start) r.configurations) → Preferred ok r
       at_parses x =
-          let w = x.parse_to in
+          let w = x.parse in
           let end : w.end ≡ r.end = ap (λ x. x.end) x.same ∙ ends_at p hay (at p.start r.start) r.configurations r.end runs in
           record {
             marks = marks_of w.events;

@@ -41,8 +41,8 @@ same_traced l k a b e f = ap₂ traced e f
 module _ (R : Traces) (body : ℕ → List TracedParse) (lists : Lists R body) where
   one_behind : (i m l : ℕ) (first more es : List Event) (f : ℕ → List TracedParse) → R i m first → Among (f m) (traced l more) → es ≡ first ++ more →
       Among (behind (body i) f) (traced l es)
-  one_behind i m l first more es f parse_to among e =
-      subst (λ x. Among (behind (body i) f) (traced l x)) (sym e) (Among-behind (body i) f (traced m first) (traced l more) (lists i m first parse_to) among)
+  one_behind i m l first more es f parse among e =
+      subst (λ x. Among (behind (body i) f) (traced l x)) (sym e) (Among-behind (body i) f (traced m first) (traced l more) (lists i m first parse) among)
 
   Among-up_to : (greedy : Bool) (n m i l : ℕ) (es : List Event) → m ≤ n → Turns R m i l es → Among (up_to n greedy body i) (traced l es)
   unfolding up_to
@@ -51,11 +51,11 @@ module _ (R : Traces) (body : ℕ → List TracedParse) (lists : Lists R body) w
   Among-up_to true (suc n) zero i l es le (l_is, es_is) =
       Among-right (behind (body i) (up_to n true body)) (stay i ∷ []) (traced l es) (inl (same_traced i l [] es (sym l_is) (sym es_is)))
   Among-up_to false (suc n) zero i l es le (l_is, es_is) = inl (same_traced i l [] es (sym l_is) (sym es_is))
-  Among-up_to true (suc n) (suc m) i l es le (k, first, more, parse_to, rest, e) =
+  Among-up_to true (suc n) (suc m) i l es le (k, first, more, parse, rest, e) =
       Among-left (behind (body i) (up_to n true body)) (stay i ∷ []) (traced l es)
-      (one_behind i k l first more es (up_to n true body) parse_to (Among-up_to true n m k l more (omega arith) rest) e)
-  Among-up_to false (suc n) (suc m) i l es le (k, first, more, parse_to, rest, e) =
-      inr (one_behind i k l first more es (up_to n false body) parse_to (Among-up_to false n m k l more (omega arith) rest) e)
+      (one_behind i k l first more es (up_to n true body) parse (Among-up_to true n m k l more (omega arith) rest) e)
+  Among-up_to false (suc n) (suc m) i l es le (k, first, more, parse, rest, e) =
+      inr (one_behind i k l first more es (up_to n false body) parse (Among-up_to false n m k l more (omega arith) rest) e)
 
   Among-after : (rest : ℕ → List TracedParse) (P : ℕ → Type 0) → ((k i l : ℕ) (es : List Event) → P k → Turns R k i l es → Among (rest i) (traced l es)) →
       (n m k i l : ℕ) (es : List Event) → P k → m ≡ n + k → Turns R m i l es → Among (after_turns n body rest i) (traced l es)
@@ -65,16 +65,16 @@ module _ (R : Traces) (body : ℕ → List TracedParse) (lists : Lists R body) w
       zero_plus : (m k : ℕ) → m ≡ 0 + k → m ≡ k
       zero_plus m k e = omega arith
   Among-after rest P f (suc n) zero k i l es h e turns = absurd (omega (arith, e))
-  Among-after rest P f (suc n) (suc m) k i l es h e (x, first, more, parse_to, turns, es_is) =
-      one_behind i x l first more es (after_turns n body rest) parse_to (Among-after rest P f n m k x l more h (omega (arith, e)) turns) es_is
+  Among-after rest P f (suc n) (suc m) k i l es h e (x, first, more, parse, turns, es_is) =
+      one_behind i x l first more es (after_turns n body rest) parse (Among-after rest P f n m k x l more h (omega (arith, e)) turns) es_is
 
   -- where each turn goes forward, there are at most as many turns as bytes
   module _ (hay : List ℕ) (further : (i j : ℕ) (es : List Event) → R i j es → (i < j) × (j ≤ length hay)) where
     turns_room : (n i l : ℕ) (es : List Event) → Turns R (suc n) i l es → (i + suc n ≤ l) × (l ≤ length hay)
-    turns_room zero i l es (m, first, more, parse_to, (l_is, more_is), e) =
-        let lt = further i m first parse_to in let a = lt.0 in let b = lt.1 in (omega (arith, a, l_is), omega (arith, b, l_is))
-    turns_room (suc n) i l es (m, first, more, parse_to, turns, e) =
-        let lt = further i m first parse_to in let a = lt.0 in
+    turns_room zero i l es (m, first, more, parse, (l_is, more_is), e) =
+        let lt = further i m first parse in let a = lt.0 in let b = lt.1 in (omega (arith, a, l_is), omega (arith, b, l_is))
+    turns_room (suc n) i l es (m, first, more, parse, turns, e) =
+        let lt = further i m first parse in let a = lt.0 in
         let r = turns_room n m l more turns in let b = r.0 in let c = r.1 in (omega (arith, a, b), c)
 
     room : (n i l : ℕ) (es : List Event) → Turns R n i l es → n ≤ length hay
@@ -125,9 +125,9 @@ module _ (hay : List ℕ) where
 
     Among-traced_all : (ts : Trees) → all_are_plain ts ≡ true → Lists (StepsAll hay ts) (traced_parses_of_all hay ts)
     Among-traced_all no_tree plain i l es h = inl (same_traced i l [] es (sym h.0) (sym h.1))
-    Among-traced_all (tree_and t ts) plain i l es (m, first, more, parse_to, rest, e) =
+    Among-traced_all (tree_and t ts) plain i l es (m, first, more, parse, rest, e) =
         let both = and_parts (is_plain t) (all_are_plain ts) plain in
-        one_behind (Steps hay t) (traced_parses hay t) (Among-traced t both.0) i m l first more es (traced_parses_of_all hay ts) parse_to (Among-traced_all ts both.1 m l more rest) e
+        one_behind (Steps hay t) (traced_parses hay t) (Among-traced t both.0) i m l first more es (traced_parses_of_all hay ts) parse (Among-traced_all ts both.1 m l more rest) e
 
     Among-traced_one : (ts : Trees) → all_are_plain ts ≡ true → Lists (StepsOne hay ts) (traced_parses_of_one hay ts)
     Among-traced_one no_tree plain i l es h = absurd h

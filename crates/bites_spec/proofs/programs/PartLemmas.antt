@@ -54,7 +54,7 @@ module _ (p : Program) (hay : List ℕ) where
   pub record Onward (R : Traces) (to i j n : ℕ) (ws : List (ℕ × ℕ)) : Type 0 where
     pub l : ℕ
     pub events : List Event
-    pub parse_to : R i l events
+    pub parse : R i l events
     pub rest : List Configuration
     pub runs : RunsTo (at to l) rest j
     pub same : ws ≡ writes_of events ++ written (at to l) rest
@@ -66,7 +66,7 @@ module _ (p : Program) (hay : List ℕ) where
       RunsTo (at from i) r j → Onward R to i j (length r) (written (at from i) r)
 
   also : (R T : Traces) (to i j n : ℕ) (ws : List (ℕ × ℕ)) → ((l : ℕ) (es : List Event) → R i l es → T i l es) → Onward R to i j n ws → Onward T to i j n ws
-  also R T to i j n ws f x = record { l = x.l; events = x.events; parse_to = f x.l x.events x.parse_to; rest = x.rest; runs = x.runs; same = x.same; shorter = x.shorter }
+  also R T to i j n ws f x = record { l = x.l; events = x.events; parse = f x.l x.events x.parse; rest = x.rest; runs = x.runs; same = x.same; shorter = x.shorter }
 
   Leaves-also : (part : Fragment) (R T : Traces) → ((i l : ℕ) (es : List Event) → R i l es → T i l es) → Leaves part R → Leaves part T
   Leaves-also part R T f leaves from to used h i j r runs = also R T to i j (length r) _ (f i) (leaves from to used h i j r runs)
@@ -104,7 +104,7 @@ module _ (p : Program) (hay : List ℕ) where
       record {
         l = d.0;
         events = d.2.0;
-        parse_to = d.2.1;
+        parse = d.2.1;
         rest = s.rest;
         runs = subst (λ (x : Configuration). RunsTo x s.rest j) (sym d.1) s.runs;
         same = s.same ∙ ap₂ ◌++◌ d.2.2 (ap (λ (x : Configuration). written x s.rest) (sym d.1));
@@ -154,7 +154,7 @@ module _ (p : Program) (hay : List ℕ) where
       record {
         l = y.l;
         events = x.events ++ y.events;
-        parse_to = (x.l, x.events, y.events, x.parse_to, y.parse_to, refl);
+        parse = (x.l, x.events, y.events, x.parse, y.parse, refl);
         rest = y.rest;
         runs = y.runs;
         same = x.same ∙ ap (λ w. writes_of x.events ++ w) y.same
@@ -202,14 +202,14 @@ module _ (p : Program) (hay : List ℕ) where
   -- no turn, and one turn before some others
   none_more : (P : ℕ → Type 0) (R : Traces) (to i j n : ℕ) (ws : List (ℕ × ℕ)) → P 0 → Went to i j n ws → Onward (Several P R) to i j n ws
   none_more P R to i j n ws at_zero w =
-      record { l = i; events = []; parse_to = (zero, at_zero, (refl, refl)); rest = w.rest; runs = w.runs; same = w.same; shorter = omega (arith, w.len) }
+      record { l = i; events = []; parse = (zero, at_zero, (refl, refl)); rest = w.rest; runs = w.runs; same = w.same; shorter = omega (arith, w.len) }
 
   one_more : (P Q : ℕ → Type 0) (R : Traces) (mid to i j n : ℕ) (ws : List (ℕ × ℕ)) → ((m : ℕ) → P m → Q (suc m)) → (x : Onward R mid i j n ws) →
       Onward (Several P R) to x.l j (length x.rest) (written (at mid x.l) x.rest) → Onward (Several Q R) to i j n ws
   one_more P Q R mid to i j n ws f x y = record {
     l = y.l;
     events = x.events ++ y.events;
-    parse_to = (suc y.parse_to.0, f y.parse_to.0 y.parse_to.1, (x.l, x.events, y.events, x.parse_to, y.parse_to.2, refl));
+    parse = (suc y.parse.0, f y.parse.0 y.parse.1, (x.l, x.events, y.events, x.parse, y.parse.2, refl));
     rest = y.rest;
     runs = y.runs;
     same = x.same ∙ ap (λ w. writes_of x.events ++ w) y.same
@@ -219,7 +219,7 @@ module _ (p : Program) (hay : List ℕ) where
 
   longer : (R : Traces) (to i j n m : ℕ) (ws vs : List (ℕ × ℕ)) → m ≤ n → ws ≡ vs → Onward R to i j m vs → Onward R to i j n ws
   longer R to i j n m ws vs le e x =
-      record { l = x.l; events = x.events; parse_to = x.parse_to; rest = x.rest; runs = x.runs; same = e ∙ x.same; shorter = omega (arith, x.shorter) }
+      record { l = x.l; events = x.events; parse = x.parse; rest = x.rest; runs = x.runs; same = e ∙ x.same; shorter = omega (arith, x.shorter) }
 
   module _ (greedy : Bool) (body : Fragment) (R : Traces) (inside : Leaves body R) where
     star_rounds : (from to round : ℕ) (a : List ℕ) → body round from a → state_at p.states from ≡ choice p.states greedy round to →
@@ -266,7 +266,7 @@ module _ (p : Program) (hay : List ℕ) where
         record {
           l = x.l;
           events = x.events;
-          parse_to = (x.parse_to.0, tt, x.parse_to.2);
+          parse = (x.parse.0, tt, x.parse.2);
           rest = v.rest;
           runs = v.runs;
           same = w.same ∙ x.same ∙ ap (λ ws. writes_of x.events ++ ws) v.same;
@@ -274,14 +274,14 @@ module _ (p : Program) (hay : List ℕ) where
         })
         (λ (w : Went out i j (length r) (written (at from i) r)).
         let v = went_on out to i j w.rest goes w.runs in
-        record { l = i; events = []; parse_to = (zero, tt, (refl, refl)); rest = v.rest; runs = v.runs; same = w.same ∙ v.same; shorter = omega (arith, w.len, v.len) })
+        record { l = i; events = []; parse = (zero, tt, (refl, refl)); rest = v.rest; runs = v.runs; same = w.same ∙ v.same; shorter = omega (arith, w.len, v.len) })
         (chosen greedy from round out i j r is runs)
 
     Options-leaves : (n out : ℕ) → Leaves (Options p.states n greedy out body) (Several (λ m. m ≤ n) R)
     Options-leaves zero out from to used (start, end, e) i j r runs = record {
       l = i;
       events = [];
-      parse_to = (zero, omega arith, (refl, refl));
+      parse = (zero, omega arith, (refl, refl));
       rest = r;
       runs = subst (λ q. RunsTo (at q i) r j) start runs;
       same = ap (λ q. written (at q i) r) start;
@@ -311,7 +311,7 @@ module _ (p : Program) (hay : List ℕ) where
         record {
           l = x.l;
           events = x.events;
-          parse_to = x.parse_to;
+          parse = x.parse;
           rest = v.rest;
           runs = v.runs;
           same = x.same ∙ ap (λ ws. writes_of x.events ++ ws) v.same;
@@ -414,7 +414,7 @@ module _ (p : Program) (hay : List ℕ) where
         record {
           l = x.l;
           events = x.events;
-          parse_to = x.parse_to;
+          parse = x.parse;
           rest = v.rest;
           runs = v.runs;
           same = w.same ∙ x.same ∙ ap (λ ws. writes_of x.events ++ ws) v.same;
@@ -425,7 +425,7 @@ module _ (p : Program) (hay : List ℕ) where
     HasFormAll-leaves no_tree reduced = λ from to used h i j r runs. record {
       l = i;
       events = [];
-      parse_to = (refl, refl);
+      parse = (refl, refl);
       rest = r;
       runs = subst (λ q. RunsTo (at q i) r j) h.0 runs;
       same = ap (λ q. written (at q i) r) h.0;

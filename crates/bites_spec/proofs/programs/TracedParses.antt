@@ -41,11 +41,11 @@ Listed-behind R T i (t ∷ ts) f h g =
     Every-join (λ w. Both R T i w.end w.events) (map (prefix t.events) (f t.end)) (behind ts f)
     (Every-under (λ w. Both R T i w.end w.events) (prefix t.events) (f t.end)
     (Every-weak (λ v. T t.end v.end v.events) (λ v. Both R T i v.end (t.events ++ v.events)) (f t.end)
-    (λ v parse_to. (t.end, t.events, v.events, h.0, parse_to, refl)) (g t.end)))
+    (λ v parse. (t.end, t.events, v.events, h.0, parse, refl)) (g t.end)))
     (Listed-behind R T i ts f h.1 g)
 
 one_more : (R : Traces) (P Q : ℕ → Type 0) → ((m : ℕ) → P m → Q (suc m)) → (i l : ℕ) (es : List Event) → Both R (Several P R) i l es → Several Q R i l es
-one_more R P Q f i l es (m, a, b, parse_to, (n, h, turns), e) = (suc n, f n h, (m, a, b, parse_to, turns, e))
+one_more R P Q f i l es (m, a, b, parse, (n, h, turns), e) = (suc n, f n h, (m, a, b, parse, turns, e))
 
 Listed-up_to : (R : Traces) (body : ℕ → List TracedParse) → ((i : ℕ) → Listed R i (body i)) → (greedy : Bool) (n i : ℕ) → Listed (Several (λ m. m ≤ n) R) i (up_to n greedy body i)
 unfolding up_to

@@ -26,8 +26,8 @@ module _ (hay : List ℕ) (t : Tree) where
   matches_of : (j : ℕ) → Matches hay t 0 j → Matches hay (begun t) 0 j
   matches_of j m = (0, (holds_start hay, refl), (j, m, refl))
 
-  parse_to : (j : ℕ) (ms : List Mark) → Parse hay (begun t) 0 j ms → Parse hay t 0 j ms
-  parse_to j ms (l, none, rest, begins, (k, inner, last, p, ends, joins), all) =
+  parse_inside : (j : ℕ) (ms : List Mark) → Parse hay (begun t) 0 j ms → Parse hay t 0 j ms
+  parse_inside j ms (l, none, rest, begins, (k, inner, last, p, ends, joins), all) =
       let marks : inner ≡ ms = sym (all ∙ ap₂ (λ (a b : List Mark). a ++ b) begins.2 (joins ∙ ap (λ (b : List Mark). inner ++ b) ends.1 ∙ append-nil inner)) in
       subst (λ (b : List Mark). Parse hay t 0 j b) marks
       (subst (λ (b : ℕ). Parse hay t 0 b inner) (sym ends.0) (subst (λ (a : ℕ). Parse hay t a k inner) begins.1 p))
@@ -88,7 +88,7 @@ module _ (hay : List ℕ) (t : Tree) where
         within = omega arith;
         start = e;
         marks = f.marks;
-        parse = parse_to a.end f.marks (subst (λ (i : ℕ). Parse hay (begun t) i a.end f.marks) e f.parse);
+        parse = parse_inside a.end f.marks (subst (λ (i : ℕ). Parse hay (begun t) i a.end f.marks) e f.parse);
         groups = λ k. f.groups k ∙ ap (λ (i : ℕ). groups i a.end f.marks k) e;
         chosen = each a.end f.marks (subst (λ (i : ℕ). R i a.end f.marks) e f.chosen);
       }
