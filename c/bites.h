@@ -1,28 +1,29 @@
 /* The proved engine for regular expressions, for C and C++.
  *
- * Handles. A `bites` holds a compiled regex, a `bites_cache` the memory that its searches use. Begin each with {0}, which
- * holds nothing, and free each when it is done: freeing one that holds nothing does nothing. A call that makes one puts it
- * into `out`, and frees what `out` held. Never write `at`, and never copy a handle that holds something: use bites_clone.
- * One handle is never passed twice in one call, except that bites_clone(&r, &r) leaves `r` unchanged.
+ * Handles. A `bites` holds a compiled regex, and a `bites_cache` holds the memory that its searches use. Initialize each with
+ * {0}, which holds nothing, and free each after use. Freeing a handle that holds nothing does nothing. A call that makes a
+ * regex or a cache frees what `out` held and puts the new one into `out`. Never write `at`, and never copy a handle that holds
+ * something: use bites_clone. Never pass one handle twice in one call, except that bites_clone(&r, &r) leaves `r` unchanged.
  *
- * Threads. A handle may move to another thread. One handle serves one call at a time: a search takes the regex out of its
- * handle and puts it back. Clones share the compiled program, and several threads may use them at once, each with its own
- * clone and its own cache. Clone in the thread that has the handle, and pass the clone on: by the start of a thread, by a
- * lock, or by a sequentially consistent atomic.
+ * Threads. A handle may move to another thread. A handle serves one call at a time, since a search takes the regex out of its
+ * handle and puts it back. Clones share the compiled program. Several threads may search at once if each has its own clone and
+ * its own cache. Clone in the thread that has the handle, and pass the clone on by the start of a thread, by a lock, or by a
+ * sequentially consistent atomic.
  *
- * Bytes. A haystack, a pattern and a text are a pointer and a length. NULL with length 0 is the empty text, and NULL with
- * room or count 0 is no room. What a call writes never overlaps what it reads. A haystack is any bytes. Offsets are in bytes
- * from its start, and assertions look at the bytes before `start` too. A start past the end finds nothing.
+ * Bytes. A haystack, a pattern or a text is a pointer and a length in bytes. NULL with length 0 is the empty text, and NULL
+ * with room or count 0 is no room. The memory that a call writes must not overlap the memory that it reads. A haystack may be
+ * any bytes. Offsets count bytes from its start, and assertions also look at the bytes before `start`. A start after the end
+ * of the haystack finds nothing.
  *
- * Texts. A regex that was made with BITES_TEXT, and its clones, ask that haystacks are texts: each call with a haystack
- * returns BITES_NOT_UTF8 where it, or a template or a text beside it, is not UTF-8, and BITES_NOT_BORDER where the offset to
- * start from lies within one of its characters. That reads the haystack from end to end. What such a call finds begins and
- * ends between characters. A call that goes on after a match, bites_find_next, bites_captures_next or bites_split_next with a
- * `last` that is not BITES_NONE, checks that offset alone: its caller goes on in the haystack that was checked for the first
- * match. So all matches of a haystack together take one check of it. Without the flag nothing is checked.
+ * Texts. A regex made with BITES_TEXT, and each clone of it, searches texts only. A call with a haystack then returns
+ * BITES_NOT_UTF8 if the haystack, or the template or text that is passed with it, is not UTF-8. It returns BITES_NOT_BORDER if
+ * the offset to start from lies within a character. This check reads the whole haystack. Matches and groups then begin and end
+ * between characters. A call that goes on after a match checks only its offset `last`: bites_find_next, bites_captures_next
+ * and bites_split_next with a `last` other than BITES_NONE. Its caller must pass the haystack that was checked for the first
+ * match. So finding all matches checks a haystack once. Without the flag nothing is checked.
  *
- * Results. Each call returns one of the numbers below. Out of memory is one of them, and loses nothing: what a call was given
- * is unchanged, except that `out` of a call that makes something holds nothing. No search allocates. */
+ * Results. Each call returns one of the numbers below. A call that is out of memory returns BITES_NO_MEMORY and leaves what it
+ * was given unchanged, except that `out` of a call that makes a regex or a cache then holds nothing. No search allocates. */
 #ifndef BITES_H
 #define BITES_H
 #include <stddef.h>
@@ -34,20 +35,20 @@ extern "C" {
 
 enum {
     BITES_DONE = 0,
-    /* 1 to 57: the pattern was refused by the message of this number, which bites_error_text gives */
+    /* 1 to 57: the pattern was refused; bites_error_text writes the message of the number */
     BITES_NO_MEMORY = 58,
     BITES_MATCH = 100,
     BITES_NO_MATCH = 101,
-    BITES_NOT_UTF8 = 102,     /* the pattern or the text is not UTF-8; or, over texts, the haystack or the template */
+    BITES_NOT_UTF8 = 102,     /* the pattern or the text to escape is not UTF-8; with BITES_TEXT also a haystack, template or text */
     BITES_EMPTY_HANDLE = 103, /* a handle holds nothing, or is NULL */
     BITES_UNFIT_CACHE = 104,  /* the cache was made for a regex of another size */
-    BITES_TOO_SMALL = 105,    /* there is too little room; it is unchanged */
-    BITES_NO_NAME = 106,      /* there is no such group, or it has no name; or no group has the name */
+    BITES_TOO_SMALL = 105,    /* the room that the caller passed is too small; it is unchanged */
+    BITES_NO_NAME = 106,      /* no group has this number, or the group has no name; or no group has this name */
     BITES_BAD_SPAN = 107,     /* a span does not lie in the haystack */
-    BITES_NOT_BORDER = 108    /* over texts: an offset to start from, or an end of a span, lies within a character */
+    BITES_NOT_BORDER = 108    /* with BITES_TEXT: an offset to start from, or an end of a span, lies within a character */
 };
 
-/* Flags of bites_new, which may be added up. Bits that have no name here change nothing. */
+/* Flags of bites_new, which may be combined. Bits that have no name here change nothing. */
 enum {
     BITES_CASE_INSENSITIVE = 1,      /* i */
     BITES_MULTI_LINE = 2,            /* m */
@@ -57,14 +58,14 @@ enum {
     BITES_IGNORE_WHITESPACE = 32,    /* x */
     BITES_LEFTMOST_LONGEST = 64,     /* searches find the longest match instead of the preferred one */
     BITES_KEEP_DROPPED_GROUPS = 128, /* groups that the pattern repeats 0 times keep their numbers and names */
-    BITES_TEXT = 256                 /* haystacks are texts, and are checked to be */
+    BITES_TEXT = 256                 /* haystacks are texts: each call checks that they are UTF-8 */
 };
 
-/* The default limits. */
+/* The default limits: of the size of a compiled program, roughly in bytes, and of the nesting depth of a pattern. */
 #define BITES_SIZE_LIMIT ((size_t)10485760)
 #define BITES_NEST_LIMIT ((uint32_t)50)
 
-/* Both offsets of a group that does not participate, and the end of the match before where there is none. */
+/* Both offsets of a group that does not participate, and `last` before the first match. */
 #define BITES_NONE SIZE_MAX
 
 typedef struct { void *at; } bites;
@@ -75,57 +76,61 @@ typedef struct { uint32_t code; size_t size; } bites_size;
 /* Returns the version of this library: major << 16 | minor << 8 | patch. */
 uint32_t bites_version(void);
 
-/* Makes a regex of the pattern. Returns BITES_DONE; or why not, and `out` then holds nothing. */
+/* Compiles the pattern into `out`. Returns BITES_DONE, the number 1 to 57 of the message that refuses the pattern,
+ * BITES_NO_MEMORY, BITES_NOT_UTF8, or BITES_EMPTY_HANDLE if `out` is NULL. If it does not return BITES_DONE, `out` holds nothing. */
 uint32_t bites_new(const uint8_t *pattern, size_t len, uint32_t flags, size_t size_limit, uint32_t nest_limit, bites *out);
 
-/* Makes `out` hold a regex that shares the program of `regex`. Returns BITES_DONE, BITES_NO_MEMORY or BITES_EMPTY_HANDLE. */
+/* Puts a regex that shares the program of `regex` into `out`. Returns BITES_DONE, BITES_NO_MEMORY, or BITES_EMPTY_HANDLE if
+ * `regex` holds nothing. If it does not return BITES_DONE, `out` holds nothing. */
 uint32_t bites_clone(bites *regex, bites *out);
 
 void bites_free(bites *regex);
 
-/* Makes a cache for searches with the regex, which its clones may use too, one at a time. Returns what bites_clone does. */
+/* Makes a cache for searches with the regex and its clones, one search at a time, and puts it into `out`. Returns what
+ * bites_clone returns. */
 uint32_t bites_cache_new(bites *regex, bites_cache *out);
 
 void bites_cache_free(bites_cache *cache);
 
-/* A search returns BITES_MATCH or BITES_NO_MATCH, or what is wrong with its handles: BITES_EMPTY_HANDLE or
- * BITES_UNFIT_CACHE; then, over texts, BITES_NOT_UTF8 or BITES_NOT_BORDER. What it writes to is unchanged unless it returns
- * BITES_MATCH; bites_split_next says more. */
+/* A search returns BITES_MATCH or BITES_NO_MATCH. If its handles are wrong, it returns BITES_EMPTY_HANDLE or BITES_UNFIT_CACHE.
+ * With BITES_TEXT it then checks the haystack, and may return BITES_NOT_UTF8 or BITES_NOT_BORDER. It writes only if it returns
+ * BITES_MATCH, except that bites_split_next also writes the last piece. */
 
 /* Returns whether the regex matches anywhere in the haystack. */
 uint32_t bites_is_match(bites *regex, bites_cache *cache, const uint8_t *haystack, size_t len);
 
-/* Returns whether the regex matches at or after `start`. */
+/* Returns whether a match begins at or after `start`. */
 uint32_t bites_is_match_at(bites *regex, bites_cache *cache, const uint8_t *haystack, size_t len, size_t start);
 
-/* Finds the least end of any match at or after `start`. */
+/* Puts the least end of any match that begins at or after `start` into `end`. */
 uint32_t bites_shortest_match_at(bites *regex, bites_cache *cache, const uint8_t *haystack, size_t len, size_t start, size_t *end);
 
-/* Finds the first match at or after `start`. */
+/* Puts the first match that begins at or after `start` into `out`. */
 uint32_t bites_find_at(bites *regex, bites_cache *cache, const uint8_t *haystack, size_t len, size_t start, bites_span *out);
 
-/* Finds the match that begins at `start`: the preferred one, or the longest with BITES_LEFTMOST_LONGEST. The search stops where no
- * match that begins there can go on, so it takes as long as what it matches. */
+/* Puts the match that begins at `start` into `out`: the preferred one, or the longest with BITES_LEFTMOST_LONGEST. The search
+ * stops as soon as no match from `start` can go on, so it reads no further than a match could reach. */
 uint32_t bites_find_anchored_at(bites *regex, bites_cache *cache, const uint8_t *haystack, size_t len, size_t start, bites_span *out);
 
 /* Returns whether the regex matches the whole haystack, by any of its matches. */
 uint32_t bites_is_full_match(bites *regex, bites_cache *cache, const uint8_t *haystack, size_t len);
 
-/* Finds the match that comes after one that ends at `last`, or the first of all for BITES_NONE. So all matches come, in
- * order, each once:
+/* Puts the next match after one that ends at `last` into `out`, or the first match if `last` is BITES_NONE. This loop finds each
+ * match once, in order:
  *     for (size_t last = BITES_NONE; bites_find_next(&regex, &cache, text, len, last, &m) == BITES_MATCH; last = m.end) */
 uint32_t bites_find_next(bites *regex, bites_cache *cache, const uint8_t *haystack, size_t len, size_t last, bites_span *out);
 
-/* Puts the next piece of the haystack, as its matches split it, into `piece`. `last` begins as BITES_NONE. BITES_MATCH: the
- * piece ends where the next match begins, and `last` is the end of that match. BITES_NO_MATCH: the piece is the last one, up
- * to the end, and `last` is unchanged. For any other number both are unchanged. So all pieces come, in order:
+/* Puts the next piece of the haystack, as its matches split it, into `piece`. Set `last` to BITES_NONE first. BITES_MATCH: the
+ * piece ends where the next match begins, and `last` becomes the end of that match. BITES_NO_MATCH: the piece is the last one,
+ * up to the end of the haystack, and `last` is unchanged. For any other number both are unchanged. This loop finds all pieces:
  *     size_t last = BITES_NONE;
  *     uint32_t code;
  *     do { code = bites_split_next(&regex, &cache, text, len, &last, &piece); } while (code == BITES_MATCH); */
 uint32_t bites_split_next(bites *regex, bites_cache *cache, const uint8_t *haystack, size_t len, size_t *last, bites_span *piece);
 
-/* Puts the groups of the first match at or after `start` into `groups`, group 0 first. `size` is the number of groups; where
- * `count` is less, the code is BITES_TOO_SMALL. Places after the last group are unchanged. */
+/* Puts the groups of the first match that begins at or after `start` into `groups`, group 0 first. The code is that of a
+ * search, or BITES_TOO_SMALL if `count` is less than the number of groups: then nothing is searched. `size` is the number of
+ * groups, or 0 if the handles or the haystack are refused. Places after the last group are unchanged. */
 bites_size bites_captures_at(bites *regex, bites_cache *cache, const uint8_t *haystack, size_t len, size_t start, bites_span *groups, size_t count);
 
 /* Puts the groups of the match that bites_find_anchored_at finds into `groups`, as bites_captures_at does. */
@@ -134,47 +139,51 @@ bites_size bites_captures_anchored_at(bites *regex, bites_cache *cache, const ui
 /* Puts the groups of the match that bites_find_next finds into `groups`, as bites_captures_at does. */
 bites_size bites_captures_next(bites *regex, bites_cache *cache, const uint8_t *haystack, size_t len, size_t last, bites_span *groups, size_t count);
 
-/* Returns the number of groups, group 0 counted; 0 for an empty handle. */
+/* Returns the number of groups, with group 0, or 0 for an empty handle. */
 size_t bites_captures_len(bites *regex);
 
-/* Returns how many groups participate in every match, group 0 counted; 0 if the form of the pattern does not say so. */
+/* Returns a lower bound on the number of groups that participate in any match, with group 0. Returns 0 if the form of the
+ * pattern gives none, as for `(a)|b`, or for an empty handle. */
 size_t bites_static_captures_len(bites *regex);
 
-/* Puts the name of the group of this number into `name`, in UTF-8 with no NUL. `size` is how many bytes it has; where `len`
- * is less, the code is BITES_TOO_SMALL, so a call with `len` 0 asks for the size. */
+/* Puts the name of group number `group` into `name`, in UTF-8 with no NUL. The code is BITES_DONE, BITES_TOO_SMALL,
+ * BITES_NO_NAME or BITES_EMPTY_HANDLE. `size` is the length of the name in bytes. If `len` is less, the code is
+ * BITES_TOO_SMALL, so a call with `len` 0 returns the size. Unless the code is BITES_DONE, `name` is unchanged. */
 bites_size bites_group_name(bites *regex, size_t group, uint8_t *name, size_t len);
 
-/* `size` is the number of the group of this name, where the code is BITES_DONE; else the code is BITES_NO_NAME or
- * BITES_EMPTY_HANDLE. */
+/* Finds the number of the group of this name. If the code is BITES_DONE, `size` is that number. Else the code is BITES_NO_NAME
+ * or BITES_EMPTY_HANDLE. */
 bites_size bites_group_index(bites *regex, const uint8_t *name, size_t len);
 
-/* The calls below put a text into `out`, with no NUL. `size` is how many bytes it has; where `room` is less, the code is
- * BITES_TOO_SMALL and `out` is unchanged, so a call with `room` 0 asks for the size. They allocate, and may return
- * BITES_NO_MEMORY. */
+/* Each of the next four calls puts a text into `out`, with no NUL. `size` is the length of the text in bytes. If `room` is less,
+ * the code is BITES_TOO_SMALL and `out` is unchanged, so a call with `room` 0 returns the size. These calls allocate, and may
+ * return BITES_NO_MEMORY. After any refusal `out` is unchanged. */
 
-/* The pattern in which each character of the text stands for itself; BITES_NOT_UTF8 where the text is not UTF-8. */
+/* Writes the pattern in which each character of the text stands for itself. The code is BITES_DONE, or BITES_NOT_UTF8 if the
+ * text is not UTF-8. */
 bites_size bites_escape(const uint8_t *text, size_t len, uint8_t *out, size_t room);
 
-/* The haystack, at most `limit` of its matches, or all for 0, replaced by what the template stands for: $name and ${name} are
- * what the group of that name or number matched, $$ is a $, and all else stands for itself. BITES_MATCH: a match was replaced,
- * and `out` has the text. BITES_NO_MATCH: nothing matches, so the haystack itself is the text; `out` is unchanged, and `size`
- * is `len`. The handles and, over texts, the haystack and the template are checked as for a search. */
+/* Writes the haystack with its first `limit` matches, or all for 0, replaced by what the template stands for: $name and ${name}
+ * stand for the text of the group of that name or number, $$ stands for a $, and all else stands for itself. BITES_MATCH: a
+ * match was replaced, and `out` has the text. BITES_NO_MATCH: nothing matches, so the haystack itself is the text. Then `out` is
+ * unchanged, and `size` is `len`. The handles are checked as for a search, and with BITES_TEXT the haystack and the template. */
 bites_size bites_replace(bites *regex, bites_cache *cache, const uint8_t *haystack, size_t len, size_t limit, const uint8_t *template_text, size_t template_len, uint8_t *out, size_t room);
 
 /* Like bites_replace, but each match is replaced by the text itself. */
 bites_size bites_replace_literal(bites *regex, bites_cache *cache, const uint8_t *haystack, size_t len, size_t limit, const uint8_t *text, size_t text_len, uint8_t *out, size_t room);
 
-/* What the template stands for by these groups of the regex in the haystack; a group from `count` on does not participate. A
- * span that is not BITES_NONE twice and does not lie in the haystack is BITES_BAD_SPAN. Over texts BITES_NOT_UTF8 comes before
- * that, and BITES_NOT_BORDER after it, where a span begins or ends within a character. */
+/* Writes what the template stands for by these groups of the regex in the haystack. Groups from number `count` on do not
+ * participate, nor does a span whose offsets are both BITES_NONE. The code is BITES_DONE, BITES_EMPTY_HANDLE, or BITES_BAD_SPAN
+ * if any other span does not lie in the haystack. With BITES_TEXT it is BITES_NOT_UTF8, checked before the spans, or
+ * BITES_NOT_BORDER if a span begins or ends within a character, checked after them. */
 bites_size bites_expand(bites *regex, const uint8_t *haystack, size_t len, const bites_span *groups, size_t count, const uint8_t *template_text, size_t template_len, uint8_t *out, size_t room);
 
-/* Puts as much of the text of an error's number, 1 to 58, into `text` as fits, with no NUL, and returns its length: 0 for
- * any other number. */
+/* Puts the message of the number `code`, 1 to 58, into `text`, with no NUL: as many of its first bytes as fit into `len`.
+ * Returns the length of the whole message in bytes, or 0 for any other number. */
 size_t bites_error_text(uint32_t code, uint8_t *text, size_t len);
 
-/* What C and C++ call are the functions below, under the names above. Each answers a NULL handle, takes NULL with length, room or
- * count 0, and then calls the library. */
+/* C and C++ call the functions below under the names above. Each refuses a NULL handle, replaces a NULL that has length, room or
+ * count 0 by a valid pointer, and then calls the library. */
 static inline bites_size bites_only(uint32_t code) {
     bites_size answer = {code, 0};
     return answer;

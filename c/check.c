@@ -1,4 +1,4 @@
-/* Asks each call of bites.h for an answer that is known, and each refusal. It stops at the first wrong answer. */
+/* Tests each call of bites.h: results that are known, and each refusal. It stops at the first wrong result. */
 #include "bites.h"
 #include <stdio.h>
 #include <stdlib.h>
@@ -51,7 +51,7 @@ static void searches(void) {
     bites_free(&regex);
 }
 
-/* a match that begins at a place, and one of the whole haystack */
+/* a match that begins at an offset, and one of the whole haystack */
 static void anchored(void) {
     bites regex = {0};
     bites_cache cache = {0};
@@ -79,7 +79,7 @@ static void anchored(void) {
     bites_free(&regex);
 }
 
-/* the matches of x* in "axb" with a letter of two bytes behind: empty, x, empty, empty */
+/* the matches of x* in "axb" followed by a letter of two bytes: empty, x, empty, empty */
 static void successive(void) {
     bites regex = {0};
     bites_cache cache = {0};
@@ -97,7 +97,7 @@ static void successive(void) {
     bites_free(&regex);
 }
 
-/* whether the call put this piece, and left `last` at this place */
+/* whether the call put this piece, and `last` is this offset after it */
 static int is_piece(uint32_t code, uint32_t wanted, bites_span piece, size_t start, size_t end, size_t last, size_t place) {
     return code == wanted && piece.start == start && piece.end == end && last == place;
 }
@@ -160,7 +160,7 @@ static void groups_in_turn(void) {
     size = bites_captures_next(&regex, &cache, BYTES("axb"), 2, groups, 3);
     CHECK(size.code == BITES_MATCH && groups[0].start == 2 && groups[0].end == 3 && groups[2].start == BITES_NONE);
     CHECK(bites_captures_next(&regex, &cache, BYTES("axb"), 3, groups, 3).code == BITES_NO_MATCH && groups[0].end == 3);
-    /* an empty match behind one that ended there is passed over */
+    /* an empty match right after another match is skipped */
     CHECK(bites_new(BYTES("(x)*"), 0, LIMITS, &regex) == BITES_DONE && bites_cache_new(&regex, &cache) == BITES_DONE);
     size = bites_captures_next(&regex, &cache, BYTES("axb"), 0, groups, 3);
     CHECK(size.code == BITES_MATCH && groups[0].start == 1 && groups[0].end == 2 && groups[1].start == 1);
@@ -183,12 +183,12 @@ static void numbers(void) {
     bites_free(&regex);
 }
 
-/* whether the answer is this text */
+/* whether the call put this text */
 static int is_text(bites_size size, const uint8_t *out, const char *text) {
     return size.code == BITES_DONE && size.size == strlen(text) && !memcmp(out, text, size.size);
 }
 
-/* whether a match was replaced, and the answer is this text */
+/* whether a match was replaced, and the call put this text */
 static int is_replaced(bites_size size, const uint8_t *out, const char *text) {
     return size.code == BITES_MATCH && size.size == strlen(text) && !memcmp(out, text, size.size);
 }
@@ -222,7 +222,7 @@ static void texts(void) {
     CHECK(is_replaced(bites_replace_literal(&regex, &cache, BYTES("a1 b c"), 1, BYTES("$2"), out, sizeof out), out, "$2 b c"));
     size = bites_replace_literal(&regex, &cache, BYTES("a1 b"), 0, BYTES("$2"), out, 4);
     CHECK(size.code == BITES_TOO_SMALL && size.size == 5 && out[0] == '$');
-    /* where nothing matches the haystack is the answer, and too little room is no matter */
+    /* if nothing matches, the haystack is the result, and too little room does not matter */
     out[0] = '-';
     size = bites_replace(&regex, &cache, BYTES("??"), 0, BYTES("$0"), out, 1);
     CHECK(size.code == BITES_NO_MATCH && size.size == 2 && out[0] == '-');
@@ -266,7 +266,7 @@ static void handles(void) {
     bites_free(&regex);
     CHECK(!regex.at);
     bites_free(&regex);
-    /* the clone goes on, and the room serves it */
+    /* the clone still works, also with the cache */
     CHECK(bites_find_at(&copy, &cache, BYTES("abbc"), 0, &span) == BITES_MATCH && span.start == 1 && span.end == 3);
     CHECK(bites_new(BYTES("(a)(b)(c)"), 0, LIMITS, &other) == BITES_DONE);
     CHECK(bites_find_at(&other, &cache, BYTES("abc"), 0, &span) == BITES_UNFIT_CACHE && span.end == 3);
@@ -308,7 +308,7 @@ static void flags(void) {
     bites_free(&regex);
 }
 
-/* a letter of two bytes between an a and a b, and the same without its second byte */
+/* a letter of two bytes between an a and a b, and again without its second byte */
 #define TEXT BYTES("a\xc3\xa9" "b")
 #define NO_TEXT BYTES("a\xc3" "b")
 #define PATTERN BYTES("[^a](b)?")
@@ -347,7 +347,7 @@ static void searches_of_texts(void) {
     bites_free(&regex);
 }
 
-/* behind a match the place alone is checked */
+/* after a match only the offset is checked */
 static void successive_in_texts(void) {
     bites regex = {0};
     bites_cache cache = {0};
@@ -369,7 +369,7 @@ static void successive_in_texts(void) {
     bites_free(&regex);
 }
 
-/* whether no size was answered, for this reason, and the place stayed */
+/* whether the code is this and the size 0, and the span is unchanged */
 static int is_refused(bites_size size, uint32_t code, bites_span place) {
     return size.code == code && size.size == 0 && place.start == 7 && place.end == 7;
 }
@@ -379,7 +379,7 @@ static void groups_in_texts(void) {
     bites_cache cache = {0};
     bites_span groups[2] = {{7, 7}, {7, 7}};
     CHECK(bites_new(PATTERN, BITES_TEXT, LIMITS, &regex) == BITES_DONE && bites_cache_new(&regex, &cache) == BITES_DONE);
-    /* what is wrong with the haystack or the place comes before places that are too few */
+    /* the haystack and the offset are checked before the number of places */
     CHECK(is_refused(bites_captures_at(&regex, &cache, NO_TEXT, 2, groups, 1), BITES_NOT_UTF8, groups[0]));
     CHECK(is_refused(bites_captures_at(&regex, &cache, TEXT, 2, groups, 1), BITES_NOT_BORDER, groups[0]));
     CHECK(bites_captures_at(&regex, &cache, TEXT, 1, groups, 1).code == BITES_TOO_SMALL && groups[0].end == 7);
@@ -395,7 +395,7 @@ static void groups_in_texts(void) {
     bites_free(&regex);
 }
 
-/* whether nothing was put, for this reason */
+/* whether the code is this and the size 0, and nothing was put */
 static int is_unput(bites_size size, uint32_t code, const uint8_t *out) {
     return size.code == code && size.size == 0 && out[0] == '-';
 }
@@ -411,13 +411,13 @@ static void expanded_texts(void) {
     CHECK(is_unput(bites_expand(&regex, TEXT, groups, 3, BYTES("$1"), out, 9), BITES_NOT_BORDER, out));
     groups[0].start = 2, groups[0].end = 3;
     CHECK(is_unput(bites_expand(&regex, TEXT, groups, 3, BYTES("$1"), out, 9), BITES_NOT_BORDER, out));
-    /* a span that does not lie in the haystack comes before one with no borders, and after what is not UTF-8 */
+    /* BITES_BAD_SPAN comes before BITES_NOT_BORDER, and after BITES_NOT_UTF8 */
     groups[1].end = 5;
     CHECK(is_unput(bites_expand(&regex, TEXT, groups, 3, BYTES("$1"), out, 9), BITES_BAD_SPAN, out));
     CHECK(is_unput(bites_expand(&regex, TEXT, groups, 3, NO_TEXT, out, 9), BITES_NOT_UTF8, out));
     groups[0].start = 1, groups[1].end = 4;
     CHECK(is_text(bites_expand(&regex, TEXT, groups, 3, BYTES("$1$0$2"), out, 9), out, "b\xc3\xa9"));
-    /* without the flag it is done */
+    /* without the flag the call is done */
     groups[0].start = 2;
     CHECK(bites_new(PATTERN, 0, LIMITS, &regex) == BITES_DONE);
     CHECK(is_text(bites_expand(&regex, TEXT, groups, 3, BYTES("$0"), out, 9), out, "\xa9"));
@@ -438,13 +438,13 @@ static void replaced_texts(void) {
     CHECK(is_unput(bites_replace_literal(&regex, &cache, TEXT, 0, NO_TEXT, out, 9), BITES_NOT_UTF8, out));
     CHECK(is_replaced(bites_replace(&regex, &cache, TEXT, 0, BYTES("<$1>"), out, 9), out, "a<b>"));
     CHECK(is_replaced(bites_replace_literal(&regex, &cache, TEXT, 0, BYTES("<$1>"), out, 9), out, "a<$1>"));
-    /* pieces: the haystack is checked for the first, and the place alone after a match */
+    /* pieces: the haystack is checked for the first one, and only the offset after a match */
     CHECK(is_piece(bites_split_next(&regex, &cache, NO_TEXT, &last, &p), BITES_NOT_UTF8, p, 7, 7, last, BITES_NONE));
     last = 2;
     CHECK(is_piece(bites_split_next(&regex, &cache, TEXT, &last, &p), BITES_NOT_BORDER, p, 7, 7, last, 2));
     CHECK(bites_split_next(&regex, &cache, NO_TEXT, &last, &p) == BITES_MATCH && p.start == 2 && p.end == 2 && last == 3);
     CHECK(bites_is_match(&regex, &cache, NO_TEXT) == BITES_NOT_UTF8 && bites_is_match(&regex, &cache, TEXT) == BITES_MATCH);
-    /* without the flag all are answered */
+    /* without the flag nothing is refused */
     CHECK(bites_new(PATTERN, 0, LIMITS, &bytes) == BITES_DONE && bites_cache_new(&bytes, &cache) == BITES_DONE);
     CHECK(is_replaced(bites_replace_literal(&bytes, &cache, BYTES("a\xff"), 1, BYTES("\xfe"), out, 9), out, "a\xfe"));
     bites_cache_free(&cache);
@@ -452,7 +452,7 @@ static void replaced_texts(void) {
     bites_free(&regex);
 }
 
-/* NULL is no handle, and with length, room or count 0 it is an empty text and no room */
+/* NULL as a handle is refused, and with length, room or count 0 it is an empty text or no room */
 static void nulls(void) {
     bites regex = {0};
     bites_cache cache = {0};

@@ -13,13 +13,13 @@ static int refused(uint32_t code) {
     return 2;
 }
 
-/* Room for one replaced line, which grows as it is asked for. */
+/* Room for one replaced line, which grows as needed. */
 struct room {
     uint8_t *at;
     size_t size;
 };
 
-/* Replaces the matches of a line in the room. BITES_NO_MATCH leaves the line as it is. */
+/* Puts the line with its matches replaced into the room. For BITES_NO_MATCH the line itself is the result. */
 static bites_size replace(bites *regex, bites_cache *cache, const char *line, size_t len, size_t limit, const char *by, struct room *room) {
     for (;;) {
         bites_size replaced = bites_replace(regex, cache, (const uint8_t *)line, len, limit, (const uint8_t *)by, strlen(by), room->at, room->size);

@@ -1,5 +1,5 @@
 # Writes a line for each function of the C interface: its name, its result, and the C types of its arguments in order.
-# With side=header it reads bites.h, with side=rust the exports of the crate, as C sees them.
+# With side=header it reads bites.h. With side=rust it reads the exports of the crate, as C sees them.
 
 function trim(text) { gsub(/^[ \t]+|[ \t]+$/, "", text); return text }
 

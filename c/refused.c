@@ -1,7 +1,7 @@
-/* Refuses each request for memory of each call of bites.h that takes some: the first, the second and each further one, until a
- * run has none refused; and all of that again with the requests behind the refused one refused too. A refused call must answer
- * BITES_NO_MEMORY and leave what it was given: handles go on, `out` of a call that makes something holds nothing, what is
- * written to stays, and all that was taken is freed. Searches must take no memory at all. */
+/* Refuses each request for memory of each call of bites.h that allocates: the first, the second and each further one, until a
+ * run has none refused. Then it does all of that again with the requests after the refused one refused too. A refused call must
+ * return BITES_NO_MEMORY. Its handles must still work, `out` of a call that makes something must hold nothing, other memory that
+ * it writes to must be unchanged, and all that it allocated must be freed. Searches must not allocate at all. */
 #include "bites.h"
 #include "refusing.h"
 
@@ -12,7 +12,7 @@
 #define LONG_TEMPLATE BYTES("<$word: ${2}> $$ and a text that is longer than all that stands before it, twice: $word $word")
 #define ROOM 1024
 
-/* What the calls are asked of, made with ample memory for each run. */
+/* The arguments of the calls, made with ample memory for each run. */
 struct given {
     bites regex;
     bites_cache cache;
@@ -22,7 +22,7 @@ struct given {
     uint8_t out[ROOM];
 };
 
-/* A call, what it writes or NULL, and the code that it answers where memory suffices. */
+/* A call, the text that it writes or NULL, and the code that it returns if there is enough memory. */
 struct call {
     const char *name;
     const char *text;
@@ -67,7 +67,7 @@ static bool complain(const char *name, size_t number, const char *what) {
     return false;
 }
 
-/* Whether the searches of these handles answer as they should, and take no memory. */
+/* Returns whether the searches with these handles return what they should, and allocate nothing. */
 static bool search_well(bites *regex, bites_cache *cache) {
     bites_span m = {0, 0}, groups[3];
     uint8_t out[4];
@@ -106,7 +106,7 @@ static bool is_untouched(const struct given *given) {
     return true;
 }
 
-/* Whether the call did what it is for: it put its text, or what it made serves searches. */
+/* Returns whether the call did its work: it put its text, or searches work with what it made. */
 static bool is_done(const struct call *call, struct given *given, bites_size answer) {
     if (answer.code != call->code) return false;
     if (call->text != NULL)
@@ -115,7 +115,7 @@ static bool is_done(const struct call *call, struct given *given, bites_size ans
     return search_well(&given->made, &given->cache);
 }
 
-/* Whether a refused call answers want of memory, keeps what it was given, and is done when it is asked again. */
+/* Returns whether a refused call returned BITES_NO_MEMORY and left its arguments unchanged, and is done when it is repeated. */
 static bool is_kept(const struct call *call, struct given *given, bites_size answer, size_t number) {
     if (answer.code != BITES_NO_MEMORY || answer.size != 0) return complain(call->name, number, "another answer");
     if (!is_untouched(given)) return complain(call->name, number, "something is written");
@@ -125,7 +125,7 @@ static bool is_kept(const struct call *call, struct given *given, bites_size ans
     return is_done(call, given, call->ask(given)) || complain(call->name, number, "asked again, it answers otherwise");
 }
 
-/* A run with the request of this number refused; whether all is right. `needed` is how many requests the call made. */
+/* Runs the call with the request of this number refused. Returns whether all is right. `needed` is the number of requests. */
 static bool run(const struct call *call, size_t number, bool rest, size_t *needed) {
     struct given given;
     blocks = 0, misused = false;
@@ -146,7 +146,7 @@ static bool run(const struct call *call, size_t number, bool rest, size_t *neede
     return right;
 }
 
-/* Refuses each request of the call in turn; whether all runs are right. `count` is how many requests it makes. */
+/* Refuses each request of the call in turn. Returns whether all runs are right. `count` is the number of requests. */
 static bool try_call(const struct call *call, size_t *count) {
     size_t needed;
     if (!run(call, 0, false, count)) return false;

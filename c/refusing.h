@@ -1,5 +1,5 @@
-/* An allocator for programs that are linked with one of the archives of this repository, in the place of the C library's. It
- * refuses the request for memory that is asked for, counts what was taken, and tells what was freed twice. */
+/* An allocator for programs that are linked with one of the archives of this repository, instead of the C library's. It refuses
+ * the request for memory that `refuse_at` names, counts the blocks that are not freed, and notes a block that is freed twice. */
 #ifndef REFUSING_H
 #define REFUSING_H
 #include <stdbool.h>
@@ -22,7 +22,7 @@ enum { LIVE = 0x11f3, FREED = 0xdead };
 
 static size_t requests;  /* since it was set to 0 */
 static size_t refuse_at; /* the number of the request that is refused; 0 for none */
-static bool refuse_rest; /* whether those behind it are refused too */
+static bool refuse_rest; /* whether those after it are refused too */
 static size_t refusals;  /* since it was set to 0 */
 static long blocks;      /* taken and not freed */
 static bool misused;     /* whether a block was freed that is not live */
@@ -34,7 +34,7 @@ static bool is_refused(void) {
     return refused;
 }
 
-/* A new block, whose bytes are no zeros. */
+/* Returns a new block, whose bytes are not zero. */
 static void *take(size_t size) {
     struct head *head = malloc(sizeof *head + size);
     if (head == NULL) {
@@ -65,7 +65,7 @@ struct tried rattle_alloc(size_t size, size_t align) {
     return (struct tried){true, take(size)};
 }
 
-/* A block that grows or shrinks always moves. */
+/* Moves the block even if it shrinks. */
 struct tried rattle_realloc(void *block, size_t old_size, size_t size, size_t align) {
     (void)old_size;
     (void)align;

@@ -1,5 +1,5 @@
-/* Eight threads search with clones of one regex at once, each with a cache of its own, and make and free further clones while
- * the others do. It is run under a race detector too. A handle moves to each thread, and is freed there. */
+/* Eight threads search with clones of one regex at once, each with a cache of its own. Meanwhile they make and free further
+ * clones. A handle moves to each thread, and is freed there. This is run under a race detector too. */
 #include "bites.h"
 #include <pthread.h>
 #include <stdio.h>
@@ -10,7 +10,7 @@
 #define HAYSTACK BYTES("-- some 42 words, and 137 others")
 enum { THREADS = 8, TURNS = 200 };
 
-/* Whether the four matches come, and are replaced, as they should. */
+/* Returns whether the four matches are found and replaced as they should be. */
 static int searches_well(bites *regex, bites_cache *cache) {
     const size_t ends[] = {10, 16, 25, 32};
     bites_span m, groups[3];

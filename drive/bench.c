@@ -8,7 +8,7 @@
 
 enum { SUM = 1000000007, GROUPS = 64 };
 
-/* What a job is done with. The cache is kept over all searches, as the Rust crate's regex keeps its own. */
+/* What a job uses. One cache serves all searches, as the Rust crate's regex keeps its own. */
 struct work {
     bites regex;
     bites_cache cache;
@@ -16,7 +16,7 @@ struct work {
     size_t len, template_len;
 };
 
-/* What a job makes of a match; `groups` are asked for where `has_groups` is set. */
+/* The matches of a job, one after another. Only if `has_groups` is set, `groups` has all groups of a match. */
 struct matches {
     bites_span groups[GROUPS];
     size_t last;
@@ -27,7 +27,7 @@ static struct matches all_matches(bool has_groups) {
     return (struct matches){.last = BITES_NONE, .has_groups = has_groups};
 }
 
-/* Goes to the next match, whose span is group 0. */
+/* Finds the next match, whose span is group 0. Returns whether there is one. */
 static bool next(struct work *work, struct matches *matches) {
     uint32_t code = matches->has_groups
         ? bites_captures_next(&work->regex, &work->cache, work->haystack, work->len, matches->last, matches->groups, GROUPS).code
@@ -45,7 +45,7 @@ static size_t count(struct work *work) {
 
 static size_t count_pieces(struct work *work) { return count(work) + 1; }
 
-/* The sum of the ends of this group, where it participates. */
+/* Returns the sum of the ends of this group over all matches in which it participates. */
 static size_t sum_ends(struct work *work, size_t group) {
     struct matches matches = all_matches(true);
     size_t sum = 0;
@@ -58,7 +58,7 @@ static size_t sum_third(struct work *work) { return sum_ends(work, 3); }
 
 static size_t sum_whole(struct work *work) { return sum_ends(work, 0); }
 
-/* The first match; empty at 0 where there is none. */
+/* Returns the first match, or an empty span at 0 if there is none. */
 static bites_span first(struct work *work, const uint8_t *haystack, size_t len) {
     bites_span found = {0, 0};
     if (bites_find_at(&work->regex, &work->cache, haystack, len, 0, &found) != BITES_MATCH) found = (bites_span){0, 0};

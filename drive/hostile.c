@@ -1,7 +1,7 @@
 /*
- * Patterns and haystacks that are made to take long: each is asked of the library bites_c or of the program bites, in a process
- * of its own, once as it is and once ten times as long. The answer must be right, the time must grow by a factor below 20, and
- * time and memory must stay below the bounds of the row. Times are processor time.
+ * Patterns and haystacks that are made to take long. The library bites_c or the program bites runs on each in a process of its
+ * own, once at this length and once at ten times the length. The answer must be right, the time must grow by a factor below 20,
+ * and time and memory must stay below the bounds of the row. Times are processor time.
  *
  * hostile PROGRAM: the path of the program bites.
  */
@@ -18,13 +18,13 @@
 
 /* The rows. */
 
-/* A text whose middle stands there so many times; each `#` in the middle is a digit of the number of the time. */
+/* A text whose middle is repeated. Each `#` in the middle is a digit of the number of the repetition. */
 struct long_text {
     const char *front, *middle, *back;
     size_t count;
 };
 
-/* What is made ten times as long. */
+/* The part that is made ten times as long. */
 enum long_part { PATTERN, HAYSTACK };
 
 struct row {
@@ -82,8 +82,8 @@ static const struct row rows[] = {
     {HAYSTACK, "captures", ONE("(?:(a)|b)*"), LINES("a"), "0..", 60, 100},
     {HAYSTACK, "is, text", ONE("(?:|a)*b"), LINES("a"), "none", 60, 100},
     {HAYSTACK, "is", ONE("(?:a?){10000}b"), {"", "c", "", 10 * 1000}, "none", 120, 100},
-    /* Four thousand named groups, under the default limits. A cache reserves rows of slots, states times groups of them, and a
-     * search writes those that its threads need: the groups of the last rows are all alive at each place. */
+    /* Four thousand named groups, under the default limits. A cache reserves rows of slots, their number being states times
+     * groups. A search writes those that its threads need. In the last rows all groups are alive at each offset. */
     {HAYSTACK, "is", GROUPS, {"", "a", "", 1000}, "match", 20, 50},
     {HAYSTACK, "find", GROUPS, {"", "a", "", 1000}, "0..1000", 20, 50},
     {HAYSTACK, "captures", GROUPS, {"", "a", "", 1000}, "0..1000", 20, 50},
@@ -92,8 +92,8 @@ static const struct row rows[] = {
     {HAYSTACK, "find", LIVE_GROUPS, {"", "a", "", 1}, "0..1", 20, 50},
     {HAYSTACK, "captures", LIVE_GROUPS, {"", "a", "", 1}, "0..1", 60, 900},
     {HAYSTACK, "replace", LIVE_GROUPS, {"", "a", "", 1}, "3 bytes", 60, 900},
-    /* Anchored patterns: a search that can begin at the start alone stops there, whatever the haystack's length. The time that
-     * is left is that of making the haystack. */
+    /* Anchored patterns: a search that can only begin at the start stops there, whatever the haystack's length. The time that is
+     * left is that of making the haystack. */
     {HAYSTACK, "is", ONE("^a"), LINES("b"), "none", 1, 100},
     {HAYSTACK, "is", ONE("\\Aa|\\Ab"), LINES("c"), "none", 1, 100},
     {HAYSTACK, "captures", ONE("^(a)"), LINES("b"), "none", 1, 100},
@@ -110,20 +110,20 @@ static const struct row rows[] = {
 
 /* Runs. */
 
-/* What was seen of a run in its process. */
+/* What a run shows: whether its answer is right, and its time and memory. */
 struct seen {
     bool is_right;
     double seconds;
     size_t megabytes;
 };
 
-/* Puts the digits of a number into the places of `#`, the lowest one last. */
+/* Replaces each `#` by a digit of the number, the lowest digit last. */
 static void number(char *chars, size_t len, size_t turn) {
     for (size_t at = len; at-- > 0;)
         if (chars[at] == '#') chars[at] = (char)('0' + turn % 10), turn /= 10;
 }
 
-/* The text with its middle so many times as often; the caller frees it. */
+/* Returns the text with its middle repeated `times` times as often. The caller frees it. */
 static char *made(const struct long_text *text, size_t times, size_t *len) {
     size_t front = strlen(text->front), middle = strlen(text->middle), back = strlen(text->back);
     *len = front + middle * text->count * times + back;
@@ -149,7 +149,7 @@ static _Noreturn void end_with_span(const struct row *row, uint32_t code, bites_
     end(row, code == BITES_MATCH || code == BITES_NO_MATCH ? answer : "a fault");
 }
 
-/* Makes a regex and a cache for it. Where the pattern is refused, the message is the answer. */
+/* Makes a regex and a cache for it. If the pattern is refused, the message is the answer. */
 static void make(const struct row *row, const char *pattern, size_t len, bites *regex, bites_cache *cache) {
     bool has_limits = strcmp(row->job, "limits") != 0;
     uint32_t flags = strstr(row->job, ", text") != NULL ? BITES_TEXT : 0;
@@ -199,7 +199,7 @@ static _Noreturn void lex(const struct row *row, const uint8_t *haystack, size_t
     end(row, answer);
 }
 
-/* In the process of a run: does the job of the library. */
+/* Does the job of the library, in the process of a run. */
 static _Noreturn void do_job(const struct row *row, size_t pattern_times, size_t haystack_times) {
     size_t pattern_len, len;
     char *pattern = made(&row->pattern, pattern_times, &pattern_len);
@@ -216,7 +216,7 @@ static _Noreturn void do_job(const struct row *row, size_t pattern_times, size_t
     end_with_span(row, code, found);
 }
 
-/* A file with the text, open at its start. */
+/* Returns a file with the text, open at its start. */
 static FILE *file_of(const struct long_text *text, size_t times) {
     FILE *file = tmpfile();
     if (file == NULL) exit(2);
@@ -228,7 +228,7 @@ static FILE *file_of(const struct long_text *text, size_t times) {
     return file;
 }
 
-/* In the process of a run: becomes the program on these streams. */
+/* Turns the process of a run into the program on these streams. */
 static _Noreturn void become(const char *program, const struct row *row, FILE *input, FILE *output) {
     const char *word = strchr(row->job, ' ') + 1;
     const char *template = strcmp(word, "replace") == 0 ? "b" : NULL;
@@ -237,14 +237,14 @@ static _Noreturn void become(const char *program, const struct row *row, FILE *i
     _exit(2);
 }
 
-/* Whether the file begins with the answer. */
+/* Returns whether the file begins with the answer. */
 static bool begins_with(FILE *file, const char *answer) {
     char front[100];
     size_t len = strlen(answer);
     return fseek(file, 0, SEEK_SET) == 0 && fread(front, 1, len, file) == len && memcmp(front, answer, len) == 0;
 }
 
-/* What a process took that has ended; it must have ended with status 0, or with 1 where that is right too. */
+/* Returns the time and memory of a process that has ended. It must have ended with status 0, or with 1 if that is right too. */
 static struct seen ended(pid_t process, bool may_be_one) {
     struct rusage usage;
     int status;
@@ -281,16 +281,16 @@ static struct seen run(const char *program, const struct row *row, size_t times)
     return seen;
 }
 
-/* Whether memory grows with the length and with nothing else. */
+/* Returns whether memory grows with the length and with nothing else. */
 static bool is_in_step(size_t shorter, size_t longer) { return longer < 12 * shorter + 16; }
 
-/* A text that says what is searched, short. */
+/* Returns a short text that says what is searched. */
 static void tell_text(const struct long_text *text, size_t times) {
     printf("%.24s", text->front);
     if (text->count > 0) printf("%s... %zu times%s", text->middle, text->count * times, text->back);
 }
 
-/* Whether the time of the longer run is within a factor of 20; a time below a tenth of a second says too little. */
+/* Returns whether the time of the longer run is within a factor of 20. A time below a tenth of a second says too little. */
 static bool is_linear(double shorter, double longer) { return longer < 20 * (shorter > 0.1 ? shorter : 0.1); }
 
 static bool try_row(const char *program, const struct row *row) {

@@ -1,7 +1,7 @@
 //! Answers rows of tables with the Rust crate regex-bites, or one that has its names, over bytes: `peer < TABLE`.
 //!
-//! This repository neither has nor needs that crate. Where it is at hand, build this file as a program over it, and compare:
-//! `drive/random --peer PROGRAM`. Rows whose flags or calls the crate does not have are not asked.
+//! This repository neither has nor needs that crate. To compare with it, build this file as a program over the crate, and run
+//! `drive/random --peer PROGRAM`. Rows with flags or calls that the crate does not have are not asked.
 
 use regex_bites::bytes::{Captures, NoExpand, Regex, RegexBuilder};
 use std::borrow::Cow;
@@ -62,7 +62,7 @@ fn build(regex: &Regex) -> String {
     format!("ok {} {least} {}", regex.captures_len(), names.collect::<Vec<_>>().join(","))
 }
 
-/// The parts of the first match, as many as participate in each match.
+/// Returns the first match and its first groups that participated, as many as `static_captures_len` says.
 fn extract(regex: &Regex, haystack: &[u8]) -> String {
     let Some((captures, count)) = regex.captures(haystack).zip(regex.static_captures_len()) else {
         return "none".into();
@@ -120,7 +120,7 @@ fn answer(columns: &[&str]) -> Option<String> {
     })
 }
 
-/// A start past the end finds nothing here; the crate is not asked from there.
+/// Answers `none` for a start past the end, without asking the crate.
 fn from(start: usize, haystack: &[u8]) -> Option<usize> {
     (start <= haystack.len()).then_some(start)
 }

@@ -1,7 +1,7 @@
 /*
- * For LD_PRELOAD: refuses the call of the number that a variable names, and writes a byte to file 9 when it does. The
- * variables: REFUSE counts requests for memory, REFUSE_READ reads from standard input, and REFUSE_WRITE writes to standard
- * output. With REFUSE_REST the requests for memory after the refused one are refused too.
+ * For LD_PRELOAD: refuses the call whose number a variable gives, and writes a byte to file 9 when it does. REFUSE counts
+ * requests for memory, REFUSE_READ reads from standard input, and REFUSE_WRITE writes to standard output. With REFUSE_REST the
+ * requests for memory after the refused one are refused too.
  */
 #include <errno.h>
 #include <stdbool.h>

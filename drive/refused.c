@@ -1,7 +1,8 @@
 /*
  * Refuses each request for memory of the program bites_rows in turn, for each row of a table by itself: the first, the second and
- * each further one, until a run has none refused; and all of that again with the requests after the refused one refused too. A
- * run must write the row with its answer, or nothing: then it tells that it is out of memory. The last run must write the row.
+ * each further one, until a run has none refused. Then it does all of that again with the requests after the refused one refused
+ * too. A run must write the row with its answer, or write nothing and report that it is out of memory. The last run must write
+ * the row.
  *
  * refused PROGRAM SHIM TABLE: SHIM is refuse_calls.c as a shared library. The answers of the rows were worked out by hand.
  */
@@ -29,12 +30,12 @@ static FILE *file(void) {
     return made;
 }
 
-/* Leaves the file empty, and at its start. */
+/* Empties the file, and goes to its start. */
 static void clear(FILE *file) {
     if (ftruncate(fileno(file), 0) != 0 || lseek(fileno(file), 0, SEEK_SET) != 0) exit(2);
 }
 
-/* What the file holds, as a text. */
+/* Returns the contents of the file as a text. */
 static const char *contents(FILE *file, char *room) {
     ssize_t len = pread(fileno(file), room, ROOM - 1, 0);
     if (len < 0) exit(2);
@@ -42,7 +43,7 @@ static const char *contents(FILE *file, char *room) {
     return room;
 }
 
-/* In the process of a run: becomes the program, with the request of this number refused. */
+/* Turns the process of a run into the program, with the request of this number refused. */
 static _Noreturn void become(const struct files *files, size_t number, bool rest) {
     char text[32];
     snprintf(text, sizeof text, "%zu", number);
@@ -54,7 +55,7 @@ static _Noreturn void become(const struct files *files, size_t number, bool rest
     _exit(2);
 }
 
-/* Runs the program on the row; its status, or -1 where it was stopped. */
+/* Runs the program on the row. Returns its status, or -1 if a signal ended it. */
 static int run(const struct files *files, size_t number, bool rest) {
     if (lseek(fileno(files->input), 0, SEEK_SET) != 0) exit(2);
     clear(files->output);
@@ -69,7 +70,7 @@ static int run(const struct files *files, size_t number, bool rest) {
     return WIFEXITED(status) ? WEXITSTATUS(status) : -1;
 }
 
-/* Refuses each request in turn. Whether all runs are right; `count` is how many of them were out of memory. */
+/* Refuses each request in turn. Returns whether all runs are right. `count` is how many of them were out of memory. */
 static bool refuse_each(const struct files *files, const char *row, bool rest, size_t *count) {
     static char output[ROOM], errors[ROOM], refused[ROOM];
     for (size_t number = 1;; number++) {

@@ -1,6 +1,6 @@
 /*
  * Times searches against the length of the haystack and against the number of states, and prints nanoseconds per byte, and per
- * byte and state. The growth is linear where a column stays level. The answers are printed too, so that nothing is left out.
+ * byte and state. The time is linear if a column stays level. The answers are printed too, so that no work is optimized away.
  */
 #include "bench.h"
 
@@ -14,7 +14,7 @@ enum { FIND_ITER = 0, IS_MATCH = 4 };
 
 static const char *const words[] = {"the ", "harbour ", "walking ", "sing ", "of ", "2010-03-14 ", "Holmes\n", "in "};
 
-/* Words in an order that a small linear congruence gives. */
+/* Returns words in the order of a small linear congruential generator. */
 static uint8_t *text(size_t len) {
     uint8_t *bytes = malloc(len + 16);
     if (bytes == NULL) {
@@ -32,7 +32,7 @@ static uint8_t *text(size_t len) {
     return bytes;
 }
 
-/* The least time of three, in nanoseconds. */
+/* Returns the least time of three runs, in nanoseconds. */
 static double least(uint32_t job, const char *pattern, const uint8_t *haystack, size_t len, size_t *answer) {
     double best = 0;
     for (int run = 0; run < 3; run++) {
@@ -60,7 +60,7 @@ static void by_length(void) {
     }
 }
 
-/* All the letters are alive at each place of a haystack of `a`, and each of them is tried there. */
+/* All the letters are alive at each offset of a haystack of `a`, and each of them is tried there. */
 static void by_states(void) {
     enum { LEN = 100000 };
     uint8_t *haystack = malloc(LEN);

@@ -1,9 +1,9 @@
 //! Links the engine, a static library.
 //!
-//! It is looked for in `BITES_C_DIR`, where that is set, else in `lib` of this folder, which a release has, else in the checkout
-//! that this crate is part of. `libbites.a` is complete; `libbites_c.a`, which `rt lib` makes, needs `liblibc_c.a` of the toolchain
-//! besides, in `RATTLE_C_DIR` or where the command `rt` says. Where the library is missing, or older than a source of the
-//! checkout, one line says what to run.
+//! It looks for the library in `BITES_C_DIR` if that is set, else in `lib` of this folder, which a release has, else in the
+//! checkout that this crate is part of. `libbites.a` is complete. `libbites_c.a`, which `rt lib` makes, also needs
+//! `liblibc_c.a` of the toolchain, from `RATTLE_C_DIR` or from where the command `rt` says. If the library is missing, or older
+//! than a source of the checkout, one line says what to run.
 
 use std::env;
 use std::fs;
@@ -31,7 +31,7 @@ fn main() {
         .tell();
 }
 
-/// The libraries to link, and the files that decide on it, whether they are there or not.
+/// The libraries to link, and the files that this depends on, even if they are not there.
 #[derive(Default)]
 struct Links {
     libraries: Vec<(&'static str, PathBuf)>,
@@ -65,7 +65,7 @@ impl Links {
     }
 }
 
-/// What `BITES_C_DIR` names: an installed library, or one that `rt lib` made.
+/// Returns what `BITES_C_DIR` names: an installed library, or one that `rt lib` made.
 fn installed(folder: &Path) -> Result<Links, String> {
     let mut links = Links::default();
     if links.watch(folder.join("libbites.a")) {
@@ -82,7 +82,7 @@ fn installed(folder: &Path) -> Result<Links, String> {
     Ok(links)
 }
 
-/// What stands in the folder `lib` of a release.
+/// Returns what the folder `lib` of a release has.
 fn packed_with(folder: &Path) -> Result<Links, String> {
     let mut links = Links::default();
     if !links.watch(folder.join("libbites.a")) {
@@ -124,7 +124,7 @@ fn of_checkout(checkout: &Path) -> Result<Links, String> {
     Ok(links)
 }
 
-/// The folders of the sources of `bites_c` and of the crates below it, as `crates.txt` lists them.
+/// Returns the folders of the sources of `bites_c` and of the crates below it, as `crates.txt` lists them.
 fn sources(checkout: &Path) -> Result<Vec<PathBuf>, String> {
     let list = checkout.join("crates.txt");
     let text = fs::read_to_string(&list).map_err(|_| {
@@ -157,7 +157,7 @@ fn modified(path: &Path) -> Option<SystemTime> {
     fs::metadata(path).ok()?.modified().ok()
 }
 
-/// Adds what the toolchain's own part for the C library gives.
+/// Adds the toolchain's own library, `liblibc_c.a`.
 fn add_toolchain(links: &mut Links) -> Result<(), String> {
     let named = env::var_os("RATTLE_C_DIR").map(PathBuf::from);
     match named.or_else(of_toolchain) {
@@ -171,7 +171,7 @@ fn add_toolchain(links: &mut Links) -> Result<(), String> {
     }
 }
 
-/// `rt doc` writes the path of the toolchain's first page.
+/// Returns the folder of the toolchain, by the path of its first page that `rt doc` writes.
 fn of_toolchain() -> Option<PathBuf> {
     let answer = Command::new("rt").arg("doc").output().ok()?;
     let page = String::from_utf8(answer.stdout).ok()?;

@@ -1,15 +1,15 @@
-//! Times the Rust crate regex-bites and this one on what real programs do, in turn, in one program: `run` builds it.
+//! Times the Rust crate regex-bites and this one on what real programs do, in turn, in one program, which `run` builds.
 //!
 //!     real [RUNS] [WORD]
 //!
-//! The jobs whose name has the word are done by both, the best of so many runs. A row is the job, the time of each crate in µs, and
-//! their ratio: above 1 this one is faster. Both must answer the same. The last row is the geometric mean of all ratios.
+//! Both crates do the jobs whose names contain WORD, and the best of RUNS runs counts. A row is the job, the time of each crate in µs,
+//! and their ratio: above 1 this one is faster. Both must give the same result. The last row is the geometric mean of all ratios.
 
 use std::env;
 use std::hint::black_box;
 use std::time::Instant;
 
-/// A job answers a number, so that the answers can be compared.
+/// A job returns a number, so that the results can be compared.
 type Job = (String, Box<dyn FnMut() -> usize>);
 
 /// The lines of a log. One in seven is a comment.
@@ -492,7 +492,7 @@ macro_rules! side {
 side!(upstream);
 side!(proved);
 
-/// The time of one call in µs, over so many.
+/// Returns the mean time of one call in µs.
 fn time(job: &mut Job, times: usize) -> f64 {
     let start = Instant::now();
     for _ in 0..times {
@@ -501,7 +501,7 @@ fn time(job: &mut Job, times: usize) -> f64 {
     start.elapsed().as_secs_f64() * 1e6 / times as f64
 }
 
-/// How often a job is repeated in a run, so that it takes a millisecond.
+/// Returns how many times a job is repeated in a run, so that the run takes a millisecond.
 fn repeats(job: &mut Job) -> usize {
     ((1000.0 / time(job, 1)) as usize).clamp(1, 2000)
 }

@@ -1,29 +1,29 @@
-//! Times the Rust crate regex-bites and this one on the same work, in turn, in one program: `run` builds it.
+//! Times the Rust crate regex-bites and this one on the same work, in turn, in one program, which `run` builds.
 //!
 //!     time [RUNS] [WORK]
 //!
-//! A row is the work, the best time of each crate in ms, and their ratio: above 1 this one is faster. Both must answer the
-//! same. The last row is the geometric mean of the ratios of the searches.
+//! A row is the work, the best time of each crate in ms, and their ratio: above 1 this one is faster. Both must give the
+//! same result. The last row is the geometric mean of the ratios of the searches.
 
 use std::env;
 use std::hint::black_box;
 use std::process::ExitCode;
 use std::time::Instant;
 
-/// What is done with a haystack. Each answers a number, so that the answers can be compared.
+/// What is done with a haystack. Each kind of work returns a number, so that the results can be compared.
 #[derive(Clone, Copy, PartialEq)]
 enum Job {
     /// Counts all matches, over bytes.
     Matches,
     /// Counts all matches, over texts.
     TextMatches,
-    /// Adds up where the last group of each match ends.
+    /// Adds up the ends of the last group of each match.
     Groups,
-    /// The same, with locations that are used again.
+    /// Does that with locations that are reused.
     Locations,
     /// Finds the first match of each line.
     Lines,
-    /// Whether anything matches.
+    /// Finds out whether anything matches.
     Is,
     /// Counts the pieces between matches.
     Pieces,
@@ -31,7 +31,7 @@ enum Job {
     Template,
     /// Replaces each match of each line by a template.
     TemplateLines,
-    /// Replaces each match by what a closure answers.
+    /// Replaces each match by what a closure returns.
     Closure,
     /// Makes the regex.
     Make,
@@ -103,7 +103,7 @@ macro_rules! side {
 side!(upstream);
 side!(proved);
 
-/// Numbers that look random, the same in each run.
+/// A generator of pseudorandom numbers, which are the same in each run.
 struct Draw(u64);
 
 impl Draw {
@@ -125,7 +125,7 @@ const WORDS: [&str; 16] = [
 ];
 const WIDE: [&str; 8] = ["Straße", "été", "日本", "plain", "мир", "☃", "naïve", "𝒳𝒴"];
 
-/// So many bytes of words of the list, a rare one now and then, parted by spaces and ends of lines.
+/// Returns at least `size` bytes of words of the list, with a rare word now and then, separated by spaces and ends of lines.
 fn prose(words: &[&str], size: usize) -> String {
     let mut draw = Draw(size as u64);
     let mut text = String::new();
@@ -202,7 +202,7 @@ fn works() -> Vec<Work> {
     ]
 }
 
-/// How long it takes in ms, and what it answers.
+/// Returns how long the work takes in ms, and its result.
 fn time(side: fn(&Work) -> usize, work: &Work) -> (f64, usize) {
     let start = Instant::now();
     let answer = black_box(side(work));

@@ -1,5 +1,5 @@
 //! Writes the fields of a log in the common log format as comma-separated values, as the program `fields` of this
-//! repository does. Each line of standard input that is none is reported on standard error.
+//! repository does. Each line of standard input that is not in the format is reported on standard error.
 
 use regex_bites::Regex;
 use std::io::{self, BufRead, Write};
@@ -7,7 +7,7 @@ use std::process::ExitCode;
 
 const PATTERN: &str = r#"\A(?:(?<host>[^ "]+) (?<ident>[^ "]+) (?<user>[^ "]+) \[(?<time>[^\]"]+)\] "(?<request>[^"]*)" (?<status>[0-9]+) (?<size>[0-9-]+))\z"#;
 
-// Returns how many lines have not the format.
+// Returns how many lines are not in the format.
 fn run() -> Result<u64, Box<dyn std::error::Error>> {
     let regex = Regex::new(PATTERN)?;
     let (mut input, mut out) = (io::stdin().lock(), io::BufWriter::new(io::stdout().lock()));

@@ -62,7 +62,7 @@ fn main() -> ExitCode {
     }
 }
 
-// Whether nobody reads the output any more.
+// Returns whether nobody reads the output any more.
 fn is_closed(error: &(dyn std::error::Error + 'static)) -> bool {
     error
         .downcast_ref::<io::Error>()

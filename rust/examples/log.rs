@@ -1,4 +1,4 @@
-//! Reads a log from standard input, or a small one of its own where a word is given, and writes what is in it.
+//! Reads a log from standard input, or a small one of its own if a word is given, and writes what is in it.
 //!
 //! It is written for the API of the Rust crate regex-bites alone, so it builds with that crate too.
 
@@ -62,7 +62,7 @@ impl Extractor {
         ))
     }
 
-    /// The line with its users' names hidden, and its spaces made one.
+    /// Returns the line with its users' names hidden, and with each run of spaces replaced by one space.
     fn hidden(&self, line: &str) -> String {
         let mut seen = 0;
         let hidden = self.user.replace_all(line, |user: &Captures<'_>| {

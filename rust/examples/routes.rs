@@ -1,5 +1,5 @@
 //! Writes which route of a table serves each path of standard input: `routes TABLE`, as the program `routes` of this
-//! repository does. A line of the table is a name, a space and a pattern, and the first that matches a whole path serves it.
+//! repository does. A line of the table is a name, a space and a pattern. The first route that matches a whole path serves it.
 
 use regex_bites::Regex;
 use std::io::{self, BufRead, Write};

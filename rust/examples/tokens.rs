@@ -1,5 +1,5 @@
 //! Cuts standard input into tokens: `tokens RULES`, as the program `tokens` of this repository does. A line of the rules
-//! is a name, a space and a pattern; the longest token is taken, and of rules that read as far the first.
+//! is a name, a space and a pattern. The longest match of any rule is a token, and of several such rules the first counts.
 
 use regex_bites::bytes::{Regex, RegexBuilder};
 use std::io::{self, Read, Write};
@@ -15,7 +15,7 @@ fn read_rules(rules: &str) -> Result<Vec<(&str, Regex)>, Box<dyn std::error::Err
     Ok(read)
 }
 
-// Returns where the tokens stop before the end of the input: the line, from 1, and the byte, from 0.
+// Returns where the tokens stop, if that is before the end of the input: the line, from 1, and the byte, from 0.
 fn run(rules: &str) -> Result<Option<(usize, usize)>, Box<dyn std::error::Error>> {
     let rules = std::fs::read_to_string(rules)?;
     let rules = read_rules(&rules)?;

@@ -1,6 +1,6 @@
-//! The builder, which is the same for texts and for bytes but for the regex that it builds.
+//! The builder for texts and the one for bytes, which differ only in the regex that they build.
 
-/// Defines `RegexBuilder`, where `Regex` is the type of the module.
+/// Defines `RegexBuilder` for the type `Regex` of the module.
 macro_rules! regex_builder {
     () => {
         /// Builds a regex of a pattern with flags and limits.
@@ -57,7 +57,7 @@ macro_rules! regex_builder {
                 self.set(sys::CRLF, yes)
             }
 
-            /// Sets the flag `U`: `x*` prefers few and `x*?` many.
+            /// Sets the flag `U`: `x*` prefers fewer repetitions and `x*?` prefers more.
             pub fn swap_greed(&mut self, yes: bool) -> &mut RegexBuilder {
                 self.set(sys::SWAP_GREED, yes)
             }
@@ -67,13 +67,13 @@ macro_rules! regex_builder {
                 self.set(sys::IGNORE_WHITESPACE, yes)
             }
 
-            /// Sets the limit on the size of the compiled pattern, roughly in bytes; 10485760 by default.
+            /// Sets the limit on the size of the compiled pattern, roughly in bytes. The default is 10485760.
             pub fn size_limit(&mut self, limit: usize) -> &mut RegexBuilder {
                 self.settings.set_size_limit(limit);
                 self
             }
 
-            /// Sets the limit on how deep the pattern is nested; 50 by default.
+            /// Sets the limit on how deep the pattern is nested. The default is 50.
             pub fn nest_limit(&mut self, limit: u32) -> &mut RegexBuilder {
                 self.settings.set_nest_limit(limit);
                 self
@@ -84,7 +84,8 @@ macro_rules! regex_builder {
                 self.set(sys::LEFTMOST_LONGEST, yes)
             }
 
-            /// Sets whether groups that the pattern repeats 0 times keep their numbers and names. The Rust crate has no such switch.
+            /// Sets whether groups that the pattern repeats 0 times keep their numbers and names. The Rust crate has no such
+            /// switch.
             pub fn keep_dropped_groups(&mut self, yes: bool) -> &mut RegexBuilder {
                 self.set(sys::KEEP_DROPPED_GROUPS, yes)
             }

@@ -3,7 +3,7 @@ use std::fmt;
 
 /// Why a pattern was refused.
 ///
-/// [`Display`](fmt::Display) writes the engine's text of it.
+/// [`Display`](fmt::Display) writes the engine's message.
 ///
 /// ```
 /// let error = regex_bites::Regex::new("a(b").unwrap_err();

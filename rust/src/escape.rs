@@ -29,8 +29,8 @@ pub fn escape(pattern: &str) -> String {
     escaped
 }
 
-/// Which bytes are special characters. The engine is asked once, for all of ASCII. No other character is special, so no other byte
-/// of a text is.
+/// Returns which bytes are special characters. It asks the engine once, for all of ASCII. No other character is special, so no
+/// other byte of a text is.
 fn special() -> &'static [bool; 256] {
     static SPECIAL: OnceLock<[bool; 256]> = OnceLock::new();
     SPECIAL.get_or_init(|| {

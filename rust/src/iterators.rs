@@ -1,4 +1,4 @@
-//! The iterators, which are the same for texts and for bytes but for the haystack. They make one search for each step.
+//! The iterators over texts and over bytes, which differ only in the type of the haystack. Each step makes one search.
 
 /// Defines the iterators over a haystack of this type, in a module below that of `Regex`, `Captures` and `Match`.
 macro_rules! iterators {
@@ -15,7 +15,7 @@ macro_rules! iterators {
         pub struct Matches<'r, 'h> {
             searches: Searches<'r>,
             haystack: &'h $haystack,
-            // Where the match before ended.
+            // The end of the previous match.
             last: usize,
         }
 
@@ -50,7 +50,7 @@ macro_rules! iterators {
             regex: &'r Regex,
             searches: Searches<'r>,
             haystack: &'h $haystack,
-            // Where the match before ended.
+            // The end of the previous match.
             last: usize,
         }
 
@@ -101,7 +101,7 @@ macro_rules! iterators {
         pub struct Split<'r, 'h> {
             searches: Searches<'r>,
             haystack: &'h $haystack,
-            // Where the match before ended.
+            // The end of the previous match.
             last: usize,
             is_done: bool,
         }

@@ -1,7 +1,7 @@
 //! Values that searches need exclusively, such as caches, handed to one thread at a time.
 //!
 //! The thread that asks first owns the first value, and takes it without a lock from then on. All other threads share a list
-//! behind a `Mutex`. A value is made where none is free, so no thread waits for another one's search.
+//! behind a `Mutex`. A value is made if none is free, so no thread waits for another one's search.
 #![allow(unsafe_code)]
 
 use crate::race;
@@ -25,9 +25,9 @@ pub(crate) struct Pool<T> {
     others: Mutex<Vec<T>>,
 }
 
-// SAFETY: `first` is reached through one `Taken` at a time: that of the thread that changed `owner` from `NOBODY` to `IN_USE`, or of
-// the one that found its own number there and wrote `IN_USE`. Each gives it back by a release store that the next one's load
-// acquires. So a value moves between threads, for which it is `Send`, and is never shared by two.
+// SAFETY: `first` is reached through one `Taken` at a time: that of the thread that changed `owner` from `NOBODY` to `IN_USE`,
+// or of the one that found its own number there and wrote `IN_USE`. Each gives it back by a release store that the next one's
+// load acquires. So a value moves between threads, for which it is `Send`, and is never shared by two.
 unsafe impl<T: Send> Sync for Pool<T> {}
 
 // A search that panics gives its value back or drops it, and a value is whole between two calls of the engine.

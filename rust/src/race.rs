@@ -1,15 +1,15 @@
-//! What one thread hands to another, told to the race detector helgrind, which knows no lock of `std`. A build without
-//! `--cfg helgrind` has nothing of it.
+//! Tells the race detector helgrind what one thread passes to another, since it doesn't know the locks of `std`. Without
+//! `--cfg helgrind` these calls do nothing.
 #![allow(unsafe_code)]
 
-/// Says that this thread hands on what stands behind this object, right before another thread can take it.
+/// Tells that this thread releases what this object guards. It comes right before another thread can take it.
 #[inline(always)]
 pub(crate) fn released<T>(_object: &T) {
     #[cfg(helgrind)]
     request(0x4847_0121, _object as *const T as u64);
 }
 
-/// Says that this thread took what stands behind this object.
+/// Tells that this thread acquired what this object guards.
 #[inline(always)]
 pub(crate) fn acquired<T>(_object: &T) {
     #[cfg(helgrind)]

@@ -1,7 +1,7 @@
-//! What matches are replaced by, which is the same for texts and for bytes but for their type.
+//! What matches are replaced by. The versions for texts and for bytes differ only in their types.
 
-/// Defines what replaces matches in a text of this type, in a module below that of `Captures`: the type that owns a text, what
-/// appends one to another, and what the page of [`NoExpand`] says.
+/// Defines the replacers of matches, in a module below that of `Captures`. The arguments are the type of a text, the type that
+/// owns one, the method that appends a text to it, and the documentation of [`NoExpand`].
 macro_rules! replacer {
     ($text:ty, $owned:ty, $append:ident, $(#[$page:meta])*) => {
         use super::Captures;
@@ -18,8 +18,8 @@ macro_rules! replacer {
                 None
             }
 
-            /// Returns the template of every replacement, if there is one. Then the engine replaces all matches in one call. The
-            /// template must stand for what [`Replacer::replace_append`] appends.
+            /// Returns the template of every replacement, if there is one. Then the engine replaces all matches in one call.
+            /// What the template stands for must be what [`Replacer::replace_append`] appends.
             #[doc(hidden)]
             fn __regex_bites_template<'r>(&'r mut self) -> Option<Cow<'r, $text>> {
                 None
@@ -40,7 +40,7 @@ macro_rules! replacer {
             ['a] &'a Cow<'a, $text>;
         }
 
-        /// What the closure returns for the groups of each match, which is no template.
+        /// Replaces each match by what the closure returns for its groups. That text is not a template.
         impl<F, T> Replacer for F
         where
             F: FnMut(&Captures<'_>) -> T,
@@ -85,7 +85,7 @@ macro_rules! replacer {
     };
 }
 
-/// Makes each type a replacer that is a template; one without `$` is a literal.
+/// Makes each type a replacer that is a template. A template without `$` is a literal.
 macro_rules! templates {
     ($text:ty, $owned:ty; $([$($life:lifetime)?] $type:ty;)*) => {
         $(

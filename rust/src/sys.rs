@@ -1,4 +1,4 @@
-//! What `c/bites.h` declares, in its order. That page says what each call returns, and what its caller owes.
+//! What `c/bites.h` declares, in the same order. The header says what each call returns, and what its caller must do.
 
 use std::ffi::c_void;
 use std::ptr;
@@ -31,7 +31,7 @@ pub(crate) const TEXT: u32 = 256;
 pub(crate) const SIZE_LIMIT: usize = 10_485_760;
 pub(crate) const NEST_LIMIT: u32 = 50;
 
-/// Both ends of a group that did not participate, and the end of the match before where there is none.
+/// Both offsets of a group that did not participate, and the end of the previous match if there is none.
 pub(crate) const NONE: usize = usize::MAX;
 
 /// `bites`: a compiled regex, or nothing.
@@ -58,7 +58,7 @@ impl BitesCache {
     };
 }
 
-/// `bites_span`: where a match or a group begins and ends.
+/// `bites_span`: the span of a match or of a group.
 #[repr(C)]
 #[derive(Clone, Copy, Debug)]
 pub(crate) struct BitesSpan {

@@ -10,7 +10,8 @@ fn read(path: &str) -> String {
     fs::read_to_string(path).expect("a file of this repository")
 }
 
-/// The header without comments, up to the first function that it defines itself, and with one space for each run of white space.
+/// Returns the header without comments, up to the first function that it defines itself, with one space for each run of white
+/// space.
 fn header() -> String {
     let text = read("../c/bites.h");
     let declared = text.split("static inline").next().expect("a text");
@@ -21,7 +22,7 @@ fn header() -> String {
     words.join(" ")
 }
 
-/// A declaration as a list of words: the name, what is answered, and the type of each parameter.
+/// A declaration as a list of words: the name, the type of the result, and the type of each parameter.
 type Declaration = Vec<String>;
 
 fn of_header() -> Vec<Declaration> {
@@ -105,7 +106,7 @@ fn the_calls_are_those_of_the_header() {
     assert!(of_crate().len() > 14);
 }
 
-/// Each name with the number behind it.
+/// Returns each name with its number.
 fn numbers_of_header() -> HashMap<String, String> {
     let text = header().replace(['(', ')', '=', ','], " ");
     let words = text.split_whitespace().filter(|word| !word.ends_with("_t"));

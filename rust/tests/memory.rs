@@ -5,19 +5,19 @@ use regex_bites::RegexBuilder;
 use std::env;
 use std::process::{Command, Output};
 
-/// A pattern of so many states.
+/// Returns a builder of a pattern with this number of states.
 fn builder(states: usize) -> RegexBuilder {
     let mut builder = RegexBuilder::new(&format!("a{{{states}}}"));
     builder.size_limit(usize::MAX);
     builder
 }
 
-/// Runs the test of this name with so many KiB of address space, and a variable that tells it so.
+/// Runs the test of this name with `room` KiB of address space, and with a variable that tells it so.
 fn run_again(test: &str, room: usize) -> Output {
     run_again_with(test, room, "")
 }
 
-/// Does so with this redirection of the shell.
+/// Like [`run_again`], but with this redirection of the shell.
 fn run_again_with(test: &str, room: usize, redirection: &str) -> Output {
     let this = env::current_exe().expect("the path of this program");
     let line = format!("ulimit -v {room}; exec \"$0\" \"$@\" {redirection}");

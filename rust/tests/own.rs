@@ -40,7 +40,7 @@ fn groups_that_are_repeated_0_times_may_be_kept() {
     );
 }
 
-/// The expected groups are those that the Rust crate writes, which has room for the first ones alone.
+/// The expected groups are those that the Rust crate writes. It only has room for the first ones.
 #[test]
 fn locations_with_fewer_groups_take_the_first_ones() {
     let mut locations = Regex::new("a").expect("accepted").capture_locations();
@@ -65,7 +65,7 @@ fn locations_with_more_groups_keep_no_old_ones() {
     assert_eq!(groups, [Some((1, 2)), Some((1, 2)), None]);
 }
 
-/// From an offset within a character, the rest of it is not UTF-8, so it is no text that could be returned.
+/// From an offset within a character, the rest of that character is not UTF-8, so it can't be returned as a text.
 #[test]
 fn a_start_within_a_character_hands_out_no_text() {
     let regex = Regex::new(".").expect("accepted");
@@ -185,7 +185,7 @@ fn byte_strings_have_the_same_searches() {
     assert!(regex.is_full_match(b"\xffb") && !regex.is_full_match(b"\xffbc"));
 }
 
-/// From an offset within a character, a search is one of bytes that are not UTF-8, as it is for `find_at`.
+/// From an offset within a character, the rest of that character is searched as bytes that are not UTF-8, as in `find_at`.
 #[test]
 fn an_offset_within_a_character_gives_no_text() {
     let regex = regex(".");
@@ -226,7 +226,7 @@ fn rules_cut_a_text_into_tokens() {
     );
 }
 
-/// The least time of some runs, for a text of so many tokens.
+/// Returns the least time of some runs, for a text of `count` tokens.
 fn time_of_tokens(rules: &[Regex], count: usize) -> Duration {
     let text = "a ".repeat(count / 2);
     let runs = (0..20).map(|_| {

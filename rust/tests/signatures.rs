@@ -14,7 +14,7 @@ fn goes_on<T: FusedIterator + Debug>() {}
 fn counts<T: ExactSizeIterator + FusedIterator + Clone + Debug>() {}
 fn is_sent<T: Send + Sync + 'static>() {}
 
-/// Compiles where the value has the type.
+/// Compiles only if the value has the type.
 macro_rules! types {
     ($($value:expr => $type:ty;)*) => {
         $(let _: $type = $value;)*

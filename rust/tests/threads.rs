@@ -1,7 +1,7 @@
-//! Eight threads search with one regex at the same time, and each must find what the haystack was made of. It has a `main` of its
-//! own, so that a race detector sees few threads besides these. It builds with the Rust crate too.
+//! Eight threads search with one regex at the same time, and each must find what the haystack was made of. It has a `main` of
+//! its own, so that a race detector sees few threads besides these. It builds with the Rust crate too.
 //!
-//! With a number as argument each thread makes so many rounds: `cargo test --test threads -- 100`.
+//! A number as argument is the number of rounds of each thread: `cargo test --test threads -- 100`.
 
 use regex_bites::{bytes, Captures, Regex};
 use std::env;
@@ -26,7 +26,7 @@ impl Shared {
         }
     }
 
-    /// Asks each kind of search once. The haystack has the number twice, so the answers are known.
+    /// Makes each kind of search once. The haystack has the number twice, so the results are known.
     fn ask(&self, number: usize) {
         let text = format!("key{number}=value{number}; é");
         let digits = number.to_string().len();

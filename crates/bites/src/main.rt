@@ -1,9 +1,9 @@
 //! `bites`: searches standard input for a pattern.
 //!
-//! `bites is PATTERN` prints `match` or `none`, `bites find PATTERN` and `bites split PATTERN` where each match or piece
-//! is, `bites captures PATTERN` the groups of each match, and `bites replace PATTERN TEMPLATE` the input with each match
-//! replaced. The status is 0 if something matched, 1 if nothing did and 2 for a fault, which is one line on standard
-//! error.
+//! `bites is PATTERN` prints `match` or `none`. `bites find PATTERN` and `bites split PATTERN` print the span of each
+//! match or piece. `bites captures PATTERN` prints the groups of each match. `bites replace PATTERN TEMPLATE` prints
+//! the input with each match replaced. The status is 0 if something matched, 1 if nothing did, or 2 for a fault, which
+//! is one line on standard error.
 #![tactic(auto)]
 
 use bites_cli::{refuse_words, run};
@@ -25,7 +25,7 @@ fn main(rt: HostRuntime) -> ExitCode {
     ExitCode::from(status)
 }
 
-// The words behind the program's name.
+// Returns the words after the program's name.
 fn words(rt: &(impl Env + AllocGlobal)) -> io::Result<Vec<String>> {
     let mut words = Vec::new(rt.alloc());
     for word in env::args(rt)?.skip(1) {

@@ -9,7 +9,7 @@ use Rattle.bites_spec.specs.Slots.{span_of_run}
 use Rattle.bites_spec.specs.Spans.{successive, successive_after}
 use Rattle.bites_spec.specs.Regex.{Regex, run_at, span_at}
 use Rattle.bites_spec.specs.Captured.{excerpt}
-use Rattle.bites_spec.specs.Iteration.{spans_behind, captured_by, captures_behind}
+use Rattle.bites_spec.specs.Iteration.{spans_after, captured_by, captures_after}
 use Rattle.bites_spec.proofs.iteration.PieceTextLemmas.{length-gaps_from}
 use Rattle.bites_spec.proofs.iteration.SuccessiveLemmas.{successive-length, successive_after-length, mapped_after, mapped_successive}
 use Rattle.bites_bytes.specs.Matches.{spans_left, matches_left, captures_to_come}
@@ -28,19 +28,19 @@ module _ {S A B : Type 0} (view : A → B) (left : S → List B) where
   none_left s t None steps none = ap length steps.0
   none_left s t (Some x) steps none = absurd (true≢false none)
 
-spans_bound : (r : Regex) (hay : List ℕ) (last : Option ℕ) → length (spans_behind r hay last) ≤ suc (length hay)
+spans_bound : (r : Regex) (hay : List ℕ) (last : Option ℕ) → length (spans_after r hay last) ≤ suc (length hay)
 spans_bound r hay None = successive-length (λ s. s) hay (span_at r hay)
 spans_bound r hay (Some e) = let le = successive_after-length (λ s. s) hay (span_at r hay) e in omega (arith, le)
 
 pub length-matches : (s : Matches) → length (matches_left s) ≡ length (spans_left s.cursor)
 length-matches s = length-map (spans_left s.cursor) (excerpt s.cursor.haystack.now)
 
--- at most one match more is left than the haystack has bytes
+-- at most one more match is left than the haystack has bytes
 pub matches_bound : (s : Matches) → length (matches_left s) ≤ suc (length s.cursor.haystack.now)
 matches_bound s =
     let le = spans_bound s.cursor.regex.now s.cursor.haystack.now s.cursor.last in let e = length-matches s in omega (arith, le, e)
 
-captures_spans : (r : Regex) (hay : List ℕ) (last : Option ℕ) → length (captures_behind r hay last) ≡ length (spans_behind r hay last)
+captures_spans : (r : Regex) (hay : List ℕ) (last : Option ℕ) → length (captures_after r hay last) ≡ length (spans_after r hay last)
 captures_spans r hay None =
     let runs = successive span_of_run hay (run_at r hay) in
     length-map runs (captured_by r hay) ∙ sym (length-map runs span_of_run)
@@ -68,7 +68,7 @@ length-by s ss done is =
 pub no_pieces : (s : Split) → s.done ≡ true → length (pieces_left s) ≡ 0
 no_pieces s is = length-by s (spans_left s.matches.cursor) true is
 
--- one piece more is left than there are matches
+-- one more piece is left than there are matches
 pub length-pieces : (s : Split) → s.done ≡ false → length (pieces_left s) ≡ suc (length (matches_left s.matches))
 length-pieces s is = length-by s (spans_left s.matches.cursor) false is ∙ ap suc (sym (length-matches s.matches))
 

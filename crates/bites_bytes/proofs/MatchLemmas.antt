@@ -11,7 +11,7 @@ use Rattle.bites_spec.specs.Slots.{group_in, span_of_run}
 use Rattle.bites_spec.specs.Spans.{IsNextAfter, is_empty_at, next_after, followed, successive_after, successive, LiesFrom}
 use Rattle.bites_spec.specs.Regex.{Regex, IsCompiled, run_at}
 use Rattle.bites_spec.specs.Captured.{Excerpt, excerpt, captured, AreGroups}
-use Rattle.bites_spec.specs.Iteration.{spans_behind, captured_by, captures_behind}
+use Rattle.bites_spec.specs.Iteration.{spans_after, captured_by, captures_after}
 use Rattle.bites_spec.proofs.regex.RegexRuns.{run_at-whole, run_at-lies, run_at-AreGroups}
 use Rattle.bites_spec.proofs.iteration.SpanLemmas.{next_lies}
 use Rattle.bites_spec.proofs.iteration.SuccessiveLemmas.{next_after-IsNextAfter, goes_on, mapped_after, mapped_successive}
@@ -24,7 +24,7 @@ use Rattle.bites_bytes.proofs.SlotLemmas.{ends, length-slots}
 use Rattle.bites_bytes.proofs.NextLemmas.{front_group}
 
 module _ (r : Regex) (is : IsCompiled r) (hay : List ℕ) where
-  -- a search from some place answers the next run
+  -- a search from some place returns the next run
   pub next_place : (last : Option ℕ) (x : Run) → next_run r hay last ≡ Some x → (s : ℕ) × (run_at r hay s ≡ Some x)
   unfolding next_after
   next_place None x h = (0, h)
@@ -40,41 +40,41 @@ module _ (r : Regex) (is : IsCompiled r) (hay : List ℕ) where
       (next_lies span_of_run hay (λ s o. run_at r hay s ≡ o) (λ s y same. run_at-lies r is hay s y same) e x
       (subst (IsNextAfter span_of_run hay (λ s o. run_at r hay s ≡ o) e) h (next_after-IsNextAfter span_of_run hay (run_at r hay) e))).0
 
-  -- the runs behind a match that ends at a place, or all
-  abbrev pub runs_behind : Option ℕ → List Run
-  runs_behind None = successive span_of_run hay (run_at r hay)
-  runs_behind (Some e) = successive_after span_of_run hay (run_at r hay) e
+  -- the runs after a match that ends at a place, or all
+  abbrev pub runs_after : Option ℕ → List Run
+  runs_after None = successive span_of_run hay (run_at r hay)
+  runs_after (Some e) = successive_after span_of_run hay (run_at r hay) e
 
-  runs_go_on : (last : Option ℕ) → runs_behind last ≡ followed span_of_run (successive_after span_of_run hay (run_at r hay)) (next_run r hay last)
+  runs_go_on : (last : Option ℕ) → runs_after last ≡ followed span_of_run (successive_after span_of_run hay (run_at r hay)) (next_run r hay last)
   unfolding successive
   runs_go_on None = refl
   runs_go_on (Some e) = goes_on span_of_run hay (run_at r hay) (λ s y same. run_at-lies r is hay s y same) e
 
-  pub runs_step : (last : Option ℕ) (x : Run) → next_run r hay last ≡ Some x → runs_behind last ≡ x ∷ runs_behind (Some x.end)
+  pub runs_step : (last : Option ℕ) (x : Run) → next_run r hay last ≡ Some x → runs_after last ≡ x ∷ runs_after (Some x.end)
   runs_step last x h = runs_go_on last ∙ ap (followed span_of_run (successive_after span_of_run hay (run_at r hay))) h
 
-  pub runs_none : (last : Option ℕ) → next_run r hay last ≡ None → runs_behind last ≡ []
+  pub runs_none : (last : Option ℕ) → next_run r hay last ≡ None → runs_after last ≡ []
   runs_none last h = runs_go_on last ∙ ap (followed span_of_run (successive_after span_of_run hay (run_at r hay))) h
 
-  pub spans_runs : (last : Option ℕ) → spans_behind r hay last ≡ map span_of_run (runs_behind last)
+  pub spans_runs : (last : Option ℕ) → spans_after r hay last ≡ map span_of_run (runs_after last)
   spans_runs None = sym (mapped_successive span_of_run span_of_run (λ s. s) (λ x. refl) hay (run_at r hay))
   spans_runs (Some e) = sym (mapped_after span_of_run span_of_run (λ s. s) (λ x. refl) hay (run_at r hay) e)
 
-  pub spans_step : (last : Option ℕ) (x : Run) → next_run r hay last ≡ Some x → spans_behind r hay last ≡ span_of_run x ∷ spans_behind r hay (Some x.end)
+  pub spans_step : (last : Option ℕ) (x : Run) → next_run r hay last ≡ Some x → spans_after r hay last ≡ span_of_run x ∷ spans_after r hay (Some x.end)
   spans_step last x h = spans_runs last ∙ ap (map span_of_run) (runs_step last x h) ∙ ap (λ ss. span_of_run x ∷ ss) (sym (spans_runs (Some x.end)))
 
-  pub spans_none : (last : Option ℕ) → next_run r hay last ≡ None → spans_behind r hay last ≡ []
+  pub spans_none : (last : Option ℕ) → next_run r hay last ≡ None → spans_after r hay last ≡ []
   spans_none last h = spans_runs last ∙ ap (map span_of_run) (runs_none last h)
 
-  captures_runs : (last : Option ℕ) → captures_behind r hay last ≡ map (captured_by r hay) (runs_behind last)
+  captures_runs : (last : Option ℕ) → captures_after r hay last ≡ map (captured_by r hay) (runs_after last)
   captures_runs None = refl
   captures_runs (Some e) = refl
 
-  pub captures_step : (last : Option ℕ) (x : Run) → next_run r hay last ≡ Some x → captures_behind r hay last ≡ captured_by r hay x ∷ captures_behind r hay (Some x.end)
+  pub captures_step : (last : Option ℕ) (x : Run) → next_run r hay last ≡ Some x → captures_after r hay last ≡ captured_by r hay x ∷ captures_after r hay (Some x.end)
   captures_step last x h =
       captures_runs last ∙ ap (map (captured_by r hay)) (runs_step last x h) ∙ ap (λ cs. captured_by r hay x ∷ cs) (sym (captures_runs (Some x.end)))
 
-  pub captures_none : (last : Option ℕ) → next_run r hay last ≡ None → captures_behind r hay last ≡ []
+  pub captures_none : (last : Option ℕ) → next_run r hay last ≡ None → captures_after r hay last ≡ []
   captures_none last h = captures_runs last ∙ ap (map (captured_by r hay)) (runs_none last h)
 
   -- the run whose slots were left
@@ -116,11 +116,11 @@ module _ (r : Regex) (is : IsCompiled r) (hay : List ℕ) where
 
 -- what is left where the search goes on
 moved_left : (s t : Cursor) (last : Option ℕ) → IsSameSearch s t → t.last ≡ last →
-    left_from t ≡ map (excerpt s.haystack.now) (spans_behind s.regex.now s.haystack.now last)
+    left_from t ≡ map (excerpt s.haystack.now) (spans_after s.regex.now s.haystack.now last)
 moved_left s t last same is =
-    ap (λ h. map (excerpt h) (spans_behind t.regex.now h t.last)) same.1
-    ∙ ap (λ r. map (excerpt s.haystack.now) (spans_behind r s.haystack.now t.last)) same.0
-    ∙ ap (λ l. map (excerpt s.haystack.now) (spans_behind s.regex.now s.haystack.now l)) is
+    ap (λ h. map (excerpt h) (spans_after t.regex.now h t.last)) same.1
+    ∙ ap (λ r. map (excerpt s.haystack.now) (spans_after r s.haystack.now t.last)) same.0
+    ∙ ap (λ l. map (excerpt s.haystack.now) (spans_after s.regex.now s.haystack.now l)) is
 
 -- a step is that of an iterator over the matches that are left
 pub advance_yields : (s : Cursor) (m : Option Match) (t : Cursor) (n : ℕ) (new : List (Option ℕ)) → IsCompiled s.regex.now →
@@ -134,7 +134,7 @@ advance_yields s (Some m) t n new is step same =
     ap (map (excerpt hay)) (spans_step r is hay s.last x step.1)
     ∙ ap₂ (λ a b. a ∷ b) (sym step.2.0) (sym (moved_left s t (Some x.end) same step.2.1))
 
--- the match lies behind the one before, and the search goes on where it ends
+-- the match begins where the one before ended or later, and the search goes on where it ends
 pub advance_moves : (s : Cursor) (m : Option Match) (t : Cursor) (n : ℕ) (new : List (Option ℕ)) → IsCompiled s.regex.now →
     Advances s m t n new → Moves s m t
 advance_moves s None t n new is step = step.1
@@ -144,11 +144,11 @@ advance_moves s (Some m) t n new is step =
       step.2.1 ∙ ap (λ (g : Span). Some g.end) (sym span_is),
     )
 
-moved_captures : (s t : Cursor) (last : Option ℕ) → IsSameSearch s t → t.last ≡ last → captures_to_come t ≡ captures_behind s.regex.now s.haystack.now last
+moved_captures : (s t : Cursor) (last : Option ℕ) → IsSameSearch s t → t.last ≡ last → captures_to_come t ≡ captures_after s.regex.now s.haystack.now last
 moved_captures s t last same is =
-    ap (λ h. captures_behind t.regex.now h t.last) same.1
-    ∙ ap (λ r. captures_behind r s.haystack.now t.last) same.0
-    ∙ ap (λ l. captures_behind s.regex.now s.haystack.now l) is
+    ap (λ h. captures_after t.regex.now h t.last) same.1
+    ∙ ap (λ r. captures_after r s.haystack.now t.last) same.0
+    ∙ ap (λ l. captures_after s.regex.now s.haystack.now l) is
 
 -- a step with all slots is one to the captures of the match
 pub captures_advance : (s : Cursor) (m : Option Match) (t : Cursor) (n : ℕ) (new : List (Option ℕ)) → IsCompiled s.regex.now →

@@ -14,7 +14,7 @@ pub leaves_now : (p : Program) (o : Option Run) (found : Bool) (old new : List (
 leaves_now p None found old new h = h.0
 leaves_now p (Some x) found old new h = h
 
--- the front of two slots or more
+-- the first n slots have group 0, if n is 2 or more
 pub front_group : (n : ℕ) (xs : List (Option ℕ)) → 2 ≤ n → group_in (take n xs) 0 ≡ group_in xs 0
 front_group zero xs le = absurd (omega arith)
 front_group (suc zero) xs le = absurd (omega arith)
@@ -33,7 +33,7 @@ module _ (r : Regex) (is : IsCompiled r) (hay : List ℕ) (e : ℕ) where
   none_by None found old new h a missing = next_by None h
   none_by (Some x) found old new h a missing = absurd (true≢false (sym a.0 ∙ missing))
 
-  -- nothing is found behind the match
+  -- nothing is found after the match
   pub leaves_none : (found : Bool) (n : ℕ) (old new : List (Option ℕ)) → Answered r.program (run_at r hay e) found old new → found ≡ false →
       LeavesRun r.program (next_run r hay (Some e)) false n new
   leaves_none found n old new a missing =

@@ -1,10 +1,10 @@
--- The groups that took part in a match, one after another.
+-- The groups that participate in a match, one after another.
 use Rattle.std.proofs.Common.{◌≡◌, ℕ, zero, suc, ◌+◌, ◌-◌, ◌/◌, ◌≤◌, ◌<◌, ◌⊎◌, List, [], ◌∷◌, ◌++◌, map, length, take, drop, slice_set, Option, Some, None, IsSome, Bor, option_map, refl, sym, ap, ap₂, ◌∙◌, subst, inl, inr, true≢false, arith}
 use Rattle.std.specs.List.{filter_map, cons_option, range_with_len}
 use Rattle.std.proofs.lemmas.List.{append_assoc, length-append, map-append, take_more_set, take_at, take_all, length-set}
 use Rattle.bites_spec.specs.Match.{Span}
 use Rattle.bites_spec.specs.Pieces.{text_at}
-use Rattle.bites_spec.specs.Slots.{group_in, taking_part}
+use Rattle.bites_spec.specs.Slots.{group_in, participating}
 use Rattle.bites_spec.specs.Expansion.{text_in}
 
 -- those from a number on
@@ -38,7 +38,7 @@ module _ (slots : List (Option ℕ)) (hay : List ℕ) where
   no_group None e = refl
   no_group (Some g) e = cc
 
-  -- a group that took no part is passed over
+  -- a group that doesn't participate is passed over
   pub passed_over : (n k : ℕ) (texts : List (Bor (List ℕ))) → k < length slots / 2 → None ≡ text_in slots hay k → Written slots hay n k texts →
       Written slots hay n (k + 1) texts
   passed_over n k texts less none w =
@@ -52,7 +52,7 @@ module _ (slots : List (Option ℕ)) (hay : List ℕ) where
       inner : (a b : List ℕ) → Some a ≡ Some b → a ≡ b
       inner a b e = cc
 
-  -- the text of one that did is written
+  -- the text of one that does is written
   pub one_written : (n k : ℕ) (texts : List (Bor (List ℕ))) (t : Bor (List ℕ)) → k < length slots / 2 → n < length texts →
       Some t.now ≡ text_in slots hay k → Written slots hay n k texts → Written slots hay (n + 1) (k + 1) (slice_set texts n t)
   one_written n k texts t less room some w =
@@ -70,22 +70,22 @@ module _ (slots : List (Option ℕ)) (hay : List ℕ) where
             ∙ sym (map-append (text_at hay) w.front (g.0 ∷ []));
       }
 
-  all_from_one : (n : ℕ) → n + 1 ≤ length (taking_part slots) → (o : Option Span) → group_in slots 0 ≡ o → IsSome o →
-      (drop 1 (taking_part slots) ≡ parts_from slots 1) × (n ≤ length (parts_from slots 1))
+  all_from_one : (n : ℕ) → n + 1 ≤ length (participating slots) → (o : Option Span) → group_in slots 0 ≡ o → IsSome o →
+      (drop 1 (participating slots) ≡ parts_from slots 1) × (n ≤ length (parts_from slots 1))
   unfolding parts_from
   all_from_one n enough None e some = absurd (true≢false (sym some))
   all_from_one n enough (Some g) e some = cases (length slots / 2) refl
     where
-      cases : (m : ℕ) → length slots / 2 ≡ m → (drop 1 (taking_part slots) ≡ parts_from slots 1) × (n ≤ length (parts_from slots 1))
+      cases : (m : ℕ) → length slots / 2 ≡ m → (drop 1 (participating slots) ≡ parts_from slots 1) × (n ≤ length (parts_from slots 1))
       cases zero none =
-          let l : length (taking_part slots) ≡ 0 = ap (λ j. length (filter_map (group_in slots) (range_with_len 0 j))) none in
+          let l : length (participating slots) ≡ 0 = ap (λ j. length (filter_map (group_in slots) (range_with_len 0 j))) none in
           absurd (omega (arith, l, enough))
       cases (suc m) is =
           let from_zero : length slots / 2 ≡ length slots / 2 - 0 = omega arith in
-          let step : taking_part slots ≡ g ∷ parts_from slots 1 =
+          let step : participating slots ≡ g ∷ parts_from slots 1 =
           ap (λ j. filter_map (group_in slots) (range_with_len 0 j)) from_zero
           ∙ parts_step slots 0 (omega (arith, is)) ∙ ap (λ o. cons_option o (parts_from slots 1)) e in
-          let l : length (taking_part slots) ≡ suc (length (parts_from slots 1)) = ap length step in
+          let l : length (participating slots) ≡ suc (length (parts_from slots 1)) = ap length step in
           (ap (drop 1) step, omega (arith, l, enough))
 
   written_all : (n k : ℕ) (texts : List (Bor (List ℕ))) → Written slots hay n k texts → n ≡ length texts →
@@ -95,10 +95,10 @@ module _ (slots : List (Option ℕ)) (hay : List ℕ) where
       ∙ ap (map (text_at hay)) (sym (take_at w.front (parts_from slots k) n w.count))
       ∙ ap (λ l. map (text_at hay) (take n l)) (sym w.all) ∙ ap (λ m. map (text_at hay) (take m (parts_from slots 1))) is
 
-  -- where no place is left, or no group, all places have the text of their group
+  -- where all parts are written, or no group is left, each part has the text of its group
   pub all_written : (n k : ℕ) (texts : List (Bor (List ℕ))) → Written slots hay n k texts → (n ≡ length texts) ⊎ (length slots / 2 ≤ k) →
-      length texts + 1 ≤ length (taking_part slots) → IsSome (group_in slots 0) →
-      map (λ t. t.now) texts ≡ map (text_at hay) (take (length texts) (drop 1 (taking_part slots)))
+      length texts + 1 ≤ length (participating slots) → IsSome (group_in slots 0) →
+      map (λ t. t.now) texts ≡ map (text_at hay) (take (length texts) (drop 1 (participating slots)))
   all_written n k texts w (inl full) enough some =
       let one = all_from_one (length texts) enough (group_in slots 0) refl some in
       written_all n k texts w full ∙ ap (λ l. map (text_at hay) (take (length texts) l)) (sym one.0)

@@ -6,7 +6,7 @@ use Rattle.bites_spec.specs.Slots.{group_in}
 use Rattle.bites_spec.specs.Pieces.{replaced_from, replaced, limited}
 use Rattle.bites_spec.specs.Regex.{Regex, IsCompiled}
 use Rattle.bites_spec.specs.Captured.{Captured}
-use Rattle.bites_spec.specs.Iteration.{captures_in, captures_behind, spans_in, spans_behind}
+use Rattle.bites_spec.specs.Iteration.{captures_in, captures_after, spans_in, spans_after}
 use Rattle.bites_spec.specs.Replace.{Gave}
 use Rattle.bites_spec.proofs.regex.RegexRuns.{captures_have_spans}
 use Rattle.bites_spec.specs.Replaced.{span_in, ReplacesIn}
@@ -75,18 +75,18 @@ module _ (s : Replacing) (r : Regex) (hay : List ℕ) (n : ℕ) (regex_is : s.cu
     (last_is : s.cursor.last ≡ None) (left_is : s.left ≡ bound n) (out_is : s.out.items ≡ []) where
   spans_start : spans_to_replace s ≡ limited n (spans_in r hay)
   spans_start =
-      ap (λ o. taken o (spans_behind s.cursor.regex.now s.cursor.haystack.now s.cursor.last)) left_is
-      ∙ ap (λ q. taken (bound n) (spans_behind q s.cursor.haystack.now s.cursor.last)) regex_is
-      ∙ ap (λ h. taken (bound n) (spans_behind r h s.cursor.last)) hay_is
-      ∙ ap (λ l. taken (bound n) (spans_behind r hay l)) last_is
+      ap (λ o. taken o (spans_after s.cursor.regex.now s.cursor.haystack.now s.cursor.last)) left_is
+      ∙ ap (λ q. taken (bound n) (spans_after q s.cursor.haystack.now s.cursor.last)) regex_is
+      ∙ ap (λ h. taken (bound n) (spans_after r h s.cursor.last)) hay_is
+      ∙ ap (λ l. taken (bound n) (spans_after r hay l)) last_is
       ∙ taken_limited n (spans_in r hay)
 
   pub captures_start : captures_to_replace s ≡ limited n (captures_in r hay)
   captures_start =
-      ap (λ o. taken o (captures_behind s.cursor.regex.now s.cursor.haystack.now s.cursor.last)) left_is
-      ∙ ap (λ q. taken (bound n) (captures_behind q s.cursor.haystack.now s.cursor.last)) regex_is
-      ∙ ap (λ h. taken (bound n) (captures_behind r h s.cursor.last)) hay_is
-      ∙ ap (λ l. taken (bound n) (captures_behind r hay l)) last_is
+      ap (λ o. taken o (captures_after s.cursor.regex.now s.cursor.haystack.now s.cursor.last)) left_is
+      ∙ ap (λ q. taken (bound n) (captures_after q s.cursor.haystack.now s.cursor.last)) regex_is
+      ∙ ap (λ h. taken (bound n) (captures_after r h s.cursor.last)) hay_is
+      ∙ ap (λ l. taken (bound n) (captures_after r hay l)) last_is
       ∙ taken_limited n (captures_in r hay)
 
   texts_start : (ss : List Span) (texts : List (List ℕ)) → with_texts s ss texts ≡ replaced_from hay 0 ss texts

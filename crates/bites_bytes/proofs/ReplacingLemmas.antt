@@ -60,7 +60,7 @@ spans_yield s t m steps =
 pub spans_end : (s : Cursor) → left_from s ≡ [] → spans_left s ≡ []
 spans_end s none = sym (spans_of s.haystack.now (spans_left s)) ∙ ap (map (λ (e : Excerpt). e.span)) none
 
--- a text in the place of the next span
+-- a text for the next span
 pub writes_on : (s t : Replacing) (x : Span) (text : List ℕ) → Writes s x text t → (ss : List Span) (texts : List (List ℕ)) →
     with_texts t ss texts ≡ with_texts s (x ∷ ss) (text ∷ texts)
 writes_on s t x text w ss texts =

@@ -1,4 +1,4 @@
--- A tree that passes a limit is the pattern's only one, and its groups are those that are kept.
+-- A tree that exceeds a limit is the pattern's only one, and its groups are those that are kept.
 use Rattle.std.proofs.Common.{◌≡◌, ◌≢◌, ℕ, Bool, true, false, List, Option, arith, refl, ap, sym, subst, ◌∙◌, ◌*◌, length, Result, Ok, Err, IfOk, IfErr}
 use Rattle.std.specs.Prelude.{chars, IsErrAnd}
 use Rattle.bites_spec.specs.Tree.{Tree, captures_len}
@@ -17,12 +17,12 @@ use Rattle.bites_machine.specs.Compiled as compiled
 use Rattle.bites_spec.specs.Settings.{Settings, Accepts}
 use Rattle.bites_bytes.specs.Parts.{chosen, regex_of}
 
--- what holds of an error holds of the result that hands it on
+-- what holds of an error holds of the result that passes it on
 pub handed_on : {B : Type 0} (r : Result B Error) (e : Error) (P : Error → Type 0) → IsErrAnd r (λ f. f ≡ e) → P e → IfErr r P
 handed_on (Err f) e P same holds = subst P (sym same) holds
 handed_on (Ok b) e P same holds = absurd same
 
--- what passes a limit is not within the limits
+-- what exceeds a limit is not within the limits
 not_within : (size_limit : ℕ) (groups : List (Option (List ℕ))) (t : Tree) (e : Error) → compiled.RefusesTree size_limit groups t e → e ≢ Memory →
     TreeLimitsWith size_limit groups t → ⊥
 not_within size_limit groups t TooBig h ne within = let light = within.light in omega (arith, light, h)
@@ -37,7 +37,7 @@ kept_once : (keep : Bool) {pattern : Text} {flags : Flags} {t u : Tree} (r : Rea
 kept_once true {pattern} {flags} {t} {u} r s = opened_once pattern flags t u r s
 kept_once false {pattern} {flags} {t} {u} r s = ap groups_left (reads_once pattern flags t u r s)
 
--- where the pattern's tree passes a limit, no tree is accepted
+-- where the pattern's tree exceeds a limit, no tree is accepted
 pub no_other_tree : (s : Settings) (t : Tree) (e : Error) (read : Limits (chars s.pattern) s.flags s.nest_limit t) →
     compiled.RefusesTree s.size_limit (groups_kept s.keep_dropped_groups read.reading) t e → e ≢ Memory → (u : Tree) → Accepts s u → ⊥
 no_other_tree s t e read refused ne u accepts =
@@ -54,7 +54,7 @@ pub chosen_kept : (keep : Bool) (groups : List (Option (List ℕ))) {pattern : T
 chosen_kept true groups r same = same
 chosen_kept false groups r same = refl
 
--- what a builder answers, from what the parser and the compiler answered
+-- what a builder returns, from what the parser and the compiler returned
 accepted_of : (s : Settings) (t : Tree) (groups : List (Option (List ℕ))) (read : Limits (chars s.pattern) s.flags s.nest_limit t) →
     groups ≡ groups_opened read.reading → TreeLimitsWith s.size_limit (chosen s.keep_dropped_groups groups t) t → Accepts s t
 accepted_of s t groups read same small = record {
@@ -62,7 +62,7 @@ accepted_of s t groups read same small = record {
   small = subst (λ gs. TreeLimitsWith s.size_limit gs t) (chosen_kept s.keep_dropped_groups groups read.reading same) small;
 }
 
--- the same of an answer that is this regex
+-- a result that is this regex is of an accepted tree
 pub accepted_clause : (s : Settings) (t : Tree) (groups : List (Option (List ℕ))) (read : Limits (chars s.pattern) s.flags s.nest_limit t) →
     groups ≡ groups_opened read.reading → TreeLimitsWith s.size_limit (chosen s.keep_dropped_groups groups t) t →
     (o : Result Regex Error) (x : Regex) → x.tree ≡ t → IfOk o (λ r. r ≡ x) → IfOk o (λ r. Accepts s r.tree)
@@ -71,7 +71,7 @@ accepted_clause s t groups read same small (Ok r) x is made =
     subst P (sym is ∙ ap (λ (y : Regex). y.tree) (sym made)) (accepted_of s t groups read same small)
 accepted_clause s t groups read same small (Err e) x is made = made
 
--- the groups of a limit that is passed are those that are kept
+-- the groups of a limit that is exceeded are those that are kept
 pub refused_kept : (s : Settings) (t : Tree) (groups : List (Option (List ℕ))) (read : Limits (chars s.pattern) s.flags s.nest_limit t) →
     groups ≡ groups_opened read.reading → (e : Error) → compiled.RefusesTree s.size_limit (chosen s.keep_dropped_groups groups t) t e →
     compiled.RefusesTree s.size_limit (groups_kept s.keep_dropped_groups read.reading) t e

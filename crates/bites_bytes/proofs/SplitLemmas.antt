@@ -6,7 +6,7 @@ use Rattle.bites_spec.specs.Match.{Span}
 use Rattle.bites_spec.specs.Pieces.{gaps_from, text_at}
 use Rattle.bites_spec.specs.Regex.{Regex}
 use Rattle.bites_spec.specs.Captured.{Excerpt, excerpt}
-use Rattle.bites_spec.specs.Iteration.{spans_behind, pieces_up_to}
+use Rattle.bites_spec.specs.Iteration.{spans_after, pieces_up_to}
 use Rattle.bites_bytes.specs.Matched.{excerpt_of}
 use Rattle.bites_bytes.specs.Matches.{IsSameSearch, Moves, left_from, spans_left}
 use Rattle.bites_bytes.specs.Split.{pieces_by, pieces_left, at_most_left, bytes_at, StepsOn}
@@ -82,6 +82,6 @@ pub limited_start : (s : Split) (r : Regex) (hay : List ℕ) → s.done ≡ fals
 limited_start s r hay more is at none zero = refl
 limited_start s r hay more is at none (suc n) =
     open_by s (take n (spans_left s.matches.cursor)) more
-    ∙ ap (λ h. body h (unwrap_or s.matches.cursor.last 0) (take n (spans_behind s.matches.cursor.regex.now h s.matches.cursor.last))) at
-    ∙ ap (λ q. body hay (unwrap_or s.matches.cursor.last 0) (take n (spans_behind q hay s.matches.cursor.last))) is
-    ∙ ap (λ (l : Option ℕ). body hay (unwrap_or l 0) (take n (spans_behind r hay l))) none
+    ∙ ap (λ h. body h (unwrap_or s.matches.cursor.last 0) (take n (spans_after s.matches.cursor.regex.now h s.matches.cursor.last))) at
+    ∙ ap (λ q. body hay (unwrap_or s.matches.cursor.last 0) (take n (spans_after q hay s.matches.cursor.last))) is
+    ∙ ap (λ (l : Option ℕ). body hay (unwrap_or l 0) (take n (spans_after r hay l))) none

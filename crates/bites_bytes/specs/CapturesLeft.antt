@@ -4,7 +4,7 @@ use Rattle.bites_spec.specs.Captured.{Captured}
 use Rattle.bites_bytes.specs.Matches.{captures_to_come, CapturesCome}
 use Rattle.bites_bytes.specs.declared.bytes.capture_matches.CaptureMatches.{CaptureMatches}
 
--- the captures that are still to come: none where memory was refused
+-- the captures that are still to come: none after memory ran out
 abbrev pub captures_left : CaptureMatches → List Captured
 captures_left s = cond s.refused [] (captures_to_come s.matches.cursor)
 

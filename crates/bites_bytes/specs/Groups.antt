@@ -7,15 +7,15 @@ use Rattle.bites_bytes.specs.Matched.{excerpt_of}
 use Rattle.bites_bytes.specs.declared.bytes.matched.Match.{Match}
 use Rattle.bites_bytes.specs.declared.bytes.groups.SubCaptureMatches.{SubCaptureMatches}
 
--- a match, if the group took part
+-- the match of a group, if it participates
 abbrev pub excerpt_if : Option Match → Option Excerpt
 excerpt_if = option_map excerpt_of
 
--- where the groups from one on took part
+-- the groups from number k on, each if it participates
 abbrev pub groups_from : Captured → ℕ → List (Option Excerpt)
 groups_from c k = map (λ i. option_map (excerpt c.haystack) (group_in c.slots i)) (range_with_len k (length c.regex.names - k))
 
--- where all groups took part
+-- all groups, each if it participates
 abbrev pub groups_of : Captured → List (Option Excerpt)
 groups_of c = groups_from c 0
 

@@ -5,7 +5,7 @@ use Rattle.bites_spec.specs.Run.{Run, slots}
 use Rattle.bites_spec.specs.Slots.{span_of_run}
 use Rattle.bites_spec.specs.Regex.{Regex}
 use Rattle.bites_spec.specs.Captured.{Captured, Excerpt, excerpt, captured, AreGroups}
-use Rattle.bites_spec.specs.Iteration.{spans_behind, captures_behind}
+use Rattle.bites_spec.specs.Iteration.{spans_after, captures_after}
 use Rattle.bites_bytes.specs.NextMatch.{next_run}
 use Rattle.bites_bytes.specs.Matched.{excerpt_of}
 use Rattle.bites_bytes.specs.declared.bytes.matched.Match.{Match}
@@ -25,13 +25,13 @@ last_of s = s.last
 
 -- the spans of the matches that are still to come
 abbrev pub spans_left : Cursor → List Span
-spans_left s = spans_behind s.regex.now s.haystack.now s.last
+spans_left s = spans_after s.regex.now s.haystack.now s.last
 
 -- the matches that are still to come
 abbrev pub left_from : Cursor → List Excerpt
 left_from s = map (excerpt s.haystack.now) (spans_left s)
 
--- the same of an iterator
+-- what an iterator has of its cursor
 abbrev pub cursor_of : Matches → Cursor
 cursor_of s = s.cursor
 
@@ -55,7 +55,7 @@ IsSameSearch s t = (t.regex.now ≡ s.regex.now) × (t.haystack.now ≡ s.haysta
 abbrev pub IsMatchOf : Cursor → Cursor → Run → Match → Type 0
 IsMatchOf s t x m = (excerpt_of m ≡ excerpt s.haystack.now (span_of_run x)) × (t.last ≡ Some x.end)
 
--- a step to the next run, whose slots are left
+-- a step to the next run, whose first n slots are left
 abbrev pub Advances : Cursor → Option Match → Cursor → ℕ → List (Option ℕ) → Type 0
 Advances s r t n new =
     MatchOption r ((next_run s.regex.now s.haystack.now s.last ≡ None) × (t.last ≡ s.last))
@@ -69,7 +69,7 @@ Moves s r t =
 
 -- the captures of the matches that are still to come
 abbrev pub captures_to_come : Cursor → List Captured
-captures_to_come s = captures_behind s.regex.now s.haystack.now s.last
+captures_to_come s = captures_after s.regex.now s.haystack.now s.last
 
 -- a step with all slots goes to the captures of the next match, if there is one
 abbrev pub CapturesCome : Cursor → Bool → Cursor → List (Option ℕ) → Type 0

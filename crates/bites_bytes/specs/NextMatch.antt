@@ -11,7 +11,7 @@ abbrev pub next_run : Regex → List ℕ → Option ℕ → Option Run
 next_run r hay None = run_at r hay 0
 next_run r hay (Some e) = next_after span_of_run hay (run_at r hay) e
 
--- it says whether there is a run, and if there is, the n slots are the front of its slots
+-- the result is whether there is a run; if there is, the n slots are the first n of its slots
 abbrev pub LeavesRun : Program → Option Run → Bool → ℕ → List (Option ℕ) → Type 0
 LeavesRun p None found n new = found ≡ false
 LeavesRun p (Some x) found n new = (found ≡ true) × (new ≡ take n (slots p x))

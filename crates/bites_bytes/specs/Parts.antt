@@ -6,8 +6,8 @@ use Rattle.bites_spec.specs.Measure.{groups_left}
 use Rattle.bites_spec.specs.Regex.{Regex}
 use Rattle.bites_spec.specs.Contents.{Contents}
 
--- the regex of these flags, this tree, whether dropped groups are kept, whether searches answer the longest match, and what is
--- in the tree's program
+-- the regex of these flags, this tree, whether dropped groups are kept, whether searches return the longest match, and what is in
+-- the tree's program
 abbrev pub regex_of : Flags → Tree → Bool → Bool → Contents → Regex
 regex_of flags tree keep_dropped_groups leftmost_longest contents = record {
   pattern = contents.pattern;

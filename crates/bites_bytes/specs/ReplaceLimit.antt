@@ -1,7 +1,7 @@
 -- How many items may still come.
 use Rattle.std.specs.Prelude.{◌≡◌, ℕ, zero, suc, Bool, true, false, List, take, Option, Some, None}
 
--- at most so many items, or all
+-- the first n items, or all
 abbrev pub taken : {B : Type 0} → Option ℕ → List B → List B
 taken None xs = xs
 taken (Some n) xs = take n xs

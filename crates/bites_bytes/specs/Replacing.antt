@@ -37,11 +37,11 @@ replaces_none (Some e) xs = false
 abbrev pub with_texts : Replacing → List Span → List (List ℕ) → List ℕ
 with_texts s ss texts = s.out.items ++ replaced_from s.cursor.haystack.now (unwrap_or s.cursor.last 0) ss texts
 
--- the same with one text in each place
+-- what is written, and then the rest of the haystack with each match that is left replaced by one text
 abbrev pub with_text : List ℕ → Replacing → List ℕ
 with_text text s = with_texts s (spans_to_replace s) (map (λ x. text) (spans_to_replace s))
 
--- the text is written behind what stands before the span, and the search goes on where the span ends
+-- the text is written after what stands before the span, and the search goes on where the span ends
 pub record Writes (s : Replacing) (x : Span) (text : List ℕ) (t : Replacing) : Type 0 where
   pub out : t.out.items ≡ (s.out.items ++ slice_range s.cursor.haystack.now (unwrap_or s.cursor.last 0) x.start) ++ text
   pub last : t.cursor.last ≡ Some x.end
@@ -55,7 +55,7 @@ pub record Rests {B : Type 0} (to_replace : Replacing → List B) (s t : Replaci
   pub last : t.cursor.last ≡ s.cursor.last
   pub same : IsSameSearch s.cursor t.cursor
 
--- one match more was replaced by the text, or none is left
+-- one more match was replaced by the text, or none is left
 abbrev pub StepsByText : List ℕ → Replacing → Bool → Replacing → Type 0
 StepsByText text s true t = (x : Span) × (spans_to_replace s ≡ x ∷ spans_to_replace t) × Writes s x text t
 StepsByText text s false t = Rests spans_to_replace s t
@@ -71,7 +71,7 @@ abbrev pub EndsByText : List ℕ → Replacing → Replacing → Type 0
 EndsByText text s t = OnByText text s t × (spans_to_replace t ≡ [])
 
 module _ {S : Type 0} (gives : S → Captured → List ℕ → S → Type 0) (answers : S → Option (List ℕ) → S → Type 0) where
-  -- one match more was replaced by what the replacer gave, or none is left
+  -- one more match was replaced by what the replacer gave, or none is left
   abbrev pub StepsBy : Replacing → S → Bool → Replacing → S → Type 0
   StepsBy s r true t q =
       (c : Captured) × (text : List ℕ) × (captures_to_replace s ≡ c ∷ captures_to_replace t) × gives r c text q × Writes s (span_in c) text t

@@ -14,7 +14,7 @@ haystack_of_split s = s.matches.cursor.haystack.now
 abbrev pub begin_of_split : Split → ℕ
 begin_of_split s = unwrap_or s.matches.cursor.last 0
 
--- the pieces between these spans, and behind them
+-- the pieces between these spans, before the first and after the last
 abbrev pub pieces_by : Split → List Span → List (List ℕ)
 pieces_by s ss = cond s.done [] (map (text_at s.matches.cursor.haystack.now) (gaps_from (length s.matches.cursor.haystack.now) (unwrap_or s.matches.cursor.last 0) ss))
 
@@ -27,7 +27,7 @@ abbrev pub at_most_left : ℕ → Split → List (List ℕ)
 at_most_left zero s = []
 at_most_left (suc n) s = pieces_by s (take n (spans_left s.matches.cursor))
 
--- the pieces that are still to come, at most so many
+-- the pieces that are still to come, at most as many as may come
 abbrev pub limited_left : SplitN → List (List ℕ)
 limited_left s = at_most_left s.left s.split
 
@@ -35,7 +35,7 @@ limited_left s = at_most_left s.left s.split
 abbrev pub bytes_at : Bor (List ℕ) → List ℕ
 bytes_at = λ t. t.now
 
--- one step: for every greatest number of pieces the piece is the first, and one less may come; or none came and none comes
+-- one step: for every limit n the piece is the first, and one less may come; or none came and none comes
 abbrev pub StepsOn : Split → Option (Bor (List ℕ)) → Split → Type 0
 StepsOn s None t = (pieces_left s ≡ []) × (pieces_left t ≡ []) × ((n : ℕ) → (at_most_left n s ≡ []) × (at_most_left n t ≡ []))
 StepsOn s (Some piece) t =

@@ -1,7 +1,7 @@
 //! Regular expressions that search byte strings.
 //!
-//! A haystack is any bytes. Where they are not UTF-8, each longest prefix of a character matches as one U+FFFD, and a byte that
-//! begins no character does too.
+//! A haystack is any bytes. Where they are not UTF-8, each longest prefix of a character matches as one U+FFFD, and a
+//! byte that begins no character does too.
 
 mod anchored;
 mod builder;

@@ -50,7 +50,7 @@ module _ {M : Type 1} {𝓤 : Ura M} {𝓛 : Logic 𝓤} {K : Type 0} {Γ : List
       nothing t $ move t (2 ∷ 0 ∷ []) $ fjoin t $ feq_i t (List Val) (ptr_val p ∷ []) (ptr_val p ∷ []) refl $ fjoin t $ feq_i t (List Val) (v ∷ []) (v ∷ []) refl $ fjoin t $
       fpack t (Valss (RawPtr ∷ Z ∷ [])) (within (shape handle.the_type) (p, (((tt, tt), tt), tt)) (v ∷ [])) (ptr_val p ∷ [], (h ∷ [], tt)) $ fjoin t $ s)
 
-  -- null is what holds none
+  -- a handle holds nothing exactly if its pointer is null
   pub either_out : K → (a : Z.Denot) (p : Ptr) (x : Option Held) → (x ≡ None → p ≡ null_ptr → Seq K 𝓛 Γ G)
       → ((m : Held) (b o : ℕ) → x ≡ Some m → p ≡ block_ptr b o → Testable (block_ptr b o) → Seq K 𝓛 (‵ (boxed held.the_row a (block_ptr b o) m) ∷ Γ) G) → Seq K 𝓛 (‵ (holds held.the_row a p x) ∷ Γ) G
   either_out t a p None none one = feq_l t (λ e. none refl e)

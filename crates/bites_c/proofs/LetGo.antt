@@ -1,4 +1,4 @@
--- What frees a value of its own type also frees it where the type stands for a parameter. Assumes `Logic`.
+-- What frees a value of its own type also frees it if the type stands for a parameter. Assumes `Logic`.
 use Rattle.std.proofs.Common.{[], ◌∷◌}
 use seplogic.Ra.Ura.{Ura}
 use mir.Syntax.{Callee, Dict, method, no_args}

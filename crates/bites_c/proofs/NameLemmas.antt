@@ -6,12 +6,12 @@ use Rattle.bites_spec.specs.Expansion.{has_name, index_in}
 use Rattle.std.proofs.lemmas.List.{get_or_past, append-nil, length-map}
 use Rattle.std.specs.Iterator.{Yields, YieldsFirstBy}
 
--- the list is what came, and what is left
+-- the list is what came followed by what is left
 pub passed : {A B : Type 0} → (v : A → B) (s : List B) (xs : List A) (t : List B) → Yields (YieldsFirstBy v (λ l. l)) s xs t → s ≡ map v xs ++ t
 passed v s [] t e = e
 passed v s (x ∷ xs) t h = h.1 ∙ ap (λ l. v x ∷ l) (passed v h.0 xs t h.2)
 
--- where none came, the list has no such place
+-- if no item came, the list has no such place
 pub none_there : {A B : Type 0} → (v : A → Option B) (s : List (Option B)) (xs : List A) (t : List (Option B)) (n : ℕ) →
     Yields (YieldsFirstBy v (λ l. l)) s xs t → t ≡ [] → length xs ≤ n → slice_index_or s n None ≡ None
 none_there v s xs t n yields ended few =
@@ -27,7 +27,7 @@ module _ (word : List ℕ) where
       index_in all word ≡ cond (nat_lt n (length all)) (Some n) None
   by_len all n e = ap (λ (k : ℕ). cond (nat_lt k (length all)) (Some k) None) e
 
-  -- it is the next one
+  -- the name is the next one
   pub named_here : (all rest : List (Option (List ℕ))) (name : Option (List ℕ)) (n : ℕ) →
       n + prefix_len is_other (name ∷ rest) ≡ prefix_len is_other all → n + length (name ∷ rest) ≡ length all →
       has_name word name ≡ true → Some n ≡ index_in all word
@@ -36,12 +36,12 @@ module _ (word : List ℕ) where
       let at : prefix_len is_other all ≡ n = omega (arith, before, none) in
       sym (by_len all n at ∙ ap (λ (b : Bool). cond b (Some n) None) (lt-ltb n (length all) (omega (arith, len))))
 
-  -- none is left
+  -- no name is left
   pub named_nowhere : (all : List (Option (List ℕ))) (n : ℕ) → n ≡ prefix_len is_other all → n ≡ length all → None ≡ index_in all word
   named_nowhere all n before len =
       sym (by_len all n (sym before) ∙ ap (λ (b : Bool). cond b (Some n) None) (le-ltb n (length all) (omega (arith, len))))
 
-  -- the next one is another
+  -- the next name is another one
   pub named_later : (rest : List (Option (List ℕ))) (name : Option (List ℕ)) (n k : ℕ) →
       n + prefix_len is_other (name ∷ rest) ≡ k → has_name word name ≡ false → (n + 1) + prefix_len is_other rest ≡ k
   named_later rest name n k before other =

@@ -7,7 +7,7 @@ use Rattle.bites_spec.specs.Slots.{span_of_run, group_in}
 use Rattle.bites_spec.specs.Spans.{is_empty_at, next_after, followed, successive_after, successive, AnswersLie, LiesFrom}
 use Rattle.bites_spec.specs.Regex.{Regex, IsCompiled, run_at, span_at, slots_at}
 use Rattle.bites_spec.specs.Captured.{Excerpt, excerpt}
-use Rattle.bites_spec.specs.Iteration.{spans_behind, captures_behind, captured_by}
+use Rattle.bites_spec.specs.Iteration.{spans_after, captures_after, captured_by}
 use Rattle.bites_spec.proofs.regex.RegexRuns.{run_at-lies, run_at-whole}
 use Rattle.bites_spec.proofs.iteration.SuccessiveLemmas.{goes_on}
 use Rattle.bites_c.specs.Searched.{FindsNext, FindsNextGroups}
@@ -39,11 +39,11 @@ module _ (r : Regex) (compiled : IsCompiled r) (hay : List ℕ) where
 
   next_of :
       (last : Option ℕ) (o : Option Span) →
-      spans_behind r hay last ≡ followed (λ s. s) (successive_after (λ s. s) hay (span_at r hay)) o → FindsNext r hay last o
+      spans_after r hay last ≡ followed (λ s. s) (successive_after (λ s. s) hay (span_at r hay)) o → FindsNext r hay last o
   next_of last None e = e
   next_of last (Some s) e = e
 
-  -- the first of all
+  -- the first match
   pub first_next : (o : Option Span) → o ≡ span_at r hay 0 → FindsNext r hay None o
   unfolding successive
   first_next o e = next_of None o (ap (followed (λ s. s) (successive_after (λ s. s) hay (span_at r hay))) (sym e))
@@ -58,7 +58,7 @@ module _ (r : Regex) (compiled : IsCompiled r) (hay : List ℕ) where
   unfolding next_after
   next_by e o h = ap (λ q. cond (is_empty_at (λ s. s) e q) (span_at r hay (e + step_len hay e)) q) (sym h)
 
-  -- what is found where the match before ended, if it is not empty there
+  -- what is found from the end of the previous match on, if it is not an empty match there
   pub found_next : (e : ℕ) (o : Option Span) → o ≡ span_at r hay e → is_empty_at (λ s. s) e o ≡ false → FindsNext r hay (Some e) o
   found_next e o h apart =
       next_lies e o (sym (next_by e o h ∙ ap (λ b. cond b (span_at r hay (e + step_len hay e)) o) apart))
@@ -71,7 +71,7 @@ module _ (r : Regex) (compiled : IsCompiled r) (hay : List ℕ) where
       next_lies e later
       (again ∙ ap (λ k. span_at r hay (e + k)) is_step ∙ sym (next_by e o h ∙ ap (λ b. cond b (span_at r hay (e + step_len hay e)) o) empty))
 
-  -- what comes behind a run, if there is one, after the run
+  -- a run, if there is one, and the runs after it
   abbrev runs_from : Option Run → List Run
   runs_from = followed span_of_run (successive_after span_of_run hay (run_at r hay))
 
@@ -79,12 +79,12 @@ module _ (r : Regex) (compiled : IsCompiled r) (hay : List ℕ) where
   same_empty e None = refl
   same_empty e (Some x) = refl
 
-  first_captures : captures_behind r hay None ≡ map (captured_by r hay) (runs_from (run_at r hay 0))
+  first_captures : captures_after r hay None ≡ map (captured_by r hay) (runs_from (run_at r hay 0))
   unfolding successive
   first_captures = refl
 
   next_captures : (e : ℕ) (o : Option Run) → next_after span_of_run hay (run_at r hay) e ≡ o →
-      captures_behind r hay (Some e) ≡ map (captured_by r hay) (runs_from o)
+      captures_after r hay (Some e) ≡ map (captured_by r hay) (runs_from o)
   next_captures e o is_next =
       ap (map (captured_by r hay)) (goes_on span_of_run hay (run_at r hay) (run_at-lies r compiled hay) e)
       ∙ ap (λ q. map (captured_by r hay) (runs_from q)) is_next
@@ -100,7 +100,7 @@ module _ (r : Regex) (compiled : IsCompiled r) (hay : List ℕ) where
 
   groups_of :
       (last : Option ℕ) (o : Option Run) → ((x : Run) → o ≡ Some x → group_in (slots r.program x) 0 ≡ Some (span_of_run x)) →
-      captures_behind r hay last ≡ map (captured_by r hay) (runs_from o) → FindsNext r hay last (option_map span_of_run o) →
+      captures_after r hay last ≡ map (captured_by r hay) (runs_from o) → FindsNext r hay last (option_map span_of_run o) →
       FindsNextGroups r hay last (option_map (slots r.program) o)
   groups_of last None whole e next = (next, e)
   groups_of last (Some x) whole e next = (span_of_run x, next, whole x refl, e)
@@ -118,7 +118,7 @@ module _ (r : Regex) (compiled : IsCompiled r) (hay : List ℕ) where
       subst (λ (y : Bool). FindsNextGroups r hay last (if y then Some new else None)) (sym e)
       (subst (λ (l : List (Option ℕ)). FindsNextGroups r hay last (Some l)) (sym is) h)
 
-  -- the groups of the first of all
+  -- the groups of the first match
   pub first_groups :
       (found : Option (ℕ × ℕ)) (old new : List (Option ℕ)) (b : Bool) →
       option_map (λ s. span s.0 s.1) found ≡ span_at r hay 0 → new ≡ unwrap_or (slots_at r hay 0) old → b ≡ is_some found →
@@ -127,7 +127,7 @@ module _ (r : Regex) (compiled : IsCompiled r) (hay : List ℕ) where
       read_groups None (run_at r hay 0) found old new b same is e
       (groups_of None (run_at r hay 0) (λ x h. run_at-whole r compiled hay 0 x h) first_captures (first_next (span_at r hay 0) refl))
 
-  -- those of what is found where the match before ended, if it is not empty there
+  -- those of what is found from the end of the previous match on, if it is not an empty match there
   pub found_groups :
       (at : ℕ) (found : Option (ℕ × ℕ)) (old new : List (Option ℕ)) (b : Bool) →
       option_map (λ s. span s.0 s.1) found ≡ span_at r hay at → is_empty_at (λ s. s) at (option_map (λ s. span s.0 s.1) found) ≡ false →

@@ -33,7 +33,7 @@ same_text : (text : List ℕ) (cs : List Captured) → is_plain text ≡ true �
 same_text text [] e = refl
 same_text text (c ∷ cs) e = ap₂ (λ y ys. y ∷ ys) (sym (plain_stands _ _ c.haystack text e)) (same_text text cs e)
 
--- so such a template may be taken for a text
+-- so a plain template may be taken as a text
 pub plain_template : (r : Regex) (hay : List ℕ) (n : ℕ) (text : List ℕ) → is_plain text ≡ true → with_text r hay n text ≡ with_template r hay n text
 unfolding with_text with_template
 plain_template r hay n text e =
@@ -44,7 +44,7 @@ le_or_lt zero n = inl (omega arith)
 le_or_lt (suc m) zero = inr (omega arith)
 le_or_lt (suc m) (suc n) = ⊎_elim (λ h. inl (omega (arith, h))) (λ h. inr (omega (arith, h))) (le_or_lt m n)
 
--- a text that is put is no refusal
+-- a text that is put is not a refusal
 pub put_is_made : (text : List ℕ) (answer : BitesSize) (old new : List ℕ) → PutsText text answer old new → PutsMade text answer old new
 put_is_made text answer old new h = (λ is. absurd (never is (le_or_lt (length text) (length old))), λ other. h)
   where

@@ -5,7 +5,7 @@ use Rattle.bites_spec.specs.Match.{Span}
 use Rattle.bites_spec.specs.Pieces.{replaced_from, limited}
 use Rattle.bites_spec.specs.Regex.{Regex, IsCompiled}
 use Rattle.bites_spec.specs.Captured.{Captured}
-use Rattle.bites_spec.specs.Iteration.{captures_in, captures_behind, spans_in, spans_behind}
+use Rattle.bites_spec.specs.Iteration.{captures_in, captures_after, spans_in, spans_after}
 use Rattle.bites_spec.specs.Replaced.{span_in}
 use Rattle.bites_spec.specs.Replacer.{expanded}
 use Rattle.bites_bytes.specs.ReplaceLimit.{taken, bound}
@@ -50,17 +50,17 @@ finished view cs text last bytes (Some v) nothing same h = ((λ none. there last
 module _ (r : Regex) (hay : List ℕ) (n : ℕ) (s t : Replacing) (fresh : IsFresh hay n s) where
   spans_start : IsCompiled r → spans_left r s ≡ limited n (map span_in (captures_in r hay))
   spans_start is =
-      ap (λ o. taken o (spans_behind r s.haystack.now s.last)) fresh.left
-      ∙ ap (λ h. taken (bound n) (spans_behind r h s.last)) fresh.haystack
-      ∙ ap (λ l. taken (bound n) (spans_behind r hay l)) fresh.last
+      ap (λ o. taken o (spans_after r s.haystack.now s.last)) fresh.left
+      ∙ ap (λ h. taken (bound n) (spans_after r h s.last)) fresh.haystack
+      ∙ ap (λ l. taken (bound n) (spans_after r hay l)) fresh.last
       ∙ taken_limited n (spans_in r hay)
       ∙ ap (limited n) (spans_of_captures r is hay)
 
   captures_start : captures_left r s ≡ limited n (captures_in r hay)
   captures_start =
-      ap (λ o. taken o (captures_behind r s.haystack.now s.last)) fresh.left
-      ∙ ap (λ h. taken (bound n) (captures_behind r h s.last)) fresh.haystack
-      ∙ ap (λ l. taken (bound n) (captures_behind r hay l)) fresh.last
+      ap (λ o. taken o (captures_after r s.haystack.now s.last)) fresh.left
+      ∙ ap (λ h. taken (bound n) (captures_after r h s.last)) fresh.haystack
+      ∙ ap (λ l. taken (bound n) (captures_after r hay l)) fresh.last
       ∙ taken_limited n (captures_in r hay)
 
   pub text_end : IsCompiled r → {V : Type 0} (view : V → List ℕ) (text : List ℕ) (o : Option V) → Ends (spans_left r) (λ x. x) (λ x. text) s t →

@@ -1,11 +1,11 @@
--- What stands in the slots that a search answers.
+-- The slots that a search returns.
 use Rattle.std.proofs.Common.{◌≡◌, ℕ, ◌/◌, List, length, Option, Some, None, is_some, true, option_map, unwrap_or, refl, sym, ap, subst, ◌∙◌, true≢false}
 use Rattle.bites_spec.specs.Regex.{Regex, IsCompiled, slots_at}
 use Rattle.bites_spec.specs.Anchored.{anchored_slots_at}
 use Rattle.bites_spec.specs.AnchoredLaws.{AnchoredSlotsAreGroups}
 use Rattle.bites_spec.specs.Captured.{AreGroups, SlotsAreGroups}
 use Rattle.bites_c.specs.Codes.{matched}
-use Rattle.bites_c.specs.Put.{HasFront, PutsGroups}
+use Rattle.bites_c.specs.Put.{HasPrefix, PutsGroups}
 use Rattle.bites_c.specs.declared.span.BitesSpan.{BitesSpan}
 
 -- locations that were read keep their number
@@ -18,7 +18,7 @@ read_len r compiled groups hay s old new len is = by_answer (slots_at r hay s) r
     by_answer None e is = ap length is ∙ len
     by_answer (Some xs) e is = ap length is ∙ (groups r compiled hay s xs e).count
 
--- where something was found, there are slots
+-- if something was found, there are slots
 pub some_slots :
     {M E S R L : Type 0} → (m : M) (e : M → E) (x : S → E) (g : R → S) (f : R → L) (found : Option M) (run : Option R) →
     found ≡ Some m → option_map e found ≡ option_map x (option_map g run) → is_some (option_map f run) ≡ true
@@ -28,12 +28,12 @@ some_slots m e x g f found None is same = sym (ap is_some same) ∙ ap (λ o. is
 -- groups that were read and put are the groups that were found
 pub found_put :
     (o : Option (List (Option ℕ))) (read was : List (Option ℕ)) (n : ℕ) (old new : List BitesSpan) →
-    is_some o ≡ true → read ≡ unwrap_or o was → length read / 2 ≡ n → HasFront read (length read / 2) old new → PutsGroups o n matched old new
+    is_some o ≡ true → read ≡ unwrap_or o was → length read / 2 ≡ n → HasPrefix read (length read / 2) old new → PutsGroups o n matched old new
 found_put None read was n old new some is half h = absurd (true≢false (sym some))
 found_put (Some xs) read was n old new some is half h =
-    (refl, subst (λ k. HasFront xs k old new) half (subst (λ ys. HasFront ys (length read / 2) old new) is h))
+    (refl, subst (λ k. HasPrefix xs k old new) half (subst (λ ys. HasPrefix ys (length read / 2) old new) is h))
 
--- where something was found, the slots that were read are groups of the haystack
+-- if something was found, the slots that were read are groups of the haystack
 pub read_are :
     (r : Regex) → IsCompiled r → SlotsAreGroups → (hay : List ℕ) (s : ℕ) (old new : List (Option ℕ)) →
     is_some (slots_at r hay s) ≡ true → new ≡ unwrap_or (slots_at r hay s) old → AreGroups r hay new
@@ -43,7 +43,7 @@ read_are r compiled groups hay s old new some is = by_answer (slots_at r hay s) 
     by_answer None e some is = absurd (true≢false (sym some))
     by_answer (Some xs) e some is = subst (AreGroups r hay) (sym is) (groups r compiled hay s xs e)
 
--- locations that a search from a place alone read keep their number
+-- locations that an anchored search read keep their number
 pub anchored_len :
     (r : Regex) → IsCompiled r → AnchoredSlotsAreGroups → (hay : List ℕ) (s : ℕ) (old new : List (Option ℕ)) →
     length old ≡ r.program.slots → new ≡ unwrap_or (anchored_slots_at r hay s) old → length new ≡ r.program.slots

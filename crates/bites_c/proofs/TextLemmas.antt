@@ -1,4 +1,4 @@
--- What is asked over texts.
+-- What searches over texts require.
 use Rattle.std.proofs.Common.{◌≡◌, ℕ, Bool, true, false, List, Option, Some, None, sym, ap, subst, ◌∙◌}
 use Rattle.std.specs.Prelude.{⊤, IfSome}
 use Rattle.bites_spec.specs.Counts.{Room}
@@ -22,7 +22,7 @@ still_refused false hay start number S A s h = absurd h
 still_refused true hay start number S A s h =
     ((λ no. ((h.0 no).0, s)), λ utf8. let k = h.1 utf8 in ((λ no. ((k.0 no).0, s)), λ border. absurd (k.1 border)))
 
--- a search that is refused answers nothing
+-- a search that is refused finds nothing
 pub refused_from :
     (hay : List ℕ) (start : ℕ) (held : Option Held) (room : Option Room) (number : ℕ) (S : Type 0) (P : Regex → Type 0) →
     S → SearchedFrom hay start held room number ⊤ (λ r. ⊥) → SearchedFrom hay start held room number S P
@@ -32,7 +32,7 @@ refused_from hay start (Some x) (Some m) number S P s h =
     ((λ fits. still_refused x.is_text hay start number S (P x.regex) s (h.0 fits)), λ other. ((h.1 other).0, s))
 
 module _ (b : Bool) (hay : List ℕ) (groups : List BitesSpan) (template : List ℕ) (R : ℕ → Type 0) where
-  -- a number of what is wrong is the one that is answered
+  -- the number of what is wrong is the one that is returned
   pub wrong :
       (A : Type 0) (n : ℕ) → AsksGroups b hay groups template (λ number. n ≡ number) ⊥ → R n → AsksGroups b hay groups template R A
   wrong A n told r = by b told

@@ -68,7 +68,7 @@ module _ (row : RattleType) (L : Laws row) where
   E = record { row = row; laws = L; al = al }
 
   module _ {M : Type 1} {𝓤 : Ura M} {𝓛 : Logic 𝓤} {K : Type 0} {Γ : List (Item 𝓤)} {G : Goal 𝓤 𝓛.H} where
-    -- what is had of a box that was taken apart
+    -- what holds after a box was taken apart
     pub parts_out : K → (a : Z.Denot) (x : R.Denot) (u : Val) (Lasts : Type 0) (F : Lasts → Fml)
         → ((b o : ℕ) (h : Val) → u ≡ both (vptr b o) h → Good (layout Z) h → Seq K 𝓛 (‵ (boxed R a (block_ptr b o) x) ∷ ‵ (Z.own_val a (h ∷ [])) ∷ Γ) G)
         → Seq K 𝓛 (some (λ (r : Ptr × Z.Denot). (tokens 𝓛 ⊛ ‵ ((Tuple (RawPtr ∷ Z ∷ [])).own_val r (u ∷ [])))
@@ -81,7 +81,7 @@ module _ (row : RattleType) (L : Laws row) where
         move t (1 ∷ []) $ drop t $ move t (1 ∷ []) $
         k b o h (ap only (laid ∙ (λ i. vstruct (of_list ((first ∙ ap (λ (p : Ptr). ptr_val p ∷ []) is) i ++ (second i ++ []))) ∷ []))) fits))))))))
 
-    -- and of one that was put together
+    -- and after one was put together
     pub whole_out : K → (a : Z.Denot) (x : row.Denot) (u : Val) (Lasts : Type 0) (F : Lasts → Fml)
         → ((r : box.D E) → r.value ≡ x → Good (layout (box.B E)) u → Seq K 𝓛 (‵ ((box.B E).own_val r (u ∷ [])) ∷ Γ) G)
         → Seq K 𝓛 (some (λ (r : box.D E). (tokens 𝓛 ⊛ ‵ ((box.B E).own_val r (u ∷ [])))
@@ -92,7 +92,7 @@ module _ (row : RattleType) (L : Laws row) where
         rewrite t 0 (λ (vs : List Val). ‵ ((box.B E).own_val r vs)) (sym laid) refl $
         k r same (subst (Good (layout (box.B E))) (sym (ap only laid)) (pair_good b o h fits))))))
 
-    -- what a call with a type and the allocator for its parameters asks beside its arguments
+    -- what a call with a type and the allocator for its parameters requires besides its arguments
     pub with_types : K → [] ⊑ row.lives → {A B : Item 𝓤}
         → Step K 𝓛 (((tokens 𝓛 ⊛ A) ⊛ raw (fact 𝓤 ([] ⊑ row.lives)) ⊛ raw (fact 𝓤 ([] ⊑ Z.lives)) ⊛ B) ∷ Γ) G (A ∷ B ∷ Γ) G
     with_types t lives = step (λ s.

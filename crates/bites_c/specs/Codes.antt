@@ -1,9 +1,9 @@
--- The numbers that C is answered.
+-- The numbers that calls return to C.
 use Rattle.std.specs.Prelude.{ℕ}
 use Rattle.bites_text.specs.declared.error.Error.{Error}
 use Rattle.bites_text.specs.declared.error.Error.TheVariants.{TooMuchNesting, TooManyGroups, DuplicateName, UnclosedGroup, UnclosedQuestion, UnopenedGroup, LookAround, EmptyFlags, MissingName, InvalidName, UnclosedName, EmptyName, UnrecognizedFlag, RepeatedNegation, DuplicateFlag, UnclosedFlags, DanglingNegation, DecimalWithoutDigits, InvalidDecimal, BraceHexDigit, BraceHexUnclosed, BraceHexEmpty, BraceHexInvalid, FixedHexUnfinished, FixedHexDigit, FixedHexInvalid, HexUnfinished, EscapeUnfinished, Backreference, UnicodeClass, UnrecognizedEscape, NothingToRepeat, NothingToCount, UnclosedCount, UnclosedMin, UnclosedComma, UnclosedMax, InvalidCount, MinAboveMax, UnclosedAfterMember, RangeOfNoCharacter, InvalidClassEscape, UnclosedAfterDash, UnclosedAfterCaret, UnclosedAfterBracket, InvalidRange, UnclosedClass, NestedClass, ClassIntersection, ClassDifference, ClassSymmetricDifference, UnclosedBoundary, UnrecognizedBoundary, UnfinishedBoundary, TooBig, TooManyStates, TooManySlots, Memory}
 
--- what was asked is done
+-- the call is done
 abbrev pub done : ℕ
 done = 0
 
@@ -14,7 +14,7 @@ matched = 100
 abbrev pub not_matched : ℕ
 not_matched = 101
 
--- the bytes are no UTF-8
+-- the bytes are not UTF-8
 abbrev pub not_utf8 : ℕ
 not_utf8 = 102
 
@@ -22,7 +22,7 @@ not_utf8 = 102
 abbrev pub empty_handle : ℕ
 empty_handle = 103
 
--- the cache was made for another regex
+-- the cache was made for a regex of another size
 abbrev pub unfit_cache : ℕ
 unfit_cache = 104
 
@@ -30,7 +30,7 @@ unfit_cache = 104
 abbrev pub too_small : ℕ
 too_small = 105
 
--- no group has the name, or the group has none
+-- no group has the name, or the group has no name
 abbrev pub no_name : ℕ
 no_name = 106
 
@@ -38,11 +38,11 @@ no_name = 106
 abbrev pub bad_span : ℕ
 bad_span = 107
 
--- a place lies within a character
+-- an offset lies within a character
 abbrev pub not_border : ℕ
 not_border = 108
 
--- the number of an error, from 1 on; want of memory is 58
+-- the number of an error, from 1 on; out of memory is 58
 abbrev pub code_of : Error → ℕ
 code_of TooMuchNesting = 1
 code_of TooManyGroups = 2

@@ -8,7 +8,7 @@ use Rattle.std.specs.declared.option.Option.{Option}
 use Rattle.std.specs.declared.option.Option.TheVariants.{None, Some}
 use Rattle.std.specs.Box.Ownership.{box_owns}
 
--- a box of the value at p, which the allocator may free
+-- a box of the value x at p, which the allocator may free
 abbrev pub boxed : (R : RattleType) → Global → Ptr → R.Denot → Fml
 boxed R a p x = box_owns (ghosts.dealloc_token a) R p x
 

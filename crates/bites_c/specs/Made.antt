@@ -1,4 +1,4 @@
--- What a regex is made by.
+-- What a regex is made from.
 use Rattle.std.specs.Prelude.{◌≡◌}
 use Rattle.bites_spec.specs.Regex.{Regex}
 use Rattle.bites_spec.specs.Settings.{Settings, Accepts}

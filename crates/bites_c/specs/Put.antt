@@ -1,4 +1,4 @@
--- What is put where C can read it.
+-- What is written to the memory of C.
 use Rattle.std.specs.Prelude.{◌≡◌, ◌≢◌, ◌<◌, ◌≤◌, ◌++◌, ℕ, min, cond, nat_eq, List, [], ◌∷◌, length, map, take, drop, Option, Some, None, unwrap_or}
 use Rattle.std.specs.List.{range_with_len}
 use Rattle.bites_spec.specs.Match.{Span}
@@ -14,25 +14,25 @@ abbrev pub span_for_c : Option Span → BitesSpan
 span_for_c None = record { start = 0xFFFF_FFFF_FFFF_FFFF; end = 0xFFFF_FFFF_FFFF_FFFF }
 span_for_c (Some s) = record { start = s.start; end = s.end }
 
--- what C says of the match before: the greatest number where there is none, else its end
+-- the end of the previous match as C passes it, or none for the greatest number
 abbrev pub last_for_c : ℕ → Option ℕ
 last_for_c n = cond (nat_eq n 0xFFFF_FFFF_FFFF_FFFF) None (Some n)
 
--- the place that was found is put where the old one stood, which stays where there is none
+-- the offset that was found replaces the old one, which is unchanged if none was found
 abbrev pub Puts : Option ℕ → ℕ → ℕ → ℕ → Type 0
 Puts None number old new = (number ≡ not_matched) × (new ≡ old)
 Puts (Some place) number old new = (number ≡ matched) × (new ≡ place)
 
--- the same of a span
+-- the same for a span
 abbrev pub PutsSpan : Option Span → ℕ → BitesSpan → BitesSpan → Type 0
 PutsSpan None number old new = (number ≡ not_matched) × (new ≡ old)
 PutsSpan (Some s) number old new = (number ≡ matched) × (new ≡ span_for_c (Some s))
 
--- where a piece begins that comes behind a match: at its end, or at the start of a haystack of so many bytes where there was none
+-- the start of a piece after a match: the end of the match, or 0 if there was none, and at most the length of the haystack
 abbrev pub piece_start : ℕ → ℕ → ℕ
 piece_start len last = min (unwrap_or (last_for_c last) 0) len
 
--- the piece up to the span that was found is put, and the end of that span; the piece up to the end where there is none
+-- the piece before the span that was found is put, and the end of that span; if none was found, the piece up to the end is put
 abbrev pub PutsPiece : Option Span → ℕ → ℕ → ℕ → ℕ → BitesSpan → Type 0
 PutsPiece None len number last next piece =
     (number ≡ not_matched) × (next ≡ last) × (piece ≡ record { start = piece_start len last; end = len })
@@ -43,42 +43,44 @@ PutsPiece (Some s) len number last next piece =
 abbrev pub groups_for_c : List (Option ℕ) → ℕ → List BitesSpan
 groups_for_c slots n = map (λ k. span_for_c (group_in slots k)) (range_with_len 0 n)
 
--- the first n groups in the slots stand at the front, and the rest stays
-pub record HasFront (slots : List (Option ℕ)) (n : ℕ) (old new : List BitesSpan) : Type 0 where
+-- the first n places have the first n groups in the slots, and the rest is unchanged
+pub record HasPrefix (slots : List (Option ℕ)) (n : ℕ) (old new : List BitesSpan) : Type 0 where
   pub front : take n new ≡ groups_for_c slots n
   pub rest : drop n new ≡ drop n old
 
--- the groups that were found are put at the front; where there are none all stays
+-- the groups that were found are put into the first places; if none were found, all is unchanged
 abbrev pub PutsGroups : Option (List (Option ℕ)) → ℕ → ℕ → List BitesSpan → List BitesSpan → Type 0
 PutsGroups None n number old new = (number ≡ not_matched) × (new ≡ old)
-PutsGroups (Some slots) n number old new = (number ≡ matched) × HasFront slots n old new
+PutsGroups (Some slots) n number old new = (number ≡ matched) × HasPrefix slots n old new
 
--- the text is put at the front where there is room for it, which this number says, and else all stays; the size is that of the text
+-- if the text fits, it is put into the first bytes and the code is this number, else all is unchanged; the size is that of the
+-- text
 pub record PutsTextAs (number : ℕ) (text : List ℕ) (answer : BitesSize) (old new : List ℕ) : Type 0 where
   pub size : answer.size ≡ length text
   pub fits : length text ≤ length old → (answer.code ≡ number) × (new ≡ text ++ drop (length text) old)
   pub small : length old < length text → (answer.code ≡ too_small) × (new ≡ old)
 
--- the same, where that is what was asked
+-- the same with the code of a call that is done
 abbrev pub PutsText : List ℕ → BitesSize → List ℕ → List ℕ → Type 0
 PutsText = PutsTextAs done
 
--- the same of a name, if there is one
+-- the same for a name, if there is one
 abbrev pub PutsName : Option (List ℕ) → BitesSize → List ℕ → List ℕ → Type 0
 PutsName None answer old new = (answer.code ≡ no_name) × (answer.size ≡ 0) × (new ≡ old)
 PutsName (Some text) answer old new = PutsText text answer old new
 
--- nothing is put, for the reason of this number
+-- nothing is put, and the code is this number
 abbrev pub PutsNone : ℕ → BitesSize → List ℕ → List ℕ → Type 0
 PutsNone number answer old new = (answer.code ≡ number) × (answer.size ≡ 0) × (new ≡ old)
 
--- the text is put where there is room for it, unless memory was refused
+-- the text is put if it fits, unless memory was refused
 abbrev pub PutsMade : List ℕ → BitesSize → List ℕ → List ℕ → Type 0
 PutsMade text answer old new =
     (answer.code ≡ code_of Memory → PutsNone (code_of Memory) answer old new)
     × (answer.code ≢ code_of Memory → PutsText text answer old new)
 
--- where there are matches, the text with them replaced is put; where there are none, all stays, and the size is that of the haystack
+-- if there are matches, the text with them replaced is put; if there are none, all is unchanged, and the size is that of the
+-- haystack
 abbrev pub PutsIfMatched : List Captured → ℕ → List ℕ → BitesSize → List ℕ → List ℕ → Type 0
 PutsIfMatched [] len text answer old new = (answer.code ≡ not_matched) × (answer.size ≡ len) × (new ≡ old)
 PutsIfMatched (c ∷ cs) len text answer old new = PutsTextAs matched text answer old new
@@ -89,7 +91,7 @@ PutsReplaced cs len text answer old new =
     (answer.code ≡ code_of Memory → PutsNone (code_of Memory) answer old new)
     × (answer.code ≢ code_of Memory → PutsIfMatched cs len text answer old new)
 
--- the number of a group is answered, if there is one
-abbrev pub AnswersIndex : Option ℕ → BitesSize → Type 0
-AnswersIndex None answer = (answer.code ≡ no_name) × (answer.size ≡ 0)
-AnswersIndex (Some index) answer = (answer.code ≡ done) × (answer.size ≡ index)
+-- the number of a group is returned, if there is one
+abbrev pub ReturnsIndex : Option ℕ → BitesSize → Type 0
+ReturnsIndex None answer = (answer.code ≡ no_name) × (answer.size ≡ 0)
+ReturnsIndex (Some index) answer = (answer.code ≡ done) × (answer.size ≡ index)

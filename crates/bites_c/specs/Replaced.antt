@@ -17,7 +17,7 @@ use Rattle.bites_c.specs.declared.span.BitesSpan.{BitesSpan}
 abbrev pub escaped_text : List ℕ → List ℕ
 escaped_text text = encode_utf8_all (escaped (chars text))
 
--- the haystack with its first n matches, all for 0, replaced by what a template stands for, or by a text
+-- the haystack with its first n matches, or all for 0, replaced by what a template stands for, or by a text
 unfoldable pub with_template : Regex → List ℕ → ℕ → List ℕ → List ℕ
 with_template r hay n template =
     replaced hay n (map span_in (captures_in r hay)) (map (λ c. expanded c template) (limited n (captures_in r hay)))
@@ -25,23 +25,23 @@ with_template r hay n template =
 unfoldable pub with_text : Regex → List ℕ → ℕ → List ℕ → List ℕ
 with_text r hay n text = replaced hay n (map span_in (captures_in r hay)) (map (λ c. text) (limited n (captures_in r hay)))
 
--- the text, as its items, where there are matches, and else none
+-- the text as its items if there are matches, else none
 abbrev pub IsReplaced : {V : Type 0} → (V → List ℕ) → List Captured → List ℕ → Option V → Type 0
 IsReplaced items cs text o = MatchOption o (cs ≡ []) (λ v. (cs ≢ []) × (items v ≡ text))
 
--- the span that C means: none for the greatest number twice
+-- the span that C passes, or none for the greatest number twice
 abbrev pub span_from_c : BitesSpan → Option Span
 span_from_c s = cond (nat_eq s.start 0xFFFF_FFFF_FFFF_FFFF && nat_eq s.end 0xFFFF_FFFF_FFFF_FFFF) None (Some (span s.start s.end))
 
--- it lies in a haystack of so many bytes, if there is one
+-- a span from C lies in a haystack of `len` bytes, if it is a span
 abbrev pub LiesWithin : ℕ → BitesSpan → Type 0
 LiesWithin len s = IfSome (span_from_c s) (λ g. (g.start ≤ g.end) × (g.end ≤ len))
 
--- where the group of this number took part; none from the last on
+-- the span of the group of this number, if it participated; groups after the last one did not
 abbrev pub group_from_c : List BitesSpan → ℕ → Option Span
 group_from_c groups k = span_from_c (slice_index_or groups k (span_for_c None))
 
--- what a template stands for by these groups in a haystack, and the names of a regex
+-- what a template stands for by these groups in a haystack and the names of a regex
 unfoldable pub expanded_by : List (Option (List ℕ)) → List BitesSpan → List ℕ → List ℕ → List ℕ
 expanded_by names groups hay template =
     expansion false 0xFFFF_FFFF_FFFF_FFFF (λ k. option_map (text_at hay) (group_from_c groups k)) (index_in names) template

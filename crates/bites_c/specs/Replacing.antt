@@ -4,7 +4,7 @@ use Rattle.bites_spec.specs.Match.{Span}
 use Rattle.bites_spec.specs.Pieces.{replaced_from}
 use Rattle.bites_spec.specs.Regex.{Regex}
 use Rattle.bites_spec.specs.Captured.{Captured}
-use Rattle.bites_spec.specs.Iteration.{spans_behind, captures_behind}
+use Rattle.bites_spec.specs.Iteration.{spans_after, captures_after}
 use Rattle.bites_bytes.specs.ReplaceLimit.{taken, bound}
 use Rattle.bites_bytes.specs.Replacing.{replaces_none}
 use Rattle.bites_c.specs.declared.replacing.Replacing.{Replacing}
@@ -18,12 +18,12 @@ pub record IsFresh (hay : List ℕ) (n : ℕ) (s : Replacing) : Type 0 where
 
 -- the matches that are still to be replaced
 abbrev pub spans_left : Regex → Replacing → List Span
-spans_left r s = taken s.left (spans_behind r s.haystack.now s.last)
+spans_left r s = taken s.left (spans_after r s.haystack.now s.last)
 
 abbrev pub captures_left : Regex → Replacing → List Captured
-captures_left r s = taken s.left (captures_behind r s.haystack.now s.last)
+captures_left r s = taken s.left (captures_after r s.haystack.now s.last)
 
--- what stands before the span is written and then the text, and the search goes on where the span ends
+-- what stands before the span is written, and then the text; the search goes on where the span ends
 pub record Writes (x : Span) (text : List ℕ) (s t : Replacing) : Type 0 where
   pub out : t.out.items ≡ (s.out.items ++ slice_range s.haystack.now (unwrap_or s.last 0) x.start) ++ text
   pub last : t.last ≡ Some x.end
@@ -36,17 +36,17 @@ module _ {C : Type 0} (items : Replacing → List C) (span_of : C → Span) (tex
   abbrev pub whole : Replacing → List ℕ
   whole s = s.out.items ++ replaced_from s.haystack.now (unwrap_or s.last 0) (map span_of (items s)) (map text_of (items s))
 
-  -- it comes to the same in the end, and whether something is replaced too
+  -- what is written in the end is unchanged, and so is whether something is replaced
   pub record GoesOn (s t : Replacing) : Type 0 where
     pub same : whole t ≡ whole s
     pub nothing : replaces_none t.last (items t) ≡ replaces_none s.last (items s)
     pub haystack : t.haystack.now ≡ s.haystack.now
 
-  -- one item fewer is left, or none is
+  -- fewer items are left, or none is
   abbrev pub Steps : Replacing → Bool → Replacing → Type 0
   Steps s true t = GoesOn s t × (length (items t) < length (items s))
   Steps s false t = GoesOn s t × (items t ≡ [])
 
-  -- none is left
+  -- no item is left
   abbrev pub Ends : Replacing → Replacing → Type 0
   Ends s t = GoesOn s t × (items t ≡ [])

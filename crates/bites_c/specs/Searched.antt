@@ -1,4 +1,4 @@
--- What a search by two handles answers.
+-- What a search with two handles returns.
 use Rattle.std.specs.Prelude.{◌≡◌, ◌≢◌, ◌↔◌, ◌<◌, ◌≤◌, ℕ, List, [], ◌∷◌, length, Option, Some, None}
 use Rattle.bites_spec.specs.Counts.{Room, fit_of}
 use Rattle.bites_spec.specs.Anchored.{FindsGroupsFrom, anchored_slots_at}
@@ -6,91 +6,92 @@ use Rattle.bites_spec.specs.Regex.{Regex, slots_at}
 use Rattle.bites_spec.specs.Captured.{FindsGroups, captured}
 use Rattle.bites_spec.specs.Slots.{group_in}
 use Rattle.bites_spec.specs.Match.{Span}
-use Rattle.bites_spec.specs.Iteration.{spans_behind, captures_behind}
+use Rattle.bites_spec.specs.Iteration.{spans_after, captures_after}
 use Rattle.bites_c.specs.Put.{Puts, PutsGroups, PutsPiece, PutsSpan}
 use Rattle.bites_c.specs.Codes.{matched, not_matched, not_utf8, empty_handle, unfit_cache, too_small}
-use Rattle.bites_c.specs.Texts.{AreUtf8, Asks, AsksFrom, AsksBehind}
+use Rattle.bites_c.specs.Texts.{AreUtf8, Asks, AsksFrom, AsksAfter}
 use Rattle.bites_c.specs.declared.held.Held.{Held}
 use Rattle.bites_c.specs.declared.span.BitesSpan.{BitesSpan}
 
--- a search is made if there is a regex and room that fits it, and P then says of what the handle holds what was answered; else
--- the number says what is missing, and S holds
+-- if there is a regex and room that fits it, a search is made, and P says of what the handle holds what was returned; else the
+-- number says what is missing, and S holds
 abbrev pub Searched : Option Held → Option Room → ℕ → Type 0 → (Held → Type 0) → Type 0
 Searched None room number S P = (number ≡ empty_handle) × S
 Searched (Some held) None number S P = (number ≡ empty_handle) × S
 Searched (Some held) (Some room) number S P =
     (room.fits ≡ fit_of held.regex.program → P held) × (room.fits ≢ fit_of held.regex.program → (number ≡ unfit_cache) × S)
 
--- the same of a search from a place on: over texts the number also says what the haystack and the place lack, and P speaks of
--- the regex
+-- the same for a search from an offset on: over texts the number also says what is wrong with the haystack or the offset, and P
+-- speaks of the regex
 abbrev pub SearchedFrom : List ℕ → ℕ → Option Held → Option Room → ℕ → Type 0 → (Regex → Type 0) → Type 0
 SearchedFrom hay start held room number S P =
     Searched held room number S (λ h. AsksFrom h.is_text hay start number S (P h.regex))
 
--- and of one that goes on behind a match, or of the first of all
-abbrev pub SearchedBehind : List ℕ → Option ℕ → Option Held → Option Room → ℕ → Type 0 → (Regex → Type 0) → Type 0
-SearchedBehind hay last held room number S P =
-    Searched held room number S (λ h. AsksBehind h.is_text hay last number S (P h.regex))
+-- and for a search after a match, or for the first match
+abbrev pub SearchedAfter : List ℕ → Option ℕ → Option Held → Option Room → ℕ → Type 0 → (Regex → Type 0) → Type 0
+SearchedAfter hay last held room number S P =
+    Searched held room number S (λ h. AsksAfter h.is_text hay last number S (P h.regex))
 
--- and of all matches in a haystack, with another text beside it
+-- and for all matches in a haystack, with a replacement text or template
 abbrev pub SearchedOver : List ℕ → List ℕ → Option Held → Option Room → ℕ → Type 0 → (Regex → Type 0) → Type 0
 SearchedOver hay other held room number S P =
     Searched held room number S (λ h. Asks h.is_text (AreUtf8 hay other) ((number ≡ not_utf8) × S) (P h.regex))
 
--- a match is answered exactly if Q holds, and none exactly if it does not
+-- the number is that of a match exactly if Q holds, and that of no match exactly if Q does not hold
 abbrev pub AnswersIf : ℕ → Type 0 → Type 0
 AnswersIf number Q = (number ≡ matched ↔ Q) × (number ≡ not_matched ↔ (Q → ⊥))
 
--- what a number says of handles by which no search can be made
+-- the number for handles with which no search can be made
 abbrev pub Lacks : Option Held → Option Room → ℕ → Type 0
 Lacks None room number = number ≡ empty_handle
 Lacks (Some held) None number = number ≡ empty_handle
 Lacks (Some held) (Some room) number = (room.fits ≢ fit_of held.regex.program) × (number ≡ unfit_cache)
 
--- of what was found P holds
+-- P holds of the offset that was found, which is put
 abbrev pub AnswersPlace : ℕ → ℕ → ℕ → (Option ℕ → Type 0) → Type 0
 AnswersPlace number old new P = (found : Option ℕ) × P found × Puts found number old new
 
--- the same of a span
+-- the same for a span
 abbrev pub AnswersSpan : ℕ → BitesSpan → BitesSpan → (Option Span → Type 0) → Type 0
 AnswersSpan number old new P = (found : Option Span) × P found × PutsSpan found number old new
 
--- the same of the piece before a span, in a haystack of so many bytes
+-- the same for the piece before a span, in a haystack of `len` bytes
 abbrev pub AnswersPiece : ℕ → ℕ → ℕ → ℕ → BitesSpan → (Option Span → Type 0) → Type 0
 AnswersPiece len number last next piece P = (found : Option Span) × P found × PutsPiece found len number last next piece
 
--- a slice with too few places stays, and none is searched for; else the groups that are found are put at its front
+-- a slice with too few places is unchanged, and nothing is searched for; else the groups that are found are put into its first
+-- places
 abbrev pub PutsCaptures : Regex → List ℕ → ℕ → ℕ → List BitesSpan → List BitesSpan → Type 0
 PutsCaptures r hay s number old new =
     (length old < length r.names → (number ≡ too_small) × (new ≡ old))
     × (length r.names ≤ length old → FindsGroups r hay s (slots_at r hay s) × PutsGroups (slots_at r hay s) (length r.names) number old new)
 
--- the same of a search from a place alone
+-- the same for an anchored search
 abbrev pub PutsAnchoredCaptures : Regex → List ℕ → ℕ → ℕ → List BitesSpan → List BitesSpan → Type 0
 PutsAnchoredCaptures r hay s number old new =
     (length old < length r.names → (number ≡ too_small) × (new ≡ old))
     × (length r.names ≤ length old →
     FindsGroupsFrom r hay s (anchored_slots_at r hay s) × PutsGroups (anchored_slots_at r hay s) (length r.names) number old new)
 
--- what is found is the first of the spans that are left behind a match that ends at a place, or of all; the others are left
--- behind it
+-- what is found is the first of the spans that follow a match that ends at `last`, or of all spans; the others follow it
 abbrev pub FindsNext : Regex → List ℕ → Option ℕ → Option Span → Type 0
-FindsNext r hay last None = spans_behind r hay last ≡ []
-FindsNext r hay last (Some s) = spans_behind r hay last ≡ s ∷ spans_behind r hay (Some s.end)
+FindsNext r hay last None = spans_after r hay last ≡ []
+FindsNext r hay last (Some s) = spans_after r hay last ≡ s ∷ spans_after r hay (Some s.end)
 
--- the groups that are found are those of the next match after another, or of the first of all: their match is the first
--- that is left, and what is left behind it are the groups of the others
+-- the groups that are found are those of the next match after one that ends at `last`, or of the first match; the groups of the
+-- other matches follow
 abbrev pub FindsNextGroups : Regex → List ℕ → Option ℕ → Option (List (Option ℕ)) → Type 0
-FindsNextGroups r hay last None = FindsNext r hay last None × (captures_behind r hay last ≡ [])
+FindsNextGroups r hay last None = FindsNext r hay last None × (captures_after r hay last ≡ [])
 FindsNextGroups r hay last (Some slots) =
     (s : Span) × FindsNext r hay last (Some s) × (group_in slots 0 ≡ Some s)
-    × (captures_behind r hay last ≡ captured r hay slots ∷ captures_behind r hay (Some s.end))
+    × (captures_after r hay last ≡ captured r hay slots ∷ captures_after r hay (Some s.end))
 
--- the groups that are found are put at the front
+-- the groups that are found are put into the first places
 abbrev pub PutsFound : (Option (List (Option ℕ)) → Type 0) → ℕ → ℕ → List BitesSpan → List BitesSpan → Type 0
 PutsFound Finds n number old new = (found : Option (List (Option ℕ))) × Finds found × PutsGroups found n number old new
 
--- a slice with too few places stays, and none is searched for; else the groups of the next match are put at its front
+-- a slice with too few places is unchanged, and nothing is searched for; else the groups of the next match are put into its first
+-- places
 abbrev pub PutsNextCaptures : Regex → List ℕ → Option ℕ → ℕ → List BitesSpan → List BitesSpan → Type 0
 PutsNextCaptures r hay last number old new =
     (length old < length r.names → (number ≡ too_small) × (new ≡ old))

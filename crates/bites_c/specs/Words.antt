@@ -1,4 +1,4 @@
--- What a word of flags asks.
+-- What a word of flags asks for.
 use Rattle.std.specs.Prelude.{ℕ, List, Bool, bit_and, nat_eq, not}
 use Rattle.bites_spec.specs.Pattern.{Flags}
 use Rattle.bites_spec.specs.Settings.{Settings, settings}
@@ -18,14 +18,14 @@ flags_in word = record {
   ignore_whitespace = has_bit word 32;
 }
 
--- whether searches are to answer the longest match, and whether dropped groups are to be kept
+-- whether searches find the longest match, and whether dropped groups are kept
 abbrev pub longest_in : ℕ → Bool
 longest_in word = has_bit word 64
 
 abbrev pub keeps_in : ℕ → Bool
 keeps_in word = has_bit word 128
 
--- whether searches are to be over texts
+-- whether searches are over texts
 abbrev pub text_in : ℕ → Bool
 text_in word = has_bit word 256
 

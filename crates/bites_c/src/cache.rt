@@ -1,4 +1,4 @@
-//! Room for searches that C holds.
+//! The handle of a search cache that C holds.
 
 ghost use Rattle.std.specs.Prelude.{◌≡◌, MatchOption};
 ghost use Rattle.std.specs.declared.option.Option.{Option as Maybe};
@@ -12,7 +12,7 @@ use crate::room::Room;
 use std::alloc::Global;
 use std::marker::{Model, Send};
 
-/// What C holds between calls: the pointer of room for searches, or null. C begins with null and never copies it.
+/// What C holds between calls: the pointer to the room for searches, or null. C begins with null and never copies it.
 #[repr(C)]
 pub struct BitesCache {
     at: *mut (),
@@ -27,7 +27,7 @@ impl Model for BitesCache {
 unsafe impl Send for BitesCache {}
 
 impl BitesCache {
-    /// A handle that holds none.
+    /// Returns a handle that holds nothing.
     pub(crate) fn empty(alloc: Global) -> BitesCache
         ensures { result.room ≡ None }
     {
@@ -37,7 +37,7 @@ impl BitesCache {
         }
     }
 
-    /// A handle of this room.
+    /// Returns a handle that holds this room.
     pub(crate) fn of(held: Box<Room, Global>) -> BitesCache
         ensures { result.room ≡ Some held.value }
     {
@@ -48,7 +48,7 @@ impl BitesCache {
         }
     }
 
-    /// The room that it holds, if there is some.
+    /// Returns the room that the handle holds, if it holds some.
     pub(crate) fn into_box(self) -> Option<Box<Room, Global>>
         ensures { MatchOption result (self.room ≡ None) (λ b. self.room ≡ Some b.value) }
     {
@@ -69,7 +69,7 @@ impl Drop for BitesCache {
     }
 }
 
-// Frees what a handle holds. It stands out of line, since a call puts what it took back into a handle that is empty.
+// Frees what a handle holds. It is out of line, since a call puts back what it took into a handle that is empty.
 #[cold]
 #[inline(never)]
 fn free(room: Box<Room, Global>) {

@@ -1,4 +1,4 @@
-//! The numbers that C is answered.
+//! The numbers that calls return to C.
 
 ghost use Rattle.std.specs.Prelude.{◌≡◌, ◌≢◌, [], ◌≤◌, ◌++◌, IfSome, IfNone, length, take, drop};
 ghost use Rattle.bites_text.specs.Texts.{error_text};
@@ -7,7 +7,7 @@ ghost use Rattle.bites_c.specs.Codes.{code_of};
 
 use bites_text::error::Error;
 
-/// What was asked is done.
+/// The call is done.
 pub(crate) const DONE: u32 = 0;
 
 /// The number of [`Error::Memory`].
@@ -16,31 +16,31 @@ pub(crate) const NO_MEMORY: u32 = 58;
 /// There is a match.
 pub(crate) const MATCH: u32 = 100;
 
-/// There is none.
+/// There is no match.
 pub(crate) const NO_MATCH: u32 = 101;
 
-/// The bytes are no UTF-8.
+/// The bytes are not UTF-8.
 pub(crate) const NOT_UTF8: u32 = 102;
 
 /// A handle holds nothing.
 pub(crate) const EMPTY_HANDLE: u32 = 103;
 
-/// The cache was made for another regex.
+/// The cache was made for a regex of another size.
 pub(crate) const UNFIT_CACHE: u32 = 104;
 
 /// The room that the caller gave is too small.
 pub(crate) const TOO_SMALL: u32 = 105;
 
-/// No group has the name, or the group has none.
+/// No group has the name, or the group has no name.
 pub(crate) const NO_NAME: u32 = 106;
 
 /// A span does not lie in the haystack.
 pub(crate) const BAD_SPAN: u32 = 107;
 
-/// A place lies within a character.
+/// An offset lies within a character.
 pub(crate) const NOT_BORDER: u32 = 108;
 
-/// The number of an error, which is not 0.
+/// Returns the number of an error, which is not 0.
 pub(crate) fn number(error: Error) -> u32
     ensures { result ≡ code_of error }
 {
@@ -106,7 +106,7 @@ pub(crate) fn number(error: Error) -> u32
     }
 }
 
-/// The error of a number.
+/// Returns the error of a number, if an error has it.
 pub(crate) fn of_number(code: u32) -> Option<Error>
     ensures known { IfSome result (λ e. code ≡ code_of e) }
     ensures unknown { IfNone result (1 ≤ code → code ≤ 58 → ⊥) }
@@ -174,7 +174,7 @@ pub(crate) fn of_number(code: u32) -> Option<Error>
     }
 }
 
-/// The text of a number, which is empty where no error has it.
+/// Returns the message of a number, or the empty text if no error has the number.
 pub(crate) fn text(code: u32) -> &'static str
     ensures text { (e : Fault) → code ≡ code_of e → result.now ≡ error_text e }
     ensures none { ((e : Fault) → code ≢ code_of e) → result.now ≡ [] }
@@ -185,7 +185,7 @@ pub(crate) fn text(code: u32) -> &'static str
     }
 }
 
-/// Copies as much of `text` as fits, and answers its length.
+/// Copies as many of the first bytes of `text` as fit into `buf`. Returns the length of `text`.
 pub(crate) fn put(text: &[u8], buf: &mut [u8]) -> usize
     ensures len { result ≡ length text.now }
     ensures put { buf.new ≡ take (length buf.old) text.now ++ drop (length text.now) buf.old }

@@ -1,4 +1,4 @@
-//! A regex that C holds.
+//! The handle of a regex that C holds.
 
 ghost use Rattle.std.specs.Prelude.{◌≡◌, MatchOption};
 ghost use Rattle.std.specs.declared.option.Option.{Option as Maybe};
@@ -13,7 +13,7 @@ use crate::held::Held;
 use std::alloc::Global;
 use std::marker::{Model, Send};
 
-/// What C holds between calls: the pointer of a regex, or null. C begins with null and never copies it.
+/// What C holds between calls: the pointer to a regex, or null. C begins with null and never copies it.
 #[repr(C)]
 pub struct Bites {
     at: *mut (),
@@ -25,11 +25,11 @@ impl Model for Bites {
     ghost also_owns = { λ h. holds the_row h.alloc h.at h.held };
 }
 
-// What it holds shares a program with its clones by a count that any thread may change.
+// A regex shares its program with its clones by a count that any thread may change.
 unsafe impl Send for Bites {}
 
 impl Bites {
-    /// A handle that holds none.
+    /// Returns a handle that holds nothing.
     pub(crate) fn empty(alloc: Global) -> Bites
         ensures { result.held ≡ None }
     {
@@ -39,7 +39,7 @@ impl Bites {
         }
     }
 
-    /// A handle of this regex.
+    /// Returns a handle that holds this regex.
     pub(crate) fn of(held: Box<Held, Global>) -> Bites
         ensures { result.held ≡ Some held.value }
     {
@@ -50,7 +50,7 @@ impl Bites {
         }
     }
 
-    /// The regex that it holds, if there is one.
+    /// Returns the regex that the handle holds, if it holds one.
     pub(crate) fn into_box(self) -> Option<Box<Held, Global>>
         ensures { MatchOption result (self.held ≡ None) (λ b. self.held ≡ Some b.value) }
     {
@@ -71,7 +71,7 @@ impl Drop for Bites {
     }
 }
 
-// Frees what a handle holds. It stands out of line, since a call puts what it took back into a handle that is empty.
+// Frees what a handle holds. It is out of line, since a call puts back what it took into a handle that is empty.
 #[cold]
 #[inline(never)]
 fn free(held: Box<Held, Global>) {

@@ -1,12 +1,13 @@
-//! The engine for C: a regex and the room for its searches are held by pointers between calls.
+//! The engine for C: handles hold a regex and a search cache by pointers between calls.
 //!
-//! A function that answers a `u32` answers one of the numbers of `c/bites.h`: 0 where what was asked is done, 100 and 101
-//! for a match and none, 1 to 57 for the messages of refused patterns, 58 for out of memory, and from 102 on what was
-//! wrong with the call.
+//! A function that returns a `u32` returns one of the numbers of `c/bites.h`: 0 if the call is done, 100 for a match,
+//! 101 for no match, 1 to 57 for the message that refuses a pattern, 58 for out of memory, and 102 to 108 for what was
+//! wrong with the call. A [`BitesSize`] has such a number as its code. Offsets and sizes of texts count bytes.
 //!
-//! Over texts, which the bit 256 of the flags asks for, each call that takes a haystack asks that it is UTF-8 and that the place
-//! where it starts is no place within a character, and answers 102 or 108 where that is not so. What a search of a text from
-//! such a place finds begins and ends at such places too, by the laws of `bites_spec` on texts.
+//! Bit 256 of the flags makes a regex over texts. Then each call with a haystack checks that the haystack is UTF-8,
+//! else it returns 102, and that the offset to start from isn't within a character, else it returns 108. A search of a
+//! text from such an offset finds matches that begin and end between characters too, by the laws of `bites_spec` on
+//! texts.
 #![tactic(auto)]
 
 ghost use Rattle.std.specs.Prelude.{◌≡◌, ◌≢◌, ◌↔◌, IsSomeAnd, IfSome, IsUtf8, length, option_map, unwrap_or, ⊤};
@@ -23,7 +24,7 @@ ghost use Rattle.bites_bytes.specs.Settings.{Refuses};
 ghost use Rattle.bites_c.specs.Codes.{code_of, done, not_utf8, empty_handle};
 ghost use Rattle.bites_c.specs.Made.{IsMadeBy};
 ghost use Rattle.bites_c.specs.Put.{Puts, PutsSpan, last_for_c};
-ghost use Rattle.bites_c.specs.Searched.{AnswersIf, AnswersPiece, AnswersPlace, AnswersSpan, FindsNext, PutsAnchoredCaptures, PutsCaptures, PutsNextCaptures, SearchedBehind, SearchedFrom};
+ghost use Rattle.bites_c.specs.Searched.{AnswersIf, AnswersPiece, AnswersPlace, AnswersSpan, FindsNext, PutsAnchoredCaptures, PutsCaptures, PutsNextCaptures, SearchedAfter, SearchedFrom};
 ghost use Rattle.bites_c.specs.Words.{asked, text_in};
 
 mod cache;
@@ -47,11 +48,14 @@ pub use span::BitesSpan;
 use std::alloc::Global;
 pub use text::BitesSize;
 
-/// Makes a regex of the pattern and puts it into `out`, instead of the one that it held.
+/// Compiles the pattern, and puts the regex into `out` instead of the one that it held.
 ///
-/// The bits 1, 2, 4, 8, 16 and 32 of `flags` set the flags i, m, s, R, U and x; under 64 searches answer the longest match,
-/// under 128 groups that the tree drops are kept, and under 256 its searches are over texts. Other bits say nothing. Where the
-/// answer is not 0, `out` holds none.
+/// The bits 1, 2, 4, 8, 16 and 32 of `flags` set the flags i, m, s, R, U and x. With bit 64 searches find the longest
+/// match, with bit 128 groups that the tree drops are kept, and with bit 256 searches are over texts. Other bits change
+/// nothing.
+///
+/// Returns 0, 1 to 57 for the message that refuses the pattern, 58 for out of memory, or 102 if the pattern is not
+/// UTF-8. Unless it returns 0, `out` holds nothing.
 #[unsafe(no_mangle)]
 pub extern "C" fn bites_new(
     alloc: Global,
@@ -87,9 +91,9 @@ pub extern "C" fn bites_free(alloc: Global, regex: &mut Bites)
     *regex = Bites::empty(alloc);
 }
 
-/// Makes `out` hold a regex that shares the program of `regex`, instead of the one that it held.
+/// Puts a regex that shares the program of `regex` into `out`, instead of the one that it held.
 ///
-/// The answer is 0, 58 for out of memory, or 103 where there is no regex; where it is not 0, `out` holds none.
+/// Returns 0, 58 for out of memory, or 103 if `regex` holds nothing. Unless it returns 0, `out` holds nothing.
 #[unsafe(no_mangle)]
 pub extern "C" fn bites_clone(alloc: Global, regex: &mut Bites, out: &mut Bites) -> u32
     ensures same { regex.new.held ≡ regex.old.held }
@@ -113,9 +117,9 @@ pub extern "C" fn bites_clone(alloc: Global, regex: &mut Bites, out: &mut Bites)
     }
 }
 
-/// Makes room for searches with the regex and puts it into `out`, instead of the one that it held.
+/// Makes a cache for searches with the regex, and puts it into `out` instead of the one that it held.
 ///
-/// The answer is 0, 58 for out of memory, or 103 where there is no regex; where it is not 0, `out` holds none.
+/// Returns 0, 58 for out of memory, or 103 if `regex` holds nothing. Unless it returns 0, `out` holds nothing.
 #[unsafe(no_mangle)]
 pub extern "C" fn bites_cache_new(alloc: Global, regex: &mut Bites, out: &mut BitesCache) -> u32
     ensures same { regex.new.held ≡ regex.old.held }
@@ -140,7 +144,7 @@ pub extern "C" fn bites_cache_new(alloc: Global, regex: &mut Bites, out: &mut Bi
     }
 }
 
-/// Frees the room, if there is some.
+/// Frees the cache, if there is one.
 #[unsafe(no_mangle)]
 pub extern "C" fn bites_cache_free(alloc: Global, cache: &mut BitesCache)
     ensures { cache.new.room ≡ None }
@@ -148,7 +152,7 @@ pub extern "C" fn bites_cache_free(alloc: Global, cache: &mut BitesCache)
     *cache = BitesCache::empty(alloc);
 }
 
-/// Whether the regex matches anywhere in the haystack. It takes no memory.
+/// Returns whether the regex matches anywhere in the haystack. It allocates nothing.
 #[unsafe(no_mangle)]
 pub extern "C" fn bites_is_match(
     alloc: Global,
@@ -164,7 +168,7 @@ pub extern "C" fn bites_is_match(
     bites_is_match_at(alloc, regex, cache, haystack, 0)
 }
 
-/// Whether the regex matches at some place from `start` on; past the end nothing matches. It takes no memory.
+/// Returns whether a match begins at or after `start`. Past the end nothing matches. It allocates nothing.
 #[unsafe(no_mangle)]
 pub extern "C" fn bites_is_match_at(
     alloc: Global,
@@ -188,8 +192,8 @@ pub extern "C" fn bites_is_match_at(
     }
 }
 
-/// The least end of any match that begins at a place from `start` on goes into `end`, which stays where there is none. It
-/// takes no memory.
+/// Puts the least end of any match that begins at or after `start` into `end`, which is unchanged if there is none. It
+/// allocates nothing.
 #[unsafe(no_mangle)]
 pub extern "C" fn bites_shortest_match_at(
     alloc: Global,
@@ -214,8 +218,8 @@ pub extern "C" fn bites_shortest_match_at(
     }
 }
 
-/// Where the first match from `start` on begins and ends goes into `out`, which stays where there is none. It takes no
-/// memory.
+/// Puts the span of the first match that begins at or after `start` into `out`, which is unchanged if there is none. It
+/// allocates nothing.
 #[unsafe(no_mangle)]
 pub extern "C" fn bites_find_at(
     alloc: Global,
@@ -241,8 +245,8 @@ pub extern "C" fn bites_find_at(
     }
 }
 
-/// Puts where the match that begins at `start` begins and ends into `out`, which is unchanged where there is none: the
-/// preferred one of these matches, or the longest. It takes no memory.
+/// Puts the span of the match that begins at `start` into `out`, which is unchanged if there is none. That is the
+/// preferred one of these matches, or with flag 64 the longest. It allocates nothing.
 #[unsafe(no_mangle)]
 pub extern "C" fn bites_find_anchored_at(
     alloc: Global,
@@ -268,7 +272,7 @@ pub extern "C" fn bites_find_anchored_at(
     }
 }
 
-/// Whether the regex matches the whole haystack, by any of its matches. It takes no memory.
+/// Returns whether any match of the regex is the whole haystack. It allocates nothing.
 #[unsafe(no_mangle)]
 pub extern "C" fn bites_is_full_match(
     alloc: Global,
@@ -291,11 +295,12 @@ pub extern "C" fn bites_is_full_match(
     }
 }
 
-/// Where the match begins and ends that is due behind one that ends at `last`, or the first of all where `last` is the
-/// greatest number, goes into `out`, which stays where there is none. It takes no memory.
+/// Puts the span of the next match after one that ends at `last` into `out`, or of the first match if `last` is the
+/// greatest number. `out` is unchanged if there is no such match. It allocates nothing.
 ///
-/// The search goes on at `last`; an empty match there is passed over, and it goes on one character later. Over texts the haystack
-/// is checked for the first match alone: behind a match only `last` is, and the caller had the haystack checked before.
+/// The search goes on at `last`. If it finds an empty match there, it skips that match and goes on one character later.
+/// Over texts only the call for the first match checks the haystack. A later call checks only `last`, and its caller
+/// passes the haystack that was checked.
 #[unsafe(no_mangle)]
 pub extern "C" fn bites_find_next(
     alloc: Global,
@@ -307,11 +312,11 @@ pub extern "C" fn bites_find_next(
 ) -> u32
     ensures same { regex.new.held ≡ regex.old.held }
     ensures fits { option_map (λ c. c.fits) cache.new.room ≡ option_map (λ c. c.fits) cache.old.room }
-    ensures answered { SearchedBehind haystack.now (last_for_c last) regex.old.held cache.old.room result (out.new ≡ out.old) (λ r.
+    ensures answered { SearchedAfter haystack.now (last_for_c last) regex.old.held cache.old.room result (out.new ≡ out.old) (λ r.
         AnswersSpan result out.old out.new (FindsNext r haystack.now (last_for_c last))) }
 {
     let last = span::last(last);
-    match search::begin_behind(alloc, regex, cache, haystack, last) {
+    match search::begin_after(alloc, regex, cache, haystack, last) {
         Ok(mut search) => {
             let found = search.next(haystack, last);
             search.end(regex, cache);
@@ -323,10 +328,10 @@ pub extern "C" fn bites_find_next(
 
 /// Puts the next piece of the haystack, as its matches split it, into `piece`.
 ///
-/// The piece begins at `last`, where the match before ended, or at the start of the haystack where `last` is the greatest
-/// number. The answer is 100 where the next match, the one that [`bites_find_next`] finds, ends the piece: `last` is then
-/// the end of that match. It is 101 where there is no next match: the piece is the last one, and `last` stays. It takes no
-/// memory.
+/// The piece begins at `last`, the end of the previous match, or at the start of the haystack if `last` is the greatest
+/// number. Returns 100 if [`bites_find_next`] finds a next match: the piece ends where that match begins, and `last`
+/// becomes the end of that match. Returns 101 if there is no next match: the piece is the last one, and `last` is
+/// unchanged. Otherwise both are unchanged. It allocates nothing.
 #[unsafe(no_mangle)]
 pub extern "C" fn bites_split_next(
     alloc: Global,
@@ -338,12 +343,12 @@ pub extern "C" fn bites_split_next(
 ) -> u32
     ensures same { regex.new.held ≡ regex.old.held }
     ensures fits { option_map (λ c. c.fits) cache.new.room ≡ option_map (λ c. c.fits) cache.old.room }
-    ensures answered { SearchedBehind haystack.now (last_for_c last.old) regex.old.held cache.old.room result
+    ensures answered { SearchedAfter haystack.now (last_for_c last.old) regex.old.held cache.old.room result
         ((last.new ≡ last.old) × (piece.new ≡ piece.old)) (λ r.
         AnswersPiece (length haystack.now) result last.old last.new piece.new (FindsNext r haystack.now (last_for_c last.old))) }
 {
     let before = span::last(*last);
-    match search::begin_behind(alloc, regex, cache, haystack, before) {
+    match search::begin_after(alloc, regex, cache, haystack, before) {
         Ok(mut search) => {
             let found = search.next(haystack, before);
             search.end(regex, cache);
@@ -353,10 +358,12 @@ pub extern "C" fn bites_split_next(
     }
 }
 
-/// The groups of the first match from `start` on go to the front of `groups`, which stays where there is no match: for each
-/// group where it began and ended last, or the greatest number twice where it took no part. It takes no memory.
+/// Puts the groups of the first match that begins at or after `start` into the first places of `groups`. That is for
+/// each group the span that it matched last, or the greatest number twice if it does not participate. It allocates
+/// nothing.
 ///
-/// The size is the number of groups; where `groups` has fewer places, the code is 105 and all stays.
+/// The size is the number of groups. If `groups` has fewer places, the code is 105. Unless the code is 100, `groups` is
+/// unchanged.
 #[unsafe(no_mangle)]
 pub extern "C" fn bites_captures_at(
     alloc: Global,
@@ -382,8 +389,8 @@ pub extern "C" fn bites_captures_at(
     }
 }
 
-/// Puts the groups of the match that [`bites_find_anchored_at`] finds at the front of `groups`, as [`bites_captures_at`] puts
-/// them. It takes no memory.
+/// Like [`bites_captures_at`], but puts the groups of the match that [`bites_find_anchored_at`] finds. It allocates
+/// nothing.
 #[unsafe(no_mangle)]
 pub extern "C" fn bites_captures_anchored_at(
     alloc: Global,
@@ -409,8 +416,7 @@ pub extern "C" fn bites_captures_anchored_at(
     }
 }
 
-/// The groups of the match that [`bites_find_next`] answers go to the front of `groups`, as [`bites_captures_at`] puts them.
-/// It takes no memory.
+/// Like [`bites_captures_at`], but puts the groups of the match that [`bites_find_next`] finds. It allocates nothing.
 #[unsafe(no_mangle)]
 pub extern "C" fn bites_captures_next(
     alloc: Global,
@@ -422,12 +428,12 @@ pub extern "C" fn bites_captures_next(
 ) -> BitesSize
     ensures same { regex.new.held ≡ regex.old.held }
     ensures fits { option_map (λ c. c.fits) cache.new.room ≡ option_map (λ c. c.fits) cache.old.room }
-    ensures answered { SearchedBehind haystack.now (last_for_c last) regex.old.held cache.old.room result.code
+    ensures answered { SearchedAfter haystack.now (last_for_c last) regex.old.held cache.old.room result.code
         ((result.size ≡ 0) × (groups.new ≡ groups.old)) (λ r. (result.size ≡ length r.names)
         × PutsNextCaptures r haystack.now (last_for_c last) result.code groups.old groups.new) }
 {
     let last = span::last(last);
-    match search::begin_behind(alloc, regex, cache, haystack, last) {
+    match search::begin_after(alloc, regex, cache, haystack, last) {
         Ok(mut search) => {
             let answer = search.captures_next(haystack, last, groups);
             search.end(regex, cache);
@@ -437,7 +443,7 @@ pub extern "C" fn bites_captures_next(
     }
 }
 
-/// Puts the place into `end`, if there is one.
+/// Puts the offset into `end`, if there is one.
 fn put_end(found: Option<usize>, end: &mut usize) -> u32
     ensures { Puts found result end.old end.new }
 {
@@ -450,7 +456,7 @@ fn put_end(found: Option<usize>, end: &mut usize) -> u32
     }
 }
 
-/// The number of groups, group 0 counted, and 0 where there is no regex.
+/// Returns the number of groups, with group 0, or 0 if there is no regex.
 #[unsafe(no_mangle)]
 pub extern "C" fn bites_captures_len(alloc: Global, regex: &mut Bites) -> usize
     ensures same { regex.new.held ≡ regex.old.held }
@@ -464,8 +470,8 @@ pub extern "C" fn bites_captures_len(alloc: Global, regex: &mut Bites) -> usize
     len
 }
 
-/// How many groups participate in every match, group 0 counted, and 0 where the form of the pattern does not say so or there
-/// is no regex.
+/// Returns a lower bound on the number of groups that participate in any match, with group 0. Returns 0 if the form of
+/// the pattern gives none, or if there is no regex.
 #[unsafe(no_mangle)]
 pub extern "C" fn bites_static_captures_len(alloc: Global, regex: &mut Bites) -> usize
     ensures same { regex.new.held ≡ regex.old.held }
@@ -480,7 +486,8 @@ pub extern "C" fn bites_static_captures_len(alloc: Global, regex: &mut Bites) ->
     len.unwrap_or(0)
 }
 
-/// The version of this library: 65536 times the major number, 256 times the minor one, and the patch number, added up.
+/// Returns the version of this library: 65536 times the major number plus 256 times the minor number plus the patch
+/// number.
 #[unsafe(no_mangle)]
 pub extern "C" fn bites_version() -> u32
     ensures { result ≡ 0x00_0106 }

@@ -19,7 +19,7 @@ use bites_bytes::bytes::{Regex, RegexBuilder};
 use bites_text::error::Error;
 use std::alloc::Global;
 
-/// A regex of the pattern, on the heap, or the number of the error.
+/// Compiles the pattern, and returns a handle of the regex. The error is the number for C.
 pub(crate) fn regex(
     alloc: Global,
     pattern: &[u8],
@@ -89,7 +89,7 @@ fn configured(
     Ok(builder)
 }
 
-/// A regex that shares the program of this one, on the heap, where memory suffices.
+/// Returns a handle of a regex that shares the program of this one, or `None` for out of memory.
 pub(crate) fn copy(alloc: Global, held: &Held) -> Option<Bites>
     ensures { IfSome result (λ b. b.held ≡ Some held.now) }
 {
@@ -103,7 +103,7 @@ pub(crate) fn copy(alloc: Global, held: &Held) -> Option<Bites>
     }
 }
 
-/// Room for searches with this regex, on the heap, where memory suffices.
+/// Returns a handle of room for searches with this regex, or `None` for out of memory.
 pub(crate) fn room(alloc: Global, regex: &Regex) -> Option<BitesCache>
     ensures { IfSome result (λ c. IsSomeAnd c.room (λ r. r.fits ≡ fit_of regex.now.program)) }
 {

@@ -1,4 +1,4 @@
-//! Haystacks with their matches replaced, and what templates stand for, written into what the caller gave.
+//! Haystacks with their matches replaced, and what templates stand for, written into the caller's memory.
 
 ghost use Rattle.std.specs.Prelude.{◌≡◌, ◌≤◌, ℕ, All, IfNone, IfOk, IfSome, IsTrue, List, MatchBool, length, option_map};
 ghost use Rattle.bites_spec.specs.Captured.{Captured};
@@ -20,7 +20,8 @@ use bites_bytes::bytes::Regex;
 use bites_machine::interpolate;
 use std::alloc::{AllocError, Global};
 
-/// Puts the haystack with its matches replaced at the front, if something was replaced.
+/// Puts the haystack with its matches replaced into the first bytes of `out`, if something was replaced and it fits.
+/// `len` is the length of the haystack.
 pub(crate) fn put_replaced(
     replaced: Result<Option<Vec<u8>>, AllocError>,
     len: usize,
@@ -39,7 +40,7 @@ pub(crate) fn put_replaced(
     }
 }
 
-/// Puts at the front what the template stands for by these groups, if nothing is wrong with them.
+/// Puts what the template stands for by these groups into the first bytes of `out`, if nothing is refused and it fits.
 pub(crate) fn put_expanded(
     alloc: Global,
     held: &Held,
@@ -64,7 +65,7 @@ pub(crate) fn put_expanded(
     }
 }
 
-// What is wrong with the groups, or over texts with the haystack or the template, if something is.
+// Returns the number that refuses the groups, or over texts the haystack or the template, if something is refused.
 fn fault_of(is_text: bool, haystack: &[u8], groups: &[BitesSpan], template: &[u8]) -> Option<u32>
     ensures fine { IfNone result ((IsTrue is_text → AreUtf8 haystack.now template.now × All (LiesAtBorders haystack.now) groups.now)
         × All (LiesWithin (length haystack.now)) groups.now) }
@@ -83,7 +84,7 @@ fn fault_of(is_text: bool, haystack: &[u8], groups: &[BitesSpan], template: &[u8
     None
 }
 
-// Whether each group lies in the haystack.
+// Returns whether each group lies in the haystack or does not participate.
 fn lie_within(haystack: &[u8], groups: &[BitesSpan]) -> bool
     ensures { MatchBool result (All (LiesWithin (length haystack.now)) groups.now)
         (All (LiesWithin (length haystack.now)) groups.now → ⊥) }
@@ -91,7 +92,7 @@ fn lie_within(haystack: &[u8], groups: &[BitesSpan]) -> bool
     groups.iter().all(|group| group.lies_within(haystack))
 }
 
-// Whether each group has borders.
+// Returns whether no group begins or ends within a character.
 fn have_borders(haystack: &[u8], groups: &[BitesSpan]) -> bool
     ensures { MatchBool result (All (LiesAtBorders haystack.now) groups.now)
         (All (LiesAtBorders haystack.now) groups.now → ⊥) }
@@ -99,7 +100,7 @@ fn have_borders(haystack: &[u8], groups: &[BitesSpan]) -> bool
     groups.iter().all(|group| group.has_borders(haystack))
 }
 
-// Appends what the template stands for.
+// Appends what the template stands for by these groups.
 fn expand(
     regex: &Regex,
     haystack: &[u8],
@@ -119,7 +120,7 @@ fn expand(
     )
 }
 
-// What the group of this number matched, if it took part.
+// Returns what the group of this number matched, if it participated.
 fn text_of<'h>(haystack: &'h [u8], groups: &[BitesSpan], group: usize) -> Option<&'h [u8]>
     requires { All (LiesWithin (length haystack.now)) groups.now }
     ensures { answer_text result ≡ option_map (text_at haystack.now) (group_from_c groups.now group) }
@@ -130,7 +131,7 @@ fn text_of<'h>(haystack: &'h [u8], groups: &[BitesSpan], group: usize) -> Option
     }
 }
 
-// Where the group of this number begins and ends, in a haystack of so many bytes.
+// Returns the span of the group of this number, if it participated. `len` is the length of the haystack.
 fn ends_of(groups: &[BitesSpan], group: usize, len: usize) -> Option<(usize, usize)>
     requires { All (LiesWithin len) groups.now }
     ensures ends { option_map (λ s. span s.0 s.1) result ≡ group_from_c groups.now group }

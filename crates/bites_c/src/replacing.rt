@@ -21,16 +21,16 @@ use bites_bytes::replace_limit::{bound, spend};
 use bites_machine::interpolate;
 use std::alloc::{AllocError, Global};
 
-/// How many bytes longer than what is read a text may get before it is moved. That is enough for most short texts.
+/// How many bytes a text has room for beyond the length of what it is made from. That is enough for most short texts.
 pub(crate) const GROWTH: usize = 32;
 
-/// The haystack up to the end of the last match that was replaced, with the new texts.
+/// The haystack up to the end of the last match that was replaced, with the matches replaced.
 #[derive(Drop)]
 pub(crate) struct Replacing<'h> {
     haystack: &'h [u8],
-    // Where the last match that was replaced ends, if one was.
+    // The end of the last match that was replaced, if there was one.
     last: Option<usize>,
-    // How many matches may still be replaced; None for all.
+    // How many matches may still be replaced, or None for all.
     left: Option<usize>,
     out: Vec<u8>,
     pub ghost within: { ForSome last (λ e. e ≤ length haystack.now) },
@@ -39,7 +39,7 @@ pub(crate) struct Replacing<'h> {
 impl<'h> Replacing<'h> {
     ghost use Rattle.bites_c.specs.Replacing.{Ends, IsFresh, Steps, Writes, captures_left, spans_left};
 
-    // Nothing is replaced yet; at most `limit` matches may be, or all for 0.
+    // Begins with nothing replaced. At most `limit` matches will be, or all for 0.
     fn new(alloc: Global, haystack: &'h [u8], limit: usize) -> Replacing<'h>
         ensures { IsFresh haystack.now limit result }
     {
@@ -51,7 +51,7 @@ impl<'h> Replacing<'h> {
         }
     }
 
-    // Copies what stands before a match, and goes on behind it.
+    // Copies what stands before a match, and goes on after the match.
     fn keep_up_to(&mut self, start: usize, end: usize) -> Result<(), AllocError>
         requires order { unwrap_or self.old.last 0 ≤ start }
         requires lies { (start ≤ end) × (end ≤ length self.old.haystack.now) }
@@ -67,7 +67,7 @@ impl<'h> Replacing<'h> {
         Ok(())
     }
 
-    // Replaces the next match by the text, if one more is to be replaced.
+    // Replaces the next match by the text, if there is one and the limit allows it. Returns whether it did.
     fn step_by_text(
         &mut self,
         regex: &Regex,
@@ -90,7 +90,7 @@ impl<'h> Replacing<'h> {
         Ok(true)
     }
 
-    // Replaces each match by the text.
+    // Replaces each match by the text, up to the limit.
     fn by_text(&mut self, regex: &Regex, room: &mut Room, text: &[u8]) -> Result<(), AllocError>
         requires { room.old.fits ≡ fit_of regex.now.program }
         ensures ends { OnOk result (Ends (spans_left regex.now) (λ s. s) (λ s. text.now) self.old self.new) }
@@ -100,7 +100,7 @@ impl<'h> Replacing<'h> {
         Ok(())
     }
 
-    // Replaces the next match by what the template stands for, if one more is to be replaced.
+    // Like `step_by_text`, but replaces the match by what the template stands for.
     fn step_by_template(
         &mut self,
         regex: &Regex,
@@ -126,7 +126,7 @@ impl<'h> Replacing<'h> {
         Ok(true)
     }
 
-    /// Replaces each match by what the template stands for.
+    /// Replaces each match by what the template stands for, up to the limit.
     pub(crate) fn by_template(
         &mut self,
         regex: &Regex,
@@ -145,7 +145,7 @@ impl<'h> Replacing<'h> {
         Ok(())
     }
 
-    // What is written, with the rest of the haystack; None where nothing was replaced.
+    // Returns what is written, with the rest of the haystack, or None if nothing was replaced.
     fn finish(self) -> Result<Option<Vec<u8>>, AllocError>
         ensures { IfOk result (λ o. MatchOption o (self.entry.last ≡ None) (λ v. IsSome self.entry.last
             × (v.items ≡ self.entry.out.items ++ drop (unwrap_or self.entry.last 0) self.entry.haystack.now))) }
@@ -159,8 +159,8 @@ impl<'h> Replacing<'h> {
     }
 }
 
-/// The haystack with at most `limit` of its matches, or all for 0, replaced by the text; None where nothing matches. The error
-/// is out of memory.
+/// Returns the haystack with its first `limit` matches, or all for 0, replaced by the text, or None if nothing matches.
+/// The error is out of memory.
 pub(crate) fn with_text(
     alloc: Global,
     regex: &Regex,
@@ -174,14 +174,14 @@ pub(crate) fn with_text(
         (with_text regex.now haystack.now limit text.now)) }
     ensures fits { room.new.fits ≡ room.old.fits }
 {
-    // What every regex is: its captures have the spans of its matches.
+    // The proof takes from here that the regex is compiled: its captures have the spans of its matches.
     let _pattern = regex.as_str();
     let mut replacing = Replacing::new(alloc, haystack, limit);
     replacing.by_text(regex, room, text)?;
     replacing.finish()
 }
 
-/// The same, replaced by what the template stands for.
+/// Like [`with_text`], but each match is replaced by what the template stands for.
 pub(crate) fn with_template(
     alloc: Global,
     regex: &Regex,
@@ -204,7 +204,7 @@ pub(crate) fn with_template(
     replacing.finish()
 }
 
-// Whether the text holds no `$`.
+// Returns whether the text contains no `$`.
 fn is_plain(text: &[u8]) -> bool
     ensures { result ≡ is_plain text.now }
 {
@@ -231,7 +231,7 @@ fn expand(
     )
 }
 
-// What the group of this number matched, if it took part.
+// Returns what the group of this number matched, if it participated.
 fn text_of<'h>(
     regex: &Regex,
     haystack: &'h [u8],

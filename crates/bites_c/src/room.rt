@@ -1,4 +1,4 @@
-//! The room for searches, which C holds.
+//! The memory for searches that a cache handle holds.
 
 ghost use Rattle.std.specs.Prelude.{◌≡◌, ◌≤◌, ◌<◌, ◌+◌, ◌/◌, ◌^◌, ◌↔◌, if◌then◌else◌, IfOk, IfSome, IsSome, IsSomeAnd, IsTrue, None, OnOk, Some, is_some, length, option_map, unwrap_or};
 ghost use Rattle.bites_spec.specs.Counts.{fit_of};
@@ -12,7 +12,7 @@ ghost use Rattle.bites_spec.specs.Replacer.{expanded};
 ghost use Rattle.bites_spec.specs.Spans.{LiesFrom, is_empty_at};
 ghost use Rattle.bites_spec.specs.Utf8.{step_len};
 ghost use Rattle.bites_c.specs.Codes.{matched, not_matched};
-ghost use Rattle.bites_c.specs.Put.{HasFront, PutsGroups};
+ghost use Rattle.bites_c.specs.Put.{HasPrefix, PutsGroups};
 ghost use Rattle.bites_c.specs.Replacing.{Ends, captures_left};
 ghost use Rattle.bites_c.specs.Searched.{FindsNext, FindsNextGroups, PutsFound};
 
@@ -23,8 +23,8 @@ use bites_text::utf8::decode_lossy;
 use std::alloc::AllocError;
 use std::marker::Model;
 
-/// The room that a regex's searches and its groups take. A contract sees which regexes it fits, and what the last search
-/// did.
+/// The memory for a regex's searches and for its groups. A contract sees which regexes it fits, and what the last
+/// search did.
 #[derive(Drop)]
 pub struct Room {
     cache: Cache,
@@ -43,7 +43,7 @@ impl Model for Room {
 }
 
 impl Room {
-    /// The room for searches with this regex. The error is that memory ran out.
+    /// Makes room for searches with this regex. The error is out of memory.
     pub(crate) fn new(regex: &Regex) -> Result<Room, AllocError>
         ensures { IfOk result (λ c. c.fits ≡ fit_of regex.now.program) }
     {
@@ -53,14 +53,14 @@ impl Room {
         })
     }
 
-    /// Whether it is room for searches with this regex.
+    /// Returns whether searches with this regex may use this room.
     pub(crate) fn fits(&self, regex: &Regex) -> bool
         ensures { IsTrue result ↔ (self.now.fits ≡ fit_of regex.now.program) }
     {
         self.cache.fits(regex)
     }
 
-    /// Whether the pattern matches at some place from `start` on.
+    /// Returns whether a match begins at or after `start`.
     pub(crate) fn is_match(&mut self, regex: &Regex, haystack: &[u8], start: usize) -> bool
         requires { self.old.fits ≡ fit_of regex.now.program }
         ensures found { IsTrue result ↔ HasMatch regex.now.tree haystack.now start }
@@ -69,7 +69,7 @@ impl Room {
         regex.is_match_at_with(&mut self.cache, haystack, start)
     }
 
-    /// The least end of any match that begins at a place from `start` on.
+    /// Returns the least end of any match that begins at or after `start`.
     pub(crate) fn shortest(&mut self, regex: &Regex, haystack: &[u8], start: usize) -> Option<usize>
         requires { self.old.fits ≡ fit_of regex.now.program }
         ensures least { IsLeastEnd regex.now.tree haystack.now start result }
@@ -78,7 +78,7 @@ impl Room {
         regex.shortest_match_at_with(&mut self.cache, haystack, start)
     }
 
-    /// Where the first match from `start` on begins and ends.
+    /// Returns the span of the first match that begins at or after `start`.
     #[inline(always)]
     pub(crate) fn find(
         &mut self,
@@ -99,7 +99,7 @@ impl Room {
         }
     }
 
-    /// Where the match that begins at `start` begins and ends.
+    /// Returns the span of the match that begins at `start`.
     pub(crate) fn find_anchored(
         &mut self,
         regex: &Regex,
@@ -117,7 +117,7 @@ impl Room {
         }
     }
 
-    /// Whether the pattern matches the whole haystack.
+    /// Returns whether the pattern matches the whole haystack.
     pub(crate) fn is_full_match(&mut self, regex: &Regex, haystack: &[u8]) -> bool
         requires { self.old.fits ≡ fit_of regex.now.program }
         ensures found { IsTrue result ↔ IsFullMatch regex.now.tree haystack.now }
@@ -126,7 +126,7 @@ impl Room {
         regex.is_full_match_with(&mut self.cache, haystack)
     }
 
-    /// Where the match begins and ends that is due behind one that ends at `last`, or the first of all.
+    /// Returns the span of the next match after one that ends at `last`, or of the first match.
     #[inline(always)]
     pub(crate) fn next(
         &mut self,
@@ -139,16 +139,21 @@ impl Room {
         ensures lies { IfSome result (λ s. LiesFrom (length haystack.now) (unwrap_or last 0) (span s.0 s.1)) }
         ensures fits { self.new.fits ≡ self.old.fits }
     {
-        // What every regex is: what its program answers lies in the haystack.
+        // The proof takes from here that the regex is compiled: what its program finds lies in the haystack.
         let _pattern = regex.as_str();
         match last {
-            Some(end) => self.next_behind(regex, haystack, end),
+            Some(end) => self.next_match_after(regex, haystack, end),
             None => self.find(regex, haystack, 0),
         }
     }
 
-    // Where the match begins and ends that is due behind one that ends at `last`.
-    fn next_behind(&mut self, regex: &Regex, haystack: &[u8], last: usize) -> Option<(usize, usize)>
+    // Returns the span of the next match after one that ends at `last`.
+    fn next_match_after(
+        &mut self,
+        regex: &Regex,
+        haystack: &[u8],
+        last: usize,
+    ) -> Option<(usize, usize)>
         requires { self.old.fits ≡ fit_of regex.now.program }
         ensures next { FindsNext regex.now haystack.now (Some last) (option_map (λ s. span s.0 s.1) result) }
         ensures lies { IfSome result (λ s. LiesFrom (length haystack.now) last (span s.0 s.1)) }
@@ -163,7 +168,8 @@ impl Room {
         self.find(regex, haystack, last + step)
     }
 
-    /// Puts the groups of the first match from `start` on at the front of `groups`, if there is a match.
+    /// Puts the groups of the first match that begins at or after `start` into the first places of `groups`. Returns
+    /// whether there is a match.
     pub(crate) fn captures(
         &mut self,
         regex: &Regex,
@@ -179,8 +185,8 @@ impl Room {
         ensures len { length groups.new ≡ length groups.old }
         ensures same { self.new.fits ≡ self.old.fits }
     {
-        // What every regex is, and what then holds of the slots that its program answers: they are those of the groups, and
-        // its tree finds them.
+        // The proof takes from here that the regex is compiled, and two laws on the slots that its program finds: the
+        // tree finds them too, and they are those of the groups.
         let _pattern = regex.as_str();
         bites_spec::slots_are_found();
         bites_spec::slots_are_groups();
@@ -196,7 +202,7 @@ impl Room {
         true
     }
 
-    /// The same with the groups of the match that begins at `start`.
+    /// Like [`captures`](Self::captures), but for the match that begins at `start`.
     pub(crate) fn captures_anchored(
         &mut self,
         regex: &Regex,
@@ -227,7 +233,7 @@ impl Room {
         true
     }
 
-    /// The same with the groups of the match that is due behind one that ends at `last`, or of the first of all.
+    /// Like [`captures`](Self::captures), but for the next match after one that ends at `last`, or for the first match.
     pub(crate) fn captures_next(
         &mut self,
         regex: &Regex,
@@ -251,7 +257,7 @@ impl Room {
         true
     }
 
-    /// Replaces each match that is left by what the template stands for.
+    /// Replaces each match that is left by what the template stands for. The error is out of memory.
     pub(crate) fn replace(
         &mut self,
         regex: &Regex,
@@ -267,7 +273,7 @@ impl Room {
     }
 }
 
-// Reads the groups of the first match from `start` on, and answers where it begins and ends.
+// Writes the groups of the first match that begins at or after `start` to `locations`. Returns the span of that match.
 fn read(
     regex: &Regex,
     cache: &mut Cache,
@@ -292,8 +298,8 @@ fn read(
     }
 }
 
-/// Reads the groups of the match that is due behind one that ends at `last`, or of the first of all, and answers where it begins
-/// and ends, if there is one.
+/// Writes the groups of the next match after one that ends at `last`, or of the first match, to `locations`. Returns
+/// the span of that match, if there is one.
 pub(crate) fn read_next(
     regex: &Regex,
     cache: &mut Cache,
@@ -322,7 +328,7 @@ pub(crate) fn read_next(
     read(regex, cache, locations, haystack, end + step)
 }
 
-// Whether the two places are both this one.
+// Returns whether an empty match was found at this offset.
 fn is_empty_at(found: Option<(usize, usize)>, place: usize) -> bool
     ensures empty { result ≡ is_empty_at (λ s. s) place (option_map (λ s. span s.0 s.1) found) }
     ensures ends { IsTrue result → IsSomeAnd found (λ s. s.1 ≡ place) }
@@ -333,7 +339,7 @@ fn is_empty_at(found: Option<(usize, usize)>, place: usize) -> bool
     }
 }
 
-// How far it is to the next place: over the piece that stands here, or one byte at the end of the haystack.
+// Returns the length in bytes of the character or the invalid sequence at this offset, or 1 at the end of the haystack.
 #[tactic(auto, unfolding(bites_spec::specs::Utf8::piece))]
 fn step_at(haystack: &[u8], place: usize) -> usize
     requires { place ≤ length haystack.now }
@@ -344,10 +350,10 @@ fn step_at(haystack: &[u8], place: usize) -> usize
     len.max(1)
 }
 
-// Puts the groups at the front.
+// Puts the groups into the first places of `groups`.
 fn put_groups(locations: &CaptureLocations, groups: &mut [BitesSpan])
     requires { length locations.now / 2 ≤ length groups.old }
-    ensures put { HasFront locations.now (length locations.now / 2) groups.old groups.new }
+    ensures put { HasPrefix locations.now (length locations.now / 2) groups.old groups.new }
     ensures len { length groups.new ≡ length groups.old }
 {
     for group in 0..locations.len() {

@@ -1,4 +1,4 @@
-//! A search by two handles: their objects are taken out, used, and put back.
+//! A search with two handles: it takes out what they hold, uses it, and puts it back.
 
 ghost use Rattle.std.specs.Prelude.{◌≡◌, ◌↔◌, IsTrue, IsUtf8, IfOk, IfErr, MatchOption, OnErr, length, option_map, ⊤};
 ghost use Rattle.std.specs.declared.option.Option.TheVariants.{Some};
@@ -11,7 +11,7 @@ ghost use Rattle.bites_spec.specs.Match.{span};
 ghost use Rattle.bites_spec.specs.Regex.{span_at};
 ghost use Rattle.bites_c.specs.Put.{PutsReplaced};
 ghost use Rattle.bites_c.specs.Replaced.{with_template, with_text};
-ghost use Rattle.bites_c.specs.Searched.{FindsNext, Lacks, PutsAnchoredCaptures, PutsCaptures, PutsNextCaptures, SearchedBehind, SearchedFrom, SearchedOver};
+ghost use Rattle.bites_c.specs.Searched.{FindsNext, Lacks, PutsAnchoredCaptures, PutsCaptures, PutsNextCaptures, SearchedAfter, SearchedFrom, SearchedOver};
 ghost use Rattle.bites_c.specs.Texts.{AreUtf8, IsBorder};
 
 use crate::cache::BitesCache;
@@ -23,7 +23,7 @@ use crate::replacing;
 use crate::room::Room;
 use crate::span::BitesSpan;
 use crate::text::BitesSize;
-use crate::texts::{fault_behind, fault_from, refuses};
+use crate::texts::{fault_after, fault_from, refuses};
 use std::alloc::Global;
 
 /// A regex and room that fits it, while a search runs.
@@ -34,7 +34,8 @@ pub(crate) struct Search {
     pub ghost fits: { room.value.fits ≡ fit_of held.value.regex.program },
 }
 
-/// Takes out what the handles hold, if both hold something and the room fits. Else both stay as they were.
+/// Takes out what the handles hold, if both hold something and the room fits the regex. Else both are unchanged, and
+/// the error is the number for C.
 #[inline(always)]
 pub(crate) fn begin(alloc: Global, regex: &mut Bites, cache: &mut BitesCache) -> Result<Search, u32>
     ensures taken { IfOk result (λ s. (regex.old.held ≡ Some s.held.value)
@@ -58,7 +59,8 @@ pub(crate) fn begin(alloc: Global, regex: &mut Bites, cache: &mut BitesCache) ->
     Ok(Search { held, room })
 }
 
-/// [`begin`] for a search from `start` on. Where the regex refuses the haystack or the start, both handles stay too.
+/// Like [`begin`], but for a search from `start` on. Both handles are also unchanged if the regex refuses the haystack
+/// or the start.
 #[inline(always)]
 pub(crate) fn begin_from(
     alloc: Global,
@@ -86,10 +88,10 @@ pub(crate) fn begin_from(
     }
 }
 
-/// [`begin`] for a search that goes on behind a match that ends at `last`, or begins at the first of all. Where the regex
-/// refuses the haystack or the place, both handles stay too.
+/// Like [`begin`], but for the next match after one that ends at `last`, or for the first match. Both handles are also
+/// unchanged if the regex refuses the haystack or the offset.
 #[inline(always)]
-pub(crate) fn begin_behind(
+pub(crate) fn begin_after(
     alloc: Global,
     regex: &mut Bites,
     cache: &mut BitesCache,
@@ -101,12 +103,12 @@ pub(crate) fn begin_behind(
     ensures asked { IfOk result (λ s. IsTrue s.held.value.is_text →
         MatchOption last (IsUtf8 haystack.now) (IsBorder haystack.now)) }
     ensures refused { IfErr result (λ n.
-        SearchedBehind haystack.now last regex.old.held cache.old.room n ⊤ (λ _. ⊥)) }
+        SearchedAfter haystack.now last regex.old.held cache.old.room n ⊤ (λ _. ⊥)) }
     ensures regex { OnErr result (regex.new.held ≡ regex.old.held) }
     ensures room { OnErr result (cache.new.room ≡ cache.old.room) }
 {
     let search = begin(alloc, regex, cache)?;
-    match fault_behind(search.held.is_text, haystack, last) {
+    match fault_after(search.held.is_text, haystack, last) {
         Some(code) => {
             search.end(regex, cache);
             Err(code)
@@ -115,8 +117,8 @@ pub(crate) fn begin_behind(
     }
 }
 
-/// [`begin`] for all matches in the haystack, with another text beside it. Where the regex refuses one of them, both handles
-/// stay too.
+/// Like [`begin`], but for all matches in the haystack, with a replacement text or template. Both handles are also
+/// unchanged if the regex refuses one of the two.
 #[inline(always)]
 pub(crate) fn begin_over(
     alloc: Global,
@@ -142,7 +144,7 @@ pub(crate) fn begin_over(
 }
 
 impl Search {
-    /// Whether the pattern matches at some place from `start` on.
+    /// Returns whether a match begins at or after `start`.
     pub(crate) fn is_match(&mut self, haystack: &[u8], start: usize) -> bool
         ensures found { IsTrue result ↔ HasMatch self.old.held.value.regex.tree haystack.now start }
         ensures held { self.new.held.value ≡ self.old.held.value }
@@ -151,7 +153,7 @@ impl Search {
         self.room.is_match(&self.held.regex, haystack, start)
     }
 
-    /// The least end of any match that begins at a place from `start` on.
+    /// Returns the least end of any match that begins at or after `start`.
     pub(crate) fn shortest(&mut self, haystack: &[u8], start: usize) -> Option<usize>
         ensures least { IsLeastEnd self.old.held.value.regex.tree haystack.now start result }
         ensures held { self.new.held.value ≡ self.old.held.value }
@@ -160,7 +162,7 @@ impl Search {
         self.room.shortest(&self.held.regex, haystack, start)
     }
 
-    /// Where the first match from `start` on begins and ends.
+    /// Returns the span of the first match that begins at or after `start`.
     pub(crate) fn find(&mut self, haystack: &[u8], start: usize) -> Option<(usize, usize)>
         ensures found { option_map (λ s. span s.0 s.1) result
             ≡ span_at self.old.held.value.regex haystack.now start }
@@ -172,7 +174,7 @@ impl Search {
         self.room.find(&self.held.regex, haystack, start)
     }
 
-    /// Where the match that begins at `start` begins and ends.
+    /// Returns the span of the match that begins at `start`.
     pub(crate) fn find_anchored(&mut self, haystack: &[u8], start: usize) -> Option<(usize, usize)>
         ensures found { option_map (λ s. span s.0 s.1) result
             ≡ anchored_span_at self.old.held.value.regex haystack.now start }
@@ -184,7 +186,7 @@ impl Search {
         self.room.find_anchored(&self.held.regex, haystack, start)
     }
 
-    /// Whether the pattern matches the whole haystack.
+    /// Returns whether the pattern matches the whole haystack.
     pub(crate) fn is_full_match(&mut self, haystack: &[u8]) -> bool
         ensures found { IsTrue result ↔ IsFullMatch self.old.held.value.regex.tree haystack.now }
         ensures held { self.new.held.value ≡ self.old.held.value }
@@ -193,7 +195,7 @@ impl Search {
         self.room.is_full_match(&self.held.regex, haystack)
     }
 
-    /// Where the match begins and ends that is due behind one that ends at `last`, or the first of all.
+    /// Returns the span of the next match after one that ends at `last`, or of the first match.
     pub(crate) fn next(&mut self, haystack: &[u8], last: Option<usize>) -> Option<(usize, usize)>
         ensures next { FindsNext self.old.held.value.regex haystack.now last (option_map (λ s. span s.0 s.1) result) }
         ensures held { self.new.held.value ≡ self.old.held.value }
@@ -202,8 +204,8 @@ impl Search {
         self.room.next(&self.held.regex, haystack, last)
     }
 
-    /// Puts the groups of the first match from `start` on at the front of `groups`, if it has a place for each group and
-    /// there is a match.
+    /// Puts the groups of the first match that begins at or after `start` into the first places of `groups`, if there
+    /// is a match and a place for each group. The size is the number of groups.
     pub(crate) fn captures(
         &mut self,
         haystack: &[u8],
@@ -231,7 +233,7 @@ impl Search {
         }
     }
 
-    /// The same with the groups of the match that begins at `start`.
+    /// Like [`captures`](Self::captures), but for the match that begins at `start`.
     pub(crate) fn captures_anchored(
         &mut self,
         haystack: &[u8],
@@ -259,7 +261,7 @@ impl Search {
         }
     }
 
-    /// The same with the groups of the match that is due behind one that ends at `last`, or of the first of all.
+    /// Like [`captures`](Self::captures), but for the next match after one that ends at `last`, or for the first match.
     pub(crate) fn captures_next(
         &mut self,
         haystack: &[u8],
@@ -287,8 +289,8 @@ impl Search {
         }
     }
 
-    /// Puts the haystack with at most `limit` of its matches, or all for 0, replaced by what the template stands for at the front
-    /// of `out`, if there is a match.
+    /// Puts the haystack, with its first `limit` matches, or all for 0, replaced by what the template stands for, into
+    /// the first bytes of `out`, if there is a match and the text fits.
     pub(crate) fn replace(
         &mut self,
         alloc: Global,
@@ -314,7 +316,7 @@ impl Search {
         put_replaced(made, haystack.len(), out)
     }
 
-    /// The same with a text instead of the template.
+    /// Like [`replace`](Self::replace), but each match is replaced by the text.
     pub(crate) fn replace_literal(
         &mut self,
         alloc: Global,
@@ -333,7 +335,7 @@ impl Search {
         put_replaced(made, haystack.len(), out)
     }
 
-    /// Puts back what was taken.
+    /// Puts back what was taken out of the handles.
     #[inline(always)]
     pub(crate) fn end(self, regex: &mut Bites, cache: &mut BitesCache)
         ensures regex { regex.new.held ≡ Some self.held.value }

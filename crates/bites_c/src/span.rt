@@ -1,4 +1,4 @@
-//! Where a match or a group begins and ends, as C reads it.
+//! The span of a match or of a group, as C reads it.
 
 ghost use Rattle.std.specs.Prelude.{◌≡◌, ◌↔◌, IsTrue, length, option_map};
 ghost use Rattle.bites_spec.specs.Match.{span};
@@ -9,7 +9,7 @@ ghost use Rattle.bites_c.specs.Texts.{LiesAtBorders};
 use crate::codes::{MATCH, NO_MATCH};
 use crate::texts::is_border;
 
-/// Two places, in bytes from the start of the haystack; both are the greatest number where a group took no part.
+/// Two offsets, in bytes from the start of the haystack. Both are the greatest number if a group does not participate.
 #[repr(C)]
 #[derive(Clone, Copy)]
 pub struct BitesSpan {
@@ -18,7 +18,7 @@ pub struct BitesSpan {
 }
 
 impl BitesSpan {
-    /// These two places, or the greatest number twice.
+    /// Returns the span of these two offsets, or the greatest number twice.
     pub(crate) fn of(ends: Option<(usize, usize)>) -> BitesSpan
         ensures { result ≡ span_for_c (option_map (λ s. span s.0 s.1) ends) }
     {
@@ -31,7 +31,7 @@ impl BitesSpan {
         }
     }
 
-    /// Where it begins and ends, but for the greatest number twice.
+    /// Returns the two offsets, or `None` for the greatest number twice.
     pub(crate) fn ends(self) -> Option<(usize, usize)>
         ensures { option_map (λ s. span s.0 s.1) result ≡ span_from_c self }
     {
@@ -42,7 +42,7 @@ impl BitesSpan {
         }
     }
 
-    /// Whether it lies in the haystack, or is the greatest number twice.
+    /// Returns whether the span lies in the haystack, or is the greatest number twice.
     pub(crate) fn lies_within(self, haystack: &[u8]) -> bool
         ensures { IsTrue result ↔ LiesWithin (length haystack.now) self }
     {
@@ -52,7 +52,7 @@ impl BitesSpan {
         }
     }
 
-    /// Whether no character goes on where it begins or ends, or it is the greatest number twice.
+    /// Returns whether the span neither begins nor ends within a character, or is the greatest number twice.
     pub(crate) fn has_borders(self, haystack: &[u8]) -> bool
         ensures { IsTrue result ↔ LiesAtBorders haystack.now self }
     {
@@ -63,14 +63,14 @@ impl BitesSpan {
     }
 }
 
-/// Where the match before ended, if there was one.
+/// Returns the end of the previous match, if there was one.
 pub(crate) fn last(end: usize) -> Option<usize>
     ensures { result ≡ last_for_c end }
 {
     if end == usize::MAX { None } else { Some(end) }
 }
 
-/// Puts the span into `out`, if there is one.
+/// Puts the span into `out`, if there is one. Returns the number for C.
 pub(crate) fn put(found: Option<(usize, usize)>, out: &mut BitesSpan) -> u32
     ensures { PutsSpan (option_map (λ s. span s.0 s.1) found) result out.old out.new }
 {
@@ -83,9 +83,9 @@ pub(crate) fn put(found: Option<(usize, usize)>, out: &mut BitesSpan) -> u32
     }
 }
 
-/// Puts the piece up to the span into `piece`, and where the span ends into `last`; where there is none, the piece goes to the
-/// end of the haystack, and `last` stays. The piece begins where the match before ended, if there was one, and no later than
-/// at the end of the haystack.
+/// Puts the piece before the span into `piece`, and the end of the span into `last`. If there is no span, the piece
+/// goes up to the end of the haystack, and `last` is unchanged. The piece begins at the end of the previous match, or
+/// at 0 if there was none, and no later than at the end of the haystack.
 pub(crate) fn put_piece(
     found: Option<(usize, usize)>,
     len: usize,

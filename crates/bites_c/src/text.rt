@@ -1,11 +1,11 @@
-//! Texts that are written into what the caller gave.
+//! Texts that are written into the caller's memory.
 
 ghost use Rattle.std.specs.Prelude.{◌≡◌, IsUtf8, option_map, slice_index_or};
 ghost use Rattle.std.specs.declared.option.Option.TheVariants.{None};
 ghost use Rattle.bites_spec.specs.Expansion.{has_name, index_in};
 ghost use Rattle.bites_bytes.specs.Names.{bytes_of};
 ghost use Rattle.bites_c.specs.Codes.{not_utf8};
-ghost use Rattle.bites_c.specs.Put.{AnswersIndex, PutsMade, PutsName, PutsNone, PutsText, PutsTextAs};
+ghost use Rattle.bites_c.specs.Put.{ReturnsIndex, PutsMade, PutsName, PutsNone, PutsText, PutsTextAs};
 ghost use Rattle.bites_c.specs.Replaced.{escaped_text};
 
 use crate::codes::{DONE, NO_MEMORY, NO_NAME, NOT_UTF8, TOO_SMALL};
@@ -13,7 +13,7 @@ use bites_bytes::bytes::Regex;
 use bites_syntax::tree::escape;
 use std::alloc::Global;
 
-/// How a call went that writes into a slice, and how many places its whole answer takes.
+/// What a call returns that writes into a slice: its code, and the length of its whole result.
 #[repr(C)]
 #[derive(Clone, Copy)]
 pub struct BitesSize {
@@ -22,7 +22,7 @@ pub struct BitesSize {
 }
 
 impl BitesSize {
-    /// Nothing was written, for the reason of this number.
+    /// Returns this code with size 0: nothing was written.
     pub(crate) fn refused(code: u32) -> BitesSize
         ensures { (result.code ≡ code) × (result.size ≡ 0) }
     {
@@ -30,14 +30,14 @@ impl BitesSize {
     }
 }
 
-/// Puts the text at the front, if there is room for it.
+/// Puts the text into the first bytes of `out`, if it fits.
 pub(crate) fn put(text: &[u8], out: &mut [u8]) -> BitesSize
     ensures { PutsText text.now result out.old out.new }
 {
     put_as(DONE, text, out)
 }
 
-/// The same with this code where there is room.
+/// Like [`put`], but with this code if the text fits.
 pub(crate) fn put_as(code: u32, text: &[u8], out: &mut [u8]) -> BitesSize
     ensures { PutsTextAs code text.now result out.old out.new }
 {
@@ -53,7 +53,7 @@ pub(crate) fn put_as(code: u32, text: &[u8], out: &mut [u8]) -> BitesSize
     BitesSize { code, size }
 }
 
-/// Puts the name of the group of this number at the front, if it has one and there is room for it.
+/// Puts the name of the group of this number into the first bytes of `out`, if it has a name and the name fits.
 pub(crate) fn put_name(regex: &Regex, group: usize, out: &mut [u8]) -> BitesSize
     ensures { PutsName (slice_index_or regex.now.names group None) result out.old out.new }
 {
@@ -63,7 +63,7 @@ pub(crate) fn put_name(regex: &Regex, group: usize, out: &mut [u8]) -> BitesSize
     }
 }
 
-// The name of the group of this number, if it has one.
+// Returns the name of the group of this number, if it has one.
 fn name_of(regex: &Regex, group: usize) -> Option<&str>
     ensures { option_map (λ t. t.now) result ≡ slice_index_or regex.now.names group None }
 {
@@ -73,9 +73,9 @@ fn name_of(regex: &Regex, group: usize) -> Option<&str>
     }
 }
 
-/// Answers the number of the group of this name, if there is one.
+/// Returns the number of the group of this name as the size, or the code of no name.
 pub(crate) fn answer_index(regex: &Regex, name: &[u8]) -> BitesSize
-    ensures { AnswersIndex (index_in regex.now.names name.now) result }
+    ensures { ReturnsIndex (index_in regex.now.names name.now) result }
 {
     match index_of(regex, name) {
         Some(size) => BitesSize { code: DONE, size },
@@ -83,7 +83,7 @@ pub(crate) fn answer_index(regex: &Regex, name: &[u8]) -> BitesSize
     }
 }
 
-/// The number of the first group of this name, if there is one.
+/// Returns the number of the first group of this name, if there is one.
 pub(crate) fn index_of(regex: &Regex, name: &[u8]) -> Option<usize>
     ensures { result ≡ index_in regex.now.names name.now }
 {
@@ -98,7 +98,7 @@ pub(crate) fn index_of(regex: &Regex, name: &[u8]) -> Option<usize>
     None
 }
 
-// Whether it is this name.
+// Returns whether a group has this name.
 fn is_named(own: Option<&str>, name: &[u8]) -> bool
     ensures { result ≡ has_name name.now (bytes_of own.entry) }
 {
@@ -108,7 +108,7 @@ fn is_named(own: Option<&str>, name: &[u8]) -> bool
     }
 }
 
-/// Puts the pattern at the front in which each character of the text stands for itself, if there is room for it.
+/// Puts the pattern in which each character of the text stands for itself into the first bytes of `out`, if it fits.
 pub(crate) fn put_escaped(alloc: Global, text: &[u8], out: &mut [u8]) -> BitesSize
     ensures made { IsUtf8 text.now → PutsMade (escaped_text text.now) result out.old out.new }
     ensures utf8 { (IsUtf8 text.now → ⊥) → PutsNone not_utf8 result out.old out.new }

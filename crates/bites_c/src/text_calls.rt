@@ -7,7 +7,7 @@ ghost use Rattle.bites_spec.specs.Iteration.{captures_in};
 ghost use Rattle.bites_text.specs.Texts.{error_text};
 ghost use Rattle.bites_text.specs.declared.error.Error.{Error as Fault};
 ghost use Rattle.bites_c.specs.Codes.{code_of, not_utf8, empty_handle};
-ghost use Rattle.bites_c.specs.Put.{AnswersIndex, PutsMade, PutsName, PutsNone, PutsReplaced};
+ghost use Rattle.bites_c.specs.Put.{ReturnsIndex, PutsMade, PutsName, PutsNone, PutsReplaced};
 ghost use Rattle.bites_c.specs.Replaced.{escaped_text, expanded_by, with_template, with_text};
 ghost use Rattle.bites_c.specs.Searched.{SearchedOver};
 ghost use Rattle.bites_c.specs.Texts.{AsksGroups};
@@ -20,9 +20,10 @@ use crate::text::BitesSize;
 use crate::{codes, replace, search, text};
 use std::alloc::Global;
 
-/// The name of the group of this number goes to the front of `out`, in UTF-8. The code is 0; 105 where it does not fit, and
-/// the size is how many bytes it has; 106 where the group has no name or there is no such group; 103 where there is no
-/// regex. Where it is not 0, `out` stays.
+/// Puts the name of group number `group` into the first bytes of `out`, in UTF-8.
+///
+/// The code is 0, 105 if the name does not fit, 106 if the group has no name or there is no such group, or 103 if there
+/// is no regex. For 0 and 105 the size is the length of the name in bytes. Unless the code is 0, `out` is unchanged.
 #[unsafe(no_mangle)]
 pub extern "C" fn bites_group_name(
     alloc: Global,
@@ -44,12 +45,12 @@ pub extern "C" fn bites_group_name(
     answer
 }
 
-/// The size is the number of the group of this name, and the code 0; it is 106 where no group has the name, and 103 where
-/// there is no regex.
+/// Finds the number of the group of this name. The code is 0, and the size is that number. Else the code is 106 if no
+/// group has the name, or 103 if there is no regex.
 #[unsafe(no_mangle)]
 pub extern "C" fn bites_group_index(alloc: Global, regex: &mut Bites, name: &[u8]) -> BitesSize
     ensures same { regex.new.held ≡ regex.old.held }
-    ensures index { IfSome regex.old.held (λ h. AnswersIndex (index_in h.regex.names name.now) result) }
+    ensures index { IfSome regex.old.held (λ h. ReturnsIndex (index_in h.regex.names name.now) result) }
     ensures empty { regex.old.held ≡ None → (result.code ≡ empty_handle) × (result.size ≡ 0) }
 {
     let Some(held) = std::mem::replace(regex, Bites::empty(alloc)).into_box() else {
@@ -60,9 +61,10 @@ pub extern "C" fn bites_group_index(alloc: Global, regex: &mut Bites, name: &[u8
     answer
 }
 
-/// The pattern in which each character of the text stands for itself goes to the front of `out`, in UTF-8. The code is 0;
-/// 105 where it does not fit, and the size is how many bytes it has; 102 where the text is no UTF-8, and 58 for want of
-/// memory. Where it is not 0, `out` stays.
+/// Puts the pattern in which each character of the text stands for itself into the first bytes of `out`, in UTF-8.
+///
+/// The code is 0, 105 if the pattern does not fit, 102 if the text is not UTF-8, or 58 for out of memory. For 0 and 105
+/// the size is the length of the pattern in bytes. Unless the code is 0, `out` is unchanged.
 #[unsafe(no_mangle)]
 pub extern "C" fn bites_escape(alloc: Global, text: &[u8], out: &mut [u8]) -> BitesSize
     ensures made { IsUtf8 text.now → PutsMade (escaped_text text.now) result out.old out.new }
@@ -71,13 +73,13 @@ pub extern "C" fn bites_escape(alloc: Global, text: &[u8], out: &mut [u8]) -> Bi
     text::put_escaped(alloc, text, out)
 }
 
-/// The haystack goes to the front of `out`, at most `limit` of its matches, or all for 0, replaced by what the template stands
-/// for.
+/// Puts the haystack into the first bytes of `out`, with its first `limit` matches, or all for 0, replaced by what the
+/// template stands for.
 ///
-/// The code is 100 where a match was replaced; 101 where nothing matches, and the size is the length of the haystack, which is
-/// what it then stands for; 105 where it does not fit, and the size is how many bytes it has; 58 for out of memory. What is
-/// wrong with the handles comes first, as in a search. Over texts the haystack and the template are to be UTF-8, else the code
-/// is 102. `out` stays but for 100.
+/// The code is 100 if a match was replaced. It is 101 if nothing matches, and then the haystack itself is the text, and
+/// the size is its length. It is 105 if the text does not fit. For 100 and 105 the size is the length of the text in
+/// bytes. The code is 58 for out of memory. The handles are checked first, as for a search. Over texts the code is then
+/// 102 if the haystack or the template is not UTF-8. Unless the code is 100, `out` is unchanged.
 #[unsafe(no_mangle)]
 pub extern "C" fn bites_replace(
     alloc: Global,
@@ -105,7 +107,7 @@ pub extern "C" fn bites_replace(
     }
 }
 
-/// [`bites_replace`] with a text instead of the template. A `$` in it stands for itself.
+/// Like [`bites_replace`], but each match is replaced by the text. A `$` in it stands for itself.
 #[unsafe(no_mangle)]
 pub extern "C" fn bites_replace_literal(
     alloc: Global,
@@ -133,12 +135,14 @@ pub extern "C" fn bites_replace_literal(
     }
 }
 
-/// What the template stands for by these groups goes to the front of `out`. The code is 0; 105 where it does not fit, and the
-/// size is how many bytes it has; 107 where a group does not lie in the haystack, 103 where there is no regex, and 58 for
-/// out of memory. Where it is not 0, `out` stays. Over texts the template is to be UTF-8 too, else the code is 102, and no group
-/// that lies in the haystack may begin or end within a character, else it is 108.
+/// Puts what the template stands for by these groups into the first bytes of `out`.
 ///
-/// A group from the last of `groups` on took no part, as one has that is the greatest number twice.
+/// The code is 0, 105 if the text does not fit, 107 if a group does not lie in the haystack, 103 if there is no regex,
+/// or 58 for out of memory. For 0 and 105 the size is the length of the text in bytes. Over texts the code is 102 if
+/// the haystack or the template is not UTF-8, which comes before 107. It is 108 if a group begins or ends within a
+/// character, which comes after 107. Unless the code is 0, `out` is unchanged.
+///
+/// A group that is the greatest number twice does not participate, and no group after the last of `groups` does.
 #[unsafe(no_mangle)]
 pub extern "C" fn bites_expand(
     alloc: Global,
@@ -162,8 +166,8 @@ pub extern "C" fn bites_expand(
     answer
 }
 
-/// Puts as much of the text of an error's number, 1 to 58, into `buf` as fits, and answers the length of the text: 0 for
-/// any other number.
+/// Puts the message of the number `code`, 1 to 58, into `buf`, as many of its first bytes as fit. Returns the length of
+/// the whole message in bytes, or 0 for any other number.
 #[unsafe(no_mangle)]
 pub extern "C" fn bites_error_text(code: u32, buf: &mut [u8]) -> usize
     ensures len { (e : Fault) → code ≡ code_of e → result ≡ length (error_text e) }

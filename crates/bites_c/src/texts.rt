@@ -1,12 +1,12 @@
-//! What a regex over texts asks of what it is given.
+//! What a regex over texts requires of its arguments.
 
 ghost use Rattle.std.specs.Prelude.{◌≡◌, ◌↔◌, IsTrue, IsUtf8, MatchBool, MatchOption, ⊤};
 ghost use Rattle.bites_c.specs.Codes.{not_border};
-ghost use Rattle.bites_c.specs.Texts.{AreUtf8, AsksBehind, AsksFrom, IsBorder};
+ghost use Rattle.bites_c.specs.Texts.{AreUtf8, AsksAfter, AsksFrom, IsBorder};
 
 use crate::codes::{NOT_BORDER, NOT_UTF8};
 
-/// Why a search from `start` on is refused, if it is.
+/// Returns the number that refuses a search from `start` on, if it is refused.
 pub(crate) fn fault_from(is_text: bool, haystack: &[u8], start: usize) -> Option<u32>
     ensures { MatchOption result
         (IsTrue is_text → IsUtf8 haystack.now × IsBorder haystack.now start)
@@ -21,12 +21,12 @@ pub(crate) fn fault_from(is_text: bool, haystack: &[u8], start: usize) -> Option
     fault_at(haystack, start)
 }
 
-/// Why a search is refused that goes on behind a match that ends at `last`, or begins at the first of all, if it is. Behind a
-/// match the haystack is not read from end to end again, so all matches together take one check of it.
-pub(crate) fn fault_behind(is_text: bool, haystack: &[u8], last: Option<usize>) -> Option<u32>
+/// Returns the number that refuses a search after a match that ends at `last`, or for the first match, if it is
+/// refused. After a match the haystack is not checked again, so finding all matches checks it once.
+pub(crate) fn fault_after(is_text: bool, haystack: &[u8], last: Option<usize>) -> Option<u32>
     ensures { MatchOption result
         (IsTrue is_text → MatchOption last (IsUtf8 haystack.now) (IsBorder haystack.now))
-        (λ n. AsksBehind is_text haystack.now last n ⊤ ⊥) }
+        (λ n. AsksAfter is_text haystack.now last n ⊤ ⊥) }
 {
     if !is_text {
         return None;
@@ -38,7 +38,7 @@ pub(crate) fn fault_behind(is_text: bool, haystack: &[u8], last: Option<usize>) 
     }
 }
 
-// Why no search begins at this place, if none does.
+// Returns the number that refuses a search from this offset, if it is refused.
 fn fault_at(haystack: &[u8], place: usize) -> Option<u32>
     ensures { MatchOption result (IsBorder haystack.now place)
         (λ n. (n ≡ not_border) × (IsBorder haystack.now place → ⊥)) }
@@ -50,7 +50,7 @@ fn fault_at(haystack: &[u8], place: usize) -> Option<u32>
     }
 }
 
-/// Whether a regex over texts refuses them: one is no UTF-8.
+/// Returns whether the regex is over texts and one of these is not UTF-8.
 pub(crate) fn refuses(is_text: bool, haystack: &[u8], other: &[u8]) -> bool
     ensures { MatchBool result (IsTrue is_text × (AreUtf8 haystack.now other.now → ⊥))
         (IsTrue is_text → AreUtf8 haystack.now other.now) }
@@ -58,7 +58,7 @@ pub(crate) fn refuses(is_text: bool, haystack: &[u8], other: &[u8]) -> bool
     is_text && (str::from_utf8(haystack).is_err() || str::from_utf8(other).is_err())
 }
 
-/// Whether no character goes on at this place; past the end none does.
+/// Returns whether this offset is not within a character. No offset past the end is.
 pub(crate) fn is_border(haystack: &[u8], place: usize) -> bool
     ensures { IsTrue result ↔ IsBorder haystack.now place }
 {

@@ -1,13 +1,13 @@
-//! What each word of the program writes. A place is a number of bytes from the start of the haystack.
+//! What each word of the program writes. Offsets count bytes from the start of the haystack.
 //!
-//! The error of each is that of the writer, or that memory ran out.
+//! The error of each call is that of the writer, or out of memory.
 
 use crate::request::Task;
 use bites_bytes::bytes::{Captures, Regex};
 use std::borrow::CowSlice;
 use std::io::{self, Write};
 
-/// Whether something matched: the answer of a run without a fault.
+/// Whether something matched: the result of a run without a fault.
 #[derive(Clone, Copy)]
 pub(crate) enum Outcome {
     Found,
@@ -51,7 +51,7 @@ fn find<W: Write>(regex: &Regex, haystack: &[u8], out: &mut W) -> io::Result<Out
     Ok(outcome)
 }
 
-// Writes a line for each match.
+// Writes a line with all groups for each match.
 fn captures<W: Write>(regex: &Regex, haystack: &[u8], out: &mut W) -> io::Result<Outcome> {
     let mut outcome = Outcome::Nothing;
     for captures in regex.captures_iter(haystack)? {
@@ -61,7 +61,7 @@ fn captures<W: Write>(regex: &Regex, haystack: &[u8], out: &mut W) -> io::Result
     Ok(outcome)
 }
 
-// Writes all groups on one line, from group 0 on: `start..end`, or `-` for one that took no part.
+// Writes all groups on one line, from group 0 on: `start..end`, or `-` for one that doesn't participate.
 fn write_groups<W: Write>(captures: &Captures<'_>, out: &mut W) -> io::Result<()> {
     let mut parting: &[u8] = b"";
     for group in captures.iter() {
@@ -75,7 +75,7 @@ fn write_groups<W: Write>(captures: &Captures<'_>, out: &mut W) -> io::Result<()
     out.write_all(b"\n")
 }
 
-// Writes a line `start..end` for each piece: they lie between the matches, before the first and behind the last.
+// Writes a line `start..end` for each piece. The pieces lie before the first match, between matches and after the last.
 fn split<W: Write>(regex: &Regex, haystack: &[u8], out: &mut W) -> io::Result<Outcome> {
     let mut outcome = Outcome::Nothing;
     let mut start = 0;
@@ -97,7 +97,7 @@ fn replace<W: Write>(
 ) -> io::Result<Outcome> {
     let replaced = regex.replace_all(haystack, template)?;
     out.write_all(replaced.as_slice())?;
-    // It is borrowed exactly if nothing matches.
+    // The haystack is borrowed exactly if nothing matches.
     match replaced {
         CowSlice::Borrowed(_) => Ok(Outcome::Nothing),
         CowSlice::Owned(_) => Ok(Outcome::Found),

@@ -14,17 +14,17 @@ pub(crate) enum Fault {
 }
 
 impl Fault {
-    /// Why the words could not be had: out of memory, or else a word that is no UTF-8, which can't be a pattern here.
+    /// Returns why the words could not be read: out of memory, or a word that is not UTF-8, which is a fault of usage.
     pub(crate) fn of_words(error: &io::Error) -> Fault {
         Fault::memory_or(error, Fault::Usage)
     }
 
-    /// Why the input could not be read.
+    /// Returns why the input could not be read.
     pub(crate) fn of_reading(error: &io::Error) -> Fault {
         Fault::memory_or(error, Fault::Read)
     }
 
-    /// Why the output could not be written, or not be made.
+    /// Returns why the output could not be written or made.
     pub(crate) fn of_writing(error: &io::Error) -> Fault {
         Fault::memory_or(error, Fault::Write)
     }

@@ -1,4 +1,4 @@
-//! What the program `bites` does, over any reader and writers: the program itself hands in the standard streams.
+//! What the program `bites` does, over any reader and writers. The program itself passes the standard streams.
 #![tactic(auto)]
 
 mod answer;
@@ -12,16 +12,18 @@ use request::Request;
 use std::alloc::Global;
 use std::io::{self, BufWriter, Read, Write};
 
-/// Runs the program on the words behind its name, reading `input` to its end as bytes.
+/// Runs the program on the words after its name. It reads `input` to its end as bytes.
 ///
-/// The words are `is`, `find`, `captures` or `split` and a pattern, or `replace`, a pattern and a template. `is` writes
-/// `match` or `none`; `find` and `split` write a line `start..end` for each match or piece, in bytes from the start of
-/// the input; `captures` writes a line for each match, all its groups from 0 on as `start..end` or `-`, parted by a
-/// space; `replace` writes the input with each match replaced by what the template stands for, and nothing else.
+/// The words are `is`, `find`, `captures` or `split` and a pattern, or `replace`, a pattern and a template.
 ///
-/// Answers the status: 0 if something matched, 1 if nothing did, 2 for a fault. Faults are found in this order: the
-/// words, the pattern, reading, writing; out of memory where it comes, and what was written before stays. A fault is
-/// one line on `err`, and the status is 2 also where that line can't be written.
+/// - `is` writes `match` or `none`.
+/// - `find` and `split` write a line `start..end` for each match or piece, in bytes from the start of the input.
+/// - `captures` writes a line for each match: all its groups from 0 on as `start..end` or `-`, separated by spaces.
+/// - `replace` writes the input with each match replaced by what the template stands for, and nothing else.
+///
+/// Returns the status: 0 if something matched, 1 if nothing did, 2 for a fault. Faults are found in this order: the
+/// words, the pattern, reading, writing. Out of memory is found when it happens. What was written before a fault stays.
+/// A fault is one line on `err`, and the status is 2 even if that line can't be written.
 pub fn run<R: Read, W: Write, E: Write>(
     alloc: Global,
     words: &[String],
@@ -36,13 +38,13 @@ pub fn run<R: Read, W: Write, E: Write>(
     }
 }
 
-/// Tells on one line of `err` why the program has no words: out of memory, or else a word that is no UTF-8, which can't
-/// be a pattern here and answers the usage line. The status is 2.
+/// Writes one line to `err` that says why the words could not be read: out of memory, or the usage if a word is not
+/// UTF-8, which can't be a pattern here. Returns the status 2.
 pub fn refuse_words<E: Write>(error: &io::Error, err: &mut E) -> u8 {
     tell(&Fault::of_words(error), err)
 }
 
-// Writes the line of a fault; the status is the same where that can't be written.
+// Writes the line of a fault. Returns the status 2, even if the line can't be written.
 fn tell<E: Write>(fault: &Fault, err: &mut E) -> u8 {
     let _written = writeln!(err, "bites: {fault}");
     2
@@ -64,7 +66,7 @@ fn command<R: Read, W: Write>(
     }
 }
 
-// All bytes of the input.
+// Reads all bytes of the input.
 fn read_all<R: Read>(alloc: Global, input: &mut R) -> Result<Vec<u8>, Fault> {
     let mut bytes = Vec::new(alloc);
     match input.read_to_end(&mut bytes) {

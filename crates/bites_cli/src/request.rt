@@ -20,7 +20,7 @@ pub(crate) struct Request<'w> {
 }
 
 impl<'w> Request<'w> {
-    /// Reads the words behind the program's name. The fault is another first word, or another number of words.
+    /// Reads the words after the program's name. The fault is another first word, or another number of words.
     pub(crate) fn read(words: &'w [String]) -> Result<Request<'w>, Fault> {
         match words {
             [name, pattern] => Request::without_template(name.as_str(), pattern.as_str()),

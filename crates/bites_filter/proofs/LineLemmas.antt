@@ -8,7 +8,7 @@ use Rattle.std.specs.Io.KnownBytes.{Appends, IsAtEnd}
 use Rattle.bites_filter.proofs.Written.{appends_none, appends_both}
 use Rattle.bites_filter.specs.Lines.{lines_of, put_in_front, ReadsLine, DoesEach, AreWritten, WritesLine}
 
--- a byte in front of what stands up to the first line feed
+-- putting a byte before the first line puts it before what stands up to the first line feed
 in_front : (b : ℕ) (bs : List ℕ) → put_in_front b (lines_of bs) ≡ (b ∷ take_through 10 bs) ∷ lines_of (drop_through 10 bs)
 in_front b [] = refl
 in_front b (c ∷ cs) =
@@ -38,7 +38,7 @@ no_line None rest line end = tt
 no_line (Some ys) rest line end = ap lines_of end
 
 module _ {S : Type 0} (Does : S → ℕ → List ℕ → List ℕ → Bool → S → Type 0) where
-  -- What was written is right so far: with what the other lines write it is right for all.
+  -- What was written so far is right: together with what the other lines write it is right for all lines.
   abbrev pub IsSoFar : S → Option (List ℕ) → Option (List ℕ) → ℕ → S → Option (List ℕ) → Option (List ℕ) → ℕ → Type 0
   IsSoFar first None old n s left new count = Unit {0}
   IsSoFar first (Some xs) old n s None new count = ⊥
@@ -95,7 +95,7 @@ module _ {S X : Type 0} (seen : S → X) (Writes : X → List ℕ → List ℕ �
   each_written n (l ∷ ls) s text count t (first, counts, m, rest, others, (writes, same), does, text_is, count_is) =
       (first, rest, writes, subst (λ x. AreWritten (Writes x) ls rest) same (each_written (n + 1) ls m rest others t does), text_is)
 
-  -- each line being written in turn, all are
+  -- if each line is written in turn, all lines are written
   pub lines_written : (input old new : Option (List ℕ)) (s : S) (count : ℕ) (t : S) →
       IfSome input (λ bytes. (text : List ℕ) × DoesEach (WritesLine seen Writes) 0 (lines_of bytes) s text count t × Appends old new text) →
       IfSome input (λ bytes. (text : List ℕ) × AreWritten (Writes (seen s)) (lines_of bytes) text × Appends old new text)

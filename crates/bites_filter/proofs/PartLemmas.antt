@@ -5,7 +5,7 @@ use Rattle.std.proofs.lemmas.List.{length-map}
 use Rattle.std.specs.Borrow.{Bor}
 use Rattle.bites_spec.specs.CallerLaws.{EachParticipates}
 use Rattle.bites_spec.specs.Measure.{groups_left, static_captures_len}
-use Rattle.bites_spec.specs.Slots.{group_in, taking_part}
+use Rattle.bites_spec.specs.Slots.{group_in, participating}
 use Rattle.bites_spec.specs.Pieces.{text_at}
 use Rattle.bites_spec.specs.Regex.{Regex}
 use Rattle.bites_spec.specs.Captured.{Captured, AreGroups}
@@ -19,7 +19,7 @@ pub each_is_there : EachParticipates → (r : Regex) (n : ℕ) → HasGroups r (
     (k : ℕ) → k < n → IsSome (group_in x.slots (k + 1))
 each_is_there law r n (kept, groups, static) names x of count named slots are k lt =
     let all : length x.slots / 2 ≡ n + 1 = sym slots ∙ named ∙ ap (λ (q : Regex). length q.names) of ∙ ap length (names kept) ∙ groups in
-    let enough : n + 1 ≤ length (taking_part x.slots) = are.enough (n + 1) (ap (λ (q : Regex). static_captures_len q.tree) of ∙ static) in
+    let enough : n + 1 ≤ length (participating x.slots) = are.enough (n + 1) (ap (λ (q : Regex). static_captures_len q.tree) of ∙ static) in
     law x.slots (omega (arith, all, enough)) (k + 1) (omega (arith, all, lt))
 
 -- the texts of the groups are the parts

@@ -26,7 +26,7 @@ nothing_replaced : (text template : List ℕ) (n : ℕ) →
 nothing_replaced text template zero = refl
 nothing_replaced text template (suc n) = refl
 
--- where nothing matches, nothing is replaced
+-- if nothing matches, nothing is replaced
 pub unchanged : CapturesAreMatches → NoneIsLeftOut → (r : Regex) (template text new : List ℕ) (n : ℕ) →
     Substitutes r template n text new → NoMatch r.tree text 0 → new ≡ text
 unchanged matches left_out r template text new n s none = by s.found s.all s.new_is

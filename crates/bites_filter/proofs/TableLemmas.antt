@@ -9,7 +9,7 @@ use Rattle.bites_filter.specs.declared.table.Reading.{Reading}
 use Rattle.bites_filter.specs.Table.{NamedRegex, IsRule, IsEntry, AreEntries, without_end, IsReach, Reads, IsFurthest, AreReadings, MatchesFull, NoneMatches, name_at}
 
 module _ {S : Type 0} (Is : List ℕ → List ℕ → S → Type 0) (lines : List (List ℕ)) where
-  -- the entries so far, and all that may follow for the lines that are left
+  -- the entries so far are right, with any that may follow for the lines that are left
   abbrev pub AreSoFar : List S → List (List ℕ) → Type 0
   AreSoFar entries left = (more : List S) → AreEntries Is left more → AreEntries Is lines (entries ++ more)
 
@@ -33,7 +33,7 @@ all_longest (l ∷ ls) rules (r, rs, entry, are, is) =
     subst (All FindsLongest) (sym is) (All-cons FindsLongest r rs entry.entry_is.longest (all_longest ls rs are))
 
 module _ (rules : List NamedRegex) (text : List ℕ) (i : ℕ) where
-  -- rule k reads to j, or j is i, and none of the first n rules reads further or as far before it
+  -- rule k reads to j, or j is i; none of the first n rules reads further, and none before rule k reads as far
   pub record IsBest (n k j : ℕ) : Type 0 where
     pub from : i ≤ j
     pub within : j ≤ length text
@@ -88,7 +88,7 @@ module _ (rules : List NamedRegex) (text : List ℕ) (i : ℕ) where
     first = λ lt l reads. let none : l < k → ⊥ = λ before. best.first lt l before reads in grind (arith, none);
   }
 
--- what stands there is written there
+-- writing an item where it stands changes nothing
 written_back : {S : Type 0} (rows : List S) (n : ℕ) (r : S) → slice_get rows n ≡ Some r → slice_set rows n r ≡ rows
 written_back [] n r at = refl
 written_back (q ∷ rows) zero r at = let both : Some q ≡ Some r = at in let same : r ≡ q = cc in ap (λ x. x ∷ rows) same
@@ -108,7 +108,7 @@ take_all [] [] = refl
 take_all [] (y ∷ ys) = refl
 take_all (x ∷ xs) ys = ap (λ l. x ∷ l) (take_all xs ys)
 
--- rows that are given back as they were
+-- items that are given back unchanged
 pub kept_items : {S : Type 0} (items given new : List S) (n : ℕ) → n ≡ length given → new ≡ given → given ≡ items →
     take n (new ++ drop (length new) items) ≡ items
 kept_items items given new n len same value =
@@ -121,7 +121,7 @@ name_is rules k r within is =
     sym (ap (λ o. unwrap_or (option_map (λ (q : NamedRegex). q.name) o) []) at)
 
 module _ (rules : List NamedRegex) (text : List ℕ) where
-  -- where both are furthest, they are one
+  -- if two readings are furthest, they are one
   same_reading : (i : ℕ) (t u : Reading) → i < t.end → i < u.end → IsFurthest rules text i t.rule t.end →
       IsFurthest rules text i u.rule u.end → (t.rule ≡ u.rule) × (t.end ≡ u.end)
   same_reading i t u some_t some_u a b =

@@ -1,4 +1,4 @@
--- What is written one behind the other.
+-- Texts that are written one after another.
 use Rattle.std.proofs.Common.{◌≡◌, ℕ, ◌-◌, ◌<◌, Bool, true, false, List, [], ◌++◌, length, Option, Some, None, refl, sym, ap, ◌∙◌, inl, inr, ◌⊎◌, eqb-true, append_assoc, arith}
 use Rattle.std.proofs.lemmas.Bool.{cases_Bool}
 use Rattle.std.proofs.lemmas.Grind.{common_steps}
@@ -29,7 +29,7 @@ both_true : (a b : Bool) → a && b ≡ true → (a ≡ true) × (b ≡ true)
 both_true true b e = (refl, e)
 both_true false b e = let never : false ≡ true = e in absurd (cc)
 
--- a line is its text and its line feed
+-- a line is its text followed by its line feed
 pub line_is : (line : List ℕ) → line ≡ strip_last 10 line ++ line_feed_of line
 line_is line = elim (cases_Bool (ends_with_byte 10 line)) [
   | inl is ↦ let both = both_true (nat_lt 0 (length line)) (slice_index line (length line - 1) == 10) is in

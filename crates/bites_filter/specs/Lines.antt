@@ -2,12 +2,12 @@
 use Rattle.std.specs.Prelude.{◌≡◌, ◌==◌, ℕ, ◌+◌, Bool, true, false, cond, List, [], ◌∷◌, ◌++◌, Option, Some, None, if◌then◌else◌}
 use Rattle.std.specs.Io.BufRead.{ends_with_byte}
 
--- a byte in front of the first line
+-- the lines with a byte put before the first one
 abbrev pub put_in_front : ℕ → List (List ℕ) → List (List ℕ)
 put_in_front b [] = (b ∷ []) ∷ []
 put_in_front b (l ∷ ls) = (b ∷ l) ∷ ls
 
--- the lines of the bytes, each with the line feed that ends it; the last may have none
+-- the lines of the bytes, each with the line feed that ends it; the last line may have none
 abbrev pub lines_of : List ℕ → List (List ℕ)
 lines_of [] = []
 lines_of (b ∷ bs) = if b == 10 then (b ∷ []) ∷ lines_of bs else put_in_front b (lines_of bs)
@@ -16,7 +16,7 @@ lines_of (b ∷ bs) = if b == 10 then (b ∷ []) ∷ lines_of bs else put_in_fro
 abbrev pub line_feed_of : List ℕ → List ℕ
 line_feed_of line = if ends_with_byte 10 line then 10 ∷ [] else []
 
--- Where the bytes that are left are known, their first line is read and leaves the others; or none was left.
+-- If the remaining bytes are known, their first line is read and the other lines remain, or no line remained.
 abbrev pub ReadsLine : Option (List ℕ) → Bool → List ℕ → Option (List ℕ) → Type 0
 ReadsLine None there line rest = Unit {0}
 ReadsLine (Some xs) false line rest = lines_of xs ≡ []
@@ -24,8 +24,8 @@ ReadsLine (Some xs) true line None = ⊥
 ReadsLine (Some xs) true line (Some ys) = lines_of xs ≡ line ∷ lines_of ys
 
 module _ {S : Type 0} (Does : S → ℕ → List ℕ → List ℕ → Bool → S → Type 0) where
-  -- These lines, which come after the first n, are done one after another: the texts that are written for them stand in their
-  -- order, and so many of the lines count.
+  -- The lines after the first n are done one after another. The texts that are written for them stand in their order, and
+  -- `count` of the lines count.
   abbrev pub DoesEach : ℕ → List (List ℕ) → S → List ℕ → ℕ → S → Type 0
   DoesEach n [] s text count t = (text ≡ []) × (count ≡ 0) × (t ≡ s)
   DoesEach n (l ∷ ls) s text count t =
@@ -40,6 +40,6 @@ AreWritten Writes (l ∷ ls) text =
     (first : List ℕ) × (rest : List ℕ) × Writes l first × AreWritten Writes ls rest × (text ≡ first ++ rest)
 
 module _ {S X : Type 0} (seen : S → X) (Writes : X → List ℕ → List ℕ → Type 0) where
-  -- a line is written as `Writes` says by what is seen of the state, and that stays
+  -- a line is written as `Writes` says by what is seen of the state, which is unchanged
   abbrev pub WritesLine : S → ℕ → List ℕ → List ℕ → Bool → S → Type 0
   WritesLine s number line text counts t = Writes (seen s) line text × (seen t ≡ seen s)

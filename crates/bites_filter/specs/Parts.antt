@@ -7,7 +7,7 @@ use Rattle.bites_spec.specs.Anchored.{IsFullMatch}
 use Rattle.bites_spec.specs.Pieces.{text_at}
 use Rattle.bites_spec.specs.Regex.{Regex}
 
--- the regex has n groups, and all of them participate in every match
+-- the regex has n groups, with group 0, and all of them participate in every match
 abbrev pub HasGroups : Regex → ℕ → Type 0
 HasGroups r n =
     (r.keep_dropped_groups ≡ false) × (length (groups_left r.tree) ≡ n) × (static_captures_len r.tree ≡ Some n)
@@ -24,7 +24,7 @@ abbrev pub Extracts : Tree → List ℕ → Bool → List (List ℕ) → Type 0
 Extracts t text true parts = AreParts t text parts
 Extracts t text false parts = IsFullMatch t text → ⊥
 
--- these are the parts of the whole text, or it is not UTF-8 or the tree does not match it
+-- these are the parts of the whole text, or the tree does not match it, or it is not UTF-8
 abbrev pub ExtractsBytes : Tree → List ℕ → Bool → List (List ℕ) → Type 0
 ExtractsBytes t text true parts = AreParts t text parts
 ExtractsBytes t text false parts = IsUtf8 text → IsFullMatch t text → ⊥

@@ -7,8 +7,8 @@ use Rattle.bites_spec.specs.Pieces.{limited, replaced}
 use Rattle.bites_spec.specs.Replaced.{span_in}
 use Rattle.bites_spec.specs.Replacer.{expanded}
 
--- The regex's tree finds these groups of all matches in the text, and the new text has what stands between the first n of the
--- matches, all for 0, and instead of each of them what the template stands for by its groups.
+-- The regex's tree finds these groups of all matches in the text. The new text is the text with the first n matches, or all for
+-- 0, replaced by what the template stands for by their groups.
 pub record Substitutes (r : Regex) (template : List ℕ) (n : ℕ) (text new : List ℕ) : Type 0 where
   pub found : List Captured
   pub all : AreCaptures r text found

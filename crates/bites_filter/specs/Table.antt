@@ -1,4 +1,4 @@
--- Tables of named patterns, and which of them reads furthest from a place.
+-- Tables of named patterns, and which of them reads furthest from an offset.
 use Rattle.std.specs.Prelude.{◌≡◌, ◌≢◌, ℕ, ◌<◌, ◌≤◌, true, false, List, [], ◌∷◌, ◌++◌, length, Option, Some, option_map, unwrap_or, get_or, slice_get, if◌then◌else◌}
 use Rattle.std.specs.Io.BufRead.{strip_last, ends_with_byte}
 use Rattle.bites_filter.specs.declared.table.Reading.{Reading}
@@ -8,12 +8,12 @@ use Rattle.bites_spec.specs.Regex.{Regex}
 use Rattle.bites_spec.specs.Anchored.{IsFullMatch, FindsGroupsFull}
 use Rattle.bites_spec.specs.Settings.{Accepts, settings, no_flags, by_default}
 
--- a regex by its name
+-- a regex with its name
 pub record NamedRegex : Type 0 where
   pub name : List ℕ
   pub regex : Regex
 
--- by its parts
+-- the same by its parts
 abbrev pub named : List ℕ → Regex → NamedRegex
 named name regex = record { name = name; regex = regex }
 
@@ -21,13 +21,13 @@ named name regex = record { name = name; regex = regex }
 abbrev pub name_at : List NamedRegex → ℕ → List ℕ
 name_at rules k = unwrap_or (option_map (λ r. r.name) (slice_get rules k)) []
 
--- The regex is built from the pattern without flags, under the limits that a builder begins with, and searches for the longest match.
+-- The regex is built from the pattern without flags, under the default limits, and searches for the longest match.
 pub record IsRule (name pattern : List ℕ) (rule : NamedRegex) : Type 0 where
   pub name_is : rule.name ≡ name
   pub accepted : Accepts (settings pattern no_flags 10485760 50 false true) rule.regex.tree
   pub longest : rule.regex.leftmost_longest ≡ true
 
--- the rule has the name, and the regex of the pattern by default
+-- the rule has the name, and its regex is built from the pattern by default
 abbrev pub IsTextRule : List ℕ → List ℕ → NamedRegex → Type 0
 IsTextRule name pattern rule = (rule.name ≡ name) × Accepts (by_default pattern) rule.regex.tree
 
@@ -36,7 +36,7 @@ abbrev pub without_end : List ℕ → List ℕ
 without_end line = if ends_with_byte 10 line then strip_last 13 (strip_last 10 line) else line
 
 module _ {S : Type 0} (Is : List ℕ → List ℕ → S → Type 0) where
-  -- The line is a name, in which no space stands, then a space and a pattern; the entry is that of both.
+  -- The line is a name without a space, then a space and a pattern. The entry is that of both.
   pub record IsEntry (line : List ℕ) (entry : S) : Type 0 where
     pub name : List ℕ
     pub pattern : List ℕ
@@ -44,7 +44,7 @@ module _ {S : Type 0} (Is : List ℕ → List ℕ → S → Type 0) where
     pub no_space : (i : ℕ) → i < length name → get_or name i 0 ≢ 32
     pub entry_is : Is name pattern entry
 
-  -- an entry for each line, what ends the line left out
+  -- there is an entry for each line, without the end of the line
   abbrev pub AreEntries : List (List ℕ) → List S → Type 0
   AreEntries [] entries = entries ≡ []
   AreEntries (l ∷ ls) entries =
@@ -62,7 +62,7 @@ module _ (rules : List NamedRegex) (text : List ℕ) where
   abbrev pub Reads : ℕ → ℕ → ℕ → Type 0
   Reads k i j = (r : NamedRegex) × (slice_get rules k ≡ Some r) × Matches text r.regex.tree i j
 
-  -- No rule reads further from i than to j. Where j is after i, rule k reads so far, and no rule before it does.
+  -- No rule matches further from i than to j. If j is after i, rule k matches up to j, and no rule before it does.
   pub record IsFurthest (i k j : ℕ) : Type 0 where
     pub from : i ≤ j
     pub within : j ≤ length text
@@ -70,7 +70,8 @@ module _ (rules : List NamedRegex) (text : List ℕ) where
     pub reads : i < j → Reads k i j
     pub first : i < j → (l : ℕ) → Reads l i j → k ≤ l
 
-  -- These readings stand one after another from i on. Each reads furthest from where it begins, and where they stop no rule reads anything.
+  -- These readings stand one after another from i on. Each reads furthest from its start, and where they stop no rule matches any
+  -- byte.
   abbrev pub AreReadings : ℕ → List Reading → ℕ → Type 0
   AreReadings i [] stop = (stop ≡ i) × ((k j : ℕ) → Reads k i j → j ≤ i)
   AreReadings i (t ∷ ts) stop = (i < t.end) × IsFurthest i t.rule t.end × AreReadings t.end ts stop
@@ -83,14 +84,14 @@ module _ (rules : List NamedRegex) (text : List ℕ) where
   abbrev pub NoneMatches : Type 0
   NoneMatches = (k : ℕ) → MatchesFull k → ⊥
 
-  -- the rule of this number is the first that matches the whole text, and in the slots stand the groups of a parse of it
+  -- the rule of this number is the first that matches the whole text, and the slots hold the groups of a parse of the text
   pub record IsFirst (k : ℕ) (slots : List (Option ℕ)) : Type 0 where
     pub rule : NamedRegex
     pub at : slice_get rules k ≡ Some rule
     pub groups : FindsGroupsFull rule.regex text (Some slots)
     pub first : (l : ℕ) → l < k → MatchesFull l → ⊥
 
--- from no place of a text two lists of readings begin
+-- two lists of readings of a text from one offset are one list
 abbrev pub ReadingsAreOneList : Type 0
 ReadingsAreOneList =
     (rules : List NamedRegex) (text : List ℕ) (i : ℕ) (ts us : List Reading) (m n : ℕ) → AreReadings rules text i ts m →

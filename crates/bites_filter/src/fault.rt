@@ -8,7 +8,7 @@ use std::{fmt, io};
 /// A fault. Its text is one line of standard error, without the program's name.
 #[derive(Drop)]
 pub enum Fault {
-    /// The words behind the program's name are not those that it takes: how to use it.
+    /// The words after the program's name are not those that it takes. The text says how to use it.
     Usage(&'static str),
     /// The pattern is not accepted.
     Pattern(Error),
@@ -32,7 +32,7 @@ impl Fault {
         }
     }
 
-    /// Returns why the output could not be written or made.
+    /// Returns why the output could not be written, or its buffer not made.
     pub fn of_writing(error: &io::Error) -> Fault {
         match error.kind() {
             ErrorKind::OutOfMemory => Fault::Pattern(Error::Memory),
@@ -41,13 +41,13 @@ impl Fault {
         }
     }
 
-    /// Writes the line of the fault. Returns the status of the program: 2, or 0 if nobody reads its output any more,
-    /// which nobody reports.
+    /// Writes the line of the fault. Returns the status of the program, which is 2. For [`Fault::Closed`] it writes
+    /// nothing and returns 0.
     pub fn tell<E: Write>(&self, program: &str, err: &mut E) -> u8 {
         if let Fault::Closed = self {
             return 0;
         }
-        // The status is the same where the line can't be written.
+        // The status is 2 even if the line can't be written.
         let _written = writeln!(err, "{program}: {self}");
         2
     }

@@ -1,4 +1,5 @@
-//! What the programs that work line by line share: their loop, a regex with its cache, rows of values, and their faults.
+//! What the programs of this repository share: a loop over lines, regexes with their caches, tables of rules, rows of
+//! values, and faults.
 #![tactic(auto)]
 
 pub mod csv;

@@ -11,21 +11,20 @@ use std::io::{self, BufRead, Write};
 
 /// What a program does with each line of its input.
 pub trait LineTask {
-    /// Relates a state, the number of a line, the line with the line feed that ends it, the bytes that are written for it,
-    /// whether it counts, and the state after it.
+    /// Relates a state, the number of a line, the line with the line feed that ends it, the bytes that are written for
+    /// it, whether it counts, and the state after it.
     ghost does: { Self → ℕ → List ℕ → List ℕ → Bool → Self → Type 0 };
 
-    /// Does the work of one line. Returns whether the line counts. The error is that of the writer, or that memory ran
-    /// out.
+    /// Does the work of one line. Returns whether the line counts. The error is that of the writer, or out of memory.
     fn line<W: Write>(&mut self, number: u64, line: &[u8], out: &mut W) -> io::Result<bool>
         ensures { IfOk result (λ counts. (text : List ℕ)
             × does self.old number line.now text counts self.new
             × Appends (W.contents out.old) (W.contents out.new) text) };
 }
 
-/// Does the work of each line of the input in turn, and returns how many lines count.
+/// Does the work of each line of the input in turn. Returns how many lines count.
 ///
-/// The lines are numbered from 1. What was written before a fault stays.
+/// The lines are numbered from 1. After a fault, what was written before it stays.
 pub fn each_line<T: LineTask, R: BufRead, W: Write>(
     alloc: Global,
     task: &mut T,
@@ -46,11 +45,12 @@ pub fn each_line<T: LineTask, R: BufRead, W: Write>(
             count += 1;
         }
     }
-    // So long an input does not exist.
+    // No input is that long.
     Err(Fault::Read)
 }
 
-/// Reads the next line with the line feed that ends it into `line`, if there is one. Returns whether there was.
+/// Reads the next line, with the line feed that ends it, into `line`, which is cleared first. Returns whether there was
+/// one.
 pub fn next_line<R: BufRead>(input: &mut R, line: &mut Vec<u8>) -> Result<bool, Fault>
     ensures { IfOk result (λ there. ReadsLine (R.Read.remaining input.old) there line.new.items
         (R.Read.remaining input.new)) }
@@ -63,7 +63,7 @@ pub fn next_line<R: BufRead>(input: &mut R, line: &mut Vec<u8>) -> Result<bool, 
     }
 }
 
-// Does the work of one line, and returns whether it counts.
+// Does the work of one line. Returns whether it counts.
 fn do_line<T: LineTask, W: Write>(
     task: &mut T,
     number: u64,

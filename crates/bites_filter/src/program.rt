@@ -1,4 +1,4 @@
-//! What a program is started with.
+//! What programs share: the words of the command line, buffers, and the status.
 
 use crate::fault::Fault;
 use std::alloc::Global;
@@ -7,7 +7,7 @@ use std::process::ExitCode;
 use std::rt::Env;
 use std::{env, io};
 
-/// Returns the words after the program's name. The fault is that memory ran out, or the usage if a word is not UTF-8.
+/// Returns the words after the program's name. The fault is out of memory, or the usage if a word is not UTF-8.
 pub fn words(rt: &(impl Env + AllocGlobal), usage: &'static str) -> Result<Vec<String>, Fault> {
     match read_words(rt) {
         Ok(words) => Ok(words),
@@ -33,7 +33,7 @@ fn read_words(rt: &(impl Env + AllocGlobal)) -> io::Result<Vec<String>> {
     Ok(words)
 }
 
-/// Returns buffers over an input and an output. The fault is that memory ran out.
+/// Returns buffers over an input and an output. The fault is out of memory.
 pub fn buffers<R: Read + Drop, W: Write + Drop>(
     alloc: Global,
     input: R,
@@ -45,7 +45,7 @@ pub fn buffers<R: Read + Drop, W: Write + Drop>(
     ))
 }
 
-/// Returns the buffer, or the fault that there is no memory for it.
+/// Returns the buffer, or the fault of making it.
 pub fn open<B>(buffer: io::Result<B>) -> Result<B, Fault> {
     match buffer {
         Ok(buffer) => Ok(buffer),
@@ -53,7 +53,7 @@ pub fn open<B>(buffer: io::Result<B>) -> Result<B, Fault> {
     }
 }
 
-/// Writes what the buffer holds.
+/// Writes what the buffer still holds.
 pub fn flush<W: Write>(out: &mut W) -> Result<(), Fault> {
     match out.flush() {
         Ok(()) => Ok(()),
@@ -61,7 +61,7 @@ pub fn flush<W: Write>(out: &mut W) -> Result<(), Fault> {
     }
 }
 
-/// Returns the status of a program that ended so. Of a fault it writes the line.
+/// Returns the status of a program that ended with this result. For a fault it writes the line of the fault.
 pub fn status<E: Write>(program: &str, ended: Result<u8, Fault>, err: &mut E) -> ExitCode {
     ExitCode::from(match ended {
         Ok(status) => status,
@@ -69,12 +69,13 @@ pub fn status<E: Write>(program: &str, ended: Result<u8, Fault>, err: &mut E) ->
     })
 }
 
-/// Writes how many lines are not in the form that the program takes, if any. Returns the status: 0 if there are none, else 1.
+/// Writes how many lines are not in the form that the program takes, if there are any. Returns the status: 0 if there
+/// are none, else 1.
 pub fn tell_bad<E: Write>(program: &str, bad: u64, form: &str, err: &mut E) -> u8 {
     if bad == 0 {
         return 0;
     }
-    // The status is the same where the line can't be written.
+    // The status is 1 even if the line can't be written.
     let _written = writeln!(err, "{program}: {bad} lines are not in {form}");
     1
 }

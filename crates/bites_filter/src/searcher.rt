@@ -38,7 +38,7 @@ impl Model for Searcher {
 }
 
 impl Searcher {
-    /// Returns the regex with a cache of its own. The error is that memory ran out.
+    /// Returns the regex with a cache of its own. The error is out of memory.
     pub fn new(regex: Regex) -> Result<Searcher, AllocError>
         ensures { IfOk result (λ s. s ≡ regex) }
     {
@@ -46,7 +46,7 @@ impl Searcher {
         Ok(Searcher { regex, cache })
     }
 
-    /// Returns whether the pattern matches somewhere in the haystack. It takes no memory.
+    /// Returns whether the pattern matches somewhere in the haystack. It allocates nothing.
     pub fn is_match(&mut self, haystack: &[u8]) -> bool
         ensures found { IsTrue result ↔ HasMatch self.old.tree haystack.now 0 }
         ensures same { self.new ≡ self.old }
@@ -54,7 +54,7 @@ impl Searcher {
         self.regex.is_match_with(&mut self.cache, haystack)
     }
 
-    /// Returns the match that begins at `start`, if one does. It takes no memory.
+    /// Returns the match that begins at `start`, if one does. It allocates nothing.
     pub fn find_anchored_at<'h>(&mut self, haystack: &'h [u8], start: usize) -> Option<Match<'h>>
         ensures found { FindsMatchFrom self.old haystack.now start (option_map excerpt_of result) }
         ensures same { self.new ≡ self.old }
@@ -64,7 +64,7 @@ impl Searcher {
     }
 
     /// Returns the haystack with its first `limit` matches replaced by what the template stands for, or all of them
-    /// for 0. The error is that memory ran out.
+    /// for 0. The error is out of memory.
     pub fn replacen<'h>(
         &mut self,
         haystack: &'h [u8],

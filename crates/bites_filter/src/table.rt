@@ -19,12 +19,12 @@ pub trait Entry: Sized {
     /// Relates a name, a pattern and the entry of both.
     ghost is: { List ℕ → List ℕ → Self → Type 0 };
 
-    /// Makes the entry of a name and a pattern. The fault is that the pattern is not accepted, or that memory ran out.
+    /// Makes the entry of a name and a pattern. The fault is that the pattern is not accepted, or out of memory.
     fn read(alloc: Global, name: &str, pattern: &str) -> Result<Self, Fault>
         ensures { IfOk result (is name.now pattern.now) };
 }
 
-/// A pattern by its name, with the one cache of all its searches.
+/// A named pattern, with one cache for all its searches.
 ///
 /// A contract sees the name and the regex.
 #[derive(Drop)]
@@ -73,7 +73,7 @@ impl Rule {
         &self.name
     }
 
-    /// Returns where the longest match that begins at `start` ends, or `start` if none does. It takes no memory.
+    /// Returns the end of the longest match that begins at `start`, or `start` if there is none. It allocates nothing.
     pub fn reach(&mut self, text: &[u8], start: usize) -> usize
         requires longest { self.old.regex.leftmost_longest ≡ true }
         requires within { start ≤ length text.now }
@@ -94,8 +94,8 @@ impl Rule {
     }
 }
 
-/// Returns the bytes of the one file that the words of the command line name. The fault is the usage if there is another
-/// number of words. Otherwise it is that the file can't be read, or that memory ran out.
+/// Returns the bytes of the file that the only word of the command line names. The fault is the usage if there is not
+/// exactly one word. Otherwise it is that the file can't be read, or out of memory.
 pub fn read_file(
     rt: &(impl Env + Files + AllocGlobal),
     usage: &'static str,
@@ -113,8 +113,8 @@ pub fn read_file(
     }
 }
 
-/// Reads a table. The fault is that a line has no space or is not UTF-8, that a pattern is not accepted, or that memory ran
-/// out.
+/// Reads a table. The fault is that a line has no space or is not UTF-8, that a pattern is not accepted, or out of
+/// memory.
 pub fn read_table<E: Entry + Drop>(alloc: Global, table: &[u8]) -> Result<Vec<E>, Fault>
     ensures { IfOk result (λ entries. AreEntries E.is (lines_of table.now) entries.items) }
 {
@@ -131,11 +131,11 @@ pub fn read_table<E: Entry + Drop>(alloc: Global, table: &[u8]) -> Result<Vec<E>
             Err(_) => return Err(Fault::Pattern(Error::Memory)),
         }
     }
-    // So long a table does not exist.
+    // No table is that long.
     Err(Fault::Read)
 }
 
-// Reads the entry of a line without its end.
+// Reads the entry of a line that has no line end.
 fn read_entry<E: Entry>(alloc: Global, line: &[u8]) -> Result<E, Fault>
     ensures { IfOk result (IsEntry E.is line.now) }
 {
@@ -168,7 +168,7 @@ fn without_carriage_return(text: &[u8]) -> &[u8]
     }
 }
 
-/// Reads a table of rules, which find the longest match. The faults are those of [`read_table`].
+/// Reads a table of rules that find the longest match. The faults are those of [`read_table`].
 pub fn read_rules(alloc: Global, table: &[u8]) -> Result<Vec<Rule>, Fault>
     ensures rules { IfOk result (λ rules. AreEntries IsRule (lines_of table.now) rules.items) }
     ensures longest { IfOk result (λ rules. All (λ r. r.regex.leftmost_longest ≡ true) rules.items) }
@@ -185,15 +185,15 @@ pub fn name_of(rules: &[Rule], rule: usize) -> &str
     rules[rule].name()
 }
 
-/// What is read from one place: the number of a rule, and where its match ends.
+/// What is read from one offset: the number of a rule, and the end of its match.
 #[derive(Clone, Copy, Debug)]
 pub struct Reading {
     pub rule: usize,
     pub end: usize,
 }
 
-/// Returns the rule whose longest match from `start` ends last, and of several such rules the first. If no rule reads
-/// anything from there, the end is `start`.
+/// Returns the rule whose longest match from `start` ends last, or the first of several such rules. If no rule matches
+/// any byte from there, the end is `start`.
 pub fn furthest(rules: &mut [Rule], text: &[u8], start: usize) -> Reading
     requires longest { All (λ r. r.regex.leftmost_longest ≡ true) rules.old }
     requires within { start ≤ length text.now }
@@ -213,7 +213,7 @@ pub fn furthest(rules: &mut [Rule], text: &[u8], start: usize) -> Reading
     reading
 }
 
-/// The law that the readings of a text from one place on are one list.
+/// The law that the readings of a text from one offset on are one list.
 pub fn readings_are_one_list()
     ensures { ReadingsAreOneList }
 {}

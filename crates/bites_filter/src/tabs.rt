@@ -1,4 +1,4 @@
-//! The groups of a match, each behind a tab.
+//! The groups of a match, each after a tab.
 
 ghost use Rattle.std.specs.Prelude.{option_map, IfOk};
 ghost use Rattle.std.specs.Io.KnownBytes.{Appends};
@@ -8,7 +8,7 @@ ghost use Rattle.bites_filter.specs.Tabs.{tabbed, tabbed_groups};
 use regex_bites::{Captures, Match};
 use std::io::{self, Write};
 
-/// Writes a tab and the text of each group that participates, in the order of their numbers, but not of group 0.
+/// Writes a tab and its text for each group that participates, from group 1 on, in the order of their numbers.
 pub fn write_groups<W: Write>(groups: &Captures<'_>, out: &mut W) -> io::Result<()>
     ensures { IfOk result (λ _. Appends (W.contents out.old) (W.contents out.new)
         (tabbed_groups groups.now.haystack groups.now.slots)) }

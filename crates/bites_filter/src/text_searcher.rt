@@ -35,7 +35,7 @@ impl Model for TextSearcher {
 }
 
 impl TextSearcher {
-    /// Returns the regex with a cache of its own. The error is that memory ran out.
+    /// Returns the regex with a cache of its own. The error is out of memory.
     pub fn new(regex: Regex) -> Result<TextSearcher, AllocError>
         ensures { IfOk result (λ s. s ≡ regex) }
     {
@@ -43,7 +43,7 @@ impl TextSearcher {
         Ok(TextSearcher { regex, cache })
     }
 
-    /// Returns the groups of a match that is the whole haystack, if there is one. The error is that memory ran out.
+    /// Returns the groups of a match that is the whole haystack, if there is one. The error is out of memory.
     pub fn captures_full<'h>(
         &mut self,
         haystack: &'h str,
@@ -57,10 +57,10 @@ impl TextSearcher {
         self.regex.captures_full_with(&mut self.cache, haystack)
     }
 
-    /// Fills `parts` with the texts of groups 1, 2 and so on of a match that is the whole haystack. Returns whether there
-    /// is one. All groups must participate in every match, and `parts` must have room for each but group 0.
+    /// Fills `parts` with the texts of groups 1, 2 and so on of a match that is the whole haystack. Returns whether
+    /// there is one. All groups must participate in every match, and `parts` must have room for each but group 0.
     ///
-    /// The error is that memory ran out.
+    /// The error is out of memory.
     pub fn extract_full<'h>(
         &mut self,
         haystack: &'h str,
@@ -72,7 +72,7 @@ impl TextSearcher {
         ensures same { self.new ≡ self.old }
     {
         bites_spec::each_participates();
-        // What the proof takes from here: the names of the groups that are left, and how many participate.
+        // The proof takes from here the names of the groups that are left, and how many of them participate.
         let _names = self.regex.capture_names();
         let Some(captures) = self.regex.captures_full_with(&mut self.cache, haystack)? else {
             return Ok(false);
@@ -84,7 +84,7 @@ impl TextSearcher {
         Ok(true)
     }
 
-    /// Does as [`TextSearcher::extract_full`] with bytes. They are no match if they are not UTF-8.
+    /// Like [`TextSearcher::extract_full`], but takes bytes. Bytes that are not UTF-8 don't match.
     pub fn extract_full_bytes<'h>(
         &mut self,
         haystack: &'h [u8],

@@ -1,4 +1,4 @@
-//! Tables of patterns over texts. The first that matches a whole text is taken.
+//! Tables of patterns over texts, of which the first that matches a whole text is taken.
 
 ghost use Rattle.std.specs.Prelude.{◌≡◌, ◌<◌, length, option_map, MatchOption, IfOk, IfSome, IsUtf8};
 ghost use Rattle.bites_spec.specs.Anchored.{FindsGroupsFull};
@@ -13,7 +13,7 @@ use std::alloc::{AllocError, Global};
 use std::marker::Model;
 use std::str;
 
-/// A pattern over texts by its name.
+/// A named pattern over texts.
 ///
 /// A contract sees the name and the regex.
 #[derive(Drop)]
@@ -105,8 +105,8 @@ impl TextTable {
         &rule.name
     }
 
-    /// Returns the first rule that matches the whole text, with the groups of that match. None matches a text that isn't
-    /// UTF-8. The error is that memory ran out.
+    /// Returns the first rule that matches the whole text, with the groups of that match. No rule matches a text that
+    /// isn't UTF-8. The error is out of memory.
     pub fn first_full<'t>(&mut self, text: &'t [u8]) -> Result<Option<FullMatch<'t>>, AllocError>
         ensures first { IfOk result (λ r. MatchOption r (IsUtf8 text.now → NoneMatches self.old text.now)
             (λ x. IsFirst self.old text.now x.rule x.groups.slots)) }
@@ -120,8 +120,8 @@ impl TextTable {
     }
 }
 
-// Returns the first rule that matches the whole text, with the groups of that match. A text is UTF-8; the contract asks for it since
-// that of the method does.
+// Returns the first rule that matches the whole text, with the groups of that match. A `&str` is UTF-8 anyway. The
+// contract says so since the contract of the method does.
 fn first_full<'t>(
     rules: &mut [TextRule],
     text: &'t str,

@@ -1,4 +1,4 @@
--- The faults of states that are to be a program.
+-- The faults of states that are meant to be a program.
 use Rattle.std.specs.Prelude.{◌≡◌, ◌≤◌, ◌^◌, ℕ, List, Option, Some, None, codes}
 use Rattle.bites_spec.specs.Program.{Program, targets}
 use Rattle.bites_spec.specs.ProgramFaults as faults
@@ -15,7 +15,7 @@ IsFault fault BadTarget = fault ≡ Some faults.bad_target
 IsFault fault BadRanges = fault ≡ Some faults.bad_ranges
 IsFault fault Memory = ⊥
 
--- when an error is answered: the first fault, or Memory where there is none and the edges are too many for a usize
+-- when an error is returned: the first fault, or Memory if there is none and the edges are too many for a usize
 abbrev pub IsBad : Program → BadProgram → Type 0
 IsBad p TooMany = first_fault p ≡ Some faults.too_many
 IsBad p BadSlot = first_fault p ≡ Some faults.bad_slot

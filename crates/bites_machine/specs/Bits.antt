@@ -1,4 +1,4 @@
--- What is kept beside a list, so that it need not be walked.
+-- Summaries that are stored with a list, so that it need not be walked.
 use Rattle.std.specs.Prelude.{◌≡◌, ℕ, ◌<◌, ◌≤◌, ◌/◌, ◌%◌, ◌-◌, Bool, true, List, ◌==◌, if◌then◌else◌, length, slice_index}
 use Rattle.std.specs.Int.{bit_at}
 use Rattle.bites_spec.specs.Range.{Range, in_ranges}
@@ -7,15 +7,15 @@ use Rattle.bites_spec.specs.Range.{Range, in_ranges}
 abbrev pub has_bit : ℕ → ℕ → Bool
 has_bit bits n = bit_at bits n == 1
 
--- of each ASCII character a bit says whether it lies in one of the ranges, 64 characters a word
+-- a bit for each ASCII character, 64 in a word: whether it lies in one of the ranges
 abbrev pub HasAscii : List ℕ → List Range → Type 0
 HasAscii words ranges = (c : ℕ) → c < 128 → has_bit (slice_index words (c / 64)) (c % 64) ≡ in_ranges ranges c
 
--- whether one of the ranges may have a character above the ASCII characters
+-- whether one of the ranges may have a character past ASCII
 abbrev pub ReachesPast : Bool → List Range → Type 0
 ReachesPast reaches ranges = (c : ℕ) → 128 ≤ c → in_ranges ranges c ≡ true → reaches ≡ true
 
--- all targets; two are kept in place
+-- all targets; two of them are stored inline
 abbrev pub all_targets : ℕ → List ℕ → List ℕ → List ℕ
 all_targets len ends list = if len == 2 then ends else list
 

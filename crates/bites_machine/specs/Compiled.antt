@@ -9,15 +9,15 @@ use Rattle.bites_text.specs.declared.error.Error.TheVariants.{TooBig, TooManySta
 use Rattle.bites_machine.specs.Emitted.{Emitted, emit, grouped}
 use Rattle.bites_machine.specs.Sizes.{size_by}
 
--- the match, and group 0 around the tree in front of it
+-- the match, and group 0 around the tree, which leads on to it
 abbrev pub whole : Tree → Emitted
 whole t = grouped 0 (emit t) 0 (program.match ∷ [])
 
--- the program of a tree with so many groups
+-- the program of a tree with n groups
 abbrev pub program_of_tree : ℕ → Tree → Program
 program_of_tree n t = record { states = (whole t).states; start = (whole t).from; slots = 2 * n }
 
--- when an error is answered: the first limit that is exceeded, or want of memory where none is
+-- when an error is returned: the first limit that is exceeded, or out of memory if none is
 abbrev pub RefusesTree : ℕ → List (Option (List ℕ)) → Tree → Error → Type 0
 RefusesTree size_limit groups t TooBig = size_limit < size_with groups t
 RefusesTree size_limit groups t TooManyStates = (size_with groups t ≤ size_limit) × (4294967295 < states t)
@@ -26,7 +26,7 @@ RefusesTree size_limit groups t TooManySlots =
 RefusesTree size_limit groups t Memory = TreeLimitsWith size_limit groups t
 RefusesTree size_limit groups t _ = ⊥
 
--- the limits with so many groups that weigh so much
+-- the limits with this number of groups, of this size
 pub record LimitsBy (size_limit captures groups_size : ℕ) (t : Tree) : Type 0 where
   pub light : size_by groups_size t ≤ size_limit
   pub few_states : states t ≤ 4294967295

@@ -1,10 +1,10 @@
--- How the states of a tree are written behind others, from the end of the tree backwards.
+-- How the states of a tree are appended to others, from the end of the tree backwards.
 use Rattle.std.specs.Prelude.{ℕ, zero, suc, ◌+◌, ◌-◌, ◌*◌, Bool, true, false, not, List, [], ◌∷◌, ◌++◌, length, slice_set, Option, Some, None}
 use Rattle.bites_spec.specs.Tree.{Tree, Trees, empty, char, class, look, repetition, group, sequence, alternation, no_tree, tree_and, is_nullable}
 use Rattle.bites_spec.specs.Program as program
 use Rattle.bites_spec.specs.Program.{State}
 
--- the states that are there now, and the number of the one where what was written last is entered
+-- the states so far, and the number of the one where what was written last is entered
 pub record Emitted : Type 0 where
   pub states : List State
   pub from : ℕ
@@ -12,7 +12,7 @@ pub record Emitted : Type 0 where
 abbrev pub emitted : List State → ℕ → Emitted
 emitted states from = record { states = states; from = from }
 
--- what is written in front of a state, behind the states that are there
+-- what is appended to the states, and leads on to the state with this number
 abbrev pub Emitter : Type 0
 Emitter = ℕ → List State → Emitted
 
@@ -20,11 +20,11 @@ Emitter = ℕ → List State → Emitted
 abbrev pub pushed : List State → State → Emitted
 pushed states s = emitted (states ++ s ∷ []) (length states)
 
--- in front of what was written last
+-- written so that it leads on to what was written last
 abbrev pub in_front : Emitter → Emitted → Emitted
 in_front f e = f e.from e.states
 
--- so many copies of the body, one in front of the other
+-- a chain of n copies of the body
 abbrev pub again : ℕ → Emitter → Emitter
 again zero body to states = emitted states to
 again (suc n) body to states = in_front body (again n body to states)
@@ -45,11 +45,11 @@ options (suc n) greedy body out states = with_choice greedy out (in_front body (
 abbrev pub bounded : ℕ → Bool → Emitter → Emitter
 bounded n greedy body to states = in_front (options n greedy body) (pushed states (program.goto to None))
 
--- the body in front of a place that is kept for a choice
+-- the body that leads on to a state reserved for a choice
 abbrev pub around : Emitter → List State → Emitted
 around body states = body (length states) (states ++ program.fail ∷ [])
 
--- the choice is written to its place, and the body is where it is entered
+-- the choice is written to the reserved state, and the body is where it is entered
 abbrev pub looped : Bool → ℕ → ℕ → Emitted → Emitted
 looped greedy to place e = emitted (slice_set e.states place (choice greedy e.from to)) e.from
 
@@ -57,7 +57,7 @@ looped greedy to place e = emitted (slice_set e.states place (choice greedy e.fr
 abbrev pub loop : Bool → Emitter → Emitter
 loop greedy body to states = looped greedy to (length states) (around body states)
 
--- the choice is written to its place, and is where it is entered
+-- the choice is written to the reserved state, which is where it is entered
 abbrev pub starred : Bool → ℕ → ℕ → Emitted → Emitted
 starred greedy to place e = emitted (slice_set e.states place (choice greedy e.from to)) place
 
@@ -70,7 +70,7 @@ abbrev pub optional_loop : Bool → Emitter → Emitter
 optional_loop greedy body to states =
     with_choice greedy (length states) (in_front (loop greedy body) (pushed states (program.goto to None)))
 
--- n copies, one more, and up to so many more
+-- n copies, one more, and up to the given number of further ones
 abbrev pub copies_up_to : ℕ → ℕ → Bool → Emitter → Emitter
 copies_up_to n zero greedy body to states = in_front (again n body) (body to states)
 copies_up_to n (suc more) greedy body to states = in_front (again (suc n) body) (bounded (suc more) greedy body to states)
@@ -126,12 +126,12 @@ unfoldable mutual
   emit (sequence ts) to states = emit_all ts to states
   emit (alternation ts) to states = split (emit_each ts (length states) (states ++ program.goto to None ∷ []))
 
-  -- one in front of the other, the last first
+  -- a chain of the parts, the last written first
   pub emit_all : Trees → Emitter
   emit_all no_tree to states = emitted states to
   emit_all (tree_and t ts) to states = in_front (emit t) (emit_all ts to states)
 
-  -- the branches, each in front of `out`
+  -- the branches, each of which leads on to `out`
   pub emit_each : Trees → ℕ → List State → Branches
   emit_each no_tree out states = branches states []
   emit_each (tree_and t ts) out states = with_branch (emit t out states).from (emit_each ts out (emit t out states).states)

@@ -6,6 +6,6 @@ use Rattle.bites_machine.specs.declared.vm.stack.Frame.{Frame}
 abbrev pub frame_at : ℕ → ℕ → Frame
 frame_at pending_len state = record { state = state; pending_len = pending_len }
 
--- a frame of each state, with so many pending slots
+-- a frame of each state, with this number of pending slots
 abbrev pub framed : ℕ → List ℕ → List Frame
 framed pending_len states = map (frame_at pending_len) states

@@ -1,16 +1,16 @@
--- Templates as the code cuts them, and what their texts are appended to.
+-- Templates as the code cuts them.
 use Rattle.std.specs.Prelude.{◌≡◌, ℕ, List, [], ◌∷◌, ◌++◌, length, map, IsUtf8, ◌⊎◌}
 use Rattle.std.specs.Str.{IsValidUpTo}
 use Rattle.bites_spec.specs.Template as template
 use Rattle.bites_machine.specs.declared.interpolate.Part.{Part}
 use Rattle.bites_machine.specs.declared.interpolate.Part.TheVariants.{Text, Name}
 
--- the parts that a part of the code stands for
+-- the parts of the specification that a part of the code represents
 abbrev pub parts_in : Part → List template.Part
 parts_in (Text text) = map template.byte text.now
 parts_in (Name word) = template.name word.now ∷ []
 
--- the bytes are UTF-8, or this is their longest front that is
+-- the bytes are UTF-8, or the text is their longest prefix that is
 abbrev pub IsTextFront : (bytes text behind : List ℕ) → Type 0
 IsTextFront bytes text behind =
     (bytes ≡ text ++ behind) × IsUtf8 text × ((behind ≡ []) ⊎ IsValidUpTo bytes (length text))

@@ -18,7 +18,7 @@ in_parts ascii others c = if nat_lt c 128 then has_bit (slice_index ascii (c / 6
 abbrev pub Allows : LoopClosure → ℕ → Type 0
 Allows b c = (b.is_found ≡ true → in_parts b.ascii b.others c ≡ true) × (in_set b.taken b.taken_past_ascii c ≡ false)
 
--- the thread, once it has come to this state with what was written on the way
+-- the thread at this state, with the slots written on the path to it
 abbrev pub thread_at : LoopClosure → ℕ → Thread → ℕ → Thread
 thread_at b i t q = record { state = q; start = t.start; slots = with_pending i (reverse b.pending) t.slots }
 
@@ -26,7 +26,7 @@ thread_at b i t q = record { state = q; start = t.start; slots = with_pending i 
 abbrev pub next_of : LoopClosure → Thread → List Thread
 next_of b t = if b.is_found then t ∷ [] else []
 
--- the walk that the closure stands for, with these threads that came of the first one; behind them those are left
+-- the walk that the closure represents, with these threads in place of the first one, and the rest after them
 abbrev pub looped : LoopClosure → ℕ → Thread → List Thread → List Thread → ℕ → Walking
 looped b i t threads rest looks = record {
   stack = threads ++ (if is_some b.end then [] else rest);
@@ -36,20 +36,20 @@ looped b i t threads rest looks = record {
   looks = looks;
 }
 
--- The machine walks to where the closure is. Its threads are at the states of the stack, and as long as there was one way only, each of them has the same slots.
+-- The machine walks to this closure. Its threads are at the states of the stack, and have equal slots while there is one path.
 pub record WalksAlong (hay : List ℕ) (p : Program) (i : ℕ) (t : Thread) (rest : List Thread) (base looks : ℕ) (stack : List ℕ) (b : LoopClosure) : Type 0 where
   pub threads : List Thread
   pub walks : WalksTo hay false p i (fresh_walk (t ∷ rest) base) (looped b i t threads rest looks)
   pub states : map (λ (u : Thread). u.state) threads ≡ stack
   pub same : b.is_branched ≡ false → threads ≡ map (thread_at b i t) stack
 
--- So many looks from the state have this stack left. Where a character stands that is allowed, the machine walks to the same.
+-- After this number of looks the closure has this stack. The machine walks to it wherever an allowed character stands.
 pub record HasLooped (states : List State) (looks : ℕ) (stack : List ℕ) (b : LoopClosure) : Type 0 where
   pub over : (stack ≡ []) ⊎ (b.end ≡ None)
   pub walks : (p : Program) → p.states ≡ states → (hay : List ℕ) (i c : ℕ) → next_character hay i ≡ Some c → Allows b c → (t : Thread) → t.state ≡ b.state → (rest : List Thread) (base : ℕ) →
       WalksAlong hay p i t rest base (base + looks) stack b
 
--- one state more was visited
+-- one more state was visited
 abbrev pub seen_also : ℕ → LoopClosure → LoopClosure
 seen_also q b = record b { visited = q ∷ b.visited }
 
@@ -76,7 +76,7 @@ pub record HasTaken (q : ℕ) (rs : List Range) (old new : LoopClosure) : Type 0
   pub end : new.end ≡ old.end
   pub taken : LeadsBack q rs old new ⊎ LeadsAway rs old new
 
--- The slot was written: it is pending, or there are several ways now.
+-- The slot was written: it is pending, or there are several paths now.
 abbrev pub HasWritten : ℕ → ℕ → LoopClosure → LoopClosure → Type 0
 HasWritten slot left old new = ((left ≡ 0) × (new ≡ record old { pending = slot ∷ old.pending })) ⊎ (new ≡ record old { is_branched = true })
 

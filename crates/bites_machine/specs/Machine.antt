@@ -6,7 +6,7 @@ use Rattle.std.specs.Option.{option_or}
 use Rattle.bites_spec.specs.Utf8.{piece}
 use Rattle.bites_spec.specs.Program.{State, Program, Configuration, at, state_at, edges, char, ranges, capture, match}
 
--- a thread: the state that it is to walk from, the place where it was started, and its slots
+-- a thread: the state that it continues from, the place where it was started, and its slots
 pub record Thread : Type 0 where
   pub state : ℕ
   pub start : ℕ
@@ -30,7 +30,7 @@ pub record Searching : Type 0 where
   pub place : ℕ
   -- the threads that took the piece before this place, in order of preference
   pub threads : List Thread
-  -- the thread at the match that is the answer so far
+  -- the thread at the best match so far
   pub best : Option Thread
   -- the configurations that were visited, the last one first
   pub visits : List Configuration
@@ -46,13 +46,13 @@ with_write _ i slots = slots
 abbrev pub thread_on : ℕ → List (Option ℕ) → Configuration → Thread
 thread_on start slots s = record { state = s.state; start = start; slots = slots }
 
--- no thread is walked any more
+-- no thread is left
 abbrev pub is_empty : List Thread → Bool
 is_empty [] = true
 is_empty (t ∷ ts) = false
 
 module _ (hay : List ℕ) (longest : Bool) where
-  -- the threads that a match lets go on: none, or for the longest run those that did not start later
+  -- the threads that a match leaves: none, or for the longest run those that did not start later
   abbrev pub kept : Option Thread → List Thread → List Thread
   kept None ts = ts
   kept (Some first_match) ts = if longest then filter (λ t. nat_le t.start first_match.start) ts else []
@@ -61,7 +61,7 @@ module _ (hay : List ℕ) (longest : Bool) where
   abbrev pub moved : ℕ → State → Thread → List Thread
   moved i st t = map (thread_on t.start (with_write st i t.slots)) (edges hay st i)
 
-  -- The first thread of the stack visits its state; those behind it are given.
+  -- The first thread of the stack visits its state; the threads after it are given.
   unfoldable pub visited : ℕ → State → Thread → List Thread → Walking → Walking
   visited i match t rest w = record {
     stack = kept (option_or w.first_match (Some t)) rest;
@@ -97,7 +97,7 @@ module _ (hay : List ℕ) (longest : Bool) where
   dropped rest w = record { stack = rest; seen = w.seen; next = w.next; first_match = w.first_match; looks = suc w.looks }
 
   module _ (p : Program) where
-    -- a walk goes on with the first thread of the stack, and those behind it
+    -- a walk continues with the first thread of the stack, and those after it
     unfoldable pub stepped : ℕ → List Thread → Walking → Walking
     stepped i [] w = w
     stepped i (t ∷ rest) w =
@@ -111,13 +111,13 @@ module _ (hay : List ℕ) (longest : Bool) where
     abbrev pub WalksTo : ℕ → Walking → Walking → Type 0
     WalksTo i w v = (k : ℕ) × (iterate (step i) k w ≡ v)
 
-    -- how many slots are asked
+    -- the number of slots that are asked for
     module _ (width : ℕ) where
       -- a thread at the start
       abbrev pub started : ℕ → Thread
       started i = record { state = p.start; start = if longest then i else 0; slots = replicate width None }
 
-      -- a walk begins with the threads that are there, and the start behind them while nothing is found
+      -- a walk begins with the threads of the place, and the start after them while nothing is found
       abbrev pub begun : Searching → Walking
       begun s = record {
         stack = s.threads ++ (if is_some s.best then [] else started s.place ∷ []);
@@ -148,19 +148,19 @@ module _ (hay : List ℕ) (longest : Bool) where
       abbrev pub at_start : ℕ → Searching
       at_start start = record { place = start; threads = []; best = None; visits = []; looks = 0 }
 
-      -- whether the search is over behind that place
+      -- whether the search is over after a place
       module _ (earliest : Bool) where
-        -- the end of the haystack was searched, or the answer does not change any more
+        -- the end of the haystack was searched, or the result does not change any more
         abbrev pub is_over : ℕ → Searching → Bool
         is_over i t = ((piece hay i).len == 0) || (is_some t.best && (earliest || is_empty t.threads))
 
-        -- so many places from the start on were searched, and the search is not over
+        -- n places from the start on were searched, and the search is not over
         abbrev pub SearchedTo : ℕ → ℕ → Searching → Type 0
         SearchedTo start zero s = at_start start ≡ s
         SearchedTo start (suc n) t =
             (s : Searching) × SearchedTo start n s × Searches s t × (is_over s.place t ≡ false)
 
-        -- the search from the start on ended so
+        -- the search from the start on ended in this state
         pub record Searched (start : ℕ) (t : Searching) : Type 0 where
           pub places : ℕ
           pub before : Searching

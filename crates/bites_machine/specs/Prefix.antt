@@ -9,7 +9,7 @@ use Rattle.bites_machine.specs.Bits.{has_bit}
 use Rattle.bites_machine.specs.declared.prefix.StartClosure.{StartClosure}
 use Rattle.bites_machine.specs.declared.prefix.StartPrefix.{StartPrefix}
 
--- An epsilon closure that takes nothing: the states that are still to be looked at, those that were visited, the last one first, and the number of looks.
+-- A closure that takes nothing: the states still to be looked at, those visited, the last first, and the number of looks.
 pub record Blind : Type 0 where
   pub stack : List ℕ
   pub seen : List ℕ
@@ -41,15 +41,15 @@ blind_look states (q ∷ rest) b =
 abbrev pub blind_step : List State → Blind → Blind
 blind_step states b = blind_look states b.stack b
 
--- what so many looks from a state have visited
+-- what n looks from a state have visited
 unfoldable pub blind_from : List State → ℕ → ℕ → Blind
 blind_from states q n = iterate (blind_step states) n (record { stack = q ∷ []; seen = []; looks = 0 })
 
--- Whether a character is in the set: a bit for each ASCII character, 64 characters a word, and one answer for all others.
+-- Whether a character is in the set: a bit for each ASCII character, 64 in a word, and one value for all others.
 abbrev pub in_set : List ℕ → Bool → ℕ → Bool
 in_set words others c = if nat_lt c 128 then has_bit (slice_index words (c / 64)) (c % 64) else others
 
--- Whether the closure may visit the state without following it: it is no match, and its assertion, if it has one, is that of the start of the haystack.
+-- Whether a closure may visit the state without following it: no match, and no assertion but the start of the haystack.
 abbrev pub may_stay : Bool → State → Bool
 may_stay anchored (goto q (Some look.start)) = anchored
 may_stay anchored (goto q (Some a)) = false
@@ -65,7 +65,7 @@ pub record AreIdle (states : List State) (seen words : List ℕ) (others anchore
 abbrev pub TakesAlone : List State → List ℕ → ℕ → Type 0
 TakesAlone states seen q = (r c : ℕ) → Among seen r → takes (state_at states r) c ≡ true → q ≡ r
 
--- so many looks from the start visit the states of the prefix, and nothing is left
+-- the looks from the start visit the states of the prefix, and nothing is left
 pub record IsPrefix (states : List State) (start : ℕ) (x : StartPrefix) : Type 0 where
   pub stack : (blind_from states start x.looks.value).stack ≡ []
   pub seen : (blind_from states start x.looks.value).seen ≡ x.visited.value
@@ -117,7 +117,7 @@ pub record Follows (number : ℕ) (st : State) (from onto : List ℕ) (old new :
 abbrev pub IsAlone : List State → List ℕ → Bool → Option ℕ → Type 0
 IsAlone states seen several taker = several ≡ false → (r c : ℕ) → Among seen r → takes (state_at states r) c ≡ true → taker ≡ Some r
 
--- So many looks from the start have this stack left, and have visited the states of the prefix.
+-- After these looks from the start the stack is this one, and the states of the prefix were visited.
 pub record HasFound (states : List State) (start looks : ℕ) (stack : List ℕ) (x : StartClosure) : Type 0 where
   pub all : blind_from states start looks ≡ record { stack = stack; seen = x.visited; looks = looks }
   pub idle : AreIdle states x.visited x.ascii x.others x.anchored

@@ -23,7 +23,7 @@ match_of x i t = option_map (λ m. record { state = m; start = t.start; slots = 
 abbrev pub fresh_walk : List Thread → ℕ → Walking
 fresh_walk ts looks = record { stack = ts; seen = []; next = []; first_match = None; looks = looks }
 
--- the walk after the closure of a thread that stays; behind it these are left
+-- the walk after the closure of a thread that stays; the rest comes after it
 abbrev pub stayed : SelfLoop → ℕ → Thread → List Thread → ℕ → Walking
 stayed x i t rest looks = record {
   stack = if is_some x.end then [] else rest;
@@ -33,7 +33,7 @@ stayed x i t rest looks = record {
   looks = looks + x.looks.value;
 }
 
--- Where a character stands by which it stays, the closure of a thread at the state visits these states, adds the thread itself to those of the next place, and comes to a match or not.
+-- Where the thread stays by the character, its closure visits these states, keeps the thread alone, and reaches `end` if any.
 pub record IsSelfLoop (states : List State) (x : SelfLoop) : Type 0 where
   pub walks : (p : Program) → p.states ≡ states → (hay : List ℕ) (i c : ℕ) → next_character hay i ≡ Some c → stays_by x c ≡ true → (t : Thread) → t.state ≡ x.state → (rest : List Thread) (looks : ℕ) →
       WalksTo hay false p i (fresh_walk (t ∷ rest) looks) (stayed x i t rest looks)

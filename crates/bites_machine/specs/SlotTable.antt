@@ -10,7 +10,7 @@ pub record Pool : Type 0 where
   pub slots_per_row : ℕ
   pub max_slots : ℕ
 
--- so many rows, of so many slots each
+-- n rows, of the given number of slots each
 abbrev pub rows_of : ℕ → ℕ → List (Option ℕ) → List (List (Option ℕ))
 rows_of slots_per_row zero cells = []
 rows_of slots_per_row (suc n) cells = take slots_per_row cells ∷ rows_of slots_per_row n (drop slots_per_row cells)
@@ -53,11 +53,11 @@ pub record AreFree (free ref_counts : List ℕ) : Type 0 where
   pub apart : AllApart free
   pub number : length free + count_by is_used ref_counts + 1 ≡ length ref_counts
 
--- the counts of so many rows: those of the rows that were taken, and none for the others
+-- the counts of all rows: those of the rows that were taken, and 0 for the others
 abbrev pub ref_counts_of : ℕ → List ℕ → List ℕ
 ref_counts_of row_count ref_counts = ref_counts ++ replicate (row_count - length ref_counts) 0
 
--- The rows that were taken, of so many: the words of their slots, their counts, and those of them that are free. Nothing is written in row 0.
+-- The rows that were taken: the words of their slots, their counts, and which are free. Row 0 is empty.
 pub record AreTaken (row_count slots_per_row max_slots : ℕ) (words ref_counts unused : List ℕ) : Type 0 where
   pub free : AreFree unused ref_counts
   pub few : length ref_counts ≤ row_count

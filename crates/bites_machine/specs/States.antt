@@ -5,7 +5,7 @@ use Rattle.bites_syntax.specs.View.{look_of}
 use Rattle.bites_machine.specs.declared.state.State.{State}
 use Rattle.bites_machine.specs.declared.state.State.TheVariants.{Char, Ranges, Splits, Goto, Capture, Fail, Match}
 
--- what a state stands for
+-- the state of the specification that a state represents
 abbrev pub state_of : State → program.State
 state_of (Char target ch) = program.char target ch
 state_of (Ranges target ranges) = program.ranges target ranges
@@ -15,7 +15,7 @@ state_of (Capture target slot) = program.capture target slot
 state_of Fail = program.fail
 state_of Match = program.match
 
--- what states stand for
+-- the states of the specification that states represent
 abbrev pub states_of : List State → List program.State
 states_of states = map state_of states
 

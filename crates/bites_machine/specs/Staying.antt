@@ -13,7 +13,7 @@ use Rattle.bites_machine.specs.declared.prefix.StartPrefix.{StartPrefix}
 use Rattle.bites_machine.specs.declared.self_loop.SelfLoop.{SelfLoop}
 use Rattle.bites_machine.specs.declared.vm.threads.Thread.{Thread}
 
--- the prefix, if it is lent
+-- the referenced prefix, if there is one
 abbrev pub lent : Option (Bor StartPrefix) → Option StartPrefix
 lent = option_map (λ b. b.now)
 
@@ -36,7 +36,7 @@ pub record MayPass (x : SelfLoop) (rest : Option StartPrefix) (earliest found : 
   pub on : earliest ≡ true → (found ≡ false) × (x.end ≡ None)
   pub start : MatchOption rest ((found ≡ true) ⊎ (is_some x.end ≡ true)) (λ r. (found ≡ false) × (x.end ≡ None))
 
--- whether places were passed, and so a match was found
+-- whether places were passed and the loop reaches a match, so that one was found
 abbrev pub has_ended : SelfLoop → ℕ → ℕ → Bool
 has_ended x place here = nat_lt place here && is_some x.end
 
@@ -44,7 +44,7 @@ has_ended x place here = nat_lt place here && is_some x.end
 abbrev pub left_at : SelfLoop → ℕ → ℕ → ℕ → List (Option ℕ) → List (Option ℕ) → List (Option ℕ)
 left_at x place here last row slots = if has_ended x place here then with_pending last (reverse x.pending) row else slots
 
--- Places from one on and before another were passed, and the thread is where it was; the last of them is given.
+-- Places from one on and before another were passed, and the thread is unchanged; the last of them is given.
 pub record StaysAlong (hay : List ℕ) (place here last : ℕ) (states : List program.State) (x : SelfLoop) (rest : Option StartPrefix) (q : ℕ) (was now : Record) : Type 0 where
   pub gone : (p : Program) → IsProgramOf p states q → (earliest : Bool) (start : ℕ) (first slots : List (Option ℕ)) (pool : Pool) (t : Thread) (found : Bool) → length slots ≡ length first → length (slots_at pool t.row) ≡ length first →
       t.state ≡ x.state → MayPass x rest earliest found → HasReached p hay false earliest start first place found was pool (t ∷ []) slots →

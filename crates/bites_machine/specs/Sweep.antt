@@ -46,14 +46,14 @@ pub record ClosesFrames (hay : List ℕ) (longest : Bool) (place : ℕ) (states 
   pub walks : (p : Program) → p.states ≡ states → (others : List ℕ) → IsUsed old.rows (users_of old t others) →
       WalksTo hay longest p place (walking_at place old slots (thread_of old.rows t ∷ []) was) (walking_at place new left [] now)
 
--- how many frames the stack holds, and how many rows the slot table, where programs take so much
+-- the number of frames of the stack, and of rows of the slot table, for programs of this size
 abbrev pub frames_for : Fit → ℕ
 frames_for fit = fit.targets + 1
 
 abbrev pub rows_for : Fit → ℕ
 rows_for fit = 2 * fit.states + fit.targets + 2
 
--- what searches over these states take, but for slots
+-- the size of these states, without slots
 abbrev pub fit_in : List program.State → Fit
 fit_in states = record { states = length states; slots = 0; targets = sum_by (λ s. length (targets_of s)) states }
 
@@ -126,7 +126,7 @@ pub record ClosesAll (hay : List ℕ) (longest : Bool) (place : ℕ) (states : L
       (walking_at place old slots (machine.kept hay longest (first_match_of old.first_match slots) (map (thread_of old.rows) threads ++ starts_of longest place (length slots) begins)) was)
       (walking_at place new left [] now)
 
--- What holds between two places: this one is not searched yet, and nothing behind it.
+-- What holds between two places: neither this one nor a later one was searched yet.
 pub record InvariantBetweenSteps (states : List program.State) (place : ℕ) (walked : Record) (scratch : Scratch) (list : Listed) (slots_per_row : ℕ) : Type 0 where
   pub visited_set : length scratch.visited_set ≡ length states
   pub visits : (v : Configuration) → Among walked.visits v → v.place < place
@@ -141,7 +141,7 @@ pub record InvariantBetweenSteps (states : List program.State) (place : ℕ) (wa
   pub rows : length scratch.rows.ref_counts ≡ rows_for (fit_in states)
   pub wide : slots_per_row ≡ scratch.rows.slots_per_row
 
--- A search of the machine on lists stands at a place, with these threads, and this is what it found and did.
+-- A search of the machine on lists is at this place, with these threads, this result and this record.
 pub record Represents (s : Searching) (i : ℕ) (pool : Pool) (list : List Thread) (walked : Record) (first left : List (Option ℕ)) (is_found : Bool) : Type 0 where
   pub place : s.place ≡ i
   pub threads : s.threads ≡ map (thread_of pool) list
@@ -150,14 +150,14 @@ pub record Represents (s : Searching) (i : ℕ) (pool : Pool) (list : List Threa
   pub visits : s.visits ≡ walked.visits
   pub looks : s.looks ≡ walked.looks
 
--- A place was searched, with the start behind the threads if nothing was found before.
+-- A place was searched, with the start after the threads if nothing was found before.
 pub record PlaceSearched (hay : List ℕ) (longest : Bool) (place len : ℕ) (states : List program.State) (begins : Option ℕ) (was now : Record) (old new : Scratch) (threads later : List Thread) (slots left : List (Option ℕ)) : Type 0 where
   pub searches : (p : Program) → p.states ≡ states → (s : Searching) (first : List (Option ℕ)) (found : Bool) →
       begins ≡ (if found then None else Some p.start) → Represents s place old.rows threads was first slots found →
       (t : Searching) × Searches hay longest p (length slots) s t × Represents t (place + len) new.rows later now first left (found || is_some new.first_match)
 
 module _ (p : Program) (hay : List ℕ) (longest earliest : Bool) (start : ℕ) (old : List (Option ℕ)) where
-  -- the machine on lists has gone on to this place
+  -- the machine on lists has reached this place
   pub record HasReached (place : ℕ) (is_found : Bool) (walked : Record) (pool : Pool) (threads : List Thread) (slots : List (Option ℕ)) : Type 0 where
     pub places : ℕ
     pub now : Searching
@@ -178,7 +178,7 @@ module _ (p : Program) (hay : List ℕ) (longest earliest : Bool) (start : ℕ) 
 abbrev pub IsOfProgram : List program.State → Option ℕ → Type 0
 IsOfProgram states begins = (p : Program) × (p.states ≡ states) × IsWellFormed p × IfSome begins (λ q. q ≡ p.start)
 
--- There is room for the searches of programs that take so much: no fewer frames and rows, and no more.
+-- The room that programs of this size need: the exact numbers of frames and rows.
 pub record HasRoom (fit : Fit) (scratch : Scratch) (list : Listed) : Type 0 where
   pub visited_set : length scratch.visited_set ≡ fit.states
   pub pending_len : length scratch.rows.pending ≡ fit.states
@@ -212,12 +212,12 @@ pub record Passes (hay : List ℕ) (longest : Bool) (place here : ℕ) (states :
   pub gone : (p : Program) → IsProgramOf p states q → (earliest : Bool) (start : ℕ) (first slots : List (Option ℕ)) (pool : Pool) → length slots ≡ length first →
       HasReached p hay longest earliest start first place false was pool [] slots → HasReached p hay longest earliest start first here false now pool [] slots
 
--- Places were passed if the start is given and no thread is alive; else this is the same place, and nothing more was visited.
+-- Places were passed if the start is given and no thread is alive; else the place and the record are unchanged.
 abbrev pub PassesIdle : List ℕ → Bool → ℕ → ℕ → List program.State → Option ℕ → ℕ → Record → Record → Type 0
 PassesIdle hay longest place here states begins threads was now =
     ((here ≡ place) × (now ≡ was)) ⊎ ((threads ≡ 0) × (q : ℕ) × (begins ≡ Some q) × Passes hay longest place here states q was now)
 
--- The machine on lists searched from the start on, and this is what it found and did.
+-- The machine on lists searched from the start on, with this result and record.
 pub record SearchResult (p : Program) (hay : List ℕ) (longest earliest : Bool) (start : ℕ) (answer : Bool) (old new : List (Option ℕ)) (walked : Record) : Type 0 where
   pub last : Searching
   pub searched : Searched hay longest p (length old) earliest start last

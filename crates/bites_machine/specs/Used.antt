@@ -7,7 +7,7 @@ use Rattle.bites_machine.specs.SlotTable.{Pool, with_pending}
 abbrev pub slots_at : Pool → ℕ → List (Option ℕ)
 slots_at pool row = slice_index_or pool.rows row []
 
--- Each row counts these users, and nothing is written in row 0.
+-- Each row counts these users, and row 0 is empty.
 pub record IsUsed (pool : Pool) (users : List ℕ) : Type 0 where
   pub ref_counts : (row : ℕ) → row ≢ 0 → slice_index pool.ref_counts row ≡ count_by (λ user. user == row) users
   pub known : (row : ℕ) → Among users row → row < length pool.ref_counts
@@ -15,11 +15,11 @@ pub record IsUsed (pool : Pool) (users : List ℕ) : Type 0 where
   pub nothing : slots_at pool 0 ≡ replicate pool.slots_per_row None
   pub wide : (row : ℕ) → Among users row → length (slots_at pool row) ≡ pool.slots_per_row
 
--- the rows that have users, and row 0, are as they were
+-- row 0 and the rows that have users are unchanged
 abbrev pub KeepsRows : Pool → Pool → Type 0
 KeepsRows old new = (row : ℕ) → (row ≡ 0) ⊎ (0 < slice_index old.ref_counts row) → slots_at new row ≡ slots_at old row
 
--- A row for a thread that continues from another, with the slots that were pending on the way.
+-- A row for a thread that continues from another, with the slots that were pending on the path.
 pub record ForksTo (place row pending_len fresh : ℕ) (old new : Pool) : Type 0 where
   pub users : (users : List ℕ) → IsUsed old (row ∷ users) → IsUsed new (fresh ∷ row ∷ users)
   pub slots : slots_at new fresh ≡ with_pending place (take pending_len old.pending) (slots_at old row)

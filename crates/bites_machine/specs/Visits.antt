@@ -1,4 +1,4 @@
--- What a visit of a state asks, and what it leaves.
+-- What a visit of a state requires, and what it leaves.
 use Rattle.std.specs.Prelude.{◌≡◌, ℕ, suc, ◌+◌, ◌<◌, ◌≤◌, Bool, true, false, List, [], ◌∷◌, ◌++◌, map, length, Option, Some, None, IfSome, option_to_list, if◌then◌else◌, slice_index, sum}
 use Rattle.bites_spec.specs.Look.{Look, holds}
 use Rattle.bites_spec.specs.Walks.{Among}
@@ -14,7 +14,7 @@ use Rattle.bites_machine.specs.declared.vm.stack.Frame.{Frame}
 use Rattle.bites_machine.specs.declared.vm.closure.FirstMatch.{FirstMatch}
 use Rattle.bites_machine.specs.declared.vm.closure.Scratch.{Scratch}
 
--- whether an assertion lets a closure go on at a place, if there is one
+-- whether an assertion holds at a place, or there is none
 abbrev pub lets_on : Option Look → List ℕ → ℕ → Bool
 lets_on None hay i = true
 lets_on (Some look) hay i = holds look hay i
@@ -24,15 +24,15 @@ abbrev pub ArePending : Pool → ℕ → List Frame → Type 0
 ArePending pool max_slots [] = Unit {0}
 ArePending pool max_slots (f ∷ fs) = (f.pending_len ≤ max_slots) × ((k : ℕ) → k < f.pending_len → slice_index pool.pending k < pool.slots_per_row) × ArePending pool f.pending_len fs
 
--- for the longest run a thread did not start behind the one that came to a match
+-- for the longest run a thread did not start later than the one that reached a match
 abbrev pub IsStarted : Bool → ℕ → Option FirstMatch → Type 0
 IsStarted longest start first_match = longest ≡ true → IfSome first_match (λ h. start ≤ h.start)
 
--- the threads behind the one that is explored, after a visit
+-- the threads after the one that is explored, after a visit
 abbrev pub behind : List ℕ → Bool → program.State → Option machine.Thread → List machine.Thread → List machine.Thread
 behind hay longest st first_match rest = if is_match st then kept hay longest first_match rest else rest
 
--- The threads that took the piece stay, rows may have as many slots, and nothing is written to the slice where nothing is found.
+-- The threads that took the piece stay, rows may have as many slots, and the slice is unchanged if nothing is found.
 pub record Stays (old new : Scratch) (slots left : List (Option ℕ)) : Type 0 where
   pub threads : (row : ℕ) → Among (map row_of old.next.threads) row → Among (map row_of new.next.threads) row
   pub max_slots : new.rows.max_slots ≡ old.rows.max_slots

@@ -9,17 +9,17 @@ ghost use Rattle.bites_machine.specs.States.{state_of};
 use crate::ranges::words_of;
 use crate::state::State;
 
-/// A set of ASCII characters, and of all others or none.
+/// A set of ASCII characters, and of either all other characters or none.
 #[derive(Drop)]
 pub struct CharacterSet {
-    /// The ASCII characters, as the bits of their numbers.
+    /// A bit for each ASCII character: whether it is in the set.
     pub ascii: [u64; 2],
     /// Whether all other characters are in the set.
     pub others: bool,
 }
 
 impl CharacterSet {
-    /// The empty set.
+    /// Returns the empty set.
     pub(crate) fn new() -> CharacterSet {
         CharacterSet {
             ascii: [0, 0],
@@ -27,7 +27,7 @@ impl CharacterSet {
         }
     }
 
-    /// Adds the characters that the state takes, and with one past ASCII all of these.
+    /// Adds the characters that the state takes. If one of them is past ASCII, adds all characters past ASCII.
     pub(crate) fn add(&mut self, state: &State)
         ensures grows { (c : ℕ) → in_set self.old.ascii self.old.others c ≡ true →
             in_set self.new.ascii self.new.others c ≡ true }

@@ -1,4 +1,4 @@
-//! From the tree of a pattern to its program.
+//! Compiles the tree of a pattern to a program.
 
 ghost use Rattle.std.specs.Prelude.{◌≡◌, ◌+◌, ◌*◌, ◌<◌, ◌≤◌, ◌^◌, ℕ, IfOk, IfErr, OnOk, length, string_bytes, sum_by};
 ghost use Rattle.std.specs.Option.{SomeIff};
@@ -13,7 +13,9 @@ ghost use Rattle.bites_machine.specs.Compiled.{program_of_tree, LimitsBy, Refuse
 
 use crate::emit::States;
 use crate::group_names::GroupNames;
-use crate::groups::{names_left, names_of, static_captures_len, size_of_groups_left, size_of_groups};
+use crate::groups::{
+    names_left, names_of, size_of_groups, size_of_groups_left, static_captures_len,
+};
 use crate::program::Program;
 use crate::size::{Size, size_of};
 use crate::state::State;
@@ -23,13 +25,14 @@ use bites_syntax::tree::Tree;
 use bites_text::error::Error;
 use std::alloc::{AllocError, Global};
 
-/// The program of a tree that was read from this pattern, which it keeps, with the groups that are left in the tree.
+/// Compiles a tree to a program, which keeps `pattern` and the groups that are left in the tree.
 ///
-/// `size_limit` bounds the weight of the program: 32 for each state, 4 for each target of a split,
-/// 8 for each range, 16 for each number from 0 to the greatest of a group, and for each name its bytes
-/// and 4. A tree that is too heavy is refused with `TooBig` before any state is made, then one with
-/// more than 4294967295 states with `TooManyStates`, then one with a group of a number above
-/// 2147483647 with `TooManySlots`. Any other refusal is `Memory`.
+/// `size_limit` is roughly bytes: 32 for each state, 4 for each target of a split, 8 for each range, 16 for each group
+/// number from 0 to the greatest, and for each name its bytes and 4.
+///
+/// The limits are checked before any state is made. The error is `TooBig` if the program is larger than `size_limit`;
+/// else `TooManyStates` if it has more than 4294967295 states; else `TooManySlots` if a group number is above
+/// 2147483647. Any other error is `Memory`: out of memory.
 pub fn compile(
     alloc: Global,
     tree: &Tree,
@@ -53,8 +56,8 @@ pub fn compile(
     with_names(alloc, tree, states, names, pattern)
 }
 
-/// The program of a tree that was read from this pattern, with all of these groups, which may be more than
-/// those that are left in the tree. They are weighed instead of those; all else is as with [`compile`].
+/// Like [`compile`], but the program has all of `groups`, which may be more than those left in the tree. The limits
+/// count these groups instead.
 pub fn compile_with_groups(
     alloc: Global,
     tree: &Tree,
@@ -79,7 +82,7 @@ pub fn compile_with_groups(
     with_names(alloc, tree, states, names, pattern)
 }
 
-/// Asks the limits with the groups that are left in the tree. Returns the number of states that the program has.
+/// Checks the limits with the groups that are left in the tree. Returns the number of states of the program.
 fn left_within_limits(tree: &Tree, captures: usize, size_limit: usize) -> Result<usize, Error>
     requires compilable { IsCompilable tree.now }
     requires captures { captures ≡ captures_len tree.now }
@@ -87,10 +90,15 @@ fn left_within_limits(tree: &Tree, captures: usize, size_limit: usize) -> Result
     ensures classes { OnOk result (HasClasses tree.now) }
     ensures refused { IfErr result (RefusesTree size_limit (groups_left tree.now) tree.now) }
 {
-    within_limits(tree, captures, size_of_groups_left(tree, captures), size_limit)
+    within_limits(
+        tree,
+        captures,
+        size_of_groups_left(tree, captures),
+        size_limit,
+    )
 }
 
-/// Asks the limits with these groups. Returns the number of states that the program has.
+/// Checks the limits with these groups. Returns the number of states of the program.
 fn groups_within_limits(tree: &Tree, groups: &Groups, size_limit: usize) -> Result<usize, Error>
     requires compilable { IsCompilable tree.now }
     requires groups { HasItsGroups groups.now tree.now }
@@ -102,8 +110,8 @@ fn groups_within_limits(tree: &Tree, groups: &Groups, size_limit: usize) -> Resu
     within_limits(tree, groups.len(), size_of_groups(groups), size_limit)
 }
 
-/// Asks the limits, the weight first, with so many groups that weigh so much. Returns the number of states that the
-/// program has.
+/// Checks the limits, the size first, with `captures` groups of the given size. Returns the number of states of the
+/// program.
 fn within_limits(
     tree: &Tree,
     captures: usize,
@@ -129,7 +137,7 @@ fn within_limits(
     Ok(size.states() + 3)
 }
 
-/// The weight of the tree's program with groups that weigh so much, if a `usize` can hold it.
+/// Returns the size of the tree's program with groups of the given size, if it fits in a `usize`.
 fn program_size(tree: &Tree, size: Size, size_of_groups: usize) -> Option<usize>
     requires { size ≡ held_size (size_of tree.now) }
     ensures { SomeIff result (size_by size_of_groups tree.now < 2 ^ 64)
@@ -144,8 +152,8 @@ fn program_size(tree: &Tree, size: Size, size_of_groups: usize) -> Option<usize>
         .checked_add(size_of_groups)
 }
 
-/// The program of a tree that is within the limits, with two slots for each group of these names. Room for so many
-/// states is taken at once.
+/// Builds the program of a tree that is within the limits, with two slots for each group of `names`. Reserves room for
+/// `capacity` states at once.
 fn with_names(
     alloc: Global,
     tree: &Tree,
@@ -177,7 +185,7 @@ fn with_names(
     Ok(program)
 }
 
-/// The states of group 0 around the tree and of the match, and the number of the first.
+/// Writes the states of the match and of group 0 around the tree. Returns them with the number of the start state.
 fn whole_states(
     alloc: Global,
     tree: &Tree,

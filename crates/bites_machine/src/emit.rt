@@ -1,4 +1,4 @@
-//! The states of a program as they are written, from its end backwards.
+//! Writes the states of a program, from its end backwards.
 
 ghost use Rattle.std.specs.Prelude.{◌≡◌, ◌+◌, ◌*◌, ◌<◌, ◌≤◌, length, slice_set, None, Some, IfOk};
 ghost use Rattle.bites_spec.specs.Tree as spec;
@@ -15,7 +15,9 @@ use bites_syntax::tree::{Class, Kind, Tree};
 use std::alloc::{AllocError, Global};
 use std::marker::Model;
 
-/// The states that were written. A contract sees what they stand for.
+/// The states that were written so far.
+///
+/// For proofs: contracts see the states of the specification that these represent.
 #[derive(Drop)]
 pub struct States {
     alloc: Global,
@@ -37,7 +39,7 @@ impl States {
     ghost use Rattle.std.specs.Prelude.{[]};
     ghost use Rattle.bites_machine.specs.States.{states_of};
 
-    /// No state yet, with room for so many.
+    /// Returns an empty list with room for `capacity` states.
     pub fn with_capacity(alloc: Global, capacity: usize) -> Result<States, AllocError>
         ensures { IfOk result (λ states. states ≡ []) }
     {
@@ -45,14 +47,14 @@ impl States {
         Ok(States { alloc, list })
     }
 
-    /// The states as a list.
+    /// Returns the states as a vector.
     pub fn into_vec(self) -> Vec<State>
         ensures { states_of result.items ≡ self }
     {
         self.list
     }
 
-    /// Writes one more state, and answers its number.
+    /// Writes one more state. Returns its number.
     pub fn push(&mut self, state: State) -> Result<u32, AllocError>
         requires { length self.old < 4294967295 }
         ensures { IfOk result (λ number. emitted self.new number
@@ -63,7 +65,7 @@ impl States {
         Ok(number)
     }
 
-    /// Writes a state to a place that was kept for it.
+    /// Overwrites the state with this number.
     fn put(&mut self, number: u32, state: State)
         requires { number < length self.old }
         ensures { self.new ≡ slice_set self.old number (state_of state) }
@@ -81,8 +83,7 @@ impl States {
         self.ranges(ranges, to)
     }
 
-    /// Writes so many states of a class, one in front of the other. Each has a copy of what was found of the ranges
-    /// once.
+    /// Writes a chain of `count` states of a class. The ranges are prepared once and then copied.
     fn classes(&mut self, count: u32, class: &Class, to: u32) -> Result<u32, AllocError>
         requires { length self.old + count ≤ 4294967295 }
         ensures { IfOk result (λ from. emitted self.new from
@@ -96,7 +97,7 @@ impl States {
         Ok(from)
     }
 
-    /// Writes the state of a class of these ranges.
+    /// Writes a state that takes these ranges, or `Fail` if there are none.
     fn ranges(&mut self, ranges: Ranges, to: u32) -> Result<u32, AllocError>
         requires { length self.old < 4294967295 }
         ensures { IfOk result (λ from. emitted self.new from
@@ -108,7 +109,7 @@ impl States {
         self.push(State::Ranges { target: to, ranges })
     }
 
-    /// Writes a choice between two states, the first preferred if it is greedy, else the second.
+    /// Writes a split between two states. The first is preferred if it is greedy, else the second.
     fn choose(&mut self, greedy: bool, round: u32, leave: u32) -> Result<u32, AllocError>
         requires { length self.old < 4294967295 }
         ensures { IfOk result (λ from. emitted self.new from
@@ -118,7 +119,7 @@ impl States {
         self.push(state)
     }
 
-    /// A choice between two states, the first preferred if it is greedy, else the second.
+    /// Returns a split between two states. The first is preferred if it is greedy, else the second.
     fn choice(&self, greedy: bool, round: u32, leave: u32) -> State
         ensures { state_of result ≡ choice greedy round leave }
     {
@@ -128,7 +129,8 @@ impl States {
         }
     }
 
-    /// Writes the states of a tree in front of the state `to`, and answers where they are entered.
+    /// Writes the states of a tree, which lead on to the state `to`. Returns the number of the state where they are
+    /// entered.
     #[cycle(emit)]
     pub fn emit(&mut self, tree: &Tree, to: u32) -> Result<u32, AllocError>
         requires reduced { IsReduced tree.now }
@@ -182,7 +184,7 @@ impl States {
         })
     }
 
-    /// Writes at least so many turns, without a bound.
+    /// Writes at least `min` turns, without an upper bound.
     #[cycle(emit)]
     fn unbounded(&mut self, min: u32, greedy: bool, sub: &Tree, to: u32) -> Result<u32, AllocError>
         requires reduced { IsReduced sub.now }
@@ -203,7 +205,7 @@ impl States {
         }
     }
 
-    /// Writes at least and at most so many turns.
+    /// Writes `min` to `max` turns.
     #[cycle(emit)]
     fn counted(
         &mut self,
@@ -239,7 +241,7 @@ impl States {
         }
     }
 
-    /// Writes so many copies, one in front of the other.
+    /// Writes a chain of `count` copies.
     #[cycle(emit)]
     fn copies(&mut self, count: u32, sub: &Tree, to: u32) -> Result<u32, AllocError>
         requires reduced { IsReduced sub.now }
@@ -261,7 +263,7 @@ impl States {
         Ok(from)
     }
 
-    /// Writes up to so many copies, and one state that all ways out lead to.
+    /// Writes up to `count` copies, and one state that all exits lead to.
     #[cycle(emit)]
     fn bounded(&mut self, count: u32, greedy: bool, sub: &Tree, to: u32) -> Result<u32, AllocError>
         requires reduced { IsReduced sub.now }
@@ -283,7 +285,7 @@ impl States {
         Ok(from)
     }
 
-    /// Writes the body, and behind it a choice between it again and leaving.
+    /// Writes the body, and after it a split that repeats it or leaves.
     #[cycle(emit)]
     fn looped(&mut self, greedy: bool, sub: &Tree, to: u32) -> Result<u32, AllocError>
         requires reduced { IsReduced sub.now }
@@ -299,7 +301,7 @@ impl States {
         Ok(from)
     }
 
-    /// Writes a choice between the body, which leads back to it, and leaving.
+    /// Writes a split that enters the body or leaves. The body leads back to the split.
     #[cycle(emit)]
     fn star(&mut self, greedy: bool, sub: &Tree, to: u32) -> Result<u32, AllocError>
         requires reduced { IsReduced sub.now }
@@ -315,7 +317,7 @@ impl States {
         Ok(from)
     }
 
-    /// Writes a choice between a loop and leaving, both to one state.
+    /// Writes a split that enters a loop or leaves. Both lead on to one state.
     #[cycle(emit)]
     fn optional_loop(&mut self, greedy: bool, sub: &Tree, to: u32) -> Result<u32, AllocError>
         requires reduced { IsReduced sub.now }

@@ -1,4 +1,4 @@
-//! Faults of states that are to be a program.
+//! Finds why states are not a program.
 
 ghost use Rattle.std.specs.Prelude.{◌≡◌, MatchOption, IfSome, IfNone, nat_lt, length, Some, None};
 ghost use Rattle.std.specs.List.{list_all};
@@ -11,7 +11,7 @@ ghost use Rattle.bites_machine.specs.Bad.{IsFault, fault_text};
 use crate::state::State;
 use std::fmt;
 
-/// Why states are no program.
+/// Why states are not a program.
 #[derive(Clone, Copy, Debug, PartialEq, Eq)]
 pub enum BadProgram {
     /// There are more than 4294967295 states.
@@ -29,7 +29,7 @@ pub enum BadProgram {
 }
 
 impl BadProgram {
-    /// The message: one line of ASCII with no line end.
+    /// Returns the message: one line of ASCII without a line end.
     pub const fn text(&self) -> &'static str
         ensures { result.now ≡ fault_text self.now }
     {
@@ -54,7 +54,7 @@ impl fmt::Display for BadProgram {
 
 impl std::error::Error for BadProgram {}
 
-/// The first fault of a state among so many states, in a program of so many slots.
+/// Returns the first fault of a state in a program of `len` states and `slots` slots.
 pub fn fault_of(state: &State, len: usize, slots: u32) -> Option<BadProgram>
     ensures { MatchOption result (faults.fault_of len slots (state_of state.now) ≡ None)
         (IsFault (faults.fault_of len slots (state_of state.now))) }
@@ -70,7 +70,7 @@ pub fn fault_of(state: &State, len: usize, slots: u32) -> Option<BadProgram>
     }
 }
 
-/// The first fault of the states, each asked in order.
+/// Returns the first fault of the states, each checked in order.
 pub fn first_fault_of(states: &[State], slots: u32) -> Option<BadProgram>
     ensures none { IfNone result
         (first_among (faults.fault_of (length states.now) slots) (states_of states.now)

@@ -1,11 +1,13 @@
-//! A few ranges of characters, kept in place.
+//! A few ranges of characters, stored inline.
 
 ghost use Rattle.std.specs.Prelude.{◌≡◌, ◌∷◌, ℕ, [], true, IfSome, IfNone};
 ghost use Rattle.bites_spec.specs.Range.{in_ranges};
 
 use std::marker::Model;
 
-/// Up to four ranges of characters, whose ends belong to them. Contracts see their list, the last one first.
+/// Up to four inclusive ranges of characters.
+///
+/// For proofs: contracts see the list of the ranges, the last one first.
 #[derive(Drop)]
 pub struct FewRanges {
     ranges: [(char, char); 4],
@@ -24,7 +26,7 @@ impl Model for FewRanges {
 }
 
 impl FewRanges {
-    /// No ranges.
+    /// Returns no ranges.
     pub(crate) fn new() -> FewRanges
         ensures { result ≡ [] }
     {
@@ -34,7 +36,7 @@ impl FewRanges {
         }
     }
 
-    /// Those of these ranges that end past ASCII, or the first four of them.
+    /// Returns the first four of the ranges that end past ASCII, or all of these if there are fewer.
     pub(crate) fn past_ascii(ranges: &[(char, char)]) -> FewRanges
         ensures { (c : ℕ) → in_ranges result c ≡ true → in_ranges ranges.now c ≡ true }
     {
@@ -47,7 +49,7 @@ impl FewRanges {
         few
     }
 
-    /// Whether there is no range.
+    /// Returns whether there is no range.
     #[inline(always)]
     pub(crate) fn is_empty(&self) -> bool
         ensures { result ≡ true → self.now ≡ [] }
@@ -55,7 +57,7 @@ impl FewRanges {
         self.len == 0
     }
 
-    // Puts a range after the others. Returns `None` if there is no room.
+    // Appends a range. Returns `None` if there is no room.
     fn push(&mut self, first: char, last: char) -> Option<()>
         ensures some { IfSome result (λ _. self.new ≡ (first, last) ∷ self.old) }
         ensures none { IfNone result (self.new ≡ self.old) }

@@ -7,10 +7,13 @@ ghost use Rattle.bites_machine.specs.Names.{bytes_of};
 use std::alloc::Global;
 use std::marker::Model;
 
-/// For each group of a pattern its name, if it has one. It takes no memory where group 0 is alone. Contracts see the list.
+/// The name of each group of a pattern, if it has one. Groups without a name after the last stored one are only
+/// counted.
+///
+/// For proofs: contracts see the list of the names.
 #[derive(Drop)]
 pub struct GroupNames {
-    // Those of the first groups.
+    // The names of the first groups.
     names: Vec<Option<String>>,
     // How many groups without a name come after them.
     unnamed: usize,
@@ -28,7 +31,7 @@ impl Model for GroupNames {
 }
 
 impl GroupNames {
-    /// So many groups without a name. It takes no memory.
+    /// Returns `count` groups without a name. Allocates nothing.
     pub(crate) fn none(alloc: Global, count: usize) -> GroupNames
         ensures { result ≡ replicate count None }
     {
@@ -38,21 +41,21 @@ impl GroupNames {
         }
     }
 
-    /// Groups with these names.
+    /// Returns groups with these names.
     pub(crate) fn of(names: Vec<Option<String>>) -> GroupNames
         ensures { result ≡ bytes_of names.items }
     {
         GroupNames { names, unnamed: 0 }
     }
 
-    /// The number of groups.
+    /// Returns the number of groups.
     pub(crate) fn len(&self) -> usize
         ensures { result ≡ length self.now }
     {
         self.names.len() + self.unnamed
     }
 
-    /// The name of the group with this number, if there is such a group and it has one.
+    /// Returns the name of the group with this number, if there is such a group and it has one.
     pub(crate) fn get(&self, group: usize) -> Option<&str>
         ensures { option_copied result ≡ slice_index_or self.now group None }
     {

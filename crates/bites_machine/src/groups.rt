@@ -1,4 +1,4 @@
-//! What a program knows of the groups of its tree.
+//! The groups of a program: their names, their size, and how many participate in any match.
 
 ghost use Rattle.std.specs.Prelude.{◌≡◌, ◌+◌, ◌<◌, ◌≤◌, ◌==◌, length, replicate, None, IfOk, OnOk, sum_by, option_map, string_bytes};
 ghost use Rattle.bites_spec.specs.Tree.{trees_of, sequence, groups_in, groups_in_all, greatest, captures_len, names_in, names_in_all, IsReduced};
@@ -14,7 +14,7 @@ use bites_syntax::measure::static_count;
 use bites_syntax::tree::{Kind, Name, Tree};
 use std::alloc::{AllocError, Global};
 
-/// What the names of the groups weigh. A weight that is too large for a `usize` is held as the greatest.
+/// Returns the size of the names of the tree's groups, which saturates.
 #[cycle(size_of_names)]
 fn size_of_names(tree: &Tree) -> usize
     ensures { result ≡ held (sum_by name_size (names_in tree.now)) }
@@ -55,8 +55,8 @@ fn size_of_text(text: &str) -> usize
     text.len().saturating_add(4)
 }
 
-/// How many groups participate in every match, with group 0, if the form of the tree says so. The tree has groups
-/// below this number; where group 0 alone is, no walk is needed.
+/// Returns a lower bound on the number of groups that participate in any match, group 0 counted, if the form of the
+/// tree gives one. All group numbers of the tree are below `captures`; if that is 1, the tree is not walked.
 pub fn static_captures_len(tree: &Tree, captures: usize) -> Option<usize>
     requires reduced { IsReduced tree.now }
     requires room { (size_of tree.now).states ≤ 4294967295 }
@@ -69,7 +69,7 @@ pub fn static_captures_len(tree: &Tree, captures: usize) -> Option<usize>
     Some(1 + static_count(tree)?)
 }
 
-/// Writes the name of each group of the tree to its place.
+/// Writes the name of each group of the tree to its index.
 #[cycle(write_names)]
 fn write_names(
     alloc: Global,
@@ -116,7 +116,7 @@ fn copy_of_name(alloc: Global, name: &Option<Name>) -> Result<Option<String>, Al
     }
 }
 
-/// So many groups without a name.
+/// Returns `count` groups without a name.
 fn no_names(alloc: Global, count: usize) -> Result<Vec<Option<String>>, AllocError>
     ensures { IfOk result (λ names. bytes_of names.items ≡ replicate count None) }
 {
@@ -127,7 +127,7 @@ fn no_names(alloc: Global, count: usize) -> Result<Vec<Option<String>>, AllocErr
     Ok(names)
 }
 
-/// The name of each group that is left in the tree, from group 0 on.
+/// Returns the name of each group that is left in the tree, from group 0 on.
 pub fn names_left(alloc: Global, tree: &Tree, captures: usize) -> Result<GroupNames, AllocError>
     requires reduced { IsReduced tree.now }
     requires apart { AllApart (groups_in tree.now) }
@@ -142,7 +142,7 @@ pub fn names_left(alloc: Global, tree: &Tree, captures: usize) -> Result<GroupNa
     Ok(GroupNames::of(names))
 }
 
-/// What the groups that are left in the tree weigh. A weight that is too large for a `usize` is held as the greatest.
+/// Returns the size of the groups that are left in the tree, which saturates.
 pub fn size_of_groups_left(tree: &Tree, captures: usize) -> usize
     requires reduced { IsReduced tree.now }
     requires apart { AllApart (groups_in tree.now) }
@@ -166,7 +166,7 @@ fn size_of_group(name: Option<&str>) -> usize
     }
 }
 
-/// What these groups weigh. A weight that is too large for a `usize` is held as the greatest.
+/// Returns the size of these groups, which saturates.
 pub fn size_of_groups(groups: &Groups) -> usize
     ensures { result ≡ held (sum_by group_size groups.now) }
 {
@@ -177,7 +177,7 @@ pub fn size_of_groups(groups: &Groups) -> usize
     all
 }
 
-/// The name of each of these groups.
+/// Returns the name of each of these groups.
 pub fn names_of(alloc: Global, groups: &Groups) -> Result<GroupNames, AllocError>
     ensures { IfOk result (λ names. names ≡ groups.now) }
 {

@@ -1,5 +1,4 @@
-//! What a template stands for: `$$` is a `$`, `$name` and `${name}` are what a group matched, and all
-//! else stands for itself.
+//! Expands templates: `$$` stands for a `$`, `$name` and `${name}` for what a group matched, and all else for itself.
 
 ghost use Rattle.std.specs.Prelude.{◌≡◌, ◌++◌, ◌+◌, ◌<◌, ◌∷◌, ℕ, List, length, if◌then◌else◌, is_ok, false, true, not, ◌==◌, drop, option_map, string_bytes, option_and_then, slice_index, ◌≢◌, MatchOption, IfSome, ◌≤◌, ◌*◌, Some, None, Option};
 ghost use Rattle.std.specs.List.{prefix_len};
@@ -15,11 +14,11 @@ use bites_text::utf8::is_word_byte;
 use std::alloc::AllocError;
 use std::str;
 
-/// Appends the text of a template: `text_of` gives what the group with a number matched, and
-/// `index_of` the number of a name.
+/// Appends the expansion of a template. `text_of` returns the text that a group matched, and `index_of` the group
+/// number of a name. A name without a group and a group without a text expand to nothing.
 ///
-/// After a refusal `dst` is the old text followed by a beginning of what the template stands for.
-/// The work is linear in the template and in what is appended, beside the calls.
+/// The error is out of memory: `dst` is then the old text followed by a prefix of the expansion. The work is linear in
+/// the template and in what is appended, apart from the calls.
 pub fn string<'t, T, I>(
     template: &str,
     text_of: T,
@@ -57,11 +56,10 @@ where
     Ok(())
 }
 
-/// Appends the text of a template over bytes, as [`string`] does; braces over bytes that are no UTF-8
-/// leave their `$` as it is.
+/// Like [`string`], but over bytes. A `$` before braces around bytes that are not UTF-8 stands for itself.
 ///
-/// After a refusal `dst` is the old bytes followed by a beginning of what the template stands for.
-/// The work is linear in the template and in what is appended, beside the calls.
+/// The error is out of memory: `dst` is then the old bytes followed by a prefix of the expansion. The work is linear in
+/// the template and in what is appended, apart from the calls.
 pub fn bytes<'t, T, I>(
     template: &[u8],
     text_of: T,
@@ -90,7 +88,7 @@ where
     }
 }
 
-/// The longest front that is UTF-8, and what stands behind it.
+/// Returns the longest prefix that is UTF-8, and the bytes after it.
 fn text_front(bytes: &[u8]) -> (&str, &[u8])
     ensures { IsTextFront bytes.now result.0.now result.1.now }
 {
@@ -103,7 +101,7 @@ fn text_front(bytes: &[u8]) -> (&str, &[u8])
     }
 }
 
-/// The same over a text.
+/// Appends the expansion of a template that is a text.
 fn bytes_of_text<'t, T, I>(
     template: &str,
     text_of: &T,
@@ -141,7 +139,7 @@ where
     Ok(())
 }
 
-/// The number of the group that a name means: a number means itself.
+/// Returns the group number of a name. A number means itself.
 fn group_named<I>(name: &str, index_of: &I) -> Option<usize>
 where
     I: Fn(&str) -> Option<usize>,
@@ -162,7 +160,7 @@ enum Part<'t> {
     Name(&'t str),
 }
 
-/// What is left of a template.
+/// The rest of a template.
 #[derive(Clone, Copy)]
 struct Rest<'t> {
     text: &'t str,
@@ -171,7 +169,7 @@ struct Rest<'t> {
     ghost closes: { may_close ≡ false → IsNew 125 text.now },
 }
 
-/// The next part, and what is left behind it.
+/// Returns the next part, and the rest after it.
 fn next_part(rest: Rest<'_>) -> (Part<'_>, Rest<'_>)
     requires { 0 < length rest.text.now }
     ensures cuts { CutsFront true rest.entry.text.now (parts_in result.0) result.1.text.now }
@@ -192,22 +190,22 @@ fn next_part(rest: Rest<'_>) -> (Part<'_>, Rest<'_>)
     )
 }
 
-/// The part that a `$` begins.
+/// Returns the part that a `$` begins, and the rest after it.
 fn after_dollar(rest: Rest<'_>) -> (Part<'_>, Rest<'_>)
     requires { BeginsWith 36 rest.text.now }
     ensures cuts { CutsFront true rest.entry.text.now (parts_in result.0) result.1.text.now }
     ensures shorter { length result.1.text.now < length rest.entry.text.now }
 {
-    let behind = behind_first(rest);
+    let behind = after_first_part(rest);
     match behind.text.as_bytes().first() {
-        Some(b'$') => (Part::Text("$"), behind_first(behind)),
+        Some(b'$') => (Part::Text("$"), after_first_part(behind)),
         Some(b'{') => in_braces(behind),
         _ => in_word(behind),
     }
 }
 
-/// What is left behind a first character of ASCII.
-fn behind_first(rest: Rest<'_>) -> Rest<'_>
+/// Returns the rest after its first character, which is ASCII.
+fn after_first_part(rest: Rest<'_>) -> Rest<'_>
     requires some { 0 < length rest.text.now }
     requires ascii { slice_index rest.text.now 0 < 128 }
     ensures { result.text.now ≡ drop 1 rest.entry.text.now }
@@ -217,7 +215,7 @@ fn behind_first(rest: Rest<'_>) -> Rest<'_>
     Rest { text, may_close }
 }
 
-/// The text behind its first character, which is one of ASCII.
+/// Returns the text after its first character, which is ASCII.
 fn tail(text: &str) -> &str
     requires some { 0 < length text.now }
     requires ascii { slice_index text.now 0 < 128 }
@@ -226,13 +224,13 @@ fn tail(text: &str) -> &str
     &text[1..]
 }
 
-/// The part of a `$` before an opening brace.
+/// Returns the part of a `$` before an opening brace, and the rest after it.
 fn in_braces(rest: Rest<'_>) -> (Part<'_>, Rest<'_>)
     requires { BeginsWith 123 rest.text.now }
     ensures cuts { CutsFront true (36 ∷ rest.entry.text.now) (parts_in result.0) result.1.text.now }
     ensures shorter { length result.1.text.now < length rest.entry.text.now + 1 }
 {
-    let inside = behind_first(rest);
+    let inside = after_first_part(rest);
     if !inside.may_close {
         return (Part::Text("$"), rest);
     }
@@ -250,10 +248,10 @@ fn in_braces(rest: Rest<'_>) -> (Part<'_>, Rest<'_>)
         text: behind,
         may_close: true,
     };
-    (Part::Name(name), behind_first(closing))
+    (Part::Name(name), after_first_part(closing))
 }
 
-/// The part of a `$` before no dollar and no brace.
+/// Returns the part of a `$` before neither a `$` nor an opening brace, and the rest after it.
 fn in_word(rest: Rest<'_>) -> (Part<'_>, Rest<'_>)
     requires dollar { (tail : List ℕ) → rest.text.now ≢ 36 ∷ tail }
     requires brace { (tail : List ℕ) → rest.text.now ≢ 123 ∷ tail }
@@ -275,21 +273,22 @@ fn in_word(rest: Rest<'_>) -> (Part<'_>, Rest<'_>)
     )
 }
 
-/// How many bytes come before the first of this value.
+/// Returns the number of bytes before the first of this value, or of all bytes if there is none.
 fn len_before(byte: u8, bytes: &[u8]) -> usize
     ensures { result ≡ prefix_len (λ b. not (b == byte)) bytes.now }
 {
     bytes.iter().take_while(|other| **other != byte).count()
 }
 
-/// How many bytes of a word come first.
+/// Returns the number of word bytes at the beginning.
 fn word_len(bytes: &[u8]) -> usize
     ensures { result ≡ prefix_len look.is_word_byte bytes.now }
 {
     bytes.iter().take_while(|byte| is_word_byte(**byte)).count()
 }
 
-/// The number that a name is, with one `+` in front or none, if a `usize` holds it.
+/// Parses a name as a number, with an optional leading `+`. Returns `None` if it is not a number or too large for a
+/// `usize`.
 fn number_in(name: &[u8]) -> Option<usize>
     ensures { result ≡ number_in usize.MAX name.now }
 {
@@ -300,7 +299,8 @@ fn number_in(name: &[u8]) -> Option<usize>
     }
 }
 
-/// The number that digits are, if there is one and a `usize` holds it.
+/// Parses digits as a number. Returns `None` if there are none, if another byte is among them, or if the number is too
+/// large for a `usize`.
 fn number_of_digits(digits: &[u8]) -> Option<usize>
     ensures { result ≡ number_of_digits usize.MAX digits.now }
 {
@@ -320,7 +320,7 @@ fn number_of_digits(digits: &[u8]) -> Option<usize>
     Some(number)
 }
 
-/// The number with one more digit behind it, if a `usize` holds it.
+/// Returns the number with one more digit appended, if it fits in a `usize`.
 fn with_digit(number: usize, digit: u8) -> Option<usize>
     ensures digits { MatchOption result (usize.MAX < number * 10 + digit)
         (λ longer. longer ≡ number * 10 + digit) }

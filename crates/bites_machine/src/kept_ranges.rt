@@ -7,8 +7,9 @@ use crate::few_ranges::FewRanges;
 use crate::ranges::Ranges;
 use std::marker::Model;
 
-/// Ranges of a state with characters past ASCII: all, if a copy of them takes no memory, else a few. Contracts see their
-/// list.
+/// Ranges of a state that takes characters past ASCII: all of them if a copy allocates nothing, else a few.
+///
+/// For proofs: contracts see the list of the ranges.
 #[derive(Drop)]
 pub struct KeptRanges {
     kept: Kept,
@@ -31,7 +32,7 @@ impl Model for KeptRanges {
 }
 
 impl KeptRanges {
-    /// No ranges.
+    /// Returns no ranges.
     pub(crate) fn none() -> KeptRanges
         ensures { result ≡ [] }
     {
@@ -40,7 +41,7 @@ impl KeptRanges {
         }
     }
 
-    /// These ranges, or a few of them; none if all their characters are ASCII.
+    /// Keeps these ranges or a few of them, or none if all their characters are ASCII.
     pub(crate) fn of(ranges: &Ranges) -> KeptRanges
         ensures { (c : ℕ) → in_ranges result c ≡ true → in_ranges ranges.now c ≡ true }
     {
@@ -54,7 +55,7 @@ impl KeptRanges {
         KeptRanges { kept }
     }
 
-    /// Whether no ranges are kept.
+    /// Returns whether no ranges are kept.
     #[inline(always)]
     pub(crate) fn is_empty(&self) -> bool
         ensures { result ≡ true → self.now ≡ [] }
@@ -65,7 +66,8 @@ impl KeptRanges {
         }
     }
 
-    /// Whether the character lies in one of the ranges, if they rise; else it may be missed.
+    /// Returns whether the character lies in one of the kept ranges. It may be missed if they are not in ascending
+    /// order.
     #[inline(always)]
     pub(crate) fn contains(&self, ch: char) -> bool
         ensures { result ≡ true → in_ranges self.now ch ≡ true }

@@ -1,4 +1,4 @@
-//! Programs that are compiled from the tree of a pattern, and the machine that runs them.
+//! Compiles the syntax tree of a pattern to an NFA program, and runs programs as a Pike VM.
 #![tactic(auto)]
 
 mod character_set;

@@ -1,34 +1,30 @@
-//! What a search visits at an offset where no match begins.
+//! The start prefix: what a search visits at an offset where no match begins.
 
 ghost use Rattle.std.specs.Prelude.{◌≡◌, ◌∷◌, ◌+◌, ◌++◌, ◌||◌, ℕ, IfSome, true, false};
 ghost use Rattle.bites_spec.specs.Program as program;
 
 use crate::ranges::words_of;
-use crate::short_stack::ShortStack;
+use crate::short_stack::{MOST_LOOKS, ShortStack};
 use crate::state::State;
 use crate::targets::Targets;
 use bites_syntax::look::Look;
 use std::snapshot::Snapshot;
 
-/// The most looks that a start prefix is searched for: each of 16 states is visited once, and leads to 16 at most.
-const MOST_LOOKS: usize = 272;
-
-/// The states that an epsilon closure from the start visits at an offset where none of them takes the
-/// character.
+/// The states that an epsilon closure from the start visits at an offset where none of them takes the character.
 ///
-/// A closure there visits these alone, in this order, and leaves nothing. With `anchored` that holds at
-/// offsets above 0: some of these states assert the start of the haystack.
+/// A closure there visits these alone, in this order, and leaves no thread. With `anchored` that holds only at offsets
+/// above 0: some of these states assert the start of the haystack.
 #[derive(Drop)]
 pub struct StartPrefix {
-    /// The states, the last one first. Contracts alone see them.
+    /// For proofs: the states, the last one first.
     pub visited: Snapshot<ShortStack>,
-    /// To how many states each of them leads without taking anything. Contracts alone see these numbers.
+    /// For proofs: to how many states each of them leads without taking a character.
     pub targets: Snapshot<ShortStack>,
-    /// How often the closure looks at a state.
+    /// For proofs: how often the closure looks at a state.
     pub looks: Snapshot<usize>,
-    /// The ASCII characters that some state takes, as the bits of their numbers.
+    /// A bit for each ASCII character: whether some state takes it.
     pub ascii: [u64; 2],
-    /// Whether some state may take another character.
+    /// Whether some state may take a character past ASCII.
     pub others: bool,
     pub anchored: bool,
     /// The state that takes characters, if exactly one does.
@@ -39,8 +35,8 @@ impl StartPrefix {
     ghost use Rattle.bites_machine.specs.Prefix.{in_set, IsApart, TakesNone, IsPrefix};
     ghost use Rattle.bites_machine.specs.States.{states_of};
 
-    /// The prefix of a program of these states that starts in this one. `None` if a match or an assertion other than
-    /// `\A` is met, or if there are too many states.
+    /// Finds the prefix of a program of these states that starts in `start`. Returns `None` if a match or an assertion
+    /// other than `\A` is met, or if there are too many states.
     pub(crate) fn of(states: &[State], start: u32) -> Option<StartPrefix>
         ensures { IfSome result (IsPrefix (states_of states.now) start) }
     {
@@ -61,7 +57,7 @@ impl StartPrefix {
         }
     }
 
-    /// Returns whether some state may take the ASCII character of this byte. Any other byte may be part of one that is taken.
+    /// Returns whether some state may take a character that begins with this byte. A byte past ASCII always may.
     #[inline(always)]
     pub(crate) fn may_take_byte(&self, byte: u8) -> bool
         ensures { result ≡ in_set self.now.ascii true byte }
@@ -93,7 +89,7 @@ impl StartPrefix {
         true
     }
 
-    /// Returns whether no state takes the character that stands somewhere, if one does.
+    /// Returns whether no state takes this character. `None` is the end of the haystack, where no state takes anything.
     #[inline(always)]
     pub(crate) fn is_idle(&self, taken: Option<char>) -> bool
         ensures { result ≡ true → TakesNone self.now taken }
@@ -105,8 +101,8 @@ impl StartPrefix {
     }
 }
 
-/// What the closure of the start has visited so far, and what these states take. It is gone once the shortcuts of a
-/// program are found: of the states the prefix keeps nothing at run time.
+/// What the closure of the start has visited so far, and what these states take. It is dropped once the shortcuts of a
+/// program are found: the prefix keeps no list of states at run time.
 #[derive(Drop)]
 pub struct StartClosure {
     pub visited: ShortStack,
@@ -124,8 +120,8 @@ impl StartClosure {
     ghost use Rattle.bites_machine.specs.Prefix.{in_set, Follows, HasFound, IsPrefix};
     ghost use Rattle.bites_machine.specs.States.{state_of, states_of};
 
-    /// The closure of the state where a program of these states starts, and how often it looks at a state. `None` if a
-    /// match or an assertion other than `\A` is met, or if there are too many states.
+    /// Explores the closure of `start` in a program of these states. Returns it, and how often it looks at a state.
+    /// Returns `None` if a match or an assertion other than `\A` is met, or if there are too many states.
     pub(crate) fn of(states: &[State], start: u32) -> Option<(StartClosure, usize)>
         ensures { IfSome result (λ found. HasFound (states_of states.now) start found.1 [] found.0) }
     {
@@ -149,7 +145,7 @@ impl StartClosure {
         None
     }
 
-    // Looks at a state that was on top of the stack. `None` if it can't be followed, or if there is no room.
+    // Looks at a state that was on top of the stack. Returns `None` if it can't be followed, or if there is no room.
     fn look(&mut self, states: &[State], number: u32, stack: &mut ShortStack) -> Option<()>
         ensures { IfSome result (λ _. (start looks : ℕ) →
             HasFound (states_of states.now) start looks (number ∷ stack.old) self.old →
@@ -168,8 +164,8 @@ impl StartClosure {
         self.targets.push((stack.len() - before) as u32)
     }
 
-    // Follows a visited state as an epsilon closure does that takes nothing. `None` if a match or an assertion
-    // other than `\A` stands there, or if there is no room.
+    // Follows a visited state as an epsilon closure does where no character is taken. Returns `None` if the state is a
+    // match or an assertion other than `\A`, or if there is no room.
     fn follow(&mut self, number: u32, state: &State, stack: &mut ShortStack) -> Option<()>
         ensures { IfSome result (λ _.
             Follows number (state_of state.now) stack.old stack.new self.old self.new) }
@@ -199,7 +195,7 @@ impl StartClosure {
         }
     }
 
-    // Puts the characters that this state takes into the set.
+    // Adds the characters that this state takes.
     fn add(&mut self, number: u32, words: &[u64; 2], others: bool)
         ensures set { (c : ℕ) → in_set self.new.ascii self.new.others c
             ≡ (in_set self.old.ascii self.old.others c || in_set words.now others c) }
@@ -215,7 +211,7 @@ impl StartClosure {
         self.others |= others;
     }
 
-    /// The prefix, after so many looks.
+    /// Returns the prefix that was found, with the given number of looks.
     pub(crate) fn finish(&self, looks: usize) -> StartPrefix
         ensures prefix { (states : List program.State) (start : ℕ) →
             HasFound states start looks [] self.now → IsPrefix states start result }
@@ -232,7 +228,7 @@ impl StartClosure {
         }
     }
 
-    // The state that takes characters, if exactly one does.
+    // Returns the state that takes characters, if exactly one does.
     fn lone_taker(&self) -> Option<u32>
         ensures { IfSome result (λ q. (self.now.several ≡ false) × (self.now.taker ≡ Some q)) }
     {
@@ -240,7 +236,7 @@ impl StartClosure {
     }
 }
 
-// Puts all targets on the stack, the preferred one on top. `None` if there is no room.
+// Pushes all targets, the preferred one on top. Returns `None` if there is no room.
 pub(crate) fn push_all(stack: &mut ShortStack, targets: &Targets, reverse: bool) -> Option<()>
     ensures { IfSome result (λ _. stack.new
         ≡ program.targets_of (program.splits targets.now reverse) ++ stack.old) }

@@ -35,8 +35,7 @@ pub struct Program {
     loops: SelfLoops,
 }
 
-/// What is known of the closures of some states before a search: the states that it visits at an offset where no match
-/// begins, if they are known, and the self-loops.
+/// What a search knows in advance of epsilon closures: the start prefix, if there is one, and the self-loops.
 #[derive(Clone, Copy, Drop)]
 pub struct Shortcuts<'p> {
     pub prefix: Option<&'p StartPrefix>,
@@ -59,11 +58,11 @@ impl Program {
     ghost use Rattle.bites_machine.specs.Prefix.{IsPrefix};
     ghost use Rattle.bites_machine.specs.SelfLoop.{AreLoops, AreCovered};
 
-    /// A program of these states, of the empty pattern and without names.
+    /// Makes a program of these states, with the empty pattern and no names.
     ///
-    /// It answers the first fault of the number of states, of the number of slots, of the start, and then
-    /// of each state in order. `Memory` comes last, only where a `usize` cannot hold the number of edges:
-    /// the call takes no memory.
+    /// The error is the first fault: of the number of states, of the number of slots, of the start, then of each state
+    /// in order. `Memory` comes last, only if the number of edges does not fit in a `usize`: the call allocates
+    /// nothing.
     pub fn from_states(
         alloc: Global,
         states: Vec<State>,
@@ -95,7 +94,7 @@ impl Program {
         Ok(program)
     }
 
-    /// A program of states that have no fault. None if a `usize` cannot hold the number of edges.
+    /// Makes a program of states that have no fault. Returns `None` if the number of edges does not fit in a `usize`.
     pub(crate) fn new(
         alloc: Global,
         states: Vec<State>,
@@ -125,7 +124,7 @@ impl Program {
         })
     }
 
-    // Looks for the start prefix. It takes no memory.
+    // Finds the start prefix alone, without self-loops. Allocates nothing.
     fn find_prefix(&mut self)
         ensures { self.new ≡ self.old }
     {
@@ -133,7 +132,7 @@ impl Program {
         self.prefix = StartPrefix::of(&self.states, self.start);
     }
 
-    /// Looks for the start prefix and for the self-loops of the states. The error is out of memory.
+    /// Finds the start prefix and the self-loops. The error is out of memory.
     pub(crate) fn find_shortcuts(&mut self) -> Result<(), AllocError>
         ensures { self.new ≡ self.old }
     {
@@ -147,12 +146,12 @@ impl Program {
         Ok(())
     }
 
-    /// The allocator that the program was made with.
+    /// Returns the allocator that the program was made with.
     pub fn alloc(&self) -> Global {
         self.alloc
     }
 
-    /// The state with this number.
+    /// Returns the state with this number.
     pub fn state(&self, number: u32) -> &State
         requires { number < length self.now.program.states }
         ensures { state_of result.now ≡ state_at self.now.program.states number }
@@ -160,14 +159,14 @@ impl Program {
         &self.states[number as usize]
     }
 
-    /// All states, in order of their numbers.
+    /// Returns all states, in order of their numbers.
     pub(crate) fn states(&self) -> &[State]
         ensures { states_of result.now ≡ self.now.program.states }
     {
         &self.states
     }
 
-    /// The number of the state where a run starts.
+    /// Returns the number of the state where a run starts.
     pub fn start(&self) -> u32
         ensures start { result ≡ self.now.program.start }
         ensures well_formed { IsWellFormed self.now.program }
@@ -176,7 +175,7 @@ impl Program {
         self.start
     }
 
-    /// What is known of the closures of some states before a search.
+    /// Returns what a search knows in advance of epsilon closures.
     pub(crate) fn shortcuts(&self) -> Shortcuts<'_>
         ensures prefix { IfSome result.prefix (λ x.
             IsPrefix self.now.program.states self.now.program.start x.now) }
@@ -192,7 +191,7 @@ impl Program {
         }
     }
 
-    /// The number of states.
+    /// Returns the number of states.
     #[allow(clippy::len_without_is_empty)]
     pub fn len(&self) -> usize
         ensures { result ≡ length self.now.program.states }
@@ -200,42 +199,42 @@ impl Program {
         self.states.len()
     }
 
-    /// The number of slots, two for each group.
+    /// Returns the number of slots: two for each group, or the number that was given if the program was made of states.
     pub fn slots(&self) -> usize
         ensures { result ≡ self.now.program.slots }
     {
         self.slots
     }
 
-    /// The number of edges.
+    /// Returns the number of edges.
     pub fn targets(&self) -> usize
         ensures { result ≡ targets self.now.program }
     {
         self.targets
     }
 
-    /// The pattern that the program was compiled from; the empty text if it was made of states.
+    /// Returns the pattern that the program was compiled from, or the empty text if it was made of states.
     pub fn pattern(&self) -> &str
         ensures { result.now ≡ self.now.pattern }
     {
         &self.pattern
     }
 
-    /// The number of groups of the pattern, group 0 counted; 0 if the program was made of states.
+    /// Returns the number of groups of the pattern, group 0 counted, or 0 if the program was made of states.
     pub fn groups(&self) -> usize
         ensures { result ≡ length self.now.names }
     {
         self.names.len()
     }
 
-    /// The name of the group with this number, if there is such a group and it has one.
+    /// Returns the name of the group with this number, if there is such a group and it has one.
     pub fn name(&self, group: usize) -> Option<&str>
         ensures { option_copied result ≡ slice_index_or self.now.names group None }
     {
         self.names.get(group)
     }
 
-    /// The number of the first group with this name.
+    /// Returns the number of the first group with this name.
     pub fn index_of(&self, name: &str) -> Option<usize>
         ensures found { IfSome result (λ i. slice_index_or self.now.names i None ≡ Some name.now) }
         ensures first { IfSome result (λ i. (j : ℕ) → j < i →
@@ -253,7 +252,8 @@ impl Program {
         None
     }
 
-    /// How many groups participate in every match, if the form of the pattern says so. Group 0 is counted.
+    /// Returns a lower bound on the number of groups that participate in any match, group 0 counted, if the form of the
+    /// pattern gives one.
     pub fn static_captures_len(&self) -> Option<usize>
         ensures { result ≡ self.now.static_captures_len }
     {
@@ -261,7 +261,7 @@ impl Program {
     }
 }
 
-/// The number of edges of the states, if a `usize` can hold it.
+/// Returns the number of edges of the states, if it fits in a `usize`.
 fn edges(states: &[State]) -> Option<usize>
     ensures { SomeIff result (sum_by (λ s. length (targets_of s)) (states_of states.now) < 2 ^ 64)
         (sum_by (λ s. length (targets_of s)) (states_of states.now)) }

@@ -1,4 +1,4 @@
-//! The ranges of a state.
+//! Ranges of characters that a state takes.
 
 ghost use Rattle.std.specs.Prelude.{◌≡◌, ℕ, ◌<◌, ◌≤◌, ◌^◌, IfOk, IfSome, [], ◌∷◌, true};
 ghost use Rattle.bites_spec.specs.Range.{in_range, in_ranges};
@@ -9,13 +9,15 @@ use bites_syntax::range_list::RangeList;
 use std::alloc::{AllocError, Global};
 use std::marker::Model;
 
-/// Ranges of characters, whose ends belong to them. A contract sees their list.
+/// Inclusive ranges of characters, with a bit for each ASCII character.
+///
+/// For proofs: contracts see the list of the ranges.
 #[derive(Drop)]
 pub struct Ranges {
     list: RangeList,
-    /// Of each ASCII character, whether it lies in one of the ranges, as the bit of its number.
+    /// Returns a bit for each ASCII character: whether it lies in one of the ranges.
     ascii: [u64; 2],
-    /// Whether one of the ranges ends above the ASCII characters.
+    /// Returns whether one of the ranges ends above ASCII.
     past_ascii: bool,
 }
 
@@ -32,7 +34,7 @@ impl Model for Ranges {
 }
 
 impl Ranges {
-    /// The ranges as a slice.
+    /// Returns the ranges as a slice.
     #[inline]
     pub fn as_slice(&self) -> &[(char, char)]
         ensures { result.now ≡ self.now }
@@ -40,7 +42,7 @@ impl Ranges {
         self.list.as_slice()
     }
 
-    /// Of each ASCII character, whether it lies in one of the ranges: a bit for each, 64 a word.
+    /// Returns a bit for each ASCII character, 64 a word: whether it lies in one of the ranges.
     pub(crate) fn ascii(&self) -> [u64; 2]
         ensures { HasAscii result self.now }
     {
@@ -48,7 +50,7 @@ impl Ranges {
         self.ascii
     }
 
-    /// Whether one of the ranges ends above the ASCII characters.
+    /// Returns whether one of the ranges ends above ASCII.
     #[inline(always)]
     pub(crate) fn reaches_past_ascii(&self) -> bool
         ensures { ReachesPast result self.now }
@@ -57,14 +59,14 @@ impl Ranges {
         self.past_ascii
     }
 
-    /// The ranges of this list. It takes memory only if the list does.
+    /// Copies the ranges of a list. Allocates only if the list itself is allocated.
     pub(crate) fn copy_of(alloc: Global, list: &RangeList) -> Result<Ranges, AllocError>
         ensures { IfOk result (λ ranges. ranges ≡ list.now) }
     {
         Ok(Ranges::new(list.copy(alloc)?))
     }
 
-    // These ranges, with what is kept beside them.
+    // Makes ranges of a list, and finds their ASCII bits.
     #[inline(always)]
     fn new(list: RangeList) -> Ranges
         ensures { result ≡ list }
@@ -78,14 +80,14 @@ impl Ranges {
         }
     }
 
-    /// The range of one character. It takes no memory.
+    /// Returns the range of one character. Allocates nothing.
     pub(crate) fn one(ch: char) -> Ranges
         ensures { result ≡ (ch, ch) ∷ [] }
     {
         Ranges::new(RangeList::one((ch, ch)))
     }
 
-    /// The same ranges, if they take no memory.
+    /// Returns a copy of the ranges, if that allocates nothing.
     pub(crate) fn copy_in_place(&self) -> Option<Ranges>
         ensures { IfSome result (λ copy. copy ≡ self.now) }
     {
@@ -97,7 +99,8 @@ impl Ranges {
         })
     }
 
-    /// Whether the character lies in one of the ranges, if they rise; else it may be missed.
+    /// Returns whether the character lies in one of the ranges. May miss an ASCII character, and any character if the
+    /// ranges are not in ascending order.
     #[inline]
     pub(crate) fn takes_past_ascii(&self, ch: char) -> bool
         ensures { result ≡ true → in_ranges self.now ch ≡ true }
@@ -105,7 +108,7 @@ impl Ranges {
         self.past_ascii && is_in_ranges(self.list.as_slice(), ch)
     }
 
-    /// The same ranges. It takes memory only if their list does.
+    /// Returns a copy of the ranges. Allocates only if their list is allocated.
     pub(crate) fn copy(&self, alloc: Global) -> Result<Ranges, AllocError>
         ensures { IfOk result (λ copy. copy ≡ self.now) }
     {
@@ -117,7 +120,7 @@ impl Ranges {
         })
     }
 
-    /// Whether the ASCII character of this number lies in one of the ranges.
+    /// Returns whether the ASCII character of this number lies in one of the ranges.
     #[inline(always)]
     pub(crate) fn takes_ascii(&self, number: u32) -> bool
         requires { number < 128 }
@@ -127,10 +130,10 @@ impl Ranges {
         (self.ascii[(number / 64) as usize] >> (number % 64)) & 1 == 1
     }
 
-    /// Whether the character lies in one of the ranges, each of which begins above the one before.
+    /// Returns whether the character lies in one of the ranges, which are in ascending order.
     ///
-    /// One look for an ASCII character, and for any other one where all ranges are of ASCII; else as many looks as the number of
-    /// ranges has bits.
+    /// Takes one look for an ASCII character, and for any other if all ranges are ASCII. Else a binary search takes at
+    /// most as many looks as the number of ranges has bits.
     #[inline]
     pub fn takes(&self, ch: char) -> bool
         requires { AreRanges self.now }
@@ -147,13 +150,13 @@ impl Ranges {
 impl From<Vec<(char, char)>> for Ranges {
     ghost from_gives = { λ list ranges. ranges ≡ list.items };
 
-    /// The ranges of this list; it takes no memory.
+    /// Makes ranges of a vector. Allocates nothing.
     fn from(list: Vec<(char, char)>) -> Ranges {
         Ranges::new(list.into())
     }
 }
 
-/// Of each ASCII character, whether it lies in one of the ranges: a bit for each, 64 a word.
+/// Returns a bit for each ASCII character, 64 a word: whether it lies in one of the ranges.
 pub(crate) fn words_of(ranges: &[(char, char)]) -> [u64; 2]
     ensures { HasAscii result ranges.now }
 {
@@ -161,7 +164,7 @@ pub(crate) fn words_of(ranges: &[(char, char)]) -> [u64; 2]
     [(bits & 0xFFFF_FFFF_FFFF_FFFF) as u64, (bits >> 64) as u64]
 }
 
-// Whether one of the ranges ends above the ASCII characters.
+// Returns whether one of the ranges ends above ASCII.
 fn reaches_past_ascii(ranges: &[(char, char)]) -> bool
     ensures { ReachesPast result ranges.now }
 {
@@ -173,7 +176,7 @@ fn reaches_past_ascii(ranges: &[(char, char)]) -> bool
     false
 }
 
-// Of each ASCII character, whether it lies in one of the ranges, as the bit of its number.
+// Returns a bit for each ASCII character: whether it lies in one of the ranges.
 fn ascii_of(ranges: &[(char, char)]) -> u128
     ensures { (c : ℕ) → c < 128 → has_bit result c ≡ in_ranges ranges.now c }
 {
@@ -184,7 +187,7 @@ fn ascii_of(ranges: &[(char, char)]) -> u128
     bits
 }
 
-// Of each ASCII character, whether it lies between these two, as the bit of its number.
+// Returns a bit for each ASCII character: whether it lies between these two, inclusive.
 fn ascii_within(first: char, last: char) -> u128
     ensures { (c : ℕ) → c < 128 → has_bit result c ≡ in_range (first, last) c }
 {
@@ -203,7 +206,7 @@ fn ascii_within(first: char, last: char) -> u128
     }
 }
 
-// The bits of a word from one up to another.
+// Returns a word with the bits from `first` to `last` set.
 #[inline(always)]
 fn bits_within(first: u32, last: u32) -> u64
     requires order { first ≤ last }
@@ -214,7 +217,8 @@ fn bits_within(first: u32, last: u32) -> u64
     (u64::MAX << first) & (u64::MAX >> (63 - last))
 }
 
-// Whether the character lies in one of the ranges, if each begins above the one before. In another list it may be missed.
+// Finds by binary search whether the character lies in one of the ranges, which are in ascending order. It may be
+// missed if they are not.
 #[inline(never)]
 fn is_in_ranges(ranges: &[(char, char)], c: char) -> bool
     ensures found { result ≡ true → in_ranges ranges.now c ≡ true }

@@ -1,4 +1,4 @@
-//! States to which a thread returns by taking one character, as the one of `[a-z]*`.
+//! Self-loops: states to which a thread returns by taking one character, as in `[a-z]*`.
 
 ghost use Rattle.std.specs.Prelude.{◌≡◌, ◌<◌, ℕ, List, [], IfOk, OnOk, IfSome, Some, if◌then◌else◌, true, false};
 ghost use Rattle.bites_spec.specs.Walks.{Among};
@@ -9,41 +9,38 @@ use crate::character_set::CharacterSet;
 use crate::kept_ranges::KeptRanges;
 use crate::prefix::push_all;
 use crate::ranges::Ranges;
-use crate::short_stack::ShortStack;
+use crate::short_stack::{MOST_LOOKS, ShortStack};
 use crate::state::State;
 use std::alloc::{AllocError, Global};
 use std::marker::Model;
 use std::snapshot::Snapshot;
 
-/// The most looks that a self-loop is searched for: each of 16 states is visited once, and leads to 16 at most.
-const MOST_LOOKS: usize = 272;
-
 /// The most self-loops that a program keeps.
 const MOST_LOOPS: usize = 16;
 
-/// The most states that are searched for self-loops: a number of one is a `u32`.
+/// The most states that are searched for self-loops: their numbers are `u32`.
 const MOST_STATES: usize = 4294967295;
 
 /// A state to which a thread returns by taking one character.
 ///
-/// Where one of these characters stands, the closure of a thread at the state visits the same states in the same order. It
-/// leaves the thread itself, with its row of slots, and no other thread, and it comes to a match or not.
+/// Where one of these characters stands, the closure of a thread at the state visits the same states in the same order.
+/// It leaves the thread itself with its row of slots, and no other thread. It reaches the match `end`, or none.
 #[derive(Drop)]
 pub struct SelfLoop {
     pub state: u32,
-    /// The states that the closure visits, the last one first. Contracts alone see them.
+    /// For proofs: the states that the closure visits, the last one first.
     pub visited: Snapshot<ShortStack>,
-    /// How often the closure looks at a state.
+    /// For proofs: how often the closure looks at a state.
     pub looks: Snapshot<usize>,
-    /// The ASCII characters, as the bits of their numbers.
+    /// A bit for each ASCII character: whether it is one of these.
     pub ascii: [u64; 2],
-    /// Other characters, as far as their ranges are kept.
+    /// Those of these characters that are past ASCII, as far as their ranges are kept.
     pub others: KeptRanges,
-    /// The match that the closure comes to after the thread stayed.
+    /// The match that the closure reaches after the thread stays, if there is one.
     pub end: Option<u32>,
-    /// The slots that are written on the way to the match, the last one first.
+    /// The slots that are written on the path to the match.
     pub pending: ShortStack,
-    /// The characters that states of the start prefix take which the closure doesn't visit.
+    /// The characters taken by those states of the start prefix that the closure doesn't visit.
     pub behind: CharacterSet,
 }
 
@@ -69,7 +66,7 @@ impl SelfLoop {
 pub struct LoopClosure {
     pub state: u32,
     pub visited: ShortStack,
-    // The slots that were written on the way, as long as there was one way only.
+    // The slots that were written on the path, as long as there was only one path.
     pub pending: ShortStack,
     pub is_branched: bool,
     // Whether a state leads back, and what it takes.
@@ -89,7 +86,7 @@ impl LoopClosure {
     ghost use Rattle.bites_machine.specs.SelfLoop.{IsSelfLoop, LeavesOut};
     ghost use Rattle.bites_machine.specs.States.{state_of, states_of};
 
-    // The closure before its first look.
+    // Returns the closure before its first look.
     fn new(state: u32) -> LoopClosure
         ensures state { result.state ≡ state }
         ensures looped { (states : List program.State) → HasLooped states 0 (state ∷ []) result }
@@ -108,8 +105,8 @@ impl LoopClosure {
         }
     }
 
-    // Explores the closure. Returns how often it looks at a state. `None` if no state leads back, if an assertion is met, or if
-    // there are too many states.
+    // Explores the closure. Returns how often it looks at a state. Returns `None` if no state leads back, if a state
+    // can't be followed, or if there are too many states.
     fn explore(&mut self, states: &[State]) -> Option<usize>
         ensures state { self.new.state ≡ self.old.state }
         ensures looped { IfSome result (λ looks.
@@ -128,7 +125,7 @@ impl LoopClosure {
         None
     }
 
-    // Looks at a state that was on top of the stack. `None` if it can't be followed, or if there is no room.
+    // Looks at a state that was on top of the stack. Returns `None` if it can't be followed, or if there is no room.
     fn look(&mut self, states: &[State], number: u32, stack: &mut ShortStack) -> Option<()>
         ensures state { self.new.state ≡ self.old.state }
         ensures looped { IfSome result (λ _. (looks : ℕ) →
@@ -145,7 +142,8 @@ impl LoopClosure {
         self.follow(number, &states[number as usize], stack)
     }
 
-    // Follows a visited state. `None` if it has an assertion, or if there is no room.
+    // Follows a visited state. Returns `None` if it has an assertion, if it is a match on one of several paths with
+    // slots, or if there is no room.
     fn follow(&mut self, number: u32, state: &State, stack: &mut ShortStack) -> Option<()>
         ensures state { self.new.state ≡ self.old.state }
         ensures follows { IfSome result (λ _.
@@ -172,7 +170,7 @@ impl LoopClosure {
         }
     }
 
-    // A state with this target takes characters of these ranges.
+    // Records that a state with this target takes characters of these ranges.
     fn take(&mut self, target: u32, ranges: &Ranges)
         ensures { HasTaken target ranges.now self.old self.new }
     {
@@ -187,14 +185,14 @@ impl LoopClosure {
         }
     }
 
-    // Whether no slot was written on any way.
+    // Returns whether no slot was written on any path.
     fn is_unwritten(&self) -> bool
         ensures { result ≡ true → (self.now.is_branched ≡ false) × (self.now.pending ≡ []) }
     {
         !self.is_branched && self.pending.len() == 0
     }
 
-    // A slot is written, while so many states are left on the stack. `None` if there is no room.
+    // Records that a slot is written while `left` states are on the stack. Returns `None` if there is no room.
     fn write(&mut self, slot: u32, left: usize) -> Option<()>
         ensures state { self.new.state ≡ self.old.state }
         ensures written { IfSome result (λ _. HasWritten slot left self.old self.new) }
@@ -206,7 +204,8 @@ impl LoopClosure {
         self.pending.push(slot)
     }
 
-    // A match ends the closure: the states that are left are dropped. `None` if there were several ways to it.
+    // Ends the closure at a match, and drops the states that are left. Returns `None` if a slot was written on one of
+    // several paths.
     fn close(&mut self, number: u32, stack: &mut ShortStack) -> Option<()>
         ensures state { self.new.state ≡ self.old.state }
         ensures closed { IfSome result (λ _. Follows number program.match stack.old stack.new self.old self.new) }
@@ -219,7 +218,7 @@ impl LoopClosure {
         Some(())
     }
 
-    // The self-loop that the closure has come to, after so many looks.
+    // Returns the self-loop that the closure has found, after the given number of looks.
     fn finish(self, looks: usize, behind: CharacterSet) -> SelfLoop
         requires { self.is_found ≡ true }
         ensures walks { (states : List program.State) →
@@ -245,7 +244,8 @@ impl LoopClosure {
         }
     }
 
-    // The characters that those states of the prefix take which the closure doesn't visit, if they are given.
+    // Returns the characters taken by those states of the prefix that the closure doesn't visit, or none without a
+    // prefix.
     fn behind(&self, states: &[State], prefix: Option<&ShortStack>) -> CharacterSet
         ensures { IfSome prefix.entry (λ qs. (q : ℕ) → Among qs.now q →
             LeavesOut (states_of states.now) self.now.visited q result) }
@@ -276,7 +276,7 @@ impl LoopClosure {
     }
 }
 
-// The ranges, or none if other states may take their characters.
+// Returns the ranges, or none if other states may take their characters.
 fn unless(are_taken: bool, ranges: KeptRanges) -> KeptRanges
     ensures { result ≡ (if are_taken then [] else ranges) }
 {
@@ -287,7 +287,7 @@ fn unless(are_taken: bool, ranges: KeptRanges) -> KeptRanges
     }
 }
 
-// The bits that are set in the first word alone.
+// Returns the bits that are set in the first word alone.
 fn without(bits: u64, others: u64) -> u64
     ensures { (n : ℕ) → n < 64 → has_bit result n ≡ true →
         (has_bit bits n ≡ true) × (has_bit others n ≡ false) }
@@ -295,11 +295,13 @@ fn without(bits: u64, others: u64) -> u64
     bits & !others
 }
 
-/// The self-loops of a program. Contracts see their list.
+/// The self-loops of a program.
+///
+/// For proofs: contracts see their list.
 #[derive(Drop)]
 pub struct SelfLoops {
     loops: Vec<SelfLoop>,
-    // A bit for the remainder by 64 of each of their states. So most other states are known not to be among them.
+    // A bit for each of their states, modulo 64. It rules out most other states.
     filter: u64,
 }
 
@@ -316,7 +318,7 @@ impl SelfLoops {
     ghost use Rattle.bites_machine.specs.SelfLoop.{AreLoops, AreCovered};
     ghost use Rattle.bites_machine.specs.States.{states_of};
 
-    /// No self-loops. It takes no memory.
+    /// Returns no self-loops. Allocates nothing.
     pub(crate) fn none(alloc: Global) -> SelfLoops
         ensures { result ≡ [] }
     {
@@ -326,8 +328,8 @@ impl SelfLoops {
         }
     }
 
-    /// The self-loops of these states, or the first sixteen of them. The states of the start prefix are given, if there
-    /// is one.
+    /// Finds the first 16 self-loops of these states that have the shape that the compiler writes. `prefix` has the
+    /// states of the start prefix, if there is one. The error is out of memory.
     pub(crate) fn of(
         alloc: Global,
         states: &[State],
@@ -373,7 +375,7 @@ impl SelfLoops {
         Ok(())
     }
 
-    /// The self-loop of this state, if it has one.
+    /// Returns the self-loop of this state, if it has one.
     #[inline(always)]
     pub(crate) fn at(&self, state: u32) -> Option<&SelfLoop>
         ensures among { IfSome result (λ x. Among self.now x.now) }
@@ -391,7 +393,8 @@ impl SelfLoops {
     }
 }
 
-// Whether a target of the state takes a character and leads back to it. The compiler puts that target right after the state.
+// Returns whether the target right after the state takes a character and leads back to it. The compiler puts the body
+// of a star there.
 #[inline(always)]
 fn leads_back(states: &[State], number: usize) -> bool {
     let Some(State::Splits { targets, .. }) = states.get(number) else {
@@ -405,7 +408,7 @@ fn leads_back(states: &[State], number: usize) -> bool {
     false
 }
 
-// Whether the state with the first number takes a character and leads to the second.
+// Returns whether the state `number` takes a character and leads to `next`.
 fn takes_to(states: &[State], number: usize, next: usize) -> bool {
     match states.get(number) {
         Some(State::Char { target, .. } | State::Ranges { target, .. }) => *target as usize == next,

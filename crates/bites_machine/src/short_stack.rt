@@ -1,11 +1,16 @@
-//! A few numbers of states, kept in place.
+//! A stack of a few state numbers, stored inline.
 
 ghost use Rattle.std.specs.Prelude.{◌≡◌, ◌≤◌, ◌∷◌, [], ◌==◌, length, reverse, IfSome, MatchOption};
 ghost use Rattle.std.specs.List.{list_any};
 
 use std::marker::Model;
 
-/// Up to 16 numbers of states. Contracts see their list, the last one first.
+/// The most looks of a closure whose states stand in such a stack: it visits at most 16 states, and each leads to at most 16.
+pub(crate) const MOST_LOOKS: usize = 272;
+
+/// Up to 16 numbers of states.
+///
+/// For proofs: contracts see the list of the numbers, the last one first.
 #[derive(Drop)]
 pub struct ShortStack {
     states: [u32; 16],
@@ -23,7 +28,7 @@ impl Model for ShortStack {
 }
 
 impl ShortStack {
-    /// An empty stack.
+    /// Returns an empty stack.
     pub(crate) fn new() -> ShortStack
         ensures { result ≡ [] }
     {
@@ -33,7 +38,7 @@ impl ShortStack {
         }
     }
 
-    /// The number of states.
+    /// Returns the number of states.
     pub(crate) fn len(&self) -> usize
         ensures len { result ≡ length self.now }
         ensures few { result ≤ 16 }
@@ -41,7 +46,7 @@ impl ShortStack {
         self.len
     }
 
-    /// Puts a state on top. Returns `None` if there is no room.
+    /// Pushes a state. Returns `None` if there is no room.
     pub(crate) fn push(&mut self, state: u32) -> Option<()>
         ensures { IfSome result (λ _. self.new ≡ state ∷ self.old) }
     {
@@ -53,7 +58,7 @@ impl ShortStack {
         Some(())
     }
 
-    /// Takes the state on top.
+    /// Pops the last state, if there is one.
     pub(crate) fn pop(&mut self) -> Option<u32>
         ensures { MatchOption result (self.old ≡ []) (λ q. self.old ≡ q ∷ self.new) }
     {
@@ -64,7 +69,7 @@ impl ShortStack {
         Some(self.states[self.len])
     }
 
-    /// The states as a slice, the first one first.
+    /// Returns the states as a slice, in the order in which they were pushed.
     pub(crate) fn as_slice(&self) -> &[u32]
         ensures { result.now ≡ reverse self.now }
     {

@@ -1,4 +1,4 @@
-//! Measures of a tree, taken before any state is made.
+//! Counts the states of a tree, their targets and their ranges, before any state is made.
 
 ghost use Rattle.std.specs.Prelude.{◌≡◌, ◌≤◌, IfSome};
 ghost use Rattle.bites_spec.specs.Tree.{is_nullable, trees_of, sequence, IsReduced, AllAreReduced};
@@ -10,7 +10,7 @@ use bites_syntax::measure::is_nullable;
 use bites_syntax::tree::{Kind, Tree};
 use std::marker::Model;
 
-/// What the states of a tree take. A number that is too large for a `usize` is held as the greatest.
+/// How many states a tree compiles to, with the number of targets of splits and of ranges. Each number saturates.
 #[derive(Clone, Copy)]
 pub struct Size {
     states: usize,
@@ -39,28 +39,28 @@ impl Size {
         }
     }
 
-    /// The number of states.
+    /// Returns the number of states.
     pub fn states(self) -> usize
         ensures { result ≡ self.states }
     {
         self.states
     }
 
-    /// The number of targets of splits.
+    /// Returns the number of targets of splits.
     pub fn targets(self) -> usize
         ensures { result ≡ self.targets }
     {
         self.targets
     }
 
-    /// The number of ranges.
+    /// Returns the number of ranges.
     pub fn ranges(self) -> usize
         ensures { result ≡ self.ranges }
     {
         self.ranges
     }
 
-    /// Both sizes together.
+    /// Returns the sum of both sizes.
     fn with(self, other: Size) -> Size
         ensures { result ≡ held_size (both_sizes self other) }
     {
@@ -71,7 +71,7 @@ impl Size {
         }
     }
 
-    /// So many copies, with states and targets more.
+    /// Returns the size of `count` copies, plus the given numbers of states and targets.
     fn copies(self, count: usize, states: usize, targets: usize) -> Size
         ensures { result ≡ held_size (measure.copies count states targets self) }
     {
@@ -83,7 +83,7 @@ impl Size {
     }
 }
 
-/// The size of a tree's states.
+/// Returns the size of the states that a tree compiles to.
 #[cycle(size)]
 pub fn size_of(tree: &Tree) -> Size
     requires { IsReduced tree.now }

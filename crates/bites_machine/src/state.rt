@@ -5,29 +5,29 @@ use crate::ranges::Ranges;
 use crate::targets::Targets;
 use bites_syntax::look::Look;
 
-/// A state of a program: what it asks of the haystack, and the numbers of the states that it leads to.
+/// A state of a program: what it requires at an offset, and the numbers of the states that it leads to.
 #[derive(Drop)]
 pub enum State {
     /// Takes this character.
     Char { target: u32, ch: char },
-    /// Takes a character of one of the ranges, whose ends belong to them.
+    /// Takes a character of one of the ranges, which are inclusive.
     Ranges { target: u32, ranges: Ranges },
     /// Leads to each target; the first is preferred, or the last if `reverse` is set.
     Splits { targets: Targets, reverse: bool },
-    /// Leads on where the assertion holds, or always if there is none.
+    /// Leads on if the assertion holds, or always if there is none.
     Goto { target: u32, look: Option<Look> },
-    /// Writes the place to a slot, and leads on.
+    /// Writes the offset to a slot, and leads on.
     Capture { target: u32, slot: u32 },
     /// Leads nowhere.
     Fail,
-    /// The match is found.
+    /// Reports a match.
     Match,
 }
 
 impl State {
     ghost use Rattle.bites_machine.specs.States.{state_of};
 
-    /// The number of edges.
+    /// Returns the number of edges.
     pub fn edges(&self) -> usize
         ensures { result ≡ length (targets_of (state_of self.now)) }
     {
@@ -41,7 +41,7 @@ impl State {
         }
     }
 
-    /// The target with this number in order of preference, where 0 is the preferred one.
+    /// Returns the target with this number in order of preference. Number 0 is the preferred one.
     pub fn target(&self, number: usize) -> u32
         requires { number < length (targets_of (state_of self.now)) }
         ensures { result ≡ slice_index (targets_of (state_of self.now)) number }
@@ -56,7 +56,7 @@ impl State {
         }
     }
 
-    /// Whether the state takes the character.
+    /// Returns whether the state takes the character.
     #[inline]
     pub fn takes(&self, ch: char) -> bool
         requires { HasRanges (state_of self.now) }

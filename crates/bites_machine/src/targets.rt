@@ -1,4 +1,4 @@
-//! The targets of a state with several.
+//! The targets of a split.
 
 ghost use Rattle.std.specs.Prelude.{◌≡◌, ◌<◌, ◌-◌, [], ◌∷◌, length, slice_index};
 ghost use Rattle.bites_spec.specs.Program as program;
@@ -7,10 +7,11 @@ ghost use Rattle.bites_spec.specs.Program.{targets_of};
 use std::alloc::Global;
 use std::marker::Model;
 
-/// Numbers of the states that a state leads to. A contract sees their list.
+/// The numbers of the states that a split leads to. Two of them are stored inline.
 ///
-/// Whether the first or the last is preferred stands beside them, in the state: `reverse`. Two targets are kept in
-/// place.
+/// The `reverse` of the state says whether the first or the last is preferred.
+///
+/// For proofs: contracts see the list of the numbers.
 #[derive(Drop)]
 pub struct Targets {
     len: usize,
@@ -32,7 +33,7 @@ impl Model for Targets {
 }
 
 impl Targets {
-    /// Two targets. It takes no memory.
+    /// Returns two targets. Allocates nothing.
     pub(crate) fn two(alloc: Global, first: u32, second: u32) -> Targets
         ensures { result ≡ first ∷ second ∷ [] }
     {
@@ -43,7 +44,7 @@ impl Targets {
         }
     }
 
-    /// The targets as a slice.
+    /// Returns the targets as a slice.
     #[inline]
     pub fn as_slice(&self) -> &[u32]
         ensures { result.now ≡ self.now }
@@ -55,7 +56,7 @@ impl Targets {
         }
     }
 
-    /// The number of targets.
+    /// Returns the number of targets.
     #[allow(clippy::len_without_is_empty)]
     #[inline]
     pub fn len(&self) -> usize
@@ -65,7 +66,7 @@ impl Targets {
         self.len
     }
 
-    /// The target that is preferred to all others.
+    /// Returns the target that is preferred to all others.
     #[inline]
     pub fn preferred(&self, reverse: bool) -> u32
         requires { 0 < length self.now }
@@ -75,7 +76,7 @@ impl Targets {
         if reverse { self.ends[1] } else { self.ends[0] }
     }
 
-    /// The target to which all others are preferred: of two targets the other one.
+    /// Returns the target to which all others are preferred.
     #[inline]
     pub fn least_preferred(&self, reverse: bool) -> u32
         requires { 0 < length self.now }
@@ -86,7 +87,7 @@ impl Targets {
         if reverse { self.ends[0] } else { self.ends[1] }
     }
 
-    /// The target with this number in order of preference, where 0 is the preferred one.
+    /// Returns the target with this number in order of preference. Number 0 is the preferred one.
     pub fn in_order(&self, reverse: bool, number: usize) -> u32
         requires { number < length self.now }
         ensures { result ≡ slice_index (targets_of (program.splits self.now reverse)) number }
@@ -103,7 +104,7 @@ impl Targets {
 impl From<Vec<u32>> for Targets {
     ghost from_gives = { λ list targets. targets ≡ list.items };
 
-    /// The targets of this list; it takes no memory.
+    /// Makes targets of a vector. Allocates nothing.
     fn from(list: Vec<u32>) -> Targets {
         let len = list.len();
         let ends = match list.as_slice() {

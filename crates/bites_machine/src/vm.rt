@@ -1,4 +1,4 @@
-//! The Pike VM: it steps through a haystack with the threads of each place.
+//! The Pike VM: steps through a haystack character by character, with a list of threads in order of preference.
 
 ghost use Rattle.bites_spec.specs.Counts.{fit_of, IsBounded, VisitedBy};
 ghost use Rattle.bites_spec.specs.Run.{Run, Answered, LeastEnd, first_run, longest_run};
@@ -23,11 +23,11 @@ mod threads;
 use crate::program::Program;
 pub use cache::Cache;
 
-/// Searches from `start` on: whether some run of the program begins there or behind. If so the slice has the
-/// front of the slots of the first run from the first such place, or with `earliest` of a run that ends where
-/// the first ends of all; else it is as it was. A start past the end of the haystack answers false.
+/// Finds the leftmost match at or after `start`, the preferred one there, and writes its first `slots.len()` slots.
+/// With `earliest`, finds a match with the least end of all instead, and stops there. Returns whether there was a
+/// match; `slots` is unchanged if not. A start past the end of the haystack finds nothing.
 ///
-/// It visits each state once at most at each place, and takes no memory.
+/// Visits each state of the program at most once at each offset, and allocates nothing.
 pub fn search(
     program: &Program,
     cache: &mut Cache,
@@ -62,8 +62,7 @@ pub fn search(
     cache.search(counted, &request, slots)
 }
 
-/// The same for the run that ends last of all those from the first place where one begins, and of these the
-/// first.
+/// Like [`search`], but finds the longest match at the leftmost place where one begins; of several, the preferred one.
 pub fn search_longest(
     program: &Program,
     cache: &mut Cache,
@@ -94,7 +93,7 @@ pub fn search_longest(
     cache.search(counted, &request, slots)
 }
 
-/// Which of the matches from one place is asked for.
+/// Which of the matches that begin at one place [`search_anchored`] looks for.
 #[derive(Clone, Copy, Drop)]
 pub enum MatchKind {
     /// The preferred one.

@@ -12,10 +12,10 @@ use std::alloc::{AllocError, Global};
 use std::fmt::Write;
 use std::str;
 
-/// The number of the column that has the answer.
+/// The number of the column of the answer, counted from 0.
 const ANSWER: usize = 10;
 
-/// The line with the engine's answer in the column of the wanted one.
+/// Returns the line with the engine's answer instead of the expected one.
 pub fn answered(alloc: Global, line: &str) -> Result<String, AllocError> {
     if line.is_empty() || line.starts_with('#') {
         return String::from_str(alloc, line);
@@ -47,7 +47,7 @@ fn answer(alloc: Global, asked: &Asked) -> Result<String, AllocError> {
     }
 }
 
-// The answer over bytes, with that over texts where it is another one.
+// Returns the answer over bytes, and the answer over texts if it differs.
 fn answer_of_pattern(
     alloc: Global,
     asked: &Asked,
@@ -64,15 +64,15 @@ fn answer_of_pattern(
     Ok(all)
 }
 
-/// The ways to ask a search besides that over bytes: the name, whether it is over texts, and whether it keeps the groups that
-/// the pattern drops.
+/// The ways to ask a search besides the one over bytes: the name, whether it is over texts, and whether it keeps the
+/// groups that the pattern drops.
 const WAYS: [(&str, bool, bool); 3] = [
     ("over bytes with all groups", false, true),
     ("over texts", true, false),
     ("over texts with all groups", true, true),
 ];
 
-// The answer over bytes, with those of the other ways that differ from it.
+// Returns the answer over bytes, and the answers of the other ways that differ from it.
 fn answer_of_search(alloc: Global, asked: &Asked, search: Search) -> Result<String, AllocError> {
     let answer = over_bytes(alloc, asked, asked.settings, search)?;
     let has_others = search.has_groups() && drops_groups(alloc, asked)?;
@@ -87,7 +87,7 @@ fn answer_of_search(alloc: Global, asked: &Asked, search: Search) -> Result<Stri
     Ok(all)
 }
 
-// The answer in another way.
+// Returns the answer in another way.
 fn asked_otherwise(
     alloc: Global,
     asked: &Asked,
@@ -107,7 +107,7 @@ fn asked_otherwise(
     }
 }
 
-// Adds the other answer and the name of its way, where it is not the same.
+// Adds the other answer and the name of its way, if the answers differ.
 fn push_other(all: &mut String, answer: &str, other: &str, way: &str) -> Result<(), AllocError> {
     if answer == other {
         return Ok(());
@@ -115,7 +115,7 @@ fn push_other(all: &mut String, answer: &str, other: &str, way: &str) -> Result<
     write!(all, ", but {way}: {other}")
 }
 
-// Whether the pattern drops groups, so that numbers and names differ where they are kept.
+// Returns whether the pattern drops groups, so that numbers and names differ if they are kept.
 fn drops_groups(alloc: Global, asked: &Asked) -> Result<bool, AllocError> {
     match (
         lens(alloc, asked, asked.settings),

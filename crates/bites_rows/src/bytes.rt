@@ -1,4 +1,4 @@
-//! What a regex over bytes answers to searches.
+//! The answers of a regex over bytes to searches.
 
 ghost use Rattle.std.specs.Prelude.{◌≡◌, ◌+◌, Some};
 ghost use Rattle.bites_spec.specs.Measure.{static_captures_len};
@@ -61,7 +61,7 @@ fn shortest(
     push_none(text)
 }
 
-// Where a match lies.
+// Returns the span of a match.
 fn span_of(found: Option<Match<'_>>) -> Option<(usize, usize)> {
     match found {
         Some(found) => Some((found.start(), found.end())),
@@ -100,7 +100,7 @@ fn captures_at(
     push_none(text)
 }
 
-// A clone of the regex reads the groups into locations, which are cloned too.
+// Adds the groups that a clone of the regex reads into locations, which are cloned too.
 fn captures_read(
     regex: &Regex,
     haystack: &[u8],
@@ -134,7 +134,7 @@ fn push_groups(captures: &Captures<'_>, text: &mut String) -> Result<(), AllocEr
     Ok(())
 }
 
-// Where the matches end.
+// Returns the ends of all matches.
 fn ends(alloc: Global, regex: &Regex, haystack: &[u8]) -> Result<Vec<usize>, AllocError> {
     let mut ends = Vec::new(alloc);
     for found in regex.find_iter(haystack)? {
@@ -166,7 +166,7 @@ fn splitn(
     push_pieces(text, haystack, &ends, &pieces)
 }
 
-// Adds the first match and as many groups as participate in each match, where the pattern's form says how many.
+// Adds the first match and its first groups that participated, as many as `static_captures_len` says.
 fn extract(
     alloc: Global,
     regex: &Regex,
@@ -238,7 +238,7 @@ fn by_template(
     push_replaced(text, &replaced)
 }
 
-// As `by_template`, with a template that the call owns.
+// Like `by_template`, but with a template that the call owns.
 fn by_owned(
     alloc: Global,
     regex: &Regex,
@@ -267,7 +267,7 @@ fn by_literal(
     push_replaced(text, &replaced)
 }
 
-// Each match is replaced by its number, from 1 on.
+// Replaces each match by its number, from 1 on.
 fn by_count(
     alloc: Global,
     regex: &Regex,

@@ -32,7 +32,7 @@ pub enum Search {
 }
 
 impl Search {
-    /// Whether it starts at an offset that is given.
+    /// Returns whether the search starts at an offset that the row gives.
     pub fn has_start(self) -> bool {
         matches!(
             self,
@@ -44,7 +44,7 @@ impl Search {
         )
     }
 
-    /// Whether the answer speaks of groups by their numbers or names.
+    /// Returns whether the answer depends on the numbers or names of groups.
     pub fn has_groups(self) -> bool {
         matches!(
             self,
@@ -91,7 +91,7 @@ const CALLS: [(&str, Call); 21] = [
     ("replace_count", Call::Search(Search::ReplaceCount)),
 ];
 
-/// The call that has the word.
+/// Returns the call of this word.
 pub fn call_of(word: &str) -> Option<Call> {
     for (name, call) in CALLS {
         if name == word {

@@ -1,10 +1,11 @@
-//! A table compared with the engine's answers.
+//! Comparing a table with the engine's answers.
 
 use crate::answer::answered;
 use std::alloc::{AllocError, Global};
 use std::fmt::Write;
 
-/// The rows whose answer is not the wanted one, with the engine's answers, and how many rows there are.
+/// Returns a report on a table: the rows whose answer is not the expected one, with the engine's answers, and the
+/// number of rows.
 pub fn compared(alloc: Global, name: &str, table: &str) -> Result<String, AllocError> {
     let mut report = String::new(alloc);
     let (mut rows, mut wrong) = (0usize, 0usize);

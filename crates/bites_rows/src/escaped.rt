@@ -7,7 +7,7 @@ use std::alloc::{AllocError, Global};
 use std::fmt::Write;
 use std::str;
 
-/// The bytes that an escaped text stands for.
+/// Returns the bytes that an escaped text stands for.
 pub fn unescaped(alloc: Global, text: &str) -> Result<Vec<u8>, Fault> {
     let mut bytes = Vec::new(alloc);
     let mut rest = text.as_bytes();
@@ -21,7 +21,7 @@ pub fn unescaped(alloc: Global, text: &str) -> Result<Vec<u8>, Fault> {
     Ok(bytes)
 }
 
-// The byte at the front of an escaped text, and what is left behind it.
+// Returns the first byte that an escaped text stands for, and the rest of the text. `first` and `behind` are the text.
 fn unescaped_byte(first: u8, behind: &[u8]) -> Option<(u8, &[u8])>
     ensures { IfSome result (λ read. length read.1.now ≤ length behind.now) }
 {
@@ -38,7 +38,7 @@ fn unescaped_byte(first: u8, behind: &[u8]) -> Option<(u8, &[u8])>
     }
 }
 
-// The byte that two hexadecimal digits are.
+// Returns the byte that two hexadecimal digits stand for.
 fn byte_of(digits: &[u8]) -> Option<u8> {
     let digits = str::from_utf8(digits).ok()?;
     u8::from_str_radix(digits, 16).ok()

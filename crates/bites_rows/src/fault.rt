@@ -5,7 +5,7 @@ use std::alloc::{AllocError, AllocFailed};
 /// Why a row has no answer.
 #[derive(Debug, Drop)]
 pub enum Fault {
-    /// The line is no row.
+    /// The line is not a row.
     NoRow,
     Memory,
 }

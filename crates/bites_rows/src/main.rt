@@ -1,9 +1,10 @@
-//! Prints each row of a table with the engine's answer in place of the wanted one: `bites_rows < TABLE | diff TABLE -`.
+//! Prints each row of a table with the engine's answer instead of the expected one: `bites_rows < TABLE | diff TABLE
+//! -`.
 //!
-//! With words, which are names of tables, it prints the rows whose answer is not the wanted one, and how many rows each
-//! table has. `data/README.md` says what a row is. A line that is empty or begins with `#` is printed unchanged. A row is
-//! asked in each way that can ask it: over bytes, over texts, and over both with `keep_dropped_groups`. Where all answers
-//! are the same, the answer stands once; another one follows it with the name of its way. A line that is no row has the
+//! With words, which are names of tables, it prints the rows whose answer is not the expected one, and how many rows
+//! each table has. `data/README.md` says what a row is. A line that is empty or begins with `#` is printed unchanged. A
+//! row is asked in each way that can ask it: over bytes, over texts, and over both with `keep_dropped_groups`. An
+//! answer that differs from the one over bytes follows it with the name of its way. A line that is not a row has the
 //! answer `no row`.
 #![tactic(auto)]
 

@@ -14,7 +14,7 @@ use bites_text::error::Error;
 use std::alloc::{AllocError, Global};
 use std::fmt::Write;
 
-/// The greatest size limit at which a size is sought, a power of two.
+/// The greatest size limit that is tried, a power of two.
 const GREATEST: usize = 67108864;
 
 /// Adds the answer to a question about the pattern alone, of regexes over bytes or over texts.
@@ -53,7 +53,7 @@ fn push_tree(
     Ok(push_escaped(text, words.as_bytes())?)
 }
 
-// Adds how many states, slots and targets the program has.
+// Adds the numbers of states, slots and targets of the program.
 fn push_program(
     alloc: Global,
     pattern: &str,
@@ -72,7 +72,7 @@ fn push_escaped_pattern(alloc: Global, pattern: &str, text: &mut String) -> Resu
     Ok(push_new(text, Some(escaped.as_bytes()))?)
 }
 
-// Adds `ok`, how many groups there are, how many participate at least, and the names of all.
+// Adds `ok`, the number of groups, the least number of groups that participate, and the names of all groups.
 fn push_build(
     alloc: Global,
     pattern: &str,
@@ -99,7 +99,7 @@ fn push_lens(text: &mut String, groups: usize, least: Option<usize>) -> Result<(
     }
 }
 
-// Adds the names, separated by commas; `-` stands for none.
+// Adds the names, separated by commas. `-` stands for a group without a name.
 fn push_names(text: &mut String, names: CaptureNames<'_>) -> Result<(), AllocError> {
     let mut separator = ' ';
     for name in names {
@@ -110,7 +110,7 @@ fn push_names(text: &mut String, names: CaptureNames<'_>) -> Result<(), AllocErr
     Ok(())
 }
 
-// Adds `accepted` where the pattern is.
+// Adds `accepted` if the pattern is accepted.
 fn push_message(
     alloc: Global,
     pattern: &str,
@@ -122,7 +122,7 @@ fn push_message(
     Ok(text.push_str("accepted")?)
 }
 
-// Builds a regex, and lets it go.
+// Builds a regex, and drops it.
 fn build(alloc: Global, pattern: &str, settings: Settings, is_text: bool) -> Result<(), Error> {
     if is_text {
         settings.texts(alloc, pattern)?;
@@ -132,7 +132,7 @@ fn build(alloc: Global, pattern: &str, settings: Settings, is_text: bool) -> Res
     Ok(())
 }
 
-// Adds the least size limit at which the pattern is accepted, or `above` where the greatest one refuses it.
+// Adds the least size limit at which the pattern is accepted, or `above` if the greatest one refuses it.
 fn push_least_size(
     alloc: Global,
     pattern: &str,
@@ -147,7 +147,7 @@ fn push_least_size(
     Ok(write!(text, "{least}")?)
 }
 
-// The least size limit at which the pattern is accepted, which is at most the greatest one.
+// Returns the least size limit at which the pattern is accepted, which is at most the greatest one.
 fn least_limit(
     alloc: Global,
     pattern: &str,
@@ -166,7 +166,7 @@ fn least_limit(
     Ok(refused.saturating_add(1))
 }
 
-// Whether the size limit is why a build is refused.
+// Returns whether a build is refused because of the size limit.
 fn is_above(
     alloc: Global,
     pattern: &str,

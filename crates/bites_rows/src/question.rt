@@ -18,12 +18,12 @@ pub struct Asked {
     pub settings: Settings,
     pub pattern: String,
     pub haystack: Vec<u8>,
-    /// Where a search starts, or a limit; 0 where there is none.
+    /// The offset where a search starts, or a limit, or 0 if the row gives neither.
     pub argument: usize,
     pub template: Vec<u8>,
 }
 
-/// What the columns of a row ask.
+/// Reads the columns of a row.
 pub fn asked_by(alloc: Global, columns: &[&str]) -> Result<Asked, Fault> {
     if columns.len() != COLUMNS {
         return Err(Fault::NoRow);
@@ -43,7 +43,7 @@ pub fn asked_by(alloc: Global, columns: &[&str]) -> Result<Asked, Fault> {
     })
 }
 
-// Whether the kind says that the row is asked over texts too, if it is a kind.
+// Returns whether the row is asked over texts too, if the word is a kind.
 fn is_text(kind: &str) -> Option<bool> {
     match kind {
         "bytes" => Some(false),

@@ -6,7 +6,7 @@ use bites_syntax::parse::Flags;
 use regex_bites::{Error, Regex, RegexBuilder};
 use std::alloc::Global;
 
-/// The limits where a row gives none: those of the builder.
+/// The limits if a row gives none, which are those of the builder.
 const SIZE_LIMIT: usize = 10485760;
 
 const NEST_LIMIT: usize = 50;
@@ -24,7 +24,7 @@ pub struct Settings {
     pub nest_limit: u32,
 }
 
-/// The settings that the three columns of a row give.
+/// Reads the settings from the three columns of a row.
 pub fn settings_of(letters: &str, size: &str, nest: &str) -> Result<Settings, Fault> {
     if !are_known(letters) {
         return Err(Fault::NoRow);
@@ -49,7 +49,7 @@ fn are_known(letters: &str) -> bool {
     true
 }
 
-/// The number in a column, or another one for a dash.
+/// Returns the number in a column, or `other` for a dash.
 pub fn number_or(other: usize, column: &str) -> Result<usize, Fault> {
     if column == "-" {
         return Ok(other);
@@ -57,7 +57,7 @@ pub fn number_or(other: usize, column: &str) -> Result<usize, Fault> {
     column.parse().map_err(|_| Fault::NoRow)
 }
 
-// The flags whose letters stand here.
+// Returns the flags with these letters.
 fn flags_of(letters: &str) -> Flags {
     Flags {
         case_insensitive: letters.contains('i'),
@@ -70,7 +70,7 @@ fn flags_of(letters: &str) -> Flags {
 }
 
 impl Settings {
-    /// The same with `keep_dropped_groups`.
+    /// Returns these settings with `keep_dropped_groups`.
     pub fn keeping(self) -> Settings {
         Settings {
             keep_dropped_groups: true,
@@ -78,12 +78,12 @@ impl Settings {
         }
     }
 
-    /// The same with another size limit.
+    /// Returns these settings with another size limit.
     pub fn limited(self, size_limit: usize) -> Settings {
         Settings { size_limit, ..self }
     }
 
-    /// A regex over bytes with these settings.
+    /// Builds a regex over bytes with these settings.
     pub fn bytes(self, alloc: Global, pattern: &str) -> Result<bytes::Regex, Error> {
         let flags = self.flags;
         let mut builder = bytes::RegexBuilder::new(alloc, pattern)?;
@@ -100,7 +100,7 @@ impl Settings {
         builder.build()
     }
 
-    /// A regex over texts with these settings.
+    /// Builds a regex over texts with these settings.
     pub fn texts(self, alloc: Global, pattern: &str) -> Result<Regex, Error> {
         let flags = self.flags;
         let mut builder = RegexBuilder::new(alloc, pattern)?;

@@ -1,4 +1,4 @@
-//! What a regex over texts answers to searches.
+//! The answers of a regex over texts to searches.
 
 ghost use Rattle.std.specs.Prelude.{◌≡◌, ◌+◌, ◌≤◌, length, Some, IsCharBoundary};
 ghost use Rattle.bites_spec.specs.Measure.{static_captures_len};
@@ -18,7 +18,7 @@ pub struct Haystack<'h> {
     pub ghost border: { argument ≤ length text.now → IsCharBoundary text.now argument },
 }
 
-/// The haystack with the offset, where a search may start there.
+/// Returns the haystack with the offset, if a search may start there.
 pub fn haystack_from<'h>(text: &'h str, argument: usize) -> Option<Haystack<'h>> {
     if argument <= text.len() && !text.is_char_boundary(argument) {
         return None;
@@ -78,7 +78,7 @@ fn shortest(regex: &Regex, haystack: Haystack<'_>, text: &mut String) -> Result<
     push_none(text)
 }
 
-// Where a match lies.
+// Returns the span of a match.
 fn span_of(found: Option<Match<'_>>) -> Option<(usize, usize)> {
     match found {
         Some(found) => Some((found.start(), found.end())),
@@ -107,7 +107,7 @@ fn find_iter(regex: &Regex, haystack: &str, text: &mut String) -> Result<(), All
     push_none(text)
 }
 
-// A clone of the regex reads the groups into locations, which are cloned too.
+// Adds the groups that a clone of the regex reads into locations, which are cloned too.
 fn captures_read(
     regex: &Regex,
     haystack: Haystack<'_>,
@@ -140,7 +140,7 @@ fn push_groups(captures: &Captures<'_>, text: &mut String) -> Result<(), AllocEr
     Ok(())
 }
 
-// Where the matches end.
+// Returns the ends of all matches.
 fn ends(alloc: Global, regex: &Regex, haystack: &str) -> Result<Vec<usize>, AllocError> {
     let mut ends = Vec::new(alloc);
     for found in regex.find_iter(haystack)? {
@@ -178,7 +178,7 @@ fn splitn(
     push_pieces(text, haystack.as_bytes(), &ends, &pieces)
 }
 
-// Adds the first match and as many groups as participate in each match, where the pattern's form says how many.
+// Adds the first match and its first groups that participated, as many as `static_captures_len` says.
 fn extract(
     alloc: Global,
     regex: &Regex,
@@ -250,7 +250,7 @@ fn by_template(
     push_replaced(text, &replaced)
 }
 
-// As `by_template`, with a template that the call owns.
+// Like `by_template`, but with a template that the call owns.
 fn by_owned(
     alloc: Global,
     regex: &Regex,
@@ -279,7 +279,7 @@ fn by_literal(
     push_replaced(text, &replaced)
 }
 
-// Each match is replaced by its number, from 1 on.
+// Replaces each match by its number, from 1 on.
 fn by_count(
     alloc: Global,
     regex: &Regex,

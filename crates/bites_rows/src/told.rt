@@ -5,7 +5,7 @@ use bites_text::error::Error;
 use std::alloc::AllocError;
 use std::fmt::Write;
 
-/// Adds a span, or `-` for none, after a space where it is not the first part.
+/// Adds a span, or `-` for none, after a space unless it is the first part.
 pub fn push_span(text: &mut String, span: Option<(usize, usize)>) -> Result<(), AllocError> {
     push_space(text)?;
     match span {
@@ -14,7 +14,7 @@ pub fn push_span(text: &mut String, span: Option<(usize, usize)>) -> Result<(), 
     }
 }
 
-/// Adds a text in quotes, after a space where it is not the first part.
+/// Adds a text in quotes, after a space unless it is the first part.
 pub fn push_quoted(text: &mut String, bytes: &[u8]) -> Result<(), AllocError> {
     push_space(text)?;
     text.push('"')?;
@@ -29,7 +29,7 @@ fn push_space(text: &mut String) -> Result<(), AllocError> {
     text.push(' ')
 }
 
-/// Adds what stands between two matches, where there is a match before.
+/// Adds the separator of two matches, if there is a match before.
 pub fn push_next(text: &mut String) -> Result<(), AllocError> {
     if text.is_empty() {
         return Ok(());
@@ -37,7 +37,7 @@ pub fn push_next(text: &mut String) -> Result<(), AllocError> {
     text.push(';')
 }
 
-/// Adds `none` where the answer has no part.
+/// Adds `none` if the answer has no part.
 pub fn push_none(text: &mut String) -> Result<(), AllocError> {
     if text.is_empty() {
         return text.push_str("none");
@@ -45,7 +45,7 @@ pub fn push_none(text: &mut String) -> Result<(), AllocError> {
     Ok(())
 }
 
-/// Adds the pieces of a haystack. Each piece begins where the match before it ends.
+/// Adds the pieces of a haystack. Each piece begins where the previous match ends.
 pub fn push_pieces(
     text: &mut String,
     haystack: &[u8],
@@ -75,7 +75,7 @@ pub fn push_new(text: &mut String, new: Option<&[u8]>) -> Result<(), AllocError>
     }
 }
 
-/// Adds `err: ` and the message of a refused pattern. Out of memory is no message.
+/// Adds `err: ` and the message of a refused pattern. Out of memory is an error instead.
 pub fn push_refusal(text: &mut String, error: Error) -> Result<(), AllocError> {
     match error {
         Error::Memory => Err(AllocError),

@@ -5,16 +5,16 @@ use bites_syntax::tree::{Kind, Tree};
 use std::alloc::AllocError;
 use std::fmt::Write;
 
-/// How many levels are written, rows and choices counted twice.
+/// How many levels are written. Sequences and alternations count twice.
 const LEVELS: u32 = 20;
 
-/// Adds the tree in words. A class is its ranges in brackets; a repetition tells its least and its greatest count, if
-/// there is one, before its body, and a group its number and its name.
+/// Adds the tree in words. A class has its ranges in brackets. A repetition has its least count, and its greatest count
+/// if there is one, before its body. A group has its number, and its name if it has one.
 pub fn write_words(tree: &Tree, text: &mut String) -> Result<(), AllocError> {
     write_tree(tree, LEVELS, text)
 }
 
-// Adds a tree that is at most so many levels tall.
+// Adds the first levels of a tree, `levels` of them.
 #[cycle(words)]
 fn write_tree(tree: &Tree, levels: u32, text: &mut String) -> Result<(), AllocError> {
     if levels == 0 {
@@ -73,7 +73,7 @@ fn write_parts(
     text.push(')')
 }
 
-// Adds the ranges in brackets, parted by spaces.
+// Adds the ranges in brackets, separated by spaces.
 fn write_class(class: &Class, text: &mut String) -> Result<(), AllocError> {
     text.push('[')?;
     for (number, (low, high)) in class.ranges().iter().enumerate() {

@@ -1,5 +1,5 @@
 -- Each law as a term, by the name of its function and at every type. Callers import this module and no other module of
--- proofs: its names stay, while all others may change.
+-- proofs: its names are kept, while all others may change.
 use Rattle.std.proofs.Common.{List, ap, arith, map, refl, subst, sym, ℕ, ◌∙◌, ◌≡◌}
 use Rattle.std.proofs.lemmas.List.{length-map}
 use Rattle.bites_spec.specs.AnchoredLaws.{AnchoredRunIsFound, AnchoredSlotsAreFound, AnchoredSlotsAreGroups, LeastEndFromIsLeast, FullRunIsFound, AnchoredFindsSome, AnchoredIsFound, AnchoredHasBorders}
@@ -21,7 +21,7 @@ use Rattle.bites_spec.specs.RangesOf.{RangesOfList, ranges_of}
 use Rattle.bites_spec.specs.Refused.{IterationsEnd}
 use Rattle.bites_spec.specs.Refutations.{BoundsAreReached, SearchesReachBounds, BoundsRefuse, VisitsRefuse, AnsweredRefuses, FoundRefuses, PreferredRefuses, LeftmostRefuses, SpansRefuse, LeavingOutRefuses, BordersRefuse, ParticipantsRefuse, ItsGroupsRefuse, AppendsRefuse}
 use Rattle.bites_spec.specs.RegexLaws.{AnswersHaveGroup0, FindsSome, RunIsFound}
-use Rattle.bites_spec.specs.RunLaws.{ChosenRunLies, Group0IsSpan, LeastRunEndIsAtMost, LongestRunIsLongest, LongestRunIsOne, NoFaultIsWellFormed, NothingPastTheEnd, RunLies, RunsAreParsesInOrder, RunsBeginAlike, SlotsAreWritten, StaticLenTakesPart}
+use Rattle.bites_spec.specs.RunLaws.{ChosenRunLies, Group0IsSpan, LeastRunEndIsAtMost, LongestRunIsLongest, LongestRunIsOne, NoFaultIsWellFormed, NothingPastTheEnd, RunLies, RunsAreParsesInOrder, RunsBeginAlike, SlotsAreWritten, StaticLenParticipates}
 use Rattle.bites_spec.specs.SpanLaws.{PiecesAndMatches, ReplacedAlternates, ReplacedIsJoined, SpansGrow, SuccessiveGoesOn, SuccessiveIsMapped, SuccessiveIsOne}
 use Rattle.bites_spec.specs.Spans.{Successive, successive}
 use Rattle.bites_spec.specs.TemplateLaws.{CutsOnce, ExpandsOnce, NumbersAreFirst, PlainStandsForItself, TextsHaveNames}
@@ -156,8 +156,8 @@ static_count_is_least = StaticLemmas.static_least
 pub static_len_is_least : StaticLenIsLeast
 static_len_is_least = PartCountLemmas.static_len_is_least
 
-pub static_len_takes_part : StaticLenTakesPart
-static_len_takes_part = PartCountLemmas.static_len_takes_part
+pub static_len_participates : StaticLenParticipates
+static_len_participates = PartCountLemmas.static_len_participates
 
 pub successive_answers_are_one_list : (B : Type 0) → SuccessiveIsOne B
 successive_answers_are_one_list B = λ span_of hay A lies. (

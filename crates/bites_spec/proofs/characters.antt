@@ -1,4 +1,4 @@
--- Characters of a pattern: runs of them, digits and escapes, as the reader and the grammar read them.
+-- Characters of a pattern: runs of them, digits and escapes, in the reader and in the grammar.
 pub mod EachLemmas
 pub mod EscapeLemmas
 pub mod DigitLemmas

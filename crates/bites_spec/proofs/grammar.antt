@@ -1,4 +1,4 @@
--- The grammar: the reader returns the tree that the relations read, or the first fault, and each is one.
+-- The grammar: the reader returns the tree that the relations read, or the first fault, and both are unique.
 pub mod CountLemmas
 pub mod GroupNames
 pub mod GroupFlags

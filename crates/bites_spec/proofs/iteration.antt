@@ -1,4 +1,4 @@
--- Iterators: successive matches, pieces and what is replaced.
+-- Iterators: successive matches, the pieces between them, and replacement.
 pub mod SpanLemmas
 pub mod SuccessiveLemmas
 pub mod PieceTextLemmas

@@ -1,4 +1,4 @@
--- Runs: walks through the edges of a program, the first of them, the longest and the least end.
+-- Runs: paths through the edges of a program; the first run, the longest run, the least end.
 pub mod WalkLemmas
 pub mod FirstLemmas
 pub mod RunLemmas

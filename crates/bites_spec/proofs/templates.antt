@@ -1,4 +1,4 @@
--- Templates: they are cut in one way, and stand for one text.
+-- Templates: each is cut in one way, and stands for one text.
 pub mod CuttingLemmas
 pub mod TemplateLemmas
 pub mod TemplateTexts

@@ -28,14 +28,14 @@ module _ (r : Regex) (hay : List ℕ) where
   AreCaptures = Successive span_in hay FindsCaptures
 
 module _ (t : Tree) (hay : List ℕ) where
-  -- No match begins after e at a place that Before allows. Where one begins at e, the empty text matches there, which is no
-  -- match of its own after a match that ends at e.
+  -- No match begins after e at a place that Before allows. If one begins at e, the empty text matches there; it is no match of
+  -- its own, because a match ended at e.
   pub record NoMatchBetween (e : ℕ) (Before : ℕ → Type 0) : Type 0 where
     pub none : (k : ℕ) → Among (places hay e) k → e < k → Before k → (j : ℕ) → Matches hay t k j → ⊥
     pub empty : Before e → (j : ℕ) → Matches hay t e j → Matches hay t e e
 
-  -- after a match that ends at e come these spans: each is a match that ends after the one before, no match begins between
-  -- two of them, and none begins after the last
+  -- the spans after a match that ends at e: each is a match and ends after the one before, no match begins between two of
+  -- them, and none begins after the last
   abbrev pub FollowClosely : ℕ → List Span → Type 0
   FollowClosely e [] = NoMatchBetween e (λ k. Unit {0})
   FollowClosely e (s ∷ ss) =
@@ -54,7 +54,7 @@ FindsAreSuccessive = (r : Regex) → IsCompiled r → (hay : List ℕ) → AreMa
 abbrev pub GroupsAreSuccessive : Type 0
 GroupsAreSuccessive = (r : Regex) → IsCompiled r → (hay : List ℕ) → AreCaptures r hay (captures_in r hay)
 
--- where the groups of all matches are, there are all matches
+-- if these are the groups of all matches, their spans are all matches
 abbrev pub CapturesAreMatches : Type 0
 CapturesAreMatches = (r : Regex) (hay : List ℕ) (cs : List Captured) → AreCaptures r hay cs → AreMatches r hay (map span_in cs)
 

@@ -12,7 +12,7 @@ use Rattle.bites_spec.specs.Captured.{AreGroups}
 use Rattle.bites_spec.specs.TextLaws.{HasBorders}
 use Rattle.bites_spec.specs.Anchored.{LeastEndFrom, HasMatchFrom, IsLeastEndFrom, IsFullMatch, FindsFrom, FoundFull, anchored_run_at, anchored_span_at, anchored_slots_at, full_run, full_slots, FindsSpanFrom, FindsGroupsFrom, FindsGroupsFull}
 
--- the run that a search from one place answers is what such a search of the tree finds
+-- the run that a search from one place returns is what such a search of the tree finds
 abbrev pub AnchoredRunIsFound : Type 0
 AnchoredRunIsFound =
     (r : Regex) → IsCompiled r → (hay : List ℕ) (s : ℕ) →
@@ -43,7 +43,7 @@ FullRunIsFound =
     (r : Regex) → IsCompiled r → (hay : List ℕ) →
     FoundFull r.tree hay (option_map (answer_of r.program) (full_run r hay)) × FindsGroupsFull r hay (full_slots r hay)
 
--- something is found from one place exactly if the tree matches from there, and over the whole haystack if it matches that
+-- something is found from one place exactly if the tree matches from there; over the whole haystack, exactly if it matches that
 abbrev pub AnchoredFindsSome : Type 0
 AnchoredFindsSome =
     (t : Tree) (hay : List ℕ) (o : Option Answer) →

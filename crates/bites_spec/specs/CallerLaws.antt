@@ -1,4 +1,4 @@
--- What callers ask of patterns, places and groups, each proved.
+-- Laws for callers about patterns, places and groups, each proved.
 use Rattle.std.specs.Prelude.{◌≡◌, ℕ, ◌/◌, ◌<◌, ◌≤◌, ◌↔◌, ◌==◌, ◌||◌, codes, Bool, true, List, [], ◌∷◌, ◌++◌, length, Option, Ok, IsSome, if◌then◌else◌}
 use Rattle.bites_spec.specs.Utf8.{places}
 use Rattle.bites_spec.specs.Walks.{Among}
@@ -15,7 +15,7 @@ use Rattle.bites_spec.specs.Code.{code}
 use Rattle.bites_spec.specs.Group.{is_name_start, is_name_part}
 use Rattle.bites_spec.specs.Grammar.{Reads, ReadsChoice, at_front}
 use Rattle.bites_spec.specs.Reader.{read}
-use Rattle.bites_spec.specs.Slots.{group_in, taking_part}
+use Rattle.bites_spec.specs.Slots.{group_in, participating}
 
 -- a start within the haystack is a place of it
 abbrev pub StartIsPlace : Type 0
@@ -34,7 +34,7 @@ abbrev pub AnchoredMatchesWhole : Type 0
 AnchoredMatchesWhole =
     (t : Tree) (hay : List ℕ) (i j : ℕ) → Matches hay (anchored t) i j → (i ≡ 0) × (j ≡ length hay) × Matches hay t 0 (length hay)
 
--- Where a pattern is read up to a closing parenthesis, it is read between `\A(?:` and `)\z` as well: as this tree, and as no other.
+-- A pattern that is read up to a closing parenthesis is read between `\A(?:` and `)\z` too: as this tree, and as no other.
 abbrev pub AnchoredIsRead : Type 0
 AnchoredIsRead =
     (pattern : Text) (flags : Flags) (branches : List Tree) (behind : Front) →
@@ -46,13 +46,13 @@ AnchoredIsRead =
 abbrev pub begun : Tree → Tree
 begun t = sequence (trees_of (look start ∷ t ∷ []))
 
--- a search from the start of the haystack alone finds just what a search of that tree finds
+-- a search from the start of the haystack alone finds exactly what a search of that tree finds
 abbrev pub AnchoredIsBegun : Type 0
 AnchoredIsBegun =
     (longest : Bool) (t : Tree) (hay : List ℕ) (o : Option Answer) → FindsFrom longest t hay 0 o ↔ Finds longest (begun t) hay 0 o
 
--- A pattern is read as the tree that the grammar's function answers, and as no other: for a pattern that stands in the code
--- that tree is computed.
+-- A pattern is read as the tree that the grammar's function returns, and as no other. For a pattern that is written in the code,
+-- the function computes that tree.
 abbrev pub LiteralIsRead : Type 0
 LiteralIsRead =
     (pattern : Text) (flags : Flags) (nest_limit : ℕ) (t : Tree) → read ranges_of nest_limit pattern flags ≡ Ok t →
@@ -71,17 +71,17 @@ with_ranges set (r ∷ ranges) = with_ranges (union set (range_set r)) ranges
 abbrev pub UnionsAreListed : Type 0
 UnionsAreListed = (ranges : List Range) → AreCanonical ranges → ranges_of (with_ranges none ranges) ≡ ranges
 
--- and of each set that has their characters alone
+-- and of each set with exactly their scalar values
 abbrev pub RangesAreListed : Type 0
 RangesAreListed =
     (set : Set) (ranges : List Range) → AreCanonical ranges → ((c : ℕ) → is_scalar c ≡ true → in_ranges ranges c ≡ set c) → ranges_of set ≡ ranges
 
--- where as many groups participate as there are, each does
+-- if as many groups participate as there are, each participates
 abbrev pub EachParticipates : Type 0
 EachParticipates =
-    (slots : List (Option ℕ)) → length slots / 2 ≤ length (taking_part slots) → (k : ℕ) → k < length slots / 2 → IsSome (group_in slots k)
+    (slots : List (Option ℕ)) → length slots / 2 ≤ length (participating slots) → (k : ℕ) → k < length slots / 2 → IsSome (group_in slots k)
 
--- of the ASCII characters the letters and `_` may begin a name, and with them the digits, a dot and brackets may stand in one
+-- the ASCII characters of names: a letter or `_` may begin one; a letter, a digit, `_`, `.`, `[` or `]` may stand in one
 abbrev pub NamesAreAscii : Type 0
 NamesAreAscii =
     (c : ℕ) → c < 128 →

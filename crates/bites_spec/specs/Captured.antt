@@ -3,7 +3,7 @@ use Rattle.std.specs.Prelude.{◌≡◌, ◌≤◌, ℕ, List, length, Option, S
 use Rattle.bites_spec.specs.Match.{Span, span}
 use Rattle.bites_spec.specs.Pieces.{text_at}
 use Rattle.bites_spec.specs.Measure.{static_captures_len}
-use Rattle.bites_spec.specs.Slots.{group_in, taking_part}
+use Rattle.bites_spec.specs.Slots.{group_in, participating}
 use Rattle.bites_spec.specs.Spans.{LiesFrom}
 use Rattle.bites_spec.specs.Found.{Answer, NoMatch, Finds}
 use Rattle.bites_spec.specs.Regex.{Regex, IsCompiled, slots_at, span_at}
@@ -21,25 +21,25 @@ excerpt hay s = record { haystack = hay; span = s }
 abbrev pub text_of : Excerpt → List ℕ
 text_of e = text_at e.haystack e.span
 
--- the groups of a match: the regex whose search answered it, the haystack, and the slots
+-- the groups of a match: the regex whose search found it, the haystack, and the slots
 pub record Captured : Type 0 where
   pub regex : Regex
   pub haystack : List ℕ
   pub slots : List (Option ℕ)
 
--- by its parts
+-- a `Captured` by its parts
 abbrev pub captured : Regex → List ℕ → List (Option ℕ) → Captured
 captured r hay slots = record { regex = r; haystack = hay; slots = slots }
 
--- the slots have two places for each group; group 0 took part, each group that took part lies in the haystack, and at least as
--- many took part as the form of the pattern says
+-- as many slots as the program has; group 0 participated, each group that participated lies in the haystack, and at least as many
+-- participated as the form of the pattern says
 pub record AreGroups (r : Regex) (hay : List ℕ) (slots : List (Option ℕ)) : Type 0 where
   pub count : length slots ≡ r.program.slots
   pub whole : IsSome (group_in slots 0)
   pub lie : (k : ℕ) (g : Span) → group_in slots k ≡ Some g → LiesFrom (length hay) 0 g
-  pub enough : (n : ℕ) → static_captures_len r.tree ≡ Some n → n ≤ length (taking_part slots)
+  pub enough : (n : ℕ) → static_captures_len r.tree ≡ Some n → n ≤ length (participating slots)
 
--- the answers say the same: where there is one, group 0 of the slots is its span, and each group stands in the slots
+-- both are none, or the slots hold the answer: group 0 is its span, and each group is the answer's
 abbrev pub IsInSlots : Option Answer → Option (List (Option ℕ)) → Type 0
 IsInSlots None None = Unit {0}
 IsInSlots None (Some slots) = ⊥
@@ -47,13 +47,13 @@ IsInSlots (Some a) None = ⊥
 IsInSlots (Some a) (Some slots) =
     (group_in slots 0 ≡ Some (span a.start a.end)) × ((k : ℕ) → group_in slots k ≡ a.group k)
 
--- in the slots stand the groups of a match that a search of the regex's tree from s finds
+-- the slots hold the groups of a match that a search of the regex's tree from s finds
 pub record AreGroupsFrom (r : Regex) (hay : List ℕ) (s : ℕ) (slots : List (Option ℕ)) : Type 0 where
   pub answer : Answer
   pub found : Finds r.leftmost_longest r.tree hay s (Some answer)
   pub in_slots : IsInSlots (Some answer) (Some slots)
 
--- a search of the regex's tree finds nothing, or the groups in the slots
+-- a search of the regex's tree from s finds nothing, or the groups in the slots
 abbrev pub FindsGroups : Regex → List ℕ → ℕ → Option (List (Option ℕ)) → Type 0
 FindsGroups r hay s None = NoMatch r.tree hay s
 FindsGroups r hay s (Some slots) = AreGroupsFrom r hay s slots
@@ -64,23 +64,23 @@ pub record IsMatchFrom (r : Regex) (hay : List ℕ) (s : ℕ) (g : Span) : Type 
   pub found : Finds r.leftmost_longest r.tree hay s (Some answer)
   pub is_span : g ≡ span answer.start answer.end
 
--- a search of the regex's tree finds nothing, or a match with this span
+-- a search of the regex's tree from s finds nothing, or a match with this span
 abbrev pub FindsSpan : Regex → List ℕ → ℕ → Option Span → Type 0
 FindsSpan r hay s None = NoMatch r.tree hay s
 FindsSpan r hay s (Some g) = IsMatchFrom r hay s g
 
--- A search of the regex from s finds this part of the haystack, or none: it is where the program's run begins and ends, and what a
--- search of the tree finds.
+-- A search of the regex from s finds this part of the haystack, or none. It is the span of the program's run, and what a search
+-- of the tree finds.
 pub record FindsMatch (r : Regex) (hay : List ℕ) (s : ℕ) (m : Option Excerpt) : Type 0 where
   pub span : m ≡ option_map (excerpt hay) (span_at r hay s)
   pub on_tree : FindsSpan r hay s (option_map (λ x. x.span) m)
 
--- what a regex's search answers is what a search of its tree finds
+-- what a regex's search returns is what a search of its tree finds
 abbrev pub SlotsAreFound : Type 0
 SlotsAreFound =
     (r : Regex) → IsCompiled r → (hay : List ℕ) (s : ℕ) → FindsGroups r hay s (slots_at r hay s) × FindsSpan r hay s (span_at r hay s)
 
--- the slots that a search answers hold such groups
+-- the slots that a search returns hold groups of the regex
 abbrev pub SlotsAreGroups : Type 0
 SlotsAreGroups =
     (r : Regex) → IsCompiled r → (hay : List ℕ) (s : ℕ) (slots : List (Option ℕ)) → slots_at r hay s ≡ Some slots → AreGroups r hay slots

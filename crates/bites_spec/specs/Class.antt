@@ -3,7 +3,7 @@ use Rattle.std.specs.Prelude.{◌≡◌, ℕ, ◌+◌, ◌-◌, ◌<◌, ◌≤�
 use Rattle.bites_spec.specs.Code.{code}
 use Rattle.bites_spec.specs.Range.{Range, in_ranges}
 
--- a set of characters: a test on code points, of which only scalar values count
+-- a set of characters: a test on code points; only scalar values count
 abbrev pub Set : Type 0
 Set = ℕ → Bool
 
@@ -89,7 +89,7 @@ members upper = between (code "A") (code "Z")
 members word = in_ranges ((code "0", code "9") ∷ (code "A", code "Z") ∷ (code "_", code "_") ∷ (code "a", code "z") ∷ [])
 members xdigit = in_ranges ((code "0", code "9") ∷ (code "A", code "F") ∷ (code "a", code "f") ∷ [])
 
--- the scalar value behind one, over the surrogates
+-- the next scalar value; it skips the surrogates
 abbrev pub following : ℕ → ℕ
 following c = if c == 0xD7FF then 0xE000 else c + 1
 
@@ -97,7 +97,7 @@ following c = if c == 0xD7FF then 0xE000 else c + 1
 abbrev pub IsRange : Range → Type 0
 IsRange r = (is_scalar r.0 ≡ true) × (is_scalar r.1 ≡ true) × (r.0 ≤ r.1)
 
--- ranges that rise, with a scalar value between each two, so that each is as long as it can be
+-- canonical ranges: they rise, with a scalar value between each two, so that none could be longer
 abbrev pub AreCanonical : List Range → Type 0
 AreCanonical [] = Unit {0}
 AreCanonical (r ∷ []) = IsRange r

@@ -8,9 +8,9 @@ pub record Contents : Type 0 where
   pub pattern : List ℕ
   -- the name of each group, from group 0 on, if it has one
   pub names : List (Option (List ℕ))
-  -- how many groups participate in every match, with group 0
+  -- how many groups participate in every match, if known; group 0 counts
   pub static_captures_len : Option ℕ
 
--- what is in a program that was made of states alone
+-- the contents of a program that is made of states alone
 abbrev pub contents_of_states : Program → Contents
 contents_of_states p = record { program = p; pattern = []; names = []; static_captures_len = None }

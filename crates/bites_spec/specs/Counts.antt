@@ -21,7 +21,8 @@ abbrev pub fit_of : Program → Fit
 fit_of p = record { states = length p.states; slots = p.slots; targets = targets p }
 
 module _ (p : Program) (hay : List ℕ) (s : ℕ) where
-  -- no configuration twice, at most one visit for each state and place, and at most as many looks as edges, and one, at each place
+  -- no configuration is visited twice; there are at most states times places visits, at most (targets + 1) times places looks,
+  -- and no fewer looks than visits
   pub record IsBounded (c : Record) : Type 0 where
     pub apart : AllApart c.visits
     pub visits : length c.visits ≤ length p.states * length (places hay s)
@@ -40,7 +41,7 @@ module _ (p : Program) (hay : List ℕ) (s : ℕ) where
   abbrev pub VisitedSome : Record → Type 0
   VisitedSome c = (r : Run) × IsRun p hay r.start r.configurations r.end × Among (places hay s) r.start × VisitedRun c r
 
-  -- what a search that finds something, or finds nothing, has visited
+  -- what a search has visited, by whether it finds something
   abbrev pub VisitedBy : Bool → Record → Type 0
   VisitedBy true = VisitedSome
   VisitedBy false = VisitedAll
@@ -50,10 +51,10 @@ pub record Room : Type 0 where
   pub fits : Fit
   pub walked : Record
 
--- a slice may have no slot, two, or all
+-- a slice has no slot, two, or as many as the program
 abbrev pub IsSlotCount : Program → ℕ → Type 0
 IsSlotCount p n = (n ≡ 0) ⊎ ((n ≡ 2) ⊎ (n ≡ p.slots))
 
--- what a search from s may have done: it kept to the bounds, and visited what it had to
+-- a search from s kept the bounds, and visited what it had to
 abbrev pub IsWalked : Program → List ℕ → ℕ → Bool → Record → Type 0
 IsWalked p hay s found c = IsBounded p hay s c × VisitedBy p hay s found c

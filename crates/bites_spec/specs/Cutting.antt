@@ -6,15 +6,15 @@ use Rattle.bites_spec.specs.Look.{is_word_byte}
 use Rattle.bites_spec.specs.Walks.{IsNew}
 use Rattle.bites_spec.specs.Template.{Part, Cuts, IsName, EndsWord}
 
--- the template is this part, and what it is cut into behind so many bytes
+-- the template is this part, and then what the rest is cut into
 abbrev pub CutsFirst : Bool → List ℕ → Part → List ℕ → Type 0
 CutsFirst any template part rest = (parts : List Part) → Cuts any rest parts → Cuts any template (part ∷ parts)
 
--- the template is these parts, and what the rest is cut into
+-- the template is these parts, and then what the rest is cut into
 abbrev pub CutsFront : Bool → List ℕ → List Part → List ℕ → Type 0
 CutsFront any template front rest = (parts : List Part) → Cuts any rest parts → Cuts any template (front ++ parts)
 
--- no name in braces stands here, behind its opening one
+-- no name in braces stands here, after the opening brace
 abbrev pub NoName : Bool → List ℕ → Type 0
 NoName any inside = (word tail : List ℕ) → inside ≡ word ++ code "}" ∷ tail → IsNew (code "}") word → IsName any word → ⊥
 
@@ -24,7 +24,7 @@ pub record StandsInBraces (any : Bool) (inside word : List ℕ) : Type 0 where
   pub first : IsNew (code "}") word
   pub named : IsName any word
 
--- the longest run of bytes of a word at the front
+-- the longest run of word bytes at the start
 pub record IsWordAt (bytes word : List ℕ) : Type 0 where
   pub whole : bytes ≡ word ++ drop (length word) bytes
   pub word_bytes : list_all is_word_byte word ≡ true

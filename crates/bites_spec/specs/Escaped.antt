@@ -7,11 +7,11 @@ use Rattle.bites_spec.specs.Tree.{Tree, char, sequence_of}
 abbrev pub is_marked : ℕ → Bool
 is_marked = one_of (codes "\\.+*?()|[]{}^$#&-~")
 
--- the text with a backslash before each of them
+-- the text with a backslash before each such character
 abbrev pub escaped : Text → Text
 escaped [] = []
 escaped (c ∷ text) = if is_marked c then backslash ∷ c ∷ escaped text else c ∷ escaped text
 
--- the characters of a text, one behind another
+-- the tree of a text: its characters, one after another
 unfoldable pub text_tree : Text → Tree
 text_tree text = sequence_of (map char text)

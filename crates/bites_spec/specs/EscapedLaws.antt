@@ -9,7 +9,7 @@ use Rattle.bites_spec.specs.Settings.{no_flags, by_default, Accepts}
 use Rattle.bites_spec.specs.Escaped.{escaped, text_tree}
 use Rattle.bites_spec.specs.Occurrence.{StandsAt, IsLeftmost}
 
--- without flags an escaped text is read as its characters, and no limit on reading but that on the height can refuse it
+-- without flags an escaped text is read as its characters; of the limits on reading only that on the height can refuse it
 abbrev pub EscapedIsRead : Type 0
 EscapedIsRead =
     (text : Text) (nest_limit : ℕ) → height (text_tree text) ≤ nest_limit → Limits (escaped text) no_flags nest_limit (text_tree text)
@@ -22,13 +22,13 @@ EscapedIsText = (text : List ℕ) → IsUtf8 text → chars (encode_utf8_all (es
 abbrev pub EscapedIsFlat : Type 0
 EscapedIsFlat = (text : Text) → (groups_in (text_tree text) ≡ []) × (height (text_tree text) ≤ 1)
 
--- under the limits that a builder begins with, only its weight can refuse it
+-- under the limits that a builder begins with, only the size of its program can refuse it
 abbrev pub EscapedIsAccepted : Type 0
 EscapedIsAccepted =
     (text : List ℕ) → IsUtf8 text → program_size (text_tree (chars text)) ≤ 10485760 →
     Accepts (by_default (encode_utf8_all (escaped (chars text)))) (text_tree (chars text))
 
--- in a text it matches from a border on just where its text stands
+-- in a text it matches from a border exactly if its text stands there
 abbrev pub EscapedMatchesText : Type 0
 EscapedMatchesText =
     (hay text : List ℕ) (i j : ℕ) → IsUtf8 hay → IsUtf8 text → IsCharBoundary hay i →

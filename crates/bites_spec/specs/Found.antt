@@ -6,7 +6,7 @@ use Rattle.bites_spec.specs.Tree.{Tree, IsPlain}
 use Rattle.bites_spec.specs.Match.{Span, Mark, Matches, Parse, groups}
 use Rattle.bites_spec.specs.Preference.{ParseTo, parses}
 
--- where a match begins and ends, and where each group last took part
+-- where a match begins and ends, and where each group last participated
 pub record Answer : Type 0 where
   pub start : ℕ
   pub end : ℕ
@@ -22,7 +22,7 @@ abbrev pub first_ending : ℕ → List ParseTo → Option ParseTo
 first_ending j [] = None
 first_ending j (w ∷ ws) = if w.end == j then Some w else first_ending j ws
 
--- a way by its end and marks
+-- a parse by its end and its marks
 abbrev pub parse_to : ℕ → List Mark → ParseTo
 parse_to j ms = record { end = j; marks = ms }
 
@@ -41,7 +41,7 @@ module _ (t : Tree) (hay : List ℕ) where
     pub matches : (j : ℕ) × Matches hay t i j
     pub none_before : (k : ℕ) → Among (places hay s) k → k < i → (j : ℕ) → Matches hay t k j → ⊥
 
-  -- the answer begins at the first place that has a match, and its end and groups are those of one parse there, of which Q holds
+  -- the answer begins at the first place that has a match; its end and groups are those of one parse there, and Q holds of it
   pub record IsFoundBy (Q : (i j : ℕ) → List Mark → Type 0) (s : ℕ) (a : Answer) : Type 0 where
     pub first : IsFirstPlace s a.start
     pub marks : List Mark
@@ -49,20 +49,20 @@ module _ (t : Tree) (hay : List ℕ) where
     pub groups : (k : ℕ) → a.group k ≡ groups a.start a.end marks k
     pub chosen : Q a.start a.end marks
 
-  -- the search from s answers so, the parse left open but for Q
+  -- what a search from s finds: nothing if nothing matches, else an answer for whose parse Q holds
   abbrev pub FoundBy : ((i j : ℕ) → List Mark → Type 0) → ℕ → Option Answer → Type 0
   FoundBy Q s None = NoMatch s
   FoundBy Q s (Some a) = IsFoundBy Q s a
 
-  -- some parse from the first place
+  -- what a search finds, by some parse from the first place
   abbrev pub FoundSome : ℕ → Option Answer → Type 0
   FoundSome = FoundBy (λ i j ms. Unit {0})
 
-  -- if the tree is plain, its preferred parse from the first place
+  -- what a search finds: if the tree is plain, by its preferred parse from the first place
   abbrev pub Found : ℕ → Option Answer → Type 0
   Found = FoundBy (λ i j ms. IsPlain t → head_of (parses hay t i) ≡ Some (parse_to j ms))
 
-  -- the greatest end, and if the tree is plain the first parse that ends there
+  -- like `Found`, but with the greatest end, and if the tree is plain by the first parse that ends there
   abbrev pub FoundLongest : ℕ → Option Answer → Type 0
   FoundLongest = FoundBy (λ i j ms.
       ((l : ℕ) → Matches hay t i l → l ≤ j) × (IsPlain t → first_ending j (parses hay t i) ≡ Some (parse_to j ms)))
@@ -74,7 +74,7 @@ module _ (t : Tree) (hay : List ℕ) where
       ((i : ℕ) × Among (places hay s) i × Matches hay t i j)
       × ((i : ℕ) → Among (places hay s) i → (l : ℕ) → Matches hay t i l → j ≤ l)
 
--- a search of the tree from s answers so: by the greatest end, or by the preferred parse
+-- what a search of the tree from s finds: with the greatest end if true, else by the preferred parse
 abbrev pub Finds : Bool → Tree → List ℕ → ℕ → Option Answer → Type 0
 Finds true = FoundLongest
 Finds false = Found

@@ -15,7 +15,7 @@ FoundLies =
     LiesFrom (length hay) s (span a.start a.end)
     × ((k : ℕ) (g : Span) → a.group k ≡ Some g → LiesFrom a.end a.start g)
 
--- all answers from one start begin alike: there is one exactly if there is the other, and their matches begin at one place
+-- two answers from one start: one is there exactly if the other is, and they begin at the same place
 abbrev pub AnswersBeginAlike : Type 0
 AnswersBeginAlike =
     (t : Tree) (hay : List ℕ) (s : ℕ) (o p : Option Answer) → FoundSome t hay s o → FoundSome t hay s p →
@@ -27,13 +27,13 @@ LeastEndIsAtMost =
     (t : Tree) (hay : List ℕ) (s : ℕ) (o : Option Answer) (e : Option ℕ) → FoundSome t hay s o → IsLeastEnd t hay s e →
     (is_some e ≡ is_some o) × ((a : Answer) (j : ℕ) → o ≡ Some a → e ≡ Some j → j ≤ a.end)
 
--- n different groups took part at least
-abbrev pub TakePartAtLeast : ℕ → (ℕ → Option Span) → Type 0
-TakePartAtLeast n group =
+-- at least n different groups participated
+abbrev pub ParticipateAtLeast : ℕ → (ℕ → Option Span) → Type 0
+ParticipateAtLeast n group =
     (ks : List ℕ) × (length ks ≡ n) × AllApart ks × ((k : ℕ) → Among ks k → IsSome (group k))
 
--- where the form says how many groups participate at least, so many do in each answer, group 0 with them
+-- if the form says that at least n groups participate, group 0 counted, at least n do in each answer
 abbrev pub StaticLenIsLeast : Type 0
 StaticLenIsLeast =
     (t : Tree) → IsCompilable t → (n : ℕ) → static_captures_len t ≡ Some n →
-    (hay : List ℕ) (s : ℕ) (a : Answer) → FoundSome t hay s (Some a) → TakePartAtLeast n a.group
+    (hay : List ℕ) (s : ℕ) (a : Answer) → FoundSome t hay s (Some a) → ParticipateAtLeast n a.group

@@ -22,7 +22,7 @@ two_cases c =
     let upper = if is_lower c then c - 32 else c in
     (upper, upper) ∷ (upper + 32, upper + 32) ∷ []
 
--- a character, under i with both cases of a letter
+-- a character; under `i` a letter in both cases
 abbrev pub literal_of : Flags → ℕ → Tree
 literal_of flags c = if flags.case_insensitive && is_letter c then tree.class (two_cases c) else char c
 
@@ -39,7 +39,7 @@ caret_look flags = if flags.multi_line then (if flags.crlf then start_crlf else 
 abbrev pub dollar_look : Flags → Look
 dollar_look flags = if flags.multi_line then (if flags.crlf then end_crlf else end_lf) else end
 
--- `ReadsAtom flags t node rest`: from t up to rest stands an item that is a node and no group
+-- `ReadsAtom flags t node rest`: from t up to rest stands an item that makes one node and is no group
 pub data ReadsAtom (flags : Flags) : Text → Tree → Text → Type 0 where
   literal : (c : ℕ) (t rest : Text) (node : Tree) →
       t ≡ c ∷ rest → is_special c ≡ false → node ≡ literal_of flags c → ReadsAtom flags t node rest
@@ -56,7 +56,7 @@ pub data ReadsAtom (flags : Flags) : Text → Tree → Text → Type 0 where
   escaped_assertion : (l : Look) (t rest : Text) (node : Tree) →
       ReadsEscape flags t (assertion l) rest → node ≡ tree.look l → ReadsAtom flags t node rest
 
--- the node of a group with these branches, where so many groups with a number were opened before
+-- the node of a group with these branches; `before` groups with a number were opened before it
 abbrev pub group_of : Opening → ℕ → List Tree → Tree
 group_of (numbered name) before branches = tree.group (before + 1) (option_map encode_utf8_all name) (alternation_of branches)
 group_of unnumbered before branches = alternation_of branches
@@ -67,7 +67,7 @@ ends_sequence [] = true
 ends_sequence (c ∷ t) = (c == bar) || (c == right_parenthesis)
 
 mutual
-  -- `ReadsChoice front t branches behind rest`: from t up to rest stand sequences with these trees, parted by bars
+  -- `ReadsChoice front t branches behind rest`: from t up to rest stand sequences with these trees, separated by bars
   pub data ReadsChoice : Front → Text → List Tree → Front → Text → Type 0 where
     one : (front behind : Front) (t rest : Text) (nodes branches : List Tree) →
         ReadsSequence front t [] nodes behind rest → branches ≡ sequence_of nodes ∷ [] → ReadsChoice front t branches behind rest
@@ -75,7 +75,7 @@ mutual
         ReadsSequence front t [] nodes middle (bar ∷ more) → ReadsChoice middle more others behind rest →
         branches ≡ sequence_of nodes ∷ others → ReadsChoice front t branches behind rest
 
-  -- `ReadsSequence front t nodes all behind rest`: items, each after a gap, and a last gap make all of the nodes so far
+  -- `ReadsSequence front t nodes all behind rest`: items, each after a gap, and a last gap; they turn the nodes so far into all
   pub data ReadsSequence : Front → Text → List Tree → List Tree → Front → Text → Type 0 where
     ends : (front behind : Front) (t rest : Text) (nodes all : List Tree) →
         rest ≡ skip front.flags t → ends_sequence rest ≡ true → all ≡ nodes → behind ≡ front →
@@ -84,7 +84,7 @@ mutual
         ReadsItem front (skip front.flags t) nodes more middle next → ReadsSequence middle next more all behind rest →
         ReadsSequence front t nodes all behind rest
 
-  -- `ReadsItem front t nodes all behind rest`: from t up to rest stands an item, which makes all of the nodes so far
+  -- `ReadsItem front t nodes all behind rest`: from t up to rest stands an item, which turns the nodes so far into all
   pub data ReadsItem : Front → Text → List Tree → List Tree → Front → Text → Type 0 where
     atom : (front behind : Front) (t rest : Text) (nodes all : List Tree) (node : Tree) →
         ReadsAtom front.flags t node rest → all ≡ nodes ++ node ∷ [] → behind ≡ front → ReadsItem front t nodes all behind rest

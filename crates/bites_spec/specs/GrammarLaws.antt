@@ -1,4 +1,4 @@
--- What has to hold of the grammar and its faults.
+-- Laws of the grammar and its faults.
 use Rattle.std.specs.Prelude.{◌≡◌, ℕ, ◌⊎◌, ◌↔◌, List, Result, Ok, Err}
 use Rattle.bites_spec.specs.Range.{Range}
 use Rattle.bites_spec.specs.Class.{Set, Lists}
@@ -36,18 +36,18 @@ ReadOrRefused =
     (pattern : Text) (flags : Flags) (nest_limit : ℕ) →
     ((t : Tree) × Limits pattern flags nest_limit t) ⊎ ((m : Message) × Fault pattern flags nest_limit m)
 
--- the grammar's function answers a tree that is not too tall just where the pattern has it within the limits
+-- the grammar's function returns a tree that is not too tall exactly if the pattern has that tree within the limits
 abbrev pub ReaderReads : Type 0
 ReaderReads =
     (pattern : Text) (flags : Flags) (nest_limit : ℕ) (t : Tree) →
     Limits pattern flags nest_limit t ↔ ((read ranges_of nest_limit pattern flags ≡ Ok t) × (IsTooTall nest_limit t → ⊥))
 
--- an answer of the function refuses the pattern by this message: it stops there, or the tree is too tall
+-- a result of the function refuses the pattern by this message: it stops with it, or its tree is too tall
 abbrev pub IsRefusedBy : ℕ → Message → Result Tree Stop → Type 0
 IsRefusedBy nest_limit m (Ok t) = IsTooTall nest_limit t × (m ≡ too_much_nesting)
 IsRefusedBy nest_limit m (Err e) = m ≡ e.message
 
--- the grammar's function refuses a pattern just by the pattern's message
+-- the grammar's function refuses a pattern by a message exactly if that is the pattern's message
 abbrev pub ReaderRefuses : Type 0
 ReaderRefuses =
     (pattern : Text) (flags : Flags) (nest_limit : ℕ) (m : Message) →
@@ -57,7 +57,7 @@ ReaderRefuses =
 abbrev pub ReadIsCompilable : Type 0
 ReadIsCompilable = (pattern : Text) (flags : Flags) (t : Tree) → Reads pattern flags t → IsCompilable t
 
--- a class in brackets whose reading stops is not read as well
+-- a class in brackets whose reading stops is not also read
 abbrev pub StuckBracketIsNotRead : Type 0
 StuckBracketIsNotRead =
     (flags : Flags) (t rest place : Text) (ranges : List Range) (m : Message) →

@@ -1,4 +1,4 @@
--- The successive answers of a regex in a haystack, and the pieces between them.
+-- The successive matches of a regex in a haystack, and the pieces between them.
 use Rattle.std.specs.Prelude.{◌≡◌, ℕ, List, map, length, Option, Some, None}
 use Rattle.bites_spec.specs.Match.{Span}
 use Rattle.bites_spec.specs.Run.{Run, slots}
@@ -13,10 +13,10 @@ module _ (r : Regex) (hay : List ℕ) where
   abbrev pub spans_in : List Span
   spans_in = successive (λ s. s) hay (span_at r hay)
 
-  -- the spans of the matches behind one that ends at a place, or of all
-  abbrev pub spans_behind : Option ℕ → List Span
-  spans_behind None = spans_in
-  spans_behind (Some e) = successive_after (λ s. s) hay (span_at r hay) e
+  -- the spans of the matches after one that ends at a place, or of all matches
+  abbrev pub spans_after : Option ℕ → List Span
+  spans_after None = spans_in
+  spans_after (Some e) = successive_after (λ s. s) hay (span_at r hay) e
 
   -- the groups of the match that a run stands for
   abbrev pub captured_by : Run → Captured
@@ -26,16 +26,16 @@ module _ (r : Regex) (hay : List ℕ) where
   abbrev pub captures_in : List Captured
   captures_in = map captured_by (successive span_of_run hay (run_at r hay))
 
-  -- the groups of the matches behind one that ends at a place, or of all
-  abbrev pub captures_behind : Option ℕ → List Captured
-  captures_behind None = captures_in
-  captures_behind (Some e) = map captured_by (successive_after span_of_run hay (run_at r hay) e)
+  -- the groups of the matches after one that ends at a place, or of all matches
+  abbrev pub captures_after : Option ℕ → List Captured
+  captures_after None = captures_in
+  captures_after (Some e) = map captured_by (successive_after span_of_run hay (run_at r hay) e)
 
   -- the pieces between the matches
   abbrev pub pieces_in : List (List ℕ)
   pieces_in = map (text_at hay) (gaps (length hay) spans_in)
 
-  -- at most n pieces: the first n - 1 and then the whole rest, or all where there are fewer
+  -- at most n pieces: the first n - 1 and then the whole rest, or all if there are fewer
   abbrev pub pieces_up_to : ℕ → List (List ℕ)
   pieces_up_to n = map (text_at hay) (gaps_up_to n (length hay) spans_in)
 

@@ -1,4 +1,4 @@
--- What a tree matches, in which ways, and which groups a way marks.
+-- What a tree matches, by which parses, and which groups a parse marks.
 use Rattle.std.specs.Prelude.{◌≡◌, ℕ, zero, suc, ◌+◌, ◌<◌, ◌≤◌, Bool, true, List, [], ◌∷◌, ◌++◌, Option, Some, None, if◌then◌else◌, IfSome, ◌==◌, ◌⊎◌}
 use Rattle.std.specs.Prelude.{length}
 use Rattle.std.specs.Option.{option_or}
@@ -30,12 +30,12 @@ mark k i j = record { group = k; span = span i j }
 abbrev pub IsWithin : Option ℕ → ℕ → Type 0
 IsWithin most n = IfSome most (λ m. n ≤ m)
 
--- n steps of R, one behind the other
+-- n steps of R, one after the other
 abbrev pub Chain : (ℕ → ℕ → Type 0) → ℕ → ℕ → ℕ → Type 0
 Chain R zero i j = j ≡ i
 Chain R (suc n) i j = (l : ℕ) × R i l × Chain R n l j
 
--- n turns of R, one behind the other, with the marks of all
+-- n turns of R, one after the other, with the marks of all
 abbrev pub Turns : {M : Type 0} → (ℕ → ℕ → List M → Type 0) → ℕ → ℕ → ℕ → List M → Type 0
 Turns R zero i j ms = (j ≡ i) × (ms ≡ [])
 Turns {M} R (suc n) i j ms =
@@ -58,7 +58,7 @@ module _ (hay : List ℕ) where
     Matches (sequence ts) i j = MatchesAll ts i j
     Matches (alternation ts) i j = MatchesOne ts i j
 
-    -- all of the trees match, one behind the other
+    -- all of the trees match, one after the other
     pub MatchesAll : Trees → ℕ → ℕ → Type 0
     MatchesAll no_tree i j = j ≡ i
     MatchesAll (tree_and t ts) i j = (l : ℕ) × Matches t i l × MatchesAll ts l j
@@ -69,7 +69,7 @@ module _ (hay : List ℕ) where
     MatchesOne (tree_and t ts) i j = Matches t i j ⊎ MatchesOne ts i j
 
   abbrev mutual
-    -- One way in which the tree matches from i to j; its groups end in the order of these marks.
+    -- One way in which the tree matches from i to j. The marks are its groups, in the order in which they end.
     pub Parse : Tree → ℕ → ℕ → List Mark → Type 0
     Parse empty i j ms = (j ≡ i) × (ms ≡ [])
     Parse (char c) i j ms = Takes (λ d. d == c) i j × (ms ≡ [])
@@ -80,18 +80,18 @@ module _ (hay : List ℕ) where
     Parse (sequence ts) i j ms = ParseAll ts i j ms
     Parse (alternation ts) i j ms = ParseOne ts i j ms
 
-    -- one way through all of the trees, one behind the other
+    -- a parse of all of the trees, one after the other
     pub ParseAll : Trees → ℕ → ℕ → List Mark → Type 0
     ParseAll no_tree i j ms = (j ≡ i) × (ms ≡ [])
     ParseAll (tree_and t ts) i j ms =
         (l : ℕ) × (first : List Mark) × (rest : List Mark) × Parse t i l first × ParseAll ts l j rest × (ms ≡ first ++ rest)
 
-    -- one way through one of the trees
+    -- a parse of one of the trees
     pub ParseOne : Trees → ℕ → ℕ → List Mark → Type 0
     ParseOne no_tree i j ms = ⊥
     ParseOne (tree_and t ts) i j ms = Parse t i j ms ⊎ ParseOne ts i j ms
 
--- where the group last took part, if it did
+-- where the group last participated, if it did
 abbrev pub last_mark : List Mark → ℕ → Option Span
 last_mark [] k = None
 last_mark (m ∷ ms) k = option_or (last_mark ms k) (if m.group == k then Some m.span else None)
@@ -101,11 +101,11 @@ abbrev pub groups : ℕ → ℕ → List Mark → ℕ → Option Span
 groups i j ms zero = Some (span i j)
 groups i j ms (suc k) = last_mark ms (suc k)
 
--- the group took part
+-- the group participated
 abbrev pub IsMarked : List Mark → ℕ → Type 0
 IsMarked [] k = ⊥
 IsMarked (m ∷ ms) k = (m.group ≡ k) ⊎ IsMarked ms k
 
--- n different groups took part at least
+-- at least n different groups participated
 abbrev pub MarksAtLeast : ℕ → List Mark → Type 0
 MarksAtLeast n ms = (ks : List ℕ) × (length ks ≡ n) × AllApart ks × ((k : ℕ) → Among ks k → IsMarked ms k)

@@ -6,7 +6,7 @@ use Rattle.bites_spec.specs.Match.{Span}
 abbrev pub StandsAt : (hay text : List ℕ) → ℕ → Type 0
 StandsAt hay text i = (i ≤ length hay) × ((rest : List ℕ) × (drop i hay ≡ text ++ rest))
 
--- where these bytes stand first from s on, or that they do not
+-- where these bytes first stand from s on, or none if they do not
 abbrev pub IsLeftmost : (hay text : List ℕ) → ℕ → Option Span → Type 0
 IsLeftmost hay text s None = (i : ℕ) → s ≤ i → StandsAt hay text i → ⊥
 IsLeftmost hay text s (Some g) =

@@ -6,24 +6,24 @@ use Rattle.bites_spec.specs.Range.{in_ranges}
 use Rattle.bites_spec.specs.Tree.{Tree, Trees, empty, char, class, look, repetition, group, sequence, alternation, no_tree, tree_and}
 use Rattle.bites_spec.specs.Match.{Mark, mark}
 
--- where a parse ends, and its marks
+-- a parse by its end and its marks
 pub record ParseTo : Type 0 where
   pub end : ℕ
   pub marks : List Mark
 
--- the way of the empty text
+-- the parse of the empty text
 abbrev pub here : ℕ → ParseTo
 here i = record { end = i; marks = [] }
 
--- the way, and behind it another
+-- a parse, and after it another
 abbrev pub joined : ParseTo → ParseTo → ParseTo
 joined w v = record { end = v.end; marks = w.marks ++ v.marks }
 
--- the group k, begun at i, ends where the way does
+-- a parse with a mark of group k, which begins at i and ends where the parse does
 abbrev pub grouped : ℕ → ℕ → ParseTo → ParseTo
 grouped k i w = record { end = w.end; marks = w.marks ++ mark k i w.end ∷ [] }
 
--- each first way, and behind it each way to go on; the choice of the first counts first
+-- each first parse, and after it each parse of the rest; the choice of the first counts first
 abbrev pub then_each : List ParseTo → (ℕ → List ParseTo) → List ParseTo
 then_each firsts rest = flat_map (λ w. map (joined w) (rest w.end)) firsts
 
@@ -32,7 +32,7 @@ abbrev pub after_turns : ℕ → (ℕ → List ParseTo) → (ℕ → List ParseT
 after_turns zero body rest i = rest i
 after_turns (suc n) body rest i = then_each (body i) (after_turns n body rest)
 
--- up to n turns of the body; one turn more comes before stopping if that is preferred
+-- up to n turns of the body; if more is preferred, one more turn comes before stopping, else after it
 abbrev pub up_to : ℕ → Bool → (ℕ → List ParseTo) → ℕ → List ParseTo
 up_to zero greedy body i = here i ∷ []
 up_to (suc n) greedy body i =
@@ -45,7 +45,7 @@ module _ (hay : List ℕ) where
   taken test i =
       if nat_lt 0 (piece hay i).len && test (character (piece hay i)) then here (i + (piece hay i).len) ∷ [] else []
 
-  -- without a bound each turn more takes a byte at least, so there are at most as many as bytes
+  -- the turns of a repetition; without a greatest count each further turn takes at least a byte, so the haystack bounds them
   abbrev pub turns : ℕ → Option ℕ → Bool → (ℕ → List ParseTo) → ℕ → List ParseTo
   turns min None greedy body = after_turns min body (up_to (length hay) greedy body)
   turns min (Some most) greedy body = after_turns min body (up_to (most - min) greedy body)
@@ -62,12 +62,12 @@ module _ (hay : List ℕ) where
     parses (sequence ts) i = parses_of_all ts i
     parses (alternation ts) i = parses_of_one ts i
 
-    -- the same of trees one behind the other
+    -- all parses of the trees one after the other
     pub parses_of_all : Trees → ℕ → List ParseTo
     parses_of_all no_tree i = here i ∷ []
     parses_of_all (tree_and t ts) i = then_each (parses t i) (parses_of_all ts)
 
-    -- the same of a choice between trees, an earlier one preferred
+    -- all parses of a choice between trees; an earlier tree is preferred
     pub parses_of_one : Trees → ℕ → List ParseTo
     parses_of_one no_tree i = []
     parses_of_one (tree_and t ts) i = parses t i ++ parses_of_one ts i

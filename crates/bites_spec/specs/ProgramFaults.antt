@@ -23,7 +23,7 @@ abbrev pub has_ranges : State → Bool
 has_ranges (ranges q rs) = are_ranges rs
 has_ranges _ = true
 
--- the slot of a state is there
+-- the slot that a state writes is there
 abbrev pub has_slot : ℕ → State → Bool
 has_slot slots (capture q slot) = nat_lt slot slots
 has_slot slots _ = true
@@ -34,7 +34,7 @@ fault_of len slots s =
     if not (list_all (λ q. nat_lt q len) (targets_of s)) then Some bad_target
     else (if not (has_ranges s) then Some bad_ranges else (if not (has_slot slots s) then Some bad_slot else None))
 
--- the first fault, in the order in which they are asked for
+-- the first fault, in the order in which faults are checked
 abbrev pub first_fault : Program → Option ProgramFault
 first_fault p =
     if nat_lt 4294967295 (length p.states) then Some too_many

@@ -8,7 +8,7 @@ abbrev pub with_front : ℕ → List Range → List Range
 with_front c [] = (c, c) ∷ []
 with_front c (r ∷ ranges) = if following c == r.0 then (c, r.1) ∷ ranges else (c, c) ∷ r ∷ ranges
 
--- the canonical ranges of those characters of the set that are among n code points from c on
+-- the canonical ranges of the set's characters among the n code points from c on
 unfoldable pub ranges_from : Set → ℕ → ℕ → List Range
 ranges_from set zero c = []
 ranges_from set (suc n) c = if is_scalar c && set c then with_front c (ranges_from set n (suc c)) else ranges_from set n (suc c)

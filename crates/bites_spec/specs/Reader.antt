@@ -18,7 +18,7 @@ use Rattle.bites_spec.specs.Group.{Opening, numbered, unnumbered, with_group, ch
 use Rattle.bites_spec.specs.Grammar.{literal_of, dot_set, caret_look, dollar_look, group_of, at_front}
 use Rattle.bites_spec.specs.OperatorFault.{greatest_number}
 
--- a choice of which only the taken side is computed
+-- a choice; only the taken side is computed
 abbrev pub choose : {A : Type 0} → Bool → (Unit {0} → A) → (Unit {0} → A) → A
 choose true f g = f tt
 choose false f g = g tt
@@ -28,11 +28,11 @@ pub record Stop : Type 0 where
   pub message : Message
   pub place : Text
 
--- a value and the place behind it, or a stop
+-- a value and the text after it, or a stop
 abbrev pub ReadResult : Type 0 → Type 0
 ReadResult A = Result (A × Text) Stop
 
--- what was read, and the place behind it
+-- what was read, and the text after it
 abbrev pub answer : {A : Type 0} → A → Text → ReadResult A
 answer x t = Ok (x, t)
 
@@ -40,7 +40,7 @@ answer x t = Ok (x, t)
 abbrev pub stop : {A : Type 0} → Message → Text → Result A Stop
 stop m t = Err (record { message = m; place = t })
 
--- goes on behind what was read
+-- goes on after what was read
 abbrev pub and_then : {A B : Type 0} → ReadResult A → (A → Text → Result B Stop) → Result B Stop
 and_then (Ok x) f = f x.0 x.1
 and_then (Err e) f = Err e
@@ -52,7 +52,7 @@ each (suc n) flags set [] = ([], [])
 each (suc n) flags set (c ∷ t) =
     choose (set c) (λ _. (let r = each n flags set (skip flags t) in (c ∷ r.0, r.1))) (λ _. ([], c ∷ t))
 
--- behind white space: digits, and what stands behind them
+-- after white space: the digits, and what follows them
 abbrev pub decimal_by : ℕ → Flags → Text → Text → Text → ReadResult ℕ
 decimal_by n flags at [] behind = stop message.decimal_without_digits at
 decimal_by n flags at (d ∷ digits) behind =
@@ -64,7 +64,7 @@ abbrev pub decimal : ℕ → Flags → Text → ReadResult ℕ
 decimal n flags t =
     decimal_by n flags (skip_white t) (each n flags is_ascii_digit (skip_white t)).0 (each n flags is_ascii_digit (skip_white t)).1
 
--- whether a lazy mark stands here, and the place behind it
+-- whether a lazy mark stands here, and the text after it
 abbrev pub lazy : Text → Bool × Text
 lazy [] = (false, [])
 lazy (c ∷ t) = choose (c == question) (λ _. (true, t)) (λ _. (false, c ∷ t))
@@ -78,36 +78,36 @@ abbrev pub are_crossed : ℕ → Option ℕ → Bool
 are_crossed min None = false
 are_crossed min (Some max) = nat_lt max min
 
--- behind the closing brace and a lazy mark
+-- after the closing brace and a lazy mark
 abbrev pub whole_count : Flags → ℕ → Option ℕ → Bool × Text → ReadResult Bounds
 whole_count flags min max mark =
     choose (are_crossed min max) (λ _. stop message.min_above_max mark.1) (λ _. answer (min, max, is_greedy flags mark.0) mark.1)
 
--- behind the second decimal
+-- after the second decimal
 abbrev pub after_max : Flags → ℕ → ℕ → Text → ReadResult Bounds
 after_max flags min max [] = stop message.unclosed_max []
 after_max flags min max (c ∷ t) =
     choose (c == right_brace) (λ _. whole_count flags min (Some max) (lazy (skip flags t))) (λ _. stop message.invalid_count (c ∷ t))
 
--- behind the comma and its gap
+-- after the comma and its gap
 abbrev pub after_comma : ℕ → Flags → ℕ → Text → ReadResult Bounds
 after_comma n flags min [] = stop message.unclosed_comma []
 after_comma n flags min (c ∷ t) =
     choose (c == right_brace) (λ _. whole_count flags min None (lazy (skip flags t))) (λ _. and_then (decimal n flags (c ∷ t)) (after_max flags min))
 
--- behind the first decimal
+-- after the first decimal
 abbrev pub after_min : ℕ → Flags → ℕ → Text → ReadResult Bounds
 after_min n flags min [] = stop message.unclosed_min []
 after_min n flags min (c ∷ t) =
     choose (c == right_brace) (λ _. whole_count flags min (Some min) (lazy (skip flags t)))
     (λ _. choose (c == comma) (λ _. after_comma n flags min (skip flags t)) (λ _. stop message.invalid_count (c ∷ t)))
 
--- behind the opening brace and its gap
+-- after the opening brace and its gap
 abbrev pub counted : ℕ → Flags → Text → ReadResult Bounds
 counted n flags [] = stop message.unclosed_count []
 counted n flags (c ∷ t) = and_then (decimal n flags (c ∷ t)) (after_min n flags)
 
--- behind one of the operators without braces
+-- after one of the operators without braces
 abbrev pub plain_operator : Flags → ℕ → Option ℕ → Bool × Text → ReadResult Bounds
 plain_operator flags min max mark = answer (min, max, is_greedy flags mark.0) mark.1
 
@@ -115,12 +115,12 @@ plain_operator flags min max mark = answer (min, max, is_greedy flags mark.0) ma
 abbrev pub scalar : Message → Text → Text → ReadResult ℕ
 scalar m digits t = choose (is_scalar (number 16 digits)) (λ _. answer (number 16 digits) t) (λ _. stop m t)
 
--- behind the closing brace
+-- after the closing brace
 abbrev pub closed_hexadecimal : Text → Text → Text → ReadResult ℕ
 closed_hexadecimal [] at t = stop message.brace_hex_empty at
 closed_hexadecimal (d ∷ digits) at t = scalar message.brace_hex_invalid (d ∷ digits) t
 
--- behind the digits in braces
+-- after the digits in braces
 abbrev pub in_braces : Text → Text → ReadResult ℕ
 in_braces digits [] = stop message.brace_hex_unclosed []
 in_braces digits (c ∷ t) =
@@ -131,14 +131,14 @@ abbrev pub between_digits : ℕ → Flags → Text → Text
 between_digits zero flags t = t
 between_digits (suc k) flags t = skip flags t
 
--- so many digits
+-- as many digits as the number says
 abbrev pub exactly : ℕ → Flags → Text → ReadResult Text
 exactly zero flags t = answer [] t
 exactly (suc k) flags [] = stop message.fixed_hex_unfinished []
 exactly (suc k) flags (c ∷ t) =
     choose (is_hex_digit c) (λ _. and_then (exactly k flags (between_digits k flags t)) (λ digits rest. answer (c ∷ digits) rest)) (λ _. stop message.fixed_hex_digit (c ∷ t))
 
--- behind x, u or U and a gap
+-- after x, u or U and a gap
 abbrev pub hexadecimal : ℕ → Flags → ℕ → Text → ReadResult ℕ
 hexadecimal n flags k [] = stop message.hex_unfinished []
 hexadecimal n flags k (c ∷ t) =
@@ -149,19 +149,19 @@ abbrev pub spelled : Option Look → Text → Text → ReadResult Meaning
 spelled None at t = stop message.unrecognized_boundary at
 spelled (Some l) at t = answer (assertion l) t
 
--- behind the name in braces
+-- after the name in braces
 abbrev pub boundary_name : Text → Text → ReadResult Meaning
 boundary_name name [] = stop message.unclosed_boundary []
 boundary_name name (c ∷ t) =
     choose (c == right_brace) (λ _. spelled (boundary_of name) (c ∷ t) t) (λ _. stop message.unclosed_boundary (c ∷ t))
 
--- behind the brace and its gap
+-- after the brace and its gap
 abbrev pub braced : ℕ → Flags → Text → Text → ReadResult Meaning
 braced n flags at [] = stop message.unfinished_boundary []
 braced n flags at (c ∷ t) =
     choose (is_boundary_letter c) (λ _. (let name = each n flags is_boundary_letter (c ∷ t) in boundary_name name.0 name.1)) (λ _. answer (assertion word) at)
 
--- behind \b
+-- after \b
 abbrev pub boundary : ℕ → Flags → Text → ReadResult Meaning
 boundary n flags [] = answer (assertion word) []
 boundary n flags (c ∷ t) =
@@ -172,7 +172,7 @@ abbrev pub or_else : Option Meaning → Option Meaning → Option Meaning
 or_else (Some meaning) other = Some meaning
 or_else None other = other
 
--- what one character behind the backslash means alone
+-- what one character after the backslash means alone
 abbrev pub meaning_of : ℕ → Option Meaning
 meaning_of c =
     or_else (option_map character (control_of c))
@@ -189,7 +189,7 @@ simple_by n flags c t None None = stop message.unrecognized_escape (c ∷ t)
 abbrev pub simple : ℕ → Flags → ℕ → Text → ReadResult Meaning
 simple n flags c t = simple_by n flags c t (meaning_of c) (digits_of c)
 
--- behind the backslash
+-- after the backslash
 abbrev pub escape : ℕ → Flags → Text → ReadResult Meaning
 escape n flags [] = stop message.escape_unfinished []
 escape n flags (c ∷ t) =
@@ -213,25 +213,25 @@ abbrev pub class_end : ℕ → Flags → Text → ReadResult Meaning
 class_end n flags [] = stop message.unclosed_class []
 class_end n flags (c ∷ t) = choose (c == backslash) (λ _. escape n flags t) (λ _. answer (character c) t)
 
--- a first that stands alone, and the members behind it
+-- a first end that stands alone, and the members after it
 abbrev pub alone : Members → Set → Meaning → Text → ReadResult Set
 alone go set (character c) at = go (union set (single c)) at
 alone go set (characters more) at = go (union set more) at
 alone go set (assertion l) at = stop message.invalid_class_escape at
 
--- a range, and the members behind it
+-- a range, and the members after it
 abbrev pub range : Members → Set → Meaning → Meaning → Text → ReadResult Set
 range go set (character low) (character high) rest =
     choose (nat_le low high) (λ _. go (union set (between low high)) rest) (λ _. stop message.invalid_range rest)
 range go set first second rest = stop message.range_of_no_character rest
 
--- behind a first, a dash and their gaps
+-- after a first end, a dash and their gaps
 abbrev pub after_dash : Members → ℕ → Flags → Set → Meaning → Text → Text → ReadResult Set
 after_dash go n flags set first at [] = stop message.unclosed_after_dash []
 after_dash go n flags set first at (c ∷ t) =
     choose (one_of (codes "]-") c) (λ _. alone go set first at) (λ _. and_then (class_end n flags (c ∷ t)) (range go set first))
 
--- behind a first and its gap
+-- after a first end and its gap
 abbrev pub after_first : Members → ℕ → Flags → Set → Meaning → Text → ReadResult Set
 after_first go n flags set first [] = stop message.unclosed_after_member []
 after_first go n flags set first (c ∷ t) =
@@ -242,7 +242,7 @@ abbrev pub set_operator_message : ℕ → Message
 set_operator_message c =
     if c == code "&" then message.class_intersection else if c == dash then message.class_difference else message.class_symmetric_difference
 
--- at a place where a member or the closing bracket may stand
+-- where a member or the closing bracket is due
 abbrev pub member : Members → ℕ → Flags → Set → Text → ReadResult Set
 member go n flags set [] = stop message.unclosed_class []
 member go n flags set (c ∷ t) =
@@ -250,7 +250,7 @@ member go n flags set (c ∷ t) =
     (λ _. choose (c == left_bracket) (λ _. named go set (c ∷ t) named_classes)
     (λ _. choose (is_set_operator (c ∷ t)) (λ _. stop (set_operator_message c) (c ∷ t)) (λ _. and_then (class_end n flags (c ∷ t)) (λ first rest. after_first go n flags set first (skip flags rest)))))
 
--- members up to the closing bracket, at most so many
+-- at most n members up to the closing bracket
 abbrev pub class_members : ℕ → Flags → Members
 class_members zero flags set t = stop message.unclosed_class []
 class_members (suc n) flags set t = member (class_members n flags) n flags set (skip flags t)
@@ -259,12 +259,12 @@ class_members (suc n) flags set t = member (class_members n flags) n flags set (
 abbrev pub finished : Flags → Bool → ReadResult Set → ReadResult Set
 finished flags negated a = and_then a (λ set rest. answer (with_negation negated (with_cases flags set)) rest)
 
--- behind a literal closing bracket and its gap
+-- after a literal closing bracket and its gap
 abbrev pub after_bracket : ℕ → Flags → Bool → Text → ReadResult Set
 after_bracket n flags negated [] = stop message.unclosed_after_bracket []
 after_bracket n flags negated (c ∷ t) = finished flags negated (class_members n flags (single right_bracket) (c ∷ t))
 
--- behind the leading dashes
+-- after the leading dashes
 abbrev pub after_dashes : ℕ → Flags → Bool → Text → Text → ReadResult Set
 after_dashes n flags negated [] [] = stop message.unclosed_class []
 after_dashes n flags negated (d ∷ dashes) [] = stop message.unclosed_after_dash []
@@ -276,12 +276,12 @@ after_dashes n flags negated [] (c ∷ t) =
 abbrev pub dashes : ℕ → Flags → Bool → Text → ReadResult Set
 dashes n flags negated t = let d = each n flags (single dash) t in after_dashes n flags negated d.0 d.1
 
--- behind a caret and its gap
+-- after a caret and its gap
 abbrev pub after_caret : ℕ → Flags → Text → ReadResult Set
 after_caret n flags [] = stop message.unclosed_after_caret []
 after_caret n flags (c ∷ t) = dashes n flags true (c ∷ t)
 
--- behind the opening bracket and its gap
+-- after the opening bracket and its gap
 abbrev pub bracket : ℕ → Flags → Text → ReadResult Set
 bracket n flags [] = stop message.unclosed_class []
 bracket n flags (c ∷ t) = choose (c == caret) (λ _. after_caret n flags (skip flags t)) (λ _. dashes n flags false (c ∷ t))
@@ -304,7 +304,7 @@ abbrev pub flags_unclosed : Text → Message
 flags_unclosed [] = message.unclosed_question
 flags_unclosed (c ∷ run) = message.unclosed_flags
 
--- behind the question mark and a run of flags
+-- after the question mark and a run of flags
 abbrev pub flags_from : Front → Text → Text → ReadResult Opened
 flags_from front run [] = stop (flags_unclosed run) []
 flags_from front run (c ∷ t) =
@@ -323,18 +323,18 @@ name_end names [] at t = stop message.empty_name at
 name_end names (c ∷ name) at t =
     choose (is_used names (c ∷ name)) (λ _. stop message.duplicate_name t) (λ _. answer (c ∷ name) t)
 
--- behind the angle bracket and the front of a name
+-- after the angle bracket and a prefix of a name
 abbrev pub name_from : List Text → Text → Text → ReadResult Text
 name_from names name [] = stop (name_unclosed name) []
 name_from names name (c ∷ t) =
     choose (c == right_angle) (λ _. name_end names name (c ∷ t) t)
     (λ _. choose (is_name_front (name ++ c ∷ [])) (λ _. name_from names (name ++ c ∷ []) t) (λ _. stop message.invalid_name (c ∷ t)))
 
--- a group with a number, where there is one more
+-- a group with a number, if one more is allowed
 abbrev pub with_number : Front → Text → ReadResult Opened → ReadResult Opened
 with_number front at a = choose (nat_lt greatest_number (front.groups + 1)) (λ _. stop message.too_many_groups at) (λ _. a)
 
--- behind the angle bracket that opens a name
+-- after the angle bracket that opens a name
 abbrev pub named_group : Front → Text → ReadResult Opened
 named_group front t =
     with_number front t
@@ -346,7 +346,7 @@ no_name front [] = with_number front [] (answer (group (numbered None) (with_gro
 no_name front (c ∷ t) =
     choose (c == question) (λ _. flags_from front [] t) (λ _. with_number front (c ∷ t) (answer (group (numbered None) (with_group None front)) (c ∷ t)))
 
--- behind the opening parenthesis and its gap
+-- after the opening parenthesis and its gap
 abbrev pub opened : Front → Text → ReadResult Opened
 opened front t =
     choose (begins_look_around t) (λ _. stop message.look_around t)
@@ -359,11 +359,11 @@ pub record ReadChoice : Type 0 where
   pub behind : Front
   pub rest : Text
 
--- what was found, by its parts
+-- a `ReadChoice` by its parts
 abbrev pub found : List Tree → Front → Text → Result ReadChoice Stop
 found branches behind rest = Ok (record { branches = branches; behind = behind; rest = rest })
 
--- goes on behind a choice
+-- goes on after a choice
 abbrev pub and_found : Result ReadChoice Stop → (ReadChoice → Result ReadChoice Stop) → Result ReadChoice Stop
 and_found (Ok x) f = f x
 and_found (Err e) f = Err e
@@ -373,7 +373,7 @@ abbrev pub repeat_last : Bounds → Tree → List Tree → List Tree
 repeat_last b t [] = repetition_of b.0 b.1 b.2 t ∷ []
 repeat_last b t (u ∷ nodes) = t ∷ repeat_last b u nodes
 
--- how reading goes on: from so many open groups, the front's decisions, the branches and nodes so far, and the text
+-- how reading goes on: from the number of open groups, the front, the branches and nodes so far, and the text
 abbrev pub Reader : Type 0
 Reader = ℕ → Front → List Tree → List Tree → Text → Result ReadChoice Stop
 
@@ -399,18 +399,18 @@ module _ (list_of : Set → List Range) (nest_limit : ℕ) where
   node_of flags (characters set) = tree.class (list_of set)
   node_of flags (assertion l) = tree.look l
 
-  -- behind a group
+  -- after a group
   abbrev pub behind_group : Reader → ℕ → Front → List Tree → List Tree → Opening → ReadChoice → Result ReadChoice Stop
   behind_group go depth front branches nodes opening f =
       go depth (record (f.behind) { flags = front.flags }) branches (nodes ++ group_of opening front.groups f.branches ∷ []) (drop 1 f.rest)
 
-  -- behind what opens a group
+  -- after what opens a group
   abbrev pub at_opened : Reader → ℕ → Front → List Tree → List Tree → Opened → Text → Result ReadChoice Stop
   at_opened go depth front branches nodes (directive flags) t = go depth (record front { flags = flags }) branches nodes t
   at_opened go depth front branches nodes (group opening inner) t =
       choose (nat_lt nest_limit (depth + 1)) (λ _. stop message.too_much_nesting t) (λ _. and_found (go (suc depth) inner [] [] t) (behind_group go depth front branches nodes opening))
 
-  -- the kinds of an item by its first character
+  -- an item, by its first character
   abbrev pub at_item : Reader → ℕ → ℕ → Front → List Tree → List Tree → Text → Result ReadChoice Stop
   at_item go n depth front branches nodes [] = at_end depth front branches nodes
   at_item go n depth front branches nodes (c ∷ t) =

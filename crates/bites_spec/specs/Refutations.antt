@@ -8,7 +8,7 @@ use Rattle.bites_spec.specs.Program.{Program, at, targets}
 use Rattle.bites_spec.specs.Run.{run, Answered}
 use Rattle.bites_spec.specs.Counts.{Record, IsBounded, VisitedBy, IsWalked}
 use Rattle.bites_spec.specs.Found.{Answer, Found, FoundLongest, IsLeastEnd}
-use Rattle.bites_spec.specs.FoundLaws.{TakePartAtLeast}
+use Rattle.bites_spec.specs.FoundLaws.{ParticipateAtLeast}
 use Rattle.bites_spec.specs.Occurrence.{IsLeftmost}
 use Rattle.bites_spec.specs.Spans.{EndsGrow, LiesFrom}
 use Rattle.bites_spec.specs.Pieces.{AreInOrder}
@@ -21,11 +21,11 @@ use Rattle.bites_spec.specs.AllMatches.{LeaveNoneOut}
 abbrev pub three_ways : Program
 three_ways = record { states = program.splits (1 ∷ 1 ∷ 1 ∷ []) false ∷ program.match ∷ []; start = 0; slots = 2 }
 
--- on the empty haystack, by the visits and the number of looks
+-- a search on the empty haystack kept the bounds, by its visits and the number of its looks
 abbrev pub KeepsBounds : List program.Configuration → ℕ → Type 0
 KeepsBounds visits looks = IsBounded three_ways [] 0 (record { visits = visits; looks = looks })
 
--- the bound on looks is reached; one look more, one visit more, a configuration twice, and less looks than visits are too many
+-- the bound on looks can be reached; one more look, one more visit, a configuration twice, or fewer looks than visits is refused
 abbrev pub BoundsAreReached : Type 0
 BoundsAreReached = KeepsBounds (at 1 0 ∷ at 0 0 ∷ []) 4
 
@@ -52,7 +52,7 @@ SearchesReachBounds =
 abbrev pub Visited : program.State → Bool → List program.Configuration → Type 0
 Visited last found visits = VisitedBy (one_way last) [] 0 found (record { visits = visits; looks = 2 })
 
--- where something is found, a whole run was visited; where nothing is, all that is reached
+-- if something is found, a whole run was visited; if nothing is, all that is reached was
 abbrev pub VisitsRefuse : Type 0
 VisitsRefuse =
     Visited program.match true (at 1 0 ∷ at 0 0 ∷ []) × (Visited program.match true (at 0 0 ∷ []) → ⊥)
@@ -62,7 +62,7 @@ VisitsRefuse =
 abbrev pub one_write : Program
 one_write = record { states = program.capture 1 0 ∷ program.match ∷ []; start = 0; slots = 2 }
 
--- what a search says is what it found, and a slice has its slots, or stays
+-- a search says whether it found a run, and a slice has the slots of the run, or is unchanged
 abbrev pub AnsweredRefuses : Type 0
 AnsweredRefuses =
     (Answered one_write None true [] [] → ⊥) × (Answered one_write None false (None ∷ []) (Some 0 ∷ []) → ⊥)
@@ -96,7 +96,7 @@ LeftmostRefuses =
     (IsLeftmost (codes "aa") (codes "a") 0 None → ⊥) × (IsLeftmost (codes "aa") (codes "a") 0 (Some (span 1 2)) → ⊥)
     × (IsLeftmost (codes "aa") (codes "a") 0 (Some (span 0 2)) → ⊥)
 
--- spans that stand apart: one more ends later, none overlaps, and all lie within
+-- an end that does not rise, spans that overlap, an end past the haystack, and a start that is too early
 abbrev pub SpansRefuse : Type 0
 SpansRefuse =
     (EndsGrow 1 (span 0 1 ∷ []) → ⊥) × (AreInOrder 3 0 (span 0 2 ∷ span 1 3 ∷ []) → ⊥)
@@ -109,20 +109,20 @@ LeavingOutRefuses =
     × (LeaveNoneOut (char 97) (codes "aaa") (span 0 1 ∷ span 1 2 ∷ []) → ⊥)
     × (LeaveNoneOut (char 97) (codes "aaa") (span 1 2 ∷ span 2 3 ∷ []) → ⊥)
 
--- within the three bytes of a snowman is no border
+-- no border lies within the three bytes of a snowman
 abbrev pub BordersRefuse : Type 0
 BordersRefuse = (HasBorders (0xE2 ∷ 0x98 ∷ 0x83 ∷ []) (span 0 1) → ⊥) × (HasBorders (0xE2 ∷ 0x98 ∷ 0x83 ∷ []) (span 2 3) → ⊥)
 
 -- group 0 alone is not two groups
 abbrev pub ParticipantsRefuse : Type 0
-ParticipantsRefuse = TakePartAtLeast 2 (λ k. if k == 0 then Some (span 0 0) else None) → ⊥
+ParticipantsRefuse = ParticipateAtLeast 2 (λ k. if k == 0 then Some (span 0 0) else None) → ⊥
 
 -- a group whose number or whose name is missing
 abbrev pub ItsGroupsRefuse : Type 0
 ItsGroupsRefuse =
     (HasItsGroups (None ∷ []) (group 1 None empty) → ⊥) × (HasItsGroups (None ∷ None ∷ []) (group 1 (Some (codes "n")) empty) → ⊥)
 
--- a text that is not appended; a refusal that loses the old text, or appends what is no beginning
+-- a text that is not appended; a refusal that loses the old text, or appends what is no prefix
 abbrev pub AppendsRefuse : Type 0
 AppendsRefuse =
     (AppendsUntilRefused {E = Unit {0}} (Ok tt) (codes "x") (codes "x") (codes "y") → ⊥)

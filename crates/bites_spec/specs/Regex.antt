@@ -1,4 +1,4 @@
--- What contracts see of a regex, and what its searches answer.
+-- What contracts see of a regex, and what its searches return.
 use Rattle.std.specs.Prelude.{◌≡◌, ℕ, ◌*◌, Bool, List, length, Option, option_map, chars}
 use Rattle.bites_spec.specs.Pattern.{Flags}
 use Rattle.bites_spec.specs.Tree.{Tree}
@@ -10,9 +10,9 @@ use Rattle.bites_spec.specs.Match.{Span}
 use Rattle.bites_spec.specs.Run.{Run, slots, chosen_run}
 use Rattle.bites_spec.specs.Slots.{span_of_run}
 
--- the bytes of the pattern, the flags that it was read under, its tree, the program of that tree with the names of its
--- groups and how many of them participate in every match, whether groups that the tree dropped were kept, and whether searches
--- answer the longest match
+-- the bytes of the pattern, the flags that it was read under, its tree, the program of that tree, the names of its groups, how
+-- many of them participate in every match if that is known, whether groups that the tree dropped are kept, and whether searches
+-- return the longest match
 pub record Regex : Type 0 where
   pub pattern : List ℕ
   pub flags : Flags
@@ -37,14 +37,14 @@ pub record IsCompiled (regex : Regex) : Type 0 where
 pub record NamesAreKept (regex : Regex) : Type 0 where
   pub kept : (reading : Reading (chars regex.pattern) regex.flags regex.tree) → regex.names ≡ groups_kept regex.keep_dropped_groups reading
 
--- the run of a regex's program that a search from s answers
+-- the run of a regex's program that a search from s returns
 abbrev pub run_at : Regex → List ℕ → ℕ → Option Run
 run_at r hay s = chosen_run r.leftmost_longest r.program hay s
 
--- where it begins and ends
+-- where that run begins and ends
 abbrev pub span_at : Regex → List ℕ → ℕ → Option Span
 span_at r hay s = option_map span_of_run (run_at r hay s)
 
--- its slots
+-- the slots of that run
 abbrev pub slots_at : Regex → List ℕ → ℕ → Option (List (Option ℕ))
 slots_at r hay s = option_map (slots r.program) (run_at r hay s)

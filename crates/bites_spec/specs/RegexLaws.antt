@@ -1,4 +1,4 @@
--- Laws of what a regex's searches answer.
+-- Laws of what a regex's searches return.
 use Rattle.std.specs.Prelude.{◌≡◌, ℕ, Bool, List, Option, Some, option_map}
 use Rattle.bites_spec.specs.Run.{Run, slots}
 use Rattle.bites_spec.specs.Tree.{Tree}
@@ -6,7 +6,7 @@ use Rattle.bites_spec.specs.Found.{Answer, FoundSome, Finds}
 use Rattle.bites_spec.specs.Slots.{answer_of, group_in, span_of_run}
 use Rattle.bites_spec.specs.Regex.{Regex, IsCompiled, run_at}
 
--- the run that a search of a regex answers is what a search of its tree finds
+-- the run that a search of a regex returns is what a search of its tree finds
 abbrev pub RunIsFound : Type 0
 RunIsFound =
     (r : Regex) → IsCompiled r → (hay : List ℕ) (s : ℕ) →
@@ -16,7 +16,7 @@ RunIsFound =
 abbrev pub FindsSome : Type 0
 FindsSome = (longest : Bool) (t : Tree) (hay : List ℕ) (s : ℕ) (o : Option Answer) → Finds longest t hay s o → FoundSome t hay s o
 
--- group 0 of the run that a search of a regex answers is where the run begins and ends
+-- group 0 of the run that a search of a regex returns is where the run begins and ends
 abbrev pub AnswersHaveGroup0 : Type 0
 AnswersHaveGroup0 =
     (r : Regex) → IsCompiled r → (hay : List ℕ) (s : ℕ) (x : Run) → run_at r hay s ≡ Some x → group_in (slots r.program x) 0 ≡ Some (span_of_run x)

@@ -7,11 +7,11 @@ use Rattle.bites_spec.specs.Captured.{Captured}
 use Rattle.bites_spec.specs.Iteration.{captures_in}
 use Rattle.bites_spec.specs.Replace.{Replaces}
 
--- where group 0 took part, which it does in every match
+-- the span of group 0, which participates in every match
 abbrev pub span_in : Captured → Span
 span_in c = unwrap_or (group_in c.slots 0) (span 0 0)
 
--- a replacer by what it gives and what it answers
+-- a replacer by what it gives and by what its `no_expansion` returns
 module _ {S : Type 0} (gives : S → Captured → List ℕ → S → Type 0) (answers : S → Option (List ℕ) → S → Type 0) where
   -- the bytes are the haystack with the first n matches, all for 0, replaced as the replacer says
   abbrev pub ReplacesIn : Regex → List ℕ → ℕ → S → List ℕ → S → Type 0

@@ -23,18 +23,18 @@ plain_text text = cond (is_plain text) (Some text) None
 abbrev pub answer_text : Option (Bor (List ℕ)) → Option (List ℕ)
 answer_text = option_map (λ t. t.now)
 
--- a template gives what it stands for, and stays as it is
+-- a template gives what it stands for, and is unchanged
 abbrev pub GivesExpansion : {S : Type 0} → (S → List ℕ) → S → Captured → List ℕ → S → Type 0
 GivesExpansion template s c text t = (text ≡ expanded c (template s)) × (t ≡ s)
 
--- it answers its text, if that is plain, and stays as it is
+-- `no_expansion` of a template returns its text if that is plain, and the template is unchanged
 abbrev pub AnswersPlain : {S : Type 0} → (S → List ℕ) → S → Option (List ℕ) → S → Type 0
 AnswersPlain template s answer t = (answer ≡ plain_text (template s)) × (t ≡ s)
 
--- where memory is refused, a prefix of what the template stands for was appended, and it stays as it is
+-- if memory is refused, a prefix of what the template stands for was appended, and the template is unchanged
 abbrev pub BeginsExpansion : {S : Type 0} → (S → List ℕ) → S → Captured → List ℕ → S → Type 0
 BeginsExpansion template s c text t = IsFront text (expanded c (template s)) × (t ≡ s)
 
--- where memory is refused, a prefix of the text was appended, and the replacer stays as it is
+-- if memory is refused, a prefix of the text was appended, and the replacer is unchanged
 abbrev pub BeginsText : {S : Type 0} → (S → List ℕ) → S → Captured → List ℕ → S → Type 0
 BeginsText literal s c text t = IsFront text (literal s) × (t ≡ s)

@@ -1,4 +1,4 @@
--- Runs of a program, their order, and the run that a search answers.
+-- Runs of a program, their order, and the run that a search returns.
 use Rattle.std.specs.Prelude.{◌≡◌, ℕ, zero, suc, ◌*◌, ◌<◌, ◌≤◌, ◌⊎◌, Bool, true, false, ◌&&◌, List, [], ◌∷◌, ◌++◌, length, map, take, Option, Some, None, option_and_then, if◌then◌else◌, ◌==◌, IsTrue}
 use Rattle.std.specs.Option.{option_or}
 use Rattle.std.specs.List.{range_with_len}
@@ -7,7 +7,7 @@ use Rattle.bites_spec.specs.Walks.{Among, AllApart, AreOrdered, Walk, Before, fi
 use Rattle.bites_spec.specs.Walks as walks
 use Rattle.bites_spec.specs.Program.{State, Program, Configuration, at, state_at, edges, is_match, capture}
 
--- the configurations are one
+-- the configurations are the same
 abbrev pub is_same_configuration : Configuration → Configuration → Bool
 is_same_configuration s t = (s.state == t.state) && (s.place == t.place)
 
@@ -21,7 +21,7 @@ abbrev pub last_write : List (ℕ × ℕ) → ℕ → Option ℕ
 last_write [] slot = None
 last_write (w ∷ ws) slot = option_or (last_write ws slot) (if w.0 == slot then Some w.1 else None)
 
--- a run: the place where it starts, the configurations behind its first, and the place where it ends
+-- a run: the place where it starts, the configurations after its first, and the place where it ends
 pub record Run : Type 0 where
   pub start : ℕ
   pub configurations : List Configuration
@@ -53,7 +53,7 @@ module _ (p : Program) where
   abbrev pub slots : Run → List (Option ℕ)
   slots r = map (written r) (range_with_len 0 p.slots)
 
-  -- What a search says, and leaves in a slice: the front of the run's slots, or where there is no run the slice as it was.
+  -- What a search returns, and leaves in a slice: the first slots of the run, or if there is no run the old contents.
   abbrev pub Answered : Option Run → Bool → List (Option ℕ) → List (Option ℕ) → Type 0
   Answered None found old new = (found ≡ false) × (new ≡ old)
   Answered (Some r) found old new = (found ≡ true) × (new ≡ take (length old) (slots r))
@@ -99,35 +99,35 @@ module _ (p : Program) (hay : List ℕ) where
     pub from : Among (places hay s) r.start
     pub none_before : (i : ℕ) → Among (places hay s) i → i < r.start → (o : List Configuration) (j : ℕ) → IsRun i o j → ⊥
 
-  -- the run is simple, and no simple run from its start that passes the test comes before it
+  -- the run is simple, and no simple run from its start whose end passes the test comes before it
   pub record IsFirstOf (Wanted : ℕ → Type 0) (r : Run) : Type 0 where
     pub simple : IsSimple r.start r.configurations
     pub first : (o : List Configuration) (j : ℕ) → IsRun r.start o j → IsSimple r.start o → Wanted j →
         (o ≡ r.configurations) ⊎ Before leads (at p.start r.start) r.configurations o
 
-  -- None where no place from s on has a run, else the first simple run from the first such place
+  -- None if no place from s on has a run, else the first simple run from the first such place
   abbrev pub FirstRun : ℕ → Option Run → Type 0
   FirstRun s None = NoRun s
   FirstRun s (Some r) = StartsFirst s r × IsFirstOf (λ j. Unit {0}) r
 
-  -- None where there is no run, else a run whose end is the least of all from places from s on
+  -- None if there is no run, else a run with the least end of all runs from places from s on
   abbrev pub LeastEnd : ℕ → Option Run → Type 0
   LeastEnd s None = NoRun s
   LeastEnd s (Some r) =
       IsRun r.start r.configurations r.end × Among (places hay s) r.start
       × ((i : ℕ) → Among (places hay s) i → (o : List Configuration) (j : ℕ) → IsRun i o j → r.end ≤ j)
 
-  -- None where there is no run, else the first of the simple runs from the first place whose end is the greatest there
+  -- None if there is no run, else the first of the simple runs from the first place whose end is the greatest there
   abbrev pub LongestRun : ℕ → Option Run → Type 0
   LongestRun s None = NoRun s
   LongestRun s (Some r) =
       StartsFirst s r × ((o : List Configuration) (j : ℕ) → IsRun r.start o j → j ≤ r.end) × IsFirstOf (λ j. j ≡ r.end) r
 
-  -- as many steps as there are configurations, and one
+  -- one more step than there are configurations
   abbrev pub enough : ℕ
   enough = suc (length p.states * suc (length hay))
 
-  -- a run from i by its configurations, the first of them with the start
+  -- a run from i by all its configurations, with the first one
   abbrev pub run_of : ℕ → List Configuration → Option Run
   run_of i [] = None
   run_of i (s ∷ r) = Some (run i r (last_of s r).place)
@@ -146,7 +146,7 @@ module _ (p : Program) (hay : List ℕ) where
   first_run_to i j =
       option_and_then (run_of i) (walks.first_walk is_same_configuration leads (is_end_at p j) enough (λ s. false) (at p.start i))
 
-  -- the first simple run from i to the greatest place below n to which one goes
+  -- the first simple run from i to the greatest place below n at which one ends
   unfoldable pub longest_run_below : ℕ → ℕ → Option Run
   longest_run_below zero i = None
   longest_run_below (suc j) i = option_or (first_run_to i j) (longest_run_below j i)
@@ -155,6 +155,6 @@ module _ (p : Program) (hay : List ℕ) where
   unfoldable pub longest_run : ℕ → Option Run
   longest_run s = first_among (longest_run_below (suc (length hay))) (places hay s)
 
--- the run that a search answers: the longest, or the first
+-- the run that a search returns: the longest, or the first
 abbrev pub chosen_run : Bool → Program → List ℕ → ℕ → Option Run
 chosen_run longest p hay s = if longest then longest_run p hay s else first_run p hay s

@@ -6,22 +6,22 @@ use Rattle.bites_spec.specs.Tree.{Tree, IsPlain}
 use Rattle.bites_spec.specs.Program.{Program, IsWellFormed}
 use Rattle.bites_spec.specs.Run.{Run, IsRun, AreAllRuns, LongestRun, LeastEnd, first_run, longest_run, chosen_run, slots, written}
 use Rattle.bites_spec.specs.Built.{Built, IsCompilable}
-use Rattle.bites_spec.specs.Slots.{slot_in, group_in, taking_part, span_of_run, Correspond}
+use Rattle.bites_spec.specs.Slots.{slot_in, group_in, participating, span_of_run, Correspond}
 use Rattle.bites_spec.specs.Preference.{parses}
 use Rattle.bites_spec.specs.Spans.{LiesFrom}
 use Rattle.bites_spec.specs.Measure.{static_captures_len}
 use Rattle.bites_spec.specs.ProgramFaults.{first_fault}
 use Rattle.bites_spec.specs.Counts.{Record, IsBounded}
 
--- on a well-formed program the function finds, at the first place that has a run, the first simple one of those with the greatest end
+-- on a well-formed program the function finds the first simple run with the greatest end, at the first place that has a run
 abbrev pub LongestRunIsLongest : Type 0
 LongestRunIsLongest = (p : Program) (hay : List ℕ) → IsWellFormed p → (s : ℕ) → LongestRun p hay s (longest_run p hay s)
 
--- and no other answer is that run
+-- and no other run is the longest
 abbrev pub LongestRunIsOne : Type 0
 LongestRunIsOne = (p : Program) (hay : List ℕ) → IsWellFormed p → (s : ℕ) (o : Option Run) → LongestRun p hay s o → o ≡ longest_run p hay s
 
--- in the slots of a run of a well-formed program stands what the run wrote to each, and past them it writes nothing
+-- the slots of a run of a well-formed program hold what the run wrote to each; past the last slot it writes nothing
 abbrev pub SlotsAreWritten : Type 0
 SlotsAreWritten = (p : Program) → IsWellFormed p → (r : Run) (k : ℕ) → slot_in (slots p r) k ≡ written p r k
 
@@ -41,14 +41,14 @@ NothingPastTheEnd =
 abbrev pub NoFaultIsWellFormed : Type 0
 NoFaultIsWellFormed = (p : Program) → (first_fault p ≡ None → IsWellFormed p) × (IsWellFormed p → first_fault p ≡ None)
 
--- a run of a well-formed program lies in the haystack and ends at one of the places from its start on, and each slot has a place within it
+-- a run of a well-formed program from a place from s on lies in the haystack and ends at such a place; its slots lie within it
 abbrev pub RunLies : Type 0
 RunLies =
     (p : Program) (hay : List ℕ) → IsWellFormed p → (s : ℕ) (r : Run) → Among (places hay s) r.start → IsRun p hay r.start r.configurations r.end →
     LiesFrom (length hay) s (span_of_run r) × Among (places hay s) r.end
     × ((k i : ℕ) → slot_in (slots p r) k ≡ Some i → (r.start ≤ i) × (i ≤ r.end))
 
--- so does the run that a search answers
+-- so does the run that a search returns
 abbrev pub ChosenRunLies : Type 0
 ChosenRunLies =
     (p : Program) (hay : List ℕ) → IsWellFormed p → (longest : Bool) (s : ℕ) (r : Run) → chosen_run longest p hay s ≡ Some r →
@@ -61,18 +61,18 @@ RunsBeginAlike =
     (option_map (λ r. r.start) (longest_run p hay s) ≡ option_map (λ r. r.start) (first_run p hay s))
     × ((r q : Run) → first_run p hay s ≡ Some r → longest_run p hay s ≡ Some q → r.end ≤ q.end)
 
--- there is a least end exactly if there is a run, and it is at most the end of the run that a search answers
+-- there is a least end exactly if there is a run, and it is at most the end of the run that a search returns
 abbrev pub LeastRunEndIsAtMost : Type 0
 LeastRunEndIsAtMost =
     (p : Program) (hay : List ℕ) → IsWellFormed p → (longest : Bool) (s : ℕ) (o : Option Run) → LeastEnd p hay s o →
     (is_some o ≡ is_some (chosen_run longest p hay s))
     × ((l r : Run) → o ≡ Some l → chosen_run longest p hay s ≡ Some r → l.end ≤ r.end)
 
--- where the form of a tree says how many groups participate at least, so many stand in the slots of each run of its program
-abbrev pub StaticLenTakesPart : Type 0
-StaticLenTakesPart =
+-- if the form of a tree says that at least n groups participate, at least n stand in the slots of each run of its program
+abbrev pub StaticLenParticipates : Type 0
+StaticLenParticipates =
     (t : Tree) (p : Program) (hay : List ℕ) → IsCompilable t → Built t p → (n : ℕ) → static_captures_len t ≡ Some n →
-    (r : Run) → IsRun p hay r.start r.configurations r.end → n ≤ length (taking_part (slots p r))
+    (r : Run) → IsRun p hay r.start r.configurations r.end → n ≤ length (participating (slots p r))
 
 -- all runs of a plain tree's program from a place, in their order, are all parses in theirs, by their ends and groups
 abbrev pub RunsAreParsesInOrder : Type 0

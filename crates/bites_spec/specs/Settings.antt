@@ -1,4 +1,4 @@
--- What a builder of regexes was told, and what it then accepts.
+-- The settings of a builder of regexes, and what it accepts under them.
 use Rattle.std.specs.Prelude.{ℕ, Bool, false, List, chars}
 use Rattle.bites_spec.specs.Pattern.{Flags}
 use Rattle.bites_spec.specs.Tree.{Tree}
@@ -15,7 +15,7 @@ no_flags = record {
   ignore_whitespace = false;
 }
 
--- the bytes of a pattern, flags, limits, whether groups that the tree drops are kept, and whether searches answer the longest
+-- the bytes of a pattern, flags, limits, whether groups that the tree drops are kept, and whether searches return the longest
 -- match
 pub record Settings : Type 0 where
   pub pattern : List ℕ
@@ -36,7 +36,7 @@ settings pattern flags size_limit nest_limit keep_dropped_groups leftmost_longes
   leftmost_longest = leftmost_longest;
 }
 
--- what a builder of this pattern is made with
+-- the settings that a builder of this pattern begins with
 abbrev pub by_default : List ℕ → Settings
 by_default pattern = settings pattern no_flags 10485760 50 false false
 

@@ -11,7 +11,7 @@ use Rattle.bites_spec.specs.Found.{Answer}
 abbrev pub slot_in : List (Option ℕ) → ℕ → Option ℕ
 slot_in slots k = slice_index_or slots k None
 
--- the span between two places, where both are known
+-- the span between two places, if both are known
 abbrev pub span_between : Option ℕ → Option ℕ → Option Span
 span_between None o = None
 span_between (Some i) None = None
@@ -21,23 +21,23 @@ span_between (Some i) (Some j) = Some (span i j)
 abbrev pub group_in : List (Option ℕ) → ℕ → Option Span
 group_in slots k = span_between (slot_in slots (2 * k)) (slot_in slots (2 * k + 1))
 
--- In the run's slots stand the groups of a parse with these marks: where group k begins in slot 2 * k, and where it ends in the next.
+-- The run's slots hold the groups of a parse with these marks: slot 2 * k where group k begins, and the next slot where it ends.
 abbrev pub HasGroups : Program → Run → List Mark → Type 0
 HasGroups p r ms =
     (k : ℕ) →
     (slot_in (slots p r) (2 * k) ≡ option_map (λ s. s.start) (groups r.start r.end ms k))
     × (slot_in (slots p r) (2 * k + 1) ≡ option_map (λ s. s.end) (groups r.start r.end ms k))
 
--- each run ends where the way of its number does, and has its groups
+-- the runs and parses pair up: each run ends where its parse does, and has the groups of that parse
 abbrev pub Correspond : Program → List Run → List ParseTo → Type 0
 Correspond p [] [] = Unit {0}
 Correspond p [] (w ∷ ws) = ⊥
 Correspond p (r ∷ rs) [] = ⊥
 Correspond p (r ∷ rs) (w ∷ ws) = (r.end ≡ w.end) × HasGroups p r w.marks × Correspond p rs ws
 
--- group 0, and of the others those that took part, in the order of their numbers
-abbrev pub taking_part : List (Option ℕ) → List Span
-taking_part slots = filter_map (group_in slots) (range_with_len 0 (length slots / 2))
+-- the spans of group 0 and of the groups that participated, in the order of their numbers
+abbrev pub participating : List (Option ℕ) → List Span
+participating slots = filter_map (group_in slots) (range_with_len 0 (length slots / 2))
 
 -- where a run begins and ends
 abbrev pub span_of_run : Run → Span

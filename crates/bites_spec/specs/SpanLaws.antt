@@ -1,10 +1,10 @@
--- The laws of successive answers and of the pieces between them, each proved.
+-- The laws of successive matches and of the pieces between them, each proved.
 use Rattle.std.specs.Prelude.{◌≡◌, ℕ, ◌+◌, List, ◌∷◌, length, map, Option, option_map}
 use Rattle.bites_spec.specs.Match.{Span}
 use Rattle.bites_spec.specs.Spans.{next_after, followed, successive_after, successive, Successive, AnswersLie, EndsGrow}
 use Rattle.bites_spec.specs.Pieces.{AreInOrder, gaps, limited, text_at, replaced, joined_by, alternate}
 
--- the function answers a list of successive answers, and no other list is one
+-- the function returns a list of successive items, and no other list is one
 abbrev pub SuccessiveIsOne : Type 0 → Type 0
 SuccessiveIsOne B =
     (span_of : B → Span) (hay : List ℕ) (A : ℕ → Option B) → AnswersLie span_of hay A →
@@ -17,7 +17,7 @@ SuccessiveGoesOn B =
     (span_of : B → Span) (hay : List ℕ) (A : ℕ → Option B) → AnswersLie span_of hay A → (e : ℕ) →
     successive_after span_of hay A e ≡ followed span_of (successive_after span_of hay A) (next_after span_of hay A e)
 
--- the spans of the successive items are the successive spans, and so of all that is read off the items with their spans
+-- a map that keeps spans takes the successive items to the successive images
 abbrev pub SuccessiveIsMapped : Type 0 → Type 0 → Type 0
 SuccessiveIsMapped B C =
     (f : B → C) (span_of : B → Span) (span_of_image : C → Span) → ((x : B) → span_of_image (f x) ≡ span_of x) →
@@ -38,7 +38,7 @@ PiecesAndMatches =
     (length (gaps (length hay) ss) ≡ length ss + 1)
     × (alternate (map (text_at hay) (gaps (length hay) ss)) (map (text_at hay) ss) ≡ hay)
 
--- where there is a text for each match, pieces and texts laid alternately are the replaced haystack
+-- if there is a text for each match, pieces and texts laid alternately are the replaced haystack
 abbrev pub ReplacedAlternates : Type 0
 ReplacedAlternates =
     (hay : List ℕ) (n : ℕ) (ss : List Span) (texts : List (List ℕ)) → length texts ≡ length (limited n ss) →

@@ -13,24 +13,24 @@ pub data Part : Type 0 where
   byte : ℕ → Part
   name : List ℕ → Part
 
--- no byte of a word is next
+-- no word byte is next
 abbrev pub EndsWord : List ℕ → Type 0
 EndsWord [] = Unit {0}
 EndsWord (b ∷ bytes) = is_word_byte b ≡ false
 
--- whether names in braces may be of any bytes, or only of UTF-8
+-- a name in braces: any bytes if `any` is true, else UTF-8
 abbrev pub IsName : Bool → List ℕ → Type 0
 IsName any word = (any ≡ true) ⊎ IsUtf8 word
 
--- The `$` in front of this stands for itself: no `$`, no byte of a word, and no name in braces is next.
+-- A `$` before these bytes stands for itself: no `$`, no word byte and no name in braces is next.
 abbrev pub StandsAlone : Bool → List ℕ → Type 0
 StandsAlone any rest =
     ((tail : List ℕ) → rest ≢ code "$" ∷ tail)
     × EndsWord rest
     × ((word tail : List ℕ) → rest ≡ code "{" ∷ word ++ code "}" ∷ tail → IsNew (code "}") word → IsName any word → ⊥)
 
--- The template is cut into these parts: `$$` is a `$`, `$` and the longest run of bytes of a word names a group, and so do
--- braces up to the first `}`; any other `$` and all else stand for themselves.
+-- The template is cut into these parts: `$$` is a `$`, `$` and the longest run of word bytes names a group, and so do braces up
+-- to the first `}`; any other `$` and all else stand for themselves.
 pub data Cuts (any : Bool) : List ℕ → List Part → Type 0 where
   ends : Cuts any [] []
   plain : (b : ℕ) (rest : List ℕ) (parts : List Part) → b ≢ code "$" → Cuts any rest parts → Cuts any (b ∷ rest) (byte b ∷ parts)
@@ -48,29 +48,29 @@ pub data Cuts (any : Bool) : List ℕ → List Part → Type 0 where
 abbrev pub is_digit : ℕ → Bool
 is_digit b = in_range (code "0", code "9") b
 
--- the number that digits behind a number make
+-- the number that n and the digits after it make
 abbrev pub value_from : ℕ → List ℕ → ℕ
 value_from n [] = n
 value_from n (d ∷ ds) = value_from (n * 10 + (d - code "0")) ds
 
--- the number that digits are, if there is a digit and the greatest number is not passed
+-- the number that digits write, if there is a digit and the number is not above the largest
 abbrev pub number_of_digits : ℕ → List ℕ → Option ℕ
 number_of_digits largest [] = None
 number_of_digits largest (d ∷ ds) =
     if list_all is_digit (d ∷ ds) && nat_le (value_from 0 (d ∷ ds)) largest then Some (value_from 0 (d ∷ ds)) else None
 
--- the same with one `+` in front, if there is one
+-- like `number_of_digits`, but one `+` may come first
 abbrev pub number_in : ℕ → List ℕ → Option ℕ
 number_in largest [] = None
 number_in largest (b ∷ bytes) = if b == code "+" then number_of_digits largest bytes else number_of_digits largest (b ∷ bytes)
 
--- the greatest number, the text of each group that took part, and the number of each name
+-- the largest number, the text of each group that participated, and the number of each name
 module _ (largest : ℕ) (text_of : ℕ → Option (List ℕ)) (index_of : List ℕ → Option ℕ) where
   -- the group that a name means: a number means itself
   abbrev pub group_named : List ℕ → Option ℕ
   group_named word = option_map_or (λ k. Some k) (number_in largest word) (index_of word)
 
-  -- a group that is unknown or took no part gives nothing
+  -- what a part stands for; a group that is unknown or did not participate gives nothing
   abbrev pub stands_for : Part → List ℕ
   stands_for (byte b) = b ∷ []
   stands_for (name word) = unwrap_or (option_and_then text_of (group_named word)) []
@@ -79,7 +79,7 @@ module _ (largest : ℕ) (text_of : ℕ → Option (List ℕ)) (index_of : List 
   abbrev pub Expands : Bool → List ℕ → List ℕ → Type 0
   Expands any template text = (parts : List Part) × Cuts any template parts × (text ≡ flat_map stands_for parts)
 
--- a part, and how many of the bytes behind its first one belong to it
+-- a part, and how many of the bytes after its first one belong to it
 pub record Cut : Type 0 where
   pub part : Part
   pub len : ℕ
@@ -98,12 +98,12 @@ abbrev pub braced_cut : Bool → Option (List ℕ) → Cut
 braced_cut any None = cut (byte (code "$")) 0
 braced_cut any (Some word) = if any || is_utf8 word then cut (name word) (length word + 2) else cut (byte (code "$")) 0
 
--- the part that a `$` before these bytes of a word begins
+-- the part that a `$` before these word bytes begins
 abbrev pub word_cut : List ℕ → Cut
 word_cut [] = cut (byte (code "$")) 0
 word_cut (b ∷ word) = cut (name (b ∷ word)) (length (b ∷ word))
 
--- the part that a `$` in front of this begins
+-- the part that a `$` before these bytes begins
 unfoldable pub dollar_cut : Bool → List ℕ → Cut
 dollar_cut any [] = cut (byte (code "$")) 0
 dollar_cut any (b ∷ rest) =
@@ -111,19 +111,19 @@ dollar_cut any (b ∷ rest) =
     else if b == code "{" then braced_cut any (before_brace rest)
     else word_cut (take_while is_word_byte (b ∷ rest))
 
--- the part that a byte in front of this begins
+-- the part that a byte before these bytes begins
 abbrev pub first_cut : Bool → ℕ → List ℕ → Cut
 first_cut any b rest = if b == code "$" then dollar_cut any rest else cut (byte b) 0
 
--- the parts of a template behind so many bytes of it
-unfoldable pub parts_behind : Bool → ℕ → List ℕ → List Part
-parts_behind any n [] = []
-parts_behind any zero (b ∷ rest) = (first_cut any b rest).part ∷ parts_behind any (first_cut any b rest).len rest
-parts_behind any (suc n) (b ∷ rest) = parts_behind any n rest
+-- the parts of a template after its first n bytes
+unfoldable pub parts_after : Bool → ℕ → List ℕ → List Part
+parts_after any n [] = []
+parts_after any zero (b ∷ rest) = (first_cut any b rest).part ∷ parts_after any (first_cut any b rest).len rest
+parts_after any (suc n) (b ∷ rest) = parts_after any n rest
 
 -- the parts that a template is cut into
 abbrev pub parts_of : Bool → List ℕ → List Part
-parts_of any template = parts_behind any 0 template
+parts_of any template = parts_after any 0 template
 
 -- The text that a template stands for.
 unfoldable pub expansion : Bool → ℕ → (ℕ → Option (List ℕ)) → (List ℕ → Option ℕ) → List ℕ → List ℕ

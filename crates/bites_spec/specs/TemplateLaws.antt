@@ -5,11 +5,11 @@ use Rattle.bites_spec.specs.Walks.{IsNew}
 use Rattle.bites_spec.specs.Expansion.{index_in}
 use Rattle.bites_spec.specs.Template.{Part, Cuts, parts_of, Expands, expansion}
 
--- a template is cut in just one way, which is the function's
+-- a template is cut in exactly one way, which is the function's
 abbrev pub CutsOnce : Type 0
 CutsOnce = (any : Bool) (template : List ℕ) (parts : List Part) → Cuts any template parts ↔ (parts ≡ parts_of any template)
 
--- a template has just one text, which is the function's
+-- a template has exactly one text, which is the function's
 abbrev pub ExpandsOnce : Type 0
 ExpandsOnce =
     (any : Bool) (largest : ℕ) (text_of : ℕ → Option (List ℕ)) (index_of : List ℕ → Option ℕ) (template text : List ℕ) →
@@ -21,13 +21,13 @@ PlainStandsForItself =
     (any : Bool) (largest : ℕ) (text_of : ℕ → Option (List ℕ)) (index_of : List ℕ → Option ℕ) (template : List ℕ) →
     IsNew (code "$") template → expansion any largest text_of index_of template ≡ template
 
--- in a template of UTF-8 it is all one whether names in braces may be of any bytes
+-- for a template of UTF-8 it makes no difference whether names in braces may be of any bytes
 abbrev pub TextsHaveNames : Type 0
 TextsHaveNames =
     (largest : ℕ) (text_of : ℕ → Option (List ℕ)) (index_of : List ℕ → Option ℕ) (template : List ℕ) → IsUtf8 template →
     expansion false largest text_of index_of template ≡ expansion true largest text_of index_of template
 
--- an answer that is the first of the names that is this one, or says that none is, is the function's number
+-- the index of the first name that is this one, or none if no name is, is the function's number
 abbrev pub NumbersAreFirst : Type 0
 NumbersAreFirst =
     (names : List (Option (List ℕ))) (word : List ℕ) (o : Option ℕ) →

@@ -11,7 +11,7 @@ abbrev pub PlacesAreBorders : Type 0
 PlacesAreBorders =
     (hay : List ℕ) (s : ℕ) → IsUtf8 hay → IsCharBoundary hay s → (i : ℕ) → Among (places hay s) i ↔ ((s ≤ i) × IsCharBoundary hay i)
 
--- what stands at a border ends at one
+-- the piece at a border ends at one
 abbrev pub PiecesEndAtBorders : Type 0
 PiecesEndAtBorders = (hay : List ℕ) (i : ℕ) → IsUtf8 hay → IsCharBoundary hay i → IsCharBoundary hay (i + (piece hay i).len)
 

@@ -11,7 +11,7 @@ mutual
     -- the set of characters in these ranges
     class : List Range → Tree
     look : Look → Tree
-    -- at least so often, at most so often if there is a bound, whether more is preferred, and the body
+    -- the least count, the greatest count if there is one, whether more is preferred, and the body
     repetition : ℕ → Option ℕ → Bool → Tree → Tree
     -- its number, and the bytes of its name if it has one
     group : ℕ → Option (List ℕ) → Tree → Tree
@@ -28,19 +28,19 @@ abbrev pub trees_of : List Tree → Trees
 trees_of [] = no_tree
 trees_of (t ∷ ts) = tree_and t (trees_of ts)
 
--- nodes one behind another: one node is itself, and no node is Empty
+-- nodes one after another: one node is itself, and no node is `empty`
 abbrev pub sequence_of : List Tree → Tree
 sequence_of [] = empty
 sequence_of (t ∷ []) = t
 sequence_of (t ∷ u ∷ ts) = sequence (trees_of (t ∷ u ∷ ts))
 
--- a choice between branches: one branch is itself
+-- an alternation of branches: one branch is itself, and no branch is `empty`
 abbrev pub alternation_of : List Tree → Tree
 alternation_of [] = empty
 alternation_of (t ∷ []) = t
 alternation_of (t ∷ u ∷ ts) = alternation (trees_of (t ∷ u ∷ ts))
 
--- a repetition: none at all is Empty, just once is the body
+-- a repetition: at most no turn is `empty`, exactly one turn is the body
 abbrev pub repetition_of : ℕ → Option ℕ → Bool → Tree → Tree
 repetition_of min None greedy body = repetition min None greedy body
 repetition_of min (Some max) greedy body =
@@ -60,18 +60,18 @@ abbrev mutual
   is_nullable (sequence ts) = all_are_nullable ts
   is_nullable (alternation ts) = some_is_nullable ts
 
-  -- each of the trees is
+  -- each of the trees is nullable
   pub all_are_nullable : Trees → Bool
   all_are_nullable no_tree = true
   all_are_nullable (tree_and t ts) = is_nullable t && all_are_nullable ts
 
-  -- one of the trees is
+  -- one of the trees is nullable
   pub some_is_nullable : Trees → Bool
   some_is_nullable no_tree = false
   some_is_nullable (tree_and t ts) = is_nullable t || some_is_nullable ts
 
 abbrev mutual
-  -- no repetition without a bound has a nullable body
+  -- no repetition without a greatest count has a nullable body
   pub is_plain : Tree → Bool
   is_plain empty = true
   is_plain (char c) = true
@@ -82,7 +82,7 @@ abbrev mutual
   is_plain (sequence ts) = all_are_plain ts
   is_plain (alternation ts) = all_are_plain ts
 
-  -- each of the trees is
+  -- each of the trees is plain
   pub all_are_plain : Trees → Bool
   all_are_plain no_tree = true
   all_are_plain (tree_and t ts) = is_plain t && all_are_plain ts
@@ -144,7 +144,7 @@ abbrev pub count : Trees → ℕ
 count no_tree = 0
 count (tree_and t ts) = suc (count ts)
 
--- no count of a repetition is one that leaves nothing to repeat or the body itself, and min is not above max
+-- counts that `repetition_of` does not rewrite, and the least is not above the greatest
 abbrev pub IsCount : ℕ → Option ℕ → Type 0
 IsCount min most = IfSome most (λ n. (min ≤ n) × (1 ≤ n) × ((min ≡ 1) → n ≢ 1))
 
@@ -160,7 +160,7 @@ abbrev mutual
   IsReduced (sequence ts) = (2 ≤ count ts) × AllAreReduced ts
   IsReduced (alternation ts) = (2 ≤ count ts) × AllAreReduced ts
 
-  -- each of the trees is
+  -- each of the trees is reduced
   pub AllAreReduced : Trees → Type 0
   AllAreReduced no_tree = Unit {0}
   AllAreReduced (tree_and t ts) = IsReduced t × AllAreReduced ts

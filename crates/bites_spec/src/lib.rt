@@ -5,7 +5,7 @@
 
 ghost use Rattle.bites_spec.specs.Class.{ListsOnce};
 ghost use Rattle.bites_spec.specs.Laws.{MatchIsParse, FirstRunIsFirst, FirstRunIsOne, RunsAreParses, PlainRunsAreSimple, FirstRunIsFound, LeastEndIsLeast, ParsesAreListed, LongestIsFound, ParsesEndAtMatches, StaticCountIsLeast, FoundIsSome, AnsweredKeepsLength, ReplacesOnce};
-ghost use Rattle.bites_spec.specs.RunLaws.{LongestRunIsLongest, LongestRunIsOne, SlotsAreWritten, Group0IsSpan, RunsAreParsesInOrder, NothingPastTheEnd, NoFaultIsWellFormed, RunLies, ChosenRunLies, RunsBeginAlike, LeastRunEndIsAtMost, StaticLenTakesPart};
+ghost use Rattle.bites_spec.specs.RunLaws.{LongestRunIsLongest, LongestRunIsOne, SlotsAreWritten, Group0IsSpan, RunsAreParsesInOrder, NothingPastTheEnd, NoFaultIsWellFormed, RunLies, ChosenRunLies, RunsBeginAlike, LeastRunEndIsAtMost, StaticLenParticipates};
 ghost use Rattle.bites_spec.specs.FoundLaws.{FoundLies, AnswersBeginAlike, LeastEndIsAtMost, StaticLenIsLeast};
 ghost use Rattle.bites_spec.specs.RegexLaws.{RunIsFound, FindsSome, AnswersHaveGroup0};
 ghost use Rattle.bites_spec.specs.SpanLaws.{SuccessiveIsOne, SuccessiveGoesOn, SuccessiveIsMapped, SpansGrow, PiecesAndMatches, ReplacedAlternates, ReplacedIsJoined};
@@ -119,8 +119,8 @@ pub fn static_len_is_least()
     ensures { StaticLenIsLeast }
 {}
 
-pub fn static_len_takes_part()
-    ensures { StaticLenTakesPart }
+pub fn static_len_participates()
+    ensures { StaticLenParticipates }
 {}
 
 pub fn successive_answers_are_one_list<B>()

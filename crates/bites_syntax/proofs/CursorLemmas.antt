@@ -25,7 +25,7 @@ pub begins_behind : (text t u : Text) (b : ℕ) → next_is (single b) t ≡ tru
 begins_behind text [] u b found rest = absurd (false≢true found)
 begins_behind text (d ∷ t) u b found rest = rw (eqb-true d b found, eq-eqb b b refl, rest) refl
 
--- the same without it
+-- the text does not begin where another character comes next
 pub begins_not : (text t : Text) (b : ℕ) → next_is (single b) t ≡ false → begins (b ∷ text) t ≡ false
 begins_not text [] b none = refl
 begins_not text (d ∷ t) b none =

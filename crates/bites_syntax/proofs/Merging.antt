@@ -19,7 +19,7 @@ merged_behind r [] = r ∷ []
 merged_behind r (s ∷ ranges) =
     if nat_le s.0 (following r.1) then merged_behind (r.0, max r.1 s.1) ranges else r ∷ merged_behind s ranges
 
--- the same, where there may be no first range yet
+-- like `merged_behind`, but there may be no first range yet
 abbrev pub merged : Option Range → List Range → List Range
 merged None [] = []
 merged None (r ∷ ranges) = merged_behind r ranges

@@ -97,7 +97,7 @@ decimal_large n flags t v room some agree large =
     let above : greatest_number < number 10 (digits_of flags t) = ⊎_elim (λ e. omega (arith, e)) (λ h. omega (arith, h.1)) agree in
     decimal_reads n flags t room some ∙ rw (lt-ltb greatest_number (number 10 (digits_of flags t)) above) refl
 
--- the same by the texts on the way: after white space, after the digits, and after the last white space
+-- both decimals, by the texts in between: after white space, after the digits, and after the last white space
 pub small_decimal : (n : ℕ) (flags : Flags) (t u d rest : Text) (v : ℕ) → length t ≤ n → u ≡ skip_white t → next_is is_ascii_digit u ≡ true →
     AgreeBelow 4294967296 v (number 10 (each_of flags is_ascii_digit u).0) → v < 4294967296 → d ≡ (each_of flags is_ascii_digit u).1 →
     rest ≡ (each_of flags is_whitespace d).1 → decimal n flags t ≡ Ok (v, rest)

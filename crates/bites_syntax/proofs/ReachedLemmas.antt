@@ -25,11 +25,11 @@ pub record Reached (limit depth n : ℕ) (start : pattern.Front) (text : pattern
   pub room : length p.cursor ≤ steps
   pub same : inner ranges_of limit (suc n) depth start [] [] text ≡ inner ranges_of limit (suc steps) depth g branches nodes p.cursor
 
--- the same for each front that the parser's state stands for, and each number of steps that is enough
+-- `Reached` for each front that the parser's state stands for, and each number of steps that is enough
 abbrev pub Reaches : ℕ → Parser → Parser → Branches → Type 0
 Reaches depth from p parsed = (limit : ℕ) → from.limit ≡ limit → (start : pattern.Front) → IsStateOf from.state start → (n : ℕ) → length from.cursor ≤ n → Reached limit depth n start from.cursor p parsed
 
--- the same after a run of items and a gap
+-- what the reader is asked at the start, it is asked after a run of items and a gap
 abbrev pub ReachesItem : ℕ → ℕ → ℕ → pattern.Front → pattern.Text → Parser → Branches → Type 0
 ReachesItem limit depth n start text p parsed = GoesOnWithItem limit depth p parsed (inner ranges_of limit (suc n) depth start [] [] text)
 

@@ -13,7 +13,7 @@ use Rattle.bites_syntax.specs.Parts.{error_in}
 abbrev pub fixed_number : ℕ → ℕ → Flags → Text → ReadResult ℕ
 fixed_number v k flags t = and_then (exactly k flags t) (λ digits rest. answer (fold (λ n d. n * 16 + digit_value d) v digits) rest)
 
--- a number that is the same up to the bound, or the error
+-- the number that the reader returns, or one that is too large as well; or the reader's error
 abbrev pub AnswersNumber : ℕ → Result ℕ Error → Text → ReadResult ℕ → Type 0
 AnswersNumber bound result rest a = MatchResult result (λ m. (n : ℕ) × (a ≡ Ok (n, rest)) × AgreeBelow bound m n) (λ e. error_in a ≡ Some e)
 

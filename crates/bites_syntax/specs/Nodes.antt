@@ -28,7 +28,7 @@ abbrev pub IsNumbered : Option Numbered → Opening → ℕ → Type 0
 IsNumbered None opening before = opening ≡ unnumbered
 IsNumbered (Some x) opening before = (text : Option Text) × (opening ≡ numbered text) × (x.index ≡ before + 1) × (x.name ≡ option_map encode_utf8_all text)
 
--- the parts of a sequence or a choice of these trees
+-- the parts of a sequence or an alternation of these trees
 abbrev pub ArePartsOf : ℕ → Parts → List Tree → Type 0
 ArePartsOf limit parts.None ts = ts ≡ []
 ArePartsOf limit (One node) ts = (t : Tree) × (ts ≡ t ∷ []) × IsNodeOf limit node t

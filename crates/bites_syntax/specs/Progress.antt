@@ -86,7 +86,7 @@ Steps limit depth n g branches nodes (Ok (Group group)) p parsed a =
 Steps limit depth n g branches nodes (Ok End) p parsed a = EndsReading limit p parsed g a
 Steps limit depth n g branches nodes (Err e) p parsed a = IsErrorOf e a
 
--- a choice that the reader has read as well
+-- a choice that the parser has read as the reader does
 pub record ReadsAs (limit : ℕ) (p : Parser) (node : Node) (a : Result ReadChoice Stop) : Type 0 where
   pub found : ReadChoice
   pub same : a ≡ Ok found
@@ -95,11 +95,11 @@ pub record ReadsAs (limit : ℕ) (p : Parser) (node : Node) (a : Result ReadChoi
   pub state : IsStateOf p.state found.behind
   pub node_is : IsNodeOf limit node (alternation_of found.branches)
 
--- the reader reads the choice too, or stops
+-- the reader reads the choice as well, or stops with the error
 abbrev pub IsChoice : ℕ → Result Node Error → Parser → Result ReadChoice Stop → Type 0
 IsChoice limit result p a = MatchResult result (λ node. ReadsAs limit p node a) (λ e. IsErrorOf e a)
 
--- a group is opened only below the limit, and where one more that is open can be counted
+-- a group is opened only below the limit, and only where one more open group can be counted
 abbrev pub HasDepth : ℕ → ℕ → Result Step Error → Type 0
 HasDepth limit depth (Ok Item) = Unit {0}
 HasDepth limit depth (Ok (Group group)) = (depth < limit) × (depth < 4294967295)

@@ -1,4 +1,4 @@
-//! Items that are nodes of their own but not groups.
+//! Items of a pattern that are one node and no group: characters, dots, classes, escapes and assertions.
 
 ghost use Rattle.std.specs.Prelude.{◌≡◌, ◌≤◌, length};
 ghost use Rattle.bites_spec.specs.Class as set;

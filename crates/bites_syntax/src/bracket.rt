@@ -21,7 +21,7 @@ use crate::named_class::NamedClass;
 use bites_text::error::Error;
 use std::alloc::{AllocError, Global};
 
-/// Returns the place after this opening, the name and `:]`, if they stand here.
+/// Returns the cursor after `opening`, the name of the class and `:]`, if they come next.
 fn after_name<'a>(cursor: &Cursor<'a>, opening: &str, name: NamedClass) -> Option<Cursor<'a>>
     ensures { let text = opening.now ++ class_name (named_of name) ++ codes ":]" in
         MatchOption result (begins text cursor.now ≡ false)
@@ -40,8 +40,7 @@ fn after_name<'a>(cursor: &Cursor<'a>, opening: &str, name: NamedClass) -> Optio
     Some(ahead)
 }
 
-/// Returns the first of these named classes that stands here, whether it is negated, and the place
-/// after it.
+/// Returns the first of `names` that comes next as a named class, whether it is negated, and the cursor after it.
 fn named_at<'a>(cursor: &Cursor<'a>, names: &[NamedClass]) -> Option<(NamedClass, bool, Cursor<'a>)>
     ensures { MatchOption result (named_at cursor.now (map named_of names.now) ≡ None)
         (λ x. named_at cursor.now (map named_of names.now) ≡ Some (named_of x.0, x.1, x.2)) }
@@ -57,7 +56,7 @@ fn named_at<'a>(cursor: &Cursor<'a>, names: &[NamedClass]) -> Option<(NamedClass
     None
 }
 
-/// Returns the class of the characters of a named class, or of all others.
+/// Returns the class of a named class's characters, or of all others if `negated`.
 fn class_named(name: NamedClass, negated: bool) -> Class
     ensures { Lists result (members_named (named_of name) negated) }
 {
@@ -126,8 +125,7 @@ fn add_range(builder: &mut ClassBuilder, first: Meaning, second: Meaning) -> Res
     Ok(())
 }
 
-/// Reads what follows the first end of a member and its gap, where a dash comes next. Adds the
-/// member.
+/// Reads the rest of a member after its first end and the gap there, where a dash comes next. Adds its characters.
 fn after_dash(
     alloc: Global,
     cursor: &mut Cursor<'_>,
@@ -156,7 +154,7 @@ fn after_dash(
     }
 }
 
-/// Reads what follows the first end of a member and its gap. Adds the member.
+/// Reads the rest of a member after its first end and the gap there. Adds its characters.
 fn after_first(
     alloc: Global,
     cursor: &mut Cursor<'_>,
@@ -176,7 +174,7 @@ fn after_first(
     }
 }
 
-/// Returns the error that refuses the operator on sets that stands here, if one does.
+/// Returns the error of the set operator that comes next, or None if none does.
 fn set_operator(cursor: &Cursor<'_>) -> Option<Error>
     ensures { IsOperatorError result cursor.now }
 {
@@ -272,7 +270,8 @@ fn caret(cursor: &mut Cursor<'_>, flags: Flags) -> Result<bool, Error>
     }
 }
 
-/// Reads the dashes or the closing bracket that stand for themselves before the members.
+/// Reads the dashes or the closing bracket that stand for themselves before the members. Returns which of them stood
+/// there, if any did.
 fn leading(cursor: &mut Cursor<'_>, flags: Flags) -> Result<Option<char>, Error>
     ensures reads { WithSteps cursor.old (λ n. (negated : Bool) →
         AnswersLeading result cursor.new n (flags_of flags) negated cursor.old) }
@@ -293,7 +292,7 @@ fn leading(cursor: &mut Cursor<'_>, flags: Flags) -> Result<Option<char>, Error>
     }
 }
 
-/// Returns this character, or this error where the pattern ends.
+/// Returns `c`, or `error` at the end of the pattern.
 fn unless_at_end(cursor: &Cursor<'_>, c: char, error: Error) -> Result<Option<char>, Error>
     ensures { MatchResult result
         (λ leading. (leading ≡ Some c) × (d : ℕ) × (t : Text) × (cursor.now ≡ d ∷ t))

@@ -13,7 +13,11 @@ use crate::range_list::{Constant, RangeList};
 use std::alloc::{AllocError, Global};
 use std::marker::Model;
 
-/// A set of characters. A contract sees the list of its canonical ranges.
+/// A set of characters.
+///
+/// Its ranges are canonical: they rise, and between each two there is a character that belongs to neither.
+///
+/// For proofs: a contract sees the list of these ranges.
 #[derive(Drop)]
 pub struct Class {
     ranges: RangeList,
@@ -32,7 +36,7 @@ impl Model for Class {
 }
 
 impl Class {
-    /// Returns the class of no character.
+    /// Returns the empty class.
     pub fn new(alloc: Global) -> Class
         ensures { result ≡ [] }
     {
@@ -49,7 +53,7 @@ impl Class {
         }
     }
 
-    /// Returns the class of a constant set. It takes no memory.
+    /// Returns the class of a constant set. It allocates nothing.
     pub fn constant(set: Constant) -> Class
         ensures { Lists result (constant_set set) }
     {
@@ -81,8 +85,8 @@ impl Class {
         Ok(Class::from_ranges(gaps(alloc, ranges)?))
     }
 
-    /// Returns the class of what a dot stands for. It has all characters, or all except a line
-    /// feed, or all except a line feed and a carriage return.
+    /// Returns the class that a dot stands for: all characters if `matches_new_line`, else all except LF, or with
+    /// `crlf` all except LF and CR.
     pub fn dot(matches_new_line: bool, crlf: bool) -> Class
         ensures { Lists result (complement
             (if matches_new_line then none
@@ -144,7 +148,7 @@ impl Class {
     }
 }
 
-/// Returns the ranges that lie between these canonical ranges, before the first and after the last.
+/// Returns the ranges between these canonical ranges, before the first and after the last.
 fn gaps(alloc: Global, ranges: &[(char, char)]) -> Result<Vec<(char, char)>, AllocError>
     requires { AreCanonical ranges.now }
     ensures { IfOk result (λ others. Lists others.items (complement (in_ranges ranges.now))) }
@@ -164,7 +168,7 @@ fn gaps(alloc: Global, ranges: &[(char, char)]) -> Result<Vec<(char, char)>, All
     Ok(others)
 }
 
-/// Returns the character after one, over the surrogates, if there is one.
+/// Returns the character after `c`, past the surrogates, or None if `c` is the last.
 pub fn following(c: char) -> Option<char>
     ensures { MatchOption result (c ≡ 0x10_FFFF) (λ next. (c < 0x10_FFFF) × (next ≡ following c)) }
 {
@@ -174,7 +178,7 @@ pub fn following(c: char) -> Option<char>
     }
 }
 
-/// Returns the character before one that is not the first, over the surrogates.
+/// Returns the character before `c`, past the surrogates. `c` must not be the first.
 fn preceding(c: char) -> char
     requires { 0 < c }
     ensures next { following result ≡ c }

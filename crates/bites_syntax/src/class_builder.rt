@@ -1,4 +1,4 @@
-//! Classes in the making.
+//! The builder of classes.
 
 ghost use Rattle.std.specs.Prelude.{◌≡◌, ℕ, ◌+◌, ◌-◌, ◌≤◌, ◌&&◌, ◌||◌, nat_le, [], ◌∷◌, ◌++◌, All, IfOk, OnOk, OnErr};
 ghost use Rattle.std.specs.List.Sorted.{IsNonDecreasingBy};
@@ -10,8 +10,9 @@ use crate::class::{Class, following};
 use std::alloc::{AllocError, Global};
 use std::marker::Model;
 
-/// Collects ranges for a class. They stand in any order and may overlap. A contract sees their
-/// list.
+/// Collects ranges for a class. They may come in any order and overlap.
+///
+/// For proofs: a contract sees their list.
 #[derive(Drop)]
 pub struct ClassBuilder {
     ranges: Vec<(char, char)>,

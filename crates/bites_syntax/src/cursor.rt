@@ -10,7 +10,9 @@ ghost use Rattle.bites_syntax.specs.Steps.{each_of};
 use crate::flags::Flags;
 use std::marker::Model;
 
-/// The rest of a pattern, from a place to its end. A contract sees its characters.
+/// The rest of a pattern, from an offset to its end.
+///
+/// For proofs: a contract sees its characters.
 #[derive(Drop)]
 pub(crate) struct Cursor<'a> {
     rest: &'a str,
@@ -28,7 +30,7 @@ impl<'a> Model for Cursor<'a> {
     ghost invariant = { λ c. is_utf8 c.rest.now ≡ true };
 }
 
-/// A set of characters that stand in a run.
+/// A set of characters that the parser reads in runs.
 #[derive(Clone, Copy)]
 pub(crate) enum Characters {
     Digit,
@@ -78,21 +80,21 @@ impl<'a> Cursor<'a> {
         Cursor { rest: pattern }
     }
 
-    /// Returns another cursor at the same place, to look ahead with.
+    /// Returns another cursor at the same offset, to look ahead with.
     pub(crate) fn ahead(&self) -> Cursor<'a>
         ensures { result ≡ self.now }
     {
         Cursor { rest: self.rest }
     }
 
-    /// Returns the next character.
+    /// Returns the next character, or None at the end.
     pub(crate) fn peek(&self) -> Option<char>
         ensures { MatchOption result (self.now ≡ []) (λ c. self.now ≡ c ∷ drop 1 self.now) }
     {
         self.rest.chars().next()
     }
 
-    /// Returns whether the set has the next character.
+    /// Returns whether the next character is in the set.
     pub(crate) fn is_at(&self, set: Characters) -> bool
         ensures { result ≡ next_is (members_of set) self.now }
     {
@@ -127,7 +129,7 @@ impl<'a> Cursor<'a> {
         found
     }
 
-    /// Returns the place after this text of ASCII, if it comes next.
+    /// Returns the cursor after this ASCII text, if it comes next.
     fn after(&self, text: &str) -> Option<Cursor<'a>>
         ensures { MatchOption result (begins text.now self.now ≡ false)
             (λ rest. (begins text.now self.now ≡ true) × (rest ≡ drop (length text.now) self.now)) }
@@ -141,14 +143,14 @@ impl<'a> Cursor<'a> {
         Some(ahead)
     }
 
-    /// Returns whether this text of ASCII comes next.
+    /// Returns whether this ASCII text comes next.
     pub(crate) fn begins(&self, text: &str) -> bool
         ensures { result ≡ begins text.now self.now }
     {
         self.after(text).is_some()
     }
 
-    /// Moves past this text of ASCII if it comes next, and returns whether it does.
+    /// Moves past this ASCII text if it comes next, and returns whether it does.
     pub(crate) fn bump_over(&mut self, text: &str) -> bool
         ensures value { result ≡ begins text.now self.old }
         ensures rest { self.new ≡ (if result then drop (length text.now) self.old else self.old) }
@@ -178,7 +180,7 @@ impl<'a> Cursor<'a> {
         }
     }
 
-    /// Moves past the gap: white space and comments, where they have no meaning.
+    /// Moves past the gap that stands here: white space and comments with the flag `x`, nothing without it.
     pub(crate) fn skip(&mut self, flags: Flags)
         ensures rest { self.new ≡ skip (flags_of flags) self.old }
         ensures forward { length self.new ≤ length self.old }
@@ -201,8 +203,7 @@ impl<'a> Cursor<'a> {
         }
     }
 
-    /// Moves past the next character and the gap after it, and returns the character, if the set
-    /// has it.
+    /// Moves past the next character and the gap after it if the set has the character, and returns it.
     pub(crate) fn take(&mut self, flags: Flags, set: Characters) -> Option<char>
         ensures value { MatchOption result
             ((next_is (members_of set) self.old ≡ false) × (self.new ≡ self.old))
@@ -220,7 +221,7 @@ impl<'a> Cursor<'a> {
         Some(c)
     }
 
-    /// Moves past all characters of the set that stand here, and the gap after each.
+    /// Moves past a run of characters of the set, with the gap after each.
     pub(crate) fn pass_each(&mut self, flags: Flags, set: Characters)
         ensures rest { self.new ≡ (each_of (flags_of flags) (members_of set) self.old).1 }
         ensures forward { length self.new ≤ length self.old }

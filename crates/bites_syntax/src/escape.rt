@@ -74,7 +74,7 @@ fn escapes_itself(c: char) -> bool
     c.is_ascii() && !c.is_ascii_alphanumeric() && c != '<' && c != '>'
 }
 
-/// Returns how many hexadecimal digits follow the character where there are no braces.
+/// Returns the number of hexadecimal digits after `x`, `u` or `U` without braces, or None for any other character.
 fn digits(c: char) -> Option<u32>
     ensures { result ≡ digits_of c }
 {
@@ -86,7 +86,7 @@ fn digits(c: char) -> Option<u32>
     }
 }
 
-/// Returns what the character after a backslash means alone, if it means something.
+/// Returns what the character after a backslash means alone, or None if it means nothing alone.
 fn meaning_alone(c: char) -> Option<Meaning>
     ensures { IsMeaningOf result (meaning_of c) }
 {
@@ -131,7 +131,7 @@ fn boundary_name(alloc: Global, cursor: &mut Cursor<'_>, flags: Flags) -> Result
     boundary_of(&name).ok_or(Error::UnrecognizedBoundary)
 }
 
-/// Reads all letters and dashes that stand here, and the gap after each.
+/// Reads a run of letters and dashes, with the gap after each.
 fn letters(alloc: Global, cursor: &mut Cursor<'_>, flags: Flags) -> Result<String, AllocError>
     ensures letters { IfOk result (λ name. string_bytes name
         ≡ (each_of (flags_of flags) is_boundary_letter cursor.old).0) }

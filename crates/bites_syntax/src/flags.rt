@@ -1,4 +1,4 @@
-//! The flags in force at a place of a pattern.
+//! The flags in force at an offset of a pattern.
 
 ghost use Rattle.std.specs.Prelude.{◌≡◌, ◌≤◌, ◌==◌, [], length, codes, true, if◌then◌else◌, MatchResult, OnOk};
 ghost use Rattle.bites_spec.specs.Group.{changed, is_flag_mark, put_flag};
@@ -15,22 +15,21 @@ use std::alloc::Global;
 /// The flags under which a pattern is read.
 #[derive(Clone, Copy, Debug, Default, PartialEq, Eq)]
 pub struct Flags {
-    /// A letter of ASCII stands for both of its cases.
+    /// An ASCII letter matches in both of its cases.
     pub case_insensitive: bool,
-    /// `^` and `$` stand at the ends of lines too.
+    /// `^` and `$` match at the ends of each line too.
     pub multi_line: bool,
-    /// `.` stands for every character. Without this it leaves out LF, and CR too where `crlf` is
-    /// set.
+    /// `.` matches every character. Without this flag it doesn't match LF, and with `crlf` not CR either.
     pub dot_matches_new_line: bool,
-    /// A line ends at CR, at LF and at CR LF, for `^` and `$` where `multi_line` is set and for `.`.
+    /// CR and CR LF end lines as LF does, for `^` and `$` with `multi_line` and for `.`.
     pub crlf: bool,
     /// `*` is lazy and `*?` is greedy.
     pub swap_greed: bool,
-    /// White space and comments between the parts of a pattern have no meaning.
+    /// White space and comments between the parts of a pattern mean nothing.
     pub ignore_whitespace: bool,
 }
 
-/// Returns the flags with that of a letter set or cleared.
+/// Returns the flags with the flag of the letter `c` set or cleared.
 fn put_flag(on: bool, c: char, flags: Flags) -> Flags
     ensures { flags_of result ≡ put_flag on c (flags_of flags) }
 {
@@ -47,8 +46,8 @@ fn put_flag(on: bool, c: char, flags: Flags) -> Flags
     flags
 }
 
-/// Returns the flags after a run of letters. Letters before the dash set a flag, and letters after
-/// it clear one.
+/// Returns the flags after a run of flag letters. A letter before the dash sets its flag, and one after it clears its
+/// flag.
 pub(crate) fn changed(run: &[char], flags: Flags) -> Flags
     ensures { flags_of result ≡ changed true run.now (flags_of flags) }
 {
@@ -61,7 +60,7 @@ pub(crate) fn changed(run: &[char], flags: Flags) -> Flags
     flags
 }
 
-/// Returns whether the character is a letter of flags or the dash between them.
+/// Returns whether the character is a flag letter or the dash between them.
 fn is_flag_mark(c: char) -> bool
     ensures { result ≡ is_flag_mark c }
 {
@@ -74,7 +73,7 @@ fn ends_run(c: char) -> bool
     c == ':' || c == ')'
 }
 
-/// Reads letters of flags and a dash, up to what ends them or to the end of the pattern.
+/// Reads flag letters and a dash, up to the character that ends them or to the end of the pattern.
 pub(crate) fn flag_run(alloc: Global, cursor: &mut Cursor<'_>) -> Result<Vec<char>, Error>
     ensures reads { MatchResult result
         (λ run. (front : Front) →
@@ -100,7 +99,7 @@ pub(crate) fn flag_run(alloc: Global, cursor: &mut Cursor<'_>) -> Result<Vec<cha
     Ok(run)
 }
 
-/// Returns the error at a letter or dash that stands a second time.
+/// Returns the error of a letter or dash that comes a second time.
 fn duplicate_error(c: char) -> Error
     ensures { result ≡ (if c == dash then Error.RepeatedNegation else Error.DuplicateFlag) }
 {

@@ -22,10 +22,10 @@ use std::alloc::Global;
 #[derive(Drop)]
 pub(crate) struct ParserState {
     pub(crate) flags: Flags,
-    /// The number of groups with a number that were opened.
+    /// The number of numbered groups that were opened.
     pub(crate) groups: u32,
     pub(crate) names: Names,
-    /// Group 0, and those that were opened.
+    /// Group 0, and each numbered group that was opened.
     pub(crate) opened: Groups,
 }
 
@@ -35,7 +35,7 @@ pub(crate) enum Opened {
     /// A whole directive; no group is opened.
     Directive,
     Unnumbered,
-    /// A group with a number, and perhaps a name.
+    /// A numbered group, with its name if it has one.
     Numbered(Option<Name>),
 }
 
@@ -136,7 +136,7 @@ fn no_name(alloc: Global, cursor: &mut Cursor<'_>, state: &mut ParserState) -> R
     Ok(Opened::Numbered(None))
 }
 
-/// Returns whether look-around stands here.
+/// Returns whether look-around begins here.
 fn begins_look_around(cursor: &Cursor<'_>) -> bool
     ensures { result ≡ begins_look_around cursor.now }
 {

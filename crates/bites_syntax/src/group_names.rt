@@ -67,7 +67,7 @@ fn is_name_start(c: char) -> bool
     c == '_' || (c != '>' && is_alphabetic(c))
 }
 
-/// Returns whether a name may go on with the character.
+/// Returns whether a name may continue with the character.
 fn is_name_part(c: char) -> bool
     ensures { result ≡ is_name_part c }
 {

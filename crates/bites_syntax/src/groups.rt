@@ -7,10 +7,10 @@ use crate::name::Name;
 use std::alloc::{AllocError, Global};
 use std::marker::Model;
 
-/// Group 0 and each group with a number that a pattern opens. They stand in order of number, each
-/// with its name if it has one.
+/// Group 0 and each numbered group that a pattern opens, in the order of their numbers, each with its name if it has
+/// one.
 ///
-/// A contract sees the list of these names, each as its bytes. Group 0 has none.
+/// For proofs: a contract sees the list of these names, each as its bytes. Group 0 has none.
 #[derive(Drop)]
 pub struct Groups {
     /// The groups after group 0.

@@ -39,8 +39,7 @@ fn hex_digit(cursor: &mut Cursor<'_>) -> Result<u32, Error>
     }
 }
 
-/// Reads `count` digits, with gaps between them. Returns their number, or `TOO_LARGE` if it is too
-/// large.
+/// Reads `count` digits, with gaps between them. Returns the number that they write, or `TOO_LARGE` if it is too large.
 fn exactly(cursor: &mut Cursor<'_>, flags: Flags, count: u32) -> Result<u64, Error>
     ensures reads { AnswersNumber TOO_LARGE result cursor.new
         (fixed_number 0 count (flags_of flags) cursor.old) }
@@ -58,7 +57,7 @@ fn exactly(cursor: &mut Cursor<'_>, flags: Flags, count: u32) -> Result<u64, Err
     Ok(value)
 }
 
-/// Reads a number of `count` digits.
+/// Reads a number of `count` digits, and returns the character with this number.
 fn fixed(cursor: &mut Cursor<'_>, flags: Flags, count: u32) -> Result<char, Error>
     ensures reads { Answers (λ c. c) result cursor.new
         (and_then (exactly count (flags_of flags) cursor.old) (scalar fixed_hex_invalid)) }

@@ -1,4 +1,4 @@
-//! The tree of a pattern, and its parts.
+//! The parser of patterns, and the tree that it returns.
 #![tactic(auto)]
 
 pub(crate) mod atom;

@@ -46,8 +46,7 @@ impl Look {
         self.holds_between(before, after, at == 0, at == haystack.len())
     }
 
-    /// Returns whether the assertion holds between two bytes, at the start or at the end of the
-    /// haystack.
+    /// Returns whether the assertion holds between two bytes. At an end of the haystack one of them is None.
     fn holds_between(
         &self,
         before: Option<u8>,
@@ -92,14 +91,14 @@ fn byte_before(haystack: &[u8], at: usize) -> Option<u8>
     }
 }
 
-/// Returns whether the byte is there and is this one.
+/// Returns whether there is a byte and it is `wanted`.
 fn is_byte(found: Option<u8>, wanted: u8) -> bool
     ensures { result ≡ is_byte wanted found }
 {
     found == Some(wanted)
 }
 
-/// Returns whether the byte is there and is a word byte.
+/// Returns whether there is a byte and it is a word byte.
 fn is_word(byte: Option<u8>) -> bool
     ensures { result ≡ is_word byte }
 {

@@ -72,14 +72,14 @@ fn some_is_nullable(parts: &[Tree]) -> bool
     false
 }
 
-/// Returns one more than the greatest number of a group in the tree.
+/// Returns one more than the greatest group number in the tree.
 pub fn captures_len(tree: &Tree) -> usize
     ensures { result ≡ captures_len tree.now }
 {
     greatest_group(tree) as usize + 1
 }
 
-/// Returns the greatest number of a group in the tree, or 0 if there is none.
+/// Returns the greatest group number in the tree, or 0 if there is none.
 #[cycle(groups)]
 fn greatest_group(tree: &Tree) -> u32
     ensures { result ≡ greatest (groups_in tree.now) }
@@ -92,7 +92,7 @@ fn greatest_group(tree: &Tree) -> u32
     }
 }
 
-/// Returns the greatest number of a group in the trees, or 0 if there is none.
+/// Returns the greatest group number in the trees, or 0 if there is none.
 #[cycle(groups)]
 fn greatest_group_of(parts: &[Tree]) -> u32
     ensures { result ≡ greatest (groups_in_all (trees_of parts.now)) }
@@ -104,8 +104,7 @@ fn greatest_group_of(parts: &[Tree]) -> u32
     most
 }
 
-/// Returns a lower bound on the groups of the tree that participate in any match, if its form gives
-/// one.
+/// Returns a lower bound on the groups of the tree that participate in any match, if the tree's form gives one.
 #[cycle(count)]
 pub fn static_count(tree: &Tree) -> Option<usize>
     requires { length (groups_in tree.now) < 2 ^ 64 }
@@ -127,7 +126,7 @@ pub fn static_count(tree: &Tree) -> Option<usize>
     }
 }
 
-/// Returns the sum of the counts of the trees, if each has one.
+/// Returns the sum of the static counts of the trees, if each has one.
 #[cycle(count)]
 fn static_sum(parts: &[Tree]) -> Option<usize>
     requires { length (groups_in_all (trees_of parts.now)) < 2 ^ 64 }
@@ -140,7 +139,7 @@ fn static_sum(parts: &[Tree]) -> Option<usize>
     Some(sum)
 }
 
-/// Returns the count of each tree, if all trees have the same.
+/// Returns the static count of each tree, if there are trees and all have the same.
 #[cycle(count)]
 fn static_agreed(parts: &[Tree]) -> Option<usize>
     requires { length (groups_in_all (trees_of parts.now)) < 2 ^ 64 }

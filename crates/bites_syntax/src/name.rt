@@ -5,7 +5,9 @@ ghost use Rattle.std.specs.Prelude.{◌≡◌, IfOk};
 use std::alloc::{AllocError, Global};
 use std::marker::Model;
 
-/// A group's name. A contract sees its bytes.
+/// A group's name.
+///
+/// For proofs: a contract sees its bytes.
 #[derive(Drop)]
 pub struct Name {
     text: String,

@@ -1,5 +1,4 @@
-//! Nodes of a tree while a pattern is read. A tree that is too tall is never held: a mark stands
-//! for it.
+//! The nodes of a tree while a pattern is read. A tree that is too tall is not kept: a mark stands for it.
 
 ghost use Rattle.std.specs.Prelude.{◌≡◌, ◌<◌, ◌≤◌, ◌⊎◌, ℕ, suc, List, IfOk, MatchOption};
 ghost use Rattle.bites_spec.specs.Grammar.{group_of};
@@ -28,7 +27,7 @@ pub(crate) struct Numbered {
     pub(crate) name: Option<Name>,
 }
 
-/// The parts of a sequence or a choice.
+/// The parts of a sequence or an alternation.
 #[derive(Drop)]
 enum Parts {
     None,
@@ -38,7 +37,7 @@ enum Parts {
     TooTall,
 }
 
-/// Returns the height of a tree whose tallest part has this height, unless it is too great.
+/// Returns the height of a tree whose tallest part has this height, or None if it is too great.
 fn height_above(height: u32, limit: u32) -> Option<u32>
     ensures { MatchOption result ((limit < suc height) ⊎ (4294967295 ≤ suc height))
         (λ h. (h ≡ suc height) × (h ≤ limit) × (h < 4294967295)) }

@@ -11,7 +11,7 @@ ghost use Rattle.bites_syntax.specs.Steps.{each_of};
 use crate::cursor::{Characters, Cursor};
 use crate::flags::Flags;
 
-/// The least number that is neither a bound of a repetition nor a character's.
+/// The least number that doesn't fit a `u32`. A number above it is read as this one.
 pub(crate) const TOO_LARGE: u64 = 4294967296;
 
 /// Returns the value of a digit or a letter, and 36 for any other character.
@@ -21,7 +21,7 @@ fn digit_value(c: char) -> u32
     c.to_digit(36).unwrap_or(36)
 }
 
-/// Reads all digits of the set that stand here, with the gap after each. Returns their number, or
+/// Reads a run of digits of the set, with the gap after each. Returns the number that they write in this base, or
 /// `TOO_LARGE` if it is too large.
 pub(crate) fn number(cursor: &mut Cursor<'_>, flags: Flags, set: Characters, base: u32) -> u64
     requires some { 0 < base }

@@ -13,7 +13,7 @@ use crate::flags::Flags;
 use crate::number::{TOO_LARGE, number};
 use bites_text::error::Error;
 
-/// How often an operator repeats a node, and whether more turns are preferred.
+/// How often an operator repeats a node, and whether it prefers more turns.
 #[derive(Clone, Copy)]
 pub(crate) struct Bounds {
     pub(crate) min: u32,
@@ -28,7 +28,7 @@ fn is_greedy(flags: Flags, lazy: bool) -> bool
     if flags.swap_greed { lazy } else { !lazy }
 }
 
-/// Reads the lazy mark after an operator with these bounds, if it has one.
+/// Reads the lazy mark after an operator, if it has one, and returns the operator's bounds.
 pub(crate) fn plain_operator(
     cursor: &mut Cursor<'_>,
     flags: Flags,

@@ -1,4 +1,4 @@
-//! Reading a pattern.
+//! The parser of patterns.
 
 ghost use Rattle.std.specs.Prelude.{◌≡◌, ◌≢◌, ◌++◌, ◌≤◌, ◌<◌, ◌⊎◌, ◌∷◌, [], ℕ, suc, List, length, chars, true, IfOk, IfErr, MatchResult, Ok, OnOk};
 ghost use Rattle.bites_spec.specs.Message as message;
@@ -36,7 +36,8 @@ use bites_text::error::Error;
 use std::alloc::{AllocError, Global};
 use std::mem;
 
-/// The branches of a choice: those that are complete, and the nodes of the one that is being read.
+/// A choice that is being read, which is branches with bars between them: those that are complete, and the nodes of the
+/// one that is being read.
 #[derive(Drop)]
 struct Branches {
     complete: Vec<Node>,
@@ -73,8 +74,7 @@ struct Parser<'a> {
     state: ParserState,
 }
 
-/// The number of nodes that each branch after a bar has room for from the start. Most branches have
-/// no more, so their list never moves into more room.
+/// The initial capacity of each branch after a bar. Most branches have no more nodes, so their list never moves.
 const BRANCH_ROOM: usize = 8;
 
 impl Branches {
@@ -113,7 +113,8 @@ impl Branches {
         Ok(())
     }
 
-    /// Returns the choice between the branches. The nodes are the last one.
+    /// Returns the alternation of the complete branches and of the last one, whose nodes these are. A branch alone is
+    /// returned unchanged.
     fn into_alternation(self, alloc: Global, limit: u32) -> Result<Node, AllocError>
         ensures { (bs ts : List spec.Tree) → AreNodes limit self.complete.items bs →
             AreNodes limit self.nodes.items ts →
@@ -170,8 +171,7 @@ fn close_group(
     Ok(group.flags)
 }
 
-/// Returns whether an item that is more than one character, or stands for another, begins with the
-/// character.
+/// Returns whether the character begins a class, an escape, a dot, `^` or `$`.
 fn begins_atom(c: char) -> bool
     ensures { result ≡ begins_atom c }
 {
@@ -347,8 +347,7 @@ impl Parser<'_> {
         Ok(())
     }
 
-    /// Reads what stands after the items: what opens a group or is a directive, or nothing where
-    /// the choice ends.
+    /// Reads what stands after the items: what opens a group or is a directive, or nothing where the choice ends.
     fn step(&mut self, depth: u32) -> Result<Step, Error>
         requires { ends_items self.old.cursor ≡ true }
         ensures steps { (limit : ℕ) → (parsed : Branches) → (g : pattern.Front) → (bs ts : List spec.Tree) →
@@ -375,8 +374,8 @@ impl Parser<'_> {
 }
 
 impl Parser<'_> {
-    /// Reads a choice, up to what closes the group that it stands in, or to the end. It calls
-    /// itself once for each open group, at most `self.limit` deep.
+    /// Reads a choice, up to what closes its group or to the end of the pattern. It calls itself once for each group,
+    /// at most `self.limit` deep.
     fn choice(&mut self, depth: u32) -> Result<Node, Error>
         ensures reads { (limit : ℕ) → self.old.limit ≡ limit → (g : pattern.Front) →
             IsStateOf self.old.state g →
@@ -410,13 +409,13 @@ impl Parser<'_> {
 
 /// Returns the tree that the grammar gives a pattern under the flags.
 ///
-/// There is a tree exactly if the grammar reads the pattern within the limits: at most `nest_limit`
-/// groups open at once, a tree no taller than `nest_limit` and of a height below 4294967295, and
-/// counts and group numbers of at most 4294967295. Otherwise the error is the message of the
-/// pattern's first fault. Any call may fail with out of memory instead.
+/// There is a tree exactly if the grammar reads the pattern within the limits: at most `nest_limit` groups open at
+/// once, a tree no taller than `nest_limit` and of a height below 4294967295, and counts and group numbers of at most
+/// 4294967295. Otherwise the error is the message of the pattern's first fault. Any call may fail with out of memory
+/// instead.
 ///
-/// The time is linear in the pattern, except for the sorting of classes. The recursion goes only
-/// into groups, so it is at most `nest_limit` deep. No taller tree is held meanwhile.
+/// The time is linear in the pattern, except for the sorting of classes and of group names. The recursion goes only
+/// into groups, so it is at most `nest_limit` deep. No taller tree is kept meanwhile.
 pub fn parse(alloc: Global, pattern: &str, flags: Flags, nest_limit: u32) -> Result<Tree, Error>
     ensures read { IfOk result (λ t. Limits (chars pattern.now) (flags_of flags) nest_limit t) }
     ensures compilable { IfOk result (λ t. IsCompilable t) }
@@ -429,8 +428,7 @@ pub fn parse(alloc: Global, pattern: &str, flags: Flags, nest_limit: u32) -> Res
     Ok(parse_with_groups(alloc, pattern, flags, nest_limit)?.0)
 }
 
-/// Like [`parse`], but also returns all groups that the pattern opens, even those that the tree
-/// drops.
+/// Like [`parse`], but also returns all groups that the pattern opens, even those that the tree drops.
 pub fn parse_with_groups(
     alloc: Global,
     pattern: &str,
@@ -452,8 +450,8 @@ pub fn parse_with_groups(
     read_pattern(alloc, pattern, flags, nest_limit)
 }
 
-// Returns the tree that the grammar's function on lists returns, with the groups that were opened.
-// The error is that of its stop, or of a tree that is too tall.
+// Returns the tree that the grammar's function on lists returns, with the groups that were opened. The error is that of
+// its stop, or of a tree that is too tall.
 fn read_pattern(
     alloc: Global,
     pattern: &str,

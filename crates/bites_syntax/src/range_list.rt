@@ -33,10 +33,12 @@ impl Constant {
     }
 }
 
-/// Ranges of characters, including their ends. A contract sees their list.
+/// A list of ranges of characters, each with its ends.
 ///
-/// One or two ranges are stored in place, and a constant by its name. Only a longer list that a
-/// pattern spells out takes memory.
+/// One or two ranges are stored in place, and a constant by its name. Only a longer list that a pattern spells out is
+/// allocated.
+///
+/// For proofs: a contract sees the list of the ranges.
 #[derive(Drop)]
 pub struct RangeList {
     kept: Kept,
@@ -63,7 +65,7 @@ impl Model for RangeList {
 impl RangeList {
     ghost use Rattle.bites_syntax.specs.Ranges.{kept_ranges};
 
-    /// Returns the list of one range. It takes no memory.
+    /// Returns the list of one range. It allocates nothing.
     pub fn one(range: (char, char)) -> RangeList
         ensures { result ≡ range ∷ [] }
     {
@@ -72,7 +74,7 @@ impl RangeList {
         }
     }
 
-    /// Returns the list of two ranges. It takes no memory.
+    /// Returns the list of two ranges. It allocates nothing.
     pub fn two(first: (char, char), second: (char, char)) -> RangeList
         ensures { result ≡ first ∷ second ∷ [] }
     {
@@ -81,7 +83,7 @@ impl RangeList {
         }
     }
 
-    /// Returns the ranges of a constant set. It takes no memory.
+    /// Returns the ranges of a constant set. It allocates nothing.
     pub fn constant(set: Constant) -> RangeList
         ensures { result ≡ ranges_of (constant_set set) }
     {
@@ -102,7 +104,7 @@ impl RangeList {
         }
     }
 
-    /// Returns a copy of the ranges, if it takes no memory.
+    /// Returns a copy of the ranges, if that needs no allocation.
     pub fn copy_in_place(&self) -> Option<RangeList>
         ensures { IfSome result (λ copy. copy ≡ self.now) }
     {
@@ -115,7 +117,7 @@ impl RangeList {
         Some(RangeList { kept })
     }
 
-    /// Returns a copy of the ranges. It takes memory only if this list does.
+    /// Returns a copy of the ranges. It allocates only if this list is allocated. The error is out of memory.
     pub fn copy(&self, alloc: Global) -> Result<RangeList, AllocError>
         ensures { IfOk result (λ copy. copy ≡ self.now) }
     {
@@ -143,7 +145,7 @@ fn in_place(ranges: &[(char, char)]) -> Option<RangeList>
 impl From<Vec<(char, char)>> for RangeList {
     ghost from_gives = { λ list ranges. ranges ≡ list.items };
 
-    /// Returns the ranges of this list. It takes no memory.
+    /// Returns the ranges of this list. It allocates nothing.
     fn from(list: Vec<(char, char)>) -> RangeList {
         match in_place(&list) {
             Some(ranges) => ranges,

@@ -12,14 +12,16 @@ pub use crate::name::Name;
 use std::alloc::{AllocError, Global};
 use std::marker::Model;
 
-/// The tree of a pattern. A contract sees it as a tree of the definitions.
+/// The tree of a pattern.
+///
+/// For proofs: a contract sees it as a tree of the definitions.
 #[cycle(tree)]
 #[derive(Drop)]
 pub struct Tree {
     kind: Kind,
 }
 
-/// The kinds of a tree.
+/// What a tree is, with its parts.
 #[cycle(tree)]
 #[derive(Drop)]
 pub enum Kind {
@@ -47,7 +49,7 @@ pub enum Kind {
     },
     /// Trees one after another.
     Concat(Vec<Tree>),
-    /// A choice between trees, earlier ones preferred.
+    /// One of the trees, earlier ones preferred.
     Alternation(Vec<Tree>),
 }
 
@@ -113,7 +115,7 @@ impl Tree {
         }
     }
 
-    /// At least `min` and at most `max` times `sub`, without a bound where `max` is None.
+    /// Returns `sub` repeated at least `min` and at most `max` times, without an upper bound if `max` is None.
     pub fn repetition(min: u32, max: Option<u32>, greedy: bool, sub: Box<Tree>) -> Tree
         ensures { result ≡ spec.repetition min max greedy sub.value }
     {
@@ -136,7 +138,7 @@ impl Tree {
         }
     }
 
-    /// Returns the parts one after another.
+    /// Returns the sequence of the parts.
     pub fn concat(parts: Vec<Tree>) -> Tree
         ensures { result ≡ spec.sequence (trees_of parts.items) }
     {
@@ -145,7 +147,7 @@ impl Tree {
         }
     }
 
-    /// Returns a choice between the parts, earlier ones preferred.
+    /// Returns the alternation of the parts, earlier ones preferred.
     pub fn alternation(parts: Vec<Tree>) -> Tree
         ensures { result ≡ spec.alternation (trees_of parts.items) }
     {
@@ -176,7 +178,7 @@ pub fn escape(alloc: Global, text: &str) -> Result<String, AllocError>
     Ok(pattern)
 }
 
-/// Returns whether the character may have a meaning in a pattern.
+/// Returns whether [`escape`] puts a backslash before the character.
 fn is_marked(c: char) -> bool
     ensures { result ≡ is_marked c }
 {

@@ -1,10 +1,10 @@
-//! Searches from one place, and matches of the whole haystack.
+//! Anchored searches, and matches of the whole haystack.
 
 use bites_bytes::bytes;
 use regex_bites::{Captures, Error, Regex};
 use std::alloc::Global;
 
-/// A pattern, a haystack and a start; the ends of the first match that begins there, and of the longest.
+/// A pattern, a haystack and a start, and then the ends of the preferred match that begins there and of the longest.
 type Row = (
     &'static str,
     &'static str,
@@ -57,7 +57,7 @@ fn matches_from_one_place(rt: HostRuntime) {
     }
 }
 
-/// A pattern, a haystack, and whether the pattern matches the whole of it.
+/// A pattern, a haystack, and whether the pattern matches the whole haystack.
 const WHOLE: &[(&str, &str, bool)] = &[
     ("a|ab", "ab", true),
     ("a", "ab", false),
@@ -89,7 +89,7 @@ fn matches_of_the_whole_haystack(rt: HostRuntime) {
     }
 }
 
-/// The ends of groups 0, 1 and 2.
+/// The spans of groups 0, 1 and 2.
 type Groups = [Option<(usize, usize)>; 3];
 
 fn span(captures: &Captures<'_>, group: usize) -> Option<(usize, usize)> {
@@ -140,7 +140,7 @@ fn groups_from_one_place(rt: HostRuntime) -> Result<(), Error> {
     Ok(())
 }
 
-// The second group of a match that begins at 0, read into locations.
+// Returns the second group of a match that begins at 0, read into locations.
 fn second_group_read(
     alloc: Global,
     pattern: &str,

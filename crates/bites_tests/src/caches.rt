@@ -3,7 +3,7 @@
 use bites_bytes::bytes::{Cache, CaptureLocations, Error, Regex};
 use std::alloc::{AllocError, Global};
 
-// Whether the cache fits the regex of the pattern, and then where that matches first.
+// Returns whether the cache fits the regex of the pattern, and if so the first match.
 fn found(
     alloc: Global,
     cache: &mut Cache,
@@ -20,7 +20,7 @@ fn found(
     }
 }
 
-// A cache of the regex of a pattern, which is gone then.
+// Returns a cache for the regex of a pattern. The regex is dropped.
 fn cache_of(alloc: Global, pattern: &str) -> Result<Cache, Error> {
     Ok(Regex::new(alloc, pattern)?.cache()?)
 }
@@ -42,8 +42,8 @@ fn one_cache_for_haystacks_and_regexes(rt: HostRuntime) -> Result<(), Error> {
     Ok(())
 }
 
-/// The visited set of a new cache has a thousand generations left, so the first search here passes the greatest one. A set that
-/// isn't empty after it would end the thread that began at 0.
+/// The visited set of a new cache has a thousand generations left, so the first search here passes the greatest one. If
+/// the set were not empty after that, it would end the thread that began at 0.
 #[test]
 fn a_search_that_uses_up_the_generations(rt: HostRuntime) -> Result<(), Error> {
     let mut cache = cache_of(rt.alloc(), "(?:a|b)*c")?;
@@ -59,7 +59,7 @@ fn a_search_that_uses_up_the_generations(rt: HostRuntime) -> Result<(), Error> {
     Ok(())
 }
 
-// Whether the regex matches, and where two groups lie then, read into locations that may not fit it.
+// Returns whether the regex matches, and if so the spans of two groups, read into locations that may not fit it.
 fn read(
     regex: &Regex,
     locations: &mut CaptureLocations,

@@ -1,4 +1,4 @@
-//! The errors: their texts, and what comparisons and copies promise.
+//! The errors: their messages, and what comparisons and copies promise.
 
 ghost use Rattle.std.specs.Prelude.{◌≡◌, ◌↔◌, IsTrue, Ok};
 
@@ -18,7 +18,7 @@ fn copied(error: &Error) -> Result<Error, AllocError>
     error.clone()
 }
 
-/// The messages that no row asks, and one that rows ask.
+/// The messages that no row has, and one that rows have.
 #[test]
 fn texts(rt: HostRuntime) -> Result<(), AllocError> {
     for (error, text) in &[

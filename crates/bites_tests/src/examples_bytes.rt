@@ -127,3 +127,70 @@ fn at_leftmost_longest(rt: HostRuntime) -> Result<(), Fail> {
     assert_eq!(rt; found.range(), 0..7);
     Ok(())
 }
+
+#[test]
+fn at_captures_read(rt: HostRuntime) -> Result<(), Fail> {
+    let regex = Regex::new(rt.alloc(), "a(b)?")?;
+    let mut locations = regex.capture_locations()?;
+    let found = regex.captures_read(&mut locations, b"\xFFab")?;
+    assert!(rt; found.is_some());
+    assert_eq!(rt; locations.get(1), Some((2, 3)));
+    Ok(())
+}
+
+#[test]
+fn at_captures_iter(rt: HostRuntime) -> Result<(), Fail> {
+    let regex = Regex::new(rt.alloc(), "a(b)?")?;
+    let mut participates = Vec::new(rt.alloc());
+    for captures in regex.captures_iter(b"ab a")? {
+        participates.push(captures?.get(1).is_some())?;
+    }
+    assert_eq!(rt; participates.as_slice(), [true, false].as_slice());
+    Ok(())
+}
+
+#[test]
+fn at_name(rt: HostRuntime) -> Result<(), Fail> {
+    let regex = Regex::new(rt.alloc(), r"(?<hour>\d+):(?<minute>\d+)")?;
+    let captures = regex.captures(b"at 12:34")?.ok_or("no match")?;
+    let minute = captures.name("minute").ok_or("no minute")?;
+    assert_eq!(rt; minute.as_bytes(), b"34".as_slice());
+    Ok(())
+}
+
+#[test]
+fn at_splitn(rt: HostRuntime) -> Result<(), Fail> {
+    let regex = Regex::new(rt.alloc(), ",")?;
+    let mut lengths = Vec::new(rt.alloc());
+    for piece in regex.splitn(b"a,b,\xFF", 2)? {
+        lengths.push(piece.len())?;
+    }
+    assert_eq!(rt; lengths.as_slice(), [1, 3].as_slice());
+    Ok(())
+}
+
+#[test]
+fn at_replacen(rt: HostRuntime) -> Result<(), Fail> {
+    let regex = Regex::new(rt.alloc(), "a")?;
+    let replaced = regex.replacen(b"aaa\xFF", 2, b"b".as_slice())?;
+    assert_eq!(rt; replaced.as_slice(), b"bba\xFF".as_slice());
+    Ok(())
+}
+
+#[test]
+fn at_replacen_with(rt: HostRuntime) -> Result<(), Fail> {
+    let regex = Regex::new(rt.alloc(), r"\d+")?;
+    let mut cache = regex.cache()?;
+    let first = regex.replacen_with(&mut cache, b"1 and 2", 1, b"n".as_slice())?;
+    assert_eq!(rt; first.as_slice(), b"n and 2".as_slice());
+    Ok(())
+}
+
+#[test]
+fn at_builder(rt: HostRuntime) -> Result<(), Fail> {
+    let mut builder = RegexBuilder::new(rt.alloc(), "abc")?;
+    builder.case_insensitive(true);
+    let regex = builder.build()?;
+    assert!(rt; regex.is_match(b"\xFFABC")?);
+    Ok(())
+}

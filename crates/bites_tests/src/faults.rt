@@ -1,4 +1,4 @@
-//! Faults of the program `bites`: which comes first, and what is told of it.
+//! Faults of the program `bites`: which comes first, and what is reported.
 
 use crate::words::{expect_faults, run_on};
 use bites_cli::{refuse_words, run};
@@ -14,7 +14,7 @@ const NOT_READ: &str = "bites: cannot read standard input\n";
 
 const NOT_WRITTEN: &str = "bites: cannot write standard output\n";
 
-/// A line for each word, of which something is written over `banana`.
+/// A line for each word, for which something is written over `banana`.
 const LINES: &[&str] = &[
     "is a",
     "find a",
@@ -47,7 +47,7 @@ impl<'a> Read for Broken<'a> {
     }
 }
 
-/// Takes so many bytes and then fails. It counts how often it is asked.
+/// Takes `room` bytes and then fails. It counts its calls.
 #[derive(Drop)]
 struct Full {
     room: usize,
@@ -76,7 +76,7 @@ impl Write for Full {
     }
 }
 
-/// Takes all bytes, and fails where they must be out.
+/// Takes all bytes, and fails when it is flushed.
 #[derive(Drop)]
 struct Stuck;
 
@@ -90,7 +90,7 @@ impl Write for Stuck {
     }
 }
 
-/// The status and what is told where the words of a line are run on these streams.
+/// Runs the words of a line on these streams. Returns the status and what is reported.
 fn told<R: Read, W: Write>(
     alloc: Global,
     line: &str,
@@ -144,7 +144,7 @@ fn no_words(rt: HostRuntime) {
     assert_eq!(rt; (status, err.as_slice()), (2, USAGE.as_bytes()));
 }
 
-// What is told of words that could not be read.
+// Returns the status and what is reported if the words could not be read.
 fn told_of(alloc: Global, kind: io::ErrorKind) -> (u8, Vec<u8>) {
     let mut err = Vec::new(alloc);
     let status = refuse_words(&io::Error::from(kind), &mut err);

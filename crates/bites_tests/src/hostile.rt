@@ -1,12 +1,12 @@
-//! Patterns that are long: each is answered by the grammar and the limits, and soon.
+//! Long patterns: the grammar and the limits decide on each of them quickly.
 
 use bites_bytes::bytes::{Error, Regex};
 use std::alloc::{AllocError, Global};
 
-/// How many times the marked part of a long pattern stands there.
+/// How many times the marked part of a long pattern is repeated.
 const MANY: usize = 1000000;
 
-/// The pattern whose part between `«` and `»` stands there so many times.
+/// Returns the pattern with its part between `«` and `»` repeated [`MANY`] times.
 fn long(alloc: Global, pattern: &str) -> Result<String, AllocError> {
     let (front, rest) = pattern.split_once('«').unwrap_or((pattern, ""));
     let (part, back) = rest.split_once('»').unwrap_or((rest, ""));
@@ -18,7 +18,7 @@ fn long(alloc: Global, pattern: &str) -> Result<String, AllocError> {
     Ok(text)
 }
 
-/// The least end of a match of the pattern.
+/// Returns the least end of a match of the pattern.
 fn shortest(alloc: Global, pattern: &str, haystack: &str) -> Result<Option<usize>, Error> {
     let regex = Regex::new(alloc, pattern)?;
     Ok(regex.shortest_match(haystack.as_bytes())?)
@@ -33,7 +33,7 @@ fn long_patterns_are_refused(rt: HostRuntime) -> Result<(), AllocError> {
         ("«(»", Error::TooMuchNesting),
         ("«(?:»", Error::TooMuchNesting),
         ("«[»", Error::NestedClass),
-        // The height is asked behind every other fault.
+        // The height of the tree is checked after every other fault.
         ("a«*»(", Error::UnclosedGroup),
         ("«a»", Error::TooBig),
         ("«|»", Error::TooBig),

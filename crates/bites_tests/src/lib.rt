@@ -1,10 +1,17 @@
-//! Tests of what no row, no contract and no wrong program says: what `Debug` and errors print, the examples of the first page,
-//! of the items and of the README, characters in bytes, patterns of a million characters, programs made by hand, caches and
-//! locations that are used more than once, and what the program `bites` writes, also where its streams fail. The libraries have
-//! no tests of their own, so that each is proved once. No expected value comes from this engine.
+//! Tests of what no row, no contract and no wrong program covers:
 //!
-//! Each `?` and each assertion makes the proof of a test longer: rows are a slice, walked by one loop, and what many
-//! tests ask is a function.
+//! - what `Debug` and errors print
+//! - the examples of the first page, of the items and of the README
+//! - characters in bytes
+//! - patterns of a million characters
+//! - programs made by hand
+//! - caches and locations that are used more than once
+//! - what the program `bites` writes, even if its streams fail
+//!
+//! The libraries have no tests of their own, so that each is proved once. No expected value comes from this engine.
+//!
+//! Each `?` and each assertion makes the proof of a test longer. So rows are a slice that one loop goes through, and
+//! what many tests do is a function.
 #![tactic(auto)]
 
 #[cfg(test)]

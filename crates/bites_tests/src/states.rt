@@ -1,4 +1,4 @@
-//! Programs made by hand, each with state 0 as its start: which states are a program, and what their runs are.
+//! Programs made by hand, each with state 0 as its start: which states make a program, and what its runs are.
 
 use bites_machine::program::{BadProgram, Program, State};
 use bites_machine::vm;
@@ -23,7 +23,7 @@ fn goto(target: u32) -> State {
     State::Goto { target, look: None }
 }
 
-// The fault of one state, which starts a program of so many slots.
+// Returns the fault of a program of one state, with `slots` slots.
 fn fault(alloc: Global, state: State, slots: u32) -> Result<Option<BadProgram>, AllocError> {
     let states = vec![in alloc; state]?;
     Ok(Program::from_states(alloc, states, 0, slots).err())
@@ -62,7 +62,7 @@ fn faults_of_ranges(rt: HostRuntime) -> Result<(), AllocError> {
 
 type Slots = [Option<usize>; 2];
 
-// The slots of the first run of a program, or of the longest.
+// Returns the slots of the first run of a program, or of the longest.
 fn by_machine(
     program: &Program,
     haystack: &[u8],
@@ -78,7 +78,7 @@ fn by_machine(
     Ok(if found { Some(slots) } else { None })
 }
 
-// The slots of the first run of these states, or of the longest.
+// Returns the slots of the first run of these states, or of the longest.
 fn slots_of(
     alloc: Global,
     states: Vec<State>,
@@ -120,7 +120,7 @@ fn a_run_that_writes_slots(rt: HostRuntime) -> Result<(), Fail> {
     Ok(())
 }
 
-/// The longest run goes the way that writes no slot.
+/// The longest run takes the branch that writes no slot.
 #[test]
 fn the_longest_run(rt: HostRuntime) -> Result<(), Fail> {
     let choice = splits(rt.alloc(), &[1, 4])?;

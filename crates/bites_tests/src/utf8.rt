@@ -15,13 +15,13 @@ const ROWS: &[&[(u8, u8)]] = &[
     &[(0xF4, 0xF4), (0x80, 0x8F), (0x80, 0xBF), (0x80, 0xBF)],
 ];
 
-/// Each byte at an end of a range of the table, and the bytes beside them.
+/// Each byte at an end of a range of the table, and the bytes next to it.
 const BYTES: &[u8] = &[
     0x00, 0x7F, 0x80, 0x8F, 0x90, 0x9F, 0xA0, 0xBF, 0xC0, 0xC1, 0xC2, 0xDF, 0xE0, 0xE1, 0xEC, 0xED,
     0xEE, 0xEF, 0xF0, 0xF1, 0xF3, 0xF4, 0xF5, 0xFF,
 ];
 
-/// How many bytes at the front the row fits.
+/// Returns how many of the first bytes the row fits.
 fn fitting(row: &[(u8, u8)], bytes: &[u8]) -> usize {
     let mut len = 0usize;
     for ((low, high), byte) in row.iter().zip(bytes) {
@@ -33,7 +33,7 @@ fn fitting(row: &[(u8, u8)], bytes: &[u8]) -> usize {
     len
 }
 
-/// The length of the piece at the front, and whether a whole row stands there.
+/// Returns whether the bytes begin with a whole row, and the length of the first piece.
 fn by_table(bytes: &[u8]) -> (bool, usize) {
     let mut longest = bytes.len().min(1);
     for row in ROWS {
@@ -46,7 +46,7 @@ fn by_table(bytes: &[u8]) -> (bool, usize) {
     (false, longest)
 }
 
-/// The piece at the front as std's own reader of lossy text has it.
+/// Returns the first piece as std's own decoder of lossy text reads it.
 fn by_std(bytes: &[u8]) -> (Option<char>, usize) {
     match bytes.utf8_chunks().next() {
         None => (None, 0),
@@ -57,7 +57,7 @@ fn by_std(bytes: &[u8]) -> (Option<char>, usize) {
     }
 }
 
-/// Whether both readers of characters answer what the table and std say.
+/// Returns whether both decoders agree with the table and with std.
 fn agree(bytes: &[u8]) -> bool {
     let (decoded, len) = decode(bytes);
     let lossy = (decoded.unwrap_or('\u{FFFD}'), len);
@@ -66,7 +66,7 @@ fn agree(bytes: &[u8]) -> bool {
         && (decoded.is_some(), len) == by_table(bytes)
 }
 
-/// The same for each front of the bytes.
+/// Like [`agree`], but for each prefix of the bytes.
 fn agree_on_fronts(bytes: &[u8]) -> bool {
     for len in 0..=bytes.len() {
         if !agree(bytes.get(..len).unwrap_or(bytes)) {

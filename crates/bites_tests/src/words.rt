@@ -5,7 +5,7 @@ use std::alloc::{AllocError, Global};
 use std::io::{Read, Write};
 use std::process::Abort;
 
-/// The words of a line, parted by single spaces; two spaces, or one at the end, have an empty word behind them.
+/// Returns the words of a line, separated by single spaces. Two spaces, or a space at the end, give an empty word.
 fn words_of(alloc: Global, line: &str) -> Result<Vec<String>, AllocError> {
     let mut words = Vec::new(alloc);
     for word in line.split(' ') {
@@ -42,7 +42,7 @@ fn expect(
     Ok(())
 }
 
-/// Compares for each line, with an input, the status and what is written; nothing may be told.
+/// Compares the status and what is written for each line and its input. Nothing may be reported.
 pub fn expect_answers(
     rt: &(impl Abort + AllocGlobal),
     rows: &[(&str, &[u8], u8, &str)],
@@ -53,7 +53,7 @@ pub fn expect_answers(
     Ok(())
 }
 
-/// Compares for each line what is told of its fault, with an input that matches; nothing may be written.
+/// Compares what is reported for each line that has a fault, with an input that matches. Nothing may be written.
 pub fn expect_faults(
     rt: &(impl Abort + AllocGlobal),
     rows: &[(&str, &str)],

@@ -3,7 +3,7 @@ use Rattle.std.specs.Prelude.{ℕ, if◌then◌else◌, ◌==◌}
 use Rattle.bites_spec.specs.Range.{Range}
 use Rattle.bites_spec.specs.Utf8.{continuation}
 
--- the second byte after a first one, in the rows of two bytes and more
+-- the range of the second byte after a first one, in the rows of two or more bytes
 abbrev pub second_range : ℕ → Range
 second_range first =
     if first == 0xE0 then (0xA0, 0xBF)

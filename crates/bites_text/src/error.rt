@@ -246,8 +246,8 @@ impl<T: Drop> From<AllocFailed<T>> for Error {
     }
 }
 
-/// A law: the error of each message of the grammar has that message's text, and no two messages
-/// have the same error.
+/// For proofs: the error of each message of the grammar has that message's text, and no two messages have the same
+/// error.
 pub fn texts_are_the_messages()
     ensures { TextsAgree }
 {}

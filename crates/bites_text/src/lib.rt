@@ -1,4 +1,4 @@
-//! The messages that refuse a pattern, and the characters in bytes.
+//! The errors that refuse a pattern, and the decoding of UTF-8.
 #![tactic(auto)]
 
 pub mod error;

@@ -1,5 +1,7 @@
-//! Characters in bytes. Bytes that are not UTF-8 are cut into pieces. Each longest prefix of a
-//! character is a piece, and so is each byte that begins no character.
+//! Decoding of UTF-8, for bytes that need not be UTF-8.
+//!
+//! Bytes are cut into pieces. A piece is a whole character, the longest prefix of one, or one byte that begins no
+//! character.
 
 ghost use Rattle.std.specs.Prelude.{◌≡◌, ◌∷◌, ◌<◌, ◌≤◌, length};
 ghost use Rattle.bites_spec.specs.Look as look;
@@ -7,10 +9,10 @@ ghost use Rattle.bites_spec.specs.Range.{in_range};
 ghost use Rattle.bites_spec.specs.Utf8.{character, continuation, front_piece};
 ghost use Rattle.bites_text.specs.Rows.{second_range};
 
-/// Returns the first piece of the bytes: its character, and how many bytes it takes. The character
-/// is `None` if the piece is not a whole one. A piece takes one to four bytes, and none at the end.
+/// Returns the first piece of the bytes: its character, or `None` if it is not a whole one, and its length in bytes.
+/// The length is 1 to 4, and 0 if there are no bytes.
 ///
-/// It looks at four bytes at most.
+/// It reads at most four bytes.
 #[inline(always)]
 pub fn decode(bytes: &[u8]) -> (Option<char>, usize)
     ensures decoded { result.0 ≡ (front_piece bytes.now).decoded }
@@ -51,7 +53,7 @@ pub const fn is_word_byte(byte: u8) -> bool
     matches!(byte, b'0'..=b'9' | b'A'..=b'Z' | b'a'..=b'z' | b'_')
 }
 
-/// Returns the piece of a first byte that one more byte follows in a character.
+/// Decodes the first piece, whose first byte is that of a character of two bytes.
 #[inline(never)]
 fn decode_two(first: u8, rest: &[u8]) -> (Option<char>, usize)
     requires from { 0xC2 ≤ first }
@@ -68,7 +70,7 @@ fn decode_two(first: u8, rest: &[u8]) -> (Option<char>, usize)
     }
 }
 
-/// Returns the piece of a first byte that two more bytes follow in a character.
+/// Decodes the first piece, whose first byte is that of a character of three bytes.
 #[inline(never)]
 fn decode_three(first: u8, rest: &[u8]) -> (Option<char>, usize)
     requires from { 0xE0 ≤ first }
@@ -87,7 +89,7 @@ fn decode_three(first: u8, rest: &[u8]) -> (Option<char>, usize)
     }
 }
 
-/// Returns the piece of a first byte that three more bytes follow in a character.
+/// Decodes the first piece, whose first byte is that of a character of four bytes.
 #[inline(never)]
 fn decode_four(first: u8, rest: &[u8]) -> (Option<char>, usize)
     requires from { 0xF0 ≤ first }
@@ -109,7 +111,7 @@ fn decode_four(first: u8, rest: &[u8]) -> (Option<char>, usize)
     }
 }
 
-/// Returns whether the byte may follow this first one of three or four.
+/// Returns whether `second` may follow `first`, the first byte of a character of three or four bytes.
 const fn is_second(first: u8, second: u8) -> bool
     ensures { result ≡ in_range (second_range first) second }
 {

@@ -1,11 +1,11 @@
--- How what the calls of one regex answer agrees.
+-- What the calls on one regex return agrees.
 use Rattle.std.proofs.Common.{◌≡◌, ℕ, ◌≤◌, List, Option, Some, None, option_map, length, refl, sym, ap, ◌∙◌, subst, true≢false}
 use Rattle.std.specs.Prelude.{IsSome, IfSome}
 use Rattle.bites_spec.specs.Measure.{static_captures_len}
 use Rattle.bites_spec.specs.Match.{Span, span}
 use Rattle.bites_spec.specs.Found.{Answer, FoundSome, IsLeastEnd}
 use Rattle.bites_spec.specs.Run.{Run, slots}
-use Rattle.bites_spec.specs.Slots.{group_in, taking_part, span_of_run}
+use Rattle.bites_spec.specs.Slots.{group_in, participating, span_of_run}
 use Rattle.bites_spec.specs.Regex.{Regex, IsCompiled, run_at, span_at, slots_at}
 use Rattle.bites_spec.specs.Captured.{Captured, captured, Excerpt, excerpt, FindsMatch, AreGroups}
 use Rattle.bites_spec.proofs.Laws as laws
@@ -31,7 +31,7 @@ module _ (r : Regex) (hay : List ℕ) (s : ℕ) where
   no_run None e = refl
   no_run (Some x) e = let never : None ≡ Some (captured r hay (slots r.program x)) = e in cc
 
-  -- where no captures are answered, the search finds nothing
+  -- where no captures are returned, the search finds nothing
   pub no_captures : None ≡ option_map (captured r hay) (slots_at r hay s) → option_map (excerpt hay) (span_at r hay s) ≡ None
   no_captures = no_run (run_at r hay s)
 
@@ -58,14 +58,14 @@ module _ (r : Regex) (hay : List ℕ) (s : ℕ) where
         let at : c ≡ captured r hay l = cc in
         subst (λ (d : Captured). AreGroups r hay d.slots) (sym at) (laws.slots_are_groups r is hay s l e)
 
-    -- group 0 took part
-    pub whole_takes_part : (o : Option Captured) → o ≡ option_map (captured r hay) (slots_at r hay s) → IfSome o (λ c. IsSome (group_in c.slots 0))
-    whole_takes_part None e = tt
-    whole_takes_part (Some c) e = (groups_of (slots_at r hay s) refl c e).whole
+    -- group 0 participates
+    pub whole_participates : (o : Option Captured) → o ≡ option_map (captured r hay) (slots_at r hay s) → IfSome o (λ c. IsSome (group_in c.slots 0))
+    whole_participates None e = tt
+    whole_participates (Some c) e = (groups_of (slots_at r hay s) refl c e).whole
 
     -- and at least as many as the form says
     pub enough_take_part : (n : Option ℕ) → n ≡ static_captures_len r.tree → (o : Option Captured) →
-        o ≡ option_map (captured r hay) (slots_at r hay s) → IfSome n (λ k. IfSome o (λ c. k ≤ length (taking_part c.slots)))
+        o ≡ option_map (captured r hay) (slots_at r hay s) → IfSome n (λ k. IfSome o (λ c. k ≤ length (participating c.slots)))
     enough_take_part None is_len o e = tt
     enough_take_part (Some k) is_len None e = tt
     enough_take_part (Some k) is_len (Some c) e = (groups_of (slots_at r hay s) refl c e).enough k (sym is_len)

@@ -21,7 +21,7 @@ use Rattle.bites_bytes.specs.Settings.{Refuses, fault, limit}
 above : (n m : ℕ) → (n ≤ m → ⊥) → m < n
 above n m h = omega (arith, h)
 
--- an error that refuses a tree that is refused by its weight alone
+-- an error that refuses a tree that is refused by its size alone
 by_size : (t : Tree) → (program_size t ≤ 10485760 → ⊥) → (e : Error) → e ≢ Memory → RefusesTree 10485760 (groups_left t) t e → e ≡ TooBig
 by_size t heavy TooBig known h = refl
 by_size t heavy TooManyStates known h = absurd (heavy h.0)

@@ -1,4 +1,4 @@
--- What a search's clauses on the tree say of the groups that it answers.
+-- What a search's clauses on the tree say of the groups that it returns.
 use Rattle.std.proofs.Common.{◌≡◌, ℕ, List, Option, Some, None, option_map, sym, ap, ◌∙◌, subst}
 use Rattle.bites_spec.specs.Match.{Span, span}
 use Rattle.bites_spec.specs.Found.{Answer, Finds}

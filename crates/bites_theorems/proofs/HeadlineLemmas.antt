@@ -13,7 +13,7 @@ use Rattle.bites_spec.specs.TextLaws.{HasBorders}
 use Rattle.regex_bites.specs.Borders.{GroupsAtBorders}
 use Rattle.bites_theorems.specs.Headline.{MatchesOver, IsFirstMatch, EndsAsPreferred, EndsLast, MatchHeadline, Headline, AreFirstGroups, AreOfParse, AreOfOneParse, AreOfPreferredParse, AreOfLongestParse, AreOfPreferredLongestParse}
 
--- over texts, from a border on, an answer begins and ends at borders, and so do its groups
+-- over texts, from a border on, a result begins and ends at borders, and so do its groups
 answer_borders : (t : Tree) (hay : List ℕ) (s : ℕ) → IsUtf8 hay → (s ≤ length hay → IsCharBoundary hay s) → (a : Answer) →
     FoundSome t hay s (Some a) → HasBorders hay (span a.start a.end) × ((k : ℕ) (g : Span) → a.group k ≡ Some g → HasBorders hay g)
 answer_borders t hay s utf8 border a f =

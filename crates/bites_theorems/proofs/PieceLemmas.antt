@@ -12,7 +12,7 @@ module _ (r : Regex) (is : IsCompiled r) (hay : List ℕ) where
       × (alternate (map (text_at hay) (gaps (length hay) (spans_in r hay))) (map (text_at hay) (spans_in r hay)) ≡ hay)
   whole = laws.pieces_and_matches hay (spans_in r hay) (laws.matches_stand_apart r hay (spans_in r hay) (laws.finds_are_successive r is hay)).0
 
-  -- there is one piece more than there are matches
+  -- there is one more piece than there are matches
   pub pieces_are_one_more : length (pieces_in r hay) ≡ length (map (excerpt hay) (spans_in r hay)) + 1
   pieces_are_one_more =
       length-map (gaps (length hay) (spans_in r hay)) (text_at hay)

@@ -14,15 +14,15 @@ use Rattle.bites_spec.specs.Replace.{Served}
 use Rattle.bites_spec.specs.Replaced.{span_in}
 use Rattle.bites_spec.specs.AllMatches.{AreMatches}
 use Rattle.bites_spec.proofs.Laws as laws
-use Rattle.bites_theorems.specs.Promises.{StandApart, GrowBehindFirst}
+use Rattle.bites_theorems.specs.Promises.{StandApart, GrowAfterFirst}
 
 -- all matches of a tree stand apart
 pub stand_apart : (r : Regex) (hay : List ℕ) (ss : List Span) → AreMatches r hay ss → StandApart (length hay) ss
-stand_apart r hay ss all = let apart = laws.matches_stand_apart r hay ss all in (apart.0, behind_first ss apart.1)
+stand_apart r hay ss all = let apart = laws.matches_stand_apart r hay ss all in (apart.0, after_first_part ss apart.1)
   where
-    behind_first : (ss : List Span) → ((x : Span) (xs : List Span) → ss ≡ x ∷ xs → EndsGrow x.end xs) → GrowBehindFirst ss
-    behind_first [] grow = tt
-    behind_first (x ∷ xs) grow = grow x xs refl
+    after_first_part : (ss : List Span) → ((x : Span) (xs : List Span) → ss ≡ x ∷ xs → EndsGrow x.end xs) → GrowAfterFirst ss
+    after_first_part [] grow = tt
+    after_first_part (x ∷ xs) grow = grow x xs refl
 
 known : Option Span → Span
 known o = unwrap_or o (span 0 0)
@@ -46,7 +46,7 @@ module _ (r : Regex) (is : IsCompiled r) (hay : List ℕ) where
   spans_of_captures =
       sym (known_groups (captures_in r hay)) ∙ ap (map known) (laws.captures_have_spans r is hay) ∙ known_spans (spans_in r hay)
 
-  -- the haystack with a text in the place of each match
+  -- the haystack with each match replaced by a text
   pub replaced_is_joined : (u bytes : List ℕ) (texts : List (List ℕ)) → texts ≡ map (λ c. u) (captures_in r hay) →
       bytes ≡ replaced hay 0 (map span_in (captures_in r hay)) texts → bytes ≡ joined_by u (pieces_in r hay)
   replaced_is_joined u bytes texts same is_replaced =
@@ -55,7 +55,7 @@ module _ (r : Regex) (is : IsCompiled r) (hay : List ℕ) where
       ∙ ap (λ ss. replaced hay 0 ss (map (λ s. u) ss)) spans_of_captures
       ∙ laws.replaced_is_joined hay u (spans_in r hay)
 
--- the texts where the replacer answered one for all matches
+-- the texts where the replacer returned one for all matches
 pub text_served : {S : Type 0} (gives : S → Captured → List ℕ → S → Type 0) (answers : S → Option (List ℕ) → S → Type 0)
     (answer : Option (List ℕ)) (u : List ℕ) (asked : S) (cs : List Captured) (texts : List (List ℕ)) (end : S) → answer ≡ Some u →
     Served gives answers answer asked cs texts end → texts ≡ map (λ c. u) cs
@@ -94,7 +94,7 @@ module _ {M : Type 0} (f : M → Excerpt) (hay : List ℕ) where
   some_parts [] = refl
   some_parts (m ∷ ms) = ap (λ l. Some (f m) ∷ l) (some_parts ms)
 
--- where group 0 took part in a match
+-- group 0 of a match
 abbrev pub whole_of : Captured → Option Excerpt
 whole_of c = option_map (excerpt c.haystack) (group_in c.slots 0)
 

@@ -1,4 +1,4 @@
--- What the headline says of what a search answers.
+-- What the headline says of what a search returns.
 use Rattle.std.specs.Prelude.{◌≡◌, ℕ, ◌≤◌, true, false, List, length, Option, Some, None}
 use Rattle.bites_spec.specs.Tree.{Tree, IsPlain}
 use Rattle.bites_spec.specs.Match.{Span, Mark, Matches, Parse, groups}
@@ -23,7 +23,8 @@ module _ (t : Tree) (hay : List ℕ) (g : Span) where
   EndsLast = (l : ℕ) → Matches hay t g.start l → l ≤ g.end
 
 module _ (t : Tree) (hay : List ℕ) (s : ℕ) where
-  -- In the slots stand the groups of one parse, of which Q holds; it begins at the first place from s on at which the tree matches.
+  -- In the slots stand the groups of one parse, of which Q holds. It begins at the first place from s on at which the tree
+  -- matches.
   pub record AreOfParse (Q : (i j : ℕ) → List Mark → Type 0) (slots : List (Option ℕ)) : Type 0 where
     pub start : ℕ
     pub end : ℕ
@@ -51,21 +52,22 @@ module _ (t : Tree) (hay : List ℕ) (s : ℕ) where
       AreOfParse (λ i j ms. ((l : ℕ) → Matches hay t i l → l ≤ j) × (first_ending j (parses hay t i) ≡ Some (parse_to j ms)))
 
 module _ (regex : Regex) (hay : List ℕ) (start : ℕ) where
-  -- A match that begins at the first place from the start on at which the tree matches. Where the tree is plain it ends as the
-  -- pattern prefers; where the longest match is asked for, it ends last.
+  -- A match that begins at the first place from the start on at which the tree matches. If the longest match is asked for, it
+  -- ends last; otherwise, if the tree is plain, it ends as the pattern prefers.
   pub record IsFirstMatch (g : Span) : Type 0 where
     pub first : IsFirstPlace regex.tree hay start g.start
     pub matches : MatchesOver regex.tree hay g
     pub preferred : regex.leftmost_longest ≡ false → IsPlain regex.tree → EndsAsPreferred regex.tree hay g
     pub longest : regex.leftmost_longest ≡ true → EndsLast regex.tree hay g
 
-  -- the search answers such a match, or that the tree matches nowhere
+  -- the search returns such a match, or the tree matches nowhere
   abbrev pub MatchHeadline : Option Span → Type 0
   MatchHeadline None = NoMatch regex.tree hay start
   MatchHeadline (Some g) = IsFirstMatch g
 
-  -- In the slots stand the groups of one parse from the first place from the start on at which the tree matches. Where the
-  -- tree is plain it is the preferred parse; where the longest match is asked for, a longest one, and the preferred of those.
+  -- In the slots stand the groups of one parse from the first place from the start on at which the tree matches. If the longest
+  -- match is asked for, it is a longest parse, and if the tree is plain too, the preferred of those; otherwise, if the tree is
+  -- plain, it is the preferred parse.
   pub record AreFirstGroups (slots : List (Option ℕ)) : Type 0 where
     pub one_parse : AreOfOneParse regex.tree hay start slots
     pub preferred : regex.leftmost_longest ≡ false → IsPlain regex.tree → AreOfPreferredParse regex.tree hay start slots
@@ -78,13 +80,13 @@ module _ (regex : Regex) (hay : List ℕ) (start : ℕ) where
     pub haystack_is : c.haystack ≡ hay
     pub groups : AreFirstGroups c.slots
 
-  -- the search answers such captures, or that the tree matches nowhere
+  -- the search returns such captures, or the tree matches nowhere
   abbrev pub Headline : Option Captured → Type 0
   Headline None = NoMatch regex.tree hay start
   Headline (Some c) = AreFirstCaptures c
 
 module _ (t : Tree) (hay : List ℕ) (s : ℕ) where
-  -- Q holds of one parse from s, and its groups stand in the slots.
+  -- In the slots stand the groups of one parse from s, of which Q holds.
   pub record AreOfParseAt (Q : (j : ℕ) → List Mark → Type 0) (slots : List (Option ℕ)) : Type 0 where
     pub end : ℕ
     pub marks : List Mark
@@ -110,8 +112,8 @@ module _ (t : Tree) (hay : List ℕ) (s : ℕ) where
       AreOfParseAt (λ j ms. ((l : ℕ) → Matches hay t s l → l ≤ j) × (first_ending j (parses hay t s) ≡ Some (parse_to j ms)))
 
 module _ (regex : Regex) (hay : List ℕ) (start : ℕ) where
-  -- A match that begins at the start itself. Where the tree is plain it ends as the pattern prefers; where the longest match is
-  -- asked for, it ends last.
+  -- A match that begins at the start itself. If the longest match is asked for, it ends last; otherwise, if the tree is plain, it
+  -- ends as the pattern prefers.
   pub record IsMatchHere (g : Span) : Type 0 where
     pub within : start ≤ length hay
     pub begins : g.start ≡ start
@@ -119,13 +121,13 @@ module _ (regex : Regex) (hay : List ℕ) (start : ℕ) where
     pub preferred : regex.leftmost_longest ≡ false → IsPlain regex.tree → EndsAsPreferred regex.tree hay g
     pub longest : regex.leftmost_longest ≡ true → EndsLast regex.tree hay g
 
-  -- the search from there alone answers such a match, or that the tree matches nothing there
+  -- the search from there alone returns such a match, or the tree matches nothing there
   abbrev pub AnchoredMatchHeadline : Option Span → Type 0
   AnchoredMatchHeadline None = HasMatchFrom regex.tree hay start → ⊥
   AnchoredMatchHeadline (Some g) = IsMatchHere g
 
-  -- In the slots stand the groups of one parse from the start itself. Where the tree is plain it is the preferred parse; where
-  -- the longest match is asked for, a longest one, and the preferred of those.
+  -- In the slots stand the groups of one parse from the start itself. If the longest match is asked for, it is a longest parse,
+  -- and if the tree is plain too, the preferred of those; otherwise, if the tree is plain, it is the preferred parse.
   pub record AreGroupsHere (slots : List (Option ℕ)) : Type 0 where
     pub within : start ≤ length hay
     pub one_parse : AreOfOneParseAt regex.tree hay start slots
@@ -139,13 +141,13 @@ module _ (regex : Regex) (hay : List ℕ) (start : ℕ) where
     pub haystack_is : c.haystack ≡ hay
     pub groups : AreGroupsHere c.slots
 
-  -- the search from there alone answers such captures, or that the tree matches nothing there
+  -- the search from there alone returns such captures, or the tree matches nothing there
   abbrev pub AnchoredHeadline : Option Captured → Type 0
   AnchoredHeadline None = HasMatchFrom regex.tree hay start → ⊥
   AnchoredHeadline (Some c) = AreCapturesHere c
 
 module _ (regex : Regex) (hay : List ℕ) where
-  -- In the slots stand the groups of one parse of the whole haystack; where the tree is plain, of the one that the pattern prefers.
+  -- In the slots stand the groups of one parse of the whole haystack; if the tree is plain, of the one that the pattern prefers.
   pub record AreFullGroups (slots : List (Option ℕ)) : Type 0 where
     pub one_parse : AreOfParseAt regex.tree hay 0 (λ j ms. j ≡ length hay) slots
     pub preferred : IsPlain regex.tree →
@@ -157,7 +159,7 @@ module _ (regex : Regex) (hay : List ℕ) where
     pub haystack_is : c.haystack ≡ hay
     pub groups : AreFullGroups c.slots
 
-  -- such captures are answered, or that the tree does not match the whole haystack
+  -- the search returns such captures, or the tree does not match the whole haystack
   abbrev pub FullHeadline : Option Captured → Type 0
   FullHeadline None = IsFullMatch regex.tree hay → ⊥
   FullHeadline (Some c) = AreFullCaptures c

@@ -17,12 +17,12 @@ module _ (r : Regex) (hay : List ℕ) where
   abbrev pub ArePiecesUpTo : ℕ → List (List ℕ) → Type 0
   ArePiecesUpTo n texts = (ss : List Span) × AreMatches r hay ss × (texts ≡ map (text_at hay) (gaps_up_to n (length hay) ss))
 
-  -- the haystack with the first n matches of the tree, all for 0, replaced by the text of each
+  -- the haystack with the first n matches of the tree, or all for 0, replaced by the text of each
   abbrev pub IsReplaced : ℕ → (Captured → List ℕ) → List ℕ → Type 0
   IsReplaced n text result =
       (cs : List Captured) × AreCaptures r hay cs × (result ≡ replaced hay n (map span_in cs) (map text (limited n cs)))
 
-  -- and replaced as a replacer says, by what it gives and what it answers
+  -- the haystack with them replaced as a replacer says, by what it gives and what it returns
   abbrev pub ReplacesMatches : {S : Type 0} → (S → Captured → List ℕ → S → Type 0) → (S → Option (List ℕ) → S → Type 0) →
       ℕ → S → List ℕ → S → Type 0
   ReplacesMatches gives answers n s result t =

@@ -13,7 +13,7 @@ abbrev pub WithinRefuses : Type 0
 WithinRefuses =
     (LiesWithin (span 1 3) (span 0 2) → ⊥) × (LiesWithin (span 1 3) (span 2 4) → ⊥) × (LiesWithin (span 1 3) (span 3 2) → ⊥)
 
--- an end that comes later, and one that is missing, or there alone
+-- an end that comes later, and one that is missing or there alone
 abbrev pub NoLaterRefuses : Type 0
 NoLaterRefuses = (IsNoLater (Some 2) (Some 1) → ⊥) × (IsNoLater None (Some 1) → ⊥) × (IsNoLater (Some 1) None → ⊥)
 

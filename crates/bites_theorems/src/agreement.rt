@@ -1,8 +1,8 @@
-//! How the calls on one regex agree.
+//! How calls on one regex agree.
 
 ghost use Rattle.std.specs.Prelude.{◌≡◌, ◌≤◌, length, is_some, option_map, IsSome, IfOk, IfSome, IsCharBoundary};
 ghost use Rattle.bites_spec.specs.Counts.{fit_of};
-ghost use Rattle.bites_spec.specs.Slots.{group_in, taking_part};
+ghost use Rattle.bites_spec.specs.Slots.{group_in, participating};
 ghost use Rattle.bites_bytes.specs.Matched as bytes;
 ghost use Rattle.regex_bites.specs.Matched as texts;
 ghost use Rattle.bites_theorems.specs.Promises.{IsNoLater, LiesWithin};
@@ -12,8 +12,8 @@ pub mod over_bytes {
     use regex_bites::bytes::{Cache, Captures, Match, Regex};
     use std::alloc::AllocError;
 
-    /// Whether something matches, the first match, and where a match ends soonest: either all three have an answer or none
-    /// has, and the soonest end is at most that of the first match.
+    /// Returns whether something matches, the first match, and the least end of a match. Either all three find
+    /// something or none does, and the least end is at most the end of the first match.
     pub fn is_match_find_shortest<'h>(
         regex: &Regex,
         haystack: &'h [u8],
@@ -29,7 +29,7 @@ pub mod over_bytes {
         Ok((there, first, soonest))
     }
 
-    /// The first match, and group 0 of the first groups: they are the same.
+    /// Returns the first match, and group 0 of the first groups: they are the same.
     pub fn find_and_group_0<'h>(
         regex: &Regex,
         haystack: &'h [u8],
@@ -38,7 +38,7 @@ pub mod over_bytes {
         ensures { IfOk result
             (λ r. option_map bytes.excerpt_of r.0 ≡ option_map bytes.excerpt_of r.1) }
     {
-        // Its contract says that the regex is compiled, which no field shows to a caller. So do the calls below.
+        // For proofs: the contract of `as_str` says that the regex is compiled, here and below.
         regex.as_str();
         let first = regex.find_at(haystack, start)?;
         match regex.captures_at(haystack, start)? {
@@ -47,7 +47,7 @@ pub mod over_bytes {
         }
     }
 
-    /// The first match by a cache that served another search before, and by one of its own: they are the same.
+    /// Returns the first match by a cache that served another search before, and by a fresh one: they are the same.
     pub fn find_with_used_cache<'h>(
         regex: &Regex,
         cache: &mut Cache,
@@ -64,7 +64,7 @@ pub mod over_bytes {
         Ok((kept, fresh))
     }
 
-    /// The first match, and where a group took part in it, if it did: the group lies within the match.
+    /// Returns the first match and a group, if it participates: the group lies within the match.
     pub fn match_and_group<'h>(
         regex: &Regex,
         haystack: &'h [u8],
@@ -83,8 +83,8 @@ pub mod over_bytes {
         }
     }
 
-    /// The number of groups that participate in every match, where the form of the pattern says it, and the first groups: at
-    /// least so many took part, and group 0 is one of them.
+    /// Returns the static number of groups, if the form of the pattern gives one, and the first groups. At least that
+    /// many groups participate, and group 0 is one of them.
     pub fn static_len_and_captures<'h>(
         regex: &Regex,
         haystack: &'h [u8],
@@ -92,7 +92,7 @@ pub mod over_bytes {
     ) -> Result<(Option<usize>, Option<Captures<'h>>), AllocError>
         ensures whole { IfOk result (λ r. IfSome r.1 (λ c. IsSome (group_in c.slots 0))) }
         ensures number { IfOk result (λ r. IfSome r.0 (λ n. IfSome r.1
-            (λ c. n ≤ length (taking_part c.slots)))) }
+            (λ c. n ≤ length (participating c.slots)))) }
     {
         regex.as_str();
         let number = regex.static_captures_len();
@@ -101,13 +101,13 @@ pub mod over_bytes {
     }
 }
 
-/// Over texts. A start within the text is the border of a character.
+/// Over texts. A start within the text must be at a character boundary.
 pub mod over_texts {
     use regex_bites::{Cache, Captures, Match, Regex};
     use std::alloc::AllocError;
 
-    /// Whether something matches, the first match, and where a match ends soonest: either all three have an answer or none
-    /// has, and the soonest end is at most that of the first match.
+    /// Returns whether something matches, the first match, and the least end of a match. Either all three find
+    /// something or none does, and the least end is at most the end of the first match.
     pub fn is_match_find_shortest<'h>(
         regex: &Regex,
         haystack: &'h str,
@@ -124,7 +124,7 @@ pub mod over_texts {
         Ok((there, first, soonest))
     }
 
-    /// The first match, and group 0 of the first groups: they are the same.
+    /// Returns the first match, and group 0 of the first groups: they are the same.
     pub fn find_and_group_0<'h>(
         regex: &Regex,
         haystack: &'h str,
@@ -134,7 +134,7 @@ pub mod over_texts {
         ensures { IfOk result
             (λ r. option_map texts.excerpt_of r.0 ≡ option_map texts.excerpt_of r.1) }
     {
-        // Its contract says that the regex is compiled, which no field shows to a caller. So do the calls below.
+        // For proofs: the contract of `as_str` says that the regex is compiled, here and below.
         regex.as_str();
         let first = regex.find_at(haystack, start)?;
         match regex.captures_at(haystack, start)? {
@@ -143,7 +143,7 @@ pub mod over_texts {
         }
     }
 
-    /// The first match by a cache that served another search before, and by one of its own: they are the same.
+    /// Returns the first match by a cache that served another search before, and by a fresh one: they are the same.
     pub fn find_with_used_cache<'h>(
         regex: &Regex,
         cache: &mut Cache,
@@ -160,7 +160,7 @@ pub mod over_texts {
         Ok((kept, fresh))
     }
 
-    /// The first match, and where a group took part in it, if it did: the group lies within the match.
+    /// Returns the first match and a group, if it participates: the group lies within the match.
     pub fn match_and_group<'h>(
         regex: &Regex,
         haystack: &'h str,
@@ -180,8 +180,8 @@ pub mod over_texts {
         }
     }
 
-    /// The number of groups that participate in every match, where the form of the pattern says it, and the first groups: at
-    /// least so many took part, and group 0 is one of them.
+    /// Returns the static number of groups, if the form of the pattern gives one, and the first groups. At least that
+    /// many groups participate, and group 0 is one of them.
     pub fn static_len_and_captures<'h>(
         regex: &Regex,
         haystack: &'h str,
@@ -190,7 +190,7 @@ pub mod over_texts {
         requires { start ≤ length haystack.now → IsCharBoundary haystack.now start }
         ensures whole { IfOk result (λ r. IfSome r.1 (λ c. IsSome (group_in c.slots 0))) }
         ensures number { IfOk result (λ r. IfSome r.0 (λ n. IfSome r.1
-            (λ c. n ≤ length (taking_part c.slots)))) }
+            (λ c. n ≤ length (participating c.slots)))) }
     {
         regex.as_str();
         let number = regex.static_captures_len();

@@ -10,7 +10,7 @@ use bites_machine::program::{BadProgram, Program, State};
 use bites_machine::vm::{Cache, search};
 use std::alloc::Global;
 
-/// Makes a program of a state that leads to one that leads nowhere.
+/// Makes a program of two states: one that leads to the other, and one that leads nowhere.
 pub fn dead_end_program(alloc: Global) -> Result<Program, BadProgram>
     ensures { IfOk result (λ p. p.program ≡ dead_end) }
 {
@@ -24,8 +24,8 @@ pub fn dead_end_program(alloc: Global) -> Result<Program, BadProgram>
     Program::from_states(alloc, states, 0, 2)
 }
 
-/// Searches a haystack with this program. On every haystack and from every start the search makes as many visits and as many
-/// looks as the bounds allow.
+/// Searches a haystack with this program. On every haystack and from every start the search makes as many visits and as
+/// many looks as the bounds allow.
 pub fn search_dead_end(program: &Program, cache: &mut Cache, haystack: &[u8], start: usize) -> bool
     requires program { program.now.program ≡ dead_end }
     requires cache { cache.old.fits ≡ fit_of program.now.program }

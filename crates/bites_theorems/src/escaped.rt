@@ -9,9 +9,9 @@ ghost use Rattle.regex_bites.specs.Matched.{excerpt_of};
 use regex_bites::{Error, Match, Regex, escape};
 use std::alloc::Global;
 
-/// The regex of the pattern that `escape` makes of a text: its tree is the characters of the text, one behind another.
+/// Builds the regex of an escaped text. Its tree is the characters of the text, one after another.
 ///
-/// It is refused only where the tree is too large, or if memory runs out.
+/// The error is that the program of the tree exceeds the default size limit, or out of memory.
 pub fn regex_of_text(alloc: Global, text: &str) -> Result<Regex, Error>
     ensures tree { IfOk result (λ r. r.tree ≡ text_tree (chars text.now)) }
     ensures refused { IfErr result (λ e. e ≢ Error.Memory →
@@ -21,7 +21,7 @@ pub fn regex_of_text(alloc: Global, text: &str) -> Result<Regex, Error>
     Regex::new(alloc, &pattern)
 }
 
-/// Where a text stands first in a haystack.
+/// Finds the first occurrence of a text in a haystack.
 pub fn find_text<'h>(
     alloc: Global,
     text: &str,

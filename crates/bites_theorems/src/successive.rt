@@ -1,6 +1,6 @@
 //! The successive matches, the pieces between them, and the haystack with all of them replaced.
 //!
-//! `as_str` is called for its contract: it says that the regex is compiled, which the laws of its answers ask.
+//! `as_str` is called for its contract, which says that the regex is compiled. The laws of its results require that.
 
 ghost use Rattle.std.specs.Prelude.{◌≡◌, ◌+◌, Some, map, option_map, IfOk, vec_len};
 ghost use Rattle.std.specs.Cow.{cow_slice_items, cow_str_bytes};
@@ -15,7 +15,7 @@ pub mod over_bytes {
     use std::alloc::{AllocError, Global};
     use std::borrow::CowSlice;
 
-    /// All matches, and group 0 of the groups of all matches: they are the same.
+    /// Returns all matches, and group 0 of the groups of all matches: they are the same.
     pub fn matches_and_groups_0<'h>(
         alloc: Global,
         regex: &Regex,
@@ -24,7 +24,7 @@ pub mod over_bytes {
         ensures { IfOk result (λ r. map (option_map bytes.excerpt_of) r.1.items
             ≡ map (λ m. Some (bytes.excerpt_of m)) r.0.items) }
     {
-        // Its contract says that the regex is compiled, which no field shows to a caller. So do the calls below.
+        // For proofs: the contract of `as_str` says that the regex is compiled, here and below.
         regex.as_str();
         let matches = regex.find_iter(haystack)?.collect(alloc)?;
         let mut wholes = Vec::new(alloc);
@@ -34,8 +34,8 @@ pub mod over_bytes {
         Ok((matches, wholes))
     }
 
-    /// All matches, and the pieces between them: there is one piece more than there are matches, and pieces and matches in
-    /// turn are the haystack.
+    /// Returns all matches, and the pieces between them. There is one piece more than there are matches, and pieces and
+    /// matches in turn are the haystack.
     pub fn matches_and_pieces<'h>(
         alloc: Global,
         regex: &Regex,
@@ -51,8 +51,8 @@ pub mod over_bytes {
         Ok((matches, pieces))
     }
 
-    /// The haystack with each match replaced by a text, and the pieces between the matches: the first is the pieces joined
-    /// by the text.
+    /// Returns the haystack with each match replaced by a text, and the pieces between the matches. The first is the
+    /// pieces joined by the text.
     pub fn replaced_and_pieces<'h>(
         alloc: Global,
         regex: &Regex,
@@ -75,7 +75,7 @@ pub mod over_texts {
     use std::alloc::{AllocError, Global};
     use std::borrow::CowStr;
 
-    /// All matches, and group 0 of the groups of all matches: they are the same.
+    /// Returns all matches, and group 0 of the groups of all matches: they are the same.
     pub fn matches_and_groups_0<'h>(
         alloc: Global,
         regex: &Regex,
@@ -84,7 +84,7 @@ pub mod over_texts {
         ensures { IfOk result (λ r. map (option_map texts.excerpt_of) r.1.items
             ≡ map (λ m. Some (texts.excerpt_of m)) r.0.items) }
     {
-        // Its contract says that the regex is compiled, which no field shows to a caller. So do the calls below.
+        // For proofs: the contract of `as_str` says that the regex is compiled, here and below.
         regex.as_str();
         let matches = regex.find_iter(haystack)?.collect(alloc)?;
         let mut wholes = Vec::new(alloc);
@@ -94,8 +94,8 @@ pub mod over_texts {
         Ok((matches, wholes))
     }
 
-    /// All matches, and the pieces between them: there is one piece more than there are matches, and pieces and matches in
-    /// turn are the haystack.
+    /// Returns all matches, and the pieces between them. There is one piece more than there are matches, and pieces and
+    /// matches in turn are the haystack.
     pub fn matches_and_pieces<'h>(
         alloc: Global,
         regex: &Regex,
@@ -111,8 +111,8 @@ pub mod over_texts {
         Ok((matches, pieces))
     }
 
-    /// The haystack with each match replaced by a text, and the pieces between the matches: the first is the pieces joined
-    /// by the text.
+    /// Returns the haystack with each match replaced by a text, and the pieces between the matches. The first is the
+    /// pieces joined by the text.
     pub fn replaced_and_pieces<'h>(
         alloc: Global,
         regex: &Regex,

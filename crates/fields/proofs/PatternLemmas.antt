@@ -1,4 +1,4 @@
--- What the pattern is read as.
+-- The tree that the pattern is read as.
 use Rattle.std.proofs.Common.{◌≡◌, Ok, refl}
 use Rattle.std.specs.Str.{chars}
 use lib.Utf8.{encode}
@@ -10,7 +10,7 @@ use Rattle.bites_spec.specs.Reader.{read, inner}
 use Rattle.bites_spec.specs.Settings.{no_flags}
 use Rattle.fields.specs.Entry.{pattern, entry_tree}
 
--- reading computes, through the tables of Unicode for the letters of the names
+-- reading the pattern computes; it uses the tables of Unicode for the letters of the names
 pub pattern_read : read ranges_of 50 (chars pattern) no_flags ≡ Ok entry_tree
 unfolding chars inner encode is_alphabetic in_ranges alphabetic_ranges
 pattern_read = refl

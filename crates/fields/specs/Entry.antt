@@ -6,7 +6,7 @@ use Rattle.bites_spec.specs.Tree.{Tree, char, class, repetition, group, sequence
 use Rattle.bites_spec.specs.Match.{Matches}
 use Rattle.bites_filter.specs.Parts.{AreParts}
 
--- a group with this number and name that takes characters of the set, so many at least
+-- a group with this number and name that takes characters of the set, at least `least` of them
 abbrev pub field : ℕ → List ℕ → ℕ → Set → Tree
 field number name least set = group number (Some name) (repetition least None true (class (ranges_of set)))
 
@@ -18,7 +18,7 @@ all_but a b = complement (union (single a) (single b))
 abbrev pub pattern : List ℕ
 pattern = codes "(?<host>[^ \"]+) (?<ident>[^ \"]+) (?<user>[^ \"]+) \\[(?<time>[^\\]\"]+)\\] \"(?<request>[^\"]*)\" (?<status>[0-9]+) (?<size>[0-9-]+)"
 
--- what it is read as
+-- the tree that the pattern is read as
 abbrev pub entry_tree : Tree
 entry_tree =
     sequence (trees_of (
@@ -35,6 +35,6 @@ entry_tree =
 abbrev pub NoEntry : List ℕ → Type 0
 NoEntry line = Matches line entry_tree 0 (length line) → ⊥
 
--- these are its fields: the texts of the seven groups in one parse of the whole line
+-- these are the fields of the line: the texts of the seven groups in one parse of the whole line
 abbrev pub IsEntry : List ℕ → List (List ℕ) → Type 0
 IsEntry line fields = (length fields ≡ 7) × AreParts entry_tree line fields

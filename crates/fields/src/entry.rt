@@ -5,7 +5,7 @@ use regex_bites::{Error, Regex};
 use std::alloc::{AllocError, Global};
 use std::marker::Model;
 
-/// The pattern of a whole line. No field has a quote, so that each can stand between quotes.
+/// The pattern of a whole line. No field contains a quote, so each can stand between quotes.
 pub const PATTERN: &str =
     r#"(?<host>[^ "]+) (?<ident>[^ "]+) (?<user>[^ "]+) \[(?<time>[^\]"]+)\] "(?<request>[^"]*)" (?<status>[0-9]+) (?<size>[0-9-]+)"#;
 
@@ -36,7 +36,7 @@ impl Log {
     ghost use Rattle.bites_filter.specs.Parts.{ExtractsBytes};
     ghost use Rattle.fields.specs.Entry.{entry_tree};
 
-    /// The error is that memory ran out, since the pattern is accepted.
+    /// Makes a reader. The error is out of memory, since the pattern is accepted.
     pub fn new(alloc: Global) -> Result<Log, Error> {
         bites_spec::literal_is_read();
         let regex = Regex::new(alloc, PATTERN)?;
@@ -44,8 +44,8 @@ impl Log {
         Ok(Log { searcher })
     }
 
-    /// Fills `into` with the fields of the line in the order of the pattern. Returns whether the line has the format; it
-    /// has all fields then. The error is that memory ran out.
+    /// Fills `into` with the seven fields of the line in the order of the pattern, if the line has the format. Returns
+    /// whether it has. The error is out of memory.
     pub fn entry<'h>(&mut self, line: &'h [u8], into: &mut [&'h str; 7]) -> Result<bool, AllocError>
         ensures found { IfOk result (λ found.
             ExtractsBytes entry_tree line.now found (map (λ field. field.now) into.new)) }

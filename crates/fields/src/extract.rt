@@ -12,7 +12,7 @@ use bites_filter::lines::{LineTask, each_line, without_line_feed};
 use std::alloc::Global;
 use std::io::{self, BufRead, Write};
 
-/// A reader of entries, and where it reports lines that are none.
+/// A reader of entries, and a writer for the reports of lines that don't have the format.
 #[derive(Drop)]
 pub struct Extractor<E: Drop> {
     pub log: Log,
@@ -42,10 +42,10 @@ fn tell<E: Write>(number: u64, err: &mut E) -> io::Result<()>
     writeln!(err, "fields: line {number} is not in the common log format")
 }
 
-/// Writes the fields of each line of the input that has the format, and reports each other line. Returns how many other
-/// lines there are.
+/// Writes the fields of each line of the input that has the format, and reports each other line. Returns the number of
+/// the other lines.
 ///
-/// What was written before a fault stays.
+/// After a fault, what was written before it stays.
 pub fn extract_fields<R: BufRead, W: Write, E: Write + Drop>(
     alloc: Global,
     extractor: &mut Extractor<E>,

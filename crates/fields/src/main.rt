@@ -1,9 +1,9 @@
 //! `fields`: writes the fields of a log in the common log format as comma-separated values.
 //!
 //! Each line of standard input that has the format is written as its seven fields, each between quotes: host, identity,
-//! user, time, request, status and size. Each other line is reported on standard error by its number. The status is 0 if all
-//! lines have the format, 1 if some do not and 2 for a fault, which is one line on standard error. That nobody reads the
-//! output any more is no fault.
+//! user, time, request, status and size. Each other line is reported on standard error by its number. The status is 0
+//! if all lines have the format, 1 if some don't, or 2 for a fault, which is one line on standard error. If nobody
+//! reads the output any more, the program ends with status 0.
 #![tactic(auto)]
 
 mod entry;

@@ -5,11 +5,11 @@ use Rattle.lines.specs.declared.options.Show.{Show}
 use Rattle.lines.specs.declared.filter.Filter.{Filter}
 use Rattle.lines.specs.Selected.{IsAskedFor, shown}
 
--- a line that is asked for counts and is shown, and of another one nothing is written
+-- a line that is asked for counts and is shown; for any other line nothing is written
 abbrev pub ShowsAsked : Tree → Bool → Show → ℕ → List ℕ → List ℕ → Bool → Type 0
 ShowsAsked t invert show n line text true = IsAskedFor t invert line × (text ≡ shown show n line)
 ShowsAsked t invert show n line text false = IsAskedFor t (not invert) line × (text ≡ [])
 
--- the filter does so and stays as it is
+-- the filter does that, and is unchanged
 abbrev pub Filters : Filter → ℕ → List ℕ → List ℕ → Bool → Filter → Type 0
 Filters s n line text counts s' = ShowsAsked s.searcher.tree s.invert s.show n line text counts × (s' ≡ s)

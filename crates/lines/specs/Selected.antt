@@ -7,21 +7,21 @@ use Rattle.bites_spec.specs.Found.{HasMatch}
 use Rattle.lines.specs.declared.options.Show.{Show}
 use Rattle.lines.specs.declared.options.Show.TheVariants.{Line, Numbered, Count}
 
--- a line with its number, the first being 1
+-- a line with its number; the first line has number 1
 pub record Selected : Type 0 where
   pub number : ℕ
   pub line : List ℕ
 
--- by its parts
+-- the same by its parts
 abbrev pub selected : ℕ → List ℕ → Selected
 selected n l = record { number = n; line = l }
 
--- the tree matches somewhere in the line, the line feed left out; or with `invert` it does not
+-- the tree matches somewhere in the line without its line feed, or with `invert` it does not
 abbrev pub IsAskedFor : Tree → Bool → List ℕ → Type 0
 IsAskedFor t false line = HasMatch t (strip_last 10 line) 0
 IsAskedFor t true line = HasMatch t (strip_last 10 line) 0 → ⊥
 
--- Of these lines, which come after the first n, those that are asked for, in their order; of each other one the opposite holds.
+-- These are the lines that are asked for among the lines after the first n, in their order. Each other line is not asked for.
 abbrev pub AreSelected : Tree → Bool → ℕ → List (List ℕ) → List Selected → Type 0
 AreSelected t invert n [] found = found ≡ []
 AreSelected t invert n (l ∷ ls) found =
@@ -34,7 +34,7 @@ shown Line n line = line
 shown Numbered n line = (decimal n ++ 58 ∷ []) ++ line
 shown Count n line = []
 
--- what is written of each, one after another
+-- what is written of all, one after another
 abbrev pub all_shown : Show → List Selected → List ℕ
 all_shown show [] = []
 all_shown show (x ∷ xs) = shown show x.number x.line ++ all_shown show xs
@@ -43,13 +43,13 @@ all_shown show (x ∷ xs) = shown show x.number x.line ++ all_shown show xs
 abbrev pub counted : ℕ → List ℕ
 counted n = decimal n ++ 10 ∷ []
 
--- what is written after the last line: how many there are, if only that is shown
+-- what is written after the last line: the number of lines, if only that is shown
 abbrev pub ending : Show → ℕ → List ℕ
 ending Line n = []
 ending Numbered n = []
 ending Count n = counted n
 
--- The lines that are asked for are so many, and what was written for them stands after the old output.
+-- There are `count` lines that are asked for, and what was written for them stands after the old output.
 pub record IsFiltered (t : Tree) (invert : Bool) (show : Show) (lines : List (List ℕ)) (count : ℕ) (old new : Option (List ℕ)) : Type 0 where
   pub found : List Selected
   pub selected : AreSelected t invert 0 lines found

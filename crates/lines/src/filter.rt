@@ -15,11 +15,11 @@ use std::io::{self, BufRead, Write};
 /// Which lines are written, and how.
 #[derive(Drop)]
 pub struct Filter {
-    /// The regex that is looked for in each line, the line feed at its end left out.
+    /// The regex that is searched for in each line, without the line feed at its end.
     pub searcher: Searcher,
-    /// Whether the lines are written in which it does not match.
+    /// Whether to write the lines in which the regex doesn't match.
     pub invert: bool,
-    /// What is written of each.
+    /// What to write of each line.
     pub show: Show,
 }
 
@@ -52,10 +52,10 @@ fn write_shown<W: Write>(show: Show, number: u64, line: &[u8], out: &mut W) -> i
     }
 }
 
-/// Writes what is shown of the lines of the input in which the filter's regex matches somewhere, in their order, or of the
-/// others; for [`Show::Count`] how many they are. Returns how many they are.
+/// Selects the lines of the input in which the filter's regex matches somewhere, or with `invert` the others. Writes
+/// what is shown of each, in their order, or for [`Show::Count`] only how many there are. Returns how many there are.
 ///
-/// What was written before a fault stays.
+/// After a fault, what was written before it stays.
 pub fn write_lines<R: BufRead, W: Write>(
     alloc: Global,
     filter: &mut Filter,

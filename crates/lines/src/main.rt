@@ -1,9 +1,9 @@
 //! `lines [-c] [-i] [-n] [-v] PATTERN`: writes the lines of standard input in which a pattern matches somewhere.
 //!
-//! `-v` takes the other lines, `-n` writes the number of each line and a colon before it, `-c` writes only how many lines
-//! there are, and `-i` matches letters of ASCII in both of their cases. The status is 0 if there was such a line, 1 if
-//! there was none and 2 for a fault, which is one line on standard error. That nobody reads the output any more is no
-//! fault.
+//! `-v` writes the other lines, `-n` writes the number of each line and a colon before it, `-c` writes only how many
+//! lines there are, and `-i` matches letters of ASCII in both of their cases. The status is 0 if there was such a line,
+//! 1 if there was none, or 2 for a fault, which is one line on standard error. If nobody reads the output any more, the
+//! program ends with status 0.
 #![tactic(auto)]
 
 mod filter;

@@ -7,7 +7,7 @@ pub enum Show {
     Line,
     /// Its number, a colon and the line.
     Numbered,
-    /// Nothing: only how many there are is written, at the end.
+    /// Nothing. Only the number of lines is written, at the end.
     Count,
 }
 
@@ -21,7 +21,7 @@ pub(crate) struct Options<'w> {
 }
 
 impl<'w> Options<'w> {
-    /// Reads the words behind the program's name: words of flags, and then the pattern. The word `--` ends the flags.
+    /// Reads the words after the program's name: words of flags, and then the pattern. The word `--` ends the flags.
     pub(crate) fn read(words: &'w [String]) -> Option<Options<'w>> {
         let mut options = Options {
             pattern: "",
@@ -48,7 +48,7 @@ impl<'w> Options<'w> {
         if given { Some(options) } else { None }
     }
 
-    // The options with the letters of one more word of flags.
+    // Returns the options with the letters of one more word of flags, if each is known.
     fn with_flags(self, word: &str) -> Option<Options<'w>> {
         let mut options = self;
         for letter in word.bytes().skip(1) {

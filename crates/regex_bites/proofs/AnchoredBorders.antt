@@ -14,7 +14,7 @@ use Rattle.regex_bites.specs.Borders.{IsPart, HaveBorders, AreGroupsOf}
 use Rattle.regex_bites.proofs.BorderLemmas.{none_some, MayStart, captured_of, part_at}
 
 module _ (hay : List ℕ) (utf8 : IsUtf8 hay) (r : Regex) (is : IsCompiled r) where
-  -- the run that a search from one place answers begins and ends at borders, and so do its groups
+  -- the run that a search from one place returns begins and ends at borders, and so do its groups
   run_borders : (s : ℕ) → MayStart hay s → (x : Run) → anchored_run_at r hay s ≡ Some x → HasBorders hay (span_of_run x) × HaveBorders hay (slots r.program x)
   run_borders s may x e =
       let begins = anchored_starts r.program hay is.well_formed r.leftmost_longest s x e in
@@ -36,7 +36,7 @@ module _ (hay : List ℕ) (utf8 : IsUtf8 hay) (r : Regex) (is : IsCompiled r) wh
   slots_of None borders l h = none_some l h
   slots_of (Some x) borders l h = subst (HaveBorders hay) (same_Some (slots r.program x) l h) (borders x refl)
 
-  -- the groups that such a search answers are those of a match in the text
+  -- the groups that such a search returns are those of a match in the text
   pub groups_from : (s : ℕ) → MayStart hay s → (c : Captured) → Some c ≡ option_map (captured r hay) (anchored_slots_at r hay s) → AreGroupsOf hay c
   groups_from s may c e =
       captured_of hay utf8 r is (anchored_slots_at r hay s) (slots_of (anchored_run_at r hay s) (λ x h. (run_borders s may x h).1)) c e

@@ -1,4 +1,4 @@
--- What searches of a text hand out begins and ends at borders.
+-- What searches of a text return begins and ends at borders.
 use Rattle.std.proofs.Common.{◌≡◌, ℕ, zero, suc, ◌+◌, ◌≤◌, Bool, true, false, cond, List, [], ◌∷◌, map, length, Option, Some, None, option_map, refl, sym, subst, ⊎_elim, arith, ltb, ltb-true, ltb-false, IsUtf8, IsCharBoundary}
 use Rattle.std.proofs.lemmas.Option.{same_Some}
 use Rattle.std.specs.Prelude.{IfSome, unwrap_or, option_and_then}
@@ -49,7 +49,7 @@ module _ (hay : List ℕ) (utf8 : IsUtf8 hay) where
       (λ (h : ltb e (length hay) ≡ false). let past = ltb-false e (length hay) h in absurd (omega (arith, past, le)))
       (cases_Bool (ltb e (length hay)))
 
-  -- successive answers, where each answer of a search from a border has P and ends at a border
+  -- successive results, where each result of a search from a border has P and ends at a border
   module _ {B : Type 0} (span_of : B → Span) (A : ℕ → Option B) (P : B → Type 0)
       (answers : (s : ℕ) → MayStart hay s → (x : B) → A s ≡ Some x → P x × IsCharBoundary hay (span_of x).end) where
     next_answers : (e : ℕ) → IsCharBoundary hay e → (x : B) → next_after span_of hay A e ≡ Some x → P x × IsCharBoundary hay (span_of x).end
@@ -84,7 +84,7 @@ module _ (hay : List ℕ) (utf8 : IsUtf8 hay) where
   end_border t s may (Some j) least = least_end_border t hay s j utf8 (may (place_lies s least.0.0 least.0.1)) least
 
   module _ (r : Regex) (is : IsCompiled r) where
-    -- the run that a search answers begins and ends at borders, and so do its groups
+    -- the run that a search returns begins and ends at borders, and so do its groups
     pub run_borders : (s : ℕ) → MayStart hay s → (x : Run) → run_at r hay s ≡ Some x → HasBorders hay (span_of_run x) × HaveBorders hay (slots r.program x)
     run_borders s may x e =
         let lies = run_at-lies r is hay s x e in let one = lies.0 in let two = lies.1 in let three = lies.2 in
@@ -111,7 +111,7 @@ module _ (hay : List ℕ) (utf8 : IsUtf8 hay) where
     captured_of None borders c e = none_some c (sym e)
     captured_of (Some l) borders c e = subst (AreGroupsOf hay) (sym (same_Some c (captured r hay l) e)) (refl, (borders l refl).groups)
 
-    -- the groups that a search answers are those of a match in the text
+    -- the groups that a search returns are those of a match in the text
     pub found_groups : (s : ℕ) → MayStart hay s → (c : Captured) → Some c ≡ option_map (captured r hay) (slots_at r hay s) → AreGroupsOf hay c
     found_groups s may c e = captured_of (slots_at r hay s) (slots_of s may (run_at r hay s) refl) c e
 

@@ -23,7 +23,7 @@ length-by s ss done is =
 pub no_pieces : (s : Split) → s.done ≡ true → length (pieces_left s) ≡ 0
 no_pieces s is = length-by s (spans_left s.matches) true is
 
--- one piece more is left than there are matches
+-- one more piece is left than there are matches
 pub length-pieces : (s : Split) → s.done ≡ false → length (pieces_left s) ≡ suc (length (matches_left s.matches))
 length-pieces s is =
     length-by s (spans_left s.matches) false is ∙ ap suc (length-map (matches_left s.matches) (λ (e : Excerpt). e.span))

@@ -23,11 +23,11 @@ joined hay out last s ss text texts new is =
     let behind = replaced_from hay s.end ss texts in
     ap (λ l. l ++ behind) (is ∙ append_assoc out piece text) ∙ append_assoc out (piece ++ text) behind
 
--- Items of C with spans in a haystack are replaced by what a replacer gives for them; all of them are to be, from one state of it on.
+-- Items of C with spans in a haystack are replaced by what a replacer gives for them. All of them are, from one state of it on.
 module _ {S C : Type 0} (gives : S → C → List ℕ → S → Type 0) (answers : S → Option (List ℕ) → S → Type 0) (span_of : C → Span)
     (hay : List ℕ) (all : List C) (start : S) where
-  -- So much is written up to the end of the last one, these are still to come, and this is the replacer's state:
-  -- whatever it gives for the rest, with what it gave so far it stands for all.
+  -- `out` is written up to the end of the last one, `rest` is still to come, and the replacer is in the state `now`: whatever it
+  -- gives for the rest, with what it gave before stands for all.
   pub record IsOn (out : List ℕ) (last : Option ℕ) (rest : List C) (now : S) : Type 0 where
     pub written : (texts : List (List ℕ)) (end : S) → Gave gives answers now rest texts end →
         (every : List (List ℕ)) × Gave gives answers start all every end
@@ -66,7 +66,7 @@ module _ {S C : Type 0} (gives : S → C → List ℕ → S → Type 0) (answers
     pub on_borrows : (last ≡ None) ↔ (all ≡ [])
     on_borrows = nothing_iff last rest all none on.nothing
 
--- the order of a front
+-- the order of a prefix
 begin_take : (n e : ℕ) (ss : List Span) → BeginFrom e ss → BeginFrom e (take n ss)
 begin_take zero e ss h = tt
 begin_take (suc n) e [] h = tt

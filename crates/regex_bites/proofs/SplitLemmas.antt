@@ -67,7 +67,7 @@ step_yields n m k s t None e f h = ((h.2 n).0, (h.2 m).1)
 step_yields n m k s t (Some x) e f h =
     ap (λ j. at_most_left j s) e ∙ h.1 k ∙ ap (λ xs. text_now x ∷ xs) (sym (ap (λ j. at_most_left j t) f))
 
--- before any piece was handed out
+-- before any piece was returned
 module _ (m : Matches) (r : Regex) (hay : List ℕ) (at : m.haystack.now ≡ hay) (left : matches_left m ≡ map (excerpt hay) (spans_in r hay)) where
   spans_all : spans_left m ≡ spans_in r hay
   spans_all = ap (map (λ (e : Excerpt). e.span)) left ∙ spans_of hay (spans_in r hay)

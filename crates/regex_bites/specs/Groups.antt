@@ -6,7 +6,7 @@ use Rattle.regex_bites.specs.Matched.{excerpt_of}
 use Rattle.regex_bites.specs.declared.string.matched.Match.{Match}
 use Rattle.regex_bites.specs.declared.string.groups.SubCaptureMatches.{SubCaptureMatches}
 
--- a match, if the group took part
+-- the match of a group, if it participates
 abbrev pub excerpt_if : Option Match → Option Excerpt
 excerpt_if = option_map excerpt_of
 

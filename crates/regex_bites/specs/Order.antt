@@ -3,7 +3,7 @@ use Rattle.std.specs.Prelude.{◌≤◌, ℕ, List, [], ◌∷◌, ⊤}
 use Rattle.std.specs.Coded.{×_prop, Unit-prop, le_prop}
 use Rattle.bites_spec.specs.Match.{Span}
 
--- the first begins at e or behind it, and each other one where the one before it ends, or behind that
+-- the first begins at e or after it, and each other one where the one before it ends, or after that
 abbrev pub BeginFrom : ℕ → List Span → Type 0
 BeginFrom e [] = ⊤
 BeginFrom e (s ∷ ss) = (e ≤ s.start) × BeginFrom s.end ss

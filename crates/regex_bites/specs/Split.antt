@@ -7,7 +7,7 @@ use Rattle.regex_bites.specs.Matches.{spans_left}
 use Rattle.regex_bites.specs.declared.string.split.Split.{Split}
 use Rattle.regex_bites.specs.declared.string.split.SplitN.{SplitN}
 
--- the pieces between these spans, and behind them
+-- the pieces between these spans, before the first and after the last
 abbrev pub pieces_by : Split → List Span → List (List ℕ)
 pieces_by s ss = cond s.done [] (map (text_at s.matches.haystack.now) (gaps_from (length s.matches.haystack.now) s.begin ss))
 
@@ -20,7 +20,7 @@ abbrev pub at_most_left : ℕ → Split → List (List ℕ)
 at_most_left zero s = []
 at_most_left (suc n) s = pieces_by s (take n (spans_left s.matches))
 
--- the pieces that are still to come, at most so many
+-- the pieces that are still to come, at most as many as may come
 abbrev pub limited_left : SplitN → List (List ℕ)
 limited_left s = at_most_left s.left s.split
 
@@ -28,7 +28,7 @@ limited_left s = at_most_left s.left s.split
 abbrev pub text_now : Bor (List ℕ) → List ℕ
 text_now = λ t. t.now
 
--- one step: for every greatest number of pieces the piece is the first, and one less may come; or none came and none comes
+-- one step: for every limit n the piece is the first, and one less may come; or none came and none comes
 abbrev pub StepsOn : Split → Option (Bor (List ℕ)) → Split → Type 0
 StepsOn s None t = (pieces_left s ≡ []) × (pieces_left t ≡ []) × ((n : ℕ) → (at_most_left n s ≡ []) × (at_most_left n t ≡ []))
 StepsOn s (Some piece) t =

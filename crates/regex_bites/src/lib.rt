@@ -1,9 +1,9 @@
 //! Regular expressions over texts and over byte strings, without backtracking: a search visits each state of a
 //! pattern's program at most once at each offset of the haystack.
 //!
-//! [`Regex`] searches texts, and [`bytes::Regex`] byte strings, which need not be UTF-8. Offsets are in bytes. Over texts,
-//! each match and each group begins and ends at a character boundary. A function that allocates returns a `Result`, and one
-//! that makes an object is given an allocator. In the examples `rt` is the argument of `main`.
+//! [`Regex`] searches texts, and [`bytes::Regex`] byte strings, which need not be UTF-8. Offsets are in bytes. Over
+//! texts, each match and each group begins and ends at a character boundary. A function that allocates returns a
+//! `Result`, and one that makes an object is given an allocator. In the examples `rt` is the argument of `main`.
 //!
 //! # Does it match
 //!
@@ -57,8 +57,8 @@
 //!
 //! # A match that begins at one offset
 //!
-//! [`Regex::find_anchored_at`] returns only a match that begins at its start, as lexers need it. Such a search stops when no
-//! match that begins there can continue, so its time doesn't depend on the length of the haystack.
+//! [`Regex::find_anchored_at`] returns only a match that begins at its start, as lexers need it. Such a search stops
+//! when no match that begins there can continue, so its time doesn't depend on the length of the haystack.
 //! [`Regex::is_full_match`] returns whether a match is the whole haystack.
 //!
 //! ```rust
@@ -79,15 +79,15 @@
 //!
 //! # Limits, and patterns that are not trusted
 //!
-//! A pattern and a haystack from anyone are safe: no call stops the program, and each one returns. A build takes time and
-//! memory that grow with the pattern and with its size limit. That limit is roughly in bytes, and 10 MiB by default
+//! A pattern and a haystack from anyone are safe: no call stops the program, and each one returns. A build takes time
+//! and memory that grow with the pattern and with its size limit. That limit is roughly in bytes, and 10 MiB by default
 //! ([`RegexBuilder::size_limit`]). The parser's recursion goes as deep as [`RegexBuilder::nest_limit`], which is 50 by
 //! default.
 //!
-//! A search takes time that grows with states times characters, and for groups, at worst, with slots times that. Its memory
-//! grows with the states and targets times the slots. For patterns that are not trusted lower the size limit, and for
-//! haystacks that are not, their length. An iterator searches once for each match, so at worst all its searches take time
-//! that grows with the square of the haystack's length.
+//! A search takes time that grows with states times characters, and for groups, at worst, with slots times that. Its
+//! memory grows with the states and targets times the slots. If patterns are not trusted, lower the size limit. If
+//! haystacks are not trusted, limit their length. An iterator searches once for each match, so at worst all its
+//! searches take time that grows with the square of the haystack's length.
 //!
 //! ```rust
 //! let mut builder = RegexBuilder::new(rt.alloc(), "(?:a{1000}){1000}")?;
@@ -95,8 +95,9 @@
 //! assert_eq!(rt; builder.build().err(), Some(Error::TooBig));
 //! ```
 //!
-//! A search without a cache allocates one, and its error is out of memory. For many haystacks make a cache once and reuse
-//! it: the methods whose names end in `_with` allocate nothing and cannot fail.
+//! A search without a cache allocates one, and its error is out of memory. For many haystacks make a cache once and
+//! reuse it by the methods whose names end in `_with`. Of these, only those that return [`Captures`] or a replaced
+//! haystack allocate. The others cannot fail.
 //!
 //! ```rust
 //! let regex = Regex::new(rt.alloc(), "a+")?;
@@ -107,20 +108,21 @@
 //!
 //! # What differs from the Rust crate regex-bites
 //!
-//! - A function that allocates returns a `Result`, and one that makes an object is given an allocator. An [`Error`] may also
-//!   be out of memory.
-//! - There is no pool of caches: each search allocates a cache, or is given one. A regex and its clones share the program by
-//!   `Arc`, so a clone may go to another thread.
-//! - No call panics. A start within a text must be at a character boundary. Captures are not indexed: `part` requires that
-//!   the group participates. A caller proves such a condition, or tests it.
+//! - A function that allocates returns a `Result`, and one that makes an object is given an allocator. An [`Error`] may
+//!   also be out of memory.
+//! - There is no pool of caches: each search allocates a cache, or is given one. A regex and its clones share the
+//!   program by `Arc`, so a clone may go to another thread.
+//! - No call panics. A start within a text must be at a character boundary. Captures are not indexed: `part` requires
+//!   that the group participates. A caller proves such a condition, or tests it.
 //! - A function that replaces is wrapped in `With`.
-//! - [`RegexBuilder::leftmost_longest`] and [`RegexBuilder::keep_dropped_groups`] are new. So are the searches for a match
-//!   that begins at one offset ([`Regex::find_anchored_at`], [`Regex::captures_anchored_at`]) and for a match of the whole
-//!   haystack ([`Regex::is_full_match`], [`Regex::captures_full`]).
-//! - Some faults of the Rust code are mended: `docs/DIFFERENCES.md` names them all, each with the smallest input that shows it.
+//! - [`RegexBuilder::leftmost_longest`] and [`RegexBuilder::keep_dropped_groups`] are new. So are the searches for a
+//!   match that begins at one offset ([`Regex::find_anchored_at`], [`Regex::captures_anchored_at`]) and for a match of
+//!   the whole haystack ([`Regex::is_full_match`], [`Regex::captures_full`]).
+//! - Some faults of the Rust code are fixed: `docs/DIFFERENCES.md` names them all, each with the smallest input that
+//!   shows it.
 //!
-//! The contract of each call says what it promises. The page `headline` of the crate `bites_theorems` has it all in one place.
-//! The modules below are those that texts and byte strings share.
+//! The contract of each call says what it promises. The page `headline` of the crate `bites_theorems` has it all in one
+//! place. The modules below are those that texts and byte strings share.
 #![tactic(auto)]
 
 pub mod string;

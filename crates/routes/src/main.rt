@@ -1,11 +1,11 @@
 //! `routes TABLE`: writes for each path on standard input which route serves it, and the groups of its match.
 //!
-//! Each line of the file TABLE is a name, a space and a pattern. A path takes the first route whose pattern matches the
-//! whole of it: its line has the name, and then a tab and the text of each group that participates, in the order of their
-//! numbers. A path without a route has the line `-`. The status is 0, or 2 for a fault, which is one line on standard
-//! error. That nobody reads the output any more is no fault.
+//! Each line of the file TABLE is a name, a space and a pattern. The first route whose pattern matches a whole path
+//! serves it. The line of the path has the name, and then a tab and its text for each group that participates, in the
+//! order of their numbers. A path without a route has the line `-`. A path that is not UTF-8 has no route.
 //!
-//! A path that is not UTF-8 has no route.
+//! The status is 0, or 2 for a fault, which is one line on standard error. If nobody reads the output any more, the
+//! program ends with status 0.
 #![tactic(auto)]
 
 mod paths;

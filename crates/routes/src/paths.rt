@@ -1,4 +1,4 @@
-//! The routes of the paths of an input. The first whose pattern matches a whole path serves it.
+//! The routes of the paths of an input. The first route whose pattern matches a whole path serves it.
 
 ghost use Rattle.std.specs.Prelude.{◌≡◌, ℕ, List, IfOk, IfSome, OnOk};
 ghost use Rattle.std.specs.Io.KnownBytes.{Appends};
@@ -45,8 +45,9 @@ fn write_served<W: Write>(name: &str, groups: &Captures<'_>, out: &mut W) -> io:
     out.write_all(b"\n")
 }
 
-/// Writes a line for each path of the input: the name of its route, and a tab and the text of each group that participates,
-/// or `-`. A path that is not UTF-8 has no route. What was written before a fault stays.
+/// Writes a line for each path of the input: the name of its route, and a tab and its text for each group that
+/// participates. A path without a route has the line `-`, and a path that is not UTF-8 has no route. After a fault,
+/// what was written before it stays.
 pub fn write_routes<R: BufRead, W: Write>(
     alloc: Global,
     router: &mut Router,

@@ -22,7 +22,7 @@ is_edited r template n line new substitutes same = record {
 abbrev editor_of : Regex → Bor (List ℕ) → ℕ → Editor
 editor_of r template limit = record { searcher = r; template = template; limit = limit }
 
--- an editor whose regex is given back is as it was
+-- an editor whose regex is given back is unchanged
 pub same_editor : (s : Editor) (r : Regex) → r ≡ s.searcher →
     ◌≡◌ {A = Editor} (record { searcher = r; template = s.template; limit = s.limit }) s
 same_editor s r e = ap (λ (q : Regex). editor_of q s.template s.limit) e

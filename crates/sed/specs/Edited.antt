@@ -6,7 +6,7 @@ use Rattle.bites_spec.specs.Found.{NoMatch}
 use Rattle.bites_spec.specs.Regex.{Regex}
 use Rattle.bites_filter.specs.Substituted.{Substitutes}
 
--- The line is written with its text replaced and its line feed kept. If nothing matches in the text, it is written as it came.
+-- The line is written with the matches in its text replaced, and with its line feed. If nothing matches, it is unchanged.
 pub record IsEdited (r : Regex) (template : List ℕ) (n : ℕ) (line written : List ℕ) : Type 0 where
   pub new : List ℕ
   pub substitutes : Substitutes r template n (strip_last 10 line) new

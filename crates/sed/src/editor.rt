@@ -14,9 +14,9 @@ use std::io::{self, BufRead, Write};
 /// What is replaced in each line, and by what.
 #[derive(Drop)]
 pub struct Editor<'t> {
-    /// The regex that is looked for in each line, the line feed at its end left out.
+    /// The regex that is searched for in each line, without the line feed at its end.
     pub searcher: Searcher,
-    /// The template of what stands for each match.
+    /// The template of what replaces each match.
     pub template: &'t [u8],
     /// How many matches of a line are replaced, or 0 for all.
     pub limit: usize,
@@ -37,7 +37,8 @@ impl<'t> LineTask for Editor<'t> {
     }
 }
 
-/// Writes each line with as many of its matches replaced as the editor says. What was written before a fault stays.
+/// Writes each line with its first matches replaced, as many as the editor's limit says. After a fault, what was
+/// written before it stays.
 pub fn edit_lines<R: BufRead, W: Write>(
     alloc: Global,
     editor: &mut Editor<'_>,

@@ -1,9 +1,9 @@
 //! `sed [-g] [-i] PATTERN TEMPLATE`: writes each line of standard input with its first match replaced.
 //!
-//! `-g` replaces all matches of a line, and `-i` matches letters of ASCII in both of their cases. In the template `$1` and
-//! `${1}` are what the group of that number matched, `$name` and `${name}` what the group of that name did, and `$$` is a
-//! `$`. A line in which nothing matches is written unchanged. The status is 0, or 2 for a fault, which is one line on
-//! standard error. That nobody reads the output any more is no fault.
+//! `-g` replaces all matches of a line, and `-i` matches letters of ASCII in both of their cases. In the template `$1`
+//! and `${1}` stand for what the group of that number matched, `$name` and `${name}` for what the group of that name
+//! matched, and `$$` for a `$`. A line in which nothing matches is written unchanged. The status is 0, or 2 for a
+//! fault, which is one line on standard error. If nobody reads the output any more, the program ends with status 0.
 #![tactic(auto)]
 
 mod editor;

@@ -10,8 +10,8 @@ pub(crate) struct Options<'w> {
 }
 
 impl<'w> Options<'w> {
-    /// Reads the words behind the program's name: words of flags, and then pattern and template. The word `--` ends the
-    /// flags.
+    /// Reads the words after the program's name: words of flags, and then the pattern and the template. The word `--`
+    /// ends the flags.
     pub(crate) fn read(words: &'w [String]) -> Option<Options<'w>> {
         let mut case_insensitive = false;
         let mut all = false;

@@ -8,7 +8,7 @@ use Rattle.bites_filter.specs.declared.table.Reading.{Reading}
 use Rattle.tokens.specs.Tokens.{AreWritten, token_line, token_lines}
 
 module _ (rules : List NamedRegex) (text : List ℕ) (old : Option (List ℕ)) where
-  -- what was written is right so far: with the lines of the tokens from i on it is right for all
+  -- what was written so far is right: together with the lines of the tokens from i on it is right for all tokens
   abbrev pub IsSoFar : ℕ → Option (List ℕ) → Type 0
   IsSoFar i now = (written : List ℕ) × Appends old now written
       × ((more : List Reading) (stop : ℕ) → AreReadings rules text i more stop →

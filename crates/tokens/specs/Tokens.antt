@@ -15,14 +15,14 @@ module _ (rules : List NamedRegex) (text : List ℕ) where
   token_lines i (t ∷ ts) =
       token_line (name_at rules t.rule) (take (t.end - i) (drop i text)) ++ token_lines t.end ts
 
-  -- The tokens stand one after another from the start of the text. Each is the longest that a rule reads there, by the first rule that
-  -- reads so far; where they stop no rule reads anything. Their lines stand after the old output.
+  -- The tokens stand one after another from the start of the text. Each is the longest that any rule matches there, by the first
+  -- such rule. Where they stop, no rule matches any byte. Their lines stand after the old output.
   pub record AreWritten (old new : Option (List ℕ)) (stop : ℕ) : Type 0 where
     pub tokens : List Reading
     pub are : AreReadings rules text 0 tokens stop
     pub within : stop ≤ length text
     pub written : Appends old new (token_lines 0 tokens)
 
--- the line of an offset, the first being 1
+-- the number of the line of an offset; the first line has number 1
 abbrev pub line_at : List ℕ → ℕ → ℕ
 line_at text i = count_by (λ b. b == 10) (take i text) + 1

@@ -1,12 +1,12 @@
 //! `tokens RULES`: cuts standard input into tokens.
 //!
-//! Each line of the file RULES is a name, a space and a pattern. At each place the longest token that a rule reads is
-//! taken, by the first rule that reads so far, and a line with the name of the rule and the text is written. Where no rule
-//! reads anything, the number of the byte and of its line are reported on standard error. The status is 0 if all of the
-//! input is read, 1 if not, and 2 for a fault, which is one line on standard error. That nobody reads the output any more
-//! is no fault.
+//! Each line of the file RULES is a name, a space and a pattern. A token is the longest match of any rule that begins
+//! where the previous token ends, and of several such rules the first counts. The line of a token has the name of its
+//! rule, a tab and its text. If no rule matches any byte, the tokens stop, and the number of the byte and of its line
+//! are reported on standard error. The status is 0 if the whole input is read, 1 if not, or 2 for a fault, which is one
+//! line on standard error. If nobody reads the output any more, the program ends with status 0.
 //!
-//! The input is held whole, since a token may be as long as the input. The output isn't held.
+//! The whole input is held in memory, since a token may be as long as the input. The output isn't held.
 #![tactic(auto)]
 
 mod lexer;
@@ -28,7 +28,7 @@ fn main(rt: HostRuntime) -> ExitCode {
     ExitCode::from(match done {
         Ok(None) => 0,
         Ok(Some(Stop { line, byte })) => {
-            // The status is the same where the line can't be written.
+            // The status is 1 even if the line can't be written.
             let _written = writeln!(err, "tokens: no rule reads on line {line}, at byte {byte}");
             1
         }
@@ -36,7 +36,7 @@ fn main(rt: HostRuntime) -> ExitCode {
     })
 }
 
-// Writes the tokens of the input, and returns where they stop before its end.
+// Writes the tokens of the input. Returns where they stop, if that is before its end.
 fn run<R: Read, W: Write + Drop>(
     alloc: Global,
     table: &[u8],

@@ -31,7 +31,7 @@ mod iterators {
 mod replacer {
     crate::replacer::replacer! {
         [u8], Vec<u8>, extend_from_slice,
-        /// Bytes that stand for themselves, also where they would mean something as a template.
+        /// Replacement bytes that stand for themselves, even if they contain `$`.
     }
 }
 
@@ -213,7 +213,8 @@ impl Regex {
     }
 }
 
-/// Searches from an offset, where assertions look at what stands before it too. An offset past the end finds nothing.
+/// Searches from an offset, in bytes. Assertions look at what stands before the offset too. A search from past the end finds
+/// nothing.
 impl Regex {
     /// Returns the least end of any match.
     #[inline]
@@ -221,13 +222,13 @@ impl Regex {
         self.shortest_match_at(haystack, 0)
     }
 
-    /// Returns the least end of any match at or after `start`.
+    /// Returns the least end of any match that begins at or after `start`.
     #[inline]
     pub fn shortest_match_at(&self, haystack: &[u8], start: usize) -> Option<usize> {
         self.engine.shortest_match_at(haystack, start)
     }
 
-    /// Returns whether there is a match at or after `start`.
+    /// Returns whether a match begins at or after `start`.
     #[inline]
     pub fn is_match_at(&self, haystack: &[u8], start: usize) -> bool {
         self.engine.is_match_at(haystack, start)
@@ -274,13 +275,14 @@ impl Regex {
     }
 }
 
-/// Searches that the Rust crate regex-bites doesn't have: from one offset alone, for lexers, and of a whole haystack, for routers.
+/// Searches that the Rust crate regex-bites doesn't have: from one offset alone, for lexers, and of a whole haystack, for
+/// routers.
 ///
 /// An offset counts bytes. Assertions look at what stands before it too. An offset past the end finds nothing.
 impl Regex {
     /// Returns the match that begins at `start`.
     ///
-    /// The search ends where no match that begins there can go on, so a lexer that asks for one token after another does not
+    /// The search stops as soon as no match from `start` can go on. So a lexer that asks for one token after another doesn't
     /// read the rest of the haystack each time.
     ///
     /// ```
@@ -311,7 +313,7 @@ impl Regex {
         Some(self.captures_of(haystack, groups))
     }
 
-    /// Returns whether the pattern matches the whole haystack, also where it prefers a shorter match.
+    /// Returns whether the pattern matches the whole haystack, even if it prefers a shorter match.
     ///
     /// ```
     /// let route = regex_bites::bytes::Regex::new(r"/items|/items/\d+").unwrap();

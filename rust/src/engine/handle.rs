@@ -65,7 +65,7 @@ impl Handle {
         }
     }
 
-    /// Another handle of the same regex.
+    /// Returns another handle of this regex.
     pub(super) fn share(&mut self) -> Handle {
         let mut handle = Handle(Bites::EMPTY);
         // SAFETY: both handles are borrowed exclusively, and are two.
@@ -154,7 +154,7 @@ impl Searcher {
     ///
     /// # Safety
     ///
-    /// A call that finds a match writes so many groups.
+    /// A call that finds a match writes `count` groups.
     #[inline]
     pub(super) unsafe fn captures(
         &mut self,
@@ -167,7 +167,7 @@ impl Searcher {
             return None;
         }
         let mut groups = mem::take(&mut self.spare);
-        // SAFETY: there is room for so many groups, and as the caller says they are written.
+        // SAFETY: there is room for `count` groups, and the caller says that they are written.
         unsafe { groups.set_len(count) };
         Some(groups)
     }

@@ -1,9 +1,12 @@
 //! The engine's calls, in safe Rust. All `unsafe` of this crate stands here, in `pool` and in `race`.
 //!
-//! What every call asks: its handles hold what the engine put there or nothing, and no other call uses them meanwhile, since they
-//! are borrowed exclusively; each pointer with a length is one slice, or the spare room of a buffer, which lives until the call
-//! returns and is not null, also where it is empty; and what is written to is borrowed exclusively, so that it overlaps nothing
-//! that is read.
+//! Each call meets these requirements of the engine:
+//!
+//! - Its handles hold what the engine put there, or nothing. No other call uses them meanwhile, since they are borrowed
+//!   exclusively.
+//! - Each pointer with a length is one slice, or the spare room of a buffer. It lives until the call returns, and it is not
+//!   null even if it is empty.
+//! - What the call writes to is borrowed exclusively, so it overlaps nothing that the call reads.
 #![allow(unsafe_code)]
 
 use crate::error::Error;
@@ -31,10 +34,10 @@ pub(crate) struct Program {
     names: Names,
 }
 
-/// The name of each group. The names are read when the regex is made, since a lock that is asked each time takes as long as
+/// The name of each group. The names are read when the regex is made, since taking a lock each time would cost as much as
 /// going over a few names.
 enum Names {
-    /// So many groups without a name, at most as many as [`UNNAMED`] has.
+    /// This number of groups without names, at most the length of [`UNNAMED`].
     Unnamed(usize),
     Each(Vec<Option<Box<str>>>),
 }
@@ -92,7 +95,7 @@ impl Program {
         self.names.as_slice()
     }
 
-    /// Returns the number of the group of this name. It is looked up in the list of names.
+    /// Returns the number of the group of this name, found in the list of names.
     pub(crate) fn index_of(&self, name: &str) -> Option<usize> {
         let mut names = self.names().iter();
         names.position(|known| known.as_deref() == Some(name))
@@ -136,8 +139,8 @@ impl Program {
             .iter()
             .all(|group| is_border(group.start) && is_border(group.end));
         let old = to.len();
-        // SAFETY: what is appended is UTF-8 where the template and all groups are. Else it is taken away again if it is not, and
-        // nothing unwinds before that is known.
+        // SAFETY: what is appended is UTF-8 if the template and all groups are. Otherwise it is checked, and removed again if
+        // it is not UTF-8, and nothing unwinds before that check.
         let bytes = unsafe { to.as_mut_vec() };
         self.expand(haystack.as_bytes(), groups, template.as_bytes(), bytes);
         if !are_texts && str::from_utf8(&bytes[old..]).is_err() {
@@ -281,7 +284,7 @@ impl Engine {
         found
     }
 
-    /// Like [`Engine::captures_read_at`], where `groups` has room for some of the groups only.
+    /// Like [`Engine::captures_read_at`], but `groups` has room for only some of the groups.
     #[cold]
     fn some_captures_read_at(
         &self,

@@ -1,4 +1,4 @@
-//! Texts that the engine writes, and those of its errors.
+//! Texts that the engine writes, and the messages of its errors.
 
 use crate::sys::{self, BitesSize};
 use std::io::{self, Write};
@@ -9,12 +9,12 @@ use std::sync::OnceLock;
 /// The size of the buffer for texts that are probably short.
 const SHORT: usize = 1024;
 
-/// Returns what a call of the engine writes, probably at most `guess` bytes. It is asked once more if it needs more room. A short
-/// text goes by way of the stack, so that nothing is allocated where there is none, and else no more than its size.
+/// Returns what a call of the engine writes, probably at most `guess` bytes. It calls once more if the call needs more room. A
+/// short text goes through a buffer on the stack, so that nothing is allocated if there is no text, and else only its size.
 ///
 /// # Safety
 ///
-/// Where the call returns `wanted`, it wrote as many bytes as it says.
+/// If the call returns `wanted`, it wrote as many bytes as it says.
 #[inline]
 pub(super) unsafe fn written(
     guess: usize,
@@ -26,7 +26,7 @@ pub(super) unsafe fn written(
         let mut short = [MaybeUninit::<u8>::uninit(); SHORT];
         let BitesSize { code, size } = ask(short.as_mut_ptr().cast(), SHORT);
         if code == wanted {
-            // SAFETY: so many bytes of the buffer are written.
+            // SAFETY: the first `size` bytes of the buffer are written.
             let text = unsafe { slice::from_raw_parts(short.as_ptr().cast(), size) };
             return Ok(text.to_vec());
         }
@@ -43,11 +43,11 @@ pub(super) unsafe fn written(
     }
 }
 
-/// Appends what a call of the engine writes, into at least so much room, and once more where the call asks for more.
+/// Appends what a call of the engine writes, into at least `room` bytes. It calls once more if the call needs more room.
 ///
 /// # Safety
 ///
-/// As [`written`] asks.
+/// As for [`written`].
 pub(super) unsafe fn append(
     to: &mut Vec<u8>,
     room: usize,
@@ -59,7 +59,7 @@ pub(super) unsafe fn append(
         let spare = to.spare_capacity_mut();
         let BitesSize { code, size } = ask(spare.as_mut_ptr().cast(), spare.len());
         if code == wanted {
-            // SAFETY: so many bytes of the spare room are written.
+            // SAFETY: the first `size` bytes of the spare room are written.
             unsafe { to.set_len(to.len() + size) };
             return Ok(());
         }
@@ -70,7 +70,7 @@ pub(super) unsafe fn append(
     }
 }
 
-/// Returns the text of an error's number, which the engine is asked for once.
+/// Returns the message of an error's number, which the engine is asked for once.
 pub(crate) fn message(code: u32) -> &'static str {
     // Each place of the array is a value of its own, for which the constant stands.
     #[allow(clippy::declare_interior_mutable_const)]
@@ -87,22 +87,22 @@ pub(crate) fn message(code: u32) -> &'static str {
     text.map_or("", String::as_str)
 }
 
-/// Writes as much of the text of an error's number as there is room for, and returns its length.
+/// Writes as much of the message of an error's number as there is room for. Returns the length of the whole message.
 fn text_into(code: u32, text: &mut [u8]) -> usize {
     // SAFETY: the pointer is of a slice of this length.
     unsafe { sys::bites_error_text(code, text.as_mut_ptr(), text.len()) }
 }
 
-/// Returns these bytes as a text. They are UTF-8, since all that the engine was given was.
+/// Returns these bytes as a text. They are UTF-8, since all that the engine read is UTF-8.
 pub(super) fn text_of(bytes: Vec<u8>) -> String {
     String::from_utf8(bytes).expect("the engine writes UTF-8 where all that it reads is UTF-8")
 }
 
-/// Returns these bytes as a text, without a look at each of them.
+/// Returns these bytes as a text, without checking them.
 ///
 /// # Safety
 ///
-/// The engine made them of UTF-8 alone, so that it is proved that they are UTF-8.
+/// The engine made them from UTF-8 only, so it is proved that they are UTF-8.
 #[inline]
 pub(super) unsafe fn made_text(bytes: Vec<u8>) -> String {
     debug_assert!(std::str::from_utf8(&bytes).is_ok());
@@ -110,14 +110,14 @@ pub(super) unsafe fn made_text(bytes: Vec<u8>) -> String {
     unsafe { String::from_utf8_unchecked(bytes) }
 }
 
-/// Ends the program, as the collections of `std` do where memory is out: no signature here can return that. Nothing unwinds,
-/// also where standard error is closed.
+/// Aborts the program, as the collections of `std` do when they are out of memory, since no signature here can return that.
+/// Nothing unwinds, even if standard error is closed.
 #[cold]
 pub(super) fn give_up(code: u32) -> ! {
     let mut text = [0; 64];
     let len = text_into(code, &mut text).min(text.len());
     let text = String::from_utf8_lossy(&text[..len]);
-    // The program ends either way, so a message that can't be written is let go.
+    // The program ends either way, so a message that can't be written is ignored.
     let _ = writeln!(io::stderr(), "regex-bites: {text} ({code})");
     std::process::abort()
 }

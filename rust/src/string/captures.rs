@@ -30,7 +30,7 @@ impl<'h> Match<'h> {
         }
     }
 
-    /// Returns the offset where it begins.
+    /// Returns the offset of its first byte.
     #[inline]
     pub fn start(&self) -> usize {
         self.start
@@ -48,13 +48,13 @@ impl<'h> Match<'h> {
         self.start == self.end
     }
 
-    /// Returns the number of its bytes.
+    /// Returns its length in bytes.
     #[inline]
     pub fn len(&self) -> usize {
         self.end - self.start
     }
 
-    /// Returns its range of offsets.
+    /// Returns its range of offsets, in bytes.
     #[inline]
     pub fn range(&self) -> Range<usize> {
         self.start..self.end
@@ -134,8 +134,7 @@ impl<'h> Captures<'h> {
         self.get(self.program.index_of(name)?)
     }
 
-    /// Returns the text of the match, and the texts of the first groups that participated: as many as participate in every
-    /// match.
+    /// Returns the text of the match, and the texts of the first `N` groups that participated.
     ///
     /// # Panics
     ///

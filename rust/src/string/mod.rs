@@ -18,7 +18,7 @@ mod iterators {
 mod replacer {
     crate::replacer::replacer! {
         str, String, push_str,
-        /// A text that stands for itself, also where it would mean something as a template.
+        /// A replacement text that stands for itself, even if it contains `$`.
         ///
         /// ```
         /// let price = regex_bites::Regex::new(r"\d+").unwrap();
@@ -205,10 +205,11 @@ impl Regex {
     }
 }
 
-/// Searches from an offset, where assertions look at what stands before it too. An offset past the end finds nothing.
+/// Searches from an offset, in bytes. Assertions look at what stands before the offset too. A search from past the end finds
+/// nothing.
 ///
-/// An offset should be the start of a character. From within one, the rest of it is searched as bytes that are not UTF-8, and
-/// asking for the text of what begins or ends there panics.
+/// An offset should be the start of a character. From within a character, the rest of that character is searched as bytes that
+/// are not UTF-8, and asking for the text of a match that begins or ends there panics.
 impl Regex {
     /// Returns the least end of any match.
     #[inline]
@@ -216,13 +217,13 @@ impl Regex {
         self.shortest_match_at(haystack, 0)
     }
 
-    /// Returns the least end of any match at or after `start`.
+    /// Returns the least end of any match that begins at or after `start`.
     #[inline]
     pub fn shortest_match_at(&self, haystack: &str, start: usize) -> Option<usize> {
         self.engine.shortest_match_at(haystack.as_bytes(), start)
     }
 
-    /// Returns whether there is a match at or after `start`.
+    /// Returns whether a match begins at or after `start`.
     #[inline]
     pub fn is_match_at(&self, haystack: &str, start: usize) -> bool {
         self.engine.is_match_at(haystack.as_bytes(), start)
@@ -271,7 +272,8 @@ impl Regex {
     }
 }
 
-/// Searches that the Rust crate regex-bites doesn't have: from one offset alone, for lexers, and of a whole haystack, for routers.
+/// Searches that the Rust crate regex-bites doesn't have: from one offset alone, for lexers, and of a whole haystack, for
+/// routers.
 ///
 /// An offset counts bytes. Assertions look at what stands before it too. An offset past the end finds nothing.
 ///
@@ -279,7 +281,7 @@ impl Regex {
 impl Regex {
     /// Returns the match that begins at `start`.
     ///
-    /// The search ends where no match that begins there can go on, so a lexer that asks for one token after another does not
+    /// The search stops as soon as no match from `start` can go on. So a lexer that asks for one token after another doesn't
     /// read the rest of the haystack each time.
     ///
     /// ```
@@ -312,7 +314,7 @@ impl Regex {
         Some(self.captures_of(haystack, groups))
     }
 
-    /// Returns whether the pattern matches the whole haystack, also where it prefers a shorter match.
+    /// Returns whether the pattern matches the whole haystack, even if it prefers a shorter match.
     ///
     /// ```
     /// let route = regex_bites::Regex::new(r"/items|/items/\d+").unwrap();

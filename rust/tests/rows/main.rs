@@ -1,7 +1,7 @@
-//! Asks the rows of the repository's tables, `crates/bites_rows/data`, of this crate, over bytes or over texts as each
-//! row says, and over texts too where a row of bytes has a haystack that is one. Their README says what a row is.
+//! Asks this crate the rows of the repository's tables, `crates/bites_rows/data`, over bytes, and over texts too if the
+//! haystack and the template are texts and the search does not begin within a character. Their README says what a row is.
 //!
-//! With a number as argument only each row of so many is asked: `cargo test --test rows -- 40`.
+//! With a number N as argument, only one of N rows is asked: `cargo test --test rows -- 40`.
 
 use std::collections::BTreeMap;
 use std::path::{Path, PathBuf};
@@ -13,7 +13,7 @@ mod surface;
 
 use row::Row;
 
-/// What a table asks that no call of the crate returns.
+/// The calls of a table that no call of the crate answers.
 const LEFT_OUT: [(&str, &str); 2] = [
     ("tree", "the crate returns no tree"),
     ("program", "the crate returns no compiled program"),
@@ -56,7 +56,7 @@ impl Report {
         *self.left_out.entry(reason).or_default() += 1;
     }
 
-    /// Every way to ask a row must give the wanted answer.
+    /// Asks a row in every way. Each must give the expected answer.
     fn compare(&mut self, surface: &str, row: &Row, answers: Vec<String>) {
         *self
             .asked

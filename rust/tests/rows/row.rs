@@ -20,7 +20,7 @@ pub struct Row {
     pub wanted: String,
 }
 
-/// All rows of a table.
+/// Returns all rows of a table.
 pub fn read(path: &Path) -> Vec<Row> {
     let table = fs::read_to_string(path).expect("a table can be read");
     let name = path
@@ -57,7 +57,7 @@ fn row(place: String, line: &str) -> Row {
     }
 }
 
-/// The bytes that a column stands for.
+/// Returns the bytes that a column stands for.
 fn unescaped(column: &str) -> Vec<u8> {
     let mut bytes = Vec::new();
     let mut rest = column.as_bytes();
@@ -80,7 +80,7 @@ fn unescaped(column: &str) -> Vec<u8> {
     bytes
 }
 
-/// How a column writes the bytes.
+/// Returns the column that stands for the bytes.
 pub fn escaped(bytes: &[u8]) -> String {
     let mut column = String::new();
     for &byte in bytes {

@@ -1,17 +1,17 @@
-//! What the crate answers a row, over bytes and over texts, in each way that there is to ask it.
+//! The crate's answers to a row, over bytes and over texts, in each way to ask it.
 
 use crate::row::{escaped, Row};
 use std::borrow::Cow;
 
-/// The greatest size limit that `least_size` asks for.
+/// The greatest size limit that `least_size` tries.
 const GREATEST_SIZE: usize = 67_108_864;
 
-/// The answers over bytes.
+/// Returns the answers over bytes.
 pub fn over_bytes(row: &Row, pattern: &str) -> Vec<String> {
     bytes::answers(row, pattern, &row.haystack, &row.template)
 }
 
-/// The answers over texts, if haystack and template are texts and the search begins at the border of a character.
+/// Returns the answers over texts, if haystack and template are texts and the search does not begin within a character.
 pub fn over_texts(row: &Row, pattern: &str) -> Option<Vec<String>> {
     let haystack = std::str::from_utf8(&row.haystack).ok()?;
     let template = std::str::from_utf8(&row.template).ok()?;
@@ -24,7 +24,7 @@ fn span(start: usize, end: usize) -> String {
     format!("{start}..{end}")
 }
 
-/// All of them parted by this, or `none`.
+/// Returns all of them with this separator, or `none`.
 fn joined(parts: Vec<String>, by: &str) -> String {
     if parts.is_empty() {
         return "none".into();
@@ -75,7 +75,7 @@ macro_rules! surface {
                 builder
             }
 
-            /// The wanted size, if it builds and a smaller one does not; else where it does not hold.
+            /// Returns the expected size, if it builds and the next smaller one does not; else says what is wrong.
             fn least_size(row: &Row, pattern: &str) -> String {
                 let least = row.wanted.parse().unwrap_or(GREATEST_SIZE + 1);
                 let mut builder = builder(row, pattern);

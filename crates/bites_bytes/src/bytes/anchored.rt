@@ -119,7 +119,8 @@ impl Regex {
         ensures fits { cache.new.fits ≡ cache.old.fits }
         ensures walked { IfOk result (λ c. IsWalkedFrom self.now.program haystack.now start (is_some c) cache.new.walked) }
     {
-        // What every regex is: its tree finds what its program answers.
+        // For proofs: the contract of `as_str` says that the regex is compiled, so its tree finds what its program
+        // finds.
         let _pattern = self.as_str();
         Captures::find_anchored(self, cache, haystack, start)
     }
@@ -212,7 +213,8 @@ impl Regex {
         ensures fits { cache.new.fits ≡ cache.old.fits }
         ensures bounded { OnOk result (IsBounded self.now.program haystack.now 0 cache.new.walked) }
     {
-        // What every regex is: its tree finds what its program answers.
+        // For proofs: the contract of `as_str` says that the regex is compiled, so its tree finds what its program
+        // finds.
         let _pattern = self.as_str();
         Captures::find_full(self, cache, haystack)
     }

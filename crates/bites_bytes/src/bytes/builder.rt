@@ -22,13 +22,13 @@ use std::alloc::{AllocError, Global};
 use std::fmt;
 use std::marker::Model;
 
-/// The greatest size of a program, in the units of [`RegexBuilder::size_limit`], where nothing else is asked.
+/// The default of [`RegexBuilder::size_limit`], in its units.
 const SIZE_LIMIT: usize = 10 * (1 << 20);
 
-/// How tall a tree may be, and how many groups open at once, where nothing else is asked.
+/// The default of [`RegexBuilder::nest_limit`].
 const NEST_LIMIT: u32 = 50;
 
-// How large a program and how tall a tree may be.
+// The limits on the size of a program and on the height of a tree.
 #[derive(Clone, Copy, Debug)]
 struct Limits {
     size: usize,
@@ -36,6 +36,13 @@ struct Limits {
 }
 
 /// A builder of regexes: a pattern with flags and limits.
+///
+/// ```rust
+/// let mut builder = RegexBuilder::new(rt.alloc(), "abc")?;
+/// builder.case_insensitive(true);
+/// let regex = builder.build()?;
+/// assert!(rt; regex.is_match(b"\xFFABC")?);
+/// ```
 ///
 /// For proofs: a contract sees these settings.
 #[derive(Drop)]
@@ -148,8 +155,8 @@ impl RegexBuilder {
     /// Sets the greatest size of the program, roughly in bytes. The default is 10 MiB (10485760). A build that
     /// exceeds it is refused with [`Error::TooBig`] before any state is made.
     ///
-    /// A state counts 32, a target of a choice 4, and a range of characters 8. Each group number from 0 to the
-    /// greatest that is left counts 16, and the name of a group its bytes and 4.
+    /// A state counts 32, a target of a state that splits 4, and a range of characters 8. Each group number from 0 to
+    /// the greatest that is left counts 16, and the name of a group its bytes and 4.
     pub fn size_limit(&mut self, limit: usize) -> &mut RegexBuilder
         ensures same { result.ghost_name ≡ self.entry.ghost_name }
         ensures set { result.now ≡ record self.old { size_limit = limit } }
@@ -204,7 +211,8 @@ impl RegexBuilder {
         self
     }
 
-    /// Returns a regex of this pattern, in time linear in the pattern and the size limit.
+    /// Returns a regex of this pattern, in time linear in the pattern and the size limit, except for the sorting of
+    /// classes and of group names.
     ///
     /// The error is the message of the pattern's first fault, or of the first limit that the pattern exceeds, or out
     /// of memory. A refused build leaves the builder unchanged, and it may be used again.
@@ -225,7 +233,7 @@ impl RegexBuilder {
         self.copy()?.compiled(&tree, &groups)
     }
 
-    /// Returns the regex that [`RegexBuilder::build`] returns, and gives the builder up, so that the pattern is not
+    /// Returns the regex that [`RegexBuilder::build`] returns, but consumes the builder, so that the pattern is not
     /// copied again.
     ///
     /// For proofs: the contract is that of [`RegexBuilder::build`].
@@ -242,7 +250,7 @@ impl RegexBuilder {
         self.compiled(&tree, &groups)
     }
 
-    // The tree of the pattern, and all groups that the pattern opens.
+    // Reads the pattern. Returns its tree, and all groups that it opens.
     fn read(&self) -> Result<(syntax::Tree, Groups), Error>
         ensures read { IfOk result
             (λ r. measure.Limits (chars self.now.pattern) self.now.flags self.now.nest_limit r.0) }
@@ -270,7 +278,7 @@ impl RegexBuilder {
         })
     }
 
-    // The regex of the tree that was read from the pattern, and of all groups that the pattern opens.
+    // Returns the regex of the tree that was read from the pattern, and of all groups that the pattern opens.
     fn compiled(self, tree: &syntax::Tree, groups: &Groups) -> Result<Regex, Error>
         requires read { measure.Limits (chars self.pattern) self.flags self.nest_limit tree.now }
         requires groups { (reading : Reading (chars self.pattern) self.flags tree.now) →
@@ -297,7 +305,7 @@ impl RegexBuilder {
     }
 }
 
-// The program of the tree, with all of the groups or with those that are left in the tree.
+// Compiles the tree with all of the groups, or with those that are left in the tree.
 fn compile_kept(
     alloc: Global,
     tree: &syntax::Tree,

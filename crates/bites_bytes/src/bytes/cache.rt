@@ -55,8 +55,8 @@ impl Cache {
         })
     }
 
-    // The run that a search from `start` returns: it is put into the slots, as far as there are any. Where there is none
-    // they stay.
+    // Searches from `start`, and returns whether it finds a match. Writes the slots of the match, as many as are given;
+    // without a match they are unchanged.
     pub(super) fn search(
         &mut self,
         compiled: &Compiled,
@@ -80,7 +80,7 @@ impl Cache {
         }
     }
 
-    // Where the run begins and ends that a search from `start` returns.
+    // Returns where the match that a search from `start` finds begins and ends.
     pub(super) fn find(
         &mut self,
         compiled: &Compiled,
@@ -101,8 +101,8 @@ impl Cache {
         ends_in(&slots)
     }
 
-    // Whether there is a match that begins at a place from `start` on. No slot is asked, and the search ends where it
-    // first meets one.
+    // Returns whether a match begins at a place from `start` on. It asks for no slots, and stops at the first end of a
+    // match.
     pub(super) fn is_match(&mut self, compiled: &Compiled, haystack: &[u8], start: usize) -> bool
         requires { self.old.fits ≡ fit_of compiled.now.program }
         ensures found { IsTrue result ↔ HasMatch compiled.now.tree haystack.now start }
@@ -119,7 +119,7 @@ impl Cache {
         )
     }
 
-    // The least end of any match that begins at a place from `start` on.
+    // Returns the least end of all matches that begin at a place from `start` on.
     pub(super) fn shortest(
         &mut self,
         compiled: &Compiled,
@@ -139,8 +139,8 @@ impl Cache {
         end_in(&slots)
     }
 
-    // Writes the slots of the next match after one that ends at `last`, or of the first of all, and returns whether there is
-    // one. Where there is none, the slots may be written too.
+    // Writes the slots of the next match after one that ends at `last`, or of the first match, and returns whether
+    // there is one. Without a match the slots may be written too.
     pub(super) fn next_match(
         &mut self,
         compiled: &Compiled,
@@ -170,8 +170,7 @@ impl Cache {
         self.search(compiled, haystack, last + step, slots)
     }
 
-    // The run from `start` alone that a search returns: it is put into the slots, as far as there are any. Where there is
-    // none they stay.
+    // Like [`Cache::search`], but finds only a match that begins at `start` itself.
     pub(super) fn search_anchored(
         &mut self,
         compiled: &Compiled,
@@ -196,7 +195,7 @@ impl Cache {
         }
     }
 
-    // Where that run begins and ends.
+    // Like [`Cache::find`], but finds only a match that begins at `start` itself.
     pub(super) fn find_anchored(
         &mut self,
         compiled: &Compiled,
@@ -218,7 +217,7 @@ impl Cache {
         ends_in(&slots)
     }
 
-    // Whether a match begins at `start`. No slot is asked, and the search ends where it first meets one.
+    // Returns whether a match begins at `start` itself. It asks for no slots, and stops at the first end of a match.
     pub(super) fn is_match_anchored(
         &mut self,
         compiled: &Compiled,
@@ -240,8 +239,8 @@ impl Cache {
         )
     }
 
-    // The first run over the whole haystack: it is put into the slots. Where there is none, the slots may be written too.
-    // The longest run from the start is it, if that ends at the end.
+    // Writes the slots of the preferred match of the whole haystack, and returns whether there is one. Without one the
+    // slots may be written too. It is the longest match from the start, if that ends where the haystack does.
     pub(super) fn search_full(
         &mut self,
         compiled: &Compiled,
@@ -270,7 +269,7 @@ impl Cache {
         ends_at(slots, haystack.len())
     }
 
-    // Whether the pattern matches the whole haystack.
+    // Returns whether the pattern matches the whole haystack.
     pub(super) fn is_full_match(&mut self, compiled: &Compiled, haystack: &[u8]) -> bool
         requires { self.old.fits ≡ fit_of compiled.now.program }
         ensures found { IsTrue result ↔ IsFullMatch compiled.now.tree haystack.now }
@@ -290,7 +289,7 @@ impl Cache {
     }
 }
 
-// The two places, if both are known.
+// Returns the offsets in the first two slots, if both are known.
 pub(super) fn ends_in(slots: &[Option<usize>]) -> Option<(usize, usize)>
     requires { 2 ≤ length slots.now }
     ensures { option_map (λ s. span s.0 s.1) result ≡ group_in slots.now 0 }
@@ -298,7 +297,7 @@ pub(super) fn ends_in(slots: &[Option<usize>]) -> Option<(usize, usize)>
     Some((slots[0]?, slots[1]?))
 }
 
-// The place in the second slot.
+// Returns the offset in the second slot, if it is known.
 fn end_in(slots: &[Option<usize>]) -> Option<usize>
     requires { 2 ≤ length slots.now }
     ensures { result ≡ slot_in slots.now 1 }
@@ -306,7 +305,7 @@ fn end_in(slots: &[Option<usize>]) -> Option<usize>
     slots[1]
 }
 
-// Whether the second slot has that place.
+// Returns whether the second slot has this offset.
 fn ends_at(slots: &[Option<usize>], place: usize) -> bool
     requires { 2 ≤ length slots.now }
     ensures { IsTrue result ↔ (slot_in slots.now 1 ≡ Some place) }
@@ -317,7 +316,7 @@ fn ends_at(slots: &[Option<usize>], place: usize) -> bool
     }
 }
 
-// Whether the first two slots are known, and both hold the place.
+// Returns whether both of the first two slots have this offset.
 fn is_empty_at(slots: &[Option<usize>], place: usize) -> bool
     requires { 2 ≤ length slots.now }
     ensures { result ≡ is_empty_at (λ s. s) place (group_in slots.now 0) }
@@ -328,7 +327,8 @@ fn is_empty_at(slots: &[Option<usize>], place: usize) -> bool
     }
 }
 
-// How far it is to the next place: over the piece that stands here, or one byte at the end of the haystack.
+// Returns the distance in bytes to the next place: the length of the piece that stands here, or 1 at the end of the
+// haystack.
 #[tactic(auto, unfolding(bites_spec::specs::Utf8::piece))]
 fn step_at(haystack: &[u8], place: usize) -> usize
     requires { place ≤ length haystack.now }

@@ -16,7 +16,7 @@ use std::iter::FusedIterator;
 pub struct CaptureMatches<'r, 'h> {
     matches: Matches<'r, 'h>,
     locations: CaptureLocations,
-    // Whether memory was refused.
+    // Whether memory ran out.
     refused: bool,
     pub ghost fits: { length locations ≡ (regex_of_matches matches).program.slots },
     pub ghost whole: { 2 ≤ length locations },
@@ -26,7 +26,7 @@ impl<'r, 'h> CaptureMatches<'r, 'h> {
     ghost use Rattle.bites_spec.specs.Refused.{YieldsUntilRefused};
     ghost use Rattle.bites_bytes.specs.CapturesLeft.{NextCaptures, captures_left};
 
-    // Goes on to the next match, if there is one; the locations have its slots then.
+    // Goes on to the next match, and returns whether there is one. The locations have its slots then.
     fn advance(&mut self) -> bool
         ensures steps { NextCaptures self.old result self.new }
         ensures refused { self.new.refused ≡ self.old.refused }
@@ -35,7 +35,7 @@ impl<'r, 'h> CaptureMatches<'r, 'h> {
         found.is_some()
     }
 
-    // The groups of the next match, or a refusal.
+    // Returns the groups of the next match, or that memory ran out.
     fn step(&mut self) -> Option<Result<Captures<'h>, AllocError>>
         ensures { YieldsUntilRefused (λ c. c) captures_left self.old result self.new }
     {
@@ -99,6 +99,15 @@ impl Regex {
 
     /// Returns an iterator over the groups of the successive matches, which are those of [`Regex::find_iter`]. The
     /// error is out of memory for the cache of the iterator.
+    ///
+    /// ```rust
+    /// let regex = Regex::new(rt.alloc(), "a(b)?")?;
+    /// let mut participates = Vec::new(rt.alloc());
+    /// for captures in regex.captures_iter(b"ab a")? {
+    ///     participates.push(captures?.get(1).is_some())?;
+    /// }
+    /// assert_eq!(rt; participates.as_slice(), [true, false].as_slice());
+    /// ```
     pub fn captures_iter<'r, 'h>(
         &'r self,
         haystack: &'h [u8],

@@ -2,7 +2,7 @@
 
 ghost use Rattle.std.specs.Prelude.{◌≡◌, ◌+◌, ◌/◌, length, map, take, drop, is_some, IfOk, IfSome, IsSome, OnOk, Some, option_map, option_and_then};
 ghost use Rattle.bites_spec.specs.Measure.{static_captures_len};
-ghost use Rattle.bites_spec.specs.Slots.{group_in, taking_part};
+ghost use Rattle.bites_spec.specs.Slots.{group_in, participating};
 ghost use Rattle.bites_spec.specs.Counts.{fit_of, IsBounded, IsWalked};
 ghost use Rattle.bites_spec.specs.Pieces.{text_at};
 ghost use Rattle.bites_spec.specs.Regex.{slots_at};
@@ -60,7 +60,7 @@ impl<'h> Captures<'h> {
     ghost use Rattle.bites_bytes.specs.Matched.{excerpt_of};
     ghost use Rattle.bites_spec.specs.Replacer.{answer_text, expanded};
 
-    // The groups of the match that a search from `start` returns.
+    // Returns the groups of the match that a search from `start` finds.
     pub(super) fn find(
         regex: &Regex,
         cache: &mut Cache,
@@ -85,7 +85,7 @@ impl<'h> Captures<'h> {
         }))
     }
 
-    // The groups of the match from `start` alone that a search returns.
+    // Returns the groups of the match that begins at `start` itself.
     pub(super) fn find_anchored(
         regex: &Regex,
         cache: &mut Cache,
@@ -110,7 +110,7 @@ impl<'h> Captures<'h> {
         }))
     }
 
-    // The groups of a match of the whole haystack.
+    // Returns the groups of a match of the whole haystack.
     pub(super) fn find_full(
         regex: &Regex,
         cache: &mut Cache,
@@ -134,7 +134,7 @@ impl<'h> Captures<'h> {
         }))
     }
 
-    // The groups in the locations.
+    // Returns the groups whose offsets the locations have.
     pub(super) fn of(
         regex: &Regex,
         haystack: &'h [u8],
@@ -161,6 +161,13 @@ impl<'h> Captures<'h> {
 
     /// Returns the match of the group with this name. Returns `None` if the group doesn't participate, and if no
     /// group has the name.
+    ///
+    /// ```rust
+    /// let regex = Regex::new(rt.alloc(), r"(?<hour>\d+):(?<minute>\d+)")?;
+    /// let captures = regex.captures(b"at 12:34")?.ok_or("no match")?;
+    /// let minute = captures.name("minute").ok_or("no minute")?;
+    /// assert_eq!(rt; minute.as_bytes(), b"34".as_slice());
+    /// ```
     pub fn name(&self, name: &str) -> Option<Match<'h>>
         ensures { option_map excerpt_of result ≡ option_map (excerpt self.now.haystack)
             (option_and_then (group_in self.now.slots) (index_in self.now.regex.names name.now)) }
@@ -178,14 +185,15 @@ impl<'h> Captures<'h> {
         self.compiled.group_index(name)
     }
 
-    /// Returns an iterator over the names of the groups, from group 0 on, which has none.
+    /// Returns an iterator over the names of the groups, from group 0 on. An item is `None` if its group has no name;
+    /// group 0 has none.
     pub fn capture_names(&self) -> CaptureNames<'_>
         ensures { result ≡ self.now.regex.names }
     {
         CaptureNames::new(self.compiled.program())
     }
 
-    // The bytes of the group of this number, if it participates.
+    // Returns the bytes of the group with this number, if it participates.
     fn group_bytes(&self, group: usize) -> Option<&'h [u8]>
         ensures { answer_text result ≡ text_in self.now.slots self.now.haystack group }
     {
@@ -249,7 +257,7 @@ impl<'h> Captures<'h> {
         requires { static_captures_len self.now.regex.tree ≡ Some (length parts.old + 1) }
         ensures whole { Some result.now ≡ option_map (text_at self.now.haystack) (group_in self.now.slots 0) }
         ensures parts { map (λ text. text.now) parts.new
-            ≡ map (text_at self.now.haystack) (take (length parts.old) (drop 1 (taking_part self.now.slots))) }
+            ≡ map (text_at self.now.haystack) (take (length parts.old) (drop 1 (participating self.now.slots))) }
     {
         let mut filled = 0;
         for group in 1..self.locations.len() {
@@ -287,7 +295,7 @@ impl<'h> fmt::Debug for Captures<'h> {
 }
 
 impl<'h> Captures<'h> {
-    // Where a group participates, and its bytes.
+    // Returns where a group begins and ends, and its bytes, if it participates.
     fn debug_part(&self, group: usize) -> Part<&'h [u8]> {
         match self.get(group) {
             Some(found) => Part(Some((found.start(), found.end(), found.as_bytes()))),
@@ -373,7 +381,8 @@ impl Regex {
         ensures fits { cache.new.fits ≡ cache.old.fits }
         ensures walked { IfOk result (λ c. IsWalked self.now.program haystack.now start (is_some c) cache.new.walked) }
     {
-        // What every regex is: its tree finds what its program answers.
+        // For proofs: the contract of `as_str` says that the regex is compiled, so its tree finds what its program
+        // finds.
         let _pattern = self.as_str();
         Captures::find(self, cache, haystack, start)
     }

@@ -32,7 +32,7 @@ impl Model for CaptureLocations {
 }
 
 impl CaptureLocations {
-    // So many slots, none of them known.
+    // Allocates `count` slots, none of them known.
     pub(super) fn new(alloc: Global, count: usize) -> Result<CaptureLocations, AllocError>
         ensures { IfOk result (λ l. l ≡ replicate count None) }
     {
@@ -67,7 +67,8 @@ impl CaptureLocations {
         self.slots.len() == regex.program().slots()
     }
 
-    // The slots of the run that a search from `start` returns; where there is none they stay.
+    // Writes the slots of the match that a search from `start` finds, and returns whether there is one. Without a match
+    // they are unchanged.
     pub(super) fn search(
         &mut self,
         compiled: &Compiled,
@@ -86,7 +87,7 @@ impl CaptureLocations {
         cache.search(compiled, haystack, start, &mut self.slots)
     }
 
-    // The same, with where the run begins and ends.
+    // Like [`CaptureLocations::search`], but returns where the match begins and ends.
     pub(super) fn read(
         &mut self,
         compiled: &Compiled,
@@ -111,7 +112,8 @@ impl CaptureLocations {
 }
 
 impl CaptureLocations {
-    // The slots of the run from `start` alone that a search returns; where there is none they stay.
+    // Writes the slots of the match that begins at `start` itself, and returns whether there is one. Without a match
+    // they are unchanged.
     pub(super) fn search_anchored(
         &mut self,
         compiled: &Compiled,
@@ -131,7 +133,7 @@ impl CaptureLocations {
         cache.search_anchored(compiled, haystack, start, &mut self.slots)
     }
 
-    // The same, with where the run begins and ends.
+    // Like [`CaptureLocations::search_anchored`], but returns where the match begins and ends.
     pub(super) fn read_anchored(
         &mut self,
         compiled: &Compiled,
@@ -156,7 +158,8 @@ impl CaptureLocations {
         self.get(0)
     }
 
-    // The slots of the first run over the whole haystack; where there is none, they may be written too.
+    // Writes the slots of the preferred match of the whole haystack, and returns whether there is one. Without one they
+    // may be written too.
     pub(super) fn search_full(
         &mut self,
         compiled: &Compiled,
@@ -178,7 +181,7 @@ impl CaptureLocations {
 impl CaptureLocations {
     ghost use Rattle.bites_bytes.specs.Matches.{Advances, IsSameSearch, Moves, cursor_of, regex_of, regex_of_matches};
 
-    // The next match, with its slots.
+    // Returns the next match, and writes its slots.
     pub(super) fn advance<'r, 'h>(&mut self, matches: &mut Matches<'r, 'h>) -> Option<Match<'h>>
         requires fits { length self.old ≡ (regex_of_matches matches.old).program.slots }
         requires whole { 2 ≤ length self.old }
@@ -190,7 +193,7 @@ impl CaptureLocations {
         matches.advance(&mut self.slots)
     }
 
-    // The same, where the caller has the cache.
+    // Like [`CaptureLocations::advance`], but the caller gives the cache.
     pub(super) fn advance_with<'r, 'h>(
         &mut self,
         cursor: &mut Cursor<'r, 'h>,

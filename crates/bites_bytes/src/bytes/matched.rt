@@ -34,7 +34,7 @@ impl<'h> Match<'h> {
         }
     }
 
-    // The match at two places, if there is one.
+    // Returns the match between two offsets, if they are given.
     pub(super) fn at(haystack: &'h [u8], ends: Option<(usize, usize)>) -> Option<Match<'h>>
         requires { IfSome ends (λ s. (s.0 ≤ s.1) × (s.1 ≤ length haystack.now)) }
         ensures found { option_map excerpt_of result

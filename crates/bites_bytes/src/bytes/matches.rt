@@ -13,12 +13,12 @@ use std::alloc::AllocError;
 use std::fmt;
 use std::iter::FusedIterator;
 
-// The place among the successive matches where the next search goes on. The caller gives the cache of each search.
+// A position among the successive matches, where the next search goes on. The caller gives each search its cache.
 #[derive(Drop)]
 pub(super) struct Cursor<'r, 'h> {
     regex: &'r Regex,
     haystack: &'h [u8],
-    // Where the match before ended, if there was one.
+    // Where the last match ended, if there was one.
     last: Option<usize>,
     pub ghost within: { ForSome last (λ e. e ≤ length haystack.now) },
     pub ghost bounded: { length haystack.now < 2 ^ 63 },
@@ -29,7 +29,7 @@ impl<'r, 'h> Cursor<'r, 'h> {
     ghost use Rattle.bites_bytes.specs.Matched.{excerpt_of};
     ghost use Rattle.bites_bytes.specs.Matches.{Advances, Moves, IsSameSearch, left_from, regex_of, haystack_of, last_of};
 
-    // In front of the first match.
+    // Returns a cursor before the first match.
     pub(super) fn new(regex: &'r Regex, haystack: &'h [u8]) -> Cursor<'r, 'h>
         ensures regex { regex_of result ≡ regex.now }
         ensures haystack { haystack_of result ≡ haystack.now }
@@ -54,14 +54,14 @@ impl<'r, 'h> Cursor<'r, 'h> {
         self.haystack
     }
 
-    // Whether there was a match.
+    // Returns whether a match was found already.
     pub(super) fn has_begun(&self) -> bool
         ensures { result ≡ is_some (last_of self.now) }
     {
         self.last.is_some()
     }
 
-    // Where the match before ended, or where the haystack begins.
+    // Returns where the last match ended, or 0 before the first.
     pub(super) fn end_of_last(&self) -> usize
         ensures last { result ≡ unwrap_or (last_of self.now) 0 }
         ensures within { result ≤ length (haystack_of self.now) }
@@ -69,7 +69,7 @@ impl<'r, 'h> Cursor<'r, 'h> {
         self.last.unwrap_or(0)
     }
 
-    // The next match; the slots that are given have the front of its slots then.
+    // Returns the next match, and writes the first of its slots, as many as are given.
     pub(super) fn advance(
         &mut self,
         cache: &mut Cache,
@@ -95,7 +95,7 @@ impl<'r, 'h> Cursor<'r, 'h> {
         }
     }
 
-    // The next match.
+    // Returns the next match.
     pub(super) fn step(&mut self, cache: &mut Cache) -> Option<Match<'h>>
         requires fits { cache.old.fits ≡ fit_of (regex_of self.old).program }
         ensures steps { YieldsFirstBy excerpt_of left_from self.old result self.new }
@@ -147,7 +147,7 @@ impl<'r, 'h> Matches<'r, 'h> {
         self.cursor.haystack()
     }
 
-    // Where the match before ended, or where the haystack begins.
+    // Returns where the last match ended, or 0 before the first.
     pub(super) fn end_of_last(&self) -> usize
         ensures last { result ≡ unwrap_or (last_of_matches self.now) 0 }
         ensures within { result ≤ length (haystack_of_matches self.now) }
@@ -155,7 +155,7 @@ impl<'r, 'h> Matches<'r, 'h> {
         self.cursor.end_of_last()
     }
 
-    // The next match; the slots that are given have the front of its slots then.
+    // Returns the next match, and writes the first of its slots, as many as are given.
     pub(super) fn advance(&mut self, slots: &mut [Option<usize>]) -> Option<Match<'h>>
         requires slots { IsSlotCount (regex_of_matches self.old).program (length slots.old) }
         requires whole { 2 ≤ length slots.old }
@@ -166,7 +166,7 @@ impl<'r, 'h> Matches<'r, 'h> {
         self.cursor.advance(&mut self.cache, slots)
     }
 
-    // The next match.
+    // Returns the next match.
     pub(super) fn step(&mut self) -> Option<Match<'h>>
         ensures steps { YieldsFirstBy excerpt_of matches_left self.old result self.new }
         ensures moves { Moves (cursor_of self.old) result (cursor_of self.new) }

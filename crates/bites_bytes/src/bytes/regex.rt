@@ -26,9 +26,9 @@ use std::sync::Arc;
 pub(super) struct Compiled {
     flags: Flags,
     program: Program,
-    // Whether searches answer the longest match.
+    // Whether searches return the longest match.
     leftmost_longest: bool,
-    // These take no bytes: only contracts speak of them.
+    // For proofs: these take no memory, and only contracts speak of them.
     tree: Snapshot<Tree>,
     keep_dropped_groups: Snapshot<bool>,
 }
@@ -52,7 +52,7 @@ impl Model for Compiled {
 }
 
 impl Compiled {
-    // The program, which is built from the tree.
+    // Returns the program, which is built from the tree.
     pub(super) fn program(&self) -> &Program
         ensures pattern { result.now.pattern ≡ self.now.pattern }
         ensures program { result.now.program ≡ self.now.program }
@@ -62,14 +62,14 @@ impl Compiled {
         &self.program
     }
 
-    // Whether searches answer the longest match.
+    // Returns whether searches return the longest match.
     pub(super) fn leftmost_longest(&self) -> bool
         ensures { result ≡ self.now.leftmost_longest }
     {
         self.leftmost_longest
     }
 
-    // The number of the first group of this name.
+    // Returns the number of the first group with this name.
     pub(super) fn group_index(&self, name: &str) -> Option<usize>
         ensures { result ≡ index_in self.now.names name.now }
     {
@@ -159,7 +159,7 @@ impl Regex {
         RegexBuilder::new(alloc, pattern)?.into_regex()
     }
 
-    // A regex of a tree and its program.
+    // Returns a regex of a tree and its program.
     pub(crate) fn from_parts(
         alloc: Global,
         tree: &Tree,
@@ -186,7 +186,7 @@ impl Regex {
         })
     }
 
-    // What the regex shares with its clones.
+    // Returns what the regex shares with its clones.
     pub(super) fn compiled(&self) -> &Arc<Compiled>
         ensures { result.now.value ≡ self.now }
     {

@@ -18,7 +18,7 @@ use std::borrow::CowSlice;
 #[derive(Drop)]
 struct Replacing<'r, 'h> {
     cursor: Cursor<'r, 'h>,
-    // How many matches may still be replaced; None for all.
+    // How many matches may still be replaced, or None for all.
     left: Option<usize>,
     // The haystack up to the end of the last match that was replaced, with the new texts.
     out: Vec<u8>,
@@ -29,7 +29,7 @@ impl<'r, 'h> Replacing<'r, 'h> {
     ghost use Rattle.bites_bytes.specs.Matches.{haystack_of};
     ghost use Rattle.bites_bytes.specs.Replacing.{hay_of, begin_of, StepsByText, EndsByText, StepsBy, EndsBy};
 
-    // Nothing is replaced yet; at most so many matches may be, or all for 0.
+    // Returns a haystack in which nothing is replaced yet. At most `limit` matches may be, or all if it is 0.
     fn new(regex: &'r Regex, haystack: &'h [u8], limit: usize) -> Replacing<'r, 'h>
         ensures regex { regex_of result.cursor ≡ regex.now }
         ensures haystack { haystack_of result.cursor ≡ haystack.now }
@@ -44,7 +44,7 @@ impl<'r, 'h> Replacing<'r, 'h> {
         }
     }
 
-    // Replaces the next match by the text, if one more is to be replaced.
+    // Replaces the next match by the text, if one more may be replaced. Returns whether it did.
     fn step_by_text(&mut self, cache: &mut Cache, text: &[u8]) -> Result<bool, AllocError>
         requires { cache.old.fits ≡ fit_of (regex_of self.old.cursor).program }
         ensures steps { IfOk result (λ there. StepsByText text.now self.old there self.new) }
@@ -63,7 +63,7 @@ impl<'r, 'h> Replacing<'r, 'h> {
         Ok(true)
     }
 
-    // Replaces each match by the text.
+    // Replaces all matches that may be replaced by the text.
     fn by_text(&mut self, cache: &mut Cache, text: &[u8]) -> Result<(), AllocError>
         requires { cache.old.fits ≡ fit_of (regex_of self.old.cursor).program }
         ensures ends { OnOk result (EndsByText text.now self.old self.new) }
@@ -73,7 +73,7 @@ impl<'r, 'h> Replacing<'r, 'h> {
         Ok(())
     }
 
-    // Replaces the next match by what the replacer gives, if one more is to be replaced.
+    // Replaces the next match by what the replacer gives, if one more may be replaced. Returns whether it did.
     fn step_by<R: Replacer>(
         &mut self,
         cache: &mut Cache,
@@ -103,7 +103,7 @@ impl<'r, 'h> Replacing<'r, 'h> {
         Ok(true)
     }
 
-    // Replaces each match by what the replacer gives.
+    // Replaces each match that may be replaced by what the replacer gives.
     fn by<R: Replacer>(
         &mut self,
         cache: &mut Cache,
@@ -121,7 +121,7 @@ impl<'r, 'h> Replacing<'r, 'h> {
         Ok(())
     }
 
-    // What is written, with the rest of the haystack; where nothing was replaced, the haystack as it is.
+    // Returns what is written, and then the rest of the haystack. If nothing was replaced, it borrows the haystack.
     fn finish(self) -> Result<CowSlice<'h, u8>, AllocError>
         ensures bytes { IfOk result (λ r. cow_slice_items r
             ≡ self.entry.out.items ++ drop (begin_of self.entry) (hay_of self.entry)) }
@@ -138,7 +138,7 @@ impl<'r, 'h> Replacing<'r, 'h> {
 }
 
 impl Regex {
-    // The haystack with at most `limit` matches replaced, or all for 0.
+    // Returns the haystack with its first `limit` matches replaced, or all of them if `limit` is 0.
     fn replace_by<'h, R: Replacer>(
         &self,
         cache: &mut Cache,
@@ -208,6 +208,12 @@ impl Regex {
     ///
     /// The haystack is borrowed exactly if nothing matches. [`Replacer::no_expansion`] is called once. If it returns
     /// bytes, each match is replaced by these. Else [`Replacer::replace_append`] is called for each match in turn.
+    ///
+    /// ```rust
+    /// let regex = Regex::new(rt.alloc(), "a")?;
+    /// let replaced = regex.replacen(b"aaa\xFF", 2, b"b".as_slice())?;
+    /// assert_eq!(rt; replaced.as_slice(), b"bba\xFF".as_slice());
+    /// ```
     pub fn replacen<'h, R: Replacer + Drop>(
         &self,
         haystack: &'h [u8],
@@ -225,7 +231,7 @@ impl Regex {
 
     /// Like [`Regex::replace_all`], but with a cache that fits.
     ///
-    /// It allocates the new bytes alone, and for a replacer that asks for groups the memory of these.
+    /// It allocates only the new bytes, and the groups if the replacer asks for them. The error is out of memory.
     pub fn replace_all_with<'h, R: Replacer + Drop>(
         &self,
         cache: &mut Cache,
@@ -244,8 +250,8 @@ impl Regex {
 
     /// Like [`Regex::replacen`], but with a cache that fits.
     ///
-    /// It allocates the new bytes alone, and for a replacer that asks for groups the memory of these. So where nothing
-    /// matches and [`Replacer::no_expansion`] returns bytes, it allocates nothing.
+    /// It allocates only the new bytes, and the groups if the replacer asks for them. So if nothing matches and
+    /// [`Replacer::no_expansion`] returns bytes, it allocates nothing. The error is out of memory.
     ///
     /// ```rust
     /// let regex = Regex::new(rt.alloc(), r"\d+")?;

@@ -246,14 +246,14 @@ impl<'c, 't> Replacer for &'c CowSlice<'t, u8> {
     }
 }
 
-/// The text, if it holds no `$`.
+/// Returns the text, if it holds no `$`.
 fn plain(text: &[u8]) -> Option<&[u8]>
     ensures { answer_text result ≡ plain_text text.now }
 {
     if is_plain(text) { Some(text) } else { None }
 }
 
-/// Whether the text holds no `$`.
+/// Returns whether the text holds no `$`.
 fn is_plain(text: &[u8]) -> bool
     ensures { result ≡ is_plain text.now }
 {

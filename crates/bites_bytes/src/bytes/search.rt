@@ -110,6 +110,14 @@ impl Regex {
     ///
     /// The locations must fit this regex ([`CaptureLocations::fits`]). They are unchanged if nothing matches, and
     /// after an error. At worst a search for groups takes time that grows with states times slots times characters.
+    ///
+    /// ```rust
+    /// let regex = Regex::new(rt.alloc(), "a(b)?")?;
+    /// let mut locations = regex.capture_locations()?;
+    /// let found = regex.captures_read(&mut locations, b"\xFFab")?;
+    /// assert!(rt; found.is_some());
+    /// assert_eq!(rt; locations.get(1), Some((2, 3)));
+    /// ```
     pub fn captures_read<'h>(
         &self,
         locations: &mut CaptureLocations,

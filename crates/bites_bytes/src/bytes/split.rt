@@ -11,7 +11,7 @@ use std::iter::FusedIterator;
 #[derive(Debug, Drop)]
 pub struct Split<'r, 'h> {
     matches: Matches<'r, 'h>,
-    // Whether the last piece was handed out.
+    // Whether the last piece was returned.
     done: bool,
 }
 
@@ -20,7 +20,7 @@ impl<'r, 'h> Split<'r, 'h> {
     ghost use Rattle.bites_bytes.specs.Split.{StepsOn, pieces_by, pieces_left, bytes_at};
     ghost use Rattle.std.specs.Prelude.{[]};
 
-    // The next piece.
+    // Returns the next piece.
     fn step(&mut self) -> Option<&'h [u8]>
         ensures { StepsOn self.old result self.new }
     {
@@ -38,7 +38,7 @@ impl<'r, 'h> Split<'r, 'h> {
         }
     }
 
-    // The rest of the haystack as the last piece.
+    // Returns the rest of the haystack as the last piece.
     fn rest(&mut self) -> Option<&'h [u8]>
         ensures steps { YieldsFirstBy bytes_at (λ s. pieces_by s []) self.old result self.new }
         ensures done { self.new.done ≡ true }
@@ -51,7 +51,7 @@ impl<'r, 'h> Split<'r, 'h> {
         Some(&haystack[self.matches.end_of_last()..haystack.len()])
     }
 
-    /// The number of pieces that are left. It searches for each match that is left, and takes no memory.
+    /// Returns the number of pieces that are left. It searches for each match that is left, and allocates nothing.
     pub fn count(self) -> usize
         ensures { result ≡ length (pieces_left self.entry) }
     {
@@ -100,7 +100,7 @@ impl<'r, 'h> SplitN<'r, 'h> {
     ghost use Rattle.std.specs.Iterator.{YieldsFirstBy};
     ghost use Rattle.bites_bytes.specs.Split.{limited_left, bytes_at};
 
-    // The next piece: the rest, if no more may come after it.
+    // Returns the next piece: the whole rest, if no more may come after it.
     fn step(&mut self) -> Option<&'h [u8]>
         ensures { YieldsFirstBy bytes_at limited_left self.old result self.new }
     {
@@ -115,7 +115,7 @@ impl<'r, 'h> SplitN<'r, 'h> {
         }
     }
 
-    /// The number of pieces that are left. It searches for the matches between them, and takes no memory.
+    /// Returns the number of pieces that are left. It searches for the matches between them, and allocates nothing.
     pub fn count(mut self) -> usize
         ensures { result ≡ length (limited_left self.entry) }
     {
@@ -179,6 +179,15 @@ impl Regex {
 
     /// Returns an iterator over at most `limit` pieces. The last one is the whole rest of the haystack. With
     /// `limit` 0 there are none. The error is out of memory for the cache of the iterator.
+    ///
+    /// ```rust
+    /// let regex = Regex::new(rt.alloc(), ",")?;
+    /// let mut lengths = Vec::new(rt.alloc());
+    /// for piece in regex.splitn(b"a,b,\xFF", 2)? {
+    ///     lengths.push(piece.len())?;
+    /// }
+    /// assert_eq!(rt; lengths.as_slice(), [1, 3].as_slice());
+    /// ```
     pub fn splitn<'r, 'h>(
         &'r self,
         haystack: &'h [u8],

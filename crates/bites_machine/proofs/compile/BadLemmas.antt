@@ -8,7 +8,7 @@ use Rattle.bites_spec.specs.Program as program
 use Rattle.bites_spec.specs.Program.{targets_of}
 use Rattle.bites_spec.specs.ProgramFaults.{are_ranges}
 
--- the ranges behind one that ends there
+-- the ranges after one that ends there
 abbrev pub ranges_after : Option ℕ → List (ℕ × ℕ) → Bool
 ranges_after None rs = are_ranges rs
 ranges_after (Some end) [] = true

@@ -79,30 +79,30 @@ pub IsWellFormed-compiled : (n : ℕ) (t : Tree) → captures_len t ≤ n → Ha
     IsWellFormed (program_of_tree n t)
 IsWellFormed-compiled n t room classes few = first_fault-IsWellFormed (program_of_tree n t) (first_fault-compiled n t room classes few)
 
--- what holds of groups that weigh so much, as far as 64 bits count, holds of the groups
-limits_of : (size_limit captures program_size : ℕ) (groups : List (Option (List ℕ))) (t : Tree) → size_limit < 18446744073709551616 →
-    captures ≡ length groups → program_size ≡ held (sum_by group_size groups) → LimitsBy size_limit captures program_size t →
+-- limits that hold with the saturated size of the groups hold with the groups
+limits_of : (size_limit captures groups_size : ℕ) (groups : List (Option (List ℕ))) (t : Tree) → size_limit < 18446744073709551616 →
+    captures ≡ length groups → groups_size ≡ held (sum_by group_size groups) → LimitsBy size_limit captures groups_size t →
     TreeLimitsWith size_limit groups t
-limits_of size_limit captures program_size groups t fits len is h = record {
+limits_of size_limit captures groups_size groups t fits len is h = record {
   light = omega (arith, h.light);
   few_states = h.few_states;
   few_groups = omega (arith, h.few_groups);
 }
 
-refused_of : (size_limit captures program_size : ℕ) (groups : List (Option (List ℕ))) (t : Tree) (e : Error) → size_limit < 18446744073709551616 →
-    captures ≡ length groups → program_size ≡ held (sum_by group_size groups) → RefusesBy size_limit captures program_size t e → RefusesTree size_limit groups t e
-refused_of size_limit captures program_size groups t TooBig fits len is h = omega (arith, h)
-refused_of size_limit captures program_size groups t TooManyStates fits len is h = (omega (arith, h.0), h.1)
-refused_of size_limit captures program_size groups t TooManySlots fits len is h = (omega (arith, h.0), h.1, omega (arith, h.2))
-refused_of size_limit captures program_size groups t _ fits len is h = absurd h
+refused_of : (size_limit captures groups_size : ℕ) (groups : List (Option (List ℕ))) (t : Tree) (e : Error) → size_limit < 18446744073709551616 →
+    captures ≡ length groups → groups_size ≡ held (sum_by group_size groups) → RefusesBy size_limit captures groups_size t e → RefusesTree size_limit groups t e
+refused_of size_limit captures groups_size groups t TooBig fits len is h = omega (arith, h)
+refused_of size_limit captures groups_size groups t TooManyStates fits len is h = (omega (arith, h.0), h.1)
+refused_of size_limit captures groups_size groups t TooManySlots fits len is h = (omega (arith, h.0), h.1, omega (arith, h.2))
+refused_of size_limit captures groups_size groups t _ fits len is h = absurd h
 
--- the same of what is answered
-module _ {A : Type 0} (size_limit captures program_size : ℕ) (groups : List (Option (List ℕ))) (t : Tree) (fits : size_limit < 18446744073709551616)
-    (len : captures ≡ length groups) (is : program_size ≡ held (sum_by group_size groups)) where
-  pub limits_clause : (o : Result A Error) → OnOk o (LimitsBy size_limit captures program_size t) → OnOk o (TreeLimitsWith size_limit groups t)
-  limits_clause (Ok x) h = limits_of size_limit captures program_size groups t fits len is h
+-- so do those of a result
+module _ {A : Type 0} (size_limit captures groups_size : ℕ) (groups : List (Option (List ℕ))) (t : Tree) (fits : size_limit < 18446744073709551616)
+    (len : captures ≡ length groups) (is : groups_size ≡ held (sum_by group_size groups)) where
+  pub limits_clause : (o : Result A Error) → OnOk o (LimitsBy size_limit captures groups_size t) → OnOk o (TreeLimitsWith size_limit groups t)
+  limits_clause (Ok x) h = limits_of size_limit captures groups_size groups t fits len is h
   limits_clause (Err e) h = h
 
-  pub refused_clause : (o : Result A Error) → IfErr o (RefusesBy size_limit captures program_size t) → IfErr o (RefusesTree size_limit groups t)
+  pub refused_clause : (o : Result A Error) → IfErr o (RefusesBy size_limit captures groups_size t) → IfErr o (RefusesTree size_limit groups t)
   refused_clause (Ok x) h = h
-  refused_clause (Err e) h = refused_of size_limit captures program_size groups t e fits len is h
+  refused_clause (Err e) h = refused_of size_limit captures groups_size groups t e fits len is h

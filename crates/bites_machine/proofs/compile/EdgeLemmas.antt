@@ -10,7 +10,7 @@ use Rattle.bites_spec.specs.Program.{State, Configuration, at, edges, taking, lo
 use Rattle.bites_spec.proofs.programs.SlotLemmas.{Among-left, Among-right}
 use Rattle.bites_machine.specs.Ends.{next_character, targets_over, targets_at}
 
--- what is among one list or another is among both together, and the other way round
+-- what is among one list or another is among both together, and conversely
 pub Among-apart : {A : Type 0} (xs ys : List A) (x : A) → Among (xs ++ ys) x → Among xs x ⊎ Among ys x
 Among-apart [] ys x h = inr h
 Among-apart (y ∷ xs) ys x h = ⊎_elim (λ (e : y ≡ x). inl (inl e)) (λ later. ⊎_elim (λ a. inl (inr a)) inr (Among-apart xs ys x later)) h
@@ -34,7 +34,7 @@ Among-place (q ∷ qs) i t h =
     ⊎_elim (λ (is : at q i ≡ t). (inl (ap (λ s. s.state) is), sym (ap (λ s. s.place) is)))
     (λ later. let r = Among-place qs i t later in (inr r.0, r.1)) h
 
--- a configuration that is reached over the piece, or at the same place
+-- a configuration that is reached over the piece, or at the present place
 abbrev pub IsOver : List ℕ → ℕ → List ℕ → Configuration → Type 0
 IsOver hay i qs t = Among qs t.state × (0 < (piece hay i).len) × (t.place ≡ i + (piece hay i).len)
 

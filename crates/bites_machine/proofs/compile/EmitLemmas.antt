@@ -114,12 +114,12 @@ Forms-behind first rest to ss e f r s = record {
       (x.0 ++ y.0, (e.from, x.0, y.0, x.1, y.1, refl), Counts-append x.0 y.0 (length ss) (length e.states) (length f.states) x.2 y.2);
 }
 
--- a body in front of any state, behind any states
+-- a body that leads on to any state, appended to any states
 abbrev pub FormsBody : (List State → Fragment) → Emitter → Type 1
 FormsBody part body = (to : ℕ) (ss : List State) → Forms part to ss (body to ss)
 
 module _ (part : List State → Fragment) (body : Emitter) (inside : FormsBody part body) where
-  -- n copies in front of the rest
+  -- n copies before the rest
   pub Forms-again : (rest : List State → Fragment) (to : ℕ) (ss : List State) (e : Emitted) → Forms rest to ss e →
       (n : ℕ) → Forms (λ l. Copies l n (part l) (rest l)) to ss (in_front (again n body) e)
   Forms-again rest to ss e r zero = r
@@ -127,7 +127,7 @@ module _ (part : List State → Fragment) (body : Emitter) (inside : FormsBody p
       let f = in_front (again n body) e in
       Forms-behind part (λ l. Copies l n (part l) (rest l)) to ss f (in_front body f) (Forms-again rest to ss e r n) (inside f.from f.states)
 
-  -- n options in front of the way out
+  -- n options before the exit
   pub Forms-options : (greedy : Bool) (out : ℕ) (ss : List State) (n : ℕ) →
       Forms (λ l. Options l n greedy out (part l)) out ss (options n greedy body out ss)
   Forms-options greedy out ss zero = record {
@@ -171,7 +171,7 @@ module _ (part : List State → Fragment) (body : Emitter) (inside : FormsBody p
             );
       }
 
-  -- what stands around the place of a choice, once the choice is written to it
+  -- what is around the reserved state of a choice, once the choice is written to it
   record Around (ss : List State) (e : Emitted) (s : State) : Type 1 where
     extends : Extends ss (slice_set e.states (length ss) s)
     place : (last : List State) → Agrees last (length ss) (slice_set e.states (length ss) s) → state_at last (length ss) ≡ s

@@ -13,7 +13,7 @@ use Rattle.bites_machine.proofs.compile.LengthLemmas.{Grows-emit, Grows-again, G
 use Rattle.bites_syntax.proofs.TreeParts.{parts_from, parts_end}
 use Rattle.bites_machine.proofs.compile.FaultLemmas.{greatest-append}
 
--- branches behind others
+-- branches after others
 abbrev pub with_rounds : List ℕ → Branches → Branches
 with_rounds rounds b = branches b.states (rounds ++ b.rounds)
 
@@ -75,7 +75,7 @@ part_at (t ∷ ts) (suc i) d h reduced =
       groups = omega (arith, greatest-append (groups_in t) (groups_in_all (trees_of ts)), r.groups);
     }
 
--- the same of a part that was read
+-- a part that was read fits
 pub part_fits : (ts : List Tree) (i : ℕ) (t : Tree) → t ≡ get_or ts i t → i < length ts → AllAreReduced (trees_of ts) → PartFits ts i t
 part_fits ts i t e h reduced = subst (λ x. PartFits ts i x) (sym e) (part_at ts i t h reduced)
 
@@ -181,7 +181,7 @@ part_before ts i t h is below reduced =
       parts = parts_from ts (i - 1) t is below ∙ ap (λ k. tree_and t (trees_of (drop k ts))) e;
     }
 
--- one more part in front
+-- one more part before the others
 pub emit_all-more : (ts : List Tree) (i : ℕ) (t : Tree) (to : ℕ) (ss mid new : List State) (from next : ℕ) → trees_of (drop (i - 1) ts) ≡ tree_and t (trees_of (drop i ts)) →
     emitted mid from ≡ emit_all (trees_of (drop i ts)) to ss → emitted new next ≡ emit t from mid →
     emitted new next ≡ emit_all (trees_of (drop (i - 1) ts)) to ss

@@ -73,7 +73,7 @@ filled-more ts i t old new all e f g =
     ap (λ ns. filled rest ns) g ∙ sym (filled-append (groups_of t) rest old)
     ∙ ap (λ (xs : Trees). filled (groups_of (sequence xs)) old) (sym e) ∙ f
 
--- where no group has the number, its place stays as it is
+-- if no group has the number, its index is unchanged
 filled_past : (gs : List (ℕ × Option (List ℕ))) (ns : List (Option (List ℕ))) (i : ℕ) → IsNew i (map number gs) → get_or (filled gs ns) i None ≡ get_or ns i None
 filled_past [] ns i h = refl
 filled_past (g ∷ gs) ns i h =

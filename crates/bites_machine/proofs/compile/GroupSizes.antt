@@ -1,4 +1,4 @@
--- What the groups that are left in a tree weigh.
+-- The size of the groups that are left in a tree.
 use Rattle.std.proofs.Common.{◌≡◌, ◌≢◌, ℕ, zero, suc, ◌+◌, ◌*◌, ◌<◌, List, [], ◌∷◌, length, map, get_or, Option, Some, None, refl, sym, ap, ◌∙◌, subst, inl, inr, arith, slice_set}
 use Rattle.std.specs.Prelude.{sum_by, replicate}
 use Rattle.std.proofs.lemmas.List.{length-set, get_or-set_other, get_or-replicate, length-replicate}
@@ -10,7 +10,7 @@ use Rattle.bites_spec.proofs.regex.LeftLemmas.{number, groups_in-map, Among-numb
 use Rattle.bites_machine.specs.Names.{filled}
 use Rattle.bites_machine.proofs.compile.GroupLemmas.{filled-groups_left}
 
--- what a group's name weighs, if it has one
+-- the size of a group's name, if it has one
 abbrev named : Option (List ℕ) → ℕ
 named None = 0
 named (Some name) = name_size name
@@ -48,7 +48,7 @@ size_named : (o : Option (List ℕ)) → group_size o ≡ 16 + named o
 size_named None = refl
 size_named (Some name) = refl
 
--- a name that is written to a place without one
+-- a name that is written to an index without one
 set_has_size : (ns : List (Option (List ℕ))) (i : ℕ) (o : Option (List ℕ)) → i < length ns → get_or ns i None ≡ None →
     sum_by group_size (slice_set ns i o) ≡ sum_by group_size ns + named o
 set_has_size ns i o below none =
@@ -71,7 +71,7 @@ replicate_has_size : (n : ℕ) → sum_by group_size (replicate {A = Option (Lis
 replicate_has_size zero = refl
 replicate_has_size (suc n) = omega (arith, replicate_has_size n, sum_by-cons group_size None (replicate {A = Option (List ℕ)} n None))
 
--- 16 for each number up to the greatest, and what the names weigh
+-- 16 for each number up to the greatest, and the size of the names
 pub left_have_size : (t : Tree) → AllApart (groups_in t) → sum_by group_size (groups_left t) ≡ 16 * captures_len t + sum_by name_size (names_in t)
 left_have_size t apart =
     let none = replicate {A = Option (List ℕ)} (captures_len t) None in

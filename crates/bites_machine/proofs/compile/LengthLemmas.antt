@@ -10,7 +10,7 @@ use Rattle.bites_spec.specs.Program.{State}
 use Rattle.bites_machine.specs.Emitted.{Emitter, again, choice, options, bounded, around, loop, star, optional_loop, copies_up_to, repeated, class_state, grouped, emit, emit_all, emit_each}
 use Rattle.bites_machine.proofs.compile.EmitLemmas.{length_pushed}
 
--- so many more states
+-- n more states
 pub record Grows (ss : List State) (e : List State) (n : ℕ) : Type 0 where
   pub len : length e ≡ length ss + n
 

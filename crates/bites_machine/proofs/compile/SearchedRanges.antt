@@ -40,7 +40,7 @@ AllEndBelow rs n c = (k : ℕ) → k < n → (range_at rs k).1 < c
 abbrev pub AllBeginAbove : List Range → ℕ → ℕ → Type 0
 AllBeginAbove rs n c = (k : ℕ) → n ≤ k → k < length rs → c < (range_at rs k).0
 
--- a range that ends below c leaves only those behind it
+-- a range that ends below c leaves only those after it
 pub below_more : (rs : List Range) (m c : ℕ) → AreRanges rs → m < length rs → (range_at rs m).1 < c → AllEndBelow rs (m + 1) c
 below_more rs m c are within lt k below =
     ⊎_elim

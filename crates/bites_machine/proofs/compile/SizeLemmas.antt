@@ -1,4 +1,4 @@
--- Sizes whose numbers are held.
+-- Sizes whose numbers saturate.
 use Rattle.std.proofs.Common.{◌≡◌, ℕ, suc, ◌+◌, List, [], ◌∷◌, length, refl, sym, ap, ap₂, ◌∙◌, arith}
 use Rattle.bites_spec.specs.Tree.{Tree, sequence, alternation, trees_of, count}
 use Rattle.bites_spec.specs.Measure.{Size, size, size_of}

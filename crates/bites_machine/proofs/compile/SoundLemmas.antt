@@ -15,7 +15,7 @@ none_is (Some f) h = cc
 pub sound_program : (p : Program) → IsTrue (is_none (first_fault p)) → IsWellFormed p
 sound_program p h = first_fault-IsWellFormed p (none_is (first_fault p) h)
 
--- what holds of the contents that a program has holds of the program that is answered
+-- what holds of the contents of a program holds of the program that is returned
 pub ok_or_program : (o : Option Contents) (r : Result Contents Error) (e : Error) (x : Contents) → r ≡ ok_or o e → IfSome o (λ p. p ≡ x) →
     (P : Contents → Type 0) → P x → IfOk r P
 ok_or_program None r e x is made P h = subst (λ s. IfOk s P) (sym is) tt

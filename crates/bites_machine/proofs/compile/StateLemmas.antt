@@ -27,7 +27,7 @@ ranges_rise len slots [] q are = tt
 ranges_rise len slots (s ∷ ss) zero are = are.1
 ranges_rise len slots (s ∷ ss) (suc q) are = ranges_rise len slots ss q are.3
 
--- the ranges of each state rise
+-- the ranges of each state are in ascending order
 pub ranges_known : (p : Program) → IsWellFormed p → (s : program.State) (q : ℕ) → s ≡ state_at p.states q → HasRanges s
 ranges_known p well s q e = subst HasRanges (sym e) (ranges_rise (length p.states) p.slots p.states q well.states)
 

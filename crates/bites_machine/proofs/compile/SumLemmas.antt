@@ -96,7 +96,7 @@ Among-row (s ∷ ss) q (suc k) i lt =
     next : (q k : ℕ) → suc q + k ≡ q + suc k
     next q k = omega arith
 
--- each state stands at each place
+-- each state is at each place
 pub Among-rows : (ss : List State) (ps : List ℕ) (t : Configuration) → t.state < length ss → Among ps t.place → Among (rows ss ps) t
 Among-rows ss [] t lt h = absurd h
 Among-rows ss (i ∷ ps) t lt h =
@@ -109,7 +109,7 @@ Among-rows ss (i ∷ ps) t lt h =
     from_zero : (n : ℕ) → 0 + n ≡ n
     from_zero n = omega arith
 
--- where each configuration weighs at most what its state does, a row weighs at most what the states do
+-- if the value of each configuration is at most that of its state, so is the sum of a row
 module _ (f : Configuration → ℕ) (w : State → ℕ) where
   sum_of_row : (ss : List State) (q i : ℕ) → ((k : ℕ) → f (at (q + k) i) ≤ w (state_at ss k)) → sum_by f (row ss q i) ≤ sum_by w ss
   sum_of_row [] q i le = omega arith
@@ -136,7 +136,7 @@ module _ (f : Configuration → ℕ) (w : State → ℕ) where
       times_suc : (m n : ℕ) → m * suc n ≡ m + m * n
       times_suc m n = grind arith
 
-  -- configurations apart of these states at these places weigh at most as much as the states, once for each place
+  -- the sum over distinct configurations is at most that over the states, once for each place
   pub sum_of_configurations : (ss : List State) (ps : List ℕ) (ts : List Configuration) → ((q i : ℕ) → f (at q i) ≤ w (state_at ss q)) →
       AllApart ts → ((t : Configuration) → Among ts t → (t.state < length ss) × Among ps t.place) → sum_by f ts ≤ sum_by w ss * length ps
   sum_of_configurations ss ps ts le apart within =

@@ -1,4 +1,4 @@
--- What a search from one place answers, as contracts say it.
+-- What an anchored search returns, as contracts say it.
 use Rattle.std.proofs.Common.{◌≡◌, ℕ, suc, ◌<◌, ◌≤◌, ⊎_elim, Bool, true, false, cond, List, [], length, Option, Some, None, refl, sym, ap, ap₂, subst, arith, le-leb, leb-true}
 use Rattle.std.proofs.lemmas.Bool.{cases_lt, cases_Bool}
 use Rattle.std.specs.Prelude.{is_some, nat_le}

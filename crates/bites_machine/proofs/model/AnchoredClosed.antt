@@ -1,4 +1,4 @@
--- In a search from one place every edge of a visited configuration leads to a visited configuration or to a thread, until there is a match.
+-- In an anchored search every edge of a visited configuration leads to a visited one or to a thread, until a match.
 use Rattle.std.proofs.Common.{◌≡◌, ℕ, suc, ◌<◌, ◌≤◌, Bool, true, false, ◌&&◌, List, [], ◌∷◌, map, take, length, Option, Some, None, refl, sym, ap, ◌∙◌, subst, inl, inr, ⊎_elim, ◌⊎◌, true≢false, arith}
 use Rattle.std.specs.Prelude.{is_some}
 use Rattle.std.specs.Option.{option_or}

@@ -1,4 +1,4 @@
--- A search from one place keeps to the bounds of a search.
+-- An anchored search keeps to the bounds of a search.
 use Rattle.std.proofs.Common.{ℕ, ◌+◌, ◌<◌, ◌≤◌, Bool, List, map, length, subst, ⊎_elim, ap, arith}
 use Rattle.bites_spec.specs.Utf8.{piece, places}
 use Rattle.bites_spec.specs.Walks.{Among, AllApart}

@@ -1,4 +1,4 @@
--- A search from one place answers the first run from there.
+-- An anchored search finds the first run from its start.
 use Rattle.std.proofs.Common.{◌≡◌, ℕ, ◌+◌, ◌≤◌, Bool, false, List, [], ◌++◌, take, length, Option, Some, None, option_map, refl, sym, ap, ap₂, ◌∙◌, subst, ⊎_elim, true≢false, arith}
 use Rattle.std.specs.Option.{option_or}
 use Rattle.std.proofs.lemmas.List.{append-nil}
@@ -36,7 +36,7 @@ module _ (p : Program) (hay : List ℕ) (well : IsWellFormed p) (width : ℕ) (f
         ∙ ap (λ (o : Option Outcome). option_or o (first_among (answer_from p hay well width fits start within) (places hay (start + step_len hay start)))) is
         ∙ sym is
 
-    -- the first success of the threads, and else the best, is the answer
+    -- the first success of the threads, or else the best, is the result
     abbrev value_of : Searching → Option Outcome
     value_of s = option_or (waits (λ q. false) (wait_all p hay s.place s.threads)) (option_map outcome s.best)
 
@@ -83,7 +83,7 @@ module _ (p : Program) (hay : List ℕ) (well : IsWellFormed p) (width : ℕ) (f
         value_is = subst (λ (y : Searching). value_of y ≡ goal) place.is last_value;
       }
 
-    -- where no thread is left, the best is the answer
+    -- if no thread is left, the best is the result
     best_is : (t : Searching) → IsAnswering t → t.threads ≡ [] → option_map outcome t.best ≡ goal
     best_is t now none =
         ap (λ (o : Option Outcome). option_or o (option_map outcome t.best)) (sym (pend_none p hay well width fits start within))
@@ -106,7 +106,7 @@ module _ (p : Program) (hay : List ℕ) (well : IsWellFormed p) (width : ℕ) (f
   no_first None e = refl
   no_first (Some r) e = absurd (none_some (front_of p hay well width fits start within r) e)
 
-  -- A search that is not stopped early ends with the front of the slots of the first run from its start, or with nothing where there is none.
+  -- A search that is not stopped early ends with the first slots of the first run from its start, or with nothing.
   pub first_from_answer : (t : Searching) → Stepped hay false p width false start t →
       option_map (λ b. b.slots) t.best ≡ option_map (λ r. take width (slots p r)) (first_run_from p hay start)
   first_from_answer t end = by_answer answer refl

@@ -1,4 +1,4 @@
--- A search from one place answers the longest run from there.
+-- An anchored search finds the longest run from its start.
 use Rattle.std.proofs.Common.{◌≡◌, ℕ, suc, ◌+◌, ◌<◌, ◌≤◌, Bool, true, false, List, [], ◌++◌, take, length, Option, Some, None, option_map, refl, sym, ap, ◌∙◌, subst, inl, inr, ⊎_elim, ◌⊎◌, true≢false, arith}
 use Rattle.std.specs.Prelude.{replicate}
 use Rattle.std.specs.Option.{option_or}
@@ -150,7 +150,7 @@ module _ (p : Program) (hay : List ℕ) (well : IsWellFormed p) (width : ℕ) (f
           by_hit None none = (b, sym best_is ∙ ap (λ (o : Option Thread). option_or o s.best) none ∙ is, same)
           by_hit (Some h) some = absurd (no_hit h some)
 
-      -- a search that has the success ahead is not behind the end
+      -- a search that has the success ahead is not past the end
       not_behind : IsAheadAt s.place s.threads → s.place ≤ r.end
       not_behind ahead =
           ⊎_elim
@@ -158,7 +158,7 @@ module _ (p : Program) (hay : List ℕ) (well : IsWellFormed p) (width : ℕ) (f
           (λ (le : s.place ≤ r.end). le)
           (below_or_not r.end s.place)
 
-      -- behind the place
+      -- after the place
       behind_place : IsAheadAt next_place t.threads ⊎ (HasBest t × (r.end ≤ s.place))
       behind_place =
           ⊎_elim
@@ -207,7 +207,7 @@ module _ (p : Program) (hay : List ℕ) (well : IsWellFormed p) (width : ℕ) (f
     x.first_of,
   )
 
-  -- A search for the longest run ends with the front of its slots, or with nothing where there is none.
+  -- A search for the longest run ends with the first slots of that run, or with nothing if there is none.
   pub longest_from_answer : (t : Searching) → Stepped hay true p width false start t →
       option_map (λ b. b.slots) t.best ≡ option_map (λ r. take width (slots p r)) (longest_run_below p hay (suc (length hay)) start)
   longest_from_answer t end = by_run (longest_run_below p hay (suc (length hay)) start) refl

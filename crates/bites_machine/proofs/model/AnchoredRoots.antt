@@ -1,4 +1,4 @@
--- In a search from one place each thread has come by a walk from the start at that place.
+-- In an anchored search each thread has come by a walk from the start.
 use Rattle.std.proofs.Common.{◌≡◌, ℕ, zero, suc, ◌+◌, ◌<◌, ◌≤◌, Bool, true, false, ◌||◌, List, [], ◌∷◌, map, length, Option, Some, None, refl, sym, ap, ◌∙◌, subst, inl, inr, ⊎_elim, ◌⊎◌, true≢false, arith, eq-eqb, eqb-true}
 use Rattle.std.proofs.lemmas.Bool.{or_parts}
 use Rattle.std.specs.Prelude.{◌==◌, ◌&&◌, is_some}
@@ -33,7 +33,7 @@ option_or_some None t u e = inr (same t u e)
 option_or_some (Some v) t u e = inl e
 
 module _ (p : Program) (hay : List ℕ) (longest : Bool) (width : ℕ) (earliest : Bool) (start : ℕ) (within : start ≤ length hay) where
-  -- a search that is not over goes on to a next place, and what is open there
+  -- a search that is not over continues at a next place, and what is open there
   pub goes_on : (i : ℕ) (t : Searching) → is_done hay longest p width earliest i t ≡ false → 0 < (piece hay i).len
   goes_on i t on = some_len (piece hay i).len (or_parts ((piece hay i).len == 0) (is_empty t.threads || (earliest && is_some t.best)) on).0
 
@@ -45,7 +45,7 @@ module _ (p : Program) (hay : List ℕ) (longest : Bool) (width : ℕ) (earliest
   pub start_among : Among (places hay start) start
   start_among = subst (λ l. Among l start) (sym (places-here hay start within)) (inl refl)
 
-  -- a search stands at a place from its start on
+  -- a search is at a place reached from its start
   pub stepped_place : (n : ℕ) (s : Searching) → SteppedTo hay longest p width earliest start n s → Among (places hay start) s.place
   stepped_place zero s is = subst (λ (x : Searching). Among (places hay start) x.place) is start_among
   stepped_place (suc n) t (s, before, place, on) =

@@ -97,7 +97,7 @@ module _ (hay : List ℕ) (longest : Bool) (i : ℕ) where
     abbrev pub state_of_thread : Thread → State
     state_of_thread t = state_at p.states t.state
 
-    -- What a step keeps, by the kind of the step: P of the walk before it, Q of the walk behind it.
+    -- What a step keeps, by the kind of the step: P of the walk before it, Q of the walk after it.
     pub record Keeps (P : Walking → Type 0) : Type 0 where
       pub on_seen : (t : Thread) (rest : List Thread) (w : Walking) → w.stack ≡ t ∷ rest → was_seen w.seen t.state ≡ true → P w → P (dropped hay longest rest w)
       pub on_match : (t : Thread) (rest : List Thread) (w : Walking) → w.stack ≡ t ∷ rest → was_seen w.seen t.state ≡ false →

@@ -35,7 +35,7 @@ seen_among hay longest p i (x ∷ seen) q was =
     (cases_Bool (x == q))
 
 module _ (p : Program) (hay : List ℕ) (longest : Bool) (width : ℕ) (start : ℕ) where
-  -- No match was visited, and what leads on from the visited configurations, or is a start before the later ones, was visited or waits.
+  -- No match was visited. What leads on from visited configurations, or is a start before the later ones, was visited or waits.
   pub record IsClosed (visits : List Configuration) (threads : List Thread) (i later : ℕ) : Type 0 where
     pub closed : (u : Configuration) → Among visits u → (v : Configuration) → Among (leads p hay u) v → Among visits v ⊎ Waits threads i v
     pub starts : (k : ℕ) → Among (places hay start) k → Among visits (at p.start k) ⊎ Among (places hay later) k

@@ -27,7 +27,7 @@ length-filter test (x ∷ xs) =
     ⊎_elim (λ (e : test x ≡ true). rw e (omega (arith, length-filter test xs))) (λ (e : test x ≡ false). rw e (omega (arith, length-filter test xs)))
     (cases_Bool (test x))
 
--- a match lets no more threads go on than there were
+-- a match leaves no more threads than there were
 pub length-kept : (hay : List ℕ) (longest : Bool) (o : Option Thread) (ts : List Thread) → length (kept hay longest o ts) ≤ length ts
 length-kept hay longest None ts = omega arith
 length-kept hay true (Some first_match) ts = length-filter (λ t. nat_le t.start first_match.start) ts
@@ -50,7 +50,7 @@ module _ (p : Program) (hay : List ℕ) (well : IsWellFormed p) (longest : Bool)
   led visits = sum_by (λ u. length (leads p hay u)) visits
 
   module _ (i : ℕ) (among : Among (places hay start) i) (old : List Configuration) (before : (u : Configuration) → Among old u → u.place < i) (to_come : ℕ) where
-    -- what was visited, and how often the walk has looked and has still to look, with so many places to come
+    -- what was visited, and the looks of the walk that are done and left, with this number of places to come
     pub record IsCounted (w : Walking) : Type 0 where
       pub traced : IsTraced p hay longest width start fits i old w
       pub apart : AllApart (configurations_of i old w.seen)
@@ -121,7 +121,7 @@ module _ (p : Program) (hay : List ℕ) (well : IsWellFormed p) (longest : Bool)
           };
         }
 
-  -- what a search has visited and looked at so far, with so many places to come
+  -- what a search has visited and looked at so far, with this number of places to come
   pub record HasCounted (s : Searching) (to_come : ℕ) : Type 0 where
     pub traced : AreTraced p hay longest width start fits s
     pub apart : AllApart s.visits

@@ -1,4 +1,4 @@
--- The machine answers the first run.
+-- The machine finds the first run.
 use Rattle.std.proofs.Common.{◌≡◌, ℕ, ◌+◌, ◌<◌, ◌≤◌, Bool, true, false, ◌||◌, ◌&&◌, cond, List, [], ◌∷◌, ◌++◌, take, length, Option, Some, None, option_map, refl, sym, ap, ap₂, ◌∙◌, subst, inl, inr, ⊎_elim, ◌⊎◌, true≢false, arith, eqb-true, leb-true, le-leb}
 use Rattle.std.specs.Prelude.{◌==◌, nat_le, is_some, replicate, option_and_then}
 use Rattle.std.specs.Option.{option_or}
@@ -51,7 +51,7 @@ none_or_some : (o : Option Thread) → (o ≡ None) ⊎ ((t : Thread) × (o ≡ 
 none_or_some None = inl refl
 none_or_some (Some t) = inr (t, refl)
 
--- behind the last place there is none
+-- after the last place there is none
 pub places_end : (hay : List ℕ) (i : ℕ) → i ≤ length hay → (piece hay i).len ≡ 0 → places hay (i + step_len hay i) ≡ []
 places_end hay i le none =
     ⊎_elim (λ (e : nat_le (length hay) i ≡ true). let end = leb-true (length hay) i e in places-past hay (i + step_len hay i) (omega arith))
@@ -85,7 +85,7 @@ module _ (p : Program) (hay : List ℕ) (well : IsWellFormed p) (width : ℕ) (f
     value seen next stack first_match =
         option_or (pended (marks p hay i seen) (wait_all p hay there next ++ wait_all p hay i stack)) (option_or (option_map outcome first_match) rest)
 
-    -- the first success of all that wait, else the first match, else what was there before, is the answer
+    -- the first success of all that wait, else the first match, else what was there before, is the result
     pub record IsWorth (w : Walking) : Type 0 where
       pub traced : IsTraced p hay false width start fits i old w
       pub worth_is : value w.seen w.next w.stack w.first_match ≡ total
@@ -210,7 +210,7 @@ module _ (p : Program) (hay : List ℕ) (well : IsWellFormed p) (width : ℕ) (f
         none_some : (u : Thread) → None ≡ Some u → ⊥
         none_some u e = cc
 
-    -- behind the place
+    -- the place after it
     abbrev next_place : ℕ
     next_place = s.place + (piece hay s.place).len
 
@@ -228,7 +228,7 @@ module _ (p : Program) (hay : List ℕ) (well : IsWellFormed p) (width : ℕ) (f
     pub value_behind : value_at next_place t.threads t.best (s.place + step_len hay s.place) ≡ total
     value_behind = subst (λ (x : Searching). value_at next_place x.threads x.best (s.place + step_len hay s.place) ≡ total) place.is last_value
 
-    -- with a piece, the search goes on to the place behind it
+    -- with a piece, the search continues at the place after it
     pub value_on : 0 < (piece hay s.place).len → value_at t.place t.threads t.best t.place ≡ total
     value_on some =
         subst (λ (k : ℕ). value_at k t.threads t.best k ≡ total) (ap (λ (x : Searching). x.place) place.is)
@@ -291,7 +291,7 @@ module _ (p : Program) (hay : List ℕ) (well : IsWellFormed p) (width : ℕ) (f
       let now = answering end.places end.before end.searched in
       value_end end.before t (searched_place p hay false width false start within end.places end.before end.searched) now.traced end.last now.value_is end.over
 
-  -- the front of the slots of a run
+  -- the first `width` slots of a run
   abbrev pub front_of : Run → List (Option ℕ)
   front_of r = take width (slots p r)
 
@@ -328,7 +328,7 @@ module _ (p : Program) (hay : List ℕ) (well : IsWellFormed p) (width : ℕ) (f
       map_among (λ (x : Outcome). x.slots) answer_from (λ k. option_map front_of (first_run_from p hay k)) (places hay start) answer_is
       ∙ map_first front_of (first_run_from p hay) (places hay start)
 
-  -- A search that is not stopped early ends with the front of the slots of the first run, or with nothing where there is none.
+  -- A search that is not stopped early ends with the first slots of the first run, or with nothing if there is none.
   pub first_answer : (t : Searching) → Searched hay false p width false start t → option_map (λ b. b.slots) t.best ≡ option_map front_of (first_run p hay start)
   first_answer t end =
       slots_of t.best ∙ ap (option_map (λ (x : Outcome). x.slots)) (best_is_total t end) ∙ total_is

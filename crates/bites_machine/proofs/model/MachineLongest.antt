@@ -1,4 +1,4 @@
--- The machine answers the longest run.
+-- The machine finds the longest run.
 use Rattle.std.proofs.Common.{◌≡◌, ℕ, suc, ◌+◌, ◌<◌, ◌≤◌, Bool, true, false, ◌||◌, ◌&&◌, cond, List, [], ◌∷◌, ◌++◌, take, length, Option, Some, None, option_map, refl, sym, ap, ap₂, ◌∙◌, subst, inl, inr, ⊎_elim, ◌⊎◌, true≢false, arith, eqb-true, eq-eqb, le-leb, leb-true}
 use Rattle.std.proofs.lemmas.Option.{same_Some}
 use Rattle.std.specs.Prelude.{◌==◌, nat_le, is_some, replicate}
@@ -159,7 +159,7 @@ module _ (p : Program) (hay : List ℕ) (well : IsWellFormed p) (width : ℕ) (f
             (below_or_not r.start at_first.place))
             (below_or_not at_first.place r.start)
 
-    -- an answer from these places on is from one of them
+    -- a result from these places on is from one of them
     answer_behind : (m : ℕ) → first_among answer_from (places hay m) ≡ Some the_outcome → m ≤ r.start
     answer_behind m e = let x = from_one (places hay m) e in let a = (Among-places hay m x.0 x.1).0 in let b = answer_start x.0 the_outcome x.2 in omega arith
       where
@@ -169,7 +169,7 @@ module _ (p : Program) (hay : List ℕ) (well : IsWellFormed p) (width : ℕ) (f
             ⊎_elim (λ here. (k, inl refl, here)) (λ later. let x = from_one ks later.1 in (x.0, inr x.1, x.2))
             (or_cases (answer_from k) (first_among answer_from ks) the_outcome e)
 
-    -- from behind the end there is no run to it
+    -- from past the end there is no run to it
     pub pend_past : (seen : Configuration → Bool) (j : ℕ) (ts : List Thread) → r.end < j → pended seen (wait_all p hay j ts) ≡ None
     unfolding pending
     pend_past seen j [] lt = refl
@@ -186,7 +186,7 @@ module _ (p : Program) (hay : List ℕ) (well : IsWellFormed p) (width : ℕ) (f
     pend_after seen j [] behind = refl
     pend_after seen j (t ∷ ts) behind = pend_past seen j (t ∷ ts) (behind t (inl refl))
 
-    -- what a match lets go on has the success, if it started no later
+    -- what a match leaves has the success, if it started no later
     pend_filter : (seen : Configuration → Bool) (i c : ℕ) (ts : List Thread) → r.start ≤ c → pended seen (wait_all p hay i ts) ≡ Some the_outcome →
         pended seen (wait_all p hay i (filter (λ t. nat_le t.start c) ts)) ≡ Some the_outcome
     unfolding pending
@@ -412,7 +412,7 @@ module _ (p : Program) (hay : List ℕ) (well : IsWellFormed p) (width : ℕ) (f
       stands = inl (ap (λ (o : Option Outcome). option_or o (first_among answer_from (places hay start))) (pend_after (λ q. false) 0 [] (λ t h. absurd h)) ∙ answer_first);
     }
 
-    -- a search that has the success ahead is not behind the end
+    -- a search that has the success ahead is not past the end
     not_behind : (s : Searching) → IsAheadAt s.place s.threads s.best s.place → s.place ≤ r.end
     not_behind s ahead =
         ⊎_elim
@@ -533,7 +533,7 @@ module _ (p : Program) (hay : List ℕ) (well : IsWellFormed p) (width : ℕ) (f
           by_hit None none = (b, sym best_is ∙ ap (λ (o : Option Thread). option_or o s.best) none ∙ is, same)
           by_hit (Some h) some = absurd (no_hit h some)
 
-      -- behind the place
+      -- after the place
       behind_place : IsAheadAt next_place t.threads t.best (s.place + step_len hay s.place) ⊎ (HasBest t × (r.end ≤ s.place))
       behind_place =
           ⊎_elim
@@ -597,7 +597,7 @@ module _ (p : Program) (hay : List ℕ) (well : IsWellFormed p) (width : ℕ) (f
     best_is_longest t end =
         stands_end end.before t (searched_place p hay true width false start within end.places end.before end.searched) (standing end.places end.before end.searched) end.last end.over
 
-  -- the front of the slots of a run
+  -- the first `width` slots of a run
   abbrev pub front_of : Run → List (Option ℕ)
   front_of r = take width (slots p r)
 
@@ -605,7 +605,7 @@ module _ (p : Program) (hay : List ℕ) (well : IsWellFormed p) (width : ℕ) (f
   runs_to_match s [] j runs = runs.0
   runs_to_match s (t ∷ o) j runs = runs_to_match t o j runs.1
 
-  -- A search for the longest run ends with the front of its slots, or with nothing where there is none.
+  -- A search for the longest run ends with the first slots of that run, or with nothing if there is none.
   pub longest_answer : (t : Searching) → Searched hay true p width false start t → option_map (λ b. b.slots) t.best ≡ option_map front_of (longest_run p hay start)
   longest_answer t end = by_run (longest_run p hay start) (longest_run-LongestRun p hay well start)
     where

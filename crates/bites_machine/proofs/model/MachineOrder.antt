@@ -1,4 +1,4 @@
--- The threads of a search for the longest run stand in the order of their starts, and none started later than the best.
+-- In a search for the longest run the threads are in the order of their starts, and none started after the best.
 use Rattle.std.proofs.Common.{◌≡◌, ℕ, ◌+◌, ◌≤◌, Bool, true, false, cond, List, [], ◌∷◌, ◌++◌, Option, Some, None, refl, sym, ap, ◌∙◌, subst, inl, inr, ⊎_elim, arith, leb-true}
 use Rattle.std.specs.Prelude.{is_some, nat_le}
 use Rattle.std.specs.List.{filter}
@@ -25,7 +25,7 @@ AreUpTo c ts = (t : Thread) → Among ts t → t.start ≤ c
 abbrev pub AreBelow : List Thread → List Thread → Type 0
 AreBelow xs ys = (y : Thread) → Among ys y → AreUpTo y.start xs
 
--- the threads stand in the order of their starts
+-- the threads are in the order of their starts
 abbrev pub AreSorted : List Thread → Type 0
 AreSorted [] = Unit {0}
 AreSorted (t ∷ ts) = AreBelow (t ∷ []) ts × AreSorted ts
@@ -105,7 +105,7 @@ module _ (p : Program) (hay : List ℕ) (width : ℕ) (fits : width ≤ p.slots)
       of_stack : (u : Thread) → Among (t ∷ rest) u → Among w.stack u
       of_stack u h = subst (λ (l : List Thread). Among l u) (sym is) h
 
-      -- where the thread goes, as it was started
+      -- where the thread goes, with its start
       abbrev on : List Thread
       on = moved hay true i (state_at p.states t.state) t
 

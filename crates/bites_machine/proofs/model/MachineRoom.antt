@@ -70,7 +70,7 @@ module _ (p : Program) where
       let len = length-map seen (λ q. at q 0) in omega arith
 
   module _ (hay : List ℕ) (well : IsWellFormed p) (longest : Bool) (i : ℕ) (here : i ≤ length hay) (begin : ℕ) where
-    -- what a walk that began with so many threads has room for
+    -- the room of a walk that began with this number of threads
     pub record HasRoom (w : Walking) : Type 0 where
       pub apart : AllApart w.seen
       pub inside : AreStatesOf w.seen

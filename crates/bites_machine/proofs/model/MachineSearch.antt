@@ -31,7 +31,7 @@ module _ (p : Program) (hay : List ℕ) (longest : Bool) (width : ℕ) (earliest
   pub start_among : Among (places hay start) start
   start_among = subst (λ l. Among l start) (sym (places-here hay start within)) (inl refl)
 
-  -- a search stands at a place from its start on
+  -- a search is at a place reached from its start
   pub searched_place : (n : ℕ) (s : Searching) → SearchedTo hay longest p width earliest start n s → Among (places hay start) s.place
   searched_place zero s is = subst (λ (x : Searching). Among (places hay start) x.place) is start_among
   searched_place (suc n) t (s, before, place, on) =

@@ -91,7 +91,7 @@ module _ (p : Program) where
   writes_all s [] e = append-nil (write_at s) ∙ match_writes (state_at p.states s.state) s.place e
   writes_all s (t ∷ r) e = ap (λ (l : List (ℕ × ℕ)). write_at s ++ l) (writes_all t r e)
 
-  -- from empty slots on, a run leaves the front of its slots
+  -- from empty slots on, a run writes its first `width` slots
   pub run_writes : (width : ℕ) (r : Run) → width ≤ p.slots → matches p (last_of (at p.start r.start) r.configurations) ≡ true →
       all_written (replicate width None) (at p.start r.start ∷ r.configurations) ≡ take width (slots p r)
   run_writes width r le e =

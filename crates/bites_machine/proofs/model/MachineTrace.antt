@@ -29,7 +29,7 @@ Among-filter test (y ∷ xs) x h =
     (λ (e : test y ≡ false). inr (Among-filter test xs x (subst (λ b. Among (cond b (y ∷ filter test xs) (filter test xs)) x) e h)))
     (cases_Bool (test y))
 
--- what a match lets go on was there before
+-- what a match leaves was there before
 pub Among-kept : (hay : List ℕ) (longest : Bool) (o : Option Thread) (ts : List Thread) (t : Thread) → Among (kept hay longest o ts) t → Among ts t
 Among-kept hay longest None ts t h = h
 Among-kept hay true (Some first_match) ts t h = Among-filter (λ u. nat_le u.start first_match.start) ts t h

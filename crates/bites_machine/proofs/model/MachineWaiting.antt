@@ -16,7 +16,7 @@ use Rattle.bites_machine.proofs.compile.EdgeLemmas.{edges_apart}
 use Rattle.bites_machine.proofs.model.MachineCases.{was_seen, LeadsBeside}
 use Rattle.bites_machine.proofs.model.MachineSlots.{all_written}
 
--- what a thread is worth at a match: where it was started, and its slots
+-- the value of a thread at a match: where it was started, and its slots
 pub record Outcome : Type 0 where
   pub start : ℕ
   pub slots : List (Option ℕ)

@@ -87,7 +87,7 @@ module _ (hay : List ℕ) (longest : Bool) (p : Program) (i : ℕ) where
   visited_gone (char q c) e f t rest w = absurd (true≢false f)
   visited_gone (ranges q rs) e f t rest w = absurd (true≢false f)
 
-  -- the walk with other threads below its own, as far as its first match lets them go on
+  -- the walk with other threads below its own, except those that its first match cuts off
   abbrev pub above : List Thread → Walking → Walking
   above below w = record { stack = w.stack ++ kept hay longest w.first_match below; seen = w.seen; next = w.next; first_match = w.first_match; looks = w.looks }
 

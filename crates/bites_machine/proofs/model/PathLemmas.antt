@@ -29,7 +29,7 @@ edges_within hay (capture q k) i = omega arith
 edges_within hay fail i = omega arith
 edges_within hay match i = omega arith
 
--- behind a place of the list comes the one behind its piece
+-- after a place of the list comes the one after its piece
 pub place_on : (n : ℕ) (hay : List ℕ) (s i : ℕ) → length hay < n + s → Among (places hay s) i → 0 < (piece hay i).len → Among (places hay s) (i + (piece hay i).len)
 place_on zero hay s i room h some = absurd (subst (λ (l : List ℕ). Among l i) (places-past hay s (omega arith)) h)
 place_on (suc n) hay s i room h some =

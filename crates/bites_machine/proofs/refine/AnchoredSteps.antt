@@ -1,4 +1,4 @@
--- A search from one place goes from place to place as the machine on lists does.
+-- An anchored search steps from place to place as the machine on lists does.
 use Rattle.std.proofs.Common.{◌≡◌, ℕ, zero, suc, ◌+◌, ◌*◌, ◌<◌, ◌≤◌, Bool, true, false, ◌||◌, ◌&&◌, List, [], ◌∷◌, ◌++◌, map, length, Option, None, replicate, refl, sym, ap, ap₂, ◌∙◌, subst, arith, true≢false, append-nil, ⊎_elim}
 use Rattle.std.specs.Prelude.{◌==◌, is_some, if◌then◌else◌}
 use Rattle.bites_spec.specs.Utf8.{piece}

@@ -21,6 +21,7 @@ use Rattle.bites_machine.specs.Sweep.{InvariantWithinStep, HasWalked, ClosesThre
 use Rattle.bites_machine.specs.declared.vm.threads.Thread.{Thread}
 use Rattle.bites_machine.specs.declared.vm.closure.Scratch.{Scratch}
 use Rattle.bites_machine.proofs.tables.UsedLemmas.{same_or_not, users_same, user_counted}
+use Rattle.bites_machine.proofs.refine.ClosureSteps.{kept_nothing}
 use Rattle.bites_machine.proofs.refine.IdleLemmas.{released}
 use Rattle.bites_machine.proofs.model.MachineTrace.{Among-mapped}
 use Rattle.bites_machine.proofs.model.MachineWalks.{walks_through}
@@ -102,7 +103,7 @@ among_both place seen vs v before h =
     (λ (b : Among vs v). omega (arith, before v b))
     (Among-apart (map (λ q. at q place) seen) vs v h)
 
--- nothing was visited behind this place
+-- nothing was visited after this place
 pub none_behind : (place : ℕ) (vs : List Configuration) → ((v : Configuration) → Among (visited_before place vs) v → v.place < place) → (v : Configuration) → Among vs v → v.place < place + 1
 none_behind place vs before v h =
     among_both place (seen_here place vs) (visited_before place vs) v before (subst (λ (l : List Configuration). Among l v) (sym (here_and_before place vs)) h)
@@ -148,13 +149,6 @@ between_on states place later walked scratch list slots_per_row le b = record {
   wide = b.wide;
 }
 
--- what nothing keeps
-kept_nothing : (hay : List ℕ) (longest : Bool) (first_match : Option machine.Thread) → kept hay longest first_match [] ≡ []
-kept_nothing hay true None = refl
-kept_nothing hay false None = refl
-kept_nothing hay true (Some h) = refl
-kept_nothing hay false (Some h) = refl
-
 -- what held between the closures of a place holds after them
 all_walked : (states : List program.State) (place : ℕ) (walked : Record) (scratch : Scratch) (slots_per_row : ℕ) → InvariantWithinStep states place walked scratch slots_per_row → HasWalked states place walked scratch slots_per_row
 all_walked states place walked scratch slots_per_row within_step = record {
@@ -191,7 +185,7 @@ module _ (hay : List ℕ) (longest : Bool) (place : ℕ) (states : List program.
       ClosesThreads hay longest place states threads [] was now old new slots left → IsUsed new.rows (0 ∷ (map row_of new.next.threads ++ []))
   start_used was now old new slots left w = used_zero new.rows (map row_of new.next.threads ++ []) (let some : length new.rows.ref_counts ≡ 2 * length states + sum_by (λ s. length (targets_of s)) states + 2 = w.within_step.rows in omega (arith, some)) w.users
 
-  -- the threads, and behind them the start
+  -- the threads, and after them the start
   pub all_with : (q start : ℕ) (was mid now : Record) (old new last : Scratch) (slots left more : List (Option ℕ)) → start ≡ (if longest then place else 0) →
       ClosesThreads hay longest place states threads [] was mid old new slots left →
       ClosesThread hay longest place states (record { state = q; row = 0; start = start }) mid now new last left more →

@@ -54,7 +54,7 @@ ready_to_close states place longest walked scratch t slots_per_row within_step k
   starts = starts;
 }
 
--- a thread that no match cuts off did not start behind it
+-- a thread that no match cuts off did not start after it
 pub started_before : (longest : Bool) (start : ℕ) (first_match : Option FirstMatch) → cuts longest start first_match ≡ false → IsStarted longest start first_match
 started_before longest start None cut is = tt
 started_before true start (Some h) cut is = grind (arith, cut)
@@ -115,7 +115,7 @@ sum-one_less ref_counts row known = by_test (row == 0)
     by_test true = omega arith
     by_test false = omega (arith, sum_by-set (λ n. n) ref_counts row (slice_index ref_counts row - 1) 0 known)
 
--- a thread that was cut off let its row go
+-- a thread that was cut off released its row
 pub closes_by_cut : (hay : List ℕ) (longest : Bool) (place : ℕ) (states : List program.State) (t : Thread) (was : Record) (old : Scratch) (rows : Pool) (slots : List (Option ℕ)) →
     cuts longest t.start old.first_match ≡ true → InvariantWithinStep states place was old (length slots) → t.row < length old.rows.ref_counts →
     rows.ref_counts ≡ one_less old.rows.ref_counts t.row → rows.rows ≡ old.rows.rows → rows.pending ≡ old.rows.pending → rows.slots_per_row ≡ old.rows.slots_per_row → rows.max_slots ≡ old.rows.max_slots →

@@ -70,7 +70,7 @@ users_stay mine xs ys others within r h =
     (Among-apart xs others r l))) h
 
 -- what nothing keeps
-kept_nothing : (hay : List ℕ) (longest : Bool) (first_match : Option machine.Thread) → kept hay longest first_match [] ≡ []
+pub kept_nothing : (hay : List ℕ) (longest : Bool) (first_match : Option machine.Thread) → kept hay longest first_match [] ≡ []
 kept_nothing hay true None = refl
 kept_nothing hay false None = refl
 kept_nothing hay true (Some h) = refl

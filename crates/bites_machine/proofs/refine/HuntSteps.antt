@@ -1,4 +1,4 @@
--- Places that are skipped where no thread is alive, and the place that is searched behind them.
+-- Places that are skipped where no thread is alive, and the place that is searched after them.
 use Rattle.std.proofs.Common.{◌≡◌, ℕ, ◌≤◌, Bool, true, false, ◌||◌, cond, List, [], ◌∷◌, length, Option, Some, None, refl, sym, ap, ◌∙◌, subst, ⊎_elim, arith}
 use Rattle.std.specs.Prelude.{is_some}
 use Rattle.bites_spec.specs.Utf8.{piece}

@@ -1,4 +1,4 @@
--- The users of rows, when they let go.
+-- The users of rows, when they release them.
 use Rattle.std.proofs.Common.{◌≡◌, ◌≢◌, ℕ, suc, ◌+◌, ◌-◌, ◌<◌, ⊎_elim, inl, inr, Bool, true, false, cond, List, [], ◌∷◌, length, Option, None, refl, sym, ap, ◌∙◌, subst, arith, eq-eqb, ne_eqb}
 use Rattle.std.specs.Prelude.{◌==◌, slice_set, slice_index, slice_index_or, count_by, replicate}
 use Rattle.std.proofs.lemmas.List.{length-set, get_or-set_same, get_or-set_other}
@@ -37,7 +37,7 @@ length-one_less ref_counts row = by_test (row == 0)
     by_test true = refl
     by_test false = length-set ref_counts row (slice_index ref_counts row - 1)
 
--- a user lets go of its row
+-- a user releases its row
 pub released : (row : ℕ) (users : List ℕ) (old new : Pool) → new.ref_counts ≡ one_less old.ref_counts row → new.rows ≡ old.rows → new.slots_per_row ≡ old.slots_per_row →
     IsUsed old (row ∷ users) → IsUsed new users
 released row users old new ref_counts rows slots_per_row used = record {

@@ -19,7 +19,7 @@ use Rattle.bites_machine.specs.declared.vm.closure.Scratch.{Scratch}
 use Rattle.bites_machine.proofs.tables.ScratchLemmas.{reordered, row_kept, threads_kept, uses-cons, uses-append}
 use Rattle.bites_machine.proofs.model.MachineWalks.{walks_here, walks_through}
 
--- a user behind others, put before them
+-- a user after others, put before them
 pub used_first : (pool : Pool) (xs : List ℕ) (row : ℕ) (rest : List ℕ) → IsUsed pool (xs ++ row ∷ rest) → IsUsed pool (row ∷ (xs ++ rest))
 used_first pool xs row rest used =
     reordered pool (xs ++ row ∷ rest) (row ∷ (xs ++ rest)) used

@@ -57,7 +57,7 @@ pub left_or : (first_match : Option FirstMatch) (slots left : List (Option ℕ))
 left_or None slots left best first is none = is ∙ sym (none refl)
 left_or (Some h) slots left best first is none = refl
 
--- the start behind the threads, while nothing is found
+-- the start after the threads, while nothing is found
 starts_while : (longest : Bool) (place slots_per_row first : ℕ) (found : Bool) →
     starts_of longest place slots_per_row (if found then None else Some first)
     ≡ (if found then [] else record { state = first; start = if longest then place else 0; slots = replicate slots_per_row None } ∷ [])

@@ -1,4 +1,4 @@
--- A search that goes from place to place, and what it answers where it ends.
+-- A search from place to place, and its result where it ends.
 use Rattle.std.proofs.Common.{◌≡◌, ℕ, zero, suc, ◌+◌, ◌<◌, ◌≤◌, Bool, true, false, ◌||◌, ◌&&◌, cond, List, [], ◌∷◌, map, length, Option, Some, None, replicate, refl, sym, ap, ap₂, ◌∙◌, subst, arith, true≢false}
 use Rattle.std.specs.Prelude.{◌==◌, is_some, IfSome}
 use Rattle.bites_spec.specs.Utf8.{piece}
@@ -17,7 +17,7 @@ use Rattle.bites_machine.proofs.refine.IdleLemmas.{used_by_none}
 use Rattle.bites_machine.specs.declared.vm.threads.Thread.{Thread}
 use Rattle.bites_machine.specs.declared.vm.closure.Scratch.{Scratch}
 
--- whether a search is over behind a place, as the code tests it
+-- whether a search is over after a place, as the code tests it
 abbrev pub ends_by : Bool → ℕ → Bool → ℕ → Bool
 ends_by earliest len is_found threads = (len == 0) || (is_found && (earliest || (threads == 0)))
 

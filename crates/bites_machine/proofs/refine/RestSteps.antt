@@ -1,4 +1,4 @@
--- Behind the threads of a place the rest of the start prefix is visited.
+-- After the threads of a place the rest of the start prefix is visited.
 use Rattle.std.proofs.Common.{◌≡◌, ℕ, suc, ◌+◌, ◌<◌, ◌≤◌, Bool, true, false, true≢false, cond, List, [], ◌∷◌, ◌++◌, map, length, Option, Some, None, replicate, refl, sym, ap, ap₂, ◌∙◌, subst, inl, inr, ⊎_elim, ◌⊎◌, arith, eq-eqb}
 use Rattle.std.specs.Prelude.{if◌then◌else◌, slice_index_or}
 use Rattle.std.proofs.lemmas.Bool.{cases_lt}
@@ -44,7 +44,7 @@ visited_here states place walked scratch width within_step q is =
     (λ (ge : length scratch.visited_set ≤ q). absurd (true≢false (sym is ∙ get_or_past scratch.visited_set q false ge)))
     (cases_lt q (length scratch.visited_set))
 
--- the closures of a place were explored, and the rest of the prefix was visited behind them
+-- the closures of a place were explored, and the rest of the prefix was visited after them
 pub all_rest : (hay : List ℕ) (longest : Bool) (place : ℕ) (states : List program.State) (threads : List Thread) (q : ℕ) (x : StartPrefix) (was mid now : Record) (old new : Scratch) (slots left : List (Option ℕ)) →
     IsPrefix states q x → RestTakesNone x (seen_here place mid.visits) (next_character hay place) → IsApart x place → new.first_match ≡ None → ((v : Configuration) → Among was.visits v → v.place < place) →
     ClosesThreads hay longest place states threads [] was mid old new slots left →

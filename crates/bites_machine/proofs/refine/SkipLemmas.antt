@@ -75,7 +75,7 @@ module _ (hay : List ℕ) (longest : Bool) (place : ℕ) (states : List State) (
 pub fresh_behind : (place q : ℕ) (vs : List Configuration) → ((v : Configuration) → Among vs v → v.place < place) → Among vs (at q place) → ⊥
 fresh_behind place q vs before h = let lt = before (at q place) h in absurd (omega arith)
 
--- a character that stands at a place takes some bytes
+-- a character at a place takes some bytes
 pub some_taken : (hay : List ℕ) (place ch : ℕ) → next_character hay place ≡ Some ch → 0 < (piece hay place).len
 some_taken hay place ch is = by_len (piece hay place).len is
   where
@@ -92,7 +92,7 @@ ascii_piece b rest small =
     ap (λ (t : Bool). cond (cond t 1 0 == 1) (cond t 1 0) (whole_len (drop 1 well_formed_rows) (b ∷ rest))) in_row in
     ap (λ (n : ℕ). piece_by n (b ∷ rest)) one
 
--- the same at a place
+-- an ASCII character at a place is a piece of one byte
 pub ascii_at : (hay : List ℕ) (place : ℕ) → place < length hay → get_or hay place 0 < 128 →
     piece hay place ≡ record { decoded = Some (get_or hay place 0); len = 1 }
 unfolding piece
@@ -129,7 +129,7 @@ skips_on hay longest place here len states q x was mid now prefix out apart lens
       reached_next p hay longest earliest start first here len false now pool [] slots 0 did lens refl (ap (λ (b : Bool). b || false) (ne_eqb len 0 (λ e. absurd (omega (arith, e)))));
 }
 
--- places were skipped, and an ASCII character that no state takes stands behind them
+-- places were skipped, and after them comes an ASCII character that no state takes
 pub skips_byte : (hay : List ℕ) (longest : Bool) (place here : ℕ) (states : List State) (q : ℕ) (x : StartPrefix) (was mid now : Record) →
     IsPrefix states q x → here < length hay → in_set x.ascii true (get_or hay here 0) ≡ false → IsApart x here →
     now.visits ≡ map (λ r. at r here) x.visited.value ++ mid.visits → now.looks ≡ mid.looks + x.looks.value →
@@ -150,7 +150,7 @@ passes_further hay longest place here later states q was mid now first second = 
       second.gone p is earliest start slots_first slots pool per_row (first.gone p is earliest start slots_first slots pool per_row gone);
 }
 
--- what holds between two places holds behind the skipped ones too
+-- what holds between two places also holds after the skipped ones
 pub between_skipped : (states : List State) (place later : ℕ) (was now : Record) (scratch : Scratch) (list : Listed) (slots_per_row : ℕ) → ((v : Configuration) → Among now.visits v → v.place < later) →
     InvariantBetweenSteps states place was scratch list slots_per_row → InvariantBetweenSteps states later now scratch list slots_per_row
 between_skipped states place later was now scratch list slots_per_row before b = record {

@@ -168,7 +168,7 @@ module _ (hay : List ℕ) (states : List State) (x : SelfLoop) (q : ℕ) where
   abbrev pub scratch_of : Pool → Option FirstMatch → Scratch
   scratch_of pool hit = record { visited_set = []; stack = record { frames = []; room = 0 }; rows = pool; next = record { threads = []; room = 0 }; first_match = hit }
 
-  -- what a search needs to know of the start where the character stands
+  -- what a search needs to know of the start at the character
   abbrev pub RestStays : Option StartPrefix → ℕ → ℕ → Type 0
   RestStays None i c = Unit {0}
   RestStays (Some r) i c = IsPrefix states q r × IsApart r i × (in_set x.behind.ascii x.behind.others c ≡ false) × IsCovered states x r.visited.value
@@ -304,7 +304,7 @@ module _ (hay : List ℕ) (states : List State) (x : SelfLoop) (q : ℕ) where
   rest_stays None from i c le prefix apart covered out = tt
   rest_stays (Some r) from i c le prefix apart covered out = (prefix, λ a. let above = apart a in omega (arith, above, le), out, covered)
 
-  -- A search has reached a later place, where the thread is where it was.
+  -- A search has reached a later place, and the thread is unchanged.
   pub reaches : (place here last : ℕ) (rest : Option StartPrefix) (was now : Record) (longest earliest found later : Bool) (threads : List Thread) (t : Thread) (pool : Pool) (slots left : List (Option ℕ)) →
       StaysAlong hay place here last states x rest q was now → longest ≡ false → threads ≡ t ∷ [] → length (slots_at pool t.row) ≡ length slots → t.state ≡ x.state → MayPass x rest earliest found →
       later ≡ (found || has_ended x place here) → left ≡ left_at x place here last (slots_at pool t.row) slots →

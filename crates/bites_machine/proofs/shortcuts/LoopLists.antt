@@ -6,7 +6,7 @@ use Rattle.bites_machine.specs.SelfLoop.{IsSelfLoop, IsCovered, AreLoops, AreCov
 use Rattle.bites_machine.specs.declared.self_loop.SelfLoop.{SelfLoop}
 use Rattle.bites_machine.proofs.compile.EdgeLemmas.{Among-apart}
 
--- what stands at a place is among the list
+-- what is at an index of the list is among it
 pub among_at : {A : Type 0} (xs : List A) (k : ℕ) (d : A) → k < length xs → Among xs (get_or xs k d)
 among_at [] k d lt = absurd (omega arith)
 among_at (x ∷ xs) zero d lt = inl refl
@@ -27,7 +27,7 @@ pub covered_more : (states : List State) (prefix : Option (Bor (List ℕ))) (xs 
 covered_more states None xs ys y is one = tt
 covered_more states (Some r) xs ys y is one = λ all. among_more (λ (x : SelfLoop). IsCovered states x r.now) xs ys y is all one
 
--- what is among a list stands at a place of it
+-- what is among a list is at an index of it
 pub among_index : (xs : List ℕ) (x : ℕ) → Among xs x → (k : ℕ) × (k < length xs) × (slice_index xs k ≡ x)
 among_index [] x h = absurd h
 among_index (y ∷ xs) x h =

@@ -25,7 +25,7 @@ use Rattle.bites_machine.proofs.steps.VisitLemmas.{taking_by, visited_char, visi
 more : (base looks : ℕ) → suc (base + looks) ≡ base + (looks + 1)
 more base looks = omega arith
 
--- walks with the same parts
+-- walks with equal parts
 same_walk : (ns ms ts us : List Thread) (seen also : List ℕ) (a b : ℕ) → ns ≡ ms → ts ≡ us → seen ≡ also → a ≡ b → walking ns ts seen a ≡ walking ms us also b
 same_walk ns ms ts us seen also a b e f g h =
     ap₂ (λ (n t : List Thread). walking n t seen a) e f ∙ ap₂ (λ (s : List ℕ) (k : ℕ). walking ms us s k) g h
@@ -49,7 +49,7 @@ module _ (hay : List ℕ) (p : Program) (i : ℕ) (t : Thread) (rest : List Thre
   onward : (w v u : Walking) → WalksTo hay false p i w v → step hay false p i v ≡ u → WalksTo hay false p i w u
   onward w v u to e = subst (λ (x : Walking). WalksTo hay false p i w x) e (walks_on hay false p i w v to)
 
-  -- The walk, with the thread that is looked at next, and those behind it.
+  -- The walk, with the thread that is looked at next, and those after it.
   record Top (n : ℕ) (from : List ℕ) (x : LoopClosure) : Type 0 where
     first : Thread
     others : List Thread

@@ -1,4 +1,4 @@
--- Behind other threads the machine on lists visits those states of the start prefix that were not visited at the place.
+-- After other threads the machine on lists visits those states of the start prefix that were not visited at the place.
 use Rattle.std.proofs.Common.{◌≡◌, ℕ, zero, suc, ◌+◌, Bool, true, false, cond, ◌||◌, List, [], ◌∷◌, ◌++◌, map, length, Option, Some, IfSome, refl, sym, ap, ap₂, ◌∙◌, subst, inl, inr, ⊎_elim, ◌⊎◌, arith, true≢false, eq-eqb, length-append}
 use Rattle.std.specs.Prelude.{◌==◌}
 use Rattle.std.specs.Fn.{iterate}
@@ -252,7 +252,7 @@ module _ (old : List ℕ) where
           let none : start ∷ [] ≡ [] = ap (λ (b : Blind). b.stack) (sym (ap (blind_from p.states start) is ∙ from_is p.states start 0)) ∙ prefix.stack in cc
       some_looks prefix (suc m) is = (m, is)
 
-      -- where what is left of the prefix takes nothing, a state that is not old doesn't take the character that stands here
+      -- if the rest of the prefix takes nothing, a state that is not old doesn't take the character here
       pub taken_by : RestTakesNone x old (next_character hay i) → IsPrefix p.states start x → (r : ℕ) → Among x.visited.value r → was old r ≡ false → (c : ℕ) → next_character hay i ≡ Some c → takes (state_at p.states r) c ≡ false
       taken_by out prefix r mine new =
           ⊎_elim
@@ -263,7 +263,7 @@ module _ (old : List ℕ) where
           (cases_Bool (takes (state_at p.states r) c)))
           out
 
-      -- the walk from the start, behind others
+      -- the walk from the start, after others
       pub walks_rest : ((r : ℕ) → Among x.visited.value r → was old r ≡ false → (c : ℕ) → next_character hay i ≡ Some c → takes (state_at p.states r) c ≡ false) → IsPrefix p.states start x → (t : Thread) → t.state ≡ start →
           WalksTo hay longest p i (walking next (t ∷ []) old base) (walking next [] (fresh_of old x.visited.value ++ old) (suc (base + fresh_sum old x.visited.value x.targets.value)))
       walks_rest takes_none prefix t is =

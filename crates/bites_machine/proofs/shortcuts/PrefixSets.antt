@@ -82,7 +82,7 @@ takes-none words others test within o out c is = by_test (test c) (within c) (su
     by_test true h e = absurd (true≢false (sym (h refl) ∙ e))
     by_test false h e = refl
 
--- what the character that stands somewhere doesn't pass is not taken there
+-- a character that doesn't pass the test is not taken
 pub takes-not : (test : ℕ → Bool) (o : Option ℕ) → ((c : ℕ) → o ≡ Some c → test c ≡ false) → takes_by test o ≡ false
 takes-not test None out = refl
 takes-not test (Some c) out = out c refl

@@ -28,7 +28,7 @@ pub no_numbers : (ts : List Thread) → numbers ts ≡ [] → ts ≡ []
 no_numbers [] is = refl
 no_numbers (t ∷ ts) is = cc
 
--- a walk behind these threads, which took the piece
+-- a walk after these threads, which took the piece
 abbrev pub walking : List Thread → List Thread → List ℕ → ℕ → Walking
 walking next ts seen looks = record { stack = ts; seen = seen; next = next; first_match = None; looks = looks }
 
@@ -67,7 +67,7 @@ unfolding look.holds
 not_start hay i pos = ne_eqb i 0 (λ e. absurd (omega (arith, pos, e)))
 
 module _ (hay : List ℕ) (longest : Bool) (i : ℕ) (p : Program) (x : StartPrefix) (apart : IsApart x i) where
-  -- the state may stay, and doesn't take the character that stands here
+  -- the state may stay, and doesn't take the character here
   abbrev pub IsQuiet : State → Type 0
   IsQuiet st = (may_stay x.anchored st ≡ true) × ((c : ℕ) → next_character hay i ≡ Some c → takes st c ≡ false)
 

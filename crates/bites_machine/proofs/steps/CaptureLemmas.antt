@@ -24,7 +24,7 @@ use Rattle.bites_machine.specs.declared.vm.closure.Scratch.{Scratch}
 use Rattle.bites_machine.proofs.tables.RowLemmas.{with_pending-push, length-with_pending}
 use Rattle.bites_machine.proofs.steps.VisitLemmas.{visited_capture, visited_match, pending_more, pending_kept, known_framed}
 
--- the rows are the same under other pending slots
+-- the rows are unchanged under other pending slots
 same_rows : (old new : Pool) (users : List ℕ) → new.rows ≡ old.rows → new.ref_counts ≡ old.ref_counts → new.slots_per_row ≡ old.slots_per_row → IsUsed old users → IsUsed new users
 same_rows old new users rows ref_counts slots_per_row used = record {
   ref_counts = λ r other. ap (λ (c : List ℕ). slice_index c r) ref_counts ∙ used.ref_counts r other;
@@ -37,7 +37,7 @@ same_rows old new users rows ref_counts slots_per_row used = record {
     slots : (r : ℕ) → slots_at new r ≡ slots_at old r
     slots r = ap (λ (rs : List (List (Option ℕ))). slice_index_or rs r []) rows
 
--- pending slots behind those of the frames change nothing for them
+-- pending slots after those of the frames change nothing for them
 module _ (place : ℕ) (old new : Pool) (slot : ℕ) (t : Thread) (n : ℕ) (room : n < length old.pending) (pending : new.pending ≡ slice_set old.pending n slot) (rows : new.rows ≡ old.rows)
     (slots_per_row : new.slots_per_row ≡ old.slots_per_row) where
   front_same : (k : ℕ) → k ≤ n → take k new.pending ≡ take k old.pending
@@ -185,7 +185,7 @@ module _ (hay : List ℕ) (longest : Bool) (place : ℕ) where
       ap (λ b. cond b (frame_of place pool t f ∷ filter (λ (u : machine.Thread). nat_le u.start start) (map (frame_of place pool t) fs)) (filter (λ (u : machine.Thread). nat_le u.start start) (map (frame_of place pool t) fs))) (le-leb t.start start le)
       ∙ ap (λ us. frame_of place pool t f ∷ us) (frames_stay pool t start fs le)
 
-  -- what a match keeps of the frames and of the threads behind them
+  -- what a match keeps of the frames and of the threads after them
   kept_parts : (pool : Pool) (t : Thread) (h : machine.Thread) (fs : List Frame) (rest : List machine.Thread) → (longest ≡ true → t.start ≤ h.start) →
       kept hay longest (Some h) (map (frame_of place pool t) fs ++ rest) ≡ map (frame_of place pool t) (if longest then fs else []) ++ kept hay longest (Some h) rest
   kept_parts pool t h fs rest starts = by_test longest refl

@@ -75,7 +75,7 @@ module _ (hay : List ℕ) (longest : Bool) (place : ℕ) where
       next_number : (n : ℕ) → suc n ≡ n + 1
       next_number n = omega arith
 
-  -- what a visit keeps of the threads behind
+  -- what a visit keeps of the threads after this one
   behind_kept : (st : program.State) (b : Bool) (before after : Option machine.Thread) (rest : List machine.Thread) → is_match st ≡ b → (is_match st ≡ false → after ≡ before) →
       kept hay longest before rest ≡ rest → behind hay longest st after rest ≡ kept hay longest after rest
   behind_kept st true before after rest e same keeps = ap (λ (c : Bool). cond c (kept hay longest after rest) rest) e

@@ -25,7 +25,7 @@ use Rattle.bites_machine.proofs.tables.ScratchLemmas.{row_kept}
 use Rattle.std.specs.Bool.{MatchBool}
 use Rattle.bites_spec.specs.Range.{in_ranges}
 
--- more pending slots may stand in front
+-- the bound on pending slots may be larger
 pub pending_more : (pool : Pool) (a b : ℕ) (fs : List Frame) → a ≤ b → ArePending pool a fs → ArePending pool b fs
 pending_more pool a b [] le pending_len = tt
 pending_more pool a b (f ∷ fs) le pending_len = (omega (arith, pending_len.0, le), pending_len.1, pending_len.2)
@@ -181,7 +181,7 @@ module _ (hay : List ℕ) (longest : Bool) (place : ℕ) where
       by_test true = refl
       by_test false = refl
 
-  -- frames under rows whose pending slots and slots of the thread are the same
+  -- frames under rows with equal pending slots and equal slots of the thread
   frames_kept : (pool next : Pool) (t : Thread) (fs : List Frame) → next.pending ≡ pool.pending → slots_at next t.row ≡ slots_at pool t.row →
       map (frame_of place next t) fs ≡ map (frame_of place pool t) fs
   frames_kept pool next t fs pending slots =

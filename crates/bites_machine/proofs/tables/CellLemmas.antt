@@ -12,7 +12,7 @@ Cells = List ℕ
 read_below : (d s : Cells) (to k i : ℕ) → i < to → to ≤ length d → slice_index (paste d to s k) i ≡ slice_index d i
 read_below d s to k i below room = grind (arith, places)
 
--- a slot behind those that were written
+-- a slot after those that were written
 read_above : (d s : Cells) (to k i : ℕ) → to + k ≤ i → to + k ≤ length d → k ≤ length s → slice_index (paste d to s k) i ≡ slice_index d i
 read_above d s to k i above room enough = grind (arith, places)
 
@@ -54,7 +54,7 @@ module _ (d : Cells) (from to w : ℕ) (source : from + w ≤ length d) (target 
       ∙ ap (take w) (drop_at (take to d) (take w (drop from d) ++ drop (to + w) d) to length-front)
       ∙ take_at (take w (drop from d)) (drop (to + w) d) w length-copied
 
-  -- the part is written anew
+  -- the part is overwritten
   pub part_anew : (zs : Cells) → length zs ≡ w → paste (paste d to (drop from d) w) to zs w ≡ take to d ++ (zs ++ drop (to + w) d)
   part_anew zs len =
       let whole : length (take to d ++ take w (drop from d)) ≡ to + w = omega (arith, length-append (take to d) (take w (drop from d)), length-front, length-copied) in

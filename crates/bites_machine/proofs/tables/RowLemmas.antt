@@ -5,7 +5,7 @@ use Rattle.std.proofs.lemmas.List.{drop-drop, drop_at, drop_all, take_at, take_a
 use Rattle.std.proofs.Math.Nat.{mul-le-mul_left, mul-le-mul_right}
 use Rattle.bites_machine.specs.SlotTable.{rows_of, with_pending}
 
--- one pending slot more, behind the others
+-- one more pending slot, after the others
 pub with_pending-push : (place : ℕ) (ks : List ℕ) (k : ℕ) (slots : List (Option ℕ)) →
     with_pending place (ks ++ k ∷ []) slots ≡ slice_set (with_pending place ks slots) k (Some place)
 with_pending-push place [] k slots = refl
@@ -32,7 +32,7 @@ row_at w (suc n) zero cells lt = ap (λ k. take w (drop k cells)) (zero_row w)
 row_at w (suc n) (suc r) cells lt =
     row_at w n r (drop w cells) (omega arith) ∙ ap (take w) (drop-drop (r * w) w cells ∙ ap (λ k. drop k cells) (sym (row_step w r)))
 
--- one row is written, or put behind all that are there
+-- one row is written, or appended to all that are there
 row_written : (w n r : ℕ) (cells row : List (Option ℕ)) → r < n → r * w ≤ length cells → length row ≡ w →
     rows_of w n (take (r * w) cells ++ (row ++ drop (r * w + w) cells)) ≡ slice_set (rows_of w n cells) r row
 row_written w zero r cells row lt room len = absurd (omega arith)
@@ -103,7 +103,7 @@ module _ (w row_count taken row place : ℕ) (ks : List ℕ) (cells : List (Opti
       row_written w row_count fresh cells copy (omega arith) (omega (arith, fits, len)) length-copy
       ∙ ap (λ r. slice_set (rows_of w row_count cells) fresh (with_pending place ks r)) (sym (row_at w row_count row cells (omega arith)))
 
-  -- a row that is put behind those that were taken is the copy of another
+  -- a row that is appended to those that were taken is the copy of another
   pub row_pushed : taken < row_count →
       rows_of w row_count (cells ++ copy) ≡ slice_set (rows_of w row_count cells) taken (with_pending place ks (slice_index_or (rows_of w row_count cells) row []))
   row_pushed few =

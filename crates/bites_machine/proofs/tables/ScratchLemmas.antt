@@ -78,7 +78,7 @@ moved_among mine fresh xs others r h =
     (λ (b : Among others r). inr (inr (Among-right xs others r b)))
     (Among-apart (xs ++ fresh ∷ []) others r l)) h
 
--- a thread is put in behind the others
+-- a thread is appended to the others
 pub puts_in : (place target pending_len fresh : ℕ) (t : Thread) (old new : Scratch) → ForksTo place t.row pending_len fresh old.rows new.rows →
     new.next.threads ≡ old.next.threads ++ record { state = target; row = fresh; start = t.start } ∷ [] → new.next.room ≡ old.next.room →
     new.visited_set ≡ old.visited_set → new.stack ≡ old.stack → new.first_match ≡ old.first_match → AddsThread place target pending_len t old new

@@ -166,7 +166,7 @@ sum-one_less ref_counts row known = by_test (row == 0)
     by_test true = omega arith
     by_test false = omega (arith, sum_by-set (λ n. n) ref_counts row (slice_index ref_counts row - 1) 0 known)
 
--- a thread that is over lets its row go
+-- a thread that is over releases its row
 pub released : (row : ℕ) (users : List ℕ) (old new : Pool) → IsUsed old (row ∷ users) → new.ref_counts ≡ one_less old.ref_counts row → new.rows ≡ old.rows → new.slots_per_row ≡ old.slots_per_row → IsUsed new users
 released row users old new used ref_counts rows slots_per_row = record {
   ref_counts = λ r other. ap (λ (c : List ℕ). slice_index c r) ref_counts ∙ counts_less old.ref_counts row users (used.known row (inl refl)) used.ref_counts r other;

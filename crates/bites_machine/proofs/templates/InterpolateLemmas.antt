@@ -33,7 +33,7 @@ module _ {X : Type 0} (p : X → Bool) where
       by_test true e h = omega (arith, run_next x xs true e, h)
       by_test false e h = omega (arith, run_next x xs false e)
 
--- at the end, or where this byte stands
+-- at the end, or at this byte
 abbrev Stops : ℕ → List ℕ → ℕ → Type 0
 Stops c bytes n = (n ≡ length bytes) ⊎ ((n < length bytes) × (get_or bytes n 0 ≡ c))
 
@@ -56,7 +56,7 @@ stop_border c text bytes n same is low = subst (λ (l : List ℕ). IsCharBoundar
     by_stop n (inl e) = subst (IsCharBoundary bytes) (sym e) (IsCharBoundary-end bytes)
     by_stop n (inr h) = IsCharBoundary-before_ascii bytes n h.0 (omega (arith, h.1))
 
--- where it is not the end this byte stands
+-- if it is not the end, this byte is there
 stop_byte : (c : ℕ) (bytes : List ℕ) → prefix_len (is_not c) bytes ≢ length bytes → (prefix_len (is_not c) bytes < length bytes) × (get_or bytes (prefix_len (is_not c) bytes) 0 ≡ c)
 stop_byte c bytes other = by_stop (prefix_len (is_not c) bytes) other (stop_at c bytes)
   where
@@ -84,7 +84,7 @@ name_stands inside other =
     let at = stop_byte 125 inside other in
     good_name true inside (prefix_len (is_not 125) inside) at.0 (brace_here inside (prefix_len (is_not 125) inside) at.0 (new_before 125 inside) at.1) (inl refl)
 
--- the part that braces make, and what stands behind them
+-- the part that braces make, and what comes after them
 brace_cuts : (rest inside : List ℕ) → BeginsWith 123 rest → inside ≡ drop 1 rest → prefix_len (is_not 125) inside ≢ length inside →
     CutsFront true (36 ∷ rest) (name (take (prefix_len (is_not 125) inside) inside) ∷ []) (drop 1 (drop (prefix_len (is_not 125) inside) inside))
 brace_cuts rest inside (tail, e) is other =
@@ -187,7 +187,7 @@ dollar_twice rest behind last (tail, e) is next (more, f) =
     subst (λ (l : List ℕ). CutsFront true rest (byte 36 ∷ []) l) (sym (next ∙ ap (drop 1) f))
     (subst (λ (l : List ℕ). CutsFront true l (byte 36 ∷ []) more) (sym whole) (λ parts c. doubled more parts c))
 
--- no brace, and none behind
+-- no brace, and none later
 pub no_brace_behind : (n : ℕ) (bytes : List ℕ) → IsNew 125 bytes → IsNew 125 (drop n bytes)
 no_brace_behind zero bytes new = new
 no_brace_behind (suc n) [] new = new

@@ -81,7 +81,7 @@ pub appends_err : {E : Type 0} (r : Result (Unit {0}) E) (old new text : List �
 appends_err (Ok u) old new text refused h = absurd (search (rules, refused))
 appends_err (Err e) old new text refused h = h
 
--- UTF-8 goes no further than the front that was found
+-- UTF-8 goes no further than the prefix that was found
 front_stops : (bytes text behind : List ℕ) → IsTextFront bytes text behind → NoFurther text behind
 front_stops bytes text behind (whole, utf8, stop) =
     ⊎_elim (λ (e : behind ≡ []). subst (NoFurther text) (sym e) none)
@@ -98,12 +98,12 @@ module _ (texts : ℕ → Option (List ℕ)) (numbers : List ℕ → Option ℕ)
   abbrev pub bytes_of_template : List ℕ → List ℕ
   bytes_of_template template = expansion false largest texts numbers template
 
-  -- the text of the front, and that of what stands behind it
+  -- the text of the prefix, and that of the bytes after it
   pub front_text : (bytes text behind : List ℕ) → IsTextFront bytes text behind → bytes_of_template bytes ≡ text_of_template texts numbers text ++ bytes_of_template behind
   front_text bytes text behind front =
       ap bytes_of_template front.0 ∙ expansion_before text behind front.1 (front_stops bytes text behind front) largest texts numbers
 
-  -- the byte behind the front stands for itself
+  -- the byte after the prefix stands for itself
   pub byte_text : (bytes text behind tail : List ℕ) (x : ℕ) → IsTextFront bytes text behind → behind ≡ x ∷ tail → bytes_of_template behind ≡ (x ∷ []) ++ bytes_of_template tail
   byte_text bytes text behind tail x front e =
       ap bytes_of_template e ∙ expansion_front false largest texts numbers (x ∷ tail) tail (byte x ∷ []) (λ parts c. plain x tail parts not_dollar c)
@@ -117,7 +117,7 @@ module _ (texts : ℕ → Option (List ℕ)) (numbers : List ℕ → Option ℕ)
   no_bytes [] none = expansion_end false largest texts numbers
   no_bytes (b ∷ behind) none = absurd (omega arith)
 
-  -- the text of a front was appended
+  -- the text of a prefix was appended
   pub front_appended : (old now next whole bytes text behind : List ℕ) → IsTextFront bytes text behind → Appended old now whole (bytes_of_template bytes) →
       next ≡ now ++ text_of_template texts numbers text → Appended old next whole (bytes_of_template behind)
   front_appended old now next whole bytes text behind front so_far put =

@@ -1,4 +1,4 @@
-//! The search from one place: a match begins there, and the search stops when no thread is left.
+//! The anchored search: a match begins at the start, and the search stops when no thread is left.
 
 ghost use Rattle.std.specs.Prelude.{◌≡◌, ◌+◌, ◌≤◌, ◌==◌, ◌||◌, ◌&&◌, if◌then◌else◌, [], length, replicate, None, Some, true, false};
 ghost use Rattle.bites_spec.specs.Program as program;
@@ -12,10 +12,10 @@ ghost use Rattle.bites_machine.specs.declared.vm.MatchKind.TheVariants.{First, E
 use super::MatchKind;
 use super::closure::Scratch;
 use super::counted::Counted;
-use super::pikevm::{Request, is_found_with, piece_at, release_all, step_threads};
-use super::threads::{Thread, Threads};
+use super::pikevm::{Request, is_found_with, piece_at, release_all, started, step_threads};
+use super::threads::Threads;
 
-/// Whether a match with the least end is asked for.
+/// Returns whether a match with the least end is asked for.
 pub(super) fn is_earliest(kind: MatchKind) -> bool
     ensures first { kind ≡ First → result ≡ false }
     ensures least { kind ≡ Earliest → result ≡ true }
@@ -24,7 +24,7 @@ pub(super) fn is_earliest(kind: MatchKind) -> bool
     matches!(kind, MatchKind::Earliest)
 }
 
-/// Whether a match with the greatest end is asked for.
+/// Returns whether a match with the greatest end is asked for.
 pub(super) fn is_longest(kind: MatchKind) -> bool
     ensures first { kind ≡ First → result ≡ false }
     ensures least { kind ≡ Earliest → result ≡ false }
@@ -33,20 +33,8 @@ pub(super) fn is_longest(kind: MatchKind) -> bool
     matches!(kind, MatchKind::Longest)
 }
 
-// The thread of the search, at its start. Only the longest run asks where a thread was started.
-#[inline(always)]
-fn start_thread(state: u32, place: usize, longest: bool) -> Thread
-    ensures { result ≡ record { state = state; row = 0; start = if longest then place else 0 } }
-{
-    let start = if longest { place } else { 0 };
-    Thread {
-        state,
-        row: 0,
-        start,
-    }
-}
-
-// Whether a search is over after a place with a piece of that length, where so many threads are left.
+// Returns whether the search is over after a place: at the end of the haystack, where `len` is 0, if no thread is left,
+// or if an earliest match was found.
 #[inline(always)]
 fn is_done(len: usize, threads: usize, is_found: bool, earliest: bool) -> bool
     ensures { result ≡ ((len == 0) || ((threads == 0) || (earliest && is_found))) }
@@ -54,8 +42,8 @@ fn is_done(len: usize, threads: usize, is_found: bool, earliest: bool) -> bool
     len == 0 || threads == 0 || (earliest && is_found)
 }
 
-/// Searches for a match that begins at the start of the request, with the threads of each place in turn. Returns
-/// whether there is one, whose slots are then in the slice.
+/// Searches for a match that begins at the start of the request, place by place. Returns whether there is one, and
+/// writes its slots.
 pub(super) fn search(
     counted: &mut Counted<'_>,
     scratch: &mut Scratch,
@@ -89,7 +77,7 @@ pub(super) fn search(
         longest,
         ..
     } = *request;
-    threads.push(start_thread(first, start, longest));
+    threads.push(started(first, start, longest));
     let mut is_found = false;
     let mut place = start;
     'places: loop {

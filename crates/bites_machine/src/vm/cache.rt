@@ -1,4 +1,4 @@
-//! The room that searches of a program take, made once.
+//! The working memory of searches, allocated once.
 
 ghost use Rattle.std.specs.Prelude.{◌≡◌, ◌<◌, ◌≤◌, ◌↔◌, [], IfOk, IfSome, IsTrue, None, length, replicate, false};
 ghost use Rattle.bites_spec.specs.Program as program;
@@ -22,11 +22,11 @@ use crate::program::Program;
 use std::alloc::AllocError;
 use std::marker::Model;
 
-// The width of the body for slices of any length.
+// The width that stands for slices of any length.
 const ANY: usize = 3;
 
-/// The room for searches of a program and of those with as many states, slots and targets: the threads of
-/// two places, a stack, a visited set, and rows of slots. No search takes more.
+/// The working memory for searches of a program, or of others with as many states, slots and targets: the threads of
+/// two places, a stack, a visited set, and rows of slots. No search allocates more.
 #[derive(Drop)]
 pub struct Cache {
     states: usize,
@@ -54,10 +54,10 @@ impl Model for Cache {
 }
 
 impl Cache {
-    /// Room for searches of the program, or a refusal where there is not so much memory.
+    /// Allocates a cache for searches of the program. The error is out of memory.
     ///
-    /// It takes 60 bytes for each state and 16 for each frame. For each row it reserves 16 bytes, and 8 for each
-    /// slot; the room of a row is first written when a search needs the row.
+    /// Takes 60 bytes for each state and 16 for each frame. For each row it reserves 16 bytes, and 8 for each slot; the
+    /// memory of a row is first written when a search needs the row.
     pub fn new(program: &Program) -> Result<Cache, AllocError>
         ensures { IfOk result (λ cache. cache.fits ≡ fit_of program.now.program) }
     {
@@ -102,7 +102,7 @@ impl Cache {
         self.scratch.stack.room()
     }
 
-    /// Whether the cache was made for a program of as many states, slots and targets.
+    /// Returns whether the cache was made for a program with as many states, slots and targets.
     pub fn fits_program(&self, program: &Program) -> bool
         ensures { IsTrue result ↔ (self.now.fits ≡ fit_of program.now.program) }
     {
@@ -111,7 +111,7 @@ impl Cache {
             && self.targets == program.targets()
     }
 
-    // The search, with the states that it may read.
+    // Runs the search on the states in `counted`. A start past the end of the haystack finds nothing.
     pub(super) fn search(
         &mut self,
         mut counted: Counted<'_>,
@@ -145,7 +145,7 @@ impl Cache {
         let found = if request.start <= request.haystack.len() {
             self.scratch.rows.setup_search(slots.len());
             let (scratch, threads) = (&mut self.scratch, &mut self.threads);
-            // One body for each width, each with loops over so many slots.
+            // One body for each width, with loops over that number of slots.
             match slots.len() {
                 _ if request.longest => {
                     search_width::<ANY, true>(&mut counted, scratch, threads, request, slots)
@@ -161,7 +161,7 @@ impl Cache {
         found
     }
 
-    // The search from one place, with the states that it may read.
+    // Like `search`, but a match begins at the start of the request.
     pub(super) fn search_anchored(
         &mut self,
         mut counted: Counted<'_>,
@@ -203,8 +203,8 @@ impl Cache {
     }
 }
 
-// The search for a slice of so many slots, or of any length, and for the longest run or not. It is not inlined, so that each of
-// these has a body of its own.
+// Searches with a slice of `WIDTH` slots, or of any length for `ANY`, and for the longest match if `LONGEST` is set. It
+// is not inlined, so that each of these has a body of its own.
 #[inline(never)]
 fn search_width<const WIDTH: usize, const LONGEST: bool>(
     counted: &mut Counted<'_>,

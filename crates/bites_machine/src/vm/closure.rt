@@ -31,14 +31,14 @@ use crate::targets::Targets;
 use bites_syntax::look::Look;
 use std::alloc::{AllocError, Global};
 
-/// The first thread that reached a match at a place: its state, and the place where it was started.
+/// The first match that a thread reached at a place: the match state, and the place where the thread was started.
 #[derive(Clone, Copy, Drop)]
 pub struct FirstMatch {
     pub state: u32,
     pub start: usize,
 }
 
-/// What the closures of one place work with. All but the rows of slots is empty when a place begins.
+/// The working memory of the closures of one place. All but the rows of slots is empty when a place begins.
 #[derive(Drop)]
 pub struct Scratch {
     pub visited_set: StateSet,
@@ -48,8 +48,8 @@ pub struct Scratch {
     pub first_match: Option<FirstMatch>,
 }
 
-// Visits a state that was not visited at this place, and follows it. Returns the frame that is explored next, if the state
-// leads to one.
+// Visits a state that was not visited at this place, and follows it. Returns the frame that is explored next, if the
+// state leads to one.
 #[inline(always)]
 fn follow(
     counted: &mut Counted<'_>,
@@ -142,7 +142,7 @@ fn step_char(
     }
 }
 
-// Whether the assertion holds here, if there is one.
+// Returns whether the assertion holds here. No assertion always holds.
 #[inline(always)]
 fn holds(look: &Option<Look>, here: &Position<'_>) -> bool
     requires { here.now.place ≤ length here.now.haystack.now }
@@ -155,7 +155,7 @@ fn holds(look: &Option<Look>, here: &Position<'_>) -> bool
     }
 }
 
-// Where a split leads: to the preferred target, and the others wait on the stack.
+// Pushes all targets of a split but the preferred one. Returns the frame of the preferred one, if there are targets.
 #[inline(always)]
 fn split(stack: &mut Stack, targets: &Targets, reverse: bool, pending_len: usize) -> Option<Frame>
     requires { length stack.old.frames + length targets.now ≤ stack.old.room }
@@ -171,7 +171,7 @@ fn split(stack: &mut Stack, targets: &Targets, reverse: bool, pending_len: usize
     Some(Frame { state, pending_len })
 }
 
-// All targets but the preferred one, so that of these the preferred one is uppermost.
+// Pushes all targets but the preferred one. The second in order of preference is then uppermost.
 #[inline(always)]
 fn push_others(stack: &mut Stack, targets: &Targets, reverse: bool, pending_len: usize)
     requires { length stack.old.frames + length targets.now ≤ stack.old.room }
@@ -222,7 +222,8 @@ fn add_thread(scratch: &mut Scratch, place: usize, thread: Thread, pending_len: 
     });
 }
 
-// Records that the thread reached a match. Its slots are written if it is the first one at this place.
+// Records that the thread reached a match, and writes its slots if it is the first one at this place. Drops the frames
+// that are left, unless the longest match is asked for.
 #[inline(always)]
 fn record_match(
     scratch: &mut Scratch,
@@ -263,7 +264,8 @@ fn record_match(
     }
 }
 
-// One step: explores a state, and visits it if it was not visited at this place. Returns the frame that is explored next.
+// Explores one frame: visits its state, if it was not visited at this place. Returns the frame that is explored next,
+// if there is one.
 #[inline(always)]
 fn explore(
     counted: &mut Counted<'_>,

@@ -16,7 +16,7 @@ use std::marker::Model;
 use std::mem;
 use std::snapshot::Snapshot;
 
-/// What was done, the latest first.
+/// What a search did, the latest first.
 #[derive(Drop)]
 enum History {
     Nothing,
@@ -51,7 +51,9 @@ enum History {
     },
 }
 
-/// The visits and the number of steps of a search. It takes no bytes: contracts alone see it.
+/// The visits and the number of steps of a search.
+///
+/// For proofs: contracts alone see it. Its size is 0.
 #[derive(Drop)]
 pub struct Trace {
     history: Snapshot<History>,
@@ -70,7 +72,7 @@ impl Model for Trace {
 const _: () = prove!(size_of::<Trace>() == 0);
 
 impl Trace {
-    /// Nothing was visited.
+    /// Returns an empty record.
     pub(super) fn new() -> Trace
         ensures visits { result.visits ≡ [] }
         ensures looks { result.looks ≡ 0 }
@@ -161,7 +163,7 @@ impl Trace {
 
 /// The states of a program during one search, with the record of what was read of them.
 ///
-/// It alone has the states, and lends one until the next call, for a configuration that was not visited before.
+/// A search reads the states through it alone. It lends a state until the next call, and at most once at each place.
 #[derive(Drop)]
 pub struct Counted<'p> {
     states: &'p [State],
@@ -172,7 +174,7 @@ impl<'p> Counted<'p> {
     ghost use Rattle.std.specs.Borrow.{sem};
     ghost use Rattle.bites_machine.specs.Lending.{Visits};
 
-    /// These states, of which nothing was visited yet.
+    /// Returns these states with an empty record.
     pub(super) fn new(states: &'p [State]) -> Counted<'p>
         ensures states { result.states ≡ states.entry }
         ensures visits { result.walked.visits ≡ [] }
@@ -184,7 +186,7 @@ impl<'p> Counted<'p> {
         }
     }
 
-    /// Counts a step: a try to visit a state.
+    /// Counts a step: an attempt to visit a state.
     pub(super) fn step(&mut self)
         ensures states { self.new.states ≡ self.old.states }
         ensures visits { self.new.walked.visits ≡ self.old.walked.visits }
@@ -204,7 +206,7 @@ impl<'p> Counted<'p> {
         &self.states[state as usize]
     }
 
-    /// Visits the states of the prefix at a place where none of them was visited before. It reads no state.
+    /// Records visits of the states of the prefix at a place where none of them was visited before. Reads no state.
     #[inline(always)]
     pub(super) fn visit_prefix(&mut self, prefix: &StartPrefix, place: usize)
         requires fresh { (q : ℕ) → Among prefix.now.visited.value q
@@ -217,8 +219,8 @@ impl<'p> Counted<'p> {
         self.walked.visit_prefix(prefix, place);
     }
 
-    /// Visits those states of the prefix that were not visited at this place, which is the last one where any was. It
-    /// reads no state.
+    /// Records visits of those states of the prefix that were not visited at this place. No later place was visited.
+    /// Reads no state.
     #[inline(always)]
     pub(super) fn visit_rest(&mut self, prefix: &StartPrefix, place: usize)
         requires last { (v : Configuration) → Among (visited_before place self.old.walked.visits) v
@@ -234,7 +236,8 @@ impl<'p> Counted<'p> {
         self.walked.visit_rest(prefix, place);
     }
 
-    /// Visits the states of the closure of a self-loop at a place where none of them was visited before. It reads no state.
+    /// Records visits of the states of the closure of a self-loop at a place where none of them was visited before.
+    /// Reads no state.
     #[inline(always)]
     pub(super) fn visit_loop(&mut self, body: &SelfLoop, place: usize)
         requires fresh { (q : ℕ) → Among body.now.visited.value q
@@ -247,8 +250,8 @@ impl<'p> Counted<'p> {
         self.walked.visit_loop(body, place);
     }
 
-    /// Visits the states of the prefix at each place from this one on, up to and without the end of the haystack. It
-    /// reads no state and no byte: the record alone names the places, and it takes no time.
+    /// Records visits of the states of the prefix at each place from this one on, without the end of the haystack.
+    /// Reads no state and no byte, and takes no time at run time.
     #[inline(always)]
     pub(super) fn skip_to_end(&mut self, prefix: &StartPrefix, haystack: &[u8], from: usize)
         requires fresh { (v : Configuration) → Among self.old.walked.visits v → v.place < from }
@@ -259,7 +262,7 @@ impl<'p> Counted<'p> {
         self.walked.skip(prefix, haystack, from);
     }
 
-    /// What was visited.
+    /// Returns the record.
     pub(super) fn into_trace(self) -> Trace
         ensures { result ≡ self.entry.walked }
     {

@@ -1,4 +1,4 @@
-//! Places where the closure of the start visits the start prefix alone, and leaves nothing.
+//! Skips places where the closure of the start visits the start prefix alone, and leaves no thread.
 
 ghost use Rattle.std.specs.Prelude.{◌≡◌, ◌⊎◌, ℕ, ◌+◌, ◌<◌, ◌≤◌, Bool, IfSome, Some, None, false, length, slice_index_or, true};
 ghost use Rattle.bites_spec.specs.Utf8.{piece};
@@ -16,8 +16,9 @@ use super::position::Position;
 use super::state_set::StateSet;
 use crate::prefix::StartPrefix;
 
-/// The prefix, if the closure of the start visits only what is left of it here, takes nothing, and nothing was found.
-/// It takes nothing if no state of the prefix takes the character, or if the only one that takes any was visited.
+/// Returns the prefix, if nothing was found here and the closure of the start visits only the rest of the prefix and
+/// takes nothing. It takes nothing if no state of the prefix takes the character, or if the only one that takes any was
+/// visited.
 #[inline(always)]
 pub(super) fn idle_prefix<'p>(
     prefix: Option<&'p StartPrefix>,
@@ -42,7 +43,7 @@ pub(super) fn idle_prefix<'p>(
     }
 }
 
-// Whether a state is given and was visited.
+// Returns whether a state is given and was visited.
 #[inline(always)]
 fn is_visited(visited_set: &StateSet, state: Option<u32>) -> bool
     ensures { result ≡ true → (q : ℕ) × (state ≡ Some q)
@@ -54,8 +55,8 @@ fn is_visited(visited_set: &StateSet, state: Option<u32>) -> bool
     }
 }
 
-// Skips the ASCII characters from this place on that no state of the prefix takes: one look at each byte. Returns the first
-// place where another byte stands, or the end.
+// Skips the ASCII characters from `from` on that no state of the prefix takes, with one look at each byte. Returns the
+// first place where another byte stands, or the end of the haystack.
 #[inline(always)]
 fn skip_ascii(
     counted: &mut Counted<'_>,
@@ -86,9 +87,8 @@ fn skip_ascii(
     end
 }
 
-// Skips the places from this one on where no state of the prefix takes the character: the closure of the start
-// visits the prefix there and leaves nothing. Returns the first place where it may leave something. A prefix that never takes one
-// leads to the end of the haystack at once.
+// Skips the places from `from` on where no state of the prefix takes the character. Returns the first place where one
+// may take it, or the end of the haystack. If no state takes any character, returns the end at once.
 //
 // It is not inlined, so that its loop has all registers.
 #[inline(never)]
@@ -130,8 +130,8 @@ fn skip_until_candidate(
     place
 }
 
-/// Skips the places from this one on where the prefix takes no character. Returns the first place where the
-/// closure of the start may leave something.
+/// Skips the places from this one on where the prefix takes no character. Returns the first place where the closure of
+/// the start may leave a thread, or the end of the haystack.
 #[inline(always)]
 pub(super) fn skip<'h>(
     counted: &mut Counted<'_>,

@@ -1,4 +1,4 @@
-//! The search: one step at each place, with its threads in order of preference.
+//! The unanchored search: one step at each place, with its threads in order of preference.
 
 ghost use Rattle.std.specs.Prelude.{◌≡◌, ◌≢◌, ℕ, ◌+◌, ◌++◌, ◌∷◌, ◌<◌, ◌≤◌, ◌==◌, ◌||◌, ◌&&◌, if◌then◌else◌, Bool, List, [], IfSome, drop, length, None, Some, false, is_some, map, replicate, slice_index, sum};
 ghost use Rattle.bites_spec.specs.Utf8.{piece};
@@ -29,8 +29,9 @@ use crate::prefix::StartPrefix;
 use crate::self_loop::SelfLoops;
 use bites_text::utf8::decode_lossy;
 
-/// What is searched for: runs that start in a state, from a place of the haystack on, and of these one with the least
-/// end, the longest of the first place, or else the first. The prefix is that of the state.
+/// What to search for: matches of runs from the state `first`, in the haystack from `start` on. `earliest` asks for one
+/// with the least end, `longest` for the longest at the leftmost place, and neither for the preferred one there.
+/// `prefix` is the start prefix of `first`.
 #[derive(Clone, Copy, Drop)]
 pub struct Request<'h, 'p> {
     pub haystack: &'h [u8],
@@ -42,7 +43,7 @@ pub struct Request<'h, 'p> {
     pub longest: bool,
 }
 
-// The place, with the character of its piece.
+// Decodes the character at a place.
 #[inline(always)]
 #[tactic(auto, unfolding(bites_spec::specs::Utf8::piece))]
 pub(super) fn piece_at(haystack: &[u8], place: usize, longest: bool) -> Position<'_>
@@ -66,16 +67,13 @@ pub(super) fn piece_at(haystack: &[u8], place: usize, longest: bool) -> Position
     }
 }
 
-// The thread that starts here in that state. Only the longest run asks where a thread was started.
+// Returns the thread that starts here in the given state. Only the longest search needs the place where a thread was
+// started.
 #[inline(always)]
-fn started(state: u32, here: &Position<'_>) -> Thread
-    ensures { result ≡ record {
-      state = state;
-      row = 0;
-      start = if here.now.longest then here.now.place else 0;
-    } }
+pub(super) fn started(state: u32, place: usize, longest: bool) -> Thread
+    ensures { result ≡ record { state = state; row = 0; start = if longest then place else 0 } }
 {
-    let start = if here.longest { here.place } else { 0 };
+    let start = if longest { place } else { 0 };
     Thread {
         state,
         row: 0,
@@ -83,7 +81,7 @@ fn started(state: u32, here: &Position<'_>) -> Thread
     }
 }
 
-// Whether a match that was found here cuts off a thread of that start.
+// Returns whether a match that was found at this place cuts off a thread that was started at `start`.
 #[inline(always)]
 fn is_cut(first_match: &Option<FirstMatch>, longest: bool, start: usize) -> bool
     ensures { result ≡ cuts longest start first_match.now }
@@ -94,7 +92,7 @@ fn is_cut(first_match: &Option<FirstMatch>, longest: bool, start: usize) -> bool
     }
 }
 
-// Explores the closure of a thread at a place, unless a match that was found here cuts it off, and releases its row.
+// Explores the closure of a thread at a place, unless a match that was found there cuts it off. Releases its row.
 #[inline(always)]
 fn close_thread(
     counted: &mut Counted<'_>,
@@ -122,7 +120,7 @@ fn close_thread(
     }
 }
 
-// Explores the closures of the threads of a place, the preferred one first.
+// Explores the closures of the threads of a place, in order of preference.
 #[inline(always)]
 fn close_threads(
     counted: &mut Counted<'_>,
@@ -152,8 +150,8 @@ fn close_threads(
     }
 }
 
-// Explores the closures of the threads of a place, and after them that of the start, if it is given. Where the start
-// takes nothing its closure is not explored: what is left of its prefix is visited.
+// Explores the closures of the threads of a place, and after them that of the start state, if it is given. Where the
+// start takes nothing, its closure is not explored: the rest of its prefix is only recorded as visited.
 #[inline(always)]
 fn close_all(
     counted: &mut Counted<'_>,
@@ -189,12 +187,18 @@ fn close_all(
     };
     match idle_prefix(prefix, here, scratch) {
         Some(prefix) => counted.visit_rest(prefix, here.place),
-        None => close_thread(counted, scratch, here, started(state, here), slots),
+        None => close_thread(
+            counted,
+            scratch,
+            here,
+            started(state, here.place, here.longest),
+            slots,
+        ),
     }
 }
 
-// Searches one place: its threads, and after them the start while nothing is found. The threads are then those of
-// the next place.
+// Steps over one place: explores its threads, and after them the start state, if it is given. Then `threads` are those
+// of the next place.
 #[inline(always)]
 pub(super) fn step_threads(
     counted: &mut Counted<'_>,
@@ -235,7 +239,7 @@ pub(super) fn step_threads(
     threads.swap(&mut scratch.next);
 }
 
-// Skips the places where the closure of the start leaves nothing, if the start is given and no thread is alive.
+// Skips the places where the closure of the start leaves no thread, if the start is given and no thread is alive.
 #[inline(always)]
 fn skip_idle<'h>(
     counted: &mut Counted<'_>,
@@ -271,8 +275,8 @@ fn skip_idle<'h>(
     }
 }
 
-// Skips places if no thread is alive and nothing is found, and searches the next one. Returns the place that was searched.
-// The threads are then those of the place after it.
+// Skips places if no thread is alive and no match was found, and steps over the next one. Returns the place that was
+// stepped over. Then `threads` are those of the place after it.
 #[inline(always)]
 fn step<'h>(
     counted: &mut Counted<'_>,
@@ -310,7 +314,7 @@ fn step<'h>(
     here
 }
 
-// The state where runs start, while nothing is found.
+// Returns the state where runs start, as long as no match was found.
 #[inline(always)]
 fn first_of(is_found: bool, first: u32) -> Option<u32>
     ensures { result ≡ (if is_found then None else Some first) }
@@ -318,7 +322,7 @@ fn first_of(is_found: bool, first: u32) -> Option<u32>
     if is_found { None } else { Some(first) }
 }
 
-// Whether a match was found, at this place or before.
+// Returns whether a match was found, at this place or before.
 #[inline(always)]
 pub(super) fn is_found_with(is_found: bool, first_match: &Option<FirstMatch>) -> bool
     ensures { result ≡ (is_found || is_some first_match.now) }
@@ -326,7 +330,8 @@ pub(super) fn is_found_with(is_found: bool, first_match: &Option<FirstMatch>) ->
     is_found || first_match.is_some()
 }
 
-// Whether a search is over behind a place with a piece of that length, where so many threads are left.
+// Returns whether the search is over after a place: at the end of the haystack, where `len` is 0, or if a match was
+// found and `earliest` is set or no thread is left.
 #[inline(always)]
 fn is_over(len: usize, is_found: bool, earliest: bool, threads: usize) -> bool
     ensures { result ≡ ((len == 0) || (is_found && (earliest || (threads == 0)))) }
@@ -334,8 +339,7 @@ fn is_over(len: usize, is_found: bool, earliest: bool, threads: usize) -> bool
     len == 0 || (is_found && (earliest || threads == 0))
 }
 
-/// Searches from a place on, with the threads of each place in turn. Answers whether a match was found,
-/// whose slots are then in the slice.
+/// Searches from the start of the request on, place by place. Returns whether a match was found, and writes its slots.
 #[inline(always)]
 pub(super) fn search(
     counted: &mut Counted<'_>,
@@ -396,7 +400,7 @@ pub(super) fn search(
     is_found
 }
 
-// Releases the threads that are left.
+// Removes the threads that are left, and releases their rows.
 pub(super) fn release_all(rows: &mut SlotTable, threads: &mut Threads)
     requires { IsUsed rows.old (map row_of threads.old.threads) }
     ensures threads { threads.new.threads ≡ [] }

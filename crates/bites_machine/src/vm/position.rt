@@ -7,17 +7,17 @@ ghost use Rattle.bites_machine.specs.Ends.{code_of, takes_by};
 
 use crate::ranges::Ranges;
 
-// The number at the end of a haystack. No character has it.
+// The code at the end of a haystack. No character has it.
 const NO_CHARACTER: u32 = 1114112;
 
-/// A place of the haystack, with the character of its piece, the length of the piece, and whether the longest run is
-/// asked for.
+/// A place of the haystack, with the character decoded there, the number of its bytes, and whether the longest match is
+/// asked for. At the end there is no character, and the number is 0.
 #[derive(Clone, Copy, Drop)]
 pub struct Position<'h> {
     pub haystack: &'h [u8],
     pub place: usize,
     pub ch: Option<char>,
-    /// The number of the character. It is tested in one comparison.
+    /// The code of the character, so that one comparison tests it.
     pub code: u32,
     pub ch_len: usize,
     pub longest: bool,
@@ -49,7 +49,7 @@ impl Position<'_> {
     }
 }
 
-/// The number of a character, or the one at the end of a haystack.
+/// Returns the code of a character, or the one at the end of a haystack.
 #[inline(always)]
 pub(super) fn code(ch: Option<char>) -> u32
     ensures { result ≡ code_of ch }

@@ -1,11 +1,13 @@
-//! The bytes of a haystack that contracts alone see.
+//! A record of the bytes of a haystack, for proofs alone.
 
 ghost use Rattle.std.specs.Prelude.{◌≡◌, ℕ, List};
 ghost use Rattle.std.specs.Borrow.{ftrue};
 
 use std::marker::Model;
 
-/// Some bytes as they were. It takes no bytes itself: contracts alone see them.
+/// Bytes as they were when they were recorded.
+///
+/// For proofs: contracts alone see them. The size of the record is 0.
 #[derive(Drop)]
 pub struct RecordedBytes {
     pub ghost bytes: { List ℕ },
@@ -16,7 +18,7 @@ impl Model for RecordedBytes {
 }
 
 impl RecordedBytes {
-    /// These bytes.
+    /// Records these bytes.
     pub(super) fn of(_bytes: &[u8]) -> RecordedBytes
         ensures { result.bytes ≡ _bytes.now }
     {

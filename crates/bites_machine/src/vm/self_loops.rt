@@ -1,4 +1,4 @@
-//! Places over which a lone thread stays at its state.
+//! Passes places over which a lone thread stays at its state.
 
 ghost use Rattle.std.specs.Prelude.{◌≡◌, ◌≢◌, ◌⊎◌, ◌∷◌, ℕ, ◌+◌, ◌<◌, ◌≤◌, Bool, List, [], Option, IfSome, MatchOption, Some, None, false, is_some, length, true};
 ghost use Rattle.bites_spec.specs.Walks.{Among};
@@ -32,8 +32,8 @@ pub struct Reached {
     pub is_found: bool,
 }
 
-// Returns whether a thread of the self-loop stays if it takes the character, and the start takes nothing after it, if its
-// prefix is given.
+// Returns whether a thread of the self-loop stays if it takes the character, and the start, if its prefix is given,
+// leaves no other thread.
 #[inline(always)]
 fn stays(body: &SelfLoop, rest: Option<&StartPrefix>, ch: char) -> bool
     ensures stays { result ≡ true → stays_by body.now ch ≡ true }
@@ -43,7 +43,7 @@ fn stays(body: &SelfLoop, rest: Option<&StartPrefix>, ch: char) -> bool
     body.stays(ch) && (rest.is_none() || !body.behind.contains(ch))
 }
 
-// Visits the closure of the self-loop, and what is left of the start prefix, if it is given. It reads no state.
+// Records visits of the closure of the self-loop, and of the rest of the start prefix, if it is given. Reads no state.
 #[inline(always)]
 fn visit(counted: &mut Counted<'_>, body: &SelfLoop, rest: Option<&StartPrefix>, place: usize)
     requires before { (v : program.Configuration) → Among counted.old.walked.visits v
@@ -60,7 +60,7 @@ fn visit(counted: &mut Counted<'_>, body: &SelfLoop, rest: Option<&StartPrefix>,
     }
 }
 
-// Passes the places from this one on over which the thread stays.
+// Passes the places from `from` on over which the thread stays.
 //
 // It is not inlined, so that its loop has all registers.
 #[inline(never)]
@@ -106,7 +106,7 @@ fn pass_places(
     Passed { place, last }
 }
 
-// Whether it is known from one byte that a thread of the self-loop does not stay here. It only spares a call.
+// Returns whether one byte shows that a thread of the self-loop does not stay here. It only saves a call.
 #[inline(always)]
 fn leaves(body: &SelfLoop, haystack: &[u8], place: usize) -> bool {
     if place >= haystack.len() {
@@ -119,7 +119,8 @@ fn leaves(body: &SelfLoop, haystack: &[u8], place: usize) -> bool {
     }
 }
 
-// The self-loop of the only thread, if there is one, and if a search does not stop at the places that it passes.
+// Returns the self-loop of the only thread, if it has one and may stay here. Returns `None` for the longest search, and
+// for an earliest one that may stop at a passed place.
 #[inline(always)]
 fn loop_of<'p>(request: &Request<'_, 'p>, threads: &Threads, from: Reached) -> Option<&'p SelfLoop>
     ensures among { IfSome result (λ x. Among request.now.loops.now x.now) }
@@ -143,8 +144,8 @@ fn loop_of<'p>(request: &Request<'_, 'p>, threads: &Threads, from: Reached) -> O
     }
 }
 
-// What is to be visited of the start after the closure of the self-loop: nothing if the start is not explored there, or what is
-// left of its prefix. `None` if that is not known.
+// Returns what is to be visited after the closure of the self-loop: the start prefix, or `Some(None)` if the start is
+// not explored. Returns `None` if the start is explored and no prefix describes it at this place.
 #[inline(always)]
 fn rest_of<'p>(
     request: &Request<'_, 'p>,
@@ -168,7 +169,8 @@ fn rest_of<'p>(
     }
 }
 
-// Passes places by a self-loop of the only thread, and writes the match that was found at the last of them.
+// Passes places by a self-loop of the only thread, and writes the slots of the match at the last of them, if there is
+// one.
 #[inline(never)]
 fn pass(
     counted: &mut Counted<'_>,
@@ -235,8 +237,8 @@ fn pass(
     }
 }
 
-/// Passes the places from the reached one on over which a lone thread stays at its state, if there are any. Returns the place
-/// that is reached then.
+/// Passes the places from the reached one on over which a lone thread stays at its state, if there are any. Returns
+/// what is reached then.
 #[inline(always)]
 pub(super) fn pass_self_loop(
     counted: &mut Counted<'_>,

@@ -1,4 +1,4 @@
-//! The table of slots: a thread names a row of it, which it may share with other threads.
+//! The table of slots: each thread has a row, which it may share with other threads.
 
 ghost use Rattle.std.specs.Prelude.{◌≡◌, ◌≢◌, ◌++◌, List, ◌∷◌, [], drop, map, replicate, ◌⊎◌, ℕ, ◌+◌, ◌<◌, ◌≤◌, None, IfOk, length, sum, take, if◌then◌else◌, nat_lt, slice_index, slice_index_or, slice_set, vec_capacity};
 ghost use lib.Seq.{paste};
@@ -11,24 +11,24 @@ use std::marker::Model;
 // The word of a slot where nothing was written. No offset is as great, since a slice has fewer than 2^63 bytes.
 const NONE: usize = usize::MAX;
 
-/// Rows of slots, whose room is reserved at once. Each row counts its users.
+/// Rows of slots, whose memory is reserved at once. Each row counts its users.
 ///
-/// Row 0 is the one where nothing was written: it is never written, never counted, and any number of
-/// threads may name it. The other rows are taken in order, and one that has lost its users before one that was
-/// never taken. So the memory of a row that no search needs is never touched.
+/// Row 0 is empty: it is never written and never counted, and any number of threads may use it. A new row is one that
+/// has lost its users, or else the first one that was never taken. So the memory of a row that no search needs is never
+/// touched.
 #[derive(Drop)]
 pub struct SlotTable {
     // How many rows there are, how many slots one may have, and how many it has in this search.
     row_count: usize,
     max_slots: usize,
     slots_per_row: usize,
-    // The slots of the rows that were taken in this search, one row behind another.
+    // The slots of the rows that were taken in this search, one row after another.
     slots: Vec<usize>,
-    // How many users each of these has.
+    // The number of users of each of these rows.
     ref_counts: Vec<usize>,
-    // Those of them that have no user.
+    // The rows among these that have no user.
     free: Vec<usize>,
-    // The slots that the present closure has written so far.
+    // The slots that the current closure has written so far.
     pending: Vec<u32>,
 }
 
@@ -53,7 +53,8 @@ impl Model for SlotTable {
 }
 
 impl SlotTable {
-    /// So many rows of at most so many slots, with room for so many pending slots.
+    /// Allocates `rows` rows of at most `max_slots` slots, with room for `pending` pending slots. The error is out of
+    /// memory.
     pub(super) fn new(
         alloc: Global,
         rows: usize,
@@ -80,7 +81,7 @@ impl SlotTable {
         })
     }
 
-    /// Rows of so many slots from now on, none of them with a user; nothing is written in row 0.
+    /// Prepares a search with `slots_per_row` slots in each row. No row has users then, and row 0 is empty.
     pub(super) fn setup_search(&mut self, slots_per_row: usize)
         requires { slots_per_row ≤ self.old.max_slots }
         ensures slots_per_row { self.new.slots_per_row ≡ slots_per_row }
@@ -93,7 +94,7 @@ impl SlotTable {
     {
         self.free.clear();
         self.ref_counts.truncate(1);
-        // Row 0 is there from the search before, and stays if its width does.
+        // Row 0 is left from the search before, and stays if its width is unchanged.
         if slots_per_row == self.slots_per_row {
             self.slots.truncate(slots_per_row);
         } else {
@@ -103,14 +104,16 @@ impl SlotTable {
         }
     }
 
-    /// How many rows there are.
+    /// Returns the number of rows.
     pub(super) fn len(&self) -> usize
         ensures { result ≡ length self.now.ref_counts }
     {
         self.row_count
     }
 
-    /// Row 0 has no users that are counted.
+    /// Does nothing.
+    ///
+    /// For proofs: row 0 has no counted users.
     #[inline(always)]
     pub(super) fn first_is_free(&self)
         ensures { slice_index self.now.ref_counts 0 ≡ 0 }
@@ -118,7 +121,8 @@ impl SlotTable {
         let _ = &self.ref_counts;
     }
 
-    /// Makes the slot pending, after so many others, if rows have that slot. Returns how many are pending then.
+    /// Makes the slot pending at the index `pending_len`, if rows have that slot. Returns the number of pending slots
+    /// after that.
     #[inline(always)]
     pub(super) fn set_pending(
         &mut self,
@@ -161,8 +165,8 @@ impl SlotTable {
         }
     }
 
-    /// Returns a row for a thread that continues from a thread of this row, with so many pending slots: the row itself
-    /// where none is pending, else a copy.
+    /// Returns a row for a thread that continues from this row with the first `pending_len` pending slots: the row
+    /// itself if that is 0, else a copy with `place` in these slots.
     #[inline(always)]
     pub(super) fn fork(&mut self, row: usize, pending_len: usize, place: usize) -> usize
         requires used { (users : List ℕ) × IsUsed self.old (row ∷ users) }
@@ -201,7 +205,8 @@ impl SlotTable {
         }
     }
 
-    /// Returns a new row of one user: a copy of the row, with the place in the first so many pending slots.
+    /// Copies the row to a new one with one user, with `place` in the first `pending_len` pending slots. Returns the
+    /// new row.
     #[inline(never)]
     pub(super) fn copy(&mut self, row: usize, pending_len: usize, place: usize) -> usize
         requires known { row < length self.old.ref_counts }
@@ -246,7 +251,7 @@ impl SlotTable {
         fresh
     }
 
-    /// Writes the row into the slice, with the place in the first so many pending slots.
+    /// Writes the row into the slice, with `place` in the first `pending_len` pending slots.
     #[inline(always)]
     pub(super) fn write_match(
         &self,
@@ -280,7 +285,7 @@ impl SlotTable {
         copy_slots(slots, &self.slots[from..from + slots.len()]);
     }
 
-    /// Writes the row into the slice, with the place in those of these slots that the slice has.
+    /// Writes the row into the slice, with `place` in those of the given slots that the slice has.
     pub(super) fn write_later_match(
         &self,
         row: usize,
@@ -298,7 +303,7 @@ impl SlotTable {
     }
 }
 
-// The slot that a word stands for.
+// Returns the slot that a word stands for.
 #[inline(always)]
 fn slot(word: usize) -> Option<usize>
     ensures { result ≡ slot_of word }
@@ -306,7 +311,8 @@ fn slot(word: usize) -> Option<usize>
     if word == NONE { None } else { Some(word) }
 }
 
-// Copies so many slots from one index to another.
+// Copies `slots_per_row` slots from one index to another. Rows are short: a loop costs less than a call that copies
+// memory.
 fn copy_within(slots: &mut [usize], from: usize, to: usize, slots_per_row: usize)
     requires from { from + slots_per_row ≤ length slots.old }
     requires to { to + slots_per_row ≤ length slots.old }
@@ -318,7 +324,7 @@ fn copy_within(slots: &mut [usize], from: usize, to: usize, slots_per_row: usize
     }
 }
 
-// The slots become those that a row has. Rows are short, so that a loop costs less than a call that copies memory.
+// Writes the slots of a row into the slice.
 #[inline(always)]
 fn copy_slots(slots: &mut [Option<usize>], row: &[usize])
     requires { length slots.old ≡ length row.now }
@@ -329,7 +335,7 @@ fn copy_slots(slots: &mut [Option<usize>], row: &[usize])
     }
 }
 
-// Appends a copy of a row, with the place of the haystack in the pending slots.
+// Appends a copy of a row, with `place` in the pending slots.
 fn push_row(
     slots: &mut Vec<usize>,
     from: usize,
@@ -349,7 +355,7 @@ fn push_row(
     write_words(&mut slots[to..], pending, place);
 }
 
-// Copies a row to an index, with the place of the haystack in the pending slots.
+// Copies a row to an index, with `place` in the pending slots.
 fn copy_row(
     slots: &mut [usize],
     from: usize,

@@ -5,14 +5,16 @@ ghost use Rattle.std.specs.Prelude.{◌≡◌, ◌<◌, [], ◌∷◌, IfOk, Mat
 use std::alloc::{AllocError, Global};
 use std::marker::Model;
 
-/// A state that is still to be explored, with the number of slots that are pending on the way to it.
+/// A state that is still to be explored, with the number of slots that are pending on the path to it.
 #[derive(Clone, Copy, Drop)]
 pub struct Frame {
     pub state: u32,
     pub pending_len: usize,
 }
 
-/// A stack that holds so many frames at most. Contracts see its frames, the uppermost first, and its room.
+/// A stack with a fixed room for frames.
+///
+/// For proofs: contracts see its frames, the uppermost first, and its room.
 #[derive(Drop)]
 pub struct Stack {
     frames: Vec<Frame>,
@@ -34,7 +36,7 @@ impl Model for Stack {
 }
 
 impl Stack {
-    /// An empty stack with room for so many frames.
+    /// Allocates an empty stack with room for `room` frames. The error is out of memory.
     pub(super) fn new(alloc: Global, room: usize) -> Result<Stack, AllocError>
         ensures empty { IfOk result (λ s. s.frames ≡ []) }
         ensures room { IfOk result (λ s. s.room ≡ room) }
@@ -49,7 +51,7 @@ impl Stack {
         })
     }
 
-    /// How many frames the stack holds at most.
+    /// Returns how many frames the stack holds at most.
     pub(super) fn room(&self) -> usize
         ensures { result ≡ self.now.room }
     {

@@ -1,15 +1,17 @@
-//! Which states were visited at a place.
+//! The set of the states that were visited at a place, with generations.
 
 ghost use Rattle.std.specs.Prelude.{◌≡◌, ◌<◌, false, true, not, IfOk, length, replicate, slice_index_or, slice_set};
 
 use std::alloc::{AllocError, Global};
 use std::marker::Model;
 
-// The first generation. It is so close to the greatest that every search of some length passes that one, so what happens there
-// is tested by each test of a long haystack.
+// The first generation. It is so close to the greatest that each test with a long haystack gets past that one, and so
+// tests the restart.
 const FIRST: u64 = u64::MAX - 1000;
 
-/// A set of states, which is emptied in constant time. Contracts see for each state whether it is a member.
+/// A set of states with generations. Clearing it takes constant time, unless the generations run out.
+///
+/// For proofs: contracts see for each state whether it is a member.
 #[derive(Drop)]
 pub struct StateSet {
     // For each state the generation in which it was last inserted.
@@ -29,7 +31,7 @@ impl Model for StateSet {
 }
 
 impl StateSet {
-    /// The empty set, for so many states.
+    /// Allocates an empty set for the given number of states. The error is out of memory.
     pub(super) fn new(alloc: Global, states: usize) -> Result<StateSet, AllocError>
         ensures { IfOk result (λ m. length m ≡ states) }
     {
@@ -40,7 +42,7 @@ impl StateSet {
         })
     }
 
-    /// Removes all states. Where no generation is left the generations begin anew.
+    /// Removes all states. If no generation is left, resets the generation of each state and starts again.
     #[inline(always)]
     pub(super) fn clear(&mut self)
         ensures { self.new ≡ replicate (length self.old) false }

@@ -6,8 +6,8 @@ use std::alloc::{AllocError, Global};
 use std::marker::Model;
 use std::mem;
 
-/// A thread that has taken its character: the state that it continues from, its row of slots, and the place where it
-/// was started.
+/// A thread that has taken its character: the state that it continues from, its row of slots, and for the longest
+/// search the place where it was started.
 #[derive(Clone, Copy, Drop)]
 pub struct Thread {
     pub state: u32,
@@ -15,7 +15,9 @@ pub struct Thread {
     pub start: usize,
 }
 
-/// At most so many threads. Contracts see them as a list, and the room for them.
+/// A list of threads with a fixed room.
+///
+/// For proofs: contracts see the list and its room.
 #[derive(Drop)]
 pub struct Threads {
     threads: Vec<Thread>,
@@ -37,7 +39,7 @@ impl Model for Threads {
 }
 
 impl Threads {
-    /// No threads, with room for so many.
+    /// Allocates an empty list with room for `room` threads. The error is out of memory.
     pub(super) fn new(alloc: Global, room: usize) -> Result<Threads, AllocError>
         ensures empty { IfOk result (λ t. t.threads ≡ []) }
         ensures room { IfOk result (λ t. t.room ≡ room) }

@@ -1,4 +1,4 @@
--- Escapes: what the relations read, the function answers, and where they stop, it stops.
+-- Escapes: the reader reads what the grammar's relations read, and stops where they stop.
 use Rattle.std.proofs.Common.{◌≡◌, ℕ, zero, suc, ◌<◌, ◌≤◌, Bool, true, false, ◌&&◌, ◌||◌, ◌==◌, [], ◌∷◌, length, refl, sym, ap, ap₂, ◌∙◌, subst, ⊎_elim, arith, Option, Some, None, eqb-true, true≢false}
 use Rattle.std.specs.Prelude.{codes, is_some, if◌then◌else◌}
 use Rattle.std.proofs.lemmas.Option.{none-some}
@@ -15,12 +15,12 @@ use Rattle.bites_spec.specs.Reader as reading
 use Rattle.bites_spec.specs.Reader.{ReadResult, answer, stop, and_then, exactly, scalar, hexadecimal, boundary, escape}
 use Rattle.bites_spec.proofs.characters.EachLemmas.{skip_shorter, each_complete}
 
--- a character that one of a row of tests names
+-- what holds of each character that a row of tests names holds of a character that passes one of them
 one_named : {A : Type 0} {y : A} (P : ℕ → Type 0) (c k : ℕ) (x : A) (rest : Option A) → P k → (rest ≡ Some y → P c) → (if c == k then Some x else rest) ≡ Some y → P c
 one_named P c k x rest here later e =
     ⊎_elim (λ (b : (c == k) ≡ true). subst P (sym (eqb-true c k b)) here) (λ (b : (c == k) ≡ false). later (rw b at e)) (cases_Bool (c == k))
 
--- a character behind the backslash that begins no digit, no property and no boundary
+-- a character after the backslash that begins no digit, no property and no boundary
 abbrev IsSimple : ℕ → Type 0
 IsSimple c = (is_ascii_digit c ≡ false) × (one_of (codes "pP") c ≡ false) × ((c == 98) ≡ false)
 
@@ -85,7 +85,7 @@ not_some : {A : Type 0} (o : Option A) → ((x : A) → o ≡ Some x → ⊥) �
 not_some (Some x) never = absurd (never x refl)
 not_some None never = refl
 
--- a character that escapes itself means nothing else
+-- a character that escapes itself means only itself
 itself_means : (c : ℕ) → escapes_itself c ≡ true → reading.meaning_of c ≡ Some (character c)
 itself_means c is =
     let no_control : control_of c ≡ None = not_some (control_of c) (λ d e. true≢false (sym is ∙ (control_is c e).1)) in
@@ -93,7 +93,7 @@ itself_means c is =
     let no_class : class_of c ≡ None = not_some (class_of c) (λ set e. true≢false (sym is ∙ (class_is c e).1)) in
     rw (no_control, no_anchor, no_class, is) refl
 
--- a simple character by what it means
+-- the function reads a simple character by its meaning
 simple_leads : (n : ℕ) (flags : Flags) (c : ℕ) (t : Text) → IsSimple c → escape n flags (c ∷ t) ≡ reading.simple n flags c t
 simple_leads n flags c t simple =
     let digit = simple.0 in
@@ -110,7 +110,7 @@ number_leads n flags c k t digits =
     let is = hexadecimal_is c digits in
     simple_leads n flags c t is.0 ∙ ap₂ (reading.simple_by n flags c t) is.1 digits
 
--- so many digits that the relation reads, the function reads
+-- the function reads the k digits that the relation reads
 exactly_leads : {flags : Flags} {k : ℕ} {t digits rest : Text} → ReadsExactly flags is_hex_digit k t digits rest → exactly k flags t ≡ answer digits rest
 exactly_leads {flags} (ReadsExactly.last c k t digits rest one is hex same) = ap₂ (λ j u. exactly j flags u) one is ∙ rw (hex, same) refl
 exactly_leads {flags} (ReadsExactly.more c k zero t next digits others rest is some from hex r same) = absurd (omega arith)
@@ -124,7 +124,7 @@ no_brace c hex =
     ⊎_elim (λ (b : (c == left_brace) ≡ true). absurd (true≢false (sym hex ∙ ap is_hex_digit (eqb-true c left_brace b)))) (λ (b : (c == left_brace) ≡ false). b)
     (cases_Bool (c == left_brace))
 
--- so many digits begin with one
+-- k digits begin with one that is no opening brace
 exactly_begins : {flags : Flags} {k : ℕ} {t digits rest : Text} → ReadsExactly flags is_hex_digit k t digits rest →
     (c : ℕ) × (next : Text) × (t ≡ c ∷ next) × ((c == left_brace) ≡ false)
 exactly_begins (ReadsExactly.last c k t digits rest one is hex same) = (c, rest, is, no_brace c hex)
@@ -150,7 +150,7 @@ closed_leads : (digits at rest : Text) → 0 < length digits → reading.closed_
 closed_leads [] at rest some = absurd (omega arith)
 closed_leads (d ∷ digits) at rest some = refl
 
--- a hexadecimal number that the relation reads, the function reads
+-- the function reads each hexadecimal number that the relation reads
 hexadecimal_leads : {flags : Flags} {k value : ℕ} {t rest : Text} → ReadsHexadecimal flags k t value rest → is_scalar value ≡ true → (n : ℕ) → length t ≤ n →
     hexadecimal n flags k t ≡ answer value rest
 hexadecimal_leads {flags} (ReadsHexadecimal.in_braces k value t next digits rest is r some same) scalars n room =
@@ -185,7 +185,7 @@ braced_leads : (n : ℕ) (flags : Flags) (at : Text) (c : ℕ) (u : Text) → is
     ≡ reading.boundary_name (reading.each n flags is_boundary_letter (c ∷ u)).0 (reading.each n flags is_boundary_letter (c ∷ u)).1
 braced_leads n flags at c u letter = rw letter refl
 
--- the name of a boundary
+-- the function reads the name of a boundary
 named_leads : {flags : Flags} {name behind : Text} (next : Text) → ReadsEach flags is_boundary_letter (skip flags next) name behind → 0 < length name →
     (n : ℕ) → length next ≤ n → boundary n flags (left_brace ∷ next) ≡ reading.boundary_name name behind
 named_leads {flags} {name} {behind} next r some n room =
@@ -202,7 +202,7 @@ some_name (c ∷ name) l is = omega arith
 pub same_behind : (c : ℕ) (t u : Text) → c ∷ t ≡ c ∷ u → t ≡ u
 same_behind c t u is = cc
 
--- an escape that the relation reads, the function reads
+-- the function reads each escape that the relation reads
 pub escape_leads : {flags : Flags} {t rest : Text} {meaning : Meaning} → ReadsEscape flags t meaning rest → (n : ℕ) (next : Text) → t ≡ backslash ∷ next →
     length next ≤ n → escape n flags next ≡ answer meaning rest
 escape_leads {flags} (ReadsEscape.control c d t rest meaning is means same) n next begins room =
@@ -234,7 +234,7 @@ escape_leads {flags} (ReadsEscape.hexadecimal c k value t behind rest meaning is
     ap (escape n flags) at ∙ number_leads n flags c k behind digits
     ∙ ap (λ a. and_then a (λ v u. answer (character v) u)) value_is ∙ ap (λ x. answer x rest) (sym same)
 
--- where the relation stops among so many digits, the function does
+-- where the relation stops among k digits, the function stops
 exactly_stops : {flags : Flags} {k : ℕ} {t place : Text} {m : Message} → StuckExactly flags k t m place → 0 < k → exactly k flags t ≡ stop m place
 exactly_stops {flags} (StuckExactly.strange c zero t rest place m is hex at names) some = absurd (omega arith)
 exactly_stops {flags} (StuckExactly.strange c (suc k) t rest place m is hex at names) some =
@@ -254,7 +254,7 @@ stuck_exactly_begins (StuckExactly.strange c k t rest place m is hex at names) =
 stuck_exactly_begins (StuckExactly.ends c k t next place m is hex more gap at names) = (c, next, is)
 stuck_exactly_begins (StuckExactly.later c k j t next place m is hex count more r) = (c, next, is)
 
--- where the relation stops at a hexadecimal number, the function does
+-- where the relation stops at a hexadecimal number, the function stops
 hexadecimal_stops : {flags : Flags} {k : ℕ} {t place : Text} {m : Message} → StuckHexadecimal flags k t m place → 0 < k → (n : ℕ) → length t ≤ n →
     hexadecimal n flags k t ≡ stop m place
 hexadecimal_stops {flags} {k} (StuckHexadecimal.ends_at_once t place m is at names) some n room =
@@ -324,7 +324,7 @@ unclosed_leads : (name place : Text) → next_is (single right_brace) place ≡ 
 unclosed_leads name [] other = refl
 unclosed_leads name (c ∷ t) other = rw other refl
 
--- where the relation stops at an escape, the function does
+-- where the relation stops at an escape, the function stops
 pub escape_stops : {flags : Flags} {t place : Text} {m : Message} → StuckEscape flags t m place → (n : ℕ) (next : Text) → t ≡ backslash ∷ next → length next ≤ n →
     escape n flags next ≡ stop m place
 escape_stops {flags} (StuckEscape.ends t place m is at names) n next begins room =

@@ -1,4 +1,4 @@
--- Classes in brackets: where the relations stop, the function stops, and no later.
+-- Where the grammar's relations stop in a class in brackets, the reader stops, no later.
 use Rattle.std.proofs.Common.{◌≡◌, ℕ, zero, suc, ◌<◌, ◌≤◌, Bool, true, false, ◌&&◌, ◌||◌, ◌==◌, List, [], ◌∷◌, length, refl, sym, ap, ap₂, ◌∙◌, subst, inl, inr, ⊎_elim, arith, Ok, Err, true≢false}
 use Rattle.std.proofs.lemmas.Bool.{lt-leb, cases_Bool, or_parts}
 use Rattle.std.specs.Prelude.{nat_le}
@@ -21,7 +21,7 @@ use Rattle.bites_spec.proofs.brackets.BracketEscapes.{escape_stops, same_behind}
 use Rattle.bites_spec.proofs.brackets.BracketMeans.{name_front, not_name_front, members_gap, twice_begins}
 use Rattle.bites_spec.proofs.brackets.BracketLeads.{end_leads, member_shorter, member_leads, at_first, at_second, at_alone, caret_shorter, caret_leads, dashes_lead, front_leads, front_shorter}
 
--- a stop there, with a message of no greater rank
+-- a stop at this place, with a message of no greater rank
 stops_there : {A : Type 0} (k m : Message) (at place : Text) (a : ReadResult A) → a ≡ stop k at → at ≡ place → rank k ≤ rank m → StopsBy m place a
 stops_there k m at place a is same order = subst (StopsBy m place) (sym is) (inr (sym (ap length same), order))
 
@@ -35,14 +35,14 @@ and_stops : {A B : Type 0} (m : Message) (place : Text) (a : ReadResult A) (f : 
 and_stops m place (Ok x) f first = absurd first
 and_stops m place (Err e) f first = first
 
--- where an end of a range stops, the function stops
+-- where the relation stops at an end of a range, the function stops
 end_first : {flags : Flags} {t place : Text} {m : Message} → StuckEscape flags t m place → (n : ℕ) → length t ≤ suc n →
     StopsBy m place (class_end n flags t)
 end_first {flags} {t} {place} {m} r n room =
     let from = stuck_escape_begins r in
     stops_so m m place place _ (ap (class_end n flags) from.1 ∙ escape_stops r n from.0 from.1 (omega (arith, ap length from.1))) refl refl
 
--- where an escape stops the relation, it stops the function
+-- where the relation stops at an escape, the function stops
 pub escape_first : {flags : Flags} {t place : Text} {m : Message} → StuckEscape flags t m place → (n : ℕ) (next : Text) → t ≡ backslash ∷ next → length next ≤ n →
     StopsBy m place (reading.escape n flags next)
 escape_first {place = place} {m} r n next begins room = stops_so m m place place _ (escape_stops r n next begins room) refl refl
@@ -50,7 +50,7 @@ escape_first {place = place} {m} r n next begins room = stops_so m m place place
 twice_some : (d : ℕ) (u : Text) → is_twice d u ≡ true → u ≡ [] → ⊥
 twice_some d u e is = true≢false (sym e ∙ ap (is_twice d) is)
 
--- at the end of the pattern only the closing bracket is missed
+-- at the end of the pattern, the only fault is the missing closing bracket
 stuck_at_end : {flags : Flags} {t place : Text} {m : Message} → StuckMembers flags t m place → skip flags t ≡ [] → (place ≡ []) × (m ≡ message.unclosed_class)
 stuck_at_end (StuckMembers.later t next place set m plain member r) ends = absurd (omega (arith, member_shorter member, ap length ends))
 stuck_at_end (StuckMembers.ends t place m gap is names) ends = (is, names)
@@ -133,23 +133,23 @@ front_stops go n flags sofar u place m before may stops =
     (λ (b : is_set_operator u ≡ false). subst (StopsBy m place) (sym (at_first go n flags sofar u (omega arith) may b)) stops)
     (cases_Bool (is_set_operator u))
 
--- behind a first end
-behind_first : (go : Members) (n : ℕ) (flags : Flags) (sofar : Set) (u behind place : Text) (m : Message) (first : Meaning) → length u ≤ suc n →
+-- a stop after a first end is a stop of the item
+after_first_part : (go : Members) (n : ℕ) (flags : Flags) (sofar : Set) (u behind place : Text) (m : Message) (first : Meaning) → length u ≤ suc n →
     length place < length u → may_be_first u ≡ true → ReadsEnd flags u first behind →
     StopsBy m place (after_first go n flags sofar first (skip flags behind)) → StopsBy m place (reading.member go n flags sofar u)
-behind_first go n flags sofar u behind place m first room before may reads stops =
+after_first_part go n flags sofar u behind place m first room before may reads stops =
     front_stops go n flags sofar u place m before may
     (subst (λ a. StopsBy m place (and_then a (λ x rest. after_first go n flags sofar x (skip flags rest)))) (sym (end_leads reads n room)) stops)
 
--- behind a first end and a dash
+-- a stop after a first end and a dash is a stop of the item
 behind_dash : (go : Members) (n : ℕ) (flags : Flags) (sofar : Set) (u behind next place : Text) (m : Message) (first : Meaning) → length u ≤ suc n →
     length place < length u → may_be_first u ≡ true → ReadsEnd flags u first behind → skip flags behind ≡ dash ∷ next →
     StopsBy m place (after_dash go n flags sofar first (dash ∷ next) (skip flags next)) → StopsBy m place (reading.member go n flags sofar u)
 behind_dash go n flags sofar u behind next place m first room before may reads dashed stops =
-    behind_first go n flags sofar u behind place m first room before may reads
+    after_first_part go n flags sofar u behind place m first room before may reads
     (subst (λ y. StopsBy m place (after_first go n flags sofar first y)) (sym dashed) stops)
 
--- behind both ends of what would be a range
+-- a stop after both ends of a range is a stop of the item
 behind_second : (go : Members) (n : ℕ) (flags : Flags) (sofar : Set) (u behind next place : Text) (m : Message) (first second : Meaning) →
     length u ≤ suc n → may_be_first u ≡ true → ReadsEnd flags u first behind → skip flags behind ≡ dash ∷ next →
     may_be_second (skip flags next) ≡ true → ReadsEnd flags (skip flags next) second place →
@@ -192,7 +192,7 @@ at_assertion go n flags sofar l [] m leads names = inr (refl, omega (arith, ap r
 at_assertion go n flags sofar l (c ∷ place) m leads names =
     stops_so message.invalid_class_escape m (c ∷ place) (c ∷ place) _ (at_alone go n flags sofar (assertion l) (c ∷ place) (omega arith) leads) refl (sym names)
 
--- where an item stops the relation, it stops a function that goes on
+-- where the relation stops from an item on, the function stops, if it stops no later on what follows
 item_first : {flags : Flags} {t place : Text} {m : Message} → StuckMembers flags t m place → (n : ℕ) (go : Members) (sofar : Set) →
     length t ≤ suc n → ((more : Set) (u : Text) → go more (skip flags u) ≡ go more u) →
     ((more : Set) (u : Text) → length u ≤ n → StuckMembers flags u m place → StopsBy m place (go more u)) →
@@ -225,13 +225,13 @@ item_first {flags} (StuckMembers.in_first t place m r) n go sofar room minds on 
     front_stops go n flags sofar (skip flags t) place m (stuck_escape_shorter r) (ap may_be_first (stuck_escape_begins r).1)
     (and_stops m place (class_end n flags (skip flags t)) _ (end_first r n (omega (arith, skip_shorter flags t))))
 item_first {flags} (StuckMembers.ends_after_first t behind place first m may r gap is names) n go sofar room minds on =
-    behind_first go n flags sofar (skip flags t) behind place m first (omega (arith, skip_shorter flags t)) (omega (arith, end_shorter r, ap length is)) may r
+    after_first_part go n flags sofar (skip flags t) behind place m first (omega (arith, skip_shorter flags t)) (omega (arith, end_shorter r, ap length is)) may r
     (stops_so message.unclosed_after_member m [] place _ (ap (after_first go n flags sofar first) gap) (sym is) (sym names))
 item_first {flags} (StuckMembers.assertion_alone t behind place first l m r means at leads names) n go sofar room minds on =
     let stops : StopsBy m place (after_first go n flags sofar first (skip flags behind)) =
     subst (λ y. StopsBy m place (after_first go n flags sofar first y)) at
     (subst (λ x. StopsBy m place (after_first go n flags sofar x place)) (sym means) (at_assertion go n flags sofar l place m leads names)) in
-    behind_first go n flags sofar (skip flags t) behind place m first (omega (arith, skip_shorter flags t))
+    after_first_part go n flags sofar (skip flags t) behind place m first (omega (arith, skip_shorter flags t))
     (omega (arith, end_shorter r, ap length at, skip_shorter flags behind)) (assertion_may l r means) r stops
 item_first {flags} (StuckMembers.ends_after_dash t behind next place first m may r dashed gap is names) n go sofar room minds on =
     behind_dash go n flags sofar (skip flags t) behind next place m first (omega (arith, skip_shorter flags t)) (omega (arith, end_shorter r, ap length is)) may r
@@ -258,7 +258,7 @@ nothing : (t : Text) → length t ≤ 0 → t ≡ []
 nothing [] short = refl
 nothing (c ∷ t) short = absurd (omega arith)
 
--- where the members of a class stop the relation, they stop the function
+-- where the relation stops among the members of a class, the function stops, no later
 pub members_first : (n : ℕ) {flags : Flags} {t place : Text} {m : Message} (sofar : Set) → length t ≤ n →
     StuckMembers flags t m place → StopsBy m place (class_members n flags sofar t)
 members_first zero {flags} {t} {place} {m} sofar room r =
@@ -302,7 +302,7 @@ leading_ends {flags} (ReadsLeading.bracket t next rest set empty begins same is)
 leading_ends {flags} (ReadsLeading.neither t rest set empty other same is) ends n negated =
     stops_so message.unclosed_class message.unclosed_class [] [] _ (ap₂ (reading.after_dashes n flags negated) empty (sym is ∙ ends)) refl refl
 
--- where the front of a class ends the pattern, the function stops
+-- where the pattern ends before the first item of a class, the function stops
 front_ends : {flags : Flags} {t items : Text} {negated : Bool} {leading : Set} → ReadsBracketFront flags t negated leading items → items ≡ [] →
     (n : ℕ) (next : Text) → t ≡ left_bracket ∷ next → length next ≤ n →
     StopsBy message.unclosed_class [] (reading.bracket n flags (skip flags next))
@@ -321,7 +321,7 @@ front_ends {flags} (ReadsBracketFront.front t other behind_caret behind_dashes d
 finished_first : (m : Message) (place : Text) (flags : Flags) (negated : Bool) (a : ReadResult Set) → StopsBy m place a → StopsBy m place (reading.finished flags negated a)
 finished_first m place flags negated a first = and_stops m place a _ first
 
--- where a class in brackets stops the relation, it stops the function
+-- where the relation stops in a class in brackets, the function stops, no later
 pub bracket_first : {flags : Flags} {t place : Text} {m : Message} → StuckBracket flags t m place →
     (n : ℕ) (next : Text) → t ≡ left_bracket ∷ next → length next ≤ n → StopsBy m place (reading.bracket n flags (skip flags next))
 bracket_first {flags} (StuckBracket.ends_at_once t other place m from gap is names) n next begins room =

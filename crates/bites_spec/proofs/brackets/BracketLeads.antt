@@ -1,4 +1,4 @@
--- Classes in brackets: what the relations read, the function answers.
+-- The reader reads each class in brackets that the grammar's relations read.
 use Rattle.std.proofs.Common.{◌≡◌, ℕ, zero, suc, ◌<◌, ◌≤◌, Bool, true, false, not, ◌||◌, ◌==◌, List, [], ◌∷◌, ◌++◌, length, refl, sym, ap, ap₂, ◌∙◌, subst, inl, inr, ⊎_elim, arith, ◌⊎◌, Some, None, true≢false, length-append, le-leb}
 use Rattle.std.specs.Prelude.{codes, nat_le}
 use Rattle.std.proofs.lemmas.Option.{none-some}
@@ -19,7 +19,7 @@ use Rattle.bites_spec.proofs.brackets.BracketText.{union_assoc, end_shorter, esc
 use Rattle.bites_spec.proofs.brackets.BracketEscapes.{escape_leads, same_behind}
 use Rattle.bites_spec.proofs.brackets.BracketMeans.{name_front, not_name_front, members_gap}
 
--- an end of a range that the relation reads, the function reads
+-- the function reads each end of a range that the relation reads
 pub end_leads : {flags : Flags} {t rest : Text} {meaning : Meaning} → ReadsEnd flags t meaning rest → (n : ℕ) → length t ≤ suc n →
     class_end n flags t ≡ answer meaning rest
 end_leads {flags} (ReadsEnd.plain c t rest meaning is other same) n room = ap (class_end n flags) is ∙ rw (other, same) refl
@@ -28,7 +28,7 @@ end_leads {flags} (ReadsEnd.escape t rest meaning r) n room =
     ap (class_end n flags) begins.1
     ∙ escape_leads r n begins.0 begins.1 (omega (arith, ap length begins.1))
 
--- an item goes forward
+-- an item takes at least a character
 pub member_shorter : {flags : Flags} {t rest : Text} {set : Set} → ReadsMember flags t set rest → length rest < length t
 member_shorter (ReadsMember.named k t rest set is same) = omega (arith, ap length is, length-append (name_front k) rest, length-append (codes "[:" ++ class_name k) (codes ":]"))
 member_shorter (ReadsMember.not_named k t rest set is same) =
@@ -37,7 +37,7 @@ member_shorter {flags} (ReadsMember.range low high t behind next rest set may fi
     omega (arith, end_shorter first, end_shorter last, ap length dashed, skip_shorter flags behind, skip_shorter flags next)
 member_shorter (ReadsMember.alone meaning t rest set may first leads same) = end_shorter first
 
--- items are some characters
+-- items have at least a character after their gap
 pub members_some : {flags : Flags} {t rest : Text} {set : Set} → ReadsMembers flags t set rest → 0 < length (skip flags t)
 members_some (ReadsMembers.closed t rest set gap same) = omega (arith, ap length gap)
 members_some (ReadsMembers.goes_on t next rest one others set plain member r same) = omega (arith, member_shorter member)
@@ -85,7 +85,7 @@ no_bracket c e =
     (cases_Bool (c == right_bracket)))
     (cases_Bool (c == left_bracket))
 
--- where a first end stands, the function reads one
+-- where a first end stands, the function reads it
 pub at_first : (go : Members) (n : ℕ) (flags : Flags) (sofar : Set) (u : Text) → 0 < length u → may_be_first u ≡ true → is_set_operator u ≡ false →
     reading.member go n flags sofar u ≡ and_then (class_end n flags u) (λ first rest. after_first go n flags sofar first (skip flags rest))
 at_first go n flags sofar [] some may plain = absurd (omega arith)
@@ -101,7 +101,7 @@ not_false : (b : Bool) → not b ≡ false → b ≡ true
 not_false true e = refl
 not_false false e = absurd (true≢false e)
 
--- where a second end stands, the function reads one
+-- where a second end stands, the function reads it
 pub at_second : (go : Members) (n : ℕ) (flags : Flags) (sofar : Set) (first : Meaning) (at v : Text) → 0 < length v → may_be_second v ≡ true →
     after_dash go n flags sofar first at v ≡ and_then (class_end n flags v) (reading.range go sofar first)
 at_second go n flags sofar first at [] some may = absurd (omega arith)
@@ -116,7 +116,7 @@ alone_behind_dash go n flags sofar first at (c ∷ v) may =
     let ends = not_false (one_of (codes "]-") c) may in
     rw ends refl
 
--- where no dash leads to a second end, the first stands alone
+-- where no dash leads to a second end, the first end stands alone
 pub at_alone : (go : Members) (n : ℕ) (flags : Flags) (sofar : Set) (first : Meaning) (v : Text) → 0 < length v → leads_to_second flags v ≡ false →
     after_first go n flags sofar first v ≡ alone go sofar first v
 at_alone go n flags sofar first [] some leads = absurd (omega arith)
@@ -134,17 +134,17 @@ or_none false = refl
 some_set : {a b : Set} → Some a ≡ Some b → a ≡ b
 some_set {a} e = ap (λ o. elim o as (λ _. Set) [ Some set ↦ set | None ↦ a ]) e
 
--- a first that stands alone adds its characters
+-- a first end that stands alone adds its characters
 alone_goes : (go : Members) (sofar one : Set) (first : Meaning) (v : Text) → set_of first ≡ Some one → alone go sofar first v ≡ go (union sofar one) v
 alone_goes go sofar one (character c) v is = ap (λ set. go (union sofar set) v) (some_set is)
 alone_goes go sofar one (characters more) v is = ap (λ set. go (union sofar set) v) (some_set is)
 alone_goes go sofar one (assertion l) v is = absurd (none-some one is)
 
--- the function goes on behind an item, or the pattern ends there
+-- the function goes on after an item, or the pattern ends there
 abbrev pub Passes : Flags → Members → Set → Text → ReadResult Set → Type 0
 Passes flags go sofar next a = (a ≡ go sofar next) ⊎ ((skip flags next ≡ []) × (a ≡ stop message.unclosed_after_member []))
 
--- a function does not mind a gap
+-- a gap before the rest does not change what the function returns
 abbrev pub MindsNoGap : Flags → Members → Type 0
 MindsNoGap flags go = (sofar : Set) (t : Text) → go sofar (skip flags t) ≡ go sofar t
 
@@ -159,7 +159,7 @@ alone_passes flags go n sofar one next (c ∷ v) first minds gap leads is =
 in_order : (low high : ℕ) → low ≤ high → nat_le low high ≡ true
 in_order low high order = le-leb low high order
 
--- an item that the relation reads, the function reads
+-- the function reads each item that the relation reads
 pub member_leads : {flags : Flags} {t next : Text} {one : Set} → ReadsMember flags t one next → is_set_operator t ≡ false →
     (n : ℕ) (go : Members) (sofar : Set) → length t ≤ suc n → MindsNoGap flags go →
     Passes flags go (union sofar one) next (reading.member go n flags sofar t)
@@ -184,7 +184,7 @@ member_leads {flags} (ReadsMember.alone meaning t next one may first leads is) p
     front ∙ ap (λ a. and_then a (λ x rest. after_first go n flags sofar x (skip flags rest))) one_end in
     subst (Passes flags go (union sofar one) next) (sym before) (alone_passes flags go n sofar one next (skip flags next) meaning minds refl leads is)
 
--- items that the relation reads, the function reads
+-- the function reads all items that the relation reads
 pub members_lead : {flags : Flags} {t rest : Text} {set : Set} → ReadsMembers flags t set rest → (n : ℕ) (sofar : Set) → length t ≤ n →
     class_members n flags sofar t ≡ answer (union sofar set) rest
 members_lead {flags} (ReadsMembers.closed t rest set gap same) zero sofar room = absurd (omega (arith, ap length gap, skip_shorter flags t))
@@ -217,7 +217,7 @@ by_neither : (flags : Flags) (t : Text) → next_is (single right_bracket) t ≡
 by_neither flags [] other more n negated = absurd (omega arith)
 by_neither flags (c ∷ t) other more n negated = rw other refl
 
--- behind the leading dashes
+-- the function reads what follows the leading dashes
 leading_leads : {flags : Flags} {dashes behind items : Text} {leading : Set} → ReadsLeading flags dashes behind leading items → 0 < length items →
     (n : ℕ) (negated : Bool) →
     reading.after_dashes n flags negated dashes behind ≡ reading.finished flags negated (class_members n flags leading items)
@@ -245,7 +245,7 @@ by_no_caret : (n : ℕ) (flags : Flags) (t : Text) → 0 < length t → next_is 
 by_no_caret n flags [] some other = absurd (omega arith)
 by_no_caret n flags (c ∷ t) some other = rw other refl
 
--- a caret that the relation reads, the function reads
+-- the function reads a caret that the relation reads
 pub caret_leads : {flags : Flags} {t rest : Text} {negated : Bool} → ReadsCaret flags t negated rest → 0 < length rest → (n : ℕ) →
     reading.bracket n flags t ≡ reading.dashes n flags negated rest
 caret_leads {flags} (ReadsCaret.caret t next rest negated is gap same) some n =
@@ -254,12 +254,12 @@ caret_leads {flags} (ReadsCaret.caret t next rest negated is gap same) some n =
 caret_leads {flags} (ReadsCaret.none t rest negated other is same) some n =
     by_no_caret n flags t (rw is at some) other ∙ ap₂ (reading.dashes n flags) (sym same) (sym is)
 
--- leading dashes that the relation reads, the function reads
+-- the function reads the leading dashes that the relation reads
 pub dashes_lead : {flags : Flags} {t dashes rest : Text} → ReadsEach flags (single dash) t dashes rest → (n : ℕ) (negated : Bool) → length t ≤ n →
     reading.dashes n flags negated t ≡ reading.after_dashes n flags negated dashes rest
 dashes_lead {flags} r n negated room = ap (λ d. reading.after_dashes n flags negated d.0 d.1) (each_complete r n room)
 
--- all before the first item that the relation reads, the function reads
+-- the function reads all before the first item that the relation reads
 pub front_leads : {flags : Flags} {t items : Text} {negated : Bool} {leading : Set} → ReadsBracketFront flags t negated leading items → 0 < length items →
     (n : ℕ) (next : Text) → t ≡ left_bracket ∷ next → length next ≤ n →
     reading.bracket n flags (skip flags next) ≡ reading.finished flags negated (class_members n flags leading items)
@@ -271,12 +271,12 @@ front_leads {flags} (ReadsBracketFront.front t other behind_caret behind_dashes 
     ∙ dashes_lead dashed n negated short
     ∙ leading_leads leads some n negated
 
--- a front goes forward
+-- what precedes the first item takes at least a character
 pub front_shorter : {flags : Flags} {t items : Text} {negated : Bool} {leading : Set} → ReadsBracketFront flags t negated leading items → length items < length t
 front_shorter {flags} (ReadsBracketFront.front t next behind_caret behind_dashes dashes items negated leading begins marked dashed leads) =
     omega (arith, ap length begins, skip_shorter flags next, caret_shorter marked, each_shorter dashed, leading_shorter leads)
 
--- a class in brackets that the relation reads, the function reads, as a set that its ranges list
+-- the function reads each class in brackets that the relation reads, as a set that its ranges list
 pub bracket_leads : {flags : Flags} {t rest : Text} {ranges : List Range} → ReadsBracket flags t ranges rest →
     (n : ℕ) (next : Text) → t ≡ left_bracket ∷ next → length next ≤ n →
     (set : Set) × (reading.bracket n flags (skip flags next) ≡ answer set rest) × Lists ranges set
@@ -287,13 +287,13 @@ bracket_leads {flags} (ReadsBracket.bracket t items rest negated leading set ran
   lists,
 )
 
--- members go forward
+-- members take at least a character
 pub members_shorter : {flags : Flags} {t rest : Text} {set : Set} → ReadsMembers flags t set rest → length rest < length t
 members_shorter {flags} (ReadsMembers.closed t rest set gap same) = omega (arith, ap length gap, skip_shorter flags t)
 members_shorter {flags} (ReadsMembers.goes_on t next rest one others set plain member r same) =
     omega (arith, member_shorter member, members_shorter r, skip_shorter flags t)
 
--- a class in brackets goes forward
+-- a class in brackets takes at least a character
 pub bracket_shorter : {flags : Flags} {t rest : Text} {ranges : List Range} → ReadsBracket flags t ranges rest → length rest < length t
 bracket_shorter (ReadsBracket.bracket t items rest negated leading set ranges before members lists) =
     omega (arith, front_shorter before, members_shorter members)

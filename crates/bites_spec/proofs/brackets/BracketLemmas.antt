@@ -1,5 +1,4 @@
--- The laws of classes in brackets: what the function answers is a reading or a place where reading stops, what the relation reads the function answers,
--- and where the relation stops the function stops, no later.
+-- Classes in brackets: the reader reads what the grammar's relations read, and stops where they stop, no later.
 use Rattle.std.proofs.Common.{◌≡◌, ◌<◌, ◌≤◌, List, ◌∷◌, length, arith, ap, subst}
 use Rattle.bites_spec.specs.Range.{Range}
 use Rattle.bites_spec.specs.Bracket.{ReadsBracket}
@@ -36,7 +35,7 @@ stuck_members_shorter {flags} (StuckMembers.no_character t behind next place fir
 stuck_members_shorter {flags} (StuckMembers.crossed low high t behind next place m may r dashed second_may last order names) =
     omega (arith, end_shorter r, ap length dashed, end_shorter last, skip_shorter flags next, skip_shorter flags behind, skip_shorter flags t)
 
--- a class in brackets that stops begins with its bracket
+-- a class in brackets with a fault begins with its bracket
 pub stuck_bracket_begins : {flags : Flags} {t place : Text} {m : Message} → StuckBracket flags t m place → (next : Text) × (t ≡ left_bracket ∷ next)
 stuck_bracket_begins (StuckBracket.ends_at_once t next place m from gap is names) = (next, from)
 stuck_bracket_begins (StuckBracket.ends_after_caret t next place m from marked is names) = (next, from)
@@ -44,7 +43,7 @@ stuck_bracket_begins (StuckBracket.ends_after_dashes t next behind_caret dashes 
 stuck_bracket_begins (StuckBracket.ends_after_bracket t next behind_caret more place negated m from marked bracketed gap is names) = (next, from)
 stuck_bracket_begins (StuckBracket.in_members t items place negated leading m before r) = front_begins before
 
--- and stops behind it
+-- a fault of a class in brackets stands after its bracket
 pub stuck_bracket_shorter : {flags : Flags} {t place : Text} {m : Message} → StuckBracket flags t m place → length place < length t
 stuck_bracket_shorter (StuckBracket.ends_at_once t next place m from gap is names) = omega (arith, ap length from, ap length is)
 stuck_bracket_shorter (StuckBracket.ends_after_caret t next place m from marked is names) = omega (arith, ap length from, ap length is)
@@ -55,7 +54,7 @@ stuck_bracket_shorter (StuckBracket.ends_after_bracket t next behind_caret more 
 stuck_bracket_shorter (StuckBracket.in_members t items place negated leading m before r) =
     omega (arith, front_shorter before, stuck_members_shorter r)
 
--- a class in brackets whose reading stops is not read as well
+-- a class in brackets with a fault is not read as well
 pub bracket_not_both : {flags : Flags} {t rest place : Text} {m : Message} {ranges : List Range} →
     StuckBracket flags t m place → ReadsBracket flags t ranges rest → ⊥
 bracket_not_both {flags} {t} {rest} {place} {m} stuck reads =

@@ -1,4 +1,4 @@
--- Classes in brackets: what the function answers, the relations say.
+-- What the reader returns for a class in brackets, the grammar's relations read.
 use Rattle.std.proofs.Common.{◌≡◌, ℕ, zero, suc, ◌+◌, ◌<◌, ◌≤◌, Bool, true, false, not, ◌&&◌, ◌||◌, ◌==◌, List, [], ◌∷◌, ◌++◌, length, drop, refl, sym, ap, ◌∙◌, subst, ⊎_elim, arith, Ok, Err, eqb-true, leb-true, leb-false, length-append, length-drop}
 use Rattle.std.specs.Prelude.{codes, nat_le}
 use Rattle.std.specs.List.{list_any}
@@ -20,12 +20,12 @@ use Rattle.bites_spec.proofs.characters.EachLemmas.{skip_shorter, each_sound, ea
 use Rattle.bites_spec.proofs.characters.EscapeLemmas.{Means, either_side}
 use Rattle.bites_spec.proofs.brackets.BracketText.{skip_again, skip_nil, union_assoc, begins_append, end_shorter, end_means}
 
--- what the function answers to the members of a class: from the set so far
+-- what a result for the members of a class claims of the relations, from the set so far
 abbrev pub MembersMean : Flags → Set → Text → ReadResult Set → Type 0
 MembersMean flags sofar t =
     Means (λ all rest. (others : Set) × ReadsMembers flags t others rest × (all ≡ union sofar others)) (StuckMembers flags t)
 
--- a function reads the members of a class, also behind the gap
+-- the function reads the members of a class, and a gap before them does not matter
 abbrev pub GoesOn : Flags → ℕ → Members → Type 0
 GoesOn flags n go = (sofar : Set) (t : Text) → length t ≤ n → MembersMean flags sofar t (go sofar t) × (go sofar (skip flags t) ≡ go sofar t)
 
@@ -39,7 +39,7 @@ one_more flags sofar one t u next (Ok x) at plain member means = (
 one_more flags sofar one t u next (Err e) at plain member means =
     StuckMembers.later t next e.place one e.message (ap is_set_operator (sym at) ∙ plain) (subst (λ y. ReadsMember flags y one next) at member) means
 
--- how a named class is written, and how with a caret
+-- how a named class is written; below it, how it is written with a caret
 abbrev pub name_front : NamedClass → Text
 name_front k = codes "[:" ++ class_name k ++ codes ":]"
 
@@ -91,7 +91,7 @@ alone_means flags n go sofar t u behind (characters more) room on at plain may r
 alone_means flags n go sofar t u behind (assertion l) room on at plain may reads alone =
     StuckMembers.assertion_alone t behind (skip flags behind) (assertion l) l _ (subst (λ y. ReadsEnd flags y (assertion l) behind) at reads) refl refl alone refl
 
--- from a first end to a second
+-- a first end and a dash that leads to a second end
 abbrev Between : Flags → Text → Meaning → Text → Text → Type 0
 Between flags u first behind next =
     (is_set_operator u ≡ false) × (may_be_first u ≡ true) × ReadsEnd flags u first behind × (skip flags behind ≡ dash ∷ next)
@@ -186,7 +186,7 @@ or_none false = refl
 pub twice_begins : (d c : ℕ) (u : Text) → is_twice d (c ∷ u) ≡ true → c ≡ d
 twice_begins d c u e = eqb-true c d (and_parts (c == d) (next_is (single d) u) e).0
 
--- two of a character that no message but its own names
+-- at an operator on sets the relations stop, with the message of its character
 operator_means : (flags : Flags) (sofar : Set) (t : Text) (c : ℕ) (u : Text) → c ∷ u ≡ skip flags t → is_set_operator (c ∷ u) ≡ true →
     MembersMean flags sofar t (stop (reading.set_operator_message c) (c ∷ u))
 operator_means flags sofar t c u at e =
@@ -201,7 +201,7 @@ operator_means flags sofar t c u at e =
     (cases_Bool (is_twice dash (c ∷ u))))
     (cases_Bool (is_twice 38 (c ∷ u)))
 
--- a function that goes on reads an item and what follows it
+-- a function that reads what follows reads an item and what follows it
 member_means : (flags : Flags) (n : ℕ) (go : Members) (sofar : Set) (t u : Text) → length u ≤ suc n → GoesOn flags n go → u ≡ skip flags t →
     MembersMean flags sofar t (reading.member go n flags sofar u)
 member_means flags n go sofar t [] room on at = StuckMembers.ends t [] _ (sym at) refl refl
@@ -219,7 +219,7 @@ pub members_gap : (n : ℕ) (flags : Flags) (sofar : Set) (t : Text) → class_m
 members_gap zero flags sofar t = refl
 members_gap (suc n) flags sofar t = ap (reading.member (class_members n flags) n flags sofar) (skip_again flags t)
 
--- what the function answers to the members of a class, the relations say
+-- what the function returns for the members of a class, the relations read
 pub members_means : (n : ℕ) (flags : Flags) (sofar : Set) (t : Text) → length t ≤ n → MembersMean flags sofar t (class_members n flags sofar t)
 members_means zero flags sofar [] room = StuckMembers.ends [] [] _ (skip_nil flags) refl refl
 members_means zero flags sofar (c ∷ t) room = absurd (omega arith)
@@ -227,7 +227,7 @@ members_means (suc n) flags sofar t room =
     member_means flags n (class_members n flags) sofar t (skip flags t) (omega (arith, skip_shorter flags t))
     (λ more u within. (members_means n flags more u within, members_gap n flags more u)) refl
 
--- what the function answers to a class in brackets: behind its bracket
+-- what a result for a class in brackets claims of the relations, from after the bracket
 abbrev pub BracketMeans : Flags → Text → ReadResult Set → Type 0
 BracketMeans flags next =
     Means (λ set rest. (ranges : List Range) → Lists ranges set → ReadsBracket flags (left_bracket ∷ next) ranges rest)
@@ -246,7 +246,7 @@ pub each_none : {flags : Flags} {set : Set} {t chars rest : Text} → ReadsEach 
 each_none (ReadsEach.none t chars rest ends is same) empty = same
 each_none (ReadsEach.more c t next chars others rest is pass r same) empty = absurd (omega (arith, ap length empty, ap length same))
 
--- what stands behind the leading dashes
+-- from next to behind stand a caret, if negated, and the leading dashes
 abbrev Led : Flags → Text → Bool → Text → Text → Text → Type 0
 Led flags next negated u dashes behind = ReadsCaret flags (skip flags next) negated u × ReadsEach flags (single dash) u dashes behind
 
@@ -309,6 +309,6 @@ bracket_by n flags next (c ∷ u) room at =
     dashes_mean n flags next false (c ∷ u) room
     (ReadsCaret.none _ (c ∷ u) false (ap (next_is (single caret)) (sym at) ∙ b) at refl))
 
--- what the function answers to a class in brackets, the relations say
+-- what the function returns for a class in brackets, the relations read
 pub bracket_means : (n : ℕ) (flags : Flags) (next : Text) → length next ≤ n → BracketMeans flags next (reading.bracket n flags (skip flags next))
 bracket_means n flags next room = bracket_by n flags next (skip flags next) (omega (arith, skip_shorter flags next)) refl

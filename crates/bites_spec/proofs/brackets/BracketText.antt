@@ -1,4 +1,4 @@
--- What the laws of classes in brackets need of gaps, beginnings and ends.
+-- Gaps, escapes and range ends in brackets: what they begin with, and that reading goes forward.
 use Rattle.std.proofs.Common.{◌≡◌, ℕ, ◌<◌, ◌≤◌, Bool, true, false, ◌||◌, ◌==◌, [], ◌∷◌, ◌++◌, length, drop, refl, sym, ap, ap₂, subst, ⊎_elim, arith, Ok, Err, eqb-true, true≢false}
 use Rattle.std.specs.Prelude.{not}
 use Rattle.std.specs.Char.{is_whitespace}
@@ -22,7 +22,7 @@ skip_blank_again true (c ∷ t) = skip_blank_again (not (c == line_feed)) t
 skip_blank_again false (c ∷ t) =
     ⊎_elim (λ b. rw b (skip_blank_again (c == hash) t)) (λ (b : (is_whitespace c || (c == hash)) ≡ false). rw b (rw b refl)) (cases_Bool (is_whitespace c || (c == hash)))
 
--- behind a gap there is no gap
+-- after a gap there is no other gap
 pub skip_again : (flags : Flags) (t : Text) → skip flags (skip flags t) ≡ skip flags t
 skip_again flags t = ⊎_elim (λ b. rw b (skip_blank_again false t)) (λ b. rw b refl) (cases_Bool flags.ignore_whitespace)
 
@@ -41,7 +41,7 @@ or_assoc false b c = refl
 pub union_assoc : (a b c : Set) → union (union a b) c ≡ union a (union b c)
 union_assoc a b c = fun_ext (λ x. or_assoc (a x) (b x) (c x))
 
--- the characters that come next, and what stands behind them
+-- a text that begins with these characters is they and what follows them
 pub begins_append : (chars t : Text) → begins chars t ≡ true → t ≡ chars ++ drop (length chars) t
 begins_append [] t e = refl
 begins_append (c ∷ chars) [] e = absurd (true≢false (sym e))
@@ -58,7 +58,7 @@ hexadecimal_shorter : {flags : Flags} {n value : ℕ} {t rest : Text} → ReadsH
 hexadecimal_shorter {flags} (ReadsHexadecimal.in_braces n value t next digits rest is r some same) = omega (arith, ap length is, each_shorter r, skip_shorter flags next)
 hexadecimal_shorter (ReadsHexadecimal.fixed n value t digits rest r same) = exactly_shorter r
 
--- an escape goes forward
+-- an escape takes at least a character
 pub escape_shorter : {flags : Flags} {t rest : Text} {meaning : Meaning} → ReadsEscape flags t meaning rest → length rest < length t
 escape_shorter (ReadsEscape.control c d t rest meaning is means same) = omega (arith, ap length is)
 escape_shorter (ReadsEscape.itself c t rest meaning is means same) = omega (arith, ap length is)
@@ -70,7 +70,7 @@ escape_shorter (ReadsEscape.class c set t rest meaning is means same) = omega (a
 escape_shorter {flags} (ReadsEscape.hexadecimal c n value t next rest meaning is digits r scalar same) =
     omega (arith, ap length is, hexadecimal_shorter r, skip_shorter flags next)
 
--- an end of a range goes forward
+-- an end of a range takes at least a character
 pub end_shorter : {flags : Flags} {t rest : Text} {meaning : Meaning} → ReadsEnd flags t meaning rest → length rest < length t
 end_shorter (ReadsEnd.plain c t rest meaning is other same) = omega (arith, ap length is)
 end_shorter (ReadsEnd.escape t rest meaning r) = escape_shorter r
@@ -93,7 +93,7 @@ stuck_hexadecimal_shorter {flags} (StuckHexadecimal.empty_braces t next rest pla
 stuck_hexadecimal_shorter {flags} (StuckHexadecimal.no_scalar t next digits place m from r some without names) =
     omega (arith, ap length from, each_shorter r, skip_shorter flags next)
 
--- an escape stops behind its backslash
+-- a fault of an escape stands after its backslash
 pub stuck_escape_shorter : {flags : Flags} {t place : Text} {m : Message} → StuckEscape flags t m place → length place < length t
 stuck_escape_shorter (StuckEscape.ends t place m from is names) = omega (arith, ap length from, ap length is)
 stuck_escape_shorter (StuckEscape.digit c t rest place m from pass is names) = omega (arith, ap length from, ap length is)
@@ -117,7 +117,7 @@ escape_begins (ReadsEscape.named_boundary l t next name rest meaning is r means 
 escape_begins (ReadsEscape.class c set t rest meaning is means same) = (c ∷ rest, is)
 escape_begins (ReadsEscape.hexadecimal c n value t next rest meaning is digits r scalar same) = (c ∷ next, is)
 
--- and so does one that stops
+-- an escape with a fault begins with its backslash, too
 pub stuck_escape_begins : {flags : Flags} {t place : Text} {m : Message} → StuckEscape flags t m place → (next : Text) × (t ≡ backslash ∷ next)
 stuck_escape_begins (StuckEscape.ends t place m from is names) = ([], from)
 stuck_escape_begins (StuckEscape.digit c t rest place m from pass is names) = (c ∷ rest, from)
@@ -132,7 +132,7 @@ as_end : (flags : Flags) (t u : Text) (a : ReadResult Meaning) → t ≡ u → M
 as_end flags t u (Ok x) is means = ReadsEnd.escape u x.1 x.0 (subst (λ y. ReadsEscape flags y x.0 x.1) is means)
 as_end flags t u (Err e) is means = subst (λ y. StuckEscape flags y e.message e.place) is means
 
--- what the function answers to an end of a range, the relations say
+-- what the function returns for an end of a range, the relations read
 pub end_means : (n : ℕ) (flags : Flags) (c : ℕ) (t : Text) → length t ≤ n →
     Means (ReadsEnd flags (c ∷ t)) (StuckEscape flags (c ∷ t)) (reading.class_end n flags (c ∷ t))
 end_means n flags c t room =

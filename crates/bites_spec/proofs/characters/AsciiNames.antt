@@ -1,4 +1,4 @@
--- The ASCII characters of names, by the tables of Unicode.
+-- Among ASCII characters, a name begins with a letter or `_` and goes on with letters, digits and `_.[]`.
 use Rattle.std.proofs.Common.{◌≡◌, ℕ, ◌<◌, ◌||◌, ◌&&◌, not, refl, codes}
 use Rattle.std.specs.Prelude.{◌==◌}
 use Rattle.std.specs.Bool.{beq}

@@ -1,4 +1,4 @@
--- What the reading of a whole pattern takes from the readings of its parts.
+-- What the readers of groups and of braces return, in the form that the reader of patterns uses.
 use Rattle.std.proofs.Common.{◌≡◌, ℕ, ◌<◌, ◌≤◌, ◌⊎◌, Bool, true, ◌∷◌, length, max, Option, Ok, Err}
 use Rattle.std.specs.Prelude.{unwrap_or}
 use Rattle.bites_spec.specs.Message as message
@@ -9,7 +9,7 @@ use Rattle.bites_spec.specs.Group.{Opening, ReadsOpening, ReadsFlags, changed}
 use Rattle.bites_spec.specs.Fault.{ComesFirst}
 use Rattle.bites_spec.specs.Reader.{ReadResult, Opened, directive, group, answer, stop}
 
--- from t up to rest stands a directive that makes these the flags
+-- from t up to rest stands a directive, which sets the flags to `flags`
 pub record ReadsDirective (front : Front) (t : Text) (flags : Flags) (rest : Text) : Type 0 where
   pub next : Text
   pub marks : Text
@@ -22,27 +22,27 @@ pub record ReadsDirective (front : Front) (t : Text) (flags : Flags) (rest : Tex
   pub some : run ≡ c ∷ letters
   pub are : flags ≡ changed true run front.flags
 
--- what opens here
+-- what opens here: a directive, or a group that does not pass the limit on numbers
 abbrev pub Opens : Front → Text → Opened → Text → Type 0
 Opens front t (directive flags) rest = ReadsDirective front t flags rest
 Opens front t (group opening inner) rest = ReadsOpening front t opening inner rest × (front.groups ≤ greatest_number → inner.groups ≤ greatest_number)
 
--- the function stops, no later than at this place by this message
+-- the result is a stop that comes no later than this message at this place
 abbrev pub StopsBy : {A : Type 0} → Message → Text → ReadResult A → Type 0
 StopsBy m place (Ok x) = ⊥
 StopsBy m place (Err e) = ComesFirst e.message e.place m place
 
--- the greater bound of an operator
+-- the greater bound of an operator, or the least if there is no greatest
 abbrev pub most_of : ℕ → Option ℕ → ℕ
 most_of min most = max min (unwrap_or most 0)
 
--- what the function answers where an operator in braces is read: it, or the stop at a number that is too large
+-- the result where the relation reads an operator in braces: its bounds, or a stop at a number that is too large
 abbrev pub LeadsToCount : ℕ → Option ℕ → Bool → Text → ReadResult (ℕ × Option ℕ × Bool) → Type 0
 LeadsToCount min most greedy rest a =
     ((a ≡ answer (min, most, greedy) rest) × (most_of min most ≤ greatest_number))
     ⊎ ((place : Text) × (a ≡ stop message.invalid_decimal place) × (length rest < length place) × (greatest_number < most_of min most))
 
--- what the function answers where a group's opening is read: it, or the stop at a number that is too large
+-- the result where the relation reads a group's opening: the opening, or a stop at too many groups
 abbrev pub LeadsToGroup : Front → Opening → Text → ReadResult Opened → Type 0
 LeadsToGroup inner opening inside a =
     (a ≡ answer (group opening inner) inside)

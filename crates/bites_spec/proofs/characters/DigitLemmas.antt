@@ -1,4 +1,4 @@
--- Numbers that are read digit by digit.
+-- Numbers read digit by digit: when they are too large, and what they are at the end.
 use Rattle.std.proofs.Common.{◌≡◌, ℕ, zero, suc, ◌+◌, ◌-◌, ◌*◌, ◌<◌, ◌≤◌, Bool, true, false, ◌&&◌, cond, List, [], ◌∷◌, length, get_or, drop, Some, None, refl, sym, ap, ap₂, ◌∙◌, arith, le-leb}
 use Rattle.std.specs.Prelude.{nat_le}
 use Rattle.std.specs.List.{list_all}
@@ -24,7 +24,7 @@ and_false : (a b : Bool) → b ≡ false → (a && b) ≡ false
 and_false true b e = e
 and_false false b e = refl
 
--- digits that make too large a number
+-- a next digit that makes the number too large: the digits make no number
 pub digits_too_large : (largest number : ℕ) (ds : List ℕ) (i : ℕ) → i < length ds → largest < number * 10 + (get_or ds i 0 - 48) →
     value_from 0 ds ≡ value_from number (drop i ds) → None ≡ number_of_digits largest ds
 digits_too_large largest number [] i lt big value = absurd (omega arith)
@@ -35,7 +35,7 @@ digits_too_large largest number (d ∷ ds) i lt big value =
     sym (ap (λ (b : Bool). cond b (Some (value_from 0 (d ∷ ds))) None)
     (and_false (list_all is_digit (d ∷ ds)) (nat_le (value_from 0 (d ∷ ds)) largest) (not_below (value_from 0 (d ∷ ds)) largest above)))
 
--- all digits were read
+-- with all digits read, the number is that of the digits
 pub digits_whole : (largest number : ℕ) (ds : List ℕ) (i : ℕ) → length ds ≤ i → 0 < length ds → list_all is_digit ds ≡ list_all is_digit (drop i ds) →
     value_from 0 ds ≡ value_from number (drop i ds) → number ≤ largest → Some number ≡ number_of_digits largest ds
 digits_whole largest number [] i end some digits value le = absurd (omega arith)

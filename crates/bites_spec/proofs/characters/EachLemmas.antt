@@ -1,4 +1,4 @@
--- Runs of characters: the relation and the function agree.
+-- Runs of characters and decimals: the reader agrees with the grammar's relations.
 use Rattle.std.proofs.Common.{◌≡◌, ℕ, zero, suc, ◌<◌, ◌≤◌, Bool, false, ◌||◌, ◌==◌, [], ◌∷◌, length, refl, sym, ap, ap₂, ◌∙◌, ⊎_elim, arith, ◌⊎◌, Ok, Err, ltb-true, ltb-false, lt-ltb}
 use Rattle.std.specs.Prelude.{nat_lt, not, if◌then◌else◌}
 use Rattle.std.specs.Char.{is_whitespace, is_ascii_digit}
@@ -49,7 +49,7 @@ unfolding skip_white
 skip_white_shorter [] = omega arith
 skip_white_shorter (c ∷ t) = ⊎_elim (λ b. rw b (omega (arith, skip_white_shorter t))) (λ b. rw b (omega arith)) (cases_Bool (is_whitespace c))
 
--- what an answer of the function says
+-- what a result of the function claims of the relation
 abbrev pub Means : Flags → Text → ReadResult ℕ → Type 0
 Means flags t (Ok x) = ReadsDecimal flags t x.0 x.1 × (x.0 ≤ greatest_number)
 Means flags t (Err e) = StuckDecimal flags t e.message e.place
@@ -67,13 +67,13 @@ by_means n flags t (d ∷ digits) behind r room =
     ⊎_elim (λ b. rw b (too_large _ t _ _ read (ltb-true _ _ b) refl)) (λ b. rw b (read, ltb-false _ _ b))
     (cases_Bool (nat_lt greatest_number (number 10 (d ∷ digits))))
 
--- the function reads a decimal, or stops where the relation does
+-- the function reads a decimal as the relation does, or stops where the relation does
 pub decimal_means : (n : ℕ) (flags : Flags) (t : Text) → length t ≤ n → Means flags t (decimal n flags t)
 decimal_means n flags t room =
     let r = each_sound n flags is_ascii_digit (skip_white t) (omega (arith, skip_white_shorter t)) in
     by_means n flags t _ _ r (omega (arith, each_shorter r, skip_white_shorter t))
 
--- what the function answers at a whole decimal
+-- the result for a whole decimal: its value, or the stop at its end if it is too large
 abbrev whole : ℕ → Text → ReadResult ℕ
 whole v rest = choose (nat_lt greatest_number v) (λ _. stop message.invalid_decimal rest) (λ _. answer v rest)
 
@@ -82,14 +82,14 @@ by_complete : (n : ℕ) (flags : Flags) (at digits behind white rest : Text) (v 
 by_complete n flags at [] behind white rest v some w value = absurd (omega arith)
 by_complete n flags at (d ∷ digits) behind white rest v some w value = rw (w, value) refl
 
--- a decimal that the relation reads, the function reads, or stops behind it
+-- the function reads each decimal that the relation reads, or stops at its end if it is too large
 pub decimal_complete : {flags : Flags} {t rest : Text} {v : ℕ} → ReadsDecimal flags t v rest → (n : ℕ) → length t ≤ n → decimal n flags t ≡ whole v rest
 decimal_complete {flags} (pattern.decimal v t behind digits white rest r some w value) n room =
     ap (λ p. decimal_by n flags (skip_white t) p.0 p.1) (each_complete r n (omega (arith, skip_white_shorter t)))
     ∙ by_complete n flags (skip_white t) digits behind white rest v some
     (each_complete w n (omega (arith, each_shorter r, skip_white_shorter t))) value
 
--- where the relation stops at a decimal, the function does
+-- where the relation stops at a decimal, the function stops
 pub stuck_decimal : {flags : Flags} {t place : Text} {m : Message} → StuckDecimal flags t m place → (n : ℕ) → length t ≤ n → decimal n flags t ≡ stop m place
 stuck_decimal {flags} (no_digit t place m is ends names) n room =
     let nothing : next_is is_ascii_digit (skip_white t) ≡ false = rw is at ends in
@@ -98,6 +98,6 @@ stuck_decimal {flags} (no_digit t place m is ends names) n room =
     ∙ ap₂ stop (sym names) (sym is)
 stuck_decimal (too_large v t place m reads above names) n room = decimal_complete reads n room ∙ rw (lt-ltb greatest_number v above, names) refl
 
--- a decimal goes forward
+-- reading a decimal never goes back
 pub decimal_shorter : {flags : Flags} {t rest : Text} {v : ℕ} → ReadsDecimal flags t v rest → length rest ≤ length t
 decimal_shorter (pattern.decimal v t behind digits white rest r some w value) = omega (arith, each_shorter r, each_shorter w, skip_white_shorter t)

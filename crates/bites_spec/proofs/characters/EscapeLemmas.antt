@@ -1,4 +1,4 @@
--- Escapes: what the function answers, the relations say.
+-- What the reader returns for an escape, the grammar's relations read.
 use Rattle.std.proofs.Common.{◌≡◌, ℕ, zero, suc, ◌<◌, ◌≤◌, Bool, true, false, ◌==◌, [], ◌∷◌, ◌++◌, length, refl, sym, ap, ◌∙◌, subst, ⊎_elim, arith, ◌⊎◌, Option, Some, None, Ok, Err, eqb-true, true≢false}
 use Rattle.std.specs.Prelude.{codes, unwrap_or, option_map, if◌then◌else◌}
 use Rattle.std.proofs.lemmas.Option.{none-some}
@@ -17,12 +17,12 @@ use Rattle.bites_spec.specs.Reader as reading
 use Rattle.bites_spec.specs.Reader.{ReadResult, Stop, answer, stop, choose, and_then, each, exactly, between_digits, scalar, closed_hexadecimal, in_braces, hexadecimal}
 use Rattle.bites_spec.proofs.characters.EachLemmas.{skip_shorter, each_sound}
 
--- an answer is a reading, or a place where reading stops
+-- a result is a reading, or a place where reading stops
 abbrev pub Means : {A : Type 0} → (A → Text → Type 0) → (Message → Text → Type 0) → ReadResult A → Type 0
 Means R S (Ok x) = R x.0 x.1
 Means R S (Err e) = S e.message e.place
 
--- a digit more in front
+-- one digit more before the others
 one_more : (k c : ℕ) (flags : Flags) (t next : Text) (a : ReadResult Text) → next ≡ skip flags t → is_hex_digit c ≡ true →
     Means (ReadsExactly flags is_hex_digit (suc k) next) (StuckExactly flags (suc k) next) a →
     Means (ReadsExactly flags is_hex_digit (suc (suc k)) (c ∷ t)) (StuckExactly flags (suc (suc k)) (c ∷ t))
@@ -84,7 +84,7 @@ braces_mean flags k t next digits (d ∷ rest) is r =
     ⊎_elim (λ b. rw b (closed_means flags k d t next digits rest is (eqb-true d right_brace b) r))
     (λ b. rw b (stuck.strange_in_braces d t next digits rest _ _ is r refl b refl)) (cases_Bool (d == right_brace))
 
--- behind x, u or U and a gap
+-- what the function returns after x, u or U and a gap, the relation reads
 pub hexadecimal_means : (n : ℕ) (flags : Flags) (k : ℕ) (t : Text) → length t ≤ n →
     Means (ReadsScalar flags (suc k) t) (StuckHexadecimal flags (suc k) t) (hexadecimal n flags (suc k) t)
 hexadecimal_means n flags k [] room = stuck.ends_at_once [] [] _ refl refl refl
@@ -94,7 +94,7 @@ hexadecimal_means n flags k (c ∷ t) room =
     (each_sound n flags is_hex_digit (skip flags t) (omega (arith, room, skip_shorter flags t)))))
     (λ b. rw b (fixed_means flags (suc k) c t (exactly (suc k) flags (c ∷ t)) b (exactly_means k c flags t))) (cases_Bool (c == left_brace))
 
--- what the function answers to an escape: from its backslash on
+-- what a result for an escape claims of the relation, from the backslash on
 abbrev EscapeMeans : Flags → Text → ReadResult Meaning → Type 0
 EscapeMeans flags t = Means (ReadsEscape flags t) (StuckEscape flags t)
 
@@ -146,7 +146,7 @@ boundary_means n flags t (c ∷ next) room is =
 some_injective : {a b : Meaning} → Some a ≡ Some b → a ≡ b
 some_injective {a} {b} e = ap (λ o. unwrap_or o a) e
 
--- one character behind the backslash
+-- a character that means something alone makes an escape after a backslash
 meaning_reads : (flags : Flags) (c : ℕ) (t : Text) (meaning : Meaning) → reading.meaning_of c ≡ Some meaning → ReadsEscape flags (backslash ∷ c ∷ t) meaning t
 meaning_reads flags c t meaning means = by_control (control_of c) refl means
   where
@@ -177,7 +177,7 @@ meaning_reads flags c t meaning means = by_control (control_of c) refl means
 no_some : {A : Type 0} {x : A} → Some x ≡ None → ⊥
 no_some {x = x} e = none-some x (sym e)
 
--- a character that means nothing alone, writes no number and is no b begins no escape
+-- a character that means nothing alone, opens no number and is no b begins no escape
 begins_nothing : (c : ℕ) → reading.meaning_of c ≡ None → digits_of c ≡ None → (c == 98) ≡ false → begins_escape c ≡ false
 begins_nothing c nothing no_digits other = by_control (control_of c) refl nothing
   where
@@ -234,12 +234,12 @@ simple_means n flags c t None (Some (suc k)) room means digits digit property ot
 simple_means n flags c t None None room means digits digit property other =
     stuck.strange c _ t _ _ refl digit property (begins_nothing c means digits other) refl refl
 
--- a fact about a choice, from one about each side
+-- a property of a choice holds if it holds of each side
 pub either_side : {A : Type 0} (P : A → Type 0) (b : Bool) (f g : Unit {0} → A) → (b ≡ true → P (f tt)) → (b ≡ false → P (g tt)) → P (choose b f g)
 either_side P true f g first second = first refl
 either_side P false f g first second = second refl
 
--- what the function answers to an escape, the relations say
+-- what the function returns for an escape, the relation reads
 pub escape_means : (n : ℕ) (flags : Flags) (t : Text) → length t ≤ n → EscapeMeans flags (backslash ∷ t) (reading.escape n flags t)
 escape_means n flags [] room = stuck.ends _ _ _ refl refl refl
 escape_means n flags (c ∷ t) room =

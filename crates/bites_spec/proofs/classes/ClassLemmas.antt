@@ -1,4 +1,4 @@
--- Each set has a list of canonical ranges, and it depends on its scalar values alone.
+-- Each set has a list of canonical ranges, which depends on its scalar values alone.
 use Rattle.std.proofs.Common.{◌≡◌, ℕ, zero, suc, ◌+◌, ◌<◌, ◌≤◌, inl, inr, Bool, true, false, ◌&&◌, ◌||◌, List, [], ◌∷◌, ◌++◌, refl, sym, ap, ◌∙◌, arith, eq-eqb, ne_eqb, le-leb, true≢false}
 use Rattle.std.proofs.lemmas.Bool.{lt-leb, cases_eq, cases_order, and_parts, cases_Bool}
 use Rattle.std.proofs.lemmas.List.Folds.{list_any-append}
@@ -8,12 +8,12 @@ use Rattle.bites_spec.specs.RangesOf.{with_front, ranges_from, ranges_of, Ranges
 use Rattle.bites_spec.specs.GrammarLaws.{ListsAll}
 use Rattle.bites_spec.proofs.classes.RangeLemmas.{is_range, none_below, scalar_within, following_within, in_first, lists_once}
 
--- the first range begins no lower
+-- the first range, if there is one, begins no lower than the number
 abbrev pub StartsFrom : ℕ → List Range → Type 0
 StartsFrom c [] = Unit {0}
 StartsFrom c (r ∷ ranges) = c ≤ r.0
 
--- a first range that begins lower
+-- the first range may begin at any scalar value up to its end
 pub with_start : (c : ℕ) (r : Range) (ranges : List Range) → is_scalar c ≡ true → c ≤ r.1 → AreCanonical (r ∷ ranges) → AreCanonical ((c, r.1) ∷ ranges)
 with_start c r [] scalar low g = (scalar, g.1, low)
 with_start c r (s ∷ ranges) scalar low g = ((scalar, g.0.1, low), g.1, g.2)
@@ -59,7 +59,7 @@ behind_front c (r ∷ ranges) scalar d is_scalar low = elim (cases_eq (following
   | inr n ↦ rw (ne_eqb (following c) r.0 n, not_in_single c d low) refl
 ]
 
--- below where the ranges begin there is nothing
+-- no character below the first range is in the list
 pub none_before : (n c : ℕ) (ranges : List Range) → AreCanonical ranges → StartsFrom n ranges → c < n → in_ranges ranges c ≡ false
 none_before n c [] g from low = refl
 none_before n c (r ∷ ranges) g from low = none_below r ranges g c (omega (arith, from, low))
@@ -69,12 +69,12 @@ pub starts_lower : (m n : ℕ) (ranges : List Range) → m ≤ n → StartsFrom 
 starts_lower m n [] low from = tt
 starts_lower m n (r ∷ ranges) low from = omega (arith, low, from)
 
--- a range before others that do not touch it
+-- a range that does not touch the ranges after it can stand before them
 pub put_before : (r : Range) (n : ℕ) (ranges : List Range) → IsRange r → following r.1 < n → AreCanonical ranges → StartsFrom n ranges → AreCanonical (r ∷ ranges)
 put_before r n [] is gap g from = is
 put_before r n (s ∷ ranges) is gap g from = (is, omega (arith, gap, from), g)
 
--- behind a range the others begin above the character that follows it
+-- the ranges after the first begin above the character that follows the first
 pub starts_behind : (r : Range) (ranges : List Range) → AreCanonical (r ∷ ranges) → StartsFrom (following r.1) ranges
 starts_behind r [] g = tt
 starts_behind r (s ∷ ranges) g = omega (arith, g.1)
@@ -133,11 +133,11 @@ ranges_of_list set =
 pub lists_all : ListsAll
 lists_all set = (ranges_of set, ranges_of_list set)
 
--- what lists a set are its canonical ranges
+-- each canonical list of a set is its canonical ranges
 pub lists_are_ranges_of : (set : Set) (ranges : List Range) → Lists ranges set → ranges ≡ ranges_of set
 lists_are_ranges_of set ranges l = lists_once set ranges (ranges_of set) l (ranges_of_list set)
 
--- a list of a set lists each set with the same scalar values
+-- a canonical list of a set also lists each set with the same scalar values
 pub lists_same : (a b : Set) (ranges : List Range) → ((c : ℕ) → is_scalar c ≡ true → a c ≡ b c) → Lists ranges a → Lists ranges b
 lists_same a b ranges same l = record { canonical = l.canonical; same = λ c scalar. l.same c scalar ∙ same c scalar }
 
@@ -145,7 +145,7 @@ lists_same a b ranges same l = record { canonical = l.canonical; same = λ c sca
 pub ranges_of_same : (a b : Set) → ((c : ℕ) → is_scalar c ≡ true → a c ≡ b c) → ranges_of a ≡ ranges_of b
 ranges_of_same a b same = lists_are_ranges_of b (ranges_of a) (lists_same a b (ranges_of a) same (ranges_of_list a))
 
--- what lies in two lists, one behind the other
+-- a list joined of two contains what either contains
 pub in_ranges-append : (a b : List Range) (c : ℕ) → in_ranges (a ++ b) c ≡ (in_ranges a c || in_ranges b c)
 in_ranges-append a b c = list_any-append (λ r. in_range r c) a b
 
@@ -153,6 +153,6 @@ or_false : (b : Bool) → (b || false) ≡ b
 or_false true = refl
 or_false false = refl
 
--- what lies in a list with one range more
+-- a list with one range more contains what the list or the range contains
 pub in_ranges-push : (ranges : List Range) (r : Range) (c : ℕ) → in_ranges (ranges ++ r ∷ []) c ≡ (in_ranges ranges c || in_range r c)
 in_ranges-push ranges r c = in_ranges-append ranges (r ∷ []) c ∙ ap (λ b. in_ranges ranges c || b) (or_false (in_range r c))

@@ -14,39 +14,39 @@ pub is_range : (r : Range) (ranges : List Range) → AreCanonical (r ∷ ranges)
 is_range r [] g = g
 is_range r (s ∷ ranges) g = g.0
 
--- below its first range a list has nothing
+-- a list contains nothing below its first range
 pub none_below : (r : Range) (ranges : List Range) → AreCanonical (r ∷ ranges) → (c : ℕ) → c < r.0 → in_ranges (r ∷ ranges) c ≡ false
 none_below r [] g c low = rw (lt-leb r.0 c low) refl
 none_below r (s ∷ ranges) g c low =
     rw (lt-leb r.0 c low, none_below s ranges g.2 c (omega (arith, low, g.0.2, g.1, after_following r.1))) refl
 
--- up to the value behind the first range, the others have nothing
+-- up to the value that follows the first range, the other ranges contain nothing
 pub behind : (r : Range) (ranges : List Range) → AreCanonical (r ∷ ranges) → (c : ℕ) → c ≤ following r.1 → in_ranges ranges c ≡ false
 behind r [] g c low = refl
 behind r (s ∷ ranges) g c low = none_below s ranges g.2 c (omega (arith, low, g.1))
 
--- the other ranges are the canonical too
+-- the ranges after the first are canonical, too
 pub tail_is_canonical : (r : Range) (ranges : List Range) → AreCanonical (r ∷ ranges) → AreCanonical ranges
 tail_is_canonical r [] g = tt
 tail_is_canonical r (s ∷ ranges) g = g.2
 
--- below the surrogates, or above them up to 10FFFF
+-- below the surrogates, or above them and at most 10FFFF
 abbrev pub Within : ℕ → Type 0
 Within c = (c < 0xD800) ⊎ ((0xE000 ≤ c) × (c ≤ 0x10_FFFF))
 
--- a scalar value is no surrogate
+-- a scalar value is no surrogate and at most 10FFFF
 pub scalar_within : (c : ℕ) → is_scalar c ≡ true → Within c
 scalar_within c e = elim (cases_lt c 0xD800) [
   | inl low ↦ inl low
   | inr high ↦ (let f = and_parts _ _ (rw (le-ltb c 0xD800 high) at e) in inr (leb-true _ _ f.0, leb-true _ _ f.1))
 ]
 
--- what is no surrogate and no more than 10FFFF is a scalar value
+-- a number that is no surrogate and at most 10FFFF is a scalar value
 pub within_scalar : (c : ℕ) → Within c → is_scalar c ≡ true
 within_scalar c (inl low) = rw (lt-ltb c 0xD800 low) refl
 within_scalar c (inr (high)) = rw (le-ltb c 0xD800 (omega (arith, high.0)), le-leb 0xE000 c high.0, le-leb c 0x10_FFFF high.1) refl
 
--- between two scalar values, the one that follows the first is a scalar value, and not above the second
+-- of two scalar values in order, the character that follows the first is a scalar value and not above the second
 pub following_within : (c d : ℕ) → Within c → Within d → c < d → Within (following c) × (following c ≤ d)
 following_within c d wc wd lt = elim (cases_eq c 0xD7FF) [
   | inl e ↦ (let is : following c ≡ 0xE000 = rw (eq-eqb c 0xD7FF e) refl in elim wd [
@@ -68,7 +68,7 @@ following_within c d wc wd lt = elim (cases_eq c 0xD7FF) [
 abbrev Same : List Range → List Range → Type 0
 Same a b = (c : ℕ) → is_scalar c ≡ true → in_ranges a c ≡ in_ranges b c
 
--- what lies in the first range lies in the list
+-- a character in the first range is in the list
 pub in_first : (r : Range) (a : List Range) (c : ℕ) → r.0 ≤ c → c ≤ r.1 → in_ranges (r ∷ a) c ≡ true
 in_first r a c low high = rw (le-leb r.0 c low, le-leb c r.1 high) refl
 

@@ -1,4 +1,4 @@
--- Patterns read by the function, with trees and faults that another model of the grammar gave.
+-- What the reader returns for small patterns: the trees and faults that another model of the grammar gave.
 use Rattle.std.specs.Char.{encode_utf8}
 use Rattle.std.proofs.Common.{◌≡◌, ℕ, zero, suc, ◌+◌, ◌-◌, true, false, List, [], ◌∷◌, Option, Some, None, Ok, Err, refl}
 use Rattle.std.specs.Prelude.{codes}
@@ -11,7 +11,7 @@ use Rattle.bites_spec.specs.Tree.{Tree}
 use Rattle.bites_spec.specs.Pattern.{skip_blank, skip_white}
 use Rattle.bites_spec.specs.Reader.{read, inner}
 
--- the canonical ranges of a set that has all characters past ASCII or none of them
+-- the canonical ranges of a set that contains all characters past ASCII or none of them
 abbrev from : ℕ → ℕ → Option ℕ → Set → List Range
 from zero c (Some first) set = elim (set 128) [ true ↦ (first, 0x10FFFF) ∷ [] | false ↦ (first, c - 1) ∷ [] ]
 from zero c None set = elim (set 128) [ true ↦ (128, 0x10FFFF) ∷ [] | false ↦ [] ]

@@ -1,4 +1,4 @@
--- A search of a program without runs makes as many looks as the bound allows.
+-- A search of a program without runs takes as many looks as the bound allows.
 use Rattle.std.proofs.Common.{◌≡◌, ℕ, zero, suc, ◌+◌, ◌*◌, ◌<◌, ◌≤◌, ◌⊎◌, Bool, true, false, cond, List, [], ◌∷◌, length, map, refl, sym, ap, subst, inl, inr, ⊎_elim, true≢false, arith}
 use Rattle.std.specs.Prelude.{nat_le}
 use Rattle.std.proofs.lemmas.List.{length-map}
@@ -25,7 +25,7 @@ length-numbers : (is : List ℕ) → length (numbers is) ≡ 2 * length is
 length-numbers [] = omega arith
 length-numbers (i ∷ is) = let more = length-numbers is in omega (arith, more)
 
--- each of them is the number of a configuration at one of the places
+-- each of the numbers is that of a configuration at one of the places
 numbered : (is : List ℕ) (k : ℕ) → Among (numbers is) k → (i : ℕ) × Among is i × ((k ≡ number (at 0 i)) ⊎ (k ≡ number (at 1 i)))
 numbered [] k h = absurd h
 numbered (i ∷ is) k (inl here) = (i, inl refl, inl (sym here))

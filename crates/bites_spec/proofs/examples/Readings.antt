@@ -1,4 +1,4 @@
--- Small patterns and their trees.
+-- Small patterns, and the trees as which the grammar reads them.
 use Rattle.std.proofs.Common.{◌≡◌, ℕ, Bool, true, false, List, [], ◌∷◌, Some, None, refl, inr, arith, ◌++◌, ◌||◌, subst}
 use Rattle.std.specs.Prelude.{codes}
 use Rattle.std.specs.Char.{is_whitespace, is_ascii_digit, encode_utf8}
@@ -45,7 +45,7 @@ pub one_literal : (front : Front) (c : ℕ) (rest : Text) (nodes : List Tree) �
     ReadsItem front (c ∷ rest) nodes (nodes ++ grammar.literal_of front.flags c ∷ []) front rest
 one_literal front c rest nodes plain = atom front front (c ∷ rest) rest nodes _ _ (literal c _ rest _ refl plain refl) refl refl
 
--- the table of alphabetic characters can't be opened here, so that x is one is a premise
+-- the table of alphabetic characters cannot be unfolded here, so a premise says that x is alphabetic
 named_group : is_alphabetic 120 ≡ true → Reads (codes "(?<x>a)") no_flags (tree.group 1 (Some (codes "x")) (char 97))
 unfolding encode_utf8
 named_group alphabetic = record {
@@ -76,7 +76,7 @@ folded = record {
   is_choice = refl;
 }
 
--- one digit, and behind it another character
+-- one digit, and after it another character
 pub one_digit : (d c n : ℕ) (t : Text) → is_ascii_digit d ≡ true → is_ascii_digit c ≡ false → is_whitespace d ≡ false → is_whitespace c ≡ false → n ≡ number 10 (d ∷ []) →
     pattern.ReadsDecimal no_flags (d ∷ c ∷ t) n (c ∷ t)
 unfolding skip_white
@@ -130,7 +130,7 @@ a_to_c = record {
   is_choice = refl;
 }
 
--- measures of readings
+-- the greatest count, the open groups and the group numbers of readings
 counted_count : count_in_choice (counted.reads) ≡ 3
 unfolding counted one_literal
 counted_count = refl

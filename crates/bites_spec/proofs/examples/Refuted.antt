@@ -1,4 +1,4 @@
--- Words of the promises are false of wrong values.
+-- The definitions in the promises are false of wrong values.
 use Rattle.std.proofs.Common.{◌≡◌, ℕ, suc, ◌<◌, ◌≤◌, ◌⊎◌, List, [], ◌∷◌, ◌++◌, length, Option, Some, None, IsSome, refl, sym, ap, ◌∙◌, subst, inl, inr, arith, codes, true≢false, ⊎_elim, eqb-true}
 use Rattle.std.specs.Prelude.{◌==◌, if◌then◌else◌, is_some}
 use Rattle.std.proofs.lemmas.Bool.{cases_Bool}
@@ -166,7 +166,7 @@ appends_refuse = (
 no_span : (o : Option Span) → o ≡ None → IsSome o → ⊥
 no_span o e h = true≢false (sym h ∙ ap is_some e)
 
--- two groups that participate are both group 0
+-- two groups that participate would both be group 0
 pub participants_refuse : ParticipantsRefuse
 participants_refuse (ks, len, apart, some) = two ks len apart some
   where

@@ -1,4 +1,4 @@
--- What the definitions give on small patterns and haystacks.
+-- What the definitions give on small patterns, programs and haystacks.
 use Rattle.std.proofs.Common.{◌≡◌, ℕ, zero, suc, true, false, List, [], ◌∷◌, map, Option, Some, None, option_map, refl, inr, ◌⊎◌}
 use Rattle.std.specs.Prelude.{codes, count_by, ◌==◌, nat_lt, if◌then◌else◌}
 use Rattle.std.proofs.Common.{◌≤◌, ◌<◌, arith, ⊎_elim, ne_eqb, le-ltb as le-nltb}
@@ -18,7 +18,7 @@ use Rattle.bites_spec.specs.Program as program
 use Rattle.bites_spec.specs.Program.{State, Program}
 use Rattle.bites_spec.specs.Run.{first_run, first_run_from, slots}
 
--- pieces: E2 98 is begun and broken off, F0 begins another; FF begins none
+-- pieces: E2 98 begins a character and breaks off, F0 begins another; FF begins none
 pieces_of_broken : (piece (0xE2 ∷ 0x98 ∷ 0xF0 ∷ []) 0).len ≡ 2
 unfolding piece front_piece
 pieces_of_broken = refl
@@ -148,13 +148,13 @@ replaced_two = refl
 replaced_none : replaced (codes "banana") 0 [] [] ≡ codes "banana"
 replaced_none = refl
 
--- which trees are plain, and which are nullable
+-- some trees are plain, and others are not
 plain_ones : (is_plain (repetition 0 None true a_star) ≡ false) × (is_plain (repetition 0 (Some 3) true a_star) ≡ true)
     × (is_plain a_or_b_groups ≡ true)
 unfolding a_star a_or_b_groups
 plain_ones = (refl, refl, refl)
 
--- an empty cycle with no way out: never a match
+-- an empty cycle without an exit has no match
 cycle : Program
 cycle = record { states = program.splits (0 ∷ 1 ∷ []) false ∷ program.goto 0 None ∷ []; start = 0; slots = 2 }
 

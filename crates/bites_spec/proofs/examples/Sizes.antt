@@ -1,4 +1,4 @@
--- Weights of small trees.
+-- Sizes and group counts of small trees.
 use Rattle.std.proofs.Common.{◌≡◌, true, [], ◌∷◌, Some, None, refl}
 use Rattle.std.specs.Prelude.{codes}
 use Rattle.bites_spec.specs.Tree.{empty, char, class, repetition, group, sequence, alternation, no_tree, tree_and, repetition_of, captures_len}
@@ -34,7 +34,7 @@ surrogate_neighbours = refl
 named_group : program_size (group 1 (Some (codes "y")) (char 97)) ≡ 229
 named_group = refl
 
--- (?<x>a){0}(b), with the groups left in the tree and with those that the pattern opens
+-- (?<x>a){0}(b): by the groups left in the tree; below it, by those that the pattern opens
 dropped_by_left : program_size (sequence (tree_and empty (tree_and (group 2 None (char 98)) no_tree))) ≡ 272
 dropped_by_left = refl
 

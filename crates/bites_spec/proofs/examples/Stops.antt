@@ -1,4 +1,4 @@
--- Small patterns that are not read, and where.
+-- Small patterns that are not read, and where reading stops.
 use Rattle.std.proofs.Common.{false, [], None, refl, arith, ◌≤◌}
 use Rattle.std.specs.Prelude.{codes}
 use Rattle.bites_spec.specs.Message.{nothing_to_repeat, unopened_group, unclosed_group, unclosed_after_member, unclosed_comma, decimal_without_digits, unfinished_boundary, rank}
@@ -46,10 +46,10 @@ count_not_closed =
     (in_count _ _ _ _ _ _ (omega arith)
     (operator_fault.ends_after_comma 5 _ (codes "5,") [] _ _ refl (one_digit 53 44 5 [] refl refl refl refl refl) refl refl refl))))
 
--- at the same place stands the want of a digit, and the comma counts
+-- at the same place a digit is missing, too, but the message about the comma comes first
 comma_before_digits : rank unclosed_comma ≤ rank decimal_without_digits
 comma_before_digits = omega arith
 
--- \b{ and the end
+-- \b{ at the end of the pattern
 boundary_not_closed : IsStuck (codes "\\b{") no_flags 50 unfinished_boundary []
 boundary_not_closed = in_first _ _ _ _ _ (here _ _ _ _ _ _ (in_escape _ _ _ _ _ _ (escape_fault.boundary_begins _ [] _ _ refl refl refl refl)))

@@ -1,4 +1,4 @@
--- What some templates stand for.
+-- What small templates stand for.
 use Rattle.std.proofs.Common.{◌≡◌, ◌≢◌, ℕ, Bool, true, false, not, ◌&&◌, List, [], ◌∷◌, ◌++◌, map, Option, Some, None, refl, sym, ◌∙◌, subst, inr, ⊎_elim, true≢false, arith, eq-eqb}
 use Rattle.std.proofs.lemmas.Bool.{and_parts}
 use Rattle.std.specs.Prelude.{codes, ◌==◌, if◌then◌else◌}
@@ -21,7 +21,7 @@ plains any (b ∷ bytes) rest parts e cuts =
     let both = and_parts (not (b == 36)) (list_all (λ b. not (b == 36)) bytes) e in
     plain b (bytes ++ rest) (map byte bytes ++ parts) (differs b 36 both.0) (plains any bytes rest parts both.1 cuts)
 
--- no such byte, no name in braces
+-- without a closing brace there is no name in braces
 no_brace : (rest word tail : List ℕ) → list_all (λ b. not (b == 125)) rest ≡ true → rest ≡ word ++ 125 ∷ tail → ⊥
 no_brace rest word tail e is = in_word word (subst (λ bs. list_all (λ b. not (b == 125)) bs ≡ true) is e)
   where

@@ -1,4 +1,4 @@
--- The first characters of items, and the numbers of groups, which grow.
+-- Operators in braces begin with a brace, groups with a parenthesis, and the count of groups never falls.
 use Rattle.std.proofs.Common.{◌≡◌, ℕ, ◌≤◌, List, ◌∷◌, ap, arith}
 use Rattle.bites_spec.specs.Message.{Message}
 use Rattle.bites_spec.specs.Tree.{Tree}
@@ -16,7 +16,7 @@ use Rattle.bites_spec.specs.Grammar.{ReadsItem, ReadsSequence, ReadsChoice}
 abbrev pub Begins : ℕ → Text → Type 0
 Begins c t = (next : Text) × (t ≡ c ∷ next)
 
--- an operator in braces that stops begins with its brace
+-- an operator in braces with a fault begins with its brace
 pub stuck_count_begins : {flags : Flags} {t place : Text} {m : Message} → StuckCount flags t m place → Begins left_brace t
 stuck_count_begins (count_fault.ends_at_once t next place m is e at names) = (next, is)
 stuck_count_begins (count_fault.in_min t next place m is s) = (next, is)
@@ -34,7 +34,7 @@ opening_begins (group.number_only t next inside opening inner is at e o i) = (ne
 opening_begins (group.named t next begun name inside opening inner is l b r o i) = (next, is)
 opening_begins (group.with_flags t next marks run inside opening inner is e r o i) = (next, is)
 
--- as does one that stops
+-- as does an opening with a fault
 pub stuck_opening_begins : {front : Front} {t place : Text} {m : Message} → StuckOpening front t m place → Begins left_parenthesis t
 stuck_opening_begins (group_fault.looks_around t next place m is at e names) = (next, is)
 stuck_opening_begins (group_fault.too_many t next place m is at e more names) = (next, is)
@@ -42,14 +42,14 @@ stuck_opening_begins (group_fault.too_many_named t next place m is b more names)
 stuck_opening_begins (group_fault.in_name t next begun place m is b s) = (next, is)
 stuck_opening_begins (group_fault.in_flags t next marks place m is e n s) = (next, is)
 
--- an opening has one number more, or as many
+-- an opening adds one group to the count, or none
 pub opening_groups : {front inner : Front} {t inside : Text} {opening : Opening} → ReadsOpening front t opening inner inside → front.groups ≤ inner.groups
 opening_groups (group.number_only t next inside opening inner is at e o i) = omega (arith, ap (λ f. f.groups) i)
 opening_groups (group.named t next begun name inside opening inner is l b r o i) = omega (arith, ap (λ f. f.groups) i)
 opening_groups (group.with_flags t next marks run inside opening inner is e r o i) = omega (arith, ap (λ f. f.groups) i)
 
 mutual
-  -- the numbers of groups grow
+  -- the count of groups never falls
   pub choice_groups : {front behind : Front} {t rest : Text} {branches : List Tree} → ReadsChoice front t branches behind rest → front.groups ≤ behind.groups
   choice_groups (grammar.one front behind t rest nodes branches s is) = sequence_groups s
   choice_groups (grammar.several front middle behind t more rest nodes others branches s c is) = omega (arith, sequence_groups s, choice_groups c)

@@ -1,4 +1,4 @@
--- Where the relations stop, the reader stops, no later.
+-- Where the grammar's relations stop in a choice, the reader stops, no later.
 use Rattle.std.proofs.Common.{◌≡◌, ℕ, zero, suc, ◌+◌, ◌<◌, ◌≤◌, ◌⊎◌, true, false, List, [], ◌∷◌, ◌++◌, length, refl, sym, ap, ◌∙◌, subst, inl, inr, ⊎_elim, arith, Ok, Err, Result, add-one, ltb-false, ◌==◌, eqb-true, true≢false}
 use Rattle.std.specs.Prelude.{codes, nat_lt}
 use Rattle.std.proofs.lemmas.Bool.{cases_lt, cases_Bool}
@@ -31,7 +31,7 @@ use Rattle.bites_spec.proofs.grammar.ChoiceBegins.{stuck_count_begins, stuck_ope
 use Rattle.bites_spec.proofs.grammar.ChoiceSteps.{operator_stop, inner_step}
 use Rattle.bites_spec.proofs.grammar.ChoiceLeads.{GoesOn, sequence_leads, item_leads}
 
--- the answer is a stop, no later than at this place by this message
+-- the result is a stop that comes no later than this message at this place
 pub record StopsFirst {A : Type 0} (m : Message) (place : Text) (a : Result A Stop) : Type 0 where
   pub at : Stop
   pub is : a ≡ Err at
@@ -48,12 +48,12 @@ first_along a b same s = record { at = s.at; is = same ∙ s.is; first = s.first
 stops_at : {A : Type 0} (m k : Message) (place at : Text) (a : Result A Stop) → a ≡ stop k at → k ≡ m → place ≡ at → StopsFirst m place a
 stops_at m k place at a is names same = record { at = record { message = k; place = at }; is = is; first = inr (ap length same, omega (arith, ap rank names)) }
 
--- a stop that comes first where it stands, before all behind it
+-- a stop comes first if the other fault stands after it, or at the same place with a message of no smaller rank
 of_least_rank : (k m : Message) (place at : Text) → length place ≤ length at → (length place ≡ length at → rank k ≤ rank m) → ComesFirst k at m place
 of_least_rank k m place at within ranks =
     ⊎_elim (λ (less : length place < length at). inl less) (λ (more : length at ≤ length place). inr (omega arith, ranks (omega arith))) (cases_lt (length place) (length at))
 
--- a fault stands behind t, or at t with a message of no small rank
+-- the fault stands after t, or no earlier than t with a message of rank at least 4
 pub data Reaches (t : Text) (m : Message) (place : Text) : Type 0 where
   behind : length place < length t → Reaches t m place
   here : length place ≤ length t → 4 ≤ rank m → Reaches t m place
@@ -94,11 +94,11 @@ mutual
   item_reaches (fault.in_group depth front inner t inside place nodes opening m r c) =
       behind (omega (arith, opening_shorter r, reaches_within (choice_reaches c)))
 
--- a stop goes on through what comes behind
+-- a stop remains a stop whatever was to follow
 through : {A B : Type 0} {m : Message} {place : Text} (a : ReadResult A) (next : A → Text → Result B Stop) → StopsFirst m place a → StopsFirst m place (and_then a next)
 through a next s = record { at = s.at; is = ap (λ x. and_then x next) s.is; first = s.first }
 
--- behind what leads there, or stops at a limit before
+-- the reader stops where it stops after what leads there, or at a limit before
 first_then : {nest_limit depth opens counts groups : ℕ} {rest place : Text} {m : Message} (a b : Result ReadChoice Stop) → GoesOn nest_limit depth opens counts groups rest a b →
     StopsFirst m place b → length place ≤ length rest → StopsFirst m place a
 first_then a b (inl on) s within = first_along a b on s
@@ -194,7 +194,7 @@ module _ (list_of : Set → List Range) (lists : (set : Set) → Lists (list_of 
         let f = stops_first m place (reading.opened front (skip front.flags b.0)) (groups.opened_first s b.0 b.1) in
         first_along (item t) _ (ap item b.1) (through (reading.opened front (skip front.flags b.0)) _ f)
 
-    -- behind a group's opening: too many groups, too deep, or what is inside
+    -- in a group: too many groups, too much nesting, or a fault inside
     group_first : {t inside : Text} {inner_front : Front} {opening : Opening} (m : Message) (place : Text) → ReadsOpening front t opening inner_front inside →
         Reaches inside m place → (depth + 1 ≤ nest_limit → StopsFirst m place (go (suc depth) inner_front [] [] inside)) → StopsFirst m place (item t)
     group_first {t} {inside} {inner_front} {opening} m place r reaches deeper =

@@ -1,4 +1,4 @@
--- What the relations read, the reader answers, or it stops at a limit.
+-- The reader reads each choice that the grammar's relations read, or it stops at a limit.
 use Rattle.std.proofs.Common.{◌≡◌, ℕ, zero, suc, ◌+◌, ◌<◌, ◌≤◌, ◌⊎◌, Bool, List, [], ◌∷◌, ◌++◌, length, max, refl, sym, ap, ap₂, ◌∙◌, inl, inr, ⊎_elim, arith, Option, Some, None, Err, Result, append_assoc, ltb-true, length-append}
 use Rattle.std.specs.Prelude.{nat_lt}
 use Rattle.bites_spec.specs.Message as message
@@ -51,20 +51,20 @@ passes_outside (by_nesting is more) = by_nesting is (omega arith)
 passes_outside (by_count is more) = by_count is more
 passes_outside (by_number is more) = by_number is more
 
--- the answer is a stop before this place, at a limit that is passed
+-- the result is a stop before this place, at a limit that is passed
 pub record StopsAtLimit (nest_limit depth opens counts groups : ℕ) (rest : Text) (a : Result ReadChoice Stop) : Type 0 where
   pub at : Stop
   pub is : a ≡ Err at
   pub before : length rest < length at.place
   pub passes : Passes nest_limit depth opens counts groups at.message
 
--- a stop within a longer piece of reading
+-- a stop within some reading is one within a longer reading
 limit_more : {nest_limit depth opens counts groups o c g : ℕ} {rest end : Text} {a b : Result ReadChoice Stop} → StopsAtLimit nest_limit depth opens counts groups rest b →
     a ≡ b → opens ≤ o → counts ≤ c → groups ≤ g → length end ≤ length rest → StopsAtLimit nest_limit depth o c g end a
 limit_more s same x y z shorter =
     record { at = s.at; is = same ∙ s.is; before = omega (arith, s.before); passes = passes_more x y z s.passes }
 
--- the answer goes on as this one, or is a stop at a limit
+-- the result is what the reader returns from here on, or a stop at a limit
 abbrev pub GoesOn : ℕ → ℕ → ℕ → ℕ → ℕ → Text → Result ReadChoice Stop → Result ReadChoice Stop → Type 0
 GoesOn nest_limit depth opens counts groups rest a b = (a ≡ b) ⊎ StopsAtLimit nest_limit depth opens counts groups rest a
 
@@ -73,13 +73,13 @@ goes_along : {nest_limit depth opens counts groups : ℕ} {rest : Text} (a b c :
 goes_along a b c same (inl on) = inl (same ∙ on)
 goes_along a b c same (inr s) = inr (limit_more s same (omega arith) (omega arith) (omega arith) (omega arith))
 
--- an answer within a longer piece of reading
+-- a result within some reading is one within a longer reading
 goes_more : {nest_limit depth opens counts groups o c g : ℕ} {rest end : Text} (a b d : Result ReadChoice Stop) → GoesOn nest_limit depth opens counts groups rest a b → b ≡ d →
     opens ≤ o → counts ≤ c → groups ≤ g → length end ≤ length rest → GoesOn nest_limit depth o c g end a d
 goes_more a b d (inl on) same x y z shorter = inl (on ∙ same)
 goes_more a b d (inr s) same x y z shorter = inr (limit_more s refl x y z shorter)
 
--- two pieces of reading, one behind the other
+-- two readings, one after the other
 goes_then : {nest_limit depth opens counts groups o c g : ℕ} {rest end : Text} (a b d : Result ReadChoice Stop) → GoesOn nest_limit depth opens counts groups rest a b →
     GoesOn nest_limit depth o c g end b d → groups ≤ g → length end ≤ length rest → GoesOn nest_limit depth (max opens o) (max counts c) g end a d
 goes_then {depth = depth} a b d (inl on) second grow shorter =
@@ -118,7 +118,7 @@ module _ (list_of : Set → List Range) (lists : (set : Set) → Lists (list_of 
         ∙ ap (λ a. and_then a (λ set u. go depth front branches (nodes ++ tree.class (list_of set) ∷ []) u)) led.1
         ∙ same_node led.0 ranges node rest led.2 same
 
-    -- an atom, of which the reader makes the same node
+    -- the reader makes the same node of each atom
     pub atom_leads : {t rest : Text} {node : Tree} → ReadsAtom front.flags t node rest → length t ≤ n → item t ≡ go depth front branches (nodes ++ node ∷ []) rest
     atom_leads (grammar.literal c t rest node is plain same) fits =
         ap item is ∙ literal_step list_of nest_limit go n depth front branches nodes c rest plain ∙ with_node _ node rest same
@@ -131,7 +131,7 @@ module _ (list_of : Set → List Range) (lists : (set : Set) → Lists (list_of 
         let b = escape_begins r in escape_leads _ t b.0 rest r b.1 fits ∙ same_node set ranges node rest l same
     atom_leads (grammar.escaped_assertion l t rest node r same) fits = let b = escape_begins r in escape_leads _ t b.0 rest r b.1 fits ∙ with_node _ node rest same
 
-    -- an operator behind a node
+    -- an operator after a node
     plain_leads : (t : Text) {next rest : Text} {min : ℕ} {most : Option ℕ} {greedy mark : Bool} (before : List Tree) (last : Tree) (m : Message) (u : Text) (least : ℕ) (greatest : Option ℕ) →
         nodes ≡ before ++ last ∷ [] → item t ≡ at_operator list_of nest_limit go depth front branches nodes m u (plain_operator front.flags least greatest (lazy next)) →
         ReadsLazy next mark rest → min ≡ least → most ≡ greatest → greedy ≡ is_greedy front.flags mark →
@@ -177,7 +177,7 @@ module _ (list_of : Set → List Range) (lists : (set : Set) → Lists (list_of 
     operator_leads (operator.between t next more behind rest min top most mark greedy is d e l a b g) fits before last nodes_are =
         braces_lead next (operator.between t next more behind rest min top most mark greedy is d e l a b g) is fits before last nodes_are
 
-    -- what an opening parenthesis begins
+    -- a directive changes the flags for what follows
     directive_leads : {t rest : Text} {flags : Flags} → ReadsDirective front t flags rest → item t ≡ go depth (record front { flags = flags }) branches nodes rest
     directive_leads {t} {rest} {flags} d =
         ap item d.opens ∙ ap (λ a. and_then a (at_opened list_of nest_limit go depth front branches nodes)) (groups.directive_leads d d.next d.opens)
@@ -216,7 +216,7 @@ module _ (list_of : Set → List Range) (lists : (set : Set) → Lists (list_of 
       inner list_of nest_limit n depth front branches nodes rest ≡ inner list_of nest_limit n depth behind branches all rest
   same_end n depth branches front behind nodes all rest same is = ap₂ (λ f l. inner list_of nest_limit n depth f branches l rest) (sym is) (sym same)
 
-  -- at what ends it a choice is found
+  -- where a choice ends, the reader finds it
   end_found : (go : Reader) (k depth : ℕ) (front : Front) (branches nodes : List Tree) (rest : Text) → EndsChoice depth rest →
       at_item list_of nest_limit go k depth front branches nodes rest ≡ found (branches ++ sequence_of nodes ∷ []) front rest
   end_found go k zero front branches nodes rest ends =
@@ -225,7 +225,7 @@ module _ (list_of : Set → List Range) (lists : (set : Set) → Lists (list_of 
       ap (at_item list_of nest_limit go k (suc depth) front branches nodes) ends.1 ∙ ap (found (branches ++ sequence_of nodes ∷ []) front) (sym ends.1)
 
   mutual
-    -- a choice that the relations read, the reader reads, or it stops at a limit
+    -- the reader reads each choice that the relations read, or stops at a limit
     pub choice_leads : {front behind : Front} {t rest : Text} {all : List Tree} (c : ReadsChoice front t all behind rest) (n depth : ℕ) (branches : List Tree) →
         length t < n → EndsChoice depth rest →
         GoesOn nest_limit depth (open_in_choice c) (count_in_choice c) behind.groups rest (inner list_of nest_limit n depth front branches [] t)
@@ -244,7 +244,7 @@ module _ (list_of : Set → List Range) (lists : (set : Set) → Lists (list_of 
         (omega arith) (omega arith) (omega arith) (omega arith))
         (choice_groups c) (omega (arith, choice_shorter c))
 
-    -- a sequence leads the reader to what ends it
+    -- the reader reads each sequence and arrives at its end, or stops at a limit
     pub sequence_leads : {front behind : Front} {t rest : Text} {nodes all : List Tree} (s : ReadsSequence front t nodes all behind rest) (n depth : ℕ) (branches : List Tree) →
         length t < n →
         (k : ℕ) × (length rest ≤ k)
@@ -271,7 +271,7 @@ module _ (list_of : Set → List Range) (lists : (set : Set) → Lists (list_of 
               later.2 (sequence_groups s) (sequence_shorter s),
         )
 
-    -- an item leads the reader behind it
+    -- the reader reads each item and goes on after it, or stops at a limit
     pub item_leads : {front behind : Front} {t rest : Text} {nodes all : List Tree} (i : ReadsItem front t nodes all behind rest) (n depth : ℕ) (branches : List Tree) →
         length t ≤ n →
         GoesOn nest_limit depth (open_in_item i) (count_in_item i) behind.groups rest

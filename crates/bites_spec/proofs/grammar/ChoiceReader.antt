@@ -1,4 +1,4 @@
--- What the reader answers, the relations say.
+-- What the reader returns for a choice, the grammar's relations read.
 use Rattle.std.proofs.Common.{◌≡◌, ℕ, zero, suc, ◌+◌, ◌<◌, ◌≤◌, Bool, true, ◌==◌, List, [], ◌∷◌, ◌++◌, length, drop, refl, sym, ap, ◌∙◌, subst, ⊎_elim, arith, Option, Some, None, Ok, Err, Result, eqb-true, ltb-true, ltb-false, add-one}
 use Rattle.std.specs.Prelude.{codes, nat_lt}
 use Rattle.bites_spec.specs.Message as message
@@ -35,14 +35,14 @@ use Rattle.bites_spec.proofs.grammar.GroupLemmas.{opened_sound, opening_shorter}
 use Rattle.bites_spec.proofs.grammar.ChoiceShorter.{atom_shorter, item_shorter}
 use Rattle.bites_spec.proofs.grammar.ChoiceSound.{Stops, in_branch, in_later_branch, Says, Choice, adds_choice, says_item, says_bar, says_end, says_atom, says_operator}
 
--- the faults of a choice, from those of its first branch
+-- a fault of the first branch, or of a later one, is a fault of the choice
 pub stops_choice : {nest_limit depth : ℕ} {front : Front} {t place : Text} {m : Message} → Stops nest_limit depth front t [] m place →
     StuckChoice nest_limit depth front t m place
 stops_choice {depth = depth} {front = front} {t = t} {place = place} {m = m} (in_branch s) = fault.in_first depth front t place m s
 stops_choice {depth = depth} {front = front} {t = t} {place = place} {m = m} (in_later_branch all middle more s c) =
     fault.in_later depth front middle t more place all m s c
 
--- an item's fault
+-- a fault of an item is a fault of its branch
 stops_here : {nest_limit depth : ℕ} {front : Front} {t place : Text} {nodes : List Tree} {m : Message} →
     StuckItem nest_limit depth front (skip front.flags t) nodes m place → Stops nest_limit depth front t nodes m place
 stops_here {depth = depth} {front = front} {t = t} {place = place} {nodes = nodes} {m = m} s = in_branch (fault.here depth front t place nodes m s)
@@ -50,7 +50,7 @@ stops_here {depth = depth} {front = front} {t = t} {place = place} {nodes = node
 abbrev CountSays : Flags → Text → ReadResult Bounds → Type 0
 CountSays flags t = Means (λ b rest. ReadsOperator flags t b.0 b.1 b.2 rest × (most_of b.0 b.1 ≤ greatest_number)) (StuckCount flags t)
 
--- what is left open by the bar, the end and a closing parenthesis
+-- at the end of the pattern: the end of the choice, or an unclosed group
 end_says : (list_of : Set → List Range) (nest_limit depth : ℕ) (front : Front) (branches nodes : List Tree) (t : Text) → [] ≡ skip front.flags t →
     depth ≤ nest_limit → front.groups ≤ greatest_number → Says nest_limit depth front branches nodes t (at_end list_of nest_limit depth front branches nodes)
 end_says list_of nest_limit zero front branches nodes t at room groups = says_end at refl refl room groups
@@ -64,13 +64,13 @@ closing_says list_of nest_limit zero front branches nodes t more at room groups 
     stops_here (fault.unopened 0 front (skip front.flags t) more (right_parenthesis ∷ more) nodes _ (sym at) refl at refl)
 closing_says list_of nest_limit (suc depth) front branches nodes t more at room groups = says_end at refl (more, refl) room groups
 
--- the reader, where it is called again, behind at least one character
+-- the recursive calls of the reader, on at least one character less
 abbrev GoSays : ℕ → ℕ → Reader → Type 0
 GoSays nest_limit n go =
     (depth : ℕ) (front : Front) (branches nodes : List Tree) (t : Text) → length t < n → depth ≤ nest_limit → front.groups ≤ greatest_number →
     Says nest_limit depth front branches nodes t (go depth front branches nodes t)
 
--- a text that is a part of another, as long as a fault of it
+-- a text after its first character, written with `drop`
 drop_one : (t more : Text) (c : ℕ) → t ≡ c ∷ more → t ≡ c ∷ drop 1 t
 drop_one t more c is = is ∙ ap (λ u. c ∷ drop 1 u) (sym is)
 
@@ -122,7 +122,7 @@ module _ (list_of : Set → List Range) (lists : (set : Set) → Lists (list_of 
     escape_says nodes (Ok x) says = meaning_says nodes x.0 x.1 says
     escape_says nodes (Err e) says = stops_here (fault.in_escape depth front (skip front.flags t) e.place nodes e.message says)
 
-    -- behind the group that is open
+    -- after the group that is open
     group_says : (nodes : List Tree) (opening : Opening) (inner_front : Front) (inside : Text) (a : Result ReadChoice Stop) →
         ReadsOpening front (skip front.flags t) opening inner_front inside → suc depth ≤ nest_limit → Says nest_limit (suc depth) inner_front [] [] inside a →
         Says nest_limit depth front branches nodes t (and_found a (behind_group list_of nest_limit go depth front branches nodes opening))
@@ -236,7 +236,7 @@ module _ (list_of : Set → List Range) (lists : (set : Set) → Lists (list_of 
         (λ b11. either_side P (c == dollar) _ _ (λ b. atom_says nodes _ u (grammar.line_end _ u _ (sym at ∙ ap (λ x. x ∷ u) (eqb-true c dollar b)) refl))
         (λ b12. atom_says nodes _ u (grammar.literal c _ u _ (sym at) (rw (b1, b2, b3, b4, b5, b6, b7, b8, b9, b10, b11, b12) refl) refl)))))))))))))
 
-  -- what the reader answers, the relations say
+  -- what the reader returns, the relations read
   pub inner_says : (n : ℕ) → GoSays nest_limit n (inner list_of nest_limit n)
   unfolding inner
   inner_says zero depth front branches nodes t fits room groups = absurd (omega arith)

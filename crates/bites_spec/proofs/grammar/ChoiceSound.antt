@@ -1,4 +1,4 @@
--- What the reader answers, the relations say: steps of the reader.
+-- Steps of the reader: if its result for what follows a step is as the relations read, so is its result before it.
 use Rattle.std.proofs.Common.{◌≡◌, ℕ, zero, suc, ◌+◌, ◌≤◌, true, List, [], ◌∷◌, ◌++◌, refl, ap, ◌∙◌, arith, Ok, Err, Result, append_assoc}
 use Rattle.bites_spec.specs.Message.{Message}
 use Rattle.bites_spec.specs.Tree.{Tree, sequence_of, repetition_of}
@@ -13,7 +13,7 @@ use Rattle.bites_spec.specs.Fault.{StuckItem, StuckSequence, StuckChoice}
 use Rattle.bites_spec.specs.Reader.{Stop, ReadChoice, Bounds, repeat_last}
 use Rattle.bites_spec.proofs.characters.ChoiceParts.{most_of}
 
--- from t up to rest the branch goes on behind these nodes, and branches may follow: with what they add, within the limits
+-- from t to rest the branch goes on after these nodes, and other branches may follow; what they add is within the limits
 pub data Adds (nest_limit depth : ℕ) (front behind : Front) (t rest : Text) (nodes added : List Tree) : Type 0 where
   last_branch : (all : List Tree) (s : ReadsSequence front t nodes all behind rest) → added ≡ sequence_of all ∷ [] →
       depth + open_in_sequence s ≤ nest_limit → count_in_sequence s ≤ greatest_number → Adds nest_limit depth front behind t rest nodes added
@@ -22,7 +22,7 @@ pub data Adds (nest_limit depth : ℕ) (front behind : Front) (t rest : Text) (n
       depth + open_in_sequence s ≤ nest_limit → count_in_sequence s ≤ greatest_number →
       depth + open_in_choice c ≤ nest_limit → count_in_choice c ≤ greatest_number → Adds nest_limit depth front behind t rest nodes added
 
--- the branch goes on behind these nodes up to a fault, or ends and a later branch has it
+-- the branch goes on after these nodes up to a fault, or it ends and a later branch has the fault
 pub data Stops (nest_limit depth : ℕ) (front : Front) (t : Text) (nodes : List Tree) (m : Message) (place : Text) : Type 0 where
   in_branch : StuckSequence nest_limit depth front t nodes m place → Stops nest_limit depth front t nodes m place
   in_later_branch : (all : List Tree) (middle : Front) (more : Text) → ReadsSequence front t nodes all middle (bar ∷ more) →
@@ -33,7 +33,7 @@ abbrev pub EndsChoice : ℕ → Text → Type 0
 EndsChoice zero rest = rest ≡ []
 EndsChoice (suc depth) rest = (more : Text) × (rest ≡ right_parenthesis ∷ more)
 
--- what is found at the end of the choice
+-- what the reader finds where the choice ends
 pub record Finds (nest_limit depth : ℕ) (front : Front) (branches nodes : List Tree) (t : Text) (f : ReadChoice) : Type 0 where
   pub added : List Tree
   pub same : f.branches ≡ branches ++ added
@@ -41,7 +41,7 @@ pub record Finds (nest_limit depth : ℕ) (front : Front) (branches nodes : List
   pub groups : f.behind.groups ≤ greatest_number
   pub ends : EndsChoice depth f.rest
 
--- what an answer of the reader says
+-- what a result of the reader claims of the relations
 abbrev pub Says : ℕ → ℕ → Front → List Tree → List Tree → Text → Result ReadChoice Stop → Type 0
 Says nest_limit depth front branches nodes t (Ok f) = Finds nest_limit depth front branches nodes t f
 Says nest_limit depth front branches nodes t (Err e) = Stops nest_limit depth front t nodes e.message e.place
@@ -52,7 +52,7 @@ pub record Choice (nest_limit depth : ℕ) (front behind : Front) (t rest : Text
   pub opens : depth + open_in_choice reads ≤ nest_limit
   pub counts : count_in_choice reads ≤ greatest_number
 
--- from the front of a branch on stands a choice
+-- what is added from the beginning of a branch is a choice
 pub adds_choice : {nest_limit depth : ℕ} {front behind : Front} {t rest : Text} {added : List Tree} →
     Adds nest_limit depth front behind t rest [] added → Choice nest_limit depth front behind t rest added
 adds_choice {front = front} {behind = behind} {t = t} {rest = rest} {added = added} (last_branch all s is opens counts) =
@@ -64,7 +64,7 @@ adds_choice {front = front} {behind = behind} {t = t} {rest = rest} {added = add
       counts = omega (arith, counts, later_counts);
     }
 
--- an item more in front
+-- one item more before the rest
 pub adds_item : {nest_limit depth : ℕ} {front middle behind : Front} {t next rest : Text} {nodes more added : List Tree}
     (i : ReadsItem front (skip front.flags t) nodes more middle next) → depth + open_in_item i ≤ nest_limit → count_in_item i ≤ greatest_number →
     Adds nest_limit depth middle behind next rest more added → Adds nest_limit depth front behind t rest nodes added
@@ -83,7 +83,7 @@ stops_item {depth = depth} {front = front} {middle = middle} {t = t} {next = nex
 stops_item {front = front} {middle = middle} {t = t} {next = next} {nodes = nodes} {more = more} i (in_later_branch all last beyond s c) =
     in_later_branch all last beyond (grammar.goes_on front middle last t next (bar ∷ beyond) nodes more all i s) c
 
--- what the answer behind an item says, before it
+-- what a result after an item claims, the result before the item claims
 pub says_item : (nest_limit depth : ℕ) (front middle : Front) (t next : Text) (branches nodes more : List Tree) (a : Result ReadChoice Stop)
     (i : ReadsItem front (skip front.flags t) nodes more middle next) → depth + open_in_item i ≤ nest_limit → count_in_item i ≤ greatest_number →
     Says nest_limit depth middle branches more next a → Says nest_limit depth front branches nodes t a
@@ -96,7 +96,7 @@ pub ends_branch : {front : Front} {t rest : Text} (nodes : List Tree) → rest �
     ReadsSequence front t nodes nodes front rest
 ends_branch {front = front} {t = t} {rest = rest} nodes at ends = grammar.ends front front t rest nodes nodes at ends refl refl
 
--- an empty piece of reading opens no group and counts nothing
+-- a fault after a bar is a fault before it
 stops_bar : {nest_limit depth : ℕ} {front : Front} {t more place : Text} (nodes : List Tree) {m : Message} → bar ∷ more ≡ skip front.flags t →
     Stops nest_limit depth front more [] m place → Stops nest_limit depth front t nodes m place
 stops_bar {depth = depth} {front = front} {more = more} {place = place} nodes {m = m} at (in_branch s) =
@@ -104,7 +104,7 @@ stops_bar {depth = depth} {front = front} {more = more} {place = place} nodes {m
 stops_bar {depth = depth} {front = front} {more = more} {place = place} nodes {m = m} at (in_later_branch all last beyond s c) =
     in_later_branch nodes front more (ends_branch nodes at refl) (fault.in_later depth front last more beyond place all m s c)
 
--- what the answer behind a bar says, before it
+-- what a result after a bar claims, the result before the bar claims
 pub says_bar : (nest_limit depth : ℕ) (front : Front) (t more : Text) (branches nodes : List Tree) (a : Result ReadChoice Stop) →
     bar ∷ more ≡ skip front.flags t → depth ≤ nest_limit → Says nest_limit depth front (branches ++ sequence_of nodes ∷ []) [] more a →
     Says nest_limit depth front branches nodes t a
@@ -120,7 +120,7 @@ says_bar nest_limit depth front t more branches nodes (Ok f) at room found =
     }
 says_bar nest_limit depth front t more branches nodes (Err e) at room stops = stops_bar nodes at stops
 
--- the end of the choice
+-- where the choice ends, nothing is added but the branch
 pub says_end : {nest_limit depth : ℕ} {front : Front} {t rest : Text} {branches nodes : List Tree} → rest ≡ skip front.flags t →
     grammar.ends_sequence rest ≡ true → EndsChoice depth rest → depth ≤ nest_limit → front.groups ≤ greatest_number →
     Finds nest_limit depth front branches nodes t (record { branches = branches ++ sequence_of nodes ∷ []; behind = front; rest = rest })
@@ -132,7 +132,7 @@ says_end {front = front} {t = t} {rest = rest} {nodes = nodes} at ends closes ro
   ends = closes;
 }
 
--- an atom in front
+-- one atom before the rest
 pub says_atom : (nest_limit depth : ℕ) (front : Front) (t rest : Text) (branches nodes : List Tree) (node : Tree) (a : Result ReadChoice Stop) →
     ReadsAtom front.flags (skip front.flags t) node rest → depth ≤ nest_limit → Says nest_limit depth front branches (nodes ++ node ∷ []) rest a →
     Says nest_limit depth front branches nodes t a
@@ -140,7 +140,7 @@ says_atom nest_limit depth front t rest branches nodes node a r room says =
     says_item nest_limit depth front front t rest branches nodes (nodes ++ node ∷ []) a
     (grammar.atom front front (skip front.flags t) rest nodes (nodes ++ node ∷ []) node r refl refl) (omega arith) (omega arith) says
 
--- the last of the nodes, and those before it
+-- the last of the nodes, the nodes before it, and the last repeated
 pub record LastRepeated (b : Bounds) (node : Tree) (nodes : List Tree) : Type 0 where
   pub before : List Tree
   pub last : Tree
@@ -153,7 +153,7 @@ last_repeated b node (other ∷ nodes) =
     let r = last_repeated b other nodes in
     record { before = node ∷ r.before; last = r.last; is = ap (λ l. node ∷ l) r.is; repeated = ap (λ l. node ∷ l) r.repeated }
 
--- an operator in front
+-- one operator before the rest
 pub says_operator : (nest_limit depth : ℕ) (front : Front) (t rest : Text) (branches nodes : List Tree) (node : Tree) (b : Bounds) (a : Result ReadChoice Stop) →
     ReadsOperator front.flags (skip front.flags t) b.0 b.1 b.2 rest → most_of b.0 b.1 ≤ greatest_number → depth ≤ nest_limit →
     Says nest_limit depth front branches (repeat_last b node nodes) rest a → Says nest_limit depth front branches (node ∷ nodes) t a

@@ -11,7 +11,7 @@ use Rattle.bites_spec.specs.Pattern as pattern
 use Rattle.bites_spec.specs.Grammar.{is_special, literal_of}
 use Rattle.bites_spec.specs.Reader.{Stop, Bounds, Reader, answer, lazy, repeat_last, at_operator, at_item, inner}
 
--- a lazy mark that the relation reads, the function reads
+-- the function reads each lazy mark that the relation reads
 pub lazy_complete : {t rest : Text} {mark : Bool} → ReadsLazy t mark rest → lazy t ≡ (mark, rest)
 lazy_complete (ReadsLazy.lazy t rest mark is marks) = ap lazy is ∙ ap (λ b. (b, rest)) (sym marks)
 lazy_complete (ReadsLazy.none [] rest mark other marks same) = rw (marks, same) refl
@@ -30,7 +30,7 @@ repeat_last_of b node (other ∷ nodes) (x ∷ before) last is =
     ap (λ t. t ∷ repeat_last b other nodes) first ∙ ap (λ l. x ∷ l) (repeat_last_of b other nodes before last others)
 
 module _ (list_of : Set → List Range) (nest_limit : ℕ) where
-  -- an operator behind a node repeats the last
+  -- an operator after a node repeats the last node
   pub operator_step : (go : Reader) (depth : ℕ) (front : Front) (branches nodes before : List Tree) (last : Tree) (m : Message) (u : Text) (b : Bounds) (rest : Text) →
       nodes ≡ before ++ last ∷ [] →
       at_operator list_of nest_limit go depth front branches nodes m u (answer b rest) ≡ go depth front branches (before ++ repetition_of b.0 b.1 b.2 last ∷ []) rest
@@ -38,7 +38,7 @@ module _ (list_of : Set → List Range) (nest_limit : ℕ) where
   operator_step go depth front branches [] (x ∷ before) last m u b rest is = absurd (cc)
   operator_step go depth front branches (node ∷ nodes) before last m u b rest is = ap (λ l. go depth front branches l rest) (repeat_last_of b node nodes before last is)
 
-  -- an operator behind a node that is not read stops
+  -- an operator after a node stops the reader where its bounds are not read
   pub operator_stop : (go : Reader) (depth : ℕ) (front : Front) (branches nodes : List Tree) (m : Message) (u : Text) (e : Stop) → 0 < length nodes →
       at_operator list_of nest_limit go depth front branches nodes m u (Err e) ≡ Err e
   operator_stop go depth front branches [] m u e some = absurd (omega arith)

@@ -1,4 +1,4 @@
--- Operators in braces: what the function answers, the relations say.
+-- What the reader returns for operators in braces, the grammar's relations read.
 use Rattle.std.proofs.Common.{◌≡◌, ℕ, ◌≤◌, Bool, true, false, ◌==◌, [], ◌∷◌, length, refl, sym, ap, ◌∙◌, subst, arith, Ok, Err, eqb-true, ltb-true, ltb-false}
 use Rattle.std.specs.Prelude.{nat_lt}
 use Rattle.bites_spec.specs.Class.{single}
@@ -13,14 +13,14 @@ use Rattle.bites_spec.proofs.characters.EachLemmas.{skip_shorter, decimal_means,
 use Rattle.bites_spec.proofs.characters.EachLemmas as each
 use Rattle.bites_spec.proofs.characters.EscapeLemmas.{Means, either_side}
 
--- the function reads a lazy mark, or none
+-- what the function returns for a lazy mark, or for none, the relation reads
 pub lazy_reads : (t : Text) → ReadsLazy t (lazy t).0 (lazy t).1
 lazy_reads [] = ReadsLazy.none [] [] false refl refl refl
 lazy_reads (c ∷ t) =
     either_side {A = Bool × Text} (λ x. ReadsLazy (c ∷ t) x.0 x.1) (c == question) _ _ (λ b. ReadsLazy.lazy _ t true (ap (λ x. x ∷ t) (eqb-true c question b)) refl)
     (λ b. ReadsLazy.none _ _ false b refl refl)
 
--- what the function answers to an operator in braces: from its brace on
+-- what a result for an operator in braces claims of the relations, from the brace on
 abbrev CountMeans : Flags → Text → ReadResult Bounds → Type 0
 CountMeans flags t = Means (λ b rest. ReadsOperator flags t b.0 b.1 b.2 rest) (StuckCount flags t)
 
@@ -37,7 +37,7 @@ behind_max flags t next more (c ∷ u) min most is first second =
     (λ l. operator.between t next more u _ min most _ _ _ is first closed (ltb-false most min l) mark refl refl))
     (λ b. stuck.strange_after_max min most c t next more u (c ∷ u) _ is first second refl b refl)
 
--- the maximum and what stands behind it
+-- the maximum and what follows it
 max_means : (flags : Flags) (t next more : Text) (min : ℕ) (a : ReadResult ℕ) → t ≡ left_brace ∷ next → ReadsDecimal flags (skip flags next) min (comma ∷ more) →
     next_is (single right_brace) (skip flags more) ≡ false → each.Means flags (skip flags more) a → CountMeans flags t (and_then a (reading.after_max flags min))
 max_means flags t next more min (Ok x) is first open_ended means = behind_max flags t next more x.1 min x.0 is first means.0
@@ -79,6 +79,6 @@ counted_by n flags t next (c ∷ u) room is at =
     min_means n flags t next (decimal n flags (c ∷ u)) is room
     (subst (λ x. each.Means flags x (decimal n flags (c ∷ u))) at (decimal_means n flags (c ∷ u) (omega (arith, ap length at, skip_shorter flags next))))
 
--- what the function answers to an operator in braces, the relations say
+-- what the function returns for an operator in braces, the relations read
 pub count_means : (n : ℕ) (flags : Flags) (t : Text) → length t ≤ n → CountMeans flags (left_brace ∷ t) (reading.counted n flags (skip flags t))
 count_means n flags t room = counted_by n flags (left_brace ∷ t) t (skip flags t) room refl refl

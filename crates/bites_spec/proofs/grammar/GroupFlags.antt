@@ -1,4 +1,4 @@
--- Flags: the relations and the function agree.
+-- Flags: the reader agrees with the grammar's relations.
 use Rattle.std.proofs.Common.{◌≡◌, ℕ, ◌<◌, ◌≤◌, Bool, true, false, not, ◌||◌, ◌==◌, [], ◌∷◌, ◌++◌, length, refl, sym, ap, ◌∙◌, subst, ⊎_elim, arith, eqb-true, true≢false, append-nil, length-append}
 use Rattle.std.specs.Prelude.{codes, if◌then◌else◌}
 use Rattle.std.specs.List.{list_all}
@@ -20,18 +20,18 @@ use Rattle.bites_spec.proofs.grammar.GroupNames.{one_behind}
 abbrev pub behind_run : Front → Text → Front
 behind_run front run = record front { flags = changed true run front.flags }
 
--- from marks on stand flags and what ends them: a colon before a group, or a closing parenthesis behind some flags
+-- from marks on stand flags and their end: a colon before a group, or a closing parenthesis after at least one flag
 abbrev pub FlagsOpen : Front → Text → Opened → Text → Type 0
 FlagsOpen front marks (reading.directive flags) rest =
     (run : Text) × (0 < length run) × ReadsFlags marks run (right_parenthesis ∷ rest) × (flags ≡ changed true run front.flags)
 FlagsOpen front marks (reading.group opening inner) rest =
     (run : Text) × ReadsFlags marks run (colon ∷ rest) × (opening ≡ unnumbered) × (inner ≡ behind_run front run)
 
--- what the function answers behind the question mark
+-- what a result after the question mark claims of the relations
 abbrev pub FlagsMean : Front → Text → ReadResult Opened → Type 0
 FlagsMean front marks = Means (FlagsOpen front marks) (StuckFlags marks)
 
--- one of the two characters that end flags
+-- of the two characters that end flags, the one that is no colon is a closing parenthesis
 ends_flags : (c : ℕ) → one_of (codes ":)") c ≡ true → (c == colon) ≡ false → c ≡ right_parenthesis
 ends_flags c e other = by_cases (c == right_parenthesis) refl
   where
@@ -39,7 +39,7 @@ ends_flags c e other = by_cases (c == right_parenthesis) refl
     by_cases true same = eqb-true c right_parenthesis same
     by_cases false differs = absurd (true≢false (sym e ∙ rw (other, differs) refl))
 
--- a list whose last element is a dash
+-- a list whose last element is a dash is a list and a dash
 last_dash : (run : Text) → ends_with_dash run ≡ true → (front : Text) × (run ≡ front ++ dash ∷ [])
 last_dash [] e = absurd (true≢false (sym e))
 last_dash (c ∷ []) e = ([], ap (λ x. x ∷ []) (eqb-true c dash e))
@@ -65,7 +65,7 @@ unclosed_means : (marks run : Text) → marks ≡ run → is_flag_run run ≡ tr
 unclosed_means marks [] is fits = stuck.StuckFlags.ends_at_once marks [] _ is refl refl
 unclosed_means marks (c ∷ run) is fits = stuck.StuckFlags.ends marks (c ∷ run) [] _ is fits (omega arith) refl refl
 
--- a test of two numbers in either order
+-- the test of two numbers for equality is symmetric
 pub eqb_turned : (c d : ℕ) → (c == d) ≡ (d == c)
 eqb_turned c d = by_cases (c == d) (d == c) refl refl
   where
@@ -81,7 +81,7 @@ is_not false e = refl
 one_of-append : (run more : Text) (c : ℕ) → one_of (run ++ more) c ≡ (one_of run c || one_of more c)
 one_of-append run more c = list_any-append (λ d. c == d) run more
 
--- what is apart and one more that is new is apart
+-- distinct marks with a new one after them are distinct
 one_more_apart : (run : Text) (c : ℕ) → are_distinct run ≡ true → one_of run c ≡ false → are_distinct (run ++ c ∷ []) ≡ true
 one_more_apart [] c apart new = refl
 one_more_apart (d ∷ run) c apart new =
@@ -94,7 +94,7 @@ one_more_run run c fits mark new =
     let both = and_parts (list_all is_flag_mark run) (are_distinct run) fits in
     rw (list_all-append is_flag_mark run (c ∷ []), both.0, mark, one_more_apart run c both.1 new) refl
 
--- a mark that is no dash is a letter
+-- a mark of flags that is no dash is a letter
 is_letter : (c : ℕ) → is_flag_mark c ≡ true → (c == dash) ≡ false → is_flag_letter c ≡ true
 is_letter c mark other = by_cases (is_flag_letter c) refl
   where
@@ -121,11 +121,11 @@ from_means front marks run (c ∷ rest) is fits =
     (λ o. from_means front marks (run ++ c ∷ []) rest (is ∙ sym (one_behind run rest c)) (one_more_run run c fits k o)))
     (λ k. stuck.StuckFlags.strange c marks run rest (c ∷ rest) _ is fits refl k e refl))
 
--- what the function answers behind the question mark, the relations say
+-- what the function returns after the question mark, the relations read
 pub flags_mean : (front : Front) (marks : Text) → FlagsMean front marks (flags_from front [] marks)
 flags_mean front marks = from_means front marks [] marks refl refl
 
--- a mark of a flag ends no flags
+-- a mark of flags does not end them
 mark_goes_on : (c : ℕ) → is_flag_mark c ≡ true → one_of (codes ":)") c ≡ false
 mark_goes_on c mark = by_cases (one_of (codes ":)") c) refl
   where
@@ -135,7 +135,7 @@ mark_goes_on c mark = by_cases (one_of (codes ":)") c) refl
         ⊎_elim (λ (k : (c == colon) ≡ true). absurd (true≢false (sym (subst (λ x. is_flag_mark x ≡ true) (eqb-true c colon k) mark))))
         (λ (k : (c == colon) ≡ false). absurd (true≢false (sym (subst (λ x. is_flag_mark x ≡ true) (ends_flags c same k) mark)))) (cases_Bool (c == colon))
 
--- a run of flags that goes on with c
+-- a run of flags goes on with c
 record GoesOn (run : Text) (c : ℕ) : Type 0 where
   mark : is_flag_mark c ≡ true
   new : one_of run c ≡ false
@@ -153,7 +153,7 @@ goes_on run more c e =
     let marks = and_parts (list_all is_flag_mark run) (list_all is_flag_mark (c ∷ more)) (sym (list_all-append is_flag_mark run (c ∷ more)) ∙ both.0) in
     record { mark = (and_parts (is_flag_mark c) (list_all is_flag_mark more) marks.1).0; new = is_apart run more c both.1 }
 
--- the function goes over a run of flags
+-- the function passes over a run of flags
 pub flags_pass : (front : Front) (run more t : Text) → is_flag_run (run ++ more) ≡ true → flags_from front run (more ++ t) ≡ flags_from front (run ++ more) t
 flags_pass front run [] t e = ap (λ x. flags_from front x t) (sym (append-nil run))
 flags_pass front run (c ∷ more) t e =
@@ -171,13 +171,13 @@ at_closing : (front : Front) (run rest : Text) → 0 < length run → ends_with_
 at_closing front [] rest some whole = absurd (omega arith)
 at_closing front (d ∷ run) rest some whole = rw whole refl
 
--- flags before a colon lead the function to the inside of a group
+-- the function reads flags before a colon as the beginning of a group
 pub flags_lead : {marks run rest : Text} → ReadsFlags marks run (colon ∷ rest) → (front : Front) →
     flags_from front [] marks ≡ answer (reading.group unnumbered (behind_run front run)) rest
 flags_lead {rest = rest} (group.flags marks run behind is fits whole) front =
     ap (flags_from front []) is ∙ flags_pass front [] run (colon ∷ rest) fits ∙ at_colon front run rest whole
 
--- flags before a closing parenthesis lead the function behind a directive
+-- the function reads flags before a closing parenthesis as a directive
 pub closing_flags_lead : {marks run rest : Text} → ReadsFlags marks run (right_parenthesis ∷ rest) → 0 < length run → (front : Front) →
     flags_from front [] marks ≡ answer (reading.directive (changed true run front.flags)) rest
 closing_flags_lead {rest = rest} (group.flags marks run behind is fits whole) some front =
@@ -205,7 +205,7 @@ at_dash : (front : Front) (run : Text) (c : ℕ) (rest : Text) → ends_with_das
 at_dash front [] c rest e = absurd (true≢false (sym e))
 at_dash front (d ∷ run) c rest e = rw e refl
 
--- where the relation stops at flags, the function does
+-- where the relation stops at flags, the function stops
 pub flags_stop : {marks place : Text} {m : Message} → StuckFlags marks m place → (front : Front) → flags_from front [] marks ≡ stop m place
 flags_stop (stuck.StuckFlags.ends_at_once marks place m is at says) front = rw (is, at, says) refl
 flags_stop (stuck.StuckFlags.empty marks rest place m is at says) front = ap (flags_from front []) is ∙ rw (says, at, is) refl
@@ -223,11 +223,11 @@ flags_stop (stuck.StuckFlags.ends_with_dash c marks run rest place m is fits at 
     ap (flags_from front []) (is ∙ sym (one_behind run place dash)) ∙ flags_pass front [] (run ++ dash ∷ []) place fits
     ∙ ap (flags_from front (run ++ dash ∷ [])) at ∙ rw (ends, says, at) (at_dash front (run ++ dash ∷ []) c rest (dash_last run))
 
--- flags go forward, or stay
+-- reading flags never goes back
 pub flags_shorter : {marks run behind : Text} → ReadsFlags marks run behind → length behind ≤ length marks
 flags_shorter (group.flags marks run behind is fits whole) = omega (arith, ap length is, length-append run behind)
 
--- no fault of flags stands before them
+-- a fault of flags stands no earlier than the flags
 pub stuck_flags_shorter : {marks place : Text} {m : Message} → StuckFlags marks m place → length place ≤ length marks
 stuck_flags_shorter (stuck.StuckFlags.ends_at_once marks place m is at says) = omega (arith, ap length at)
 stuck_flags_shorter (stuck.StuckFlags.empty marks rest place m is at says) = omega (arith, ap length at)

@@ -1,4 +1,4 @@
--- What opens a group: what the function answers, the relations say, and what the relations say leads the function.
+-- What a parenthesis opens: the reader agrees with the grammar's relations, up to the limit on the number of groups.
 use Rattle.std.proofs.Common.{◌≡◌, ℕ, ◌+◌, ◌<◌, ◌≤◌, Bool, true, false, ◌||◌, ◌==◌, [], ◌∷◌, ◌++◌, length, drop, Some, None, refl, sym, ap, ◌∙◌, subst, inl, inr, ⊎_elim, arith, Ok, Err, eqb-true, ltb-true, ltb-false, lt-ltb, true≢false}
 use Rattle.std.specs.Prelude.{codes, nat_lt}
 use Rattle.std.specs.List.{list_all}
@@ -20,11 +20,11 @@ use Rattle.bites_spec.proofs.characters.ChoiceParts.{ReadsDirective, Opens, Lead
 use Rattle.bites_spec.proofs.grammar.GroupNames.{NameMeans, name_means, name_leads, name_stops, name_shorter, stuck_name_shorter}
 use Rattle.bites_spec.proofs.grammar.GroupFlags.{eqb_turned, FlagsMean, flags_mean, flags_lead, closing_flags_lead, flags_stop, flags_shorter, stuck_flags_shorter}
 
--- what the function answers behind the parenthesis and its gap
+-- what a result after the parenthesis and its gap claims of the relations
 abbrev pub OpenedMeans : Front → Text → ReadResult Opened → Type 0
 OpenedMeans front next = Means (Opens front (left_parenthesis ∷ next)) (StuckOpening front (left_parenthesis ∷ next))
 
--- a text that begins with these characters
+-- a text that begins with these characters is they and what follows them
 begins_is : (chars t : Text) → begins chars t ≡ true → t ≡ chars ++ drop (length chars) t
 begins_is [] t e = refl
 begins_is (c ∷ chars) [] e = absurd (true≢false (sym e))
@@ -84,11 +84,11 @@ opened_means front next t is =
     (λ n. named_means front next (drop 2 t) (ap begins_look_around (sym is) ∙ l) (inr (sym is ∙ begins_is (codes "?<") t n)))
     (λ n. no_name_means front next t is (rw (p, n) refl))))
 
--- what the function answers to what an opening parenthesis begins, the relations say
+-- what the function returns for what a parenthesis opens, the relations read
 pub opened_sound : (front : Front) (next : Text) → OpenedMeans front next (opened front (skip front.flags next))
 opened_sound front next = opened_means front next (skip front.flags next) refl
 
--- a choice whose first side is not taken, and one whose first side is
+-- a choice by a false test takes the second side; below it, a choice by a true test takes the first
 second_taken : {A : Type 0} (b : Bool) (f g : Unit {0} → A) → b ≡ false → choose b f g ≡ g tt
 second_taken true f g e = absurd (true≢false e)
 second_taken false f g e = refl
@@ -104,13 +104,13 @@ either_holds false b e = e
 same_next : {a b : Text} → left_parenthesis ∷ a ≡ left_parenthesis ∷ b → a ≡ b
 same_next e = ap (drop 1) e
 
--- where no name and no look-around begins
+-- where neither look-around nor a name begins
 asked : (front : Front) (t : Text) → begins_look_around t ≡ false → begins_name t ≡ false → opened front t ≡ no_name front t
 asked front t plain no_one =
     let both = or_parts (begins (codes "?P<") t) (begins (codes "?<") t) no_one in
     second_taken (begins_look_around t) _ _ plain ∙ second_taken (begins (codes "?P<") t) _ _ both.0 ∙ second_taken (begins (codes "?<") t) _ _ both.1
 
--- without a question mark
+-- where no question mark stands
 unasked : (front : Front) (t : Text) → next_is (single question) t ≡ false →
     opened front t ≡ with_number front t (answer (group (numbered None) (with_group None front)) t)
 unasked front [] plain = refl
@@ -125,7 +125,7 @@ named front t begun plain begin =
     (λ (e : t ≡ codes "?<" ++ begun). ap (opened front) e ∙ second_taken (begins_look_around (codes "?<" ++ begun)) _ _ (ap begins_look_around (sym e) ∙ plain))
     begin
 
--- there is a number more, or the function stops
+-- where the limit on numbers is reached, the function stops
 above : (front : Front) (t : Text) (a : ReadResult Opened) → greatest_number < front.groups + 1 → with_number front t a ≡ stop too_many_groups t
 above front t a more = first_taken (nat_lt greatest_number (front.groups + 1)) _ _ (lt-ltb greatest_number (front.groups + 1) more)
 
@@ -136,7 +136,7 @@ number_leads front inner opening t inside a within one_more leads =
     (λ (b : nat_lt greatest_number (front.groups + 1) ≡ true). inr (t, first_taken _ _ _ b, within, omega (arith, ltb-true greatest_number (front.groups + 1) b)))
     (λ (b : nat_lt greatest_number (front.groups + 1) ≡ false). inl (second_taken _ _ _ b ∙ leads)) (cases_Bool (nat_lt greatest_number (front.groups + 1)))
 
--- a mark of flags, or what ends them
+-- a mark of flags, or a character that ends them
 abbrev is_in_flags : ℕ → Bool
 is_in_flags c = one_of (codes ":)") c || is_flag_mark c
 
@@ -145,7 +145,7 @@ other_mark c d out within =
     ⊎_elim (λ (e : (c == d) ≡ true). absurd (true≢false (sym within ∙ ap is_in_flags (sym (eqb-true c d e)) ∙ out)))
     (λ (e : (c == d) ≡ false). e) (cases_Bool (c == d))
 
--- flags begin no look-around, and no name
+-- neither look-around nor a name begins here
 abbrev BeginsNothing : Text → Type 0
 BeginsNothing t = (begins_look_around t ≡ false) × (begins_name t ≡ false)
 
@@ -164,14 +164,14 @@ run_begins_nothing (d ∷ run) c rest fits ends =
     let mark = and_parts (is_flag_mark d) (list_all is_flag_mark run) marks.0 in
     begins_nothing d (run ++ c ∷ rest) (either_holds (one_of (codes ":)") d) (is_flag_mark d) mark.0)
 
--- where flags are read
+-- where flags follow the question mark, the function reads flags
 with_marks : (front : Front) (marks run rest : Text) (c : ℕ) → ReadsFlags marks run (c ∷ rest) → one_of (codes ":)") c ≡ true →
     opened front (question ∷ marks) ≡ flags_from front [] marks
 with_marks front marks run rest c (relation.flags _ _ behind is fits whole) ends =
     let plain = run_begins_nothing run c rest fits ends in
     asked front (question ∷ marks) (ap (λ x. begins_look_around (question ∷ x)) is ∙ plain.0) (ap (λ x. begins_name (question ∷ x)) is ∙ plain.1)
 
--- a group's opening leads the function behind it, or the function stops within it since there is no number more
+-- the function reads each opening that the relation reads, or stops within it at too many groups
 pub opened_leads : {front inner : Front} {t inside : Text} {opening : Opening} → ReadsOpening front t opening inner inside →
     (next : Text) → t ≡ left_parenthesis ∷ next → LeadsToGroup inner opening inside (opened front (skip front.flags next))
 opened_leads {front} (relation.number_only t behind inside opening inner is at plain opens fronts) next same =
@@ -188,7 +188,7 @@ opened_leads {front} (relation.with_flags t behind marks run inside opening inne
     subst (λ x. LeadsToGroup inner opening inside (opened front (skip front.flags x))) (same_next (sym is ∙ same))
     (inl (ap (opened front) asks ∙ with_marks front marks run inside colon reads refl ∙ flags_lead reads front ∙ rw (opens, fronts) refl))
 
--- a directive leads the function behind it
+-- the function reads each directive that the relation reads
 pub directive_leads : {front : Front} {t rest : Text} {flags : Flags} → ReadsDirective front t flags rest →
     (next : Text) → t ≡ left_parenthesis ∷ next → opened front (skip front.flags next) ≡ answer (directive flags) rest
 directive_leads {front} {rest = rest} d next same =
@@ -196,16 +196,16 @@ directive_leads {front} {rest = rest} d next same =
     ∙ with_marks front d.marks d.run rest right_parenthesis d.reads refl
     ∙ closing_flags_lead d.reads (omega (arith, ap length d.some)) front ∙ ap (λ x. answer (directive x) rest) (sym d.are)
 
--- too many groups come before all else at one place
+-- too many groups is the message of least rank
 pub least_rank : (m : Message) → rank too_many_groups ≤ rank m
 least_rank message.too_many_groups = omega arith
 least_rank m = omega arith
 
--- the answer is this very stop
+-- a result that is this very stop
 stops_here : {a : ReadResult Opened} (m : Message) (place : Text) → a ≡ stop m place → StopsBy m place a
 stops_here m place e = subst (λ x. StopsBy m place x) (sym e) (inr (refl, omega arith))
 
--- the answer is a stop further on the left
+-- a result that is an earlier stop
 stops_before : {a : ReadResult Opened} (m k : Message) (place at : Text) → a ≡ stop k at → length place < length at → StopsBy m place a
 stops_before m k place at e before = subst (λ x. StopsBy m place x) (sym e) (inl before)
 
@@ -215,7 +215,7 @@ limit_first m place at within =
     (λ (b : nat_lt (length place) (length at) ≡ false). let o = ltb-false (length place) (length at) b in inr (omega arith, least_rank m))
     (cases_Bool (nat_lt (length place) (length at)))
 
--- where look-around stands, the function stops before all else
+-- where look-around stands, the function stops before all other faults
 around_stops : (front : Front) (t place : Text) (m : Message) → begins_look_around t ≡ true → length place < length t → StopsBy m place (opened front t)
 around_stops front t place m around before =
     stops_before m message.look_around place t (first_taken (begins_look_around t) _ _ around) before
@@ -234,7 +234,7 @@ in_name_first front t begun place m plain begin within stops =
     (λ (b : nat_lt greatest_number (front.groups + 1) ≡ false). stops_here m place (second_taken _ _ _ b ∙ rw stops refl))
     (cases_Bool (nat_lt greatest_number (front.groups + 1))))
 
--- where the relation stops at a group's opening, the function stops no later, and there with no greater rank
+-- where the relation stops at a group's opening, the function stops, no later, and at the same place with no greater rank
 pub opened_first : {front : Front} {t place : Text} {m : Message} → StuckOpening front t m place → (next : Text) → t ≡ left_parenthesis ∷ next →
     StopsBy m place (opened front (skip front.flags next))
 opened_first {front} (stuck.looks_around t behind place m is at around says) next same =
@@ -267,7 +267,7 @@ opened_first {front} (stuck.in_flags t behind marks place m is asks plain stops)
     (λ (l : begins_look_around (question ∷ marks) ≡ false).
     stops_here m place (asked front (question ∷ marks) l plain ∙ flags_stop stops front)) (cases_Bool (begins_look_around (question ∷ marks)))))
 
--- a group's opening goes forward
+-- a group's opening takes at least a character
 pub opening_shorter : {front inner : Front} {t inside : Text} {opening : Opening} → ReadsOpening front t opening inner inside → length inside < length t
 opening_shorter {front} (relation.number_only t next inside opening inner is at plain opens fronts) =
     omega (arith, ap length is, ap length at, skip_shorter front.flags next)
@@ -276,11 +276,11 @@ opening_shorter {front} (relation.named t next begun name inside opening inner i
 opening_shorter {front} (relation.with_flags t next marks run inside opening inner is asks reads opens fronts) =
     omega (arith, ap length is, ap length asks, flags_shorter reads, skip_shorter front.flags next)
 
--- a directive goes forward
+-- a directive takes at least a character
 pub directive_shorter : {front : Front} {t rest : Text} {flags : Flags} → ReadsDirective front t flags rest → length rest < length t
 directive_shorter {front} d = omega (arith, ap length d.opens, ap length d.asks, flags_shorter d.reads, skip_shorter front.flags d.next)
 
--- no fault of a group's opening stands at its parenthesis or before
+-- a fault of a group's opening stands after its parenthesis
 pub stuck_opening_shorter : {front : Front} {t place : Text} {m : Message} → StuckOpening front t m place → length place < length t
 stuck_opening_shorter {front} (stuck.looks_around t next place m is at around says) = omega (arith, ap length is, ap length at, skip_shorter front.flags next)
 stuck_opening_shorter {front} (stuck.too_many t next place m is at plain more says) = omega (arith, ap length is, ap length at, skip_shorter front.flags next)

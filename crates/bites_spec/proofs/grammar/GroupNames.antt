@@ -1,4 +1,4 @@
--- Names of groups: the relations and the function agree.
+-- Names of groups: the reader agrees with the grammar's relations.
 use Rattle.std.proofs.Common.{◌≡◌, ℕ, ◌<◌, ◌≤◌, Bool, true, false, ◌==◌, List, [], ◌∷◌, ◌++◌, length, refl, sym, ap, ◌∙◌, subst, arith, eqb-true, true≢false, append_assoc, append-nil, length-append, ◌≢◌}
 use Rattle.std.specs.List.{list_all}
 use Rattle.std.proofs.lemmas.Bool.{eq-eqb, and_parts}
@@ -13,11 +13,11 @@ use Rattle.bites_spec.specs.GroupFault.{StuckName}
 use Rattle.bites_spec.specs.Reader.{ReadResult, answer, stop, name_from, name_end, name_unclosed}
 use Rattle.bites_spec.proofs.characters.EscapeLemmas.{Means, either_side}
 
--- one element more behind a list
+-- an element moves from the end of a list to the beginning of the rest
 pub one_behind : (front rest : Text) (c : ℕ) → (front ++ c ∷ []) ++ rest ≡ front ++ c ∷ rest
 one_behind front rest c = append_assoc front (c ∷ []) rest
 
--- what the function answers to a name: from the character behind the angle bracket on
+-- what a result for a name claims of the relations, from after the angle bracket
 abbrev pub NameMeans : List Text → Text → ReadResult Text → Type 0
 NameMeans names t = Means (ReadsName names t) (StuckName names t)
 
@@ -54,7 +54,7 @@ name_from_means names t name (c ∷ rest) is fits =
     (λ f. name_from_means names t (name ++ c ∷ []) rest (is ∙ sym (one_behind name rest c)) f)
     (λ f. stuck.StuckName.strange c t name rest (c ∷ rest) _ is fits refl (differs c right_angle b) f refl))
 
--- what the function answers to a name, the relations say
+-- what the function returns for a name, the relations read
 pub name_means : (names : List Text) (t : Text) → NameMeans names t (name_from names [] t)
 name_means names t = name_from_means names t [] t refl refl
 
@@ -72,7 +72,7 @@ is_other set c none e =
     by_cases true same = absurd (none (subst (λ x. set x ≡ true) (eqb-true c right_angle same) e))
     by_cases false same = same
 
--- a name's front that goes on with c
+-- the beginning of a name may go on with c, which does not end it
 record GoesOn (front : Text) (c : ℕ) : Type 0 where
   fits : is_name_front (front ++ c ∷ []) ≡ true
   other : (c == right_angle) ≡ false
@@ -87,7 +87,7 @@ goes_on (d ∷ front) more c e =
     let part = and_parts (is_name_part c) (list_all is_name_part more) parts.1 in
     record { fits = rw both.0 (list_all-append is_name_part front (c ∷ []) ∙ rw (parts.0, part.0) refl); other = is_other is_name_part c no_part part.0 }
 
--- the function goes over the front of a name
+-- the function passes over the beginning of a name
 pub name_passes : (names : List Text) (front more t : Text) → is_name_front (front ++ more) ≡ true →
     name_from names front (more ++ t) ≡ name_from names (front ++ more) t
 name_passes names front [] t e = ap (λ x. name_from names x t) (sym (append-nil front))
@@ -96,7 +96,7 @@ name_passes names front (c ∷ more) t e =
     rw (g.other, g.fits)
     (name_passes names (front ++ c ∷ []) more t (ap is_name_front (one_behind front more c) ∙ e) ∙ ap (λ x. name_from names x t) (one_behind front more c))
 
--- a name that is read leads the function to it
+-- the function reads each name that the relation reads
 pub name_leads : {names : List Text} {t name rest : Text} → ReadsName names t name rest → name_from names [] t ≡ answer name rest
 name_leads {names} (group.name c t others name rest is begins fits new) =
     ap (name_from names []) is ∙ name_passes names [] name (right_angle ∷ rest) fits ∙ ap (λ x. name_end names x (right_angle ∷ rest) rest) begins
@@ -110,7 +110,7 @@ used_of : (names : List Text) (name at t : Text) → 0 < length name → is_used
 used_of names [] at t some used = absurd (omega arith)
 used_of names (c ∷ name) at t some used = rw used refl
 
--- where the relation stops at a name, the function does
+-- where the relation stops at a name, the function stops
 pub name_stops : {names : List Text} {t place : Text} {m : Message} → StuckName names t m place → name_from names [] t ≡ stop m place
 name_stops {names} (stuck.StuckName.ends_at_once t place m is at says) = rw (is, at, says) refl
 name_stops {names} (stuck.StuckName.strange c t front rest place m is fits at other ends says) =
@@ -122,11 +122,11 @@ name_stops {names} (stuck.empty t rest place m is at says) = ap (name_from names
 name_stops {names} (stuck.used t name place m is fits some used says) =
     ap (name_from names []) is ∙ name_passes names [] name (right_angle ∷ place) fits ∙ rw says (used_of names name _ place some used)
 
--- a name goes forward
+-- a name takes at least a character
 pub name_shorter : {names : List Text} {t name rest : Text} → ReadsName names t name rest → length rest < length t
 name_shorter (group.name c t others name rest is begins fits new) = omega (arith, ap length is, length-append name (right_angle ∷ rest))
 
--- no fault of a name stands before it
+-- a fault of a name stands no earlier than the name
 pub stuck_name_shorter : {names : List Text} {t place : Text} {m : Message} → StuckName names t m place → length place ≤ length t
 stuck_name_shorter (stuck.StuckName.ends_at_once t place m is at says) = omega (arith, ap length at)
 stuck_name_shorter (stuck.StuckName.strange c t front rest place m is fits at other ends says) = omega (arith, ap length is, length-append front place)

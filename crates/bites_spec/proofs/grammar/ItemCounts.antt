@@ -1,4 +1,4 @@
--- Operators in braces: what the relations read, the function answers, or it stops at a number that is too large; where they stop, it stops, no later.
+-- Operators in braces: the reader reads what the grammar reads, or stops at too large a number; it stops where the grammar stops.
 use Rattle.std.proofs.Common.{◌≡◌, ℕ, ◌<◌, ◌≤◌, Bool, true, false, ◌==◌, [], ◌∷◌, length, refl, sym, ap, ◌∙◌, subst, inl, inr, ⊎_elim, arith, Option, Some, None, Ok, Err, eqb-true, true≢false, ltb-true, ltb-false, lt-ltb}
 use Rattle.std.specs.Prelude.{codes, nat_lt, unwrap_or}
 use Rattle.std.specs.Char.{is_whitespace, is_ascii_digit}
@@ -18,7 +18,7 @@ use Rattle.bites_spec.proofs.characters.EachLemmas.{skip_shorter, decimal_comple
 use Rattle.bites_spec.proofs.characters.ChoiceParts.{StopsBy, most_of, LeadsToCount}
 use Rattle.bites_spec.proofs.grammar.ChoiceSteps.{lazy_complete}
 
--- the function's answer to a decimal
+-- what the function returns for a decimal
 data Answered (n : ℕ) (flags : Flags) (t : Text) (v : ℕ) (rest : Text) : Type 0 where
   small : decimal n flags t ≡ answer v rest → v ≤ greatest_number → Answered n flags t v rest
   large : decimal n flags t ≡ stop message.invalid_decimal rest → greatest_number < v → Answered n flags t v rest
@@ -33,7 +33,7 @@ each_some : {flags : Flags} {set : Set} {t chars rest : Text} → ReadsEach flag
 each_some (ReadsEach.none t chars rest ends none same) some = absurd (omega (arith, ap length none))
 each_some (ReadsEach.more c t next chars others rest is pass r same) some = (c, next, is, pass)
 
--- equal texts have one first character
+-- equal texts have the same first character
 pub first_of : {c d : ℕ} {t u : Text} → c ∷ t ≡ d ∷ u → c ≡ d
 first_of e = cc
 
@@ -54,7 +54,7 @@ solid (d ∷ u) c next is digit = (
 pub decimal_some : {flags : Flags} {t rest : Text} {v : ℕ} → ReadsDecimal flags t v rest → (d : ℕ) × (u : Text) × (t ≡ d ∷ u) × ((d == right_brace) ≡ false)
 decimal_some (pattern.decimal v t behind digits white rest r some w value) = let first = each_some r some in solid t first.0 first.1 first.2 first.3
 
--- behind a decimal: what comes behind it, or the stop at its number
+-- after a decimal: what the function returns for the rest, or a stop at too large a number
 after_leads : {flags : Flags} {t mid rest : Text} {v min : ℕ} {most : Option ℕ} {greedy : Bool} (next : ℕ → Text → ReadResult Bounds) → ReadsDecimal flags t v mid → (n : ℕ) → length t ≤ n →
     v ≤ most_of min most → length rest < length mid → (v ≤ greatest_number → LeadsToCount min most greedy rest (next v mid)) →
     LeadsToCount min most greedy rest (and_then (decimal n flags t) next)
@@ -72,7 +72,7 @@ comma_step {flags} n min r =
     let d = decimal_some r in
     ap (after_comma n flags min) d.2 ∙ rw (d.3) refl ∙ ap (λ x. and_then (decimal n flags x) (after_max flags min)) (sym d.2)
 
--- bounds that are not crossed
+-- bounds that are not crossed are returned
 uncrossed : (flags : Flags) (min most : ℕ) (mark : Bool × Text) → min ≤ most → whole_count flags min (Some most) mark ≡ answer (min, Some most, is_greedy flags mark.0) mark.1
 uncrossed flags min most mark le =
     ⊎_elim (λ (b : nat_lt most min ≡ true). absurd (omega (arith, ltb-true most min b))) (λ (b : nat_lt most min ≡ false). rw b refl) (cases_Bool (nat_lt most min))
@@ -81,11 +81,11 @@ lazy_shorter : {t rest : Text} {mark : Bool} → ReadsLazy t mark rest → lengt
 lazy_shorter (ReadsLazy.lazy t rest mark is marks) = omega (arith, ap length is)
 lazy_shorter (ReadsLazy.none t rest mark other marks same) = omega (arith, ap length same)
 
--- and one rest
+-- equal texts have the same rest
 pub tail_of : {c d : ℕ} {t u : Text} → c ∷ t ≡ d ∷ u → t ≡ u
 tail_of e = cc
 
--- at the first decimal, behind the brace and its gap
+-- after the brace, its gap and the first decimal: what the function returns for the rest, or a stop at too large a number
 brace_leads : {flags : Flags} {t next inside mid rest : Text} {v min : ℕ} {most : Option ℕ} {greedy : Bool} → t ≡ left_brace ∷ inside → t ≡ left_brace ∷ next →
     ReadsDecimal flags (skip flags inside) v mid → (n : ℕ) → length next ≤ n → v ≤ most_of min most → length rest < length mid →
     (v ≤ greatest_number → LeadsToCount min most greedy rest (after_min n flags v mid)) → LeadsToCount min most greedy rest (counted n flags (skip flags next))
@@ -95,7 +95,7 @@ brace_leads {flags} {next = next} {inside = inside} {rest = rest} {min = min} {m
     (subst (λ x. LeadsToCount min most greedy rest x) (sym (counted_step n r))
     (after_leads (after_min n flags) r n (omega (arith, ap length at, skip_shorter flags inside)) below shorter goes))
 
--- an operator in braces that the relation reads, the function reads, or it stops at a number that is too large
+-- the function reads each operator in braces that the relation reads, or stops at too large a number
 pub count_leads : {flags : Flags} {t rest : Text} {min : ℕ} {most : Option ℕ} {greedy : Bool} → ReadsOperator flags t min most greedy rest →
     (n : ℕ) (next : Text) → t ≡ left_brace ∷ next → length next ≤ n → LeadsToCount min most greedy rest (counted n flags (skip flags next))
 count_leads (operator.optional t inside rest min most mark greedy is l a b g) n next begins room = absurd (omega (arith, first_of (sym is ∙ begins)))
@@ -122,11 +122,11 @@ count_leads {flags} (operator.between t inside more behind rest min top most mar
     (λ fewer.
     inl (ap (whole_count flags min (Some top)) (lazy_complete l) ∙ uncrossed flags min top (mark, rest) le ∙ rw (a, g) refl, omega arith))))
 
--- this very stop
+-- a result that is this very stop
 this_stop : {a : ReadResult Bounds} (m : Message) (place : Text) → a ≡ stop m place → StopsBy m place a
 this_stop m place e = subst (λ x. StopsBy m place x) (sym e) (inr (refl, omega arith))
 
--- behind a decimal: what comes behind it, or the stop at its number, no later
+-- after a decimal: a stop within the rest, or at too large a number, no later
 after_first : {flags : Flags} {t mid : Text} {v : ℕ} (m : Message) (place : Text) (next : ℕ → Text → ReadResult Bounds) → ReadsDecimal flags t v mid → (n : ℕ) → length t ≤ n →
     ComesFirst message.invalid_decimal mid m place → StopsBy m place (next v mid) → StopsBy m place (and_then (decimal n flags t) next)
 after_first m place next r n room first goes =
@@ -140,7 +140,7 @@ abbrev StopsAfter : Message → Text → ReadResult ℕ → Type 0
 StopsAfter k at (Ok x) = Unit {0}
 StopsAfter k at (Err e) = ComesFirst k at e.message e.place
 
--- a decimal's fault at the end is the want of a digit
+-- at the end of the pattern the fault of a decimal is that it has no digits
 empty_first : {flags : Flags} {place : Text} {m : Message} (k : Message) → StuckDecimal flags [] m place → rank k ≤ rank message.decimal_without_digits →
     ComesFirst k [] m place
 unfolding skip_white
@@ -158,7 +158,7 @@ in_max_first min [] other s n room = empty_first message.unclosed_comma s (omega
 in_max_first {flags} {place} {m} min (c ∷ u) other s n room =
     this_stop m place (rw other (ap (λ a. and_then a (after_max flags min)) (stuck_decimal s n room)))
 
--- at the first decimal, behind the brace and its gap
+-- after the brace, its gap and the first decimal: a stop within the rest, or at too large a number, no later
 brace_first : {flags : Flags} {t next inside mid : Text} {v : ℕ} (m : Message) (place : Text) → t ≡ left_brace ∷ inside → t ≡ left_brace ∷ next →
     ReadsDecimal flags (skip flags inside) v mid → (n : ℕ) → length next ≤ n → ComesFirst message.invalid_decimal mid m place → StopsBy m place (after_min n flags v mid) →
     StopsBy m place (counted n flags (skip flags next))
@@ -168,7 +168,7 @@ brace_first {flags} {inside = inside} m place is begins r n room first goes =
     (subst (λ x. StopsBy m place x) (sym (counted_step n r))
     (after_first m place (after_min n flags) r n (omega (arith, ap length at, skip_shorter flags inside)) first goes))
 
--- no comma and no closing brace
+-- after the first decimal, a character that is neither a comma nor a closing brace stops the function
 strange_min : (n : ℕ) (flags : Flags) (v c : ℕ) (u : Text) → one_of (codes ",}") c ≡ false → after_min n flags v (c ∷ u) ≡ stop message.invalid_count (c ∷ u)
 strange_min n flags v c u other =
     ⊎_elim (λ (b : (c == right_brace) ≡ true). absurd (true≢false (sym (ap (one_of (codes ",}")) (eqb-true c right_brace b)) ∙ other)))
@@ -187,7 +187,7 @@ stuck_decimal_shorter : {flags : Flags} {t place : Text} {m : Message} → Stuck
 stuck_decimal_shorter (stuck.no_digit t place m is none names) = omega (arith, ap length is, skip_white_shorter t)
 stuck_decimal_shorter (stuck.too_large v t place m r above names) = decimal_shorter r
 
--- the number that is too large stands before this place, or at it with a message of no greater rank
+-- at one place, a stop at too large a number comes no later than a message of no smaller rank
 at_same : (m k : Message) (place mid : Text) → mid ≡ place → m ≡ k → rank message.invalid_decimal ≤ rank k → ComesFirst message.invalid_decimal mid m place
 at_same m k place mid same names less = inr (ap length (sym same), omega (arith, ap rank names))
 
@@ -231,7 +231,7 @@ count_first {flags} (stuck.crossed v top t inside more behind place mark m is r 
     (inl (omega (arith, lazy_shorter l, skip_shorter flags behind)))
     (this_stop m place (ap (whole_count flags v (Some top)) (lazy_complete l) ∙ rw (lt-ltb top v less, names) refl))))
 
--- an operator takes a character at least
+-- an operator takes at least a character
 pub operator_shorter : {flags : Flags} {t rest : Text} {min : ℕ} {most : Option ℕ} {greedy : Bool} → ReadsOperator flags t min most greedy rest → length rest < length t
 operator_shorter (operator.optional t inside rest min most mark greedy is l a b g) = omega (arith, ap length is, lazy_shorter l)
 operator_shorter (operator.any_number t inside rest min most mark greedy is l a b g) = omega (arith, ap length is, lazy_shorter l)
@@ -243,7 +243,7 @@ operator_shorter {flags} (operator.at_least t inside more behind rest min most m
 operator_shorter {flags} (operator.between t inside more behind rest min top most mark greedy is d f le l a g) =
     omega (arith, ap length is, decimal_shorter d, decimal_shorter f, lazy_shorter l, skip_shorter flags inside, skip_shorter flags behind, skip_shorter flags more)
 
--- a fault of an operator stands behind its brace
+-- a fault of an operator in braces stands after its brace
 pub stuck_count_shorter : {flags : Flags} {t place : Text} {m : Message} → StuckCount flags t m place → length place < length t
 stuck_count_shorter (stuck.ends_at_once t inside place m is empty at names) = omega (arith, ap length is, ap length at)
 stuck_count_shorter {flags} (stuck.in_min t inside place m is s) = omega (arith, ap length is, stuck_decimal_shorter s, skip_shorter flags inside)

@@ -1,4 +1,4 @@
--- What stands at a place is read in one way: operators and openings.
+-- Operators, atoms, openings and directives are each read in at most one way.
 use Rattle.std.proofs.Common.{◌≡◌, ℕ, ◌+◌, ◌-◌, ◌<◌, ◌≤◌, Bool, true, false, ◌==◌, List, [], ◌∷◌, length, refl, sym, ap, ◌∙◌, subst, ⊎_elim, arith, Option, Some, None, Ok, Err, Result, true≢false}
 use Rattle.std.specs.Prelude.{if◌then◌else◌}
 use Rattle.std.specs.Char.{is_ascii_digit, is_whitespace}
@@ -41,11 +41,11 @@ lazy_once r s same =
     let one = sym (lazy_complete r) ∙ ap lazy same ∙ lazy_complete s in
     (ap (λ p. p.0) one, ap (λ p. p.1) one)
 
--- the bounds that a mark alone stands for
+-- the bounds of an operator that is a single mark
 abbrev bounds_of : ℕ → ℕ × Option ℕ
 bounds_of c = if c == question then (0, Some 1) else if c == star then (0, None) else (1, None)
 
--- what stands behind the first number in braces
+-- what follows the first number in braces
 data Tail (flags : Flags) (v : ℕ) (mid : Text) (min : ℕ) (most : Option ℕ) (behind : Text) : Type 0 where
   closes : mid ≡ right_brace ∷ behind → min ≡ v → most ≡ Some v → Tail flags v mid min most behind
   opens : (more : Text) → mid ≡ comma ∷ more → skip flags more ≡ right_brace ∷ behind → min ≡ v → most ≡ None → Tail flags v mid min most behind
@@ -75,7 +75,7 @@ brace_no_decimal d is =
     let brace = first_of (sym s.2 ∙ is) in
     true≢false (sym (ap (λ c. c == right_brace) brace) ∙ s.3)
 
--- the bounds and what stands behind
+-- the bounds and the rest are the same
 abbrev SameTail : ℕ → ℕ → Option ℕ → Option ℕ → Text → Text → Type 0
 SameTail min least most greatest behind last = (min ≡ least) × (most ≡ greatest) × (behind ≡ last)
 
@@ -100,7 +100,7 @@ tail_once {flags} (ranges x more at f a b) (ranges y others in_other g c d) same
     let second = decimal_once f g gap in
     (a ∙ same ∙ sym c, b ∙ ap Some second.0 ∙ sym d, tail_of second.1)
 
--- the bounds, greed and what stands behind
+-- the bounds, the greed and the rest are the same
 abbrev pub SameOperator : ℕ → ℕ → Option ℕ → Option ℕ → Bool → Bool → Text → Text → Type 0
 SameOperator min least most greatest greedy other rest end = (min ≡ least) × (most ≡ greatest) × (greedy ≡ other) × (rest ≡ end)
 
@@ -122,12 +122,12 @@ form_once {flags} (braced v next mid behind mark is d tail l g) (braced w more o
     let lazies = lazy_once l k (ap (skip flags) second.2) in
     (second.0, second.1, g ∙ ap (is_greedy flags) lazies.0 ∙ sym z, lazies.1)
 
--- an operator is read in one way
+-- an operator has one reading
 pub operator_once : {flags : Flags} {t u rest end : Text} {min least : ℕ} {most greatest : Option ℕ} {greedy other : Bool} → ReadsOperator flags t min most greedy rest →
     ReadsOperator flags u least greatest other end → t ≡ u → SameOperator min least most greatest greedy other rest end
 operator_once r s same = form_once (form_of r) (form_of s) same
 
--- the last answer of a reader that stops at once
+-- a reader that returns at once, with the nodes so far
 abbrev stands : Reader
 stands depth front branches nodes t = found nodes front t
 
@@ -147,18 +147,18 @@ atom_answer : {flags : Flags} {t rest : Text} {node : Tree} → ReadsAtom flags 
     at_item ranges_of 0 stands (length t) 0 (at_front flags) [] [] t ≡ found (node ∷ []) (at_front flags) rest
 atom_answer {flags} {t} r = atom_leads ranges_of ranges_of_list 0 stands (length t) 0 (at_front flags) [] [] r (omega arith)
 
--- an atom is read in one way
+-- an atom has one reading
 pub atom_once : {flags : Flags} {t u rest end : Text} {node other : Tree} → ReadsAtom flags t node rest → ReadsAtom flags u other end → t ≡ u →
     (node ≡ other) × (rest ≡ end)
 atom_once {flags} r s same =
     let one = sym (atom_answer r) ∙ ap (λ x. at_item ranges_of 0 stands (length x) 0 (at_front flags) [] [] x) same ∙ atom_answer s in
     (ap first_node one, ap rest_in one)
 
--- the same front, before any group
+-- the same front, with no group counted
 abbrev bare : Front → Front
 bare front = record front { groups = 0 }
 
--- an inner front, counted from an outer one
+-- an inner front, with its groups counted from those of an outer one
 abbrev beyond : ℕ → Front → Front
 beyond groups inner = record inner { groups = inner.groups - groups }
 
@@ -208,7 +208,7 @@ behind_in (Err e) = []
 inner_back : (groups : ℕ) (inner : Front) → groups ≤ inner.groups → record (beyond groups inner) { groups = (beyond groups inner).groups + groups } ≡ inner
 inner_back groups inner more = let same : (inner.groups - groups) + groups ≡ inner.groups = omega arith in ap (λ g. record inner { groups = g }) same
 
--- an opening is read in one way
+-- an opening has one reading
 pub opening_once : {front inner other : Front} {t u inside end : Text} {opening closing : Opening} → ReadsOpening front t opening inner inside →
     ReadsOpening front u closing other end → t ≡ u → (opening ≡ closing) × (inner ≡ other) × (inside ≡ end)
 opening_once {front} {inner} {other} r s same =
@@ -226,7 +226,7 @@ directive_answer {front} d next is =
     directive_leads {front = bare front}
     (record { next = d.next; marks = d.marks; run = d.run; c = d.c; letters = d.letters; opens = d.opens; asks = d.asks; reads = d.reads; some = d.some; are = d.are }) next is
 
--- a directive is read in one way
+-- a directive has one reading
 pub directive_once : {front : Front} {t u rest end : Text} {flags other : Flags} → ReadsDirective front t flags rest → ReadsDirective front u other end → t ≡ u →
     (flags ≡ other) × (rest ≡ end)
 directive_once {flags = flags} d e same =
@@ -237,7 +237,7 @@ abbrev is_directive : ReadResult Opened → Bool
 is_directive (Ok (reading.directive changes, rest)) = true
 is_directive a = false
 
--- a directive opens no group
+-- no text is read both as a directive and as an opening
 pub directive_or_opening : {front inner : Front} {t u rest inside : Text} {flags : Flags} {opening : Opening} → ReadsDirective front t flags rest →
     ReadsOpening front u opening inner inside → t ≡ u → ⊥
 directive_or_opening d r same =

@@ -1,4 +1,4 @@
--- Whole patterns: what is read, the reader answers, and the first fault is the reader's.
+-- Whole patterns: the reader returns each tree within the limits; else it stops with the first fault, or its tree is too tall.
 use Rattle.std.proofs.Common.{◌≡◌, ℕ, suc, ◌<◌, ◌≤◌, ◌⊎◌, List, [], length, refl, sym, ap, ◌∙◌, subst, inl, inr, ⊎_elim, arith, Ok, Err, Result}
 use Rattle.bites_spec.specs.Message as message
 use Rattle.bites_spec.specs.Message.{Message, rank}
@@ -18,11 +18,11 @@ use Rattle.bites_spec.proofs.grammar.ChoiceFirst.{StopsFirst, choice_first}
 use Rattle.bites_spec.proofs.grammar.WholeSound.{read_within, read_stuck, within_limits, tall_or_low}
 use Rattle.bites_spec.proofs.grammar.WholeRanks.{rank_once}
 
--- the end of the reader
+-- the result for the whole pattern, from the result for its choice
 abbrev ended : Result ReadChoice Stop → Result Tree Stop
 ended a = elim a [ Ok f ↦ Ok (alternation_of f.branches) | Err e ↦ Err e ]
 
--- the reader answers this tree, or stops at a limit that the reading passes
+-- the result is this tree, or a stop at a limit that the reading passes
 pub data Leads (nest_limit : ℕ) {pattern : Text} {flags : Flags} {t : Tree} (r : Reading pattern flags t) (a : Result Tree Stop) : Type 0 where
   answers : a ≡ Ok t → Leads nest_limit r a
   stops : (e : Stop) → a ≡ Err e → Passes nest_limit 0 (open_in_choice r.reads) (count_in_choice r.reads) r.behind.groups e.message → Leads nest_limit r a
@@ -38,7 +38,7 @@ too_tall_or_low t u same (inl tall) low counted = omega (arith, ap height same)
 too_tall_or_low t u same (inr tall) low counted = omega (arith, ap height same)
 
 module _ (list_of : Set → List Range) (lists : (set : Set) → Lists (list_of set) set) (nest_limit : ℕ) where
-  -- what is read, the reader answers, or it stops at a limit
+  -- the reader returns the tree of each reading, or stops at a limit that the reading passes
   pub read_leads : {pattern : Text} {flags : Flags} {t : Tree} (r : Reading pattern flags t) → Leads nest_limit r (read list_of nest_limit pattern flags)
   read_leads {pattern} {flags} {t} r =
       ⊎_elim
@@ -61,7 +61,7 @@ module _ (list_of : Set → List Range) (lists : (set : Set) → Lists (list_of 
       let stopped = s.is in cc)
       (choice_leads list_of lists nest_limit r.reads (suc (length pattern)) 0 [] (omega arith) refl)
 
-  -- a tree within the limits is the reader's answer
+  -- the reader returns each tree within the limits
   pub limits_lead : {pattern : Text} {flags : Flags} {t : Tree} → Limits pattern flags nest_limit t → read list_of nest_limit pattern flags ≡ Ok t
   limits_lead l =
       elim (read_leads l.reading) [ answers is ↦ is | stops e is passes ↦ absurd (within_passes passes l.open_groups l.counts l.group_number) ]
@@ -73,7 +73,7 @@ module _ (list_of : Set → List Range) (lists : (set : Set) → Lists (list_of 
       let f = choice_first list_of lists nest_limit s (suc (length pattern)) [] (omega arith) in
       record { at = f.at; is = ap ended f.is; first = f.first }
 
-  -- the reader's stop is the first fault
+  -- the message of the reader's stop is the first fault
   pub stop_is_fault : {pattern : Text} {flags : Flags} (e : Stop) → read list_of nest_limit pattern flags ≡ Err e → Fault pattern flags nest_limit e.message
   stop_is_fault {pattern} {flags} e is = inl (record {
     place = e.place;
@@ -83,7 +83,7 @@ module _ (list_of : Set → List Range) (lists : (set : Set) → Lists (list_of 
         subst (λ x. ComesFirst x.message x.place other at) same f.first);
   })
 
-  -- a tree of the reader's that is too tall is the fault
+  -- if the tree that the reader returns is too tall, that is the fault
   pub tall_is_fault : {pattern : Text} {flags : Flags} (t : Tree) → read list_of nest_limit pattern flags ≡ Ok t → IsTooTall nest_limit t →
       Fault pattern flags nest_limit message.too_much_nesting
   tall_is_fault {pattern} {flags} t is tall = inr (record {
@@ -94,12 +94,12 @@ module _ (list_of : Set → List Range) (lists : (set : Set) → Lists (list_of 
     nesting = refl;
   })
 
-  -- a tree of the reader's that is not too tall is within the limits
+  -- if the tree that the reader returns is not too tall, it is within the limits
   pub low_is_within : {pattern : Text} {flags : Flags} (t : Tree) → read list_of nest_limit pattern flags ≡ Ok t → (IsTooTall nest_limit t → ⊥) →
       Limits pattern flags nest_limit t
   low_is_within {pattern} {flags} t is low = within_limits (read_within list_of lists nest_limit pattern flags t is) low
 
-  -- a pattern with a message has no tree within the limits
+  -- a pattern with a fault has no tree within the limits
   pub refused_has_no_tree : (pattern : Text) (flags : Flags) (m : Message) (t : Tree) → Fault pattern flags nest_limit m → Limits pattern flags nest_limit t → ⊥
   refused_has_no_tree pattern flags m t (inl f) l =
       let is : read list_of nest_limit pattern flags ≡ Ok t = limits_lead l in
@@ -120,7 +120,7 @@ module _ (list_of : Set → List Range) (lists : (set : Set) → Lists (list_of 
       inl (t, low_is_within t is (λ tall. too_tall_or_low t t refl tall heights.0 heights.1))) (tall_or_low nest_limit t)
   by_answer pattern flags (Err e) is = inr (e.message, stop_is_fault e is)
 
-  -- a pattern has a tree within the limits or a message
+  -- a pattern has a tree within the limits or a fault
   pub read_or_refused : (pattern : Text) (flags : Flags) →
       ((t : Tree) × Limits pattern flags nest_limit t) ⊎ ((m : Message) × Fault pattern flags nest_limit m)
   read_or_refused pattern flags = by_answer pattern flags (read list_of nest_limit pattern flags) refl
@@ -137,7 +137,7 @@ faults_once pattern flags nest_limit m k (inl f) (inr g) = absurd (g.no_other m 
 faults_once pattern flags nest_limit m k (inr f) (inl g) = absurd (f.no_other k g.place g.stuck)
 faults_once pattern flags nest_limit m k (inr f) (inr g) = f.nesting ∙ sym g.nesting
 
--- the function answers the trees within the limits
+-- a tree is within the limits exactly if the function returns it and it is not too tall
 pub reader_reads : ReaderReads
 reader_reads pattern flags nest_limit t = (
   λ l. (limits_lead ranges_of ranges_of_list nest_limit l, λ tall. too_tall_or_low t t refl tall l.low l.counted_height),
@@ -159,7 +159,7 @@ refused : (pattern : Text) (flags : Flags) (nest_limit : ℕ) (m : Message) (a :
 refused pattern flags nest_limit m (Ok t) is r = subst (Fault pattern flags nest_limit) (sym r.1) (tall_is_fault ranges_of ranges_of_list nest_limit t is r.0)
 refused pattern flags nest_limit m (Err e) is r = subst (Fault pattern flags nest_limit) (sym r) (stop_is_fault ranges_of ranges_of_list nest_limit e is)
 
--- the function refuses by the first fault
+-- a pattern has a fault exactly if the function refuses it by that fault's message
 pub reader_refuses : ReaderRefuses
 reader_refuses pattern flags nest_limit m =
     (refuses pattern flags nest_limit m (read ranges_of nest_limit pattern flags) refl, refused pattern flags nest_limit m (read ranges_of nest_limit pattern flags) refl)

@@ -1,4 +1,4 @@
--- A pattern is read in one way.
+-- A pattern has at most one tree, and opens its groups in one way.
 use Rattle.std.proofs.Common.{◌≡◌, ℕ, ◌<◌, Bool, true, false, ◌==◌, List, [], ◌∷◌, ◌++◌, refl, sym, ap, ap₂, ◌∙◌, subst, ⊎_elim, arith, Option, true≢false}
 use Rattle.std.specs.Prelude.{codes, if◌then◌else◌}
 use Rattle.std.proofs.lemmas.Bool.{cases_Bool, or_parts}
@@ -19,7 +19,7 @@ use Rattle.bites_spec.proofs.grammar.ChoiceBegins.{opening_begins}
 use Rattle.bites_spec.proofs.grammar.ItemCounts.{tail_of}
 use Rattle.bites_spec.proofs.grammar.ItemOnce.{atom_once, operator_once, opening_once, directive_once, directive_or_opening}
 
--- the end of a sequence, what opens with a parenthesis, an operator, or an atom
+-- the kind of what begins here: the end of a sequence, an opening parenthesis, an operator, or an atom
 abbrev kind_of : Text → ℕ
 kind_of [] = 0
 kind_of (c ∷ t) = if one_of (codes "|)") c then 0 else if c == left_parenthesis then 1 else if one_of (codes "?*+{") c then 2 else 3
@@ -72,7 +72,7 @@ end_kind (c ∷ t) ends =
     (λ (d : (c == right_parenthesis) ≡ false). absurd (true≢false (sym ends ∙ rw (b, d) refl))) (cases_Bool (c == right_parenthesis)))
     (cases_Bool (c == bar))
 
--- the last of two lists, and those before it
+-- equal lists have the same last element and the same elements before it
 snoc_once : (before early : List Tree) (node leaf : Tree) → before ++ node ∷ [] ≡ early ++ leaf ∷ [] → (before ≡ early) × (node ≡ leaf)
 snoc_once [] [] node leaf e = (refl, let same : node ≡ leaf = cc in same)
 snoc_once [] (x ∷ []) node leaf e = absurd (let no_more : [] ≡ leaf ∷ [] = cc in cc)
@@ -84,7 +84,7 @@ snoc_once (x ∷ before) (y ∷ early) node leaf e =
     let others = snoc_once before early node leaf (let rest : before ++ node ∷ [] ≡ early ++ leaf ∷ [] = cc in rest) in
     (ap₂ (λ a b. a ∷ b) first others.0, others.1)
 
--- the nodes, the front and what stands behind
+-- the nodes, the front and the rest are the same
 abbrev Same : List Tree → List Tree → Front → Front → Text → Text → Type 0
 Same all whole behind last rest end = (all ≡ whole) × (behind ≡ last) × (rest ≡ end)
 

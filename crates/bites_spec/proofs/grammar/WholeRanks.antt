@@ -1,4 +1,4 @@
--- A rank is that of one message.
+-- Messages of the same rank are the same.
 use Rattle.std.proofs.Common.{◌≡◌, ℕ, ◌-◌, ◌/◌, ◌==◌, List, [], ◌∷◌, get_or, refl, sym, ap, ◌∙◌}
 use Rattle.std.specs.Prelude.{if◌then◌else◌}
 use Rattle.bites_spec.specs.Message as message
@@ -30,6 +30,6 @@ message_at-rank : (m : Message) → message_at (rank m) ≡ m
 message_at-rank message.too_much_nesting = refl
 message_at-rank m = refl
 
--- messages of one rank are one
+-- messages of the same rank are the same
 pub rank_once : (m k : Message) → rank m ≡ rank k → m ≡ k
 rank_once m k same = sym (message_at-rank m) ∙ ap message_at same ∙ message_at-rank k

@@ -1,4 +1,4 @@
--- What the reader answers to a whole pattern, the relations say.
+-- What the reader returns for a whole pattern, the grammar's relations read.
 use Rattle.std.proofs.Common.{◌≡◌, ℕ, suc, ◌<◌, ◌≤◌, ◌⊎◌, List, [], length, refl, sym, subst, inl, inr, ⊎_elim, arith, Ok, Err, Result}
 use Rattle.std.proofs.lemmas.Bool.{cases_lt}
 use Rattle.bites_spec.specs.Range.{Range}
@@ -13,14 +13,14 @@ use Rattle.bites_spec.specs.Reader.{Stop, ReadChoice, read}
 use Rattle.bites_spec.proofs.grammar.ChoiceSound.{Says, Choice, adds_choice}
 use Rattle.bites_spec.proofs.grammar.ChoiceReader.{inner_says, stops_choice}
 
--- a reading within all limits but that on the tree's height
+-- a reading within all limits but the one on the tree's height
 pub record Within (pattern : Text) (flags : Flags) (nest_limit : ℕ) (t : Tree) : Type 0 where
   pub reading : Reading pattern flags t
   pub open_groups : open_in_choice reading.reads ≤ nest_limit
   pub group_number : reading.behind.groups ≤ greatest_number
   pub counts : count_in_choice reading.reads ≤ greatest_number
 
--- what an answer to the whole pattern says
+-- what a result for the whole pattern claims of the relations
 abbrev pub ReadSays : Text → Flags → ℕ → Result Tree Stop → Type 0
 ReadSays pattern flags nest_limit (Ok t) = Within pattern flags nest_limit t
 ReadSays pattern flags nest_limit (Err e) = IsStuck pattern flags nest_limit e.message e.place
@@ -42,13 +42,13 @@ whole pattern flags nest_limit (Ok f) found =
 whole pattern flags nest_limit (Err e) stops = stops_choice stops
 
 module _ (list_of : Set → List Range) (lists : (set : Set) → Lists (list_of set) set) (nest_limit : ℕ) where
-  -- what the reader answers, the relations say
+  -- what the reader returns, the relations read
   pub read_says : (pattern : Text) (flags : Flags) → ReadSays pattern flags nest_limit (read list_of nest_limit pattern flags)
   read_says pattern flags =
       whole pattern flags nest_limit _
       (inner_says list_of lists nest_limit (suc (length pattern)) 0 (at_front flags) [] [] pattern (omega arith) (omega arith) (omega arith))
 
-  -- a tree that the reader answers is read, and within the limits where it is not too tall
+  -- a tree that the reader returns has a reading within all limits but the one on its height
   pub read_within : (pattern : Text) (flags : Flags) (t : Tree) → read list_of nest_limit pattern flags ≡ Ok t → Within pattern flags nest_limit t
   read_within pattern flags t is = subst (ReadSays pattern flags nest_limit) is (read_says pattern flags)
 
@@ -64,7 +64,7 @@ tall_or_low nest_limit t =
     ⊎_elim (λ (counted : height t < 4294967295). inr (low, counted)) (λ (tall : 4294967295 ≤ height t). inl (inr tall)) (cases_lt (height t) 4294967295))
     (cases_lt nest_limit (height t))
 
--- a tree within the limits on reading that is not too tall
+-- a tree with such a reading that is not too tall is within the limits
 pub within_limits : {pattern : Text} {flags : Flags} {nest_limit : ℕ} {t : Tree} → Within pattern flags nest_limit t → (IsTooTall nest_limit t → ⊥) →
     Limits pattern flags nest_limit t
 within_limits {nest_limit = nest_limit} {t = t} w low = ⊎_elim (λ tall. absurd (low tall)) (λ heights. record {

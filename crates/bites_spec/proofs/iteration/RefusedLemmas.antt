@@ -1,10 +1,10 @@
--- An iterator that returns results.
+-- An iterator of results yields the items in order, and stops after the first error.
 use Rattle.std.proofs.Common.{◌≡◌, ◌<◌, List, [], ◌∷◌, length, Ok, Err, Result, refl, sym, ◌∙◌, subst, arith}
 use Rattle.std.specs.Iterator.{Yields}
 use Rattle.bites_spec.specs.Refused.{YieldsUntilRefused, GivenUntilRefused}
 
 module _ {S B C E : Type 0} (view : C → B) (left : S → List B) where
-  -- nothing comes where nothing is left
+  -- an iterator with nothing left yields nothing
   nothing_comes : (s t : S) (rs : List (Result C E)) → left s ≡ [] → Yields (YieldsUntilRefused {E = E} view left) s rs t → rs ≡ []
   nothing_comes s t [] none run = refl
   nothing_comes s t (Ok c ∷ rs) none run = let e = sym none ∙ run.1 in cc

@@ -1,4 +1,4 @@
--- What a replacer gives is decided by what it is.
+-- A replacer whose texts are unique gives one replaced haystack.
 use Rattle.std.proofs.Common.{◌≡◌, ℕ, List, [], ◌∷◌, map, Option, Some, None, refl, sym, ap, ap₂, ◌∙◌, subst}
 use Rattle.bites_spec.specs.Match.{Span}
 use Rattle.bites_spec.specs.Pieces.{limited, replaced}

@@ -44,6 +44,6 @@ module _ {B : Type 0} (span_of : B → Span) (hay : List ℕ) (A : ℕ → Optio
       let first = lies 0 x is_next.0 in
       let more = follow_in_order (span_of x).end xs first.2 is_next.1 in (first.0, first.1, more.0)
 
-  -- behind the first each ends above the one before
+  -- each match after the first ends above the one before
   pub Successive-ends_grow : (x : B) (xs : List B) → Successive span_of hay A (x ∷ xs) → EndsGrow (span_of x).end (map span_of xs)
   Successive-ends_grow x xs is_next = (follow_in_order (span_of x).end xs (lies 0 x is_next.0).2 is_next.1).1

@@ -1,4 +1,4 @@
--- The successive answers as a function: the list that the relation has, and the only one.
+-- The function `successive` returns the one list of successive answers that the relation has.
 use Rattle.std.proofs.Common.{◌≡◌, ℕ, zero, suc, ◌+◌, ◌<◌, ◌≤◌, Bool, true, false, cond, List, [], ◌∷◌, map, length, Option, Some, None, refl, sym, ap, ap₂, ◌∙◌, subst, inl, inr, ⊎_elim, arith}
 use Rattle.std.specs.Prelude.{option_map, ◌==◌, ◌&&◌}
 use Rattle.std.proofs.lemmas.Bool.{eqb-true, eq-eqb, and_parts, and_from, cases_Bool}
@@ -8,11 +8,11 @@ use Rattle.bites_spec.specs.Spans.{IsEmptyAt, IsNextAfter, Follow, Successive, i
 use Rattle.bites_spec.proofs.iteration.SpanLemmas.{next_lies}
 
 module _ {B : Type 0} (span_of : B → Span) (hay : List ℕ) (A : ℕ → Option B) where
-  -- a search answers what the function says
+  -- the function A, as a relation of a start and an answer
   abbrev Answers : ℕ → Option B → Type 0
   Answers s o = A s ≡ o
 
-  -- the test says what the relation says
+  -- an answer that passes the test for emptiness is empty in the relation; below it, the converse
   tests_empty : (e : ℕ) (x : B) → is_empty_at span_of e (Some x) ≡ true → IsEmptyAt span_of hay Answers e (Some x)
   tests_empty e x h =
       let parts = and_parts ((span_of x).start == e) ((span_of x).end == e) h in
@@ -34,7 +34,7 @@ module _ {B : Type 0} (span_of : B → Span) (hay : List ℕ) (A : ℕ → Optio
       differ true h k = cc
       differ false h k = cc
 
-  -- the function answers the next item
+  -- what the function returns is next
   pub next_after-IsNextAfter : (e : ℕ) → IsNextAfter span_of hay Answers e (next_after span_of hay A e)
   unfolding next_after
   next_after-IsNextAfter e = next_by e (A e) (A (e + step_len hay e)) refl refl
@@ -74,7 +74,7 @@ module _ {B : Type 0} (span_of : B → Span) (hay : List ℕ) (A : ℕ → Optio
       some_same : (x y : B) → Some x ≡ Some y → x ≡ y
       some_same x y e = cc
 
-  -- there is one list of successive answers at most
+  -- at most one list is that of the successive answers
   pub successive_once : (xs ys : List B) → Successive span_of hay Answers xs → Successive span_of hay Answers ys → xs ≡ ys
   successive_once xs ys p q = follow_one (Answers 0) (λ o r h k. sym h ∙ k) xs ys p q
 
@@ -95,7 +95,7 @@ module _ {B : Type 0} (span_of : B → Span) (hay : List ℕ) (A : ℕ → Optio
   none_followed f None never = refl
   none_followed f (Some x) never = absurd (never x refl)
 
-  -- any number that is enough is enough
+  -- two bounds that are both large enough give the same list
   same_some : (n m e : ℕ) → length hay ≤ n + e → length hay ≤ m + e → some_after span_of hay A n e ≡ some_after span_of hay A m e
   unfolding some_after
   same_some zero zero e p q = refl
@@ -134,7 +134,7 @@ module _ {B : Type 0} (span_of : B → Span) (hay : List ℕ) (A : ℕ → Optio
       follows (some_after span_of hay A n) (IsNextAfter span_of hay (λ s r. A s ≡ r) e) (next_after span_of hay A e) (next_after-IsNextAfter span_of hay A e)
       (λ x is. let h = next_after-above e x is in let one = h.0 in some_follow n (span_of x).end (omega arith))
 
-  -- the function answers the successive answers
+  -- the function returns the successive answers
   pub successive_follow : Successive span_of hay (λ s r. A s ≡ r) (successive span_of hay A)
   unfolding successive successive_after
   successive_follow =
@@ -152,7 +152,7 @@ module _ {B : Type 0} (span_of : B → Span) (hay : List ℕ) (A : ℕ → Optio
   some_after-length zero e = omega arith
   some_after-length (suc n) e = followed-length (some_after span_of hay A n) n (next_after span_of hay A e) (some_after-length n)
 
-  -- no more behind an item than the haystack has bytes
+  -- after an item there are no more items than the haystack has bytes
   pub successive_after-length : (e : ℕ) → length (successive_after span_of hay A e) ≤ length hay
   unfolding successive_after
   successive_after-length e = some_after-length (length hay) e
@@ -161,10 +161,10 @@ module _ {B : Type 0} (span_of : B → Span) (hay : List ℕ) (A : ℕ → Optio
   unfolding successive
   successive-length = followed-length (successive_after span_of hay A) (length hay) (A 0) successive_after-length
 
--- items with the same spans
+-- mapped items with the same spans
 module _ {B C : Type 0} (f : B → C) (span_of : B → Span) (span_of_image : C → Span)
     (same : (x : B) → span_of_image (f x) ≡ span_of x) (hay : List ℕ) (A : ℕ → Option B) where
-  -- what is read off each answer
+  -- the image of each answer
   abbrev image : ℕ → Option C
   image s = option_map f (A s)
 

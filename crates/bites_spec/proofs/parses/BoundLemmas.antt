@@ -1,4 +1,4 @@
--- Parses lie in the haystack, and their groups within them.
+-- A parse lies in the haystack, and its groups lie between its ends.
 use Rattle.std.proofs.Common.{◌≡◌, ℕ, zero, suc, ◌≤◌, Bool, true, false, cond, List, [], ◌∷◌, ◌++◌, length, Some, None, sym, ◌∙◌, subst, ⊎_elim, arith, ◌⊎◌}
 use Rattle.std.specs.Prelude.{◌==◌, if◌then◌else◌}
 use Rattle.std.proofs.lemmas.Option.{none-some, same_Some}
@@ -25,7 +25,7 @@ AllLie-append : (i j : ℕ) (ms ns : List Mark) → AllLie i j ms → AllLie i j
 AllLie-append i j [] ns a b = b
 AllLie-append i j (m ∷ ms) ns a b = (a.0, AllLie-append i j ms ns a.1 b)
 
--- where the last mark lies
+-- the last mark of a group lies between the same two places
 last_lies : (i j k : ℕ) (ms : List Mark) (g : Span) → AllLie i j ms → last_mark ms k ≡ Some g → LiesFrom j i g
 last_lies i j k [] g all e = absurd (none-some g e)
 last_lies i j k (m ∷ ms) g all e =
@@ -99,7 +99,7 @@ module _ (hay : List ℕ) where
     one_lies no_tree i j ms le h = absurd h
     one_lies (tree_and t ts) i j ms le h = ⊎_elim (λ a. parse_lies t i j ms le a) (λ b. one_lies ts i j ms le b) h
 
--- what is found lies in the haystack, and its groups in the match
+-- what is found lies in the haystack, and its groups lie in the match
 pub found_lies : FoundLies
 found_lies t hay s a found =
     let from = Among-places hay s a.start found.first.place in

@@ -1,4 +1,4 @@
--- Ways through a tree, with each opening and closing of a group: both the marks of a parse and the writes of a run are read off them.
+-- Traced parses list each opening and closing of a group: the marks of a parse and the writes of a run are read off them.
 use Rattle.std.proofs.Common.{◌≡◌, ℕ, zero, suc, ◌+◌, ◌*◌, ◌≤◌, List, [], ◌∷◌, ◌++◌, refl, sym, ap, ap₂, ◌∙◌, inl, inr, ⊎_elim, ◌⊎◌, append_assoc}
 use Rattle.std.specs.Prelude.{◌==◌}
 use Rattle.bites_spec.specs.Look.{Holds}
@@ -38,7 +38,7 @@ marks_of-append (e ∷ a) b = ap (λ ms. mark_for e ++ ms) (marks_of-append a b)
 
 module _ (hay : List ℕ) where
   abbrev mutual
-    -- a way through the tree, with its events
+    -- a traced parse of the tree from i to j, with its events
     pub Steps : Tree → ℕ → ℕ → List Event → Type 0
     Steps empty i j es = (j ≡ i) × (es ≡ [])
     Steps (char c) i j es = Takes hay (λ d. d == c) i j × (es ≡ [])
@@ -65,7 +65,7 @@ module _ (hay : List ℕ) where
       (l, marks_of first, marks_of rest, f i l first one, turns_parse R Q f n l j rest more, ap marks_of e ∙ marks_of-append first rest)
 
   mutual
-    -- each way is a parse, with the marks of its events
+    -- each traced parse is a parse, with the marks of its events
     pub Steps-Parse : (t : Tree) (i j : ℕ) (es : List Event) → Steps t i j es → Parse hay t i j (marks_of es)
     Steps-Parse empty i j es h = (h.0, ap marks_of h.1)
     Steps-Parse (char c) i j es h = (h.0, ap marks_of h.1)
@@ -87,7 +87,7 @@ module _ (hay : List ℕ) where
     Steps-ParseOne no_tree i j es h = absurd h
     Steps-ParseOne (tree_and t ts) i j es h = ⊎_elim (λ a. inl (Steps-Parse t i j es a)) (λ b. inr (Steps-ParseOne ts i j es b)) h
 
-  -- a way whose events have these marks
+  -- some traced parse whose events have these marks
   abbrev pub Marked : (ℕ → ℕ → List Event → Type 0) → ℕ → ℕ → List Mark → Type 0
   Marked R i j ms = (es : List Event) × R i j es × (marks_of es ≡ ms)
 
@@ -100,7 +100,7 @@ module _ (hay : List ℕ) where
       (a.0 ++ b.0, (l, a.0, b.0, a.1, b.1, refl), marks_of-append a.0 b.0 ∙ ap₂ ◌++◌ a.2 b.2 ∙ sym e)
 
   mutual
-    -- each parse is a way with events
+    -- each parse is a traced parse with the same marks
     pub Parse-Steps : (t : Tree) (i j : ℕ) (ms : List Mark) → Parse hay t i j ms → Marked (Steps t) i j ms
     Parse-Steps empty i j ms h = ([], (h.0, refl), sym h.1)
     Parse-Steps (char c) i j ms h = ([], (h.0, refl), sym h.1)

@@ -5,7 +5,7 @@ use Rattle.std.specs.Option.{option_or}
 use Rattle.bites_spec.specs.Tree.{Tree, Trees, empty, char, class, look, repetition, group, sequence, alternation, no_tree, tree_and}
 use Rattle.bites_spec.specs.Match.{Mark, Span, span, mark, Turns, Parse, ParseAll, ParseOne, last_mark, groups}
 
--- each mark begins from i on, is turned forward and ends at j or before
+-- each mark begins at i or after, ends at j or before, and does not begin after its end
 abbrev pub MarksLie : ℕ → ℕ → List Mark → Type 0
 MarksLie i j [] = Unit {0}
 MarksLie i j (m ∷ ms) = (i ≤ m.span.start) × (m.span.start ≤ m.span.end) × (m.span.end ≤ j) × MarksLie i j ms

@@ -1,4 +1,4 @@
--- As many groups as the form says participate in each parse.
+-- If the form of a tree gives a count of groups, at least that many participate in each parse.
 use Rattle.std.proofs.Common.{◌≡◌, ℕ, zero, suc, ◌+◌, ◌≤◌, Bool, true, false, not, ◌&&◌, List, [], ◌∷◌, ◌++◌, length, Option, Some, None, refl, sym, subst, ap, ap₂, ◌∙◌, inl, inr, ⊎_elim, ◌⊎◌, arith, eqb-true}
 use Rattle.std.proofs.lemmas.Bool.{eqb-false}
 use Rattle.std.proofs.lemmas.List.{length-append}
@@ -20,7 +20,7 @@ among_append : (xs ys : List ℕ) (x : ℕ) → Among (xs ++ ys) x → Among xs 
 among_append [] ys x h = inr h
 among_append (y ∷ xs) ys x h = ⊎_elim (λ (e : y ≡ x). inl (inl e)) (λ later. ⊎_elim (λ a. inl (inr a)) inr (among_append xs ys x later)) h
 
--- two lists without a common element, each without one twice
+-- two lists without a common element, each without repetition, have no repetition together
 apart_append : (xs ys : List ℕ) → AllApart xs → AllApart ys → ((x : ℕ) → Among xs x → Among ys x → ⊥) → AllApart (xs ++ ys)
 apart_append [] ys first second none = second
 apart_append (x ∷ xs) ys first second none = (
@@ -50,7 +50,7 @@ marked_right : (ms ns : List Mark) (k : ℕ) → IsMarked ns k → IsMarked (ms 
 marked_right [] ns k h = h
 marked_right (m ∷ ms) ns k h = inr (marked_right ms ns k h)
 
--- n different groups took part, all of them among these
+-- n different groups participate, all of them from gs
 pub record Witness (gs : List ℕ) (n : ℕ) (ms : List Mark) : Type 0 where
   pub ks : List ℕ
   pub many : length ks ≡ n
@@ -61,7 +61,7 @@ pub record Witness (gs : List ℕ) (n : ℕ) (ms : List Mark) : Type 0 where
 no_group : (gs : List ℕ) (ms : List Mark) → Witness gs 0 ms
 no_group gs ms = record { ks = []; many = refl; apart = tt; marked = λ k h. absurd h; within = λ k h. absurd h }
 
--- parts one behind the other
+-- two parts, one after the other
 joined : (gs hs : List ℕ) (m n : ℕ) (ms ns : List Mark) → AllApart (gs ++ hs) → Witness gs m ms → Witness hs n ns → Witness (gs ++ hs) (m + n) (ms ++ ns)
 joined gs hs m n ms ns apart a b = record {
   ks = a.ks ++ b.ks;
@@ -71,11 +71,11 @@ joined gs hs m n ms ns apart a b = record {
   within = λ k h. ⊎_elim (λ u. among_left gs hs k (a.within k u)) (λ v. among_right gs hs k (b.within k v)) (among_append a.ks b.ks k h);
 }
 
--- a part among others
+-- a part of a tree with other groups
 wider : (gs hs : List ℕ) (n : ℕ) (ms : List Mark) → ((k : ℕ) → Among gs k → Among hs k) → Witness gs n ms → Witness hs n ms
 wider gs hs n ms inside a = record { ks = a.ks; many = a.many; apart = a.apart; marked = a.marked; within = λ k h. inside k (a.within k h) }
 
--- the first of some turns
+-- marks added after those of a part
 with_marks : (gs : List ℕ) (n : ℕ) (ms ns : List Mark) → Witness gs n ms → Witness gs n (ms ++ ns)
 with_marks gs n ms ns a = record { ks = a.ks; many = a.many; apart = a.apart; marked = λ k h. marked_left ms ns k (a.marked k h); within = a.within }
 
@@ -120,7 +120,7 @@ above_zero : (n : ℕ) → (n ≡ 0 → ⊥) → 1 ≤ n
 above_zero zero ne = absurd (ne refl)
 above_zero (suc n) ne = omega arith
 
--- a body that may be left out has no groups
+-- the count of a repetition is that of its body, and it is 0 if the body may be left out
 of_repeated : (min : ℕ) (a : Option ℕ) (n : ℕ) → repeated_count min a ≡ Some n → (a ≡ Some n) × ((n ≡ 0) ⊎ (1 ≤ min))
 of_repeated min (Some m) n e = by_test (min == 0) refl (m == 0) refl
   where
@@ -191,7 +191,7 @@ module _ (hay : List ℕ) where
         (λ b. wider hs (gs ++ hs) n ms (λ k c. among_right gs hs k c) (witness_one (tree_and u ts) (second_apart gs hs apart) n r.1 i j ms b))
         h
 
--- as many different groups participate as the form says
+-- at least as many different groups participate as the form gives
 pub static_least : (hay : List ℕ) (t : Tree) → AllApart (groups_in t) → (n : ℕ) → static_count t ≡ Some n →
     (i j : ℕ) (ms : List Mark) → Parse hay t i j ms → MarksAtLeast n ms
 static_least hay t apart n e i j ms h = let w = witness hay t apart n e i j ms h in (w.ks, w.many, w.apart, w.marked)

@@ -1,4 +1,4 @@
--- What a tree matches keeps to the ends of pieces.
+-- In UTF-8, what a tree matches begins and ends at borders, and so do its groups.
 use Rattle.std.proofs.Common.{◌≡◌, ℕ, zero, suc, ◌+◌, Bool, true, false, cond, List, [], ◌∷◌, ◌++◌, Some, None, sym, ◌∙◌, subst, ⊎_elim, IsUtf8, IsCharBoundary}
 use Rattle.std.specs.Prelude.{◌==◌}
 use Rattle.bites_spec.specs.Utf8.{piece}
@@ -10,7 +10,7 @@ use Rattle.bites_spec.proofs.parses.EventLemmas.{Matches-Parse}
 use Rattle.bites_spec.proofs.parses.MarkPlaces.{or_cases}
 use Rattle.bites_spec.proofs.parses.TextPlaces.{border_behind, places_are_borders}
 
--- places at which P holds, if it holds behind a piece wherever it holds at its begin
+-- a property of places that holds after a piece if it holds before it
 module _ (hay : List ℕ) (P : ℕ → Type 0) (behind : (i : ℕ) → P i → P (i + (piece hay i).len)) where
   -- it holds at both ends of each mark
   abbrev pub AllHold : List Mark → Type 0

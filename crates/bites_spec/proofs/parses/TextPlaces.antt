@@ -1,4 +1,4 @@
--- In a text the places from a border on are the borders.
+-- In UTF-8, the places from a border on are the borders from it on.
 use Rattle.std.proofs.Common.{◌≡◌, ℕ, zero, suc, ◌+◌, ◌-◌, ◌<◌, ◌≤◌, Bool, true, false, cond, List, [], ◌∷◌, ◌++◌, length, drop, refl, sym, ap, ◌∙◌, subst, inl, inr, ⊎_elim, arith, length-drop, length-append, append_assoc, take, ltb, ltb-true, ltb-false, le-leb, IsUtf8, IsCharBoundary}
 use Rattle.std.specs.Prelude.{◌↔◌, nat_le, encode_utf8_all, ◌&&◌}
 use Rattle.std.specs.Char.{len_utf8, IsScalar, encode_utf8}
@@ -29,7 +29,7 @@ character_at hay i utf8 border lt = first_of (IsUtf8-drop hay i utf8 border)
         let s = (and_parts (scalar c) (scalars cs) h.0).0 in
         (c, record { scalar = s; rest = encodes cs; bytes = sym h.1; piece_is = ap front_piece (sym h.1) ∙ scalar_piece c (encodes cs) s })
 
--- what stands at a border ends at a border
+-- the piece at a border ends at a border
 pub border_behind : (hay : List ℕ) (i : ℕ) → IsUtf8 hay → IsCharBoundary hay i → IsCharBoundary hay (i + (piece hay i).len)
 border_behind hay i utf8 border =
     ⊎_elim (λ (e : ltb i (length hay) ≡ true).
@@ -41,7 +41,7 @@ border_behind hay i utf8 border =
     subst (λ (n : ℕ). IsCharBoundary hay n) (omega (arith, none)) border)
     (cases_Bool (ltb i (length hay)))
 
--- before the end a scan goes on by the piece
+-- before the end, a scan steps over the piece
 step_is : (hay : List ℕ) (i : ℕ) → i < length hay → step_len hay i ≡ (piece hay i).len
 step_is hay i lt = omega (arith, piece_some hay i lt)
 
@@ -75,7 +75,7 @@ encode_some c = let n = length-encode c in let b = len_utf8_bounds c in omega (a
 pub scalars_step : (c : ℕ) (cs : List ℕ) → scalars (c ∷ cs) ≡ true → IsScalar c × (scalars cs ≡ true)
 scalars_step c cs e = and_parts (scalar c) (scalars cs) e
 
--- where a character stands, what stands behind it
+-- dropping a character's bytes leaves what follows them
 pub behind_character : (hay : List ℕ) (s c : ℕ) (rest : List ℕ) → drop s hay ≡ encode_utf8 c ++ rest → drop (s + len_utf8 c) hay ≡ rest
 behind_character hay s c rest e =
     sym (drop-drop (len_utf8 c) s hay) ∙ ap (drop (len_utf8 c)) e ∙ ap (λ (k : ℕ). drop k (encode_utf8 c ++ rest)) (sym (length-encode c)) ∙ drop-append_seam (encode_utf8 c) rest

@@ -8,7 +8,7 @@ use Rattle.bites_spec.specs.Built.{Fragment, One, Behind, Copies, Options, Loop,
 use Rattle.bites_spec.proofs.programs.SlotLemmas.{Among-left, Among-right, AllApart-append}
 use Rattle.bites_spec.proofs.programs.BuiltLemmas.{Among-append}
 
--- what stands in one list stands not in the other
+-- an element of one list is not in the other
 none_common : {A : Type 0} (xs ys : List A) → AllApart (xs ++ ys) → (x : A) → Among xs x → Among ys x → ⊥
 none_common [] ys h x a b = a
 none_common {A} (y ∷ xs) ys h x a b =
@@ -26,15 +26,15 @@ module _ (states : List State) where
   abbrev AllFine : List ℕ → Type 0
   AllFine used = (q : ℕ) → Among used q → Fine q
 
-  -- the part is entered at one of its states
+  -- the part's entry is one of its states
   abbrev IsEntered : Fragment → Type 0
   IsEntered part = (from to : ℕ) (used : List ℕ) → part from to used → Among used from
 
-  -- the part is entered at one of its states, or has none
+  -- the part's entry is one of its states, or it has none and its entry is its exit
   abbrev MayBeEntered : Fragment → Type 0
   MayBeEntered part = (from to : ℕ) (used : List ℕ) → part from to used → Among used from ⊎ ((from ≡ to) × (used ≡ []))
 
-  -- where its states are apart, and that to which it is left is none of them, the targets of each are apart
+  -- if a part's states are distinct and its exit is none of them, the targets of each state are distinct
   abbrev IsFine : Fragment → Type 0
   IsFine part = (from to : ℕ) (used : List ℕ) → part from to used → AllApart used → IsNew to used → AllFine used
 
@@ -44,7 +44,7 @@ module _ (states : List State) where
   fine_by : (q : ℕ) (s : State) → state_at states q ≡ s → AllApart (targets_of s) → Fine q
   fine_by q s is apart = subst (λ (x : State). AllApart (targets_of x)) (sym is) apart
 
-  -- a fine state in front
+  -- one more fine state
   fine_and : (q : ℕ) (used : List ℕ) → Fine q → AllFine used → AllFine (q ∷ used)
   fine_and q used here rest x h = ⊎_elim (λ (e : q ≡ x). subst (λ (y : ℕ). Fine y) e here) (λ later. rest x later) h
 
@@ -103,7 +103,7 @@ module _ (states : List State) where
     Copies-fine (suc n) rest after ok =
         Behind-fine body (Copies states n body rest) fine (Copies-fine n rest after ok) (may (Copies states n body rest) (Copies-entered n rest after))
 
-    -- two targets, of which the one is among states that the other is none of
+    -- a target among some states differs from one outside them
     apart_by : (used : List ℕ) (round leave : ℕ) → Among used round → IsNew leave used → round ≡ leave → ⊥
     apart_by used round leave h new e = new (subst (λ (x : ℕ). Among used x) e h)
 
@@ -230,7 +230,7 @@ module _ (states : List State) where
       (Behind-entered (HasForm states t) (One states (λ to. program.capture to (2 * k + 1))) entered))
 
   mutual
-    -- the part of a reduced tree has a state, and is entered there
+    -- the part of a reduced tree has a state, and its entry is one
     pub HasForm-entered : (t : Tree) → IsReduced t → IsEntered (HasForm states t)
     HasForm-entered empty reduced = goto_entered
     HasForm-entered (char c) reduced = One-entered (λ to. program.char to c)
@@ -244,7 +244,7 @@ module _ (states : List State) where
     HasForm-entered (sequence ts) reduced = some_entered ts reduced
     HasForm-entered (alternation ts) reduced = λ from to used h. subst (λ (l : List ℕ). Among l from) (sym h.6) (inl refl)
 
-    -- of a row with a tree
+    -- so has the part of a sequence that is reduced
     some_entered : (ts : Trees) → IsReduced (sequence ts) → IsEntered (HasFormAll states ts)
     some_entered no_tree reduced = absurd (omega (arith, reduced.0))
     some_entered (tree_and t ts) reduced = Behind-entered (HasForm states t) (HasFormAll states ts) (HasForm-entered t reduced.1.0)
@@ -253,7 +253,7 @@ module _ (states : List State) where
     all_may no_tree reduced = λ from to used h. inr h
     all_may (tree_and t ts) reduced = may (HasFormAll states (tree_and t ts)) (Behind-entered (HasForm states t) (HasFormAll states ts) (HasForm-entered t reduced.0))
 
-    -- the targets of its states are apart
+    -- the targets of each state of the part are distinct
     pub HasForm-fine : (t : Tree) → IsReduced t → IsFine (HasForm states t)
     HasForm-fine empty reduced = goto_fine
     HasForm-fine (char c) reduced = One-fine (λ to. program.char to c) single
@@ -287,7 +287,7 @@ module _ (states : List State) where
         (fine_append a b (HasForm-fine t reduced.0 q out a one parts.0 (λ x. new_both (Among-left a b out x)))
         (each_fine ts reduced.1 rounds out b more parts.1 (λ x. new_both (Among-right a b out x))))
 
-    -- the branches are entered at states of their own
+    -- the branches' entries are distinct states
     rounds_apart : (ts : Trees) → AllAreReduced ts → (rounds : List ℕ) (out : ℕ) (used : List ℕ) → HasFormEach states ts rounds out used →
         AllApart used → AllApart rounds × ((q : ℕ) → Among rounds q → Among used q)
     rounds_apart no_tree reduced [] out used h all = (tt, λ q no. absurd no)

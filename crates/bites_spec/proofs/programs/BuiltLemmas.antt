@@ -52,13 +52,13 @@ module _ (t : Tree) (p : Program) (hay : List ℕ) (fit : IsCompilable t) (built
       group_mark hay 0 i j inner (suc k)
       ∙ ap (λ b. option_or (cond b (Some (span i j)) None) (last_mark (marks_of inner) (suc k))) (ne_eqb 0 (suc k) (λ (e : 0 ≡ suc k). absurd (omega (arith, e))))
 
-  -- past the number of groups there is none
+  -- a number past the groups of the tree has no group
   no_group : (i j : ℕ) (inner : List Event) → Steps hay t i j inner → (k : ℕ) → captures_len t ≤ k → groups i j (marks_of inner) k ≡ None
   no_group i j inner steps zero le = absurd (omega (arith, le))
   no_group i j inner steps (suc k) le =
       no_mark hay t (suc k) (λ h. let least = at_most_greatest (groups_in t) (suc k) h in omega (arith, le, least)) i j inner steps
 
-  -- the groups are what the run wrote last to their slots
+  -- the groups are what the run last wrote to their slots
   has_written : (i j : ℕ) (r : List Configuration) (inner : List Event) → Steps hay t i j inner → writes p (at p.start i) r ≡ writes_of (whole i j inner) → (k : ℕ) →
       (written p (run i r j) (2 * k) ≡ option_map (λ s. s.start) (groups i j (marks_of inner) k))
       × (written p (run i r j) (2 * k + 1) ≡ option_map (λ s. s.end) (groups i j (marks_of inner) k))
@@ -88,12 +88,12 @@ module _ (t : Tree) (p : Program) (hay : List ℕ) (fit : IsCompilable t) (built
       room : p.slots ≡ 2 * built.groups
       room = built.slots
 
-  -- at the match a run ends
+  -- a run that is at the match ends there
   ends_there : (l j : ℕ) (rest : List Configuration) → Runs p hay (at built.last l) rest j → (l ≡ j) × (rest ≡ [])
   ends_there l j [] runs = (runs.1, refl)
   ends_there l j (s ∷ rest) runs = absurd (subst (λ (st : program.State). Among (edges hay st l) s) built.ends runs.0)
 
-  -- each run is a parse with its groups
+  -- each run is a parse whose groups are in its slots
   pub run_is_parse : (i j : ℕ) (r : List Configuration) → IsRun p hay i r j → (ms : List Mark) × Parse hay t i j ms × HasGroups p (run i r j) ms
   unfolding whole
   run_is_parse i j r runs =
@@ -106,7 +106,7 @@ module _ (t : Tree) (p : Program) (hay : List ℕ) (fit : IsCompilable t) (built
       ∙ ap writes_of (x.parse.2 ∙ ap (λ l. whole i l inner) over.0) in
       (marks_of inner, Steps-Parse hay t i j inner steps, has_groups i j r inner steps same)
 
-  -- each parse is a run with its groups in the slots
+  -- each parse is a run whose slots hold its groups
   pub parse_is_run : (i j : ℕ) (ms : List Mark) → Parse hay t i j ms → (r : List Configuration) × IsRun p hay i r j × HasGroups p (run i r j) ms
   unfolding whole
   parse_is_run i j ms parse =
@@ -120,7 +120,7 @@ module _ (t : Tree) (p : Program) (hay : List ℕ) (fit : IsCompilable t) (built
             (has_groups i j x.configurations inner marked.1 (x.same ∙ append-nil (writes_of (whole i j inner)))),
       )
 
-  -- The tree matches from i to j exactly if the program has a run from i to j.
+  -- The tree matches from i to j if the program has a run from i to j, and conversely.
   pub run_is_match : (i j : ℕ) (r : List Configuration) → IsRun p hay i r j → Matches hay t i j
   run_is_match i j r runs = let x = run_is_parse i j r runs in Parse-Matches hay t i j x.0 x.1
 

@@ -1,4 +1,4 @@
--- A way through the tree of a part, and a run from where the part leads, are a run through the part.
+-- A traced parse of a part's tree, and a run from the part's exit, make a run through the part.
 use Rattle.std.proofs.Common.{◌≡◌, ℕ, zero, suc, ◌+◌, ◌-◌, ◌*◌, ◌≤◌, Bool, true, false, cond, List, [], ◌∷◌, ◌++◌, map, Option, Some, None, refl, sym, ap, ap₂, ◌∙◌, subst, inl, inr, ⊎_elim, true≢false, arith, append_assoc, append-nil, lt-ltb}
 use Rattle.std.specs.Prelude.{◌==◌, nat_lt, ◌&&◌}
 use Rattle.bites_spec.specs.Utf8.{piece, character}
@@ -96,7 +96,7 @@ module _ (p : Program) (hay : List ℕ) where
   close_to : (k b : ℕ) → DoesTo (λ to. program.capture to (2 * k + 1)) (Closes k b)
   close_to k b to i l es (l_is, es_is) = (inl (ap (at to) (sym l_is)), sym (ap writes_of es_is))
 
-  -- a way a, and behind it what stands behind it
+  -- the events a, and after them the events b
   joined : (s t : Configuration) (j : ℕ) (a b : List Event) (vs : List (ℕ × ℕ)) (x : Entered t j (writes_of b ++ vs)) →
       Entered s j (writes_of a ++ written t x.configurations) → Entered s j (writes_of (a ++ b) ++ vs)
   joined s t j a b vs x y =
@@ -110,7 +110,7 @@ module _ (p : Program) (hay : List ℕ) where
       renamed (at from i) j _ _ (ap (λ es. writes_of es ++ written (at to l) rest) (sym es_is))
       (joined (at from i) (at mid m) j a b (written (at to l) rest) x y)
 
-  -- the edges of a choice
+  -- a choice has an edge into the body; below it, an edge out
   round_edge : (greedy : Bool) (round leave i : ℕ) → Among (edges hay (choice p.states greedy round leave) i) (at round i)
   round_edge true round leave i = inl refl
   round_edge false round leave i = inr (inl refl)
@@ -119,7 +119,7 @@ module _ (p : Program) (hay : List ℕ) where
   leave_edge true round leave i = inr (inl refl)
   leave_edge false round leave i = inl refl
 
-  -- from a choice into the body, or out
+  -- from a choice into the body; below it, from a choice out
   into : (greedy : Bool) (q round leave i j : ℕ) (ws : List (ℕ × ℕ)) → state_at p.states q ≡ choice p.states greedy round leave →
       Entered (at round i) j ws → Entered (at q i) j ws
   into greedy q round leave i j ws is x =
@@ -130,7 +130,7 @@ module _ (p : Program) (hay : List ℕ) where
   out_of greedy q round leave i j ws is x =
       renamed (at q i) j _ _ x.same (step_in q i j (choice p.states greedy round leave) (at leave i) x.configurations is (leave_edge greedy round leave i) x.runs)
 
-  -- over a state that only leads on
+  -- across a state that only leads on
   over : (q to i j : ℕ) (rest : List Configuration) → state_at p.states q ≡ program.goto to None → RunsTo (at to i) rest j →
       Entered (at q i) j (written (at to i) rest)
   over q to i j rest is runs = step_in q i j (program.goto to None) (at to i) rest is (inl refl) runs
@@ -138,7 +138,7 @@ module _ (p : Program) (hay : List ℕ) where
   stays : (s : Configuration) (j : ℕ) (rest : List Configuration) → RunsTo s rest j → Entered s j (written s rest)
   stays s j rest runs = record { configurations = rest; runs = runs; same = refl }
 
-  -- where no turn is left, the way ends here
+  -- where no turn is left, the traced parse ends here
   at_end : (q to i l j : ℕ) (es : List Event) (rest : List Configuration) → l ≡ i → es ≡ [] →
       Entered (at q i) j (written (at to i) rest) → Entered (at q i) j (writes_of es ++ written (at to l) rest)
   at_end q to i l j es rest l_is es_is x =
@@ -148,7 +148,7 @@ module _ (p : Program) (hay : List ℕ) where
   back to i l j rest l_is runs = subst (λ x. RunsTo (at to x) rest j) l_is runs
 
   module _ (greedy : Bool) (body : Fragment) (R : Traces) (inside : Enters body R) where
-    -- one turn, and behind it what is entered where the turn leads
+    -- one turn, and after it what is entered where the turn leads
     turn : (from mid : ℕ) (a : List ℕ) → body from mid a → (i m j : ℕ) (first more es : List Event) (vs : List (ℕ × ℕ)) →
         R i m first → es ≡ first ++ more → Entered (at mid m) j (writes_of more ++ vs) → Entered (at from i) j (writes_of es ++ vs)
     turn from mid a h i m j first more es vs parse es_is x =
@@ -303,7 +303,7 @@ module _ (p : Program) (hay : List ℕ) where
       from to used h i l es (group_trace k name t i l es parse) j rest runs
 
   mutual
-    -- Each way through a tree is a run through its part.
+    -- Each traced parse of a tree makes a run through its part.
     pub HasForm-enters : (t : Tree) → IsReduced t → Enters (HasForm p.states t) (Steps hay t)
     HasForm-enters empty reduced = One-enters (λ to. program.goto to None) (Steps hay empty) Nothing-to
     HasForm-enters (char c) reduced = One-enters (λ to. program.char to c) (Steps hay (char c)) (char_to c)

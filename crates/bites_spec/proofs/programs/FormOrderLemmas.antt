@@ -1,4 +1,4 @@
--- For a plain tree, all runs of its program in order are its listed ways in order.
+-- All runs of a plain tree's program, in order, are the tree's listed traced parses, in order.
 use Rattle.std.proofs.Common.{◌≡◌, ℕ, zero, suc, ◌+◌, ◌-◌, ◌*◌, ◌<◌, ◌≤◌, Bool, true, false, not, cond, List, [], ◌∷◌, ◌++◌, map, length, Option, Some, None, refl, sym, ap, ap₂, ◌∙◌, subst, true≢false, arith, append-nil}
 use Rattle.std.specs.Prelude.{nat_lt, ◌&&◌, ◌||◌, ◌==◌, is_some}
 use Rattle.std.proofs.lemmas.Bool.{cases_Bool, and_parts}
@@ -136,7 +136,7 @@ module _ (p : Program) (hay : List ℕ) where
       subst (λ (ts : List TracedParse). AreRuns p hay (at from i) (onward ts run)) same
       (all from to used h i run (subst (λ (ts : List TracedParse). Every (λ t. AreRuns p hay (at to t.end) (run t.end)) ts) (sym same) each))
 
-  -- the runs from each of several configurations
+  -- the runs from each of several configurations, and all of them in one list
   record Branches (ts : List Configuration) (all : List Tour) : Type 0 where
     each : List (List Tour)
     are : EachAre p hay ts each
@@ -145,7 +145,7 @@ module _ (p : Program) (hay : List ℕ) where
   mutual
     unfolding traced_parses onward
 
-    -- What a part of a plain tree's program does are the listed ways of the tree.
+    -- The runs through a part of a plain tree's program are the listed traced parses of the tree.
     pub HasForm-does : (t : Tree) → IsReduced t → is_plain t ≡ true → Does p hay (HasForm p.states t) (traced_parses hay t)
     HasForm-does empty reduced plain = goto_does
     HasForm-does (char c) reduced plain =
@@ -194,7 +194,7 @@ module _ (p : Program) (hay : List ℕ) where
           same = ap₂ ◌++◌ (nothing_before (onward (traced_parses hay t i) k)) rest.same ∙ sym (onward-append (traced_parses hay t i) (traced_parses_of_one hay ts i) k);
         }
 
-  -- at the match one run ends
+  -- the match has one run, the empty one
   match_runs_are : (q i : ℕ) → state_at p.states q ≡ program.match → (n : ℕ) → 1 ≤ n → runs_within p hay n (at q i) ≡ record { end = i; writes = [] } ∷ []
   unfolding runs_within
   match_runs_are q i is zero le = absurd (omega arith)
@@ -217,7 +217,7 @@ module _ (p : Program) (hay : List ℕ) where
   every P [] f = tt
   every P (t ∷ ts) f = (f t, every P ts f)
 
-  -- All runs of a plain tree's program from a place, in order, are its listed ways, in order, and none is longer than a bound.
+  -- All runs of a plain tree's program from a place, in order, are its listed traced parses, in order; their length is bounded.
   pub all_runs : (t : Tree) → IsReduced t → is_plain t ≡ true → (built : Built t p) → (i : ℕ) →
       AreRuns p hay (at p.start i) (map tour_of (map (wrap 0 i) (traced_parses hay t i)))
   all_runs t reduced plain built i =

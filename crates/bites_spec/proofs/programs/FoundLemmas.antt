@@ -1,4 +1,4 @@
--- The first run of a tree's program is what a search of the tree finds.
+-- The first, longest or any run of a tree's program is what the corresponding search of the tree finds.
 use Rattle.std.specs.Prelude.{◌==◌, if◌then◌else◌}
 use Rattle.std.proofs.Common.{cond, eq-eqb, eqb-true, ◌≡◌, ℕ, ◌≤◌, Bool, true, false, List, [], ◌∷◌, ◌++◌, map, Option, Some, None, option_map, refl, sym, ap, ap₂, ◌∙◌, subst, ⊎_elim, true≢false, ◌⊎◌}
 use Rattle.std.proofs.lemmas.Option.{none-some, same_Some}
@@ -38,7 +38,7 @@ pick_ending : (j : ℕ) (ws : List ParseTo) → pick_parse (λ k. k == j) ws ≡
 pick_ending j [] = refl
 pick_ending j (w ∷ ws) = ap (λ o. if w.end == j then Some w else o) (pick_ending j ws)
 
--- the listed way that a picked tour is
+-- the listed traced parse that makes a picked tour
 pub record Picked (ok : ℕ → Bool) (hay : List ℕ) (t : Tree) (i : ℕ) (ws : List TracedParse) (o : Tour) : Type 0 where
   pub parse : TracedParse
   pub steps : Steps hay t i parse.end parse.events
@@ -72,7 +72,7 @@ unfolding whole
 unfold_whole t p hay fit built i j inner ws e = e
 
 module _ (t : Tree) (p : Program) (hay : List ℕ) (fit : IsCompilable t) (built : Built t p) where
-  -- from a place on the tree matches where the program has a run
+  -- if the program has no run from a place at or after s, the tree does not match from there
   no_match : (s : ℕ) → NoRun p hay s → NoMatch t hay s
   no_match s none i among j matches = let x = match_is_run t p hay fit built i j matches in none i among x.0 j x.1
 
@@ -86,7 +86,7 @@ module _ (t : Tree) (p : Program) (hay : List ℕ) (fit : IsCompilable t) (built
   pub same_groups : (r : Run) (ms : List Mark) → HasGroups p r ms → (k : ℕ) → (answer_of p r).group k ≡ groups r.start r.end ms k
   same_groups r ms has k = span_between-ends (groups r.start r.end ms k) _ _ (has k).0 (has k).1
 
-  -- of a plain tree, the first run whose end passes the test is the first parse whose end does
+  -- for a plain tree, the first run whose end passes the test is the first parse whose end does
   pub record Preferred (ok : ℕ → Bool) (r : Run) : Type 0 where
     pub marks : List Mark
     pub parse : Parse hay t r.start r.end marks
@@ -114,7 +114,7 @@ module _ (t : Tree) (p : Program) (hay : List ℕ) (fit : IsCompilable t) (built
             first = ap (pick_parse ok) (sym (traced_parses-parses hay t r.start)) ∙ x.first ∙ ap (λ j. Some (parse_to j (marks_of w.events))) end;
           }
 
-  -- What `FirstRun` says of the program, `Found` says of the tree.
+  -- What `FirstRun` specifies for the program, `Found` specifies for the tree.
   pub FirstRun-Found : (s : ℕ) (o : Option Run) → FirstRun p hay s o → Found t hay s (option_map (answer_of p) o)
   FirstRun-Found s None none = no_match s none
   FirstRun-Found s (Some r) (starts, first) =
@@ -137,7 +137,7 @@ module _ (t : Tree) (p : Program) (hay : List ℕ) (fit : IsCompilable t) (built
       })
       (cases_Bool (is_plain t))
 
-  -- What `LongestRun` says of the program, `FoundLongest` says of the tree.
+  -- What `LongestRun` specifies for the program, `FoundLongest` specifies for the tree.
   pub LongestRun-FoundLongest : (s : ℕ) (o : Option Run) → LongestRun p hay s o → FoundLongest t hay s (option_map (answer_of p) o)
   LongestRun-FoundLongest s None none = no_match s none
   LongestRun-FoundLongest s (Some r) (starts, longest, first) =
@@ -164,7 +164,7 @@ module _ (t : Tree) (p : Program) (hay : List ℕ) (fit : IsCompilable t) (built
       greatest : (r : Run) → ((o : List Configuration) (j : ℕ) → IsRun p hay r.start o j → j ≤ r.end) → (l : ℕ) → Matches hay t r.start l → l ≤ r.end
       greatest r longest l matches = let m = match_is_run t p hay fit built r.start l matches in longest m.0 l m.1
 
-  -- any run from the first place is some parse there
+  -- a run from the first place that has one is some parse there
   pub StartsFirst-FoundSome : (s : ℕ) (r : Run) → StartsFirst p hay s r → FoundSome t hay s (Some (answer_of p r))
   StartsFirst-FoundSome s r starts =
       let x = run_is_parse t p hay fit built r.start r.end r.configurations starts.runs in record {
@@ -188,11 +188,11 @@ module _ (t : Tree) (p : Program) (hay : List ℕ) (fit : IsCompilable t) (built
   plain_simple plain i j r runs =
       let are = all_runs p hay t fit.reduced plain built i in simple p hay (at p.start i) are.bound are.short r j runs
 
-  -- The first run of a tree's program, cycles or not, is what a search of the tree finds.
+  -- The first run of a tree's program is what a search of the tree finds, even if the program has cycles.
   pub first_run-Found : IsWellFormed p → (s : ℕ) → Found t hay s (option_map (answer_of p) (first_run p hay s))
   first_run-Found well s = FirstRun-Found s (first_run p hay s) (first_run-FirstRun p hay well s)
 
--- in the slots of a run of a tree's program, group 0 is its span
+-- in the slots of a run of a tree's program, group 0 is the run's span
 pub group_0_is_span : Group0IsSpan
 group_0_is_span t p hay fit built r runs =
     let x = run_is_parse t p hay fit built r.start r.end r.configurations runs in same_groups t p hay fit built r x.0 x.2 0

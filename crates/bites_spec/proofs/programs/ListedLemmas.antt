@@ -1,4 +1,4 @@
--- Every way of a plain tree is listed.
+-- Every traced parse of a plain tree is listed.
 use Rattle.std.proofs.Common.{◌≡◌, ℕ, zero, suc, ◌+◌, ◌-◌, ◌<◌, ◌≤◌, Bool, true, false, not, cond, List, [], ◌∷◌, ◌++◌, map, length, Some, None, refl, sym, ap, ap₂, subst, inl, inr, ⊎_elim, true≢false, arith, lt-ltb}
 use Rattle.std.proofs.lemmas.Bool.{and_parts}
 use Rattle.std.specs.Prelude.{◌&&◌, ◌||◌, ◌==◌, is_some}
@@ -31,7 +31,7 @@ Among-behind (u ∷ ts) f t v h g =
     (subst (λ (x : TracedParse). Among (map (prefix x.events) (f x.end)) (prefix t.events v)) (sym e) (Among-under (prefix t.events) (f t.end) v g)))
     (λ later. Among-right (map (prefix u.events) (f u.end)) (behind ts f) (prefix t.events v) (Among-behind ts f t v later g)) h
 
--- each way of R is listed
+-- each traced parse of R is listed
 abbrev pub Lists : Traces → (ℕ → List TracedParse) → Type 0
 Lists R body = (i l : ℕ) (es : List Event) → R i l es → Among (body i) (traced l es)
 
@@ -102,7 +102,7 @@ module _ (hay : List ℕ) where
   mutual
     unfolding traced_parses
 
-    -- each way of a plain tree is among the listed ones
+    -- each traced parse of a plain tree is among the listed ones
     pub Among-traced : (t : Tree) → is_plain t ≡ true → Lists (Steps hay t) (traced_parses hay t)
     Among-traced empty plain i l es h = inl (same_traced i l [] es (sym h.0) (sym h.1))
     Among-traced (char c) plain i l es h = Among-taken (λ d. d == c) i l es h

@@ -27,7 +27,7 @@ use Rattle.bites_spec.proofs.programs.SlotLemmas.{Among-left, Among-right}
 use Rattle.bites_spec.proofs.programs.FoundLemmas.{unfold_whole}
 use Rattle.bites_spec.proofs.programs.ApartLemmas.{HasForm-entered, HasForm-fine, group-fine}
 
--- lists under a function, and joined lists
+-- an element of a mapped list is the image of an element
 Among-map : {A B : Type 0} (f : A → B) (xs : List A) (y : B) → Among (map f xs) y → (x : A) × Among xs x × (f x ≡ y)
 Among-map f [] y h = absurd h
 Among-map f (x ∷ xs) y h =
@@ -56,7 +56,7 @@ flat_map-same : {A B : Type 0} (f g : A → List B) (xs : List A) → ((x : A) �
 flat_map-same f g [] e = refl
 flat_map-same f g (x ∷ xs) e = ap₂ ◌++◌ (e x) (flat_map-same f g xs e)
 
--- ordered lists
+-- a list stays ordered in each relation that its order implies
 AreOrdered-on : {A : Type 0} (R T : A → A → Type 0) (xs : List A) → ((x y : A) → Among xs x → Among xs y → R x y → T x y) → AreOrdered R xs → AreOrdered T xs
 AreOrdered-on R T [] f h = tt
 AreOrdered-on R T (x ∷ xs) f h =
@@ -78,7 +78,7 @@ AreOrdered-map {A} {B} R T f (x ∷ xs) g h = (
   AreOrdered-map R T f xs g h.1,
 )
 
--- elements that stand apart stand in the order of their list
+-- distinct elements stand in the order of their list
 apart_ordered : {A : Type 0} (xs : List A) → AllApart xs → AreOrdered (Earlier xs) xs
 apart_ordered [] apart = tt
 apart_ordered {A} (x ∷ xs) apart = (
@@ -93,7 +93,7 @@ module _ (p : Program) (hay : List ℕ) where
   abbrev Goes : Configuration → List Configuration → Type 0
   Goes s r = Walk (leads p hay) (λ q. matches p q ≡ true) s r
 
-  -- the configurations behind s of all runs of at most n edges, the preferred one first
+  -- the configurations after s of all runs of fewer than n edges, the preferred run first
   unfoldable walks_within : ℕ → Configuration → List (List Configuration)
   walks_within zero s = []
   walks_within (suc n) s = if matches p s then [] ∷ [] else flat_map (λ t. map (λ r. t ∷ r) (walks_within n t)) (leads p hay s)
@@ -120,7 +120,7 @@ module _ (p : Program) (hay : List ℕ) where
   tours_on s t [] = refl
   tours_on s t (r ∷ rs) = ap (λ us. tour p hay s (t ∷ r) ∷ us) (tours_on s t rs)
 
-  -- these are the runs of which the ends and writes are listed
+  -- their ends and writes are those that `runs_within` lists
   tours_within : (n : ℕ) (s : Configuration) → map (tour p hay s) (walks_within n s) ≡ runs_within p hay n s
   unfolding walks_within runs_within
   tours_within zero s = refl
@@ -149,7 +149,7 @@ module _ (p : Program) (hay : List ℕ) where
       subst (λ (x : List Configuration). Goes s x) by.2 (from.1, walks_go n from.0 by.0 by.1))
       (cases_Bool (matches p s))
 
-  -- and each run of at most so many edges is one of them
+  -- and each run of fewer than n edges is one of them
   walks_all : (n : ℕ) (s : Configuration) (r : List Configuration) → Goes s r → length r < n → Among (walks_within n s) r
   unfolding walks_within
   walks_all zero s r goes lt = absurd (omega (arith, lt))
@@ -163,7 +163,7 @@ module _ (p : Program) (hay : List ℕ) where
       (Among-under (λ r. t ∷ r) (walks_within n t) r (walks_all n t r goes.1 (omega (arith, lt))))))
       (cases_Bool (matches p s))
 
-  -- where no edge comes twice, they stand in order
+  -- where no edge comes twice, the runs stand in order
   module _ (apart : (s : Configuration) → AllApart (leads p hay s)) where
     join_ordered : (n : ℕ) (s : Configuration) (xs : List Configuration) → AreOrdered (Earlier (leads p hay s)) xs →
         ((t : Configuration) → AreOrdered (Before (leads p hay) t) (walks_within n t)) →
@@ -192,7 +192,7 @@ module _ (p : Program) (hay : List ℕ) where
         (join_ordered n s (leads p hay s) (apart_ordered (leads p hay s) (apart s)) (λ t. walks_ordered n t)))
         (cases_Bool (matches p s))
 
--- where the targets of a state are apart, so are its edges
+-- if the targets of a state are distinct, so are its edges
 places_apart : (qs : List ℕ) (i : ℕ) → AllApart qs → AllApart (map (λ q. at q i) qs)
 places_apart [] i apart = tt
 places_apart (q ∷ qs) i apart = (
@@ -221,14 +221,14 @@ edges_differ hay program.match i apart = tt
 abbrev pub unit_if : Bool → ℕ
 unit_if b = cond b 1 0
 
--- how often a number comes
+-- how many times a number comes in the list
 abbrev times : List ℕ → ℕ → ℕ
 times xs q = count_by (λ u. u == q) xs
 
 times-cons : (x : ℕ) (xs : List ℕ) (q : ℕ) → times (x ∷ xs) q ≡ unit_if (x == q) + times xs q
 times-cons x xs q = sum_by-cons (λ u. cond (u == q) 1 0) x xs
 
--- what comes once at most does not come again
+-- what is in a list comes in it at least once
 pub counted_some : (xs : List ℕ) (q : ℕ) → Among xs q → 1 ≤ times xs q
 counted_some [] q h = absurd h
 counted_some (x ∷ xs) q h =
@@ -304,7 +304,7 @@ module _ (t : Tree) (p : Program) (hay : List ℕ) (fit : IsCompilable t) (built
     goes_of s [] j runs = runs.0
     goes_of s (u ∷ r) j runs = (runs.0, goes_of u r j runs.1)
 
-    -- the list of all walks from the start makes that of all runs
+    -- the list of all walks from the start makes the list of all runs
     are_all_runs : (n : ℕ) → ((r : List Configuration) (j : ℕ) → IsRun p hay i r j → length r < n) → AreAllRuns p hay i (map run_along (walks_within p hay n first))
     are_all_runs n short = record {
       runs = λ r h. let m = Among-map run_along (walks_within p hay n first) r h in
@@ -316,7 +316,7 @@ module _ (t : Tree) (p : Program) (hay : List ℕ) (fit : IsCompilable t) (built
           (λ a b bef. bef) (walks_ordered p hay leads_apart n first);
     }
 
-    -- each walk and the listed way that it is
+    -- each walk corresponds to the listed parse that it traces
     correspond : (rs : List (List Configuration)) (ts : List TracedParse) → Every (λ w. Steps hay t i w.end w.events) ts →
         map (tour p hay first) rs ≡ map tour_of (map (wrap 0 i) ts) → Correspond p (map run_along rs) (map (parse_of hay) ts)
     correspond [] [] are e = tt

@@ -1,4 +1,4 @@
--- The longest run: what the function finds is one, and no other is.
+-- `longest_run` returns a longest run as specified, and no other run is one.
 use Rattle.std.proofs.Common.{◌≡◌, ℕ, zero, suc, ◌<◌, ◌≤◌, Bool, true, false, ◌&&◌, List, [], ◌∷◌, length, Option, Some, None, refl, sym, ap, ap₂, ◌∙◌, subst, ⊎_elim, true≢false, arith, ◌⊎◌, eqb-true, eq-eqb}
 use Rattle.std.specs.Prelude.{◌==◌, IsTrue, option_and_then}
 use Rattle.std.specs.Option.{option_or}
@@ -26,7 +26,7 @@ module _ (p : Program) (hay : List ℕ) where
   ends_nowhere : (j : ℕ) (s : Configuration) → is_end_at p j s ≡ true → leads p hay s ≡ []
   ends_nowhere j s e = match_ends p hay s (and_parts (matches p s) (s.place == j) e).0
 
-  -- a run to j is a walk to an end there, and the other way round
+  -- a run to j is a walk to an end there, and conversely
   to_end : (j : ℕ) (s : Configuration) (r : List Configuration) → Runs p hay s r j → Walk (leads p hay) (λ q. is_end_at p j q ≡ true) s r
   to_end j s [] runs = end_here j s runs.0 runs.1
   to_end j s (t ∷ r) runs = (runs.0, to_end j t r runs.1)
@@ -50,7 +50,7 @@ module _ (p : Program) (hay : List ℕ) where
     pub greatest : (o : List Configuration) (j : ℕ) → IsRun p hay r.start o j → j < n → j ≤ r.end
     pub first_of : IsFirstOf p hay (λ j. j ≡ r.end) r
 
-  -- a walk that was found makes the run to j
+  -- a walk that is found makes the run to j
   pub walk_makes_run : (i j : ℕ) (configurations : List Configuration) → walk_to i j ≡ Some (at p.start i ∷ configurations) → first_run_to p hay i j ≡ Some (run i configurations j)
   unfolding first_run_to
   walk_makes_run i j configurations found =
@@ -97,7 +97,7 @@ module _ (p : Program) (hay : List ℕ) where
         let h = sound is_same_configuration (leads p hay) (is_end_at p j) same_is same_refl (ends_nowhere j) (enough p hay) (λ s. false) (at p.start i) l is in
         absurd (none-some _ (sym e ∙ ap (run_of p hay i) h.1))
 
-    -- to one place: the first simple run, or none at all
+    -- to one place: the run that is found is the first simple one
     pub run_to : (i j : ℕ) (r : Run) → first_run_to p hay i j ≡ Some r → i ≤ length hay →
         (configurations : List Configuration) × (run i configurations j ≡ r) × IsRun p hay i configurations j × IsFirstOf p hay (λ k. k ≡ j) (run i configurations j)
     unfolding first_run_to
@@ -107,7 +107,7 @@ module _ (p : Program) (hay : List ℕ) where
     unfolding first_run_to
     no_run_to i j e le = no_walk i j (walk_to i j) refl e le
 
-    -- to the greatest place below n
+    -- below n: where none is found, there is none
     pub below_none : (n i : ℕ) → longest_run_below p hay n i ≡ None → i ≤ length hay → (j : ℕ) → j < n → NoRunTo i j
     unfolding longest_run_below
     below_none zero i e le j lt o runs = omega (arith, lt)
@@ -177,7 +177,7 @@ module _ (p : Program) (hay : List ℕ) where
           from.first_of,
         )
 
-    -- None where no place has a run, else the longest from the first place that has one
+    -- `longest_run` is None where no place has a run; else it is the longest from the first place that has one
     pub longest_run-LongestRun : (s : ℕ) → LongestRun p hay s (longest_run p hay s)
     longest_run-LongestRun s = longest_run_is s (longest_run p hay s) refl
 
@@ -198,7 +198,7 @@ module _ (p : Program) (hay : List ℕ) where
       (f.first b.configurations b.end theirs (subst (λ i. IsSimple p hay i b.configurations) (sym start) g.simple) (sym end)) in
       same_run a.start b.start a.end b.end a.configurations b.configurations start configurations end
 
-  -- only one answer is the longest run
+  -- at most one result is the longest run
   pub one_longest_answer : (s : ℕ) (o q : Option Run) → LongestRun p hay s o → LongestRun p hay s q → o ≡ q
   one_longest_answer s None None x y = refl
   one_longest_answer s None (Some b) x y = absurd (x b.start y.0.from b.configurations b.end y.0.runs)
@@ -248,7 +248,7 @@ module _ (p : Program) (hay : List ℕ) where
     pub longest_at_none : (s : ℕ) → first_run p hay s ≡ None → None ≡ longest_run p hay s
     longest_at_none s is = LongestRun-longest_run well s None (subst (FirstRun p hay s) is (first_run-FirstRun p hay well s))
 
-  -- one place more to end at
+  -- the bound may be one above the end that is found
   pub below_found : (i j : ℕ) (r : Run) → first_run_to p hay i j ≡ Some r → longest_run_below p hay (suc j) i ≡ Some r
   unfolding longest_run_below
   below_found i j r found = ap (λ o. option_or o (longest_run_below p hay j i)) found

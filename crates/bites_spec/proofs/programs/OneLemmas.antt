@@ -1,4 +1,4 @@
--- Only one run is the first.
+-- At most one run is the first, and `first_run` returns it.
 use Rattle.std.proofs.Common.{◌≡◌, ℕ, true, false, List, Option, Some, None, refl, sym, ap, ◌∙◌, subst, ⊎_elim, arith, ◌⊎◌, ltb-true, ltb-false}
 use Rattle.std.specs.Prelude.{nat_lt}
 use Rattle.std.proofs.lemmas.Bool.{cases_Bool}
@@ -12,7 +12,7 @@ pub same_run : (i j k l : ℕ) (a b : List Configuration) → i ≡ j → a ≡ 
 same_run i j k l a b e f g = λ x. record { start = e x; configurations = f x; end = g x }
 
 module _ (p : Program) (hay : List ℕ) where
-  -- two first places are the same
+  -- two runs that start first start at the same place
   pub same_start : (s : ℕ) (a b : Run) → StartsFirst p hay s a → StartsFirst p hay s b → a.start ≡ b.start
   same_start s a b x y =
       ⊎_elim (λ (lt : nat_lt a.start b.start ≡ true). absurd (y.none_before a.start x.from (ltb-true a.start b.start lt) a.configurations a.end x.runs))

@@ -1,4 +1,4 @@
--- All runs from a configuration, in order, are all ways through the part in order, each with all runs from where it leads.
+-- All runs from a part's entry, in order, are the part's traced parses in order, each with all runs from its end.
 use Rattle.std.proofs.Common.{◌≡◌, ℕ, zero, suc, ◌+◌, ◌-◌, ◌<◌, ◌≤◌, Bool, true, false, cond, max, List, [], ◌∷◌, ◌++◌, map, length, Option, Some, None, refl, sym, ap, ap₂, ◌∙◌, subst, ⊎_elim, arith, append_assoc, append-nil}
 use Rattle.std.specs.Prelude.{if◌then◌else◌, flat_map, nat_lt, ◌&&◌, ◌==◌}
 use Rattle.bites_spec.specs.Utf8.{piece, character}
@@ -12,7 +12,7 @@ use Rattle.bites_spec.specs.Run.{leads, matches, Runs, write_of}
 use Rattle.bites_spec.specs.Built.{Fragment, One, Behind, Copies, Options, Loop, Star, Bounded, choice}
 use Rattle.bites_spec.proofs.parses.EventLemmas.{Event, opened, closed, writes_of, writes_of-append}
 
--- where a way ends, and its events
+-- where a parse ends, and its events
 pub record TracedParse : Type 0 where
   pub end : ℕ
   pub events : List Event
@@ -37,12 +37,12 @@ prefix es t = traced t.end (es ++ t.events)
 abbrev pub before : List (ℕ × ℕ) → Tour → Tour
 before ws t = record { end = t.end; writes = ws ++ t.writes }
 
--- each first trip, and behind it each that follows from its end
+-- each traced parse, followed by each that begins at its end
 unfoldable pub behind : List TracedParse → (ℕ → List TracedParse) → List TracedParse
 behind [] f = []
 behind (t ∷ ts) f = map (prefix t.events) (f t.end) ++ behind ts f
 
--- each trip, and behind it each tour from its end
+-- each traced parse, followed by each tour from its end
 unfoldable pub onward : List TracedParse → (ℕ → List Tour) → List Tour
 onward [] k = []
 onward (t ∷ ts) k = map (before (writes_of t.events)) (k t.end) ++ onward ts k
@@ -110,7 +110,7 @@ Every-behind P (t ∷ ts) f h =
     let r = Every-append (λ u. P u.end) (map (prefix t.events) (f t.end)) (behind ts f) h in
     (Every-map (λ u. P u.end) (prefix t.events) (f t.end) r.0, Every-behind P ts f r.1)
 
--- up to n turns of the body, one more being preferred or not
+-- up to n turns of the body; `greedy` says whether one more is preferred
 unfoldable pub up_to : ℕ → Bool → (ℕ → List TracedParse) → ℕ → List TracedParse
 up_to zero greedy body i = stay i ∷ []
 up_to (suc n) greedy body i = if greedy then behind (body i) (up_to n greedy body) ++ stay i ∷ [] else stay i ∷ behind (body i) (up_to n greedy body)
@@ -132,7 +132,7 @@ module _ (hay : List ℕ) where
   turns min (Some most) greedy body = after_turns min body (up_to (most - min) greedy body)
 
   unfoldable mutual
-    -- the ways of `parses`, with their events
+    -- the parses that `parses` lists, with their events
     pub traced_parses : Tree → ℕ → List TracedParse
     traced_parses empty i = stay i ∷ []
     traced_parses (char c) i = taken (λ d. d == c) i
@@ -155,14 +155,14 @@ module _ (p : Program) (hay : List ℕ) where
   abbrev writes_at : Configuration → List (ℕ × ℕ)
   writes_at s = write_of (state_at p.states s.state) s.place
 
-  -- all runs of at most n edges, the preferred one first
+  -- all runs of fewer than n edges, the preferred one first
   unfoldable pub runs_within : ℕ → Configuration → List Tour
   runs_within zero s = []
   runs_within (suc n) s =
       if matches p s then record { end = s.place; writes = [] } ∷ []
       else flat_map (λ t. map (before (writes_at s)) (runs_within n t)) (leads p hay s)
 
-  -- from some length on there are no more runs than these
+  -- all runs from s, in order, and a bound on their length
   pub record AreRuns (s : Configuration) (all : List Tour) : Type 0 where
     pub bound : ℕ
     pub are : (n : ℕ) → bound ≤ n → runs_within n s ≡ all
@@ -219,7 +219,7 @@ module _ (p : Program) (hay : List ℕ) where
   abbrev pub same_runs : (s : Configuration) (a b : List Tour) → a ≡ b → AreRuns s a → AreRuns s b
   same_runs s a b e h = subst (AreRuns s) e h
 
-  -- The runs from where the part is entered are the ways of the part, each with the runs from where the part leads.
+  -- The runs from the part's entry are its traced parses, each with the runs from the part's exit.
   abbrev pub Does : Fragment → (ℕ → List TracedParse) → Type 0
   Does part traced_parses = (from to : ℕ) (used : List ℕ) → part from to used → (i : ℕ) (k : ℕ → List Tour) →
       Every (λ t. AreRuns (at to t.end) (k t.end)) (traced_parses i) → AreRuns (at from i) (onward (traced_parses i) k)
@@ -252,7 +252,7 @@ module _ (p : Program) (hay : List ℕ) where
       (Every-also _ _ (v i) (λ t ready. two mid to b g t.end k ready)
       (Every-behind (λ l. AreRuns (at to l) (k l)) (v i) w each)))
 
-  -- a choice between a round and leaving, as it is preferred
+  -- a choice between a round and leaving, in the order of preference
   choice_runs : (greedy : Bool) (q i round leave : ℕ) (x y : List Tour) → state_at p.states q ≡ choice p.states greedy round leave →
       AreRuns (at round i) x → AreRuns (at leave i) y → AreRuns (at q i) (if greedy then x ++ y else y ++ x)
   choice_runs true q i round leave x y is one two =
@@ -262,7 +262,7 @@ module _ (p : Program) (hay : List ℕ) where
       same_runs (at q i) _ _ (ap₂ ◌++◌ (nothing_before y) (append-nil _ ∙ nothing_before x))
       (AreRuns-step (at q i) (choice p.states false round leave) (y ∷ x ∷ []) is refl (two, (one, tt)))
 
-  -- over a state that only leads on
+  -- across a state that only leads on
   pub over : (q to i : ℕ) (x : List Tour) → state_at p.states q ≡ program.goto to None → AreRuns (at to i) x → AreRuns (at q i) x
   over q to i x is runs =
       same_runs (at q i) _ _ (append-nil _ ∙ nothing_before x) (AreRuns-step (at q i) (program.goto to None) (x ∷ []) is refl (runs, tt))
@@ -293,7 +293,7 @@ module _ (p : Program) (hay : List ℕ) where
   each_of true P i ts each = let r = Every-append (λ t. P t.end) ts (stay i ∷ []) each in (r.0, r.1.0)
   each_of false P i ts each = (each.1, each.0)
 
-  -- the ends of the ways lie further on, within the haystack
+  -- the traced parses end further on, within the haystack
   abbrev pub Advances : (ℕ → List TracedParse) → Type 0
   Advances traced_parses = (i : ℕ) → Every (λ t. (i < t.end) × (t.end ≤ length hay)) (traced_parses i)
 

@@ -1,4 +1,4 @@
--- A run through a part of a program is a way through the tree of the part, and then a run from where the part leads.
+-- A run through a part of a program is a traced parse of the part's tree, and then a run from the part's exit.
 use Rattle.std.proofs.Common.{◌≡◌, ℕ, zero, suc, ◌+◌, ◌-◌, ◌*◌, ◌<◌, ◌≤◌, Bool, true, false, cond, List, [], ◌∷◌, ◌++◌, map, length, Option, Some, None, refl, sym, ap, ap₂, ◌∙◌, subst, inl, inr, ⊎_elim, true≢false, arith, ◌⊎◌, append_assoc, append-nil, ltb-true}
 use Rattle.std.specs.Prelude.{◌==◌, nat_lt, ◌&&◌}
 use Rattle.std.proofs.lemmas.Bool.{cases_Bool, and_parts}
@@ -14,7 +14,7 @@ use Rattle.bites_spec.specs.Run.{Runs, writes, write_of}
 use Rattle.bites_spec.specs.Built.{Fragment, One, Behind, Copies, Options, Loop, Star, OptionalLoop, Bounded, CopiesUpTo, Repeated, choice, class_state, HasForm, HasFormAll, HasFormEach}
 use Rattle.bites_spec.proofs.parses.EventLemmas.{Event, opened, closed, writes_of, writes_of-append, Steps, StepsAll, StepsOne}
 
--- what a part may do: from i to l, with these events
+-- what a part may do: go from i to l with these events
 abbrev pub Traces : Type 1
 Traces = ℕ → ℕ → List Event → Type 0
 
@@ -24,7 +24,7 @@ Nothing i l es = (l ≡ i) × (es ≡ [])
 abbrev pub Both : Traces → Traces → Traces
 Both R T i l es = (m : ℕ) × (a : List Event) × (b : List Event) × R i m a × T m l b × (es ≡ a ++ b)
 
--- some number of turns, of which P holds
+-- n turns for some n of which P holds
 abbrev pub Several : (ℕ → Type 0) → Traces → Traces
 Several P R i l es = (n : ℕ) × P n × Turns R n i l es
 
@@ -50,7 +50,7 @@ module _ (p : Program) (hay : List ℕ) where
   abbrev written : Configuration → List Configuration → List (ℕ × ℕ)
   written = writes p
 
-  -- a way to l, and a run from there that is no longer
+  -- a traced parse to l, and a run from there that is no longer
   pub record Onward (R : Traces) (to i j n : ℕ) (ws : List (ℕ × ℕ)) : Type 0 where
     pub l : ℕ
     pub events : List Event
@@ -60,7 +60,7 @@ module _ (p : Program) (hay : List ℕ) where
     pub same : ws ≡ writes_of events ++ written (at to l) rest
     pub shorter : length rest ≤ n
 
-  -- a run from where the part is entered is a way through it, and a run from where it leads
+  -- a run from the part's entry is a traced parse of it, and a run from its exit
   abbrev pub Leaves : Fragment → Traces → Type 0
   Leaves part R = (from to : ℕ) (used : List ℕ) → part from to used → (i j : ℕ) (r : List Configuration) →
       RunsTo (at from i) r j → Onward R to i j (length r) (written (at from i) r)
@@ -71,7 +71,7 @@ module _ (p : Program) (hay : List ℕ) where
   Leaves-also : (part : Fragment) (R T : Traces) → ((i l : ℕ) (es : List Event) → R i l es → T i l es) → Leaves part R → Leaves part T
   Leaves-also part R T f leaves from to used h i j r runs = also R T to i j (length r) _ (f i) (leaves from to used h i j r runs)
 
-  -- a run goes on from a state that is no match
+  -- a run that goes on from a state other than match
   record Stepped (s : State) (i j n : ℕ) (ws : List (ℕ × ℕ)) : Type 0 where
     next : Configuration
     rest : List Configuration
@@ -92,7 +92,7 @@ module _ (p : Program) (hay : List ℕ) where
     same = ap (λ (x : State). write_of x i ++ written t r) is;
   }
 
-  -- one state does R: each edge of it leads on, in one way of R
+  -- one state does R: each of its edges leads on as some trace of R does
   abbrev Does : (ℕ → State) → Traces → Type 0
   Does make R = (to i : ℕ) (t : Configuration) → Among (edges hay (make to) i) t →
       (l : ℕ) × (at to l ≡ t) × ((es : List Event) × R i l es × (write_of (make to) i ≡ writes_of es))
@@ -185,7 +185,7 @@ module _ (p : Program) (hay : List ℕ) where
   two_cases : (x y t : Configuration) → Among (x ∷ y ∷ []) t → (x ≡ t) ⊎ (y ≡ t)
   two_cases x y t h = ⊎_elim (λ (e : x ≡ t). inl e) (λ later. inr (Among-only y t later)) h
 
-  -- at a choice a run goes into the body or out
+  -- at a choice a run goes into the body or leaves
   choice_cases : (greedy : Bool) (round leave i : ℕ) (t : Configuration) → Among (edges hay (choice p.states greedy round leave) i) t →
       (at round i ≡ t) ⊎ (at leave i ≡ t)
   choice_cases true round leave i t h = two_cases (at round i) (at leave i) t h
@@ -199,7 +199,7 @@ module _ (p : Program) (hay : List ℕ) where
       (λ e. inr (went_to (choice p.states greedy round leave) leave i j (length r) _ refl s e))
       (choice_cases greedy round leave i s.next s.edge)
 
-  -- no turn, and one turn before some others
+  -- no turn; below it, one turn before some others
   none_more : (P : ℕ → Type 0) (R : Traces) (to i j n : ℕ) (ws : List (ℕ × ℕ)) → P 0 → Went to i j n ws → Onward (Several P R) to i j n ws
   none_more P R to i j n ws at_zero w =
       record { l = i; events = []; parse = (zero, at_zero, (refl, refl)); rest = w.rest; runs = w.runs; same = w.same; shorter = omega (arith, w.len) }
@@ -395,7 +395,7 @@ module _ (p : Program) (hay : List ℕ) where
       from to used h i j r runs)
 
   mutual
-    -- Each run through a part is a way through its tree.
+    -- Each run through a part is a traced parse of its tree.
     pub HasForm-leaves : (t : Tree) → IsReduced t → Leaves (HasForm p.states t) (Steps hay t)
     HasForm-leaves empty reduced = One-leaves (λ to. program.goto to None) (Steps hay empty) (λ to. refl) Nothing-does
     HasForm-leaves (char c) reduced = One-leaves (λ to. program.char to c) (Steps hay (char c)) (λ to. refl) (char_does c)

@@ -1,4 +1,4 @@
--- Where the runs from a configuration are bounded, each is simple, and the first simple run is the head of the list of all runs.
+-- Where the runs from a configuration are bounded, each is simple, and the first simple run is the head of their list.
 use Rattle.std.proofs.Common.{◌≡◌, ◌≢◌, ℕ, zero, suc, ◌<◌, ◌≤◌, Bool, true, false, cond, List, [], ◌∷◌, ◌++◌, map, length, length-append, Option, Some, None, option_map, refl, sym, ap, ap₂, ◌∙◌, subst, inl, inr, ⊎_elim, true≢false, arith, ◌⊎◌}
 use Rattle.std.specs.Prelude.{if◌then◌else◌, flat_map}
 use Rattle.std.specs.Option.{option_or}
@@ -17,7 +17,7 @@ configuration_cases x y =
     (λ (b : is_same_configuration x y ≡ false). inr (λ e. true≢false (sym (same_refl x) ∙ ap (is_same_configuration x) e ∙ b)))
     (cases_Bool (is_same_configuration x y))
 
--- of two elements only one comes first
+-- an element does not come earlier than itself
 pub Earlier-differ : {A : Type 0} (xs : List A) (a b : A) → Earlier xs a b → a ≢ b
 Earlier-differ [] a b h e = h
 Earlier-differ (x ∷ xs) a b h e = ⊎_elim (λ now. now.1 (now.0 ∙ e)) (λ later. Earlier-differ xs a b later.2 e) h
@@ -65,7 +65,7 @@ pick-flat_map : {A : Type 0} (ok : ℕ → Bool) (f : A → List Tour) (xs : Lis
 pick-flat_map ok f [] = refl
 pick-flat_map ok f (x ∷ xs) = pick-append ok (f x) (flat_map f xs) ∙ ap (option_or (pick ok (f x))) (pick-flat_map ok f xs)
 
--- where the first success is, and what each other element is to it
+-- where the first success is, and how each other element stands to it
 record FirstOf {B : Type 0} (f : Configuration → Option B) (xs : List Configuration) (r : B) : Type 0 where
   found : Configuration
   is : f found ≡ Some r
@@ -117,7 +117,7 @@ module _ (p : Program) (hay : List ℕ) where
   cycle_join s t [] b j walk runs = subst (λ (x : Configuration). Runs p hay x b j) (sym walk) runs
   cycle_join s t (x ∷ c) b j walk runs = (walk.0, cycle_join x t c b j walk.1 runs)
 
-  -- a run that gets to t: a walk to t, and a run from there
+  -- a run that reaches t is a walk to t and a run from there
   split_at : (s t : Configuration) (r : List Configuration) (j : ℕ) → Runs p hay s r j → Among r t →
       (c : List Configuration) × (b : List Configuration) × Walk (leads p hay) (λ u. u ≡ t) s c × Runs p hay t b j × (1 ≤ length c)
   split_at s t [] j runs h = absurd h
@@ -125,7 +125,7 @@ module _ (p : Program) (hay : List ℕ) where
       ⊎_elim (λ (e : x ≡ t). (x ∷ [], r, (runs.0, e), subst (λ (y : Configuration). Runs p hay y r j) e runs.1, omega arith))
       (λ later. let m = split_at x t r j runs.1 later in (x ∷ m.0, m.1, (runs.0, m.2), m.3, omega arith)) h
 
-  -- round a cycle as often as one likes
+  -- a cycle can be passed any number of times
   pump : (s : Configuration) (c b : List Configuration) (j : ℕ) → Walk (leads p hay) (λ u. u ≡ s) s c → 1 ≤ length c → Runs p hay s b j → (n : ℕ) →
       (o : List Configuration) × Runs p hay s o j × (n ≤ length o)
   pump s c b j walk some runs zero = (b, runs, omega arith)
@@ -133,7 +133,7 @@ module _ (p : Program) (hay : List ℕ) where
       let m = pump s c b j walk some runs n in
       (c ++ m.0, cycle_join s s c m.0 j walk m.1, omega (arith, m.2, length-append c m.0))
 
-  -- no configuration comes twice on a run where the runs are bounded
+  -- where the runs are bounded, no configuration comes twice on a run
   pub simple : (s : Configuration) (bound : ℕ) → ((r : List Configuration) (j : ℕ) → Runs p hay s r j → length r < bound) → (r : List Configuration) (j : ℕ) → Runs p hay s r j →
       AllApart (s ∷ r)
   simple s bound short [] j runs = (λ h. h, tt)
@@ -175,7 +175,7 @@ module _ (p : Program) (hay : List ℕ) where
   ends_at s [] j runs = runs.1
   ends_at s (t ∷ r) j runs = ends_at t r j runs.1
 
-  -- where only runs count whose end passes a test
+  -- only runs whose end passes a test count
   module _ (ok : ℕ → Bool) where
     abbrev Passes : Configuration → List Configuration → Type 0
     Passes s q = ok (last_of s q).place ≡ true
@@ -203,7 +203,7 @@ module _ (p : Program) (hay : List ℕ) where
         q walk.1 passes (omega arith))
         (cases_Bool (matches p s))
 
-    -- what is picked is a run, and no other that counts comes before it
+    -- the head of the list is a run that counts, and no other that counts comes before it
     record HeadRun (n : ℕ) (s : Configuration) (o : Tour) : Type 0 where
       run : List Configuration
       goes : Goes s run
@@ -261,7 +261,7 @@ module _ (p : Program) (hay : List ℕ) where
             q goes.1 passes (omega arith))))
             (f.others y goes.0)
 
-    -- The first simple run that counts is the first of the list of all runs that counts.
+    -- The first simple run that counts is the first one in the list of all runs that counts.
     pub first_is_head : (s : Configuration) (all : List Tour) (r : List Configuration) (j : ℕ) → AreRuns p hay s all → Runs p hay s r j → ok j ≡ true →
         ((o : List Configuration) (k : ℕ) → Runs p hay s o k → AllApart (s ∷ o) → ok k ≡ true → (o ≡ r) ⊎ Before (leads p hay) s r o) →
         pick ok all ≡ Some (tour s r)

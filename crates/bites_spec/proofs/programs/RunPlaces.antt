@@ -1,4 +1,4 @@
--- A run lies from its start on within the haystack.
+-- A run that a search finds begins at the start of the search or after, and ends within the haystack.
 use Rattle.std.proofs.Common.{◌≡◌, ℕ, ◌+◌, ◌≤◌, ◌⊎◌, Bool, true, false, cond, ◌&&◌, List, [], ◌∷◌, map, length, Option, Some, None, refl, sym, ap, ◌∙◌, subst, inl, inr, ⊎_elim, arith}
 use Rattle.std.proofs.lemmas.Option.{same_Some}
 use Rattle.std.specs.Prelude.{◌==◌, nat_lt, option_and_then}
@@ -19,7 +19,7 @@ use Rattle.bites_spec.proofs.runs.FirstLemmas.{sound}
 use Rattle.bites_spec.proofs.programs.LongestLemmas.{longest_run-LongestRun}
 
 module _ (hay : List ℕ) where
-  -- from i on, within the haystack
+  -- the place is at i or after, and within the haystack
   abbrev LiesAt : ℕ → Configuration → Type 0
   LiesAt i t = (i ≤ t.place) × (t.place ≤ length hay)
 
@@ -64,7 +64,7 @@ module _ (p : Program) (hay : List ℕ) where
       let edge = edge_lies hay (state_at p.states s.state) s.place t le runs.0 in
       let one = edge.0 in let rest = Runs-lie t r j edge.1 runs.1 in let two = rest.0 in (omega arith, rest.1)
 
-  -- where the first run from a place from s on begins and ends
+  -- the span of a run that starts first
   pub StartsFirst-lies : (s : ℕ) (r : Run) → StartsFirst p hay s r → LiesFrom (length hay) s (span r.start r.end)
   StartsFirst-lies s r first =
       let place = Among-places hay s r.start first.from in
@@ -101,12 +101,12 @@ module _ (p : Program) (hay : List ℕ) where
       (λ later. first_among_lies s ps (λ k among. within k (inr among)) r later)
       (or_some (first_run_from p hay i) (first_among (first_run_from p hay) ps) r e)
 
-  -- the first run that a search from s finds
+  -- the span of the first run that a search from s finds
   pub first_run-lies : (s : ℕ) (r : Run) → first_run p hay s ≡ Some r → LiesFrom (length hay) s (span r.start r.end)
   unfolding first_run
   first_run-lies s r e = first_among_lies s (places hay s) (λ i among. Among-places hay s i among) r e
 
-  -- the run that a search from s answers
+  -- the span of the run that a search from s returns
   pub chosen_run-lies : (longest : Bool) → IsWellFormed p → (s : ℕ) (r : Run) → chosen_run longest p hay s ≡ Some r →
       LiesFrom (length hay) s (span r.start r.end)
   chosen_run-lies true well s r e =

@@ -1,4 +1,4 @@
--- What a run through a tree's program writes last is where each group last took part.
+-- What a run through a tree's program writes last to a group's slots is the group's last mark.
 use Rattle.std.proofs.Common.{◌≡◌, ◌≢◌, ℕ, zero, suc, ◌+◌, ◌*◌, true, false, cond, List, [], ◌∷◌, ◌++◌, Option, Some, None, option_map, refl, sym, ap, ap₂, ◌∙◌, subst, inl, inr, ⊎_elim, true≢false, arith, ◌⊎◌, eqb-true, eq-eqb, ne_eqb}
 use Rattle.std.specs.Prelude.{◌==◌, if◌then◌else◌}
 use Rattle.std.specs.Option.{option_or}
@@ -112,14 +112,14 @@ module _ (hay : List ℕ) where
   turns_agree R k f (suc n) i j es (l, first, rest, one, more, e) =
       subst (λ es. Agree es k) (sym e) (Agree-append first rest k (f i l first one) (turns_agree R k f n l j rest more))
 
-  -- a single write counts for its own slot only
+  -- a single write counts only for its own slot
   own_write : (s v : ℕ) → last_write ((s, v) ∷ []) s ≡ Some v
   own_write s v = ap (λ b. cond b (Some v) None) (eq-eqb s s refl)
 
   other_write : (s v q : ℕ) → s ≢ q → last_write ((s, v) ∷ []) q ≡ None
   other_write s v q apart = ap (λ b. cond b (Some v) None) (ne_eqb s q apart)
 
-  -- the writes of a group, seen from one slot
+  -- the last write to one slot, among the writes of a group
   group_write : (k i j : ℕ) (inner : List Event) (s : ℕ) →
       last_write (writes_of (opened k i ∷ (inner ++ closed k i j ∷ []))) s
       ≡ option_or (option_or (last_write ((2 * k + 1, j) ∷ []) s) (last_write (writes_of inner) s)) (last_write ((2 * k, i) ∷ []) s)

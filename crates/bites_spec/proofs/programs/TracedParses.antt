@@ -1,4 +1,4 @@
--- The listed ways of a tree are ways of it, they go forward, and their marks are the listed parses.
+-- The listed traced parses of a tree are among its traced parses, they go forward, and their marks are the listed parses.
 use Rattle.std.proofs.Common.{◌≡◌, ℕ, zero, suc, ◌+◌, ◌-◌, ◌<◌, ◌≤◌, Bool, true, false, cond, List, [], ◌∷◌, ◌++◌, map, length, Option, Some, None, refl, sym, ap, ap₂, ◌∙◌, subst, inl, inr, ⊎_elim, true≢false, arith, ◌⊎◌, ltb-true, ltb-false, eq-eqb}
 use Rattle.std.specs.Prelude.{nat_lt, ◌&&◌, ◌==◌}
 use Rattle.std.proofs.lemmas.Bool.{cases_Bool, and_parts, or_parts}
@@ -30,7 +30,7 @@ pub Every-weak : {A : Type 0} (P Q : A → Type 0) (ts : List A) → ((t : A) �
 Every-weak P Q [] f h = tt
 Every-weak P Q (t ∷ ts) f h = (f t h.0, Every-weak P Q ts f h.1)
 
--- each trip of the list is one of these ways from i
+-- each traced parse of the list is one of R from i
 abbrev pub Listed : Traces → ℕ → List TracedParse → Type 0
 Listed R i ts = Every (λ w. R i w.end w.events) ts
 
@@ -108,7 +108,7 @@ module _ (hay : List ℕ) where
   mutual
     unfolding traced_parses
 
-    -- each listed way is a way of the tree
+    -- each listed traced parse is a traced parse of the tree
     pub traced_parses_are : (t : Tree) → IsReduced t → (i : ℕ) → Listed (Steps hay t) i (traced_parses hay t i)
     traced_parses_are empty reduced i = ((refl, refl), tt)
     traced_parses_are (char c) reduced i = Listed-taken (λ d. d == c) i
@@ -133,7 +133,7 @@ module _ (hay : List ℕ) where
         (Every-weak (λ w. Steps hay t i w.end w.events) _ (traced_parses hay t i) (λ w h. inl h) (traced_parses_are t reduced.0 i))
         (Every-weak (λ w. StepsOne hay ts i w.end w.events) _ (traced_parses_of_one hay ts i) (λ w h. inr h) (traced_one_are ts reduced.1 i))
 
-  -- a way does not go back, and where it goes forward it ends within the haystack
+  -- it does not go back, and where it goes forward it ends within the haystack
   abbrev pub Forward : ℕ → ℕ → Type 0
   Forward i j = (i ≤ j) × (i < j → j ≤ length hay)
 
@@ -194,7 +194,7 @@ module _ (hay : List ℕ) where
       let lt = g i m a one in let h = turns_forward R f n m j b more in let go = h.0 in omega (arith, lt, go)
 
   mutual
-    -- a tree that is not nullable takes a byte at least
+    -- a tree that is not nullable takes at least a byte
     pub advance : (t : Tree) → is_nullable t ≡ false → (i j : ℕ) (es : List Event) → Steps hay t i j es → i < j
     advance empty non i j es h = absurd (true≢false non)
     advance (char c) non i j es h = (Takes-advance (λ d. d == c) i j h.0).0
@@ -231,13 +231,13 @@ module _ (hay : List ℕ) where
         let both = or_parts (is_nullable t) (some_is_nullable ts) non in
         ⊎_elim (λ a. advance t both.0 i j es a) (λ b. advance_one ts both.1 i j es b) h
 
-  -- the listed ways of such a tree lie further on
+  -- the listed traced parses of a tree that is not nullable end further on
   pub traced_parses_advance : (t : Tree) → IsReduced t → is_nullable t ≡ false → (i : ℕ) → Every (λ w. (i < w.end) × (w.end ≤ length hay)) (traced_parses hay t i)
   traced_parses_advance t reduced non i =
       Every-weak (λ w. Steps hay t i w.end w.events) _ (traced_parses hay t i)
       (λ w h. let lt = advance t non i w.end w.events h in let f = forward t i w.end w.events h in (lt, f.1 lt)) (traced_parses_are t reduced i)
 
-  -- where a way ends, and the marks of its events
+  -- where a traced parse ends, and the marks of its events
   abbrev pub parse_of : TracedParse → ParseTo
   parse_of t = record { end = t.end; marks = marks_of t.events }
 
@@ -292,7 +292,7 @@ module _ (hay : List ℕ) where
   mutual
     unfolding traced_parses parses
 
-    -- The marks of the listed ways are the listed parses.
+    -- The marks of the listed traced parses are the listed parses.
     pub traced_parses-parses : (t : Tree) (i : ℕ) → map parse_of (traced_parses hay t i) ≡ parses hay t i
     traced_parses-parses empty i = refl
     traced_parses-parses (char c) i = parse_of-if (nat_lt 0 (piece hay i).len && (character (piece hay i) == c)) (i + (piece hay i).len)

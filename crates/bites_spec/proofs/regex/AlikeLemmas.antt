@@ -1,4 +1,4 @@
--- Answers from one start begin alike, and none ends before the least end.
+-- Answers to searches from one start begin at the same place, and none ends before the least end.
 use Rattle.std.proofs.Common.{◌≡◌, ℕ, ◌≤◌, Bool, true, false, List, Option, Some, None, is_some, option_map, refl, ap, subst, ⊎_elim, arith, ◌⊎◌, ltb-true, ltb-false}
 use Rattle.std.specs.Prelude.{nat_lt}
 use Rattle.std.proofs.lemmas.Option.{none-some, same_Some}
@@ -18,7 +18,7 @@ use Rattle.bites_spec.proofs.programs.OneLemmas.{same_start}
 use Rattle.bites_spec.proofs.programs.LongestLemmas.{longest_run-LongestRun}
 use Rattle.bites_spec.proofs.runs.PlaceLemmas.{runs_forward, runs_within}
 
--- two first places are the same
+-- there is only one first place
 one_first_place : (t : Tree) (hay : List ℕ) (s i k : ℕ) → IsFirstPlace t hay s i → IsFirstPlace t hay s k → i ≡ k
 one_first_place t hay s i k a b =
     ⊎_elim (λ (lt : nat_lt i k ≡ true). absurd (b.none_before i a.place (ltb-true i k lt) a.matches.0 a.matches.1))
@@ -47,7 +47,7 @@ least_end_is_at_most t hay s (Some b) (Some l) x y = (
 )
 
 module _ (p : Program) (hay : List ℕ) where
-  -- a search's run begins at the first place that has one
+  -- the run begins at the first place that has one, or no place has one
   abbrev Begins : ℕ → Option Run → Type 0
   Begins s None = (i : ℕ) → Among (places hay s) i → (r : List Configuration) (j : ℕ) → IsRun p hay i r j → ⊥
   Begins s (Some r) = StartsFirst p hay s r

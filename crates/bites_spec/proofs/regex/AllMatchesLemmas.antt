@@ -28,7 +28,7 @@ use Rattle.bites_spec.proofs.parses.TextPlaces.{border_behind}
 use Rattle.bites_spec.proofs.parses.TextMatches.{found_borders}
 use Rattle.bites_spec.proofs.regex.RegexRuns as runs
 
--- successive answers, read as others with the same spans
+-- successive answers of one relation are those of another, by a map that keeps spans
 module _ {B C : Type 0} (f : B → C) (span_of : B → Span) (span_of_image : C → Span) (hay : List ℕ)
     (A : ℕ → Option B → Type 0) (D : ℕ → Option C → Type 0)
     (same : (s : ℕ) (x : B) → A s (Some x) → span_of_image (f x) ≡ span_of x)
@@ -58,7 +58,7 @@ module _ {B C : Type 0} (f : B → C) (span_of : B → Span) (span_of_image : C 
   successive_read = follow_read (A 0) (D 0) (to 0) (same 0)
 
 module _ (r : Regex) (is : IsCompiled r) (hay : List ℕ) where
-  -- what the runs of the program answer in turn
+  -- the runs that `successive` lists are the successive answers of the program's runs
   runs_follow : Successive span_of_run hay (λ s o. run_at r hay s ≡ o) (successive span_of_run hay (run_at r hay))
   runs_follow = successive_follow span_of_run hay (run_at r hay) (runs.run_at-lies r is hay)
 
@@ -99,7 +99,7 @@ pub captures_are_matches : CapturesAreMatches
 captures_are_matches r hay cs =
     successive_read span_in span_in (λ s. s) hay (FindsCaptures r hay) (FindsSpan r hay) (λ s c h. refl) (captures_span r hay) cs
 
--- one place more may be listed
+-- more fuel lists no fewer places
 more_places : (n : ℕ) (hay : List ℕ) (s i : ℕ) → Among (places_within n hay s) i → Among (places_within (suc n) hay s) i
 more_places zero hay s i h = absurd h
 more_places (suc n) hay s i h = by (nat_le s (length hay)) (more_places n hay (s + step_len hay s) i) h
@@ -111,7 +111,7 @@ more_places (suc n) hay s i h = by (nat_le s (length hay)) (more_places n hay (s
     by true more (inr later) = inr (more later)
     by false more h = absurd h
 
--- a place after e is one from the next place on
+-- a place after e is among the places from the next one on
 later_place : (hay : List ℕ) (e k : ℕ) → Among (places hay e) k → e < k → Among (places hay (e + step_len hay e)) k
 unfolding places
 later_place hay e k h above = by (nat_le e (length hay)) h
@@ -123,7 +123,7 @@ later_place hay e k h above = by (nat_le e (length hay)) h
     by false h = absurd h
 
 module _ (r : Regex) (hay : List ℕ) where
-  -- what is found as a span, by its parts
+  -- a found span begins at the first place with a match, matches, and lies in the haystack
   first_of : (s : ℕ) (x : Span) → FindsSpan r hay s (Some x) →
       IsFirstPlace r.tree hay s x.start × Matches hay r.tree x.start x.end × LiesFrom (length hay) s x
   first_of s x m =
@@ -135,7 +135,7 @@ module _ (r : Regex) (hay : List ℕ) where
   spans_lie : (s : ℕ) (x : Span) → FindsSpan r hay s (Some x) → LiesFrom (length hay) s x
   spans_lie s x f = (first_of s x f).2
 
-  -- the empty text matches where the answer is empty
+  -- if the found span is empty at e, the empty text matches there
   empty_matches : (e : ℕ) (x : Span) → FindsSpan r hay e (Some x) → (x.start ≡ e) × (x.end ≡ e) → Matches hay r.tree e e
   empty_matches e x f empty =
       subst (λ j. Matches hay r.tree e j) empty.1
@@ -199,7 +199,7 @@ matches_stand_apart r hay ss all = (
       (Successive-ends_grow (λ s. s) hay (FindsSpan r hay) (spans_lie r hay) x xs (subst (AreMatches r hay) e all)),
 )
 
--- over texts
+-- in UTF-8
 module _ (r : Regex) (hay : List ℕ) (utf8 : IsUtf8 hay) where
   span_borders : (s : ℕ) (x : Span) → (s ≤ length hay → IsCharBoundary hay s) → FindsSpan r hay s (Some x) → HasBorders hay x
   span_borders s x border m =

@@ -1,4 +1,4 @@
--- What a search from one place answers is what such a search of the tree finds.
+-- The run that a search from one place returns is what such a search of the tree finds.
 use Rattle.std.proofs.Common.{◌≡◌, ◌↔◌, ℕ, suc, ◌≤◌, Bool, true, false, cond, List, length, Option, Some, None, IsSome, option_map, refl, sym, ap, ap₂, ◌∙◌, subst, inl, true≢false, arith, le-leb, leb-true}
 use Rattle.std.specs.Prelude.{nat_le}
 use Rattle.std.proofs.lemmas.Option.{none-some, same_Some}
@@ -30,7 +30,7 @@ use Rattle.bites_spec.proofs.programs.BuiltLemmas.{run_is_parse, run_is_match, m
 use Rattle.bites_spec.proofs.programs.FoundLemmas.{FirstRun-Found, LongestRun-FoundLongest, group_0_is_span, same_groups}
 use Rattle.bites_spec.proofs.parses.MarkPlaces.{parse_lies, group_lies}
 use Rattle.bites_spec.proofs.parses.EventLemmas.{Parse-Matches}
-use Rattle.bites_spec.proofs.regex.PartCountLemmas.{static_len_takes_part}
+use Rattle.bites_spec.proofs.regex.PartCountLemmas.{static_len_participates}
 use Rattle.bites_spec.proofs.regex.FoundSomeLemmas.{finds_some}
 use Rattle.bites_spec.proofs.parses.TextMatches.{found_borders}
 
@@ -38,7 +38,7 @@ module _ (p : Program) (hay : List ℕ) where
   abbrev from : Bool → ℕ → Option Run
   from longest s = cond longest (longest_run_below p hay (suc (length hay)) s) (first_run_from p hay s)
 
-  -- a run from one place is one that such a search within the haystack answers
+  -- a run that such a search returns begins within the haystack
   some_within : (longest : Bool) (s : ℕ) (x : Run) → anchored_run p hay longest s ≡ Some x → (s ≤ length hay) × (from longest s ≡ Some x)
   some_within longest s x e = by_test (nat_le s (length hay)) refl e
     where
@@ -49,7 +49,7 @@ module _ (p : Program) (hay : List ℕ) where
   none_within : (longest : Bool) (s : ℕ) → anchored_run p hay longest s ≡ None → s ≤ length hay → from longest s ≡ None
   none_within longest s e le = sym (ap (λ b. cond b (from longest s) None) (le-leb s (length hay) le)) ∙ e
 
-  -- a run that begins at a place of the haystack starts first from there
+  -- a run from a place s of the haystack is one from the first place at or after s that has one
   starts_here : (s : ℕ) (x : Run) → s ≤ length hay → x.start ≡ s → IsRun p hay x.start x.configurations x.end → StartsFirst p hay s x
   starts_here s x le is runs = record {
     runs = runs;
@@ -58,7 +58,7 @@ module _ (p : Program) (hay : List ℕ) where
   }
 
   module _ (well : IsWellFormed p) where
-    -- the run that such a search answers begins there
+    -- the run that such a search returns begins at that place
     pub anchored_starts : (longest : Bool) (s : ℕ) (x : Run) → anchored_run p hay longest s ≡ Some x →
         (s ≤ length hay) × (x.start ≡ s) × IsRun p hay x.start x.configurations x.end
     anchored_starts true s x e =
@@ -71,7 +71,7 @@ module _ (p : Program) (hay : List ℕ) where
         below_none p hay well (suc (length hay)) s (none_within true s e le) le j (ends_below p hay well s r j le runs) r runs
     anchored_none false s e le r j runs = found_from_none p hay well s (none_within false s e le) le r j runs
 
-    -- it is the first run, or the longest
+    -- it is the first run from there; the longest stands below
     anchored_first : (s : ℕ) (x : Run) → anchored_run p hay false s ≡ Some x → FirstRun p hay s (Some x)
     anchored_first s x e =
         let w = some_within false s x e in let b = found_from_some p hay well s x w.1 w.0 in
@@ -123,7 +123,7 @@ module _ (p : Program) (hay : List ℕ) where
             ap (λ b. cond b (from true 0) None) (le-leb 0 (length hay) (omega arith)) ∙ below_found p hay 0 (length hay) y some in
             absurd (never y (sym e ∙ longest) (full_is y some).1)
 
--- what is found first from a place, if it begins there, is found from that place alone
+-- what a search from a place finds, if it begins there, is what a search from that place alone finds
 from_found : (t : Tree) (hay : List ℕ) (Q : (i j : ℕ) → List Mark → Type 0) (s : ℕ) (a : Answer) → s ≤ length hay → a.start ≡ s →
     IsFoundBy t hay Q s a → IsFoundFromBy t hay (Q s) s a
 from_found t hay Q s a le is f = record {
@@ -135,7 +135,7 @@ from_found t hay Q s a le is f = record {
   chosen = subst (λ (i : ℕ). Q i a.end f.marks) is f.chosen;
 }
 
--- and the other way round
+-- and conversely
 to_found : (t : Tree) (hay : List ℕ) (Q : (i j : ℕ) → List Mark → Type 0) (s : ℕ) (a : Answer) → IsFoundFromBy t hay (Q s) s a → IsFoundBy t hay Q s a
 to_found t hay Q s a f = record {
   first = record {
@@ -209,10 +209,10 @@ module _ (r : Regex) (is : IsCompiled r) (hay : List ℕ) (x : Run) (le : x.star
             let inner = group_lies x.start x.end parse.0 k g lies
             (sym (same_groups r.tree r.program hay is.compilable is.built x parse.0 parse.2 k) ∙ h) in
             let outer = run-lies in let three = inner.2 in let four = outer.2 in (omega arith, inner.1, omega arith);
-        enough = λ n known. static_len_takes_part r.tree r.program hay is.compilable is.built n known x runs;
+        enough = λ n known. static_len_participates r.tree r.program hay is.compilable is.built n known x runs;
       }
 
--- nothing is found from a place only where nothing matches from there
+-- if a search from a place finds nothing, nothing matches from there
 nothing_from : (longest : Bool) (t : Tree) (hay : List ℕ) (s : ℕ) → FindsFrom longest t hay s None → HasMatchFrom t hay s → ⊥
 nothing_from true t hay s none = none
 nothing_from false t hay s none = none
@@ -221,7 +221,7 @@ module _ (r : Regex) (is : IsCompiled r) (hay : List ℕ) where
   abbrev Begins : Run → Type 0
   Begins x = (x.start ≤ length hay) × IsRun r.program hay x.start x.configurations x.end
 
-  -- the runs that searches answer begin in the haystack
+  -- the runs that such searches return begin in the haystack
   pub anchored_begins : (s : ℕ) (x : Run) → anchored_run_at r hay s ≡ Some x → Begins x
   anchored_begins s x e =
       let b = anchored_starts r.program hay is.well_formed r.leftmost_longest s x e in let le = b.0 in let start = b.1 in (omega arith, b.2)

@@ -1,4 +1,4 @@
--- A search from the start of the haystack alone finds what a search for `\A(?:p)` finds.
+-- An anchored search for p from the start of the haystack finds what a search for `\A(?:p)` finds.
 use Rattle.std.proofs.Common.{◌≡◌, ◌↔◌, ℕ, ◌≤◌, Bool, true, false, ◌&&◌, List, [], ◌∷◌, ◌++◌, map, Option, Some, None, refl, sym, ap, ap₂, ◌∙◌, subst, arith}
 use Rattle.std.proofs.lemmas.List.{append-nil}
 use Rattle.bites_spec.specs.Utf8.{places}

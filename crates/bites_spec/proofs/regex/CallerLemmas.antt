@@ -1,4 +1,4 @@
--- What callers ask of patterns, places and groups.
+-- What callers rely on: anchored trees match the whole haystack, literals are read, ranges are listed, groups participate.
 use Rattle.std.proofs.Common.{◌≡◌, ℕ, zero, suc, ◌+◌, ◌<◌, ◌≤◌, ◌/◌, Bool, true, false, ◌||◌, List, [], ◌∷◌, length, Option, Some, None, IsSome, refl, sym, ap, ◌∙◌, subst, inl, ⊎_elim, arith, le-leb, eqb-true, eq-eqb}
 use Rattle.std.specs.Prelude.{nat_le, ◌==◌, ◌&&◌}
 use Rattle.std.specs.List.{filter_map, cons_option, range_with_len}
@@ -56,7 +56,7 @@ literal_is_read pattern flags nest_limit t is =
     let reading = (read_within ranges_of ranges_of_list nest_limit pattern flags t is).reading in
     (reading, λ u reads. reads_once pattern flags u t reads reading)
 
--- the test of a range's set is that of the range
+-- the set of a range has the same test as the range
 same_range : (r : Range) (c : ℕ) → range_set r c ≡ in_range r c
 same_range r c = ⊎_elim
     (λ is. rw is (one (eqb-true r.0 r.1 is)))

@@ -1,4 +1,4 @@
--- The tree of a pattern is reduced, and no number and no name of its groups comes twice.
+-- The tree of a pattern is reduced, and no two of its groups have the same number or the same name.
 use Rattle.std.proofs.Common.{◌≡◌, ℕ, zero, suc, ◌+◌, ◌≤◌, Bool, true, false, ◌&&◌, ◌==◌, List, [], ◌∷◌, ◌++◌, map, Option, Some, None, IfSome, refl, sym, ap, ◌∙◌, subst, inl, inr, ⊎_elim, arith, ◌⊎◌, true≢false, append_assoc, append-nil}
 use Rattle.std.specs.Prelude.{encode_utf8_all, bytes_eq, option_map}
 use Rattle.std.proofs.lemmas.Slice.Eq.{bytes_eq-Decides}
@@ -31,7 +31,7 @@ front_apart : {A : Type 0} (xs ys : List A) → AllApart (xs ++ ys) → AllApart
 front_apart [] ys h = tt
 front_apart (x ∷ xs) ys h = (λ among. h.0 (Among-left xs ys x among), front_apart xs ys h.1)
 
--- these are apart and new: none was known before, and all are behind, with what was known
+-- the elements are distinct, unknown before and known after, and what was known stays known
 record AreNew {A : Type 0} (before behind : A → Type 0) (xs : List A) : Type 0 where
   grows : (x : A) → before x → behind x
   new : (x : A) → Among xs x → before x → ⊥
@@ -120,14 +120,14 @@ Fits-append {front} {middle} {behind} a b one other = record {
       (AreNew-append (IsNamed front) (IsNamed middle) (IsNamed behind) (names_of a) (names_of b) one.names other.names);
 }
 
--- the flags play no part
+-- the flags do not matter
 Fits-flags : {front behind : Front} {nodes : List Tree} (flags : Flags) → Fits (record front { flags = flags }) behind nodes → Fits front behind nodes
 Fits-flags flags h = record { reduced = h.reduced; numbers = h.numbers; names = h.names }
 
 Fits-flags_behind : {front behind : Front} {nodes : List Tree} (flags : Flags) → Fits front behind nodes → Fits front (record behind { flags = flags }) nodes
 Fits-flags_behind flags h = record { reduced = h.reduced; numbers = h.numbers; names = h.names }
 
--- one node with the groups of the nodes
+-- one node can replace nodes with the same groups
 Fits-one : {front behind : Front} {nodes : List Tree} (t : Tree) → groups_in t ≡ numbers_of nodes → names_in t ≡ names_of nodes → IsReduced t →
     Fits front behind nodes → Fits front behind (t ∷ [])
 Fits-one {front} {behind} t numbers names reduced h = record {
@@ -172,7 +172,7 @@ choice_reduced (t ∷ u ∷ nodes) h = (omega arith, h)
 Fits-choice : {front behind : Front} (nodes : List Tree) → Fits front behind nodes → Fits front behind (alternation_of nodes ∷ [])
 Fits-choice nodes h = Fits-one (alternation_of nodes) (choice_numbers nodes) (choice_names nodes) (choice_reduced nodes h.reduced) h
 
--- a node that an operator makes of the last one: it has its groups, or none
+-- what an operator makes of the last node has its groups, or none
 record Repeats (last node : Tree) : Type 0 where
   reduced : IsReduced last → IsReduced node
   groups : ((groups_in node ≡ groups_in last) × (names_in node ≡ names_in last)) ⊎ ((groups_in node ≡ []) × (names_in node ≡ []))
@@ -233,7 +233,7 @@ Fits-last {front} {behind} before last node repeated h =
     })
     repeated.groups
 
--- a name that is not used is new among the bytes of the names
+-- a name that is not used differs from the bytes of each name
 unused : (names : List Text) (name : Text) → is_used names name ≡ false → Among (map encode_utf8_all names) (encode_utf8_all name) → ⊥
 unused [] name free among = among
 unused (other ∷ names) name free among =
@@ -325,7 +325,7 @@ mutual
       subst (λ x. Fits from x all) (sym unchanged)
       (Fits-flags_behind _ (subst (λ x. Fits from middle x) (sym same) (Fits-append nodes _ h (Fits-group branches o (choice_fits c)))))
 
--- the tree of a pattern can be compiled
+-- the tree of a pattern is compilable
 pub reads_compilable : (pattern : Text) (flags : Flags) (t : Tree) → Reads pattern flags t → IsCompilable t
 reads_compilable pattern flags t reading =
     let h = choice_fits reading.reads in

@@ -5,7 +5,7 @@ use Rattle.std.proofs.lemmas.Bool.{cases_lt}
 use Rattle.std.proofs.lemmas.Option.{none-some}
 use lib.Utf8.{encode}
 
--- a character and the bytes behind it
+-- a character and the bytes after it
 abbrev Decoded : Type 0
 Decoded = Option (ℕ × List ℕ)
 
@@ -21,7 +21,7 @@ abbrev after_two : ℕ → List ℕ → Decoded
 after_two n [] = None
 after_two n (b ∷ bytes) = after_three (n * 64 + (b - 128)) bytes
 
--- the first character of the bytes, whatever number it is
+-- the first character of the bytes, without checks
 abbrev decoded : List ℕ → Decoded
 decoded [] = None
 decoded (b ∷ bytes) =
@@ -86,7 +86,7 @@ of_any c bytes =
     (cases_lt c 2048))
     (cases_lt c 128)
 
--- texts with the same bytes are the same
+-- texts with the same bytes are equal
 pub same_text : (a b : List ℕ) → encode_utf8_all a ≡ encode_utf8_all b → a ≡ b
 same_text [] [] e = refl
 same_text [] (d ∷ b) e = absurd (none-some _ (ap decoded e ∙ of_any d (encode_utf8_all b)))

@@ -1,4 +1,4 @@
--- What an escaped text matches.
+-- An escaped text matches exactly where the text stands, and a search finds its first occurrence.
 use Rattle.std.proofs.Common.{◌≡◌, ℕ, zero, suc, ◌+◌, ◌<◌, ◌≤◌, true, false, ◌==◌, List, [], ◌∷◌, ◌++◌, length, get_or, drop, map, Option, Some, None, option_map, refl, sym, ap, ◌∙◌, subst, ⊎_elim, arith, append_assoc, length-append, ltb, ltb-true, ltb-false, eqb-true, eq-eqb, IsUtf8, IsCharBoundary}
 use Rattle.std.specs.Prelude.{◌↔◌, chars, encode_utf8_all}
 use Rattle.std.specs.Char.{len_utf8, IsScalar, encode_utf8}
@@ -79,7 +79,7 @@ stand_all hay (c ∷ cs) i rest scalar e =
           (stand_all hay cs (i + len_utf8 c) rest both.1 (behind_character hay i c (encode_utf8_all cs ++ rest) split)),
     )
 
--- nodes in a row match as their sequence
+-- nodes in a row match if their sequence does
 row_matches : (hay : List ℕ) (ts : List Tree) (i j : ℕ) → Matches hay (sequence_of ts) i j → MatchesAll hay (trees_of ts) i j
 row_matches hay [] i j m = m
 row_matches hay (t ∷ []) i j m = (j, m, refl)
@@ -108,14 +108,14 @@ get_or_drop hay zero = refl
 get_or_drop [] (suc i) = refl
 get_or_drop (b ∷ hay) (suc i) = get_or_drop hay i
 
--- where a text stands is a border, if it has a character
+-- where a text with at least one character stands is a border
 stands_border : (hay text : List ℕ) (i : ℕ) → IsUtf8 text → 0 < length text → StandsAt hay text i → IsCharBoundary hay i
 stands_border hay text i is_text some (le, (rest, e)) =
     let same = sym (get_or_drop hay i) ∙ ap (λ (l : List ℕ). get_or l 0 0) e ∙ get_or-append text rest 0 0 some in
     let start = (IsCharBoundary-start text is_text).1 some in
     (le, λ lt above. subst (λ (b : ℕ). 192 ≤ b) (sym same) (start (subst (λ (b : ℕ). 128 ≤ b) same above)))
 
--- a place, from the start on, at which the tree matches no later than the text stands
+-- some place at or before the text's, from the start on, has a match
 matches_by : (hay text : List ℕ) (s i : ℕ) → IsUtf8 hay → IsUtf8 text → IsCharBoundary hay s → s ≤ i → StandsAt hay text i →
     (k : ℕ) × (k ≤ i) × Among (places hay s) k × ((j : ℕ) × Matches hay (text_tree (chars text)) k j)
 matches_by hay [] s i utf8 is_text border le stands = (

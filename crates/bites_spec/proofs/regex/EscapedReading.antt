@@ -42,7 +42,7 @@ reads_character c text = by_mark (is_marked c) refl
         (itself c (92 ∷ c ∷ escaped text) (escaped text) (character c) refl (marked_escapes c e) refl) refl
     by_mark false e = literal c (c ∷ escaped text) (escaped text) (char c) refl (unmarked_is_plain c e) refl
 
--- before the first character, and behind each
+-- before the first character and after each, the front is the same
 abbrev front : Front
 front = at_front no_flags
 
@@ -90,7 +90,7 @@ escaped_is_read text nest_limit le =
       counts = omega (arith, read.2);
     }
 
--- the characters of an escaped text are scalar values
+-- the characters of an escaped text are scalar values if the text's are
 escaped_scalars : (text : Text) → scalars text ≡ true → scalars (escaped text) ≡ true
 escaped_scalars [] s = refl
 escaped_scalars (c ∷ text) s = by_mark (is_marked c) (escaped_scalars text both.1)
@@ -106,11 +106,11 @@ escaped_scalars (c ∷ text) s = by_mark (is_marked c) (escaped_scalars text bot
 pub chars_are_scalars : (text : List ℕ) → IsUtf8 text → scalars (chars text) ≡ true
 chars_are_scalars text (cs, h) = subst (λ (l : List ℕ). scalars l ≡ true) (sym (chars-encodes cs h.0) ∙ ap chars h.1) h.0
 
--- and so they are those of its UTF-8
+-- decoding the UTF-8 of an escaped text gives the escaped text
 pub escaped_chars : (text : List ℕ) → IsUtf8 text → chars (encode_utf8_all (escaped (chars text))) ≡ escaped (chars text)
 escaped_chars text utf8 = chars-encodes (escaped (chars text)) (escaped_scalars (chars text) (chars_are_scalars text utf8))
 
--- group 0 alone
+-- a tree without groups has only group 0
 one_group : (t : Tree) → groups_in t ≡ [] → length (groups_left t) ≡ 1
 one_group t none = length-map-range_with_len (group_name t) 0 (captures_len t) ∙ ap (λ (ks : List ℕ). suc (greatest ks)) none
 

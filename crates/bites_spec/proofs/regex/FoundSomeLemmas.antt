@@ -1,4 +1,4 @@
--- What is found is some parse, and the slots of an answer.
+-- Each search finds some parse, and slots keep their length.
 use Rattle.std.proofs.Common.{◌≡◌, ℕ, List, length, Option, Some, None, true, false, arith, ap, ◌∙◌}
 use Rattle.std.proofs.lemmas.List.{length-take-le}
 use Rattle.std.proofs.lemmas.List.FromFn.{length-map-range_with_len}
@@ -10,7 +10,7 @@ use Rattle.bites_spec.specs.Laws.{FoundIsSome, AnsweredKeepsLength}
 use Rattle.bites_spec.specs.RegexLaws.{FindsSome}
 use Rattle.bites_spec.proofs.parses.EventLemmas.{Parse-Matches}
 
--- a finding is one whatever is asked of the choice of its parse
+-- what a search finds by any choice of parse is some parse
 found_by_some : (t : Tree) (hay : List ℕ) (Q : (i j : ℕ) → List Mark → Type 0) (s : ℕ) (o : Option Answer) → FoundBy t hay Q s o → FoundSome t hay s o
 found_by_some t hay Q s None none = none
 found_by_some t hay Q s (Some a) f = record { first = f.first; marks = f.marks; parse = f.parse; groups = f.groups; chosen = tt }

@@ -24,11 +24,11 @@ Entry = ℕ × Option (List ℕ)
 abbrev entries : List Tree → List Entry
 entries nodes = groups_of_all (trees_of nodes)
 
--- the group has its place among these
+-- the group's name stands at its number in the list
 abbrev Stands : List (Option (List ℕ)) → Entry → Type 0
 Stands groups g = (g.0 < length groups) × (slice_index_or groups g.0 None ≡ g.1)
 
--- the groups that were counted are those that have an entry
+-- there is an entry for each group that is counted, and one for group 0
 abbrev IsCounted : Front → Type 0
 IsCounted front = length (opened_by front) ≡ suc front.groups
 
@@ -39,12 +39,12 @@ stands_still groups name g (below, same) =
 stands_last : (groups : List (Option (List ℕ))) (name : Option (List ℕ)) (n : ℕ) → length groups ≡ n → Stands (groups ++ name ∷ []) (n, name)
 stands_last groups name n is = (omega (arith, length-append groups (name ∷ [])), get_or_at groups name [] None n is)
 
--- the entry of a group that is opened comes behind the others
+-- the entry of a group that is opened comes after all others
 pub opened_more : (name : Option Text) (front : Front) → opened_by (with_group name front) ≡ opened_by front ++ option_map encode_utf8_all name ∷ []
 opened_more name front =
     ap (λ xs. None ∷ xs) (reverse-append (option_map encode_utf8_all name ∷ []) (map (option_map encode_utf8_all) front.names))
 
--- between two places more groups are opened, and those of the nodes are among them
+-- entries stay in place, and the groups of the nodes get entries
 record Keeps (front behind : Front) (nodes : List Tree) : Type 0 where
   counts : IsCounted front → IsCounted behind
   grows : (g : Entry) → Stands (opened_by front) g → Stands (opened_by behind) g
@@ -66,12 +66,12 @@ Keeps-append a b one other = record {
       (Among-append (entries a) (entries b) g (subst (λ gs. Among gs g) (entries-append a b) among));
 }
 
--- other nodes whose groups are among those of these
+-- other nodes whose groups are among those of these are kept, too
 Keeps-among : {front behind : Front} (nodes others : List Tree) → ((g : Entry) → Among (entries others) g → Among (entries nodes) g) →
     Keeps front behind nodes → Keeps front behind others
 Keeps-among nodes others among h = record { counts = h.counts; grows = h.grows; stand = λ c g a. h.stand c g (among g a) }
 
--- the flags play no part
+-- the flags do not matter
 Keeps-flags : {front behind : Front} {nodes : List Tree} (flags : Flags) → Keeps (record front { flags = flags }) behind nodes → Keeps front behind nodes
 Keeps-flags flags h = record { counts = h.counts; grows = h.grows; stand = h.stand }
 
@@ -97,7 +97,7 @@ Keeps-sequence nodes h = Keeps-among nodes (sequence_of nodes ∷ []) (same_entr
 Keeps-choice : {front behind : Front} (nodes : List Tree) → Keeps front behind nodes → Keeps front behind (alternation_of nodes ∷ [])
 Keeps-choice nodes h = Keeps-among nodes (alternation_of nodes ∷ []) (same_entries nodes (alternation_of nodes) (choice_entries nodes)) h
 
--- an operator leaves the groups of the last node, or none
+-- an operator keeps the groups of the last node, or drops them all
 repeated_entries : (min : ℕ) (max : Option ℕ) (greedy : Bool) (last : Tree) →
     (groups_of (repetition_of min max greedy last) ≡ groups_of last) ⊎ (groups_of (repetition_of min max greedy last) ≡ [])
 repeated_entries min None greedy last = inl refl

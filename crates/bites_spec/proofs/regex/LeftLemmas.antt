@@ -1,4 +1,4 @@
--- The groups that are left in a tree, and groups that it does not have.
+-- The list of groups left in a tree has each group's name, and dropped groups have no place.
 use Rattle.std.proofs.Common.{◌≡◌, ◌≢◌, ℕ, zero, suc, ◌+◌, ◌*◌, ◌<◌, ◌≤◌, cond, List, [], ◌∷◌, ◌++◌, length, map, Option, None, option_map, refl, sym, ap, ap₂, ◌∙◌, subst, inl, inr, ⊎_elim, arith, eq-eqb, ne_eqb}
 use Rattle.std.proofs.lemmas.List.{map-append}
 use Rattle.std.proofs.lemmas.List.FromFn.{length-map-range_with_len, get_or-map-range_with_len}
@@ -36,7 +36,7 @@ pub Among-number : (gs : List (ℕ × Option (List ℕ))) (g : ℕ × Option (Li
 Among-number [] g among = absurd among
 Among-number (h ∷ gs) g among = ⊎_elim (λ (e : h ≡ g). inl (ap number e)) (λ later. inr (Among-number gs g later)) among
 
--- each group has the name that its number has
+-- the name found for a group's number is the group's name
 name_found : (gs : List (ℕ × Option (List ℕ))) → AllApart (map number gs) → (g : ℕ × Option (List ℕ)) → Among gs g → name_in gs g.0 ≡ g.1
 name_found [] apart g among = absurd among
 name_found (h ∷ gs) apart g among =
@@ -59,7 +59,7 @@ greatest_below (g ∷ gs) n some below =
     let others = greatest_below gs n some (λ h among. below h (inr among)) in
     omega (arith, own, others)
 
--- groups that have those of a tree are as many as its greatest number asks
+-- a list that has the groups of a tree is at least as long as the tree's greatest number asks
 pub room_for_groups : (groups : List (Option (List ℕ))) (t : Tree) → 0 < length groups → HasItsGroups groups t → captures_len t ≤ length groups
 room_for_groups groups t some has =
     let below = greatest_below (groups_of t) (length groups) some (λ g among. (has g among).0) in
@@ -80,7 +80,7 @@ left_has_groups t apart g among =
 pub left_are_kept : LeftAreKept
 left_are_kept t fit = (length-left t, left_has_groups t fit.numbers)
 
--- a group that is not in the tree has no place in a parse
+-- a group without a mark has no place in a parse
 no_place : (ms : List Mark) (i j k : ℕ) → 1 ≤ k → last_mark ms k ≡ None → groups i j ms k ≡ None
 no_place ms i j zero positive none = absurd (omega arith)
 no_place ms i j (suc k) positive none = none

@@ -1,4 +1,4 @@
--- How many groups participate at least, in an answer and in slots.
+-- At least as many groups participate in an answer and in its slots as the form gives.
 use Rattle.std.proofs.Common.{◌≡◌, ℕ, zero, suc, ◌+◌, ◌*◌, ◌/◌, ◌<◌, ◌≤◌, Bool, true, false, List, [], ◌∷◌, length, Option, Some, None, IsSome, is_some, option_map, refl, sym, ap, ◌∙◌, subst, inl, inr, ⊎_elim, true≢false, arith, ◌⊎◌, eq-eqb}
 use Rattle.std.specs.Prelude.{◌==◌, if◌then◌else◌}
 use Rattle.std.specs.Option.{option_or}
@@ -11,9 +11,9 @@ use Rattle.bites_spec.specs.Measure.{static_count, static_captures_len}
 use Rattle.bites_spec.specs.Match.{Span, Mark, IsMarked, Parse, last_mark, groups}
 use Rattle.bites_spec.specs.Built.{IsCompilable}
 use Rattle.bites_spec.specs.Run.{slots}
-use Rattle.bites_spec.specs.Slots.{slot_in, span_between, group_in, taking_part}
-use Rattle.bites_spec.specs.FoundLaws.{TakePartAtLeast, StaticLenIsLeast}
-use Rattle.bites_spec.specs.RunLaws.{StaticLenTakesPart}
+use Rattle.bites_spec.specs.Slots.{slot_in, span_between, group_in, participating}
+use Rattle.bites_spec.specs.FoundLaws.{ParticipateAtLeast, StaticLenIsLeast}
+use Rattle.bites_spec.specs.RunLaws.{StaticLenParticipates}
 use Rattle.bites_spec.proofs.parses.StaticLemmas.{witness}
 use Rattle.bites_spec.proofs.programs.BuiltLemmas.{groups_positive, run_is_parse}
 use Rattle.bites_spec.proofs.programs.FoundLemmas.{same_groups}
@@ -37,10 +37,10 @@ static_parts t n e = of_count (static_count t) e
     of_count None e = absurd (none-some n e)
     of_count (Some m) e = (m, refl, same_Some (suc m) n e)
 
--- in a parse so many groups took part as the form says, group 0 with them
-parse_takes_part : (t : Tree) → IsCompilable t → (n : ℕ) → static_captures_len t ≡ Some n → (hay : List ℕ) (i j : ℕ) (ms : List Mark) → Parse hay t i j ms →
-    TakePartAtLeast n (groups i j ms)
-parse_takes_part t fit n e hay i j ms parse =
+-- in each parse, at least as many groups participate as the form gives, group 0 included
+parse_participates : (t : Tree) → IsCompilable t → (n : ℕ) → static_captures_len t ≡ Some n → (hay : List ℕ) (i j : ℕ) (ms : List Mark) → Parse hay t i j ms →
+    ParticipateAtLeast n (groups i j ms)
+parse_participates t fit n e hay i j ms parse =
     let count = static_parts t n e in
     let w = witness hay t fit.numbers count.0 count.1 i j ms parse in
     let positive : (k : ℕ) → Among w.ks k → 1 ≤ k = (λ k h. groups_positive t fit.reduced k (w.within k h)) in (
@@ -55,15 +55,15 @@ parse_takes_part t fit n e hay i j ms parse =
     of_positive zero le marked = absurd (omega (arith, le))
     of_positive (suc k) le marked = marked_last ms (suc k) marked
 
-same_part : (n : ℕ) (f g : ℕ → Option Span) → ((k : ℕ) → f k ≡ g k) → TakePartAtLeast n g → TakePartAtLeast n f
+same_part : (n : ℕ) (f g : ℕ → Option Span) → ((k : ℕ) → f k ≡ g k) → ParticipateAtLeast n g → ParticipateAtLeast n f
 same_part n f g same (ks, many, apart, all) = (ks, many, apart, λ k h. subst (λ (o : Option Span). IsSome o) (sym (same k)) (all k h))
 
 pub static_len_is_least : StaticLenIsLeast
 static_len_is_least t fit n e hay s a found =
     same_part n a.group (groups a.start a.end found.marks) found.groups
-    (parse_takes_part t fit n e hay a.start a.end found.marks found.parse)
+    (parse_participates t fit n e hay a.start a.end found.marks found.parse)
 
--- a list without one of its elements
+-- a list without one of its elements, shorter by one
 record Without (ys : List ℕ) (x : ℕ) : Type 0 where
   rest : List ℕ
   shorter : length ys ≡ suc (length rest)
@@ -85,7 +85,7 @@ without (y ∷ ys) x h =
     })
     h
 
--- numbers apart that are all among a list are no more than the list has
+-- a list of distinct numbers, all from another list, is no longer than that list
 pub apart_length : (xs ys : List ℕ) → AllApart xs → ((k : ℕ) → Among xs k → Among ys k) → length xs ≤ length ys
 apart_length [] ys apart inside = omega arith
 apart_length (x ∷ xs) ys apart inside =
@@ -94,7 +94,7 @@ apart_length (x ∷ xs) ys apart inside =
     omega (arith, more, w.shorter)
 
 module _ (f : ℕ → Option Span) where
-  -- the numbers at which there is an answer
+  -- the numbers that have a span
   abbrev known : List ℕ → List ℕ
   known [] = []
   known (k ∷ ks) = if is_some (f k) then k ∷ known ks else known ks
@@ -151,17 +151,17 @@ some_in os k some =
     none_behind None = refl
     none_behind (Some i) = refl
 
--- the groups that took part are no fewer than different ones that did
-least_taking_part : (n : ℕ) (os : List (Option ℕ)) → TakePartAtLeast n (group_in os) → n ≤ length (taking_part os)
-least_taking_part n os (ks, many, apart, all) =
+-- n distinct groups that participate are all in the list of those that do
+least_participating : (n : ℕ) (os : List (Option ℕ)) → ParticipateAtLeast n (group_in os) → n ≤ length (participating os)
+least_participating n os (ks, many, apart, all) =
     let range = range_with_len 0 (length os / 2) in
     let fits = apart_length ks (known (group_in os) range) apart
     (λ k h. known_among (group_in os) range k (among_first (length os / 2) k (some_in os k (all k h))) (all k h)) in
     omega (arith, fits, many, known_length (group_in os) range)
 
-pub static_len_takes_part : StaticLenTakesPart
-static_len_takes_part t p hay fit built n e r runs =
+pub static_len_participates : StaticLenParticipates
+static_len_participates t p hay fit built n e r runs =
     let x = run_is_parse t p hay fit built r.start r.end r.configurations runs in
-    least_taking_part n (slots p r)
+    least_participating n (slots p r)
     (same_part n (group_in (slots p r)) (groups r.start r.end x.0) (λ k. same_groups t p hay fit built r x.0 x.2 k)
-    (parse_takes_part t fit n e hay r.start r.end x.0 x.1))
+    (parse_participates t fit n e hay r.start r.end x.0 x.1))

@@ -1,4 +1,4 @@
--- What the run of a regex says of its tree.
+-- The chosen run of a regex's program is what the chosen search of its tree finds.
 use Rattle.std.proofs.Common.{ℕ, Bool, true, false, List, option_map}
 use Rattle.bites_spec.specs.Program.{Program, IsWellFormed}
 use Rattle.bites_spec.specs.Tree.{Tree}
@@ -10,7 +10,7 @@ use Rattle.bites_spec.specs.RegexLaws.{RunIsFound}
 use Rattle.bites_spec.proofs.programs.FoundLemmas.{first_run-Found, LongestRun-FoundLongest}
 use Rattle.bites_spec.proofs.programs.LongestLemmas.{longest_run-LongestRun}
 
--- the chosen run of a tree's program is what the tree finds by that choice
+-- the chosen run of a tree's program is what a search of the tree finds by that choice
 pub chosen_run_found : (t : Tree) (p : Program) (hay : List ℕ) → IsCompilable t → Built t p → IsWellFormed p → (longest : Bool) (s : ℕ) →
     Finds longest t hay s (option_map (answer_of p) (chosen_run longest p hay s))
 chosen_run_found t p hay fit built well true s =

@@ -1,4 +1,4 @@
--- The run that a search of a regex answers, and its slots.
+-- The run that a search of a regex returns, its span and its slots.
 use Rattle.std.proofs.Common.{◌≡◌, ℕ, zero, suc, ◌+◌, ◌≤◌, Bool, true, false, cond, List, [], ◌∷◌, map, length, Option, Some, None, IsSome, option_map, refl, sym, ap, ap₂, ◌∙◌, subst, inl, inr, ⊎_elim, arith}
 use Rattle.std.proofs.lemmas.List.{length-map}
 use Rattle.std.proofs.lemmas.List.FromFn.{length-range_with_len}
@@ -22,11 +22,11 @@ use Rattle.bites_spec.proofs.programs.FoundLemmas.{group_0_is_span}
 use Rattle.bites_spec.proofs.parses.MarkPlaces.{parse_lies, group_lies}
 use Rattle.bites_spec.proofs.programs.RunPlaces.{chosen_run-lies}
 use Rattle.bites_spec.proofs.regex.RegexLemmas.{run_is_found}
-use Rattle.bites_spec.proofs.regex.PartCountLemmas.{static_len_takes_part}
+use Rattle.bites_spec.proofs.regex.PartCountLemmas.{static_len_participates}
 use Rattle.bites_spec.proofs.iteration.SuccessiveLemmas.{mapped_successive}
 
 module _ (p : Program) (hay : List ℕ) (well : IsWellFormed p) where
-  -- the run that is chosen starts first
+  -- the chosen run begins at the first place that has one
   pub chosen_run-starts : (longest : Bool) (s : ℕ) (x : Run) → chosen_run longest p hay s ≡ Some x → StartsFirst p hay s x
   chosen_run-starts true s x e = (subst (LongestRun p hay s) e (longest_run-LongestRun p hay well s)).0
   chosen_run-starts false s x e = (subst (FirstRun p hay s) e (first_run-FirstRun p hay well s)).0
@@ -42,14 +42,14 @@ module _ (r : Regex) (is : IsCompiled r) (hay : List ℕ) where
   pub run_at-runs : (s : ℕ) (x : Run) → run_at r hay s ≡ Some x → IsRun r.program hay x.start x.configurations x.end
   run_at-runs s x e = (chosen_run-starts r.program hay is.well_formed r.leftmost_longest s x e).runs
 
-  -- group 0 in its slots is its span
+  -- group 0 in the slots of the run is its span
   pub run_at-whole : (s : ℕ) (x : Run) → run_at r hay s ≡ Some x → group_in (slots r.program x) 0 ≡ Some (span_of_run x)
   run_at-whole s x e = group_0_is_span r.tree r.program hay is.compilable is.built x (run_at-runs s x e)
 
   group_between : (x : Run) (ms : List Mark) → HasGroups r.program x ms → (k : ℕ) → group_in (slots r.program x) k ≡ groups x.start x.end ms k
   group_between x ms has k = ap₂ span_between (has k).0 (has k).1 ∙ between_both (groups x.start x.end ms k)
 
-  -- and each group lies between its ends
+  -- each group in the slots lies between the ends of the run
   pub run_at-groups : (s : ℕ) (x : Run) → run_at r hay s ≡ Some x → (k : ℕ) (g : Span) → group_in (slots r.program x) k ≡ Some g →
       (x.start ≤ g.start) × (g.start ≤ g.end) × (g.end ≤ x.end)
   run_at-groups s x e k g h =
@@ -64,7 +64,7 @@ module _ (r : Regex) (is : IsCompiled r) (hay : List ℕ) where
     lie = λ k g h.
         let inner = run_at-groups s x e k g h in let outer = run_at-lies s x e in
         let one = inner.0 in let two = outer.0 in let three = inner.2 in let four = outer.2 in (omega arith, inner.1, omega arith);
-    enough = λ n known. static_len_takes_part r.tree r.program hay is.compilable is.built n known x (run_at-runs s x e);
+    enough = λ n known. static_len_participates r.tree r.program hay is.compilable is.built n known x (run_at-runs s x e);
   }
 
   some_slots : (s : ℕ) (o : Option Run) (list : List (Option ℕ)) → run_at r hay s ≡ o → option_map (slots r.program) o ≡ Some list → AreGroups r hay list
@@ -82,7 +82,7 @@ module _ (r : Regex) (is : IsCompiled r) (hay : List ℕ) where
       same : (a b : Span) → Some a ≡ Some b → a ≡ b
       same a b e = cc
 
-  -- the spans that searches answer lie from their start on within the haystack
+  -- the spans that searches return lie at or after their start, within the haystack
   pub span_at-lies : (s : ℕ) (g : Span) → span_at r hay s ≡ Some g → LiesFrom (length hay) s g
   span_at-lies s g e = span_lies s (run_at r hay s) g refl e
 
@@ -107,7 +107,7 @@ module _ (r : Regex) (is : IsCompiled r) (hay : List ℕ) where
   pub found_span : (s : ℕ) → FindsSpan r hay s (span_at r hay s)
   found_span s = span_by s (run_at r hay s) refl
 
-  -- what is read off each item of the list, where it is the same as what is read off each answer
+  -- group 0 in the captured slots of each run is the run's span
   whole_of_all : (xs : List Run) → ((x : Run) → Among xs x → group_in (slots r.program x) 0 ≡ Some (span_of_run x)) →
       map (λ c. group_in c.slots 0) (map (captured_by r hay) xs) ≡ map (λ s. Some s) (map span_of_run xs)
   whole_of_all [] is = refl

@@ -1,11 +1,11 @@
--- Two parts of programs that hold one tree go the same ways, however their states are numbered.
+-- Parts of two programs that hold the same tree have alike states, however the states are numbered.
 use Rattle.std.proofs.Common.{◌≡◌, ℕ, zero, suc, ◌-◌, ◌*◌, ◌+◌, Bool, true, false, List, [], ◌∷◌, ◌++◌, length, Option, Some, None, refl, sym, ap, ◌∙◌, subst, arith, length-append}
 use Rattle.bites_spec.specs.Tree.{Tree, Trees, empty, char, class, look, repetition, group, sequence, alternation, no_tree, tree_and, is_nullable}
 use Rattle.bites_spec.specs.Program as program
 use Rattle.bites_spec.specs.Program.{State, state_at}
 use Rattle.bites_spec.specs.Built.{Fragment, One, Behind, Copies, Options, Loop, Star, OptionalLoop, Bounded, CopiesUpTo, Repeated, choice, class_state, HasForm, HasFormAll, HasFormEach}
 
--- the lists are as long as each other, and what stands at one place in both stands in the relation
+-- the lists have the same length, and elements at the same index are related
 abbrev pub Pairs : {A B : Type 0} → (A → B → Type 0) → List A → List B → Type 0
 Pairs R [] [] = Unit {0}
 Pairs R [] (y ∷ ys) = ⊥
@@ -24,7 +24,7 @@ pairs_split R [] b (y ∷ c) d same h = absurd (omega (arith, same))
 pairs_split R (x ∷ a) b [] d same h = absurd (omega (arith, same))
 pairs_split R (x ∷ a) b (y ∷ c) d same h = let more = pairs_split R a b c d (omega (arith, same)) h.1 in ((h.0, more.0), more.1)
 
--- the states do the same, and lead to states that stand in the relation
+-- the states do the same, and lead to related states
 abbrev pub Alike : (ℕ → ℕ → Type 0) → State → State → Type 0
 Alike R (program.char q c) (program.char r d) = R q r × (c ≡ d)
 Alike R (program.ranges q xs) (program.ranges r ys) = R q r × (xs ≡ ys)
@@ -39,8 +39,8 @@ module _ (R : ℕ → ℕ → Type 0) (ss ts : List State) where
   abbrev pub Twin : ℕ → ℕ → Type 0
   Twin q r = Alike R (state_at ss q) (state_at ts r)
 
-  -- the parts have as many states, and where their ways out and their states stand in the relation, so do their ways in, and
-  -- their states are alike
+  -- the parts have equally many states, and if their exits and their states are related, so are their entries, and their states
+  -- are alike
   abbrev pub Good : ℕ → ℕ → List ℕ → ℕ → ℕ → List ℕ → Type 0
   Good from to used begin stop taken =
       (length used ≡ length taken) × (R to stop → Pairs R used taken → R from begin × Pairs Twin used taken)

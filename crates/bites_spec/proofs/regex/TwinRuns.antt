@@ -1,4 +1,4 @@
--- Searches of two programs that hold one tree answer alike.
+-- Searches of two programs that hold the same tree find runs with the same spans and writes.
 use Rattle.std.proofs.Common.{◌≡◌, ℕ, zero, suc, ◌+◌, ◌*◌, ◌<◌, Bool, true, false, cond, ◌&&◌, List, [], ◌∷◌, ◌++◌, reverse, length, map, Option, Some, None, option_map, refl, sym, ap, ap₂, ◌∙◌, subst, inl, inr, ⊎_elim, ◌⊎◌, true≢false, arith, eq-eqb, ne_eqb, eqb-true, ltb-true, lt-ltb}
 use Rattle.std.specs.Prelude.{◌==◌, ◌||◌, nat_lt, nat_le, option_and_then, chars}
 use Rattle.std.specs.Option.{option_or}
@@ -26,7 +26,7 @@ use Rattle.bites_spec.proofs.regex.PartCountLemmas.{apart_length}
 use Rattle.bites_spec.proofs.runs.ValueLemmas.{slots_are_written}
 use Rattle.bites_spec.proofs.grammar.WholeOnce.{reads_once}
 
--- both are there and stand in the relation, or neither is
+-- both are there and are related, or neither is there
 abbrev Both : {A B : Type 0} → (A → B → Type 0) → Option A → Option B → Type 0
 Both R None None = Unit {0}
 Both R None (Some y) = ⊥
@@ -50,7 +50,7 @@ first_both R S f g each (x ∷ xs) (y ∷ ys) pairs =
 module _ (R : ℕ → ℕ → Type 0) (to_one : (a b c : ℕ) → R a b → R a c → b ≡ c) (from_one : (a b c : ℕ) → R a c → R b c → a ≡ b)
     (p q : Program) (alike : (a b : ℕ) → R a b → Twin R p.states q.states a b) (starts : R p.start q.start)
     (sizes : length p.states ≡ length q.states) (hay : List ℕ) where
-  -- the configurations stand at one place, and their states in the relation
+  -- the configurations are at the same place, and their states are related
   abbrev Configurations : Configuration → Configuration → Type 0
   Configurations s t = R s.state t.state × (s.place ≡ t.place)
 
@@ -256,7 +256,7 @@ module _ (R : ℕ → ℕ → Type 0) (to_one : (a b c : ℕ) → R a b → R a 
 
 -- ## The numbers of the states
 
--- the numbers stand at one place in the two lists
+-- the numbers stand at the same index in the two lists
 abbrev Paired : List ℕ → List ℕ → ℕ → ℕ → Type 0
 Paired [] ys a b = ⊥
 Paired (x ∷ xs) [] a b = ⊥
@@ -400,7 +400,7 @@ module _ (t : Tree) (p q : Program) (hay : List ℕ) (fit : IsCompilable t) (one
   from_one : (a b c : ℕ) → R a c → R b c → a ≡ b
   from_one = paired_from_one xs ys (all_apart t q hay fit two)
 
-  -- where one program has a run, so has the other: it lies where the first does, and writes what it writes
+  -- the runs have the same span and write the same
   abbrev Alikes : Run → Run → Type 0
   Alikes r o = (span_of_run r ≡ span_of_run o) × ((k : ℕ) → written p r k ≡ written q o k)
 

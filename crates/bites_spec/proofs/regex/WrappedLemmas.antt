@@ -1,4 +1,4 @@
--- Patterns between `\A(?:` and `)\z`, and how they are read.
+-- A pattern p between `\A(?:` and `)\z` is read as its tree between the two anchors.
 use Rattle.std.proofs.Common.{◌≡◌, ℕ, false, ◌||◌, List, [], ◌∷◌, ◌++◌, refl, sym, subst, ⊎_elim}
 use Rattle.std.specs.Prelude.{codes, ◌==◌}
 use Rattle.std.specs.Char.{is_whitespace}

@@ -1,4 +1,4 @@
--- A list of states without a fault is a well-formed program.
+-- A program is well-formed exactly if `first_fault` finds no fault.
 use Rattle.std.proofs.Common.{◌≡◌, ℕ, ◌*◌, ◌%◌, ◌/◌, ◌<◌, ◌≤◌, Bool, true, false, not, cond, ◌&&◌, List, [], ◌∷◌, length, Option, Some, None, refl, sym, ap, ap₂, ◌∙◌, subst, inl, inr, ⊎_elim, true≢false, arith, ◌⊎◌, ltb-true, ltb-false, lt-ltb, leb-true, le-leb, eqb-true, eq-eqb}
 use Rattle.std.specs.Prelude.{nat_lt, nat_le, ◌==◌}
 use Rattle.std.specs.List.{list_all}
@@ -11,7 +11,7 @@ use Rattle.bites_spec.specs.Program as program
 use Rattle.bites_spec.specs.ProgramFaults.{ProgramFault, too_many, bad_slot, bad_start, bad_target, bad_ranges, are_ranges, has_ranges, has_slot, fault_of, first_fault}
 use Rattle.bites_spec.proofs.runs.FirstLemmas.{or_none}
 
--- where a test that fails would be a fault, it holds
+-- where the check finds no fault, the test holds, and the rest of the check finds none
 no_fault : (b : Bool) (f : ProgramFault) (rest : Option ProgramFault) → cond (not b) (Some f) rest ≡ None → (b ≡ true) × (rest ≡ None)
 no_fault true f rest e = (refl, e)
 no_fault false f rest e = absurd (none-some f (sym e))
@@ -80,7 +80,7 @@ first_fault-IsWellFormed p e =
       states = states_are (length p.states) p.slots p.states three.1;
     }
 
--- the other way round: what is well-formed has no fault
+-- and conversely: where the test holds and the rest of the check finds no fault, the check finds none
 passed : (b : Bool) (f : ProgramFault) (rest : Option ProgramFault) → b ≡ true → rest ≡ None → cond (not b) (Some f) rest ≡ None
 passed true f rest is none = none
 passed false f rest is none = absurd (true≢false (sym is))

@@ -1,4 +1,4 @@
--- What `first_walk` finds is a run, no simple run is before it, and where it finds none there is none.
+-- What `first_walk` finds is a run, no simple run comes before it, and where it finds none there is none.
 use Rattle.std.proofs.Common.{◌≡◌, ◌≢◌, ℕ, zero, suc, ◌+◌, ◌<◌, ◌≤◌, Bool, true, false, List, [], ◌∷◌, length, Option, Some, None, IsSome, is_some, option_map, refl, sym, ap, ap₂, ◌∙◌, subst, inl, inr, ⊎_elim, true≢false, arith, ◌⊎◌}
 use Rattle.std.proofs.lemmas.Option.{none-some, same_Some}
 use Rattle.std.specs.Option.{option_or}
@@ -58,11 +58,11 @@ module _ {A : Type 0} (same : A → A → Bool) (leads : A → List A) (is_match
   abbrev plus : (A → Bool) → A → A → Bool
   plus = with_configuration same leads is_match
 
-  -- behind p, these configurations lead to a match, each by an edge
+  -- after p these configurations lead to a match, each by an edge
   abbrev pub RunsOn : A → List A → Type 0
   RunsOn p r = Walk leads (λ q. is_match q ≡ true) p r
 
-  -- none of s is met, and no configuration twice
+  -- no configuration of s is met, and none twice
   abbrev pub Apart : (A → Bool) → A → List A → Type 0
   Apart s p [] = s p ≡ false
   Apart s p (q ∷ r) = (s p ≡ false) × Apart (plus s p) q r
@@ -84,7 +84,7 @@ module _ {A : Type 0} (same : A → A → Bool) (leads : A → List A) (is_match
   unfolding first_walk
   run_match n s p e m = rw (e, m) refl
 
-  -- Where a run of at most n edges goes from p around s, at a configuration that is no match, one of its edges finds one.
+  -- Where a run of fewer than n edges leads from p around s, `first_walk` finds one.
   pub finds : (n : ℕ) (s : A → Bool) (p : A) (r : List A) → RunsOn p r → Apart s p r → length r < n → IsSome (run n s p)
   unfolding first_walk
   finds zero s p r runs apart le = absurd (omega arith)
@@ -95,7 +95,7 @@ module _ {A : Type 0} (same : A → A → Bool) (leads : A → List A) (is_match
       ∙ IsSome-map (λ x. p ∷ x) _ (some_among (run n (plus s p)) (leads p) q runs.0 (finds n (plus s p) q r runs.1 apart.1 (omega arith))))
       (cases_Bool (is_match p))
 
-  -- a walk that comes back to a configuration finds a simple one: the first part of `there is a run`
+  -- where `first_walk` finds none, no run leads through unseen configurations
   pub no_run : (n : ℕ) (s : A → Bool) (p : A) (r : List A) → run (suc n) s p ≡ None → length r ≤ n → s p ≡ false →
       ((q : A) → Among r q → s q ≡ false) → RunsOn p r → ⊥
   no_run n s p [] none le new around runs = none-some (p ∷ []) (sym none ∙ run_match n s p new runs)
@@ -131,7 +131,7 @@ module _ {A : Type 0} (same : A → A → Bool) (leads : A → List A) (is_match
   apart_of : (x y : A) → same x y ≡ false → x ≢ y
   apart_of x y b is = true≢false (sym (same_refl x) ∙ ap (same x) is ∙ b)
 
-  -- where the first success is, and what any other element is to it
+  -- where the first success is, and how any other element stands to it
   first_split : {B : Type 0} (f : A → Option B) (xs : List A) (r : B) → first_among f xs ≡ Some r → (y : A) → Among xs y →
       (z : A) × (f z ≡ Some r) × Among xs z × ((y ≡ z) ⊎ (Earlier xs z y ⊎ (f y ≡ None)))
   first_split f [] r e y h = absurd h
@@ -192,7 +192,7 @@ module _ {A : Type 0} (same : A → A → Bool) (leads : A → List A) (is_match
     Apart-simple (plus s p) x r apart.1,
   )
 
-  -- a simple walk through unseen configurations goes around them
+  -- a simple walk through unseen configurations avoids those that were seen
   pub Apart-of : (s : A → Bool) (p : A) (r : List A) → AllApart (p ∷ r) → ((q : A) → Among (p ∷ r) q → s q ≡ false) → Apart s p r
   Apart-of s p [] simple unseen = unseen p (inl refl)
   Apart-of s p (x ∷ r) simple unseen = (
@@ -203,7 +203,7 @@ module _ {A : Type 0} (same : A → A → Bool) (leads : A → List A) (is_match
 
   module _ (Inside : A → Type 0) (inside_on : (p q : A) → Inside p → Among (leads p) q → Inside q) (unseen : (A → Bool) → ℕ)
       (fewer : (s : A → Bool) (p : A) → Inside p → s p ≡ false → unseen (plus s p) < unseen s) where
-    -- a walk around s has no more edges than there are unseen configurations
+    -- a walk around s has fewer edges than there are unseen configurations
     short : (s : A → Bool) (p : A) (r : List A) → Inside p → RunsOn p r → Apart s p r → length r < unseen s
     short s p [] ins runs apart = omega (arith, fewer s p ins apart)
     short s p (q ∷ r) ins runs apart =

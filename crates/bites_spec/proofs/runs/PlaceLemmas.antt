@@ -1,4 +1,4 @@
--- Where edges and runs lead: from place to place, forward, and within the haystack.
+-- Edges and runs lead from place to place, forward, and within the haystack.
 use Rattle.std.proofs.Common.{◌≡◌, ℕ, zero, suc, ◌+◌, ◌*◌, ◌<◌, ◌≤◌, Bool, true, false, cond, ◌&&◌, List, [], ◌∷◌, length, map, Option, Some, None, le_of_eq, refl, sym, ap, ◌∙◌, subst, inl, inr, ⊎_elim, arith, ◌⊎◌, ltb-true, leb-true, le-leb}
 use Rattle.std.specs.Prelude.{nat_lt, nat_le, ◌==◌}
 use Rattle.std.proofs.lemmas.Bool.{cases_Bool}
@@ -17,7 +17,7 @@ past_end hay s lt =
     ⊎_elim (λ (e : nat_le s (length hay) ≡ true). let le = leb-true s (length hay) e in absurd (omega arith))
     (λ (e : nat_le s (length hay) ≡ false). e) (cases_Bool (nat_le s (length hay)))
 
--- fuel beyond the end of the haystack adds no place
+-- more fuel than the haystack needs adds no place
 places_enough : (n m : ℕ) (hay : List ℕ) (s : ℕ) → length hay < n + s → length hay < m + s → places_within n hay s ≡ places_within m hay s
 places_enough zero zero hay s a b = refl
 places_enough zero (suc m) hay s a b =
@@ -27,7 +27,7 @@ places_enough (suc n) zero hay s a b =
 places_enough (suc n) (suc m) hay s a b =
     ap (λ l. cond (nat_le s (length hay)) (s ∷ l) []) (places_enough n m hay (s + step_len hay s) (omega arith) (omega arith))
 
--- the places from one in the haystack, or from its end: this one, and those from the next one
+-- the places from one in the haystack, or from its end, are this one and those from the next one on
 pub places-here : (hay : List ℕ) (s : ℕ) → s ≤ length hay → places hay s ≡ s ∷ places hay (s + step_len hay s)
 unfolding places
 places-here hay s le =
@@ -39,7 +39,7 @@ pub places-past : (hay : List ℕ) (s : ℕ) → length hay < s → places hay s
 unfolding places
 places-past hay s lt = ap (λ c. cond c (s ∷ places_within (length hay) hay (s + step_len hay s)) []) (past_end hay s lt)
 
--- behind a place of the list comes the one behind its piece
+-- if a place is in the list, so is the place after its piece, by induction on the room for places
 place_on : (n : ℕ) (hay : List ℕ) (s i : ℕ) → length hay < n + s → Among (places hay s) i → 0 < (piece hay i).len → Among (places hay s) (i + (piece hay i).len)
 place_on zero hay s i room h some = absurd (subst (λ (l : List ℕ). Among l i) (places-past hay s (omega arith)) h)
 place_on (suc n) hay s i room h some =
@@ -57,11 +57,11 @@ place_on (suc n) hay s i room h some =
     fits : s ≡ i → s + step_len hay s ≤ length hay
     fits here = let le = (Among-places hay s i h).1 in omega (arith, step here, piece_within hay i le)
 
--- the piece behind a place of the list ends at one of its places
+-- if a place is in the list, so is the place after its piece
 pub place_behind : (hay : List ℕ) (s i : ℕ) → Among (places hay s) i → 0 < (piece hay i).len → Among (places hay s) (i + (piece hay i).len)
 place_behind hay s i h some = place_on (suc (length hay)) hay s i (omega arith) h some
 
--- at the same place, or behind the piece
+-- the same place, or the place after the piece
 abbrev pub IsNext : List ℕ → ℕ → ℕ → Type 0
 IsNext hay i j = (j ≡ i) ⊎ ((0 < (piece hay i).len) × (j ≡ i + (piece hay i).len))
 
@@ -116,7 +116,7 @@ module _ (p : Program) (hay : List ℕ) where
       (λ over. let e : t.place ≡ s.place + (piece hay s.place).len = over.1 in omega (arith, rest, e))
       (edge_next hay (state_at p.states s.state) s.place t runs.0)
 
-  -- from a place of the list a run ends at one
+  -- a run from a place of the list ends at a place of the list
   pub runs_to_place : (start : ℕ) (s : Configuration) (r : List Configuration) (j : ℕ) → Among (places hay start) s.place → Runs p hay s r j → Among (places hay start) j
   runs_to_place start s [] j among runs = subst (λ (k : ℕ). Among (places hay start) k) runs.1 among
   runs_to_place start s (t ∷ r) j among runs =

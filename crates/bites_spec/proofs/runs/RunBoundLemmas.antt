@@ -1,4 +1,4 @@
--- Runs lie in the haystack, and their slots within them.
+-- A run lies in the haystack, and its slots lie between its ends.
 use Rattle.std.proofs.Common.{◌≡◌, ℕ, ◌+◌, ◌≤◌, Bool, true, false, cond, List, [], ◌∷◌, ◌++◌, Some, None, sym, ◌∙◌, ⊎_elim, arith}
 use Rattle.std.specs.Prelude.{◌==◌, if◌then◌else◌}
 use Rattle.std.proofs.lemmas.Option.{none-some, same_Some}
@@ -12,7 +12,7 @@ use Rattle.bites_spec.proofs.runs.FirstLemmas.{or_cases}
 use Rattle.bites_spec.proofs.runs.ValueLemmas.{slots_are_written}
 use Rattle.bites_spec.proofs.runs.PlaceLemmas.{edge_next, runs_forward, runs_to_place, runs_within}
 
--- all writes are at places between two
+-- all writes are of places between i and j
 abbrev AllBetween : ℕ → ℕ → List (ℕ × ℕ) → Type 0
 AllBetween i j [] = Unit {0}
 AllBetween i j (w ∷ ws) = ((i ≤ w.1) × (w.1 ≤ j)) × AllBetween i j ws

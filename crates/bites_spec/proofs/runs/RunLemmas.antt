@@ -1,4 +1,4 @@
--- On every well-formed program, cycles included, `first_run` is what `FirstRun` says.
+-- On every well-formed program, cycles included, `first_run` returns what `FirstRun` specifies.
 use Rattle.std.proofs.Common.{◌≡◌, ◌≢◌, ℕ, zero, suc, ◌+◌, ◌*◌, ◌<◌, ◌≤◌, Bool, true, false, cond, ◌&&◌, ◌||◌, List, [], ◌∷◌, length, map, Option, Some, None, refl, sym, ap, ap₂, ◌∙◌, subst, inl, inr, ⊎_elim, true≢false, arith, ◌⊎◌, eqb-true, eq-eqb}
 use Rattle.std.specs.Prelude.{nat_le, nat_lt, ◌==◌, option_and_then}
 use Rattle.std.proofs.lemmas.Option.{none-some, same_Some}
@@ -22,7 +22,7 @@ same_is s t e =
 pub same_refl : (s : Configuration) → is_same_configuration s s ≡ true
 same_refl s = ap₂ ◌&&◌ (eq-eqb s.state s.state refl) (eq-eqb s.place s.place refl)
 
--- the sum of f below n
+-- the sum of f over the numbers below n
 pub total : ℕ → (ℕ → ℕ) → ℕ
 total zero f = 0
 total (suc n) f = f n + total n f
@@ -56,7 +56,7 @@ Among-map (q ∷ qs) i t h =
     ⊎_elim (λ (is : at q i ≡ t). (inl (ap (λ s. s.state) is), sym (ap (λ s. s.place) is)))
     (λ later. let r = Among-map qs i t later in (inr r.0, r.1)) h
 
--- what `AreStates` says of the state of a number
+-- the targets of each state are below the number of states
 states_at : (len slots : ℕ) (ss : List State) (q : ℕ) → AreStates len slots ss → (t : ℕ) → Among (targets_of (state_at ss q)) t → t < len
 states_at len slots [] q are t h = absurd h
 states_at len slots (s ∷ ss) zero are t h = are.0 t h
@@ -166,7 +166,7 @@ Runs-walk : (p : Program) (hay : List ℕ) (s : Configuration) (r : List Configu
 Runs-walk p hay s [] j runs = runs.0
 Runs-walk p hay s (t ∷ r) j runs = (runs.0, Runs-walk p hay t r j runs.1)
 
--- the first place at which f answers
+-- the first place at which f succeeds
 pub record FirstPlace {B : Type 0} (f : ℕ → Option B) (ps : List ℕ) (r : B) : Type 0 where
   pub place : ℕ
   pub among : Among ps place
@@ -213,7 +213,7 @@ module _ (p : Program) (hay : List ℕ) (well : IsWellFormed p) where
   abbrev found_from : ℕ → Option (List Configuration)
   found_from i = walks.first_walk is_same_configuration (leads p hay) (matches p) (enough p hay) (λ s. false) (at p.start i)
 
-  -- the run that is answered is a simple run, and the first one
+  -- the run that is found is simple, and the first one
   pub record FoundFrom (i : ℕ) (r : Run) : Type 0 where
     pub start : r.start ≡ i
     pub runs : IsRun p hay r.start r.configurations r.end
@@ -274,6 +274,6 @@ module _ (p : Program) (hay : List ℕ) (well : IsWellFormed p) where
         from.first_of,
       )
 
-  -- None where no place has a run, else the first simple run from the first place that has one
+  -- `first_run` is None where no place has a run; else it is the first simple run from the first place that has one
   pub first_run-FirstRun : (s : ℕ) → FirstRun p hay s (first_run p hay s)
   first_run-FirstRun s = first_run_is s (first_run p hay s) refl

@@ -1,4 +1,4 @@
--- The slots of a run hold what it wrote to each.
+-- Each slot of a run holds what the run wrote last to it.
 use Rattle.std.proofs.Common.{◌≡◌, ℕ, zero, suc, ◌<◌, ◌≤◌, Bool, true, false, List, [], ◌∷◌, ◌++◌, length, Some, None, refl, sym, ap, ap₂, ◌∙◌, subst, inl, inr, ⊎_elim, arith, ◌⊎◌, ltb-true, ltb-false, ne_eqb, max}
 use Rattle.std.specs.Prelude.{nat_lt, if◌then◌else◌}
 use Rattle.std.specs.Option.{option_or}
@@ -19,7 +19,7 @@ pub slot_past : (p : Program) (r : Run) (k : ℕ) → p.slots ≤ k → slot_in 
 slot_past p r k le =
     get_or_past (slots p r) k None (omega (arith, le, length-map-range_with_len (written p r) 0 p.slots))
 
--- none is above the greatest
+-- no element is above the greatest
 pub at_most_greatest : (xs : List ℕ) (x : ℕ) → Among xs x → x ≤ greatest xs
 at_most_greatest [] x h = absurd h
 at_most_greatest (y ∷ xs) x h =
@@ -69,7 +69,7 @@ writes_below p well s (t ∷ r) =
     AllBelow-append p.slots (write_of (state_at p.states s.state) s.place) (writes p t r)
     (state_below (length p.states) p.slots p.states s.state s.place well.states) (writes_below p well t r)
 
--- the slots of a run of a well-formed program hold what it wrote
+-- each slot of a run of a well-formed program holds what the run wrote last to it
 pub slots_are_written : SlotsAreWritten
 slots_are_written p well r k =
     ⊎_elim (λ (lt : k < p.slots). slot_known p r k lt)

@@ -74,7 +74,7 @@ first_among_cong : {A B : Type 0} (f g : A → Option B) (xs : List A) → ((x :
 first_among_cong f g [] h = refl
 first_among_cong f g (x ∷ xs) h = ap₂ option_or (h x) (first_among_cong f g xs h)
 
--- only the elements of the list count
+-- only the list's elements matter to the first success
 pub first_among_cong_in : {A B : Type 0} (f g : A → Option B) (xs : List A) → ((x : A) → Among xs x → f x ≡ g x) → first_among f xs ≡ first_among g xs
 first_among_cong_in f g [] h = refl
 first_among_cong_in f g (x ∷ xs) h = ap₂ option_or (h x (inl refl)) (first_among_cong_in f g xs (λ y a. h y (inr a)))
@@ -125,7 +125,7 @@ module _ {A : Type 0} (same : A → A → Bool) (leads : A → List A) (is_match
   false_below : (s t : A → Bool) (p : A) → Within s t → t p ≡ false → s p ≡ false
   false_below s t p h e = ⊎_elim (λ a. absurd (true≢false (sym (h p a) ∙ e))) (λ b. b) (cases_Bool (s p))
 
-  -- fewer configurations to avoid and more steps leave a run
+  -- a run that is found stays one with fewer configurations to avoid and more steps allowed
   pub run_more : (n m : ℕ) (s t : A → Bool) (p : A) → n ≤ m → Within s t → IsSome (run n t p) → IsSome (run m s p)
   run_more zero m s t p le h some = absurd (not_some_none _ (run_zero t p) some)
   run_more (suc n) zero s t p le h some = absurd (omega arith)
@@ -148,7 +148,7 @@ module _ {A : Type 0} (same : A → A → Bool) (leads : A → List A) (is_match
   none_below n m s t p le h e =
       ⊎_elim (λ some. absurd (not_some_none _ e (run_more n m s t p le h some))) (λ none. none) (some_or_none (run n t p))
 
-  -- a configuration from which no run goes may be closed: no other run is lost or changed
+  -- a configuration from which no run is found may be closed: no other run is lost or changed
   pub run_dead : (n m : ℕ) (s : A → Bool) (p r : A) → n ≤ m → run m s p ≡ None → run n (plus s p) r ≡ run n s r
   run_dead zero m s p r le dead = run_zero (plus s p) r ∙ sym (run_zero s r)
   run_dead (suc n) m s p r le dead =
@@ -168,7 +168,7 @@ module _ {A : Type 0} (same : A → A → Bool) (leads : A → List A) (is_match
       (cases_Bool (same r p)))
       (cases_Bool (s r))
 
-  -- configurations from which no edge leads to p, and to which their own edges lead, do not see whether p is closed
+  -- closing p does not matter to configurations that lead only to one another, if p is none of them
   module _ (p : A) (Away : A → Type 0) (not_p : (q : A) → Away q → same q p ≡ false) (goes_away : (q r : A) → Away q → Among (leads q) r → Away r) where
     pub run_away : (n : ℕ) (s : A → Bool) (r : A) → Away r → run n (plus s p) r ≡ run n s r
     run_away zero s r away = run_zero (plus s p) r ∙ sym (run_zero s r)
@@ -183,7 +183,7 @@ module _ {A : Type 0} (same : A → A → Bool) (leads : A → List A) (is_match
         (cases_Bool (is_match r)))
         (cases_Bool (s r))
 
-  -- what is on the stack: a configuration, and what a run from it is worth
+  -- what waits on the stack: a configuration, and what a run from it is worth
   abbrev Waiting : Type 0 → Type 0
   Waiting B = A × (List A → B)
 
@@ -209,10 +209,10 @@ module _ {A : Type 0} (same : A → A → Bool) (leads : A → List A) (is_match
   unfolding pending
   pending_dead n s p rest dead = first_among_cong _ _ rest (λ w. ap (option_map w.1) (run_dead n n s p w.0 (omega arith) dead))
 
-  -- the configurations that matter, from which no edge leads away, and how many of them are unseen
+  -- the configurations inside, which no edge leaves, and how many of them are unseen
   module _ (Inside : A → Type 0) (inside_on : (p q : A) → Inside p → Among (leads p) q → Inside q) (unseen : (A → Bool) → ℕ)
       (fewer : (s : A → Bool) (p : A) → Inside p → s p ≡ false → unseen (plus s p) < unseen s) where
-    -- as many steps as there are unseen configurations are enough
+    -- n steps are enough if at most n configurations are unseen
     pub run_enough : (n m : ℕ) (s : A → Bool) (p : A) → Inside p → unseen s ≤ n → unseen s ≤ m → run n s p ≡ run m s p
     run_enough zero zero s p ins en em = refl
     run_enough zero (suc m) s p ins en em =
@@ -231,13 +231,13 @@ module _ {A : Type 0} (same : A → A → Bool) (leads : A → List A) (is_match
         (cases_Bool (is_match p)))
         (cases_Bool (s p))
 
-    -- one step, with no count of steps
+    -- one step, without a bound on steps
     pub run_step : (n : ℕ) (s : A → Bool) (p : A) → Inside p → unseen s ≤ n → s p ≡ false → is_match p ≡ false →
         run n s p ≡ option_map (λ r. p ∷ r) (first_among (run n (plus s p)) (leads p))
     run_step n s p ins enough new goes =
         run_enough n (suc n) s p ins enough (omega arith) ∙ run_on n s p new goes
 
-    -- A new configuration gives way to those to which it leads: the first success stays the same.
+    -- A new configuration is replaced by those to which it leads; the first success stays the same.
     pub pending_visit : {B : Type 0} (n : ℕ) (s : A → Bool) (p : A) (f : List A → B) (rest : List (Waiting B)) → Inside p → unseen s ≤ n →
         s p ≡ false → is_match p ≡ false →
         pending n s ((p, f) ∷ rest) ≡ pending n (plus s p) (waiting p f (leads p) ++ rest)
@@ -258,7 +258,7 @@ module _ {A : Type 0} (same : A → A → Bool) (leads : A → List A) (is_match
     unfolding pending
     pending_seen n s p f rest seen = ap (λ o. option_or (option_map f o) (pending n s rest)) (run_seen n s p seen)
 
-    -- What stands before it on the stack, and lies away from it, is not disturbed: as threads of the next place are not by those of this one.
+    -- Replacing a configuration does not disturb those before it on the stack from which no path leads to it.
     pub pending_visit_behind : {B : Type 0} (n : ℕ) (s : A → Bool) (p : A) (f : List A → B) (front rest : List (Waiting B)) → Inside p → unseen s ≤ n →
         s p ≡ false → is_match p ≡ false →
         (Away : A → Type 0) → ((q : A) → Away q → same q p ≡ false) → ((q r : A) → Away q → Among (leads q) r → Away r) →

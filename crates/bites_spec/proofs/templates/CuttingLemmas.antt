@@ -1,4 +1,4 @@
--- Templates that are cut part by part.
+-- How the first part of a template is cut, by its first bytes.
 use Rattle.std.proofs.Common.{◌≡◌, ◌≢◌, ℕ, zero, suc, ◌+◌, ◌<◌, Bool, true, false, List, [], ◌∷◌, ◌++◌, length, get_or, take, drop, flat_map, refl, sym, ap, ap₂, ◌∙◌, subst, inl, inr, ⊎_elim, true≢false, arith, append_assoc, ◌-◌, length-drop, take_all}
 use Rattle.std.specs.Prelude.{IsUtf8}
 use Rattle.std.proofs.lemmas.List.{append-nil, take_more, flat_map_more}
@@ -15,7 +15,7 @@ IsNew-push [] x c new ne h = ⊎_elim (λ (e : x ≡ c). ne e) (λ (no : ⊥). n
 IsNew-push (y ∷ xs) x c new ne h =
     ⊎_elim (λ (e : y ≡ c). new (inl e)) (λ (later : Among (xs ++ x ∷ []) c). IsNew-push xs x c (λ a. new (inr a)) ne later) h
 
--- no brace so far, and none here
+-- the bytes before the next place have no closing brace, either
 pub no_brace_more : (bytes : List ℕ) (i : ℕ) → i < length bytes → IsNew 125 (take i bytes) → get_or bytes i 0 ≢ 125 → IsNew 125 (take (i + 1) bytes)
 no_brace_more bytes i lt new ne = subst (IsNew 125) (sym (take_more bytes i 0 lt)) (IsNew-push (take i bytes) (get_or bytes i 0) 125 new ne)
 
@@ -29,14 +29,14 @@ split (b ∷ bytes) (suc i) lt =
     next : (i : ℕ) → suc (i + 1) ≡ suc i + 1
     next i = omega arith
 
--- the first brace is here
+-- the first closing brace is here
 pub brace_here : (bytes : List ℕ) (i : ℕ) → i < length bytes → IsNew 125 (take i bytes) → get_or bytes i 0 ≡ 125 → IsFirstBrace bytes i
 brace_here bytes i lt new is = record {
   whole = split bytes i lt ∙ ap (λ (b : ℕ). take i bytes ++ b ∷ drop (i + 1) bytes) is;
   first = new;
 }
 
--- where there is no brace no name in braces stands
+-- where there is no closing brace, no name in braces begins
 pub no_brace : (any : Bool) (inside : List ℕ) → IsNew 125 inside → NoName any inside
 no_brace any inside new word tail e first is_name =
     new (subst (λ l. Among l 125) (sym e) (Among-behind word (125 ∷ tail) 125 (inl refl)))
@@ -60,7 +60,7 @@ same_front (x ∷ a) (y ∷ b) c d new newer e =
     tail : x ∷ (a ++ 125 ∷ c) ≡ y ∷ (b ++ 125 ∷ d) → a ++ 125 ∷ c ≡ b ++ 125 ∷ d
     tail e = cc
 
--- what stands up to the first brace is no name
+-- if the bytes before the first closing brace are not UTF-8, and names must be, no name in braces begins
 pub bad_name : (any : Bool) (inside : List ℕ) (i : ℕ) → IsFirstBrace inside i → any ≡ false → (IsUtf8 (take i inside) → ⊥) → NoName any inside
 bad_name any inside i brace strict bad word tail e first is_name =
     let same = same_front word (take i inside) tail (drop (i + 1) inside) first brace.first (sym e ∙ brace.whole) in
@@ -71,7 +71,7 @@ length_take [] i lt = absurd (omega arith)
 length_take (x ∷ xs) zero lt = refl
 length_take (x ∷ xs) (suc i) lt = ap suc (length_take xs i (omega arith))
 
--- what stands up to the first brace is a name
+-- if the bytes before the first closing brace are a name, that name stands in braces
 pub good_name : (any : Bool) (inside : List ℕ) (i : ℕ) → i < length inside → IsFirstBrace inside i → IsName any (take i inside) → StandsInBraces any inside (take i inside)
 good_name any inside i lt brace is_name = record {
   whole = brace.whole ∙ ap (λ (k : ℕ). take i inside ++ 125 ∷ drop (k + 1) inside) (sym (length_take inside i lt));
@@ -79,17 +79,17 @@ good_name any inside i lt brace is_name = record {
   named = is_name;
 }
 
--- a dollar at the end
+-- a dollar at the end stands for itself
 pub cuts_last : (any : Bool) (rest : List ℕ) → length rest ≡ 0 → CutsFirst any (36 ∷ rest) (byte 36) (drop 0 rest)
 cuts_last any [] none parts c = alone [] parts ((λ tail e. cc), tt, (λ word tail e first is_name. cc)) c
 cuts_last any (b ∷ rest) none parts c = absurd (omega arith)
 
--- two dollars
+-- two dollars are cut as one
 pub cuts_doubled : (any : Bool) (rest behind : List ℕ) (first : ℕ) → rest ≡ first ∷ behind → first ≡ 36 → CutsFirst any (36 ∷ rest) (byte 36) (drop 1 rest)
 cuts_doubled any rest behind first e is =
     subst (λ (l : List ℕ). CutsFirst any (36 ∷ l) (byte 36) (drop 1 l)) (sym (e ∙ ap (λ (b : ℕ). b ∷ behind) is)) (λ parts c. doubled behind parts c)
 
--- a name in braces
+-- a dollar and a name in braces are cut as that name
 pub cuts_braced : (any : Bool) (rest behind word : List ℕ) (first : ℕ) → rest ≡ first ∷ behind → first ≡ 123 → StandsInBraces any behind word →
     CutsFirst any (36 ∷ rest) (name word) (drop (length word + 2) rest)
 cuts_braced any rest behind word first e is stands =
@@ -100,7 +100,7 @@ cuts_braced any rest behind word first e is stands =
     two : (n : ℕ) → n + 2 ≡ suc (n + 1)
     two n = omega arith
 
--- a brace that opens no name
+-- a dollar before a brace that opens no name stands for itself
 pub cuts_unnamed : (any : Bool) (rest behind : List ℕ) (first : ℕ) → rest ≡ first ∷ behind → first ≡ 123 → NoName any behind →
     CutsFirst any (36 ∷ rest) (byte 36) (drop 0 rest)
 cuts_unnamed any rest behind first e is no_name =
@@ -110,7 +110,7 @@ cuts_unnamed any rest behind first e is no_name =
     inner : (word tail : List ℕ) → 123 ∷ behind ≡ 123 ∷ word ++ 125 ∷ tail → behind ≡ word ++ 125 ∷ tail
     inner word tail e = cc
 
--- a dollar before anything else
+-- a dollar before anything else stands for itself
 pub cuts_alone : (any : Bool) (rest behind word : List ℕ) (first : ℕ) → rest ≡ first ∷ behind → first ≢ 36 → first ≢ 123 → IsWordAt rest word → length word ≡ 0 →
     CutsFirst any (36 ∷ rest) (byte 36) (drop 0 rest)
 cuts_alone any rest behind [] first e not_dollar not_brace word none parts c =
@@ -124,20 +124,20 @@ cuts_alone any rest behind [] first e not_dollar not_brace word none parts c =
     head a b x y e = cc
 cuts_alone any rest behind (b ∷ bs) first e not_dollar not_brace word none parts c = absurd (omega arith)
 
--- a name without braces
+-- a dollar and a name without braces are cut as that name
 pub cuts_named : (any : Bool) (rest word : List ℕ) → IsWordAt rest word → 0 < length word → CutsFirst any (36 ∷ rest) (name word) (drop (length word) rest)
 cuts_named any rest word at some parts c =
     named (36 ∷ rest) word (drop (length word) rest) parts (ap (λ (l : List ℕ). 36 ∷ l) at.whole) some at.word_bytes at.ends c
 
--- any other byte
+-- any other byte stands for itself
 pub cuts_plain : (any : Bool) (first : ℕ) (behind : List ℕ) → first ≢ 36 → CutsFirst any (first ∷ behind) (byte first) (drop 0 behind)
 cuts_plain any first behind ne parts c = plain first behind parts ne c
 
--- what is known of a template in whose front these parts were found
+-- the parts found so far, followed by those of the rest, are the parts of the template
 abbrev pub Found : Bool → List ℕ → List ℕ → List Part → Type 0
 Found any template rest front = (parts : List Part) → Cuts any rest parts → Cuts any template (front ++ parts)
 
--- one part more
+-- one part more is found
 pub found_more : (any : Bool) (template rest newer : List ℕ) (front : List Part) (part : Part) → Found any template rest front → CutsFirst any rest part newer →
     Found any template newer (front ++ part ∷ [])
 found_more any template rest newer front part so_far cut parts c =
@@ -151,6 +151,6 @@ pub text_more : (f : Part → List ℕ) (front : List Part) (part : Part) (text 
     newer ≡ flat_map f (front ++ part ∷ [])
 text_more f front part text newer so_far is = is ∙ ap (λ (l : List ℕ). l ++ f part) so_far ∙ flat_map_more f [] front part
 
--- a slice from a place to the end
+-- the slice from a place to the end is the list without the bytes before it
 pub behind_is : (xs : List ℕ) (n : ℕ) → take (length xs - n) (drop n xs) ≡ drop n xs
 behind_is xs n = take_all (length xs - n) (drop n xs) (omega (arith, length-drop n xs))

@@ -1,4 +1,4 @@
--- The first group with a name, as its number.
+-- The number that a search of the names finds is that of the first group with the name.
 use Rattle.std.proofs.Common.{◌≡◌, ◌≢◌, ℕ, zero, suc, ◌+◌, ◌<◌, Bool, true, false, not, cond, List, [], ◌∷◌, length, get_or, Option, Some, None, IfSome, IfNone, refl, sym, ap, ◌∙◌, ⊎_elim, true≢false, arith, lt-ltb, le-ltb}
 use Rattle.std.specs.Prelude.{nat_lt}
 use Rattle.std.specs.List.{prefix_len}
@@ -7,7 +7,7 @@ use Rattle.std.proofs.lemmas.Bool.{cases_Bool}
 use Rattle.bites_spec.specs.Expansion.{has_name, index_in}
 
 module _ (word : List ℕ) where
-  -- another name, or none
+  -- the name is another, or there is none
   abbrev is_other : Option (List ℕ) → Bool
   is_other name = not (has_name word name)
 
@@ -27,7 +27,7 @@ module _ (word : List ℕ) where
       ⊎_elim (λ (e : has_name word name ≡ true). absurd (ne (named_is name e))) (λ (e : has_name word name ≡ false). ap not e)
       (cases_Bool (has_name word name))
 
-  -- the first of the names that is this one
+  -- the first i names are others if the first equal name is at i
   first_len : (names : List (Option (List ℕ))) (i : ℕ) → get_or names i None ≡ Some word → ((j : ℕ) → j < i → get_or names j None ≢ Some word) →
       (prefix_len is_other names ≡ i) × (i < length names)
   first_len [] i here before = let never : None ≡ Some word = here in cc
@@ -48,7 +48,7 @@ module _ (word : List ℕ) where
       next : prefix_len is_other names ≡ length names → 1 + prefix_len is_other names ≡ suc (length names)
       next e = omega (arith, e)
 
--- what a search of the names answers is the function's number
+-- what a search of the names returns is `index_in`
 pub index_is : (names : List (Option (List ℕ))) (word : List ℕ) (o : Option ℕ) →
     IfSome o (λ i. get_or names i None ≡ Some word) → IfSome o (λ i. (j : ℕ) → j < i → get_or names j None ≢ Some word) →
     IfNone o ((j : ℕ) → get_or names j None ≢ Some word) → o ≡ index_in names word

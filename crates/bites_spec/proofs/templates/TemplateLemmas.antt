@@ -1,4 +1,4 @@
--- A template is cut in just one way, which is the function's.
+-- A template has exactly one cutting, which the function `parts_of` returns.
 use Rattle.std.proofs.Common.{◌≡◌, ◌≢◌, ℕ, zero, suc, ◌+◌, ◌<◌, ◌≤◌, Bool, true, false, ◌&&◌, ◌||◌, ◌==◌, cond, List, [], ◌∷◌, ◌++◌, length, drop, Option, Some, None, option_map, flat_map, map, refl, sym, ap, ap₂, ◌∙◌, subst, inl, inr, ⊎_elim, true≢false, arith, length-drop, eqb-true, ne_eqb}
 use Rattle.std.specs.Prelude.{IsUtf8, ◌↔◌}
 use Rattle.std.specs.Str.{is_utf8}
@@ -10,12 +10,12 @@ use Rattle.std.proofs.lemmas.Str.{IsUtf8-from_is_utf8, is_utf8-from_IsUtf8}
 use Rattle.std.proofs.lemmas.Bool.{cases_Bool}
 use Rattle.bites_spec.specs.Look.{is_word_byte}
 use Rattle.bites_spec.specs.Walks.{Among, IsNew}
-use Rattle.bites_spec.specs.Template.{Part, byte, name, Cuts, ends, plain, doubled, named, braced, alone, IsName, EndsWord, StandsAlone, Cut, cut, before_brace, braced_cut, word_cut, dollar_cut, first_cut, parts_behind, parts_of, stands_for, Expands, expansion}
+use Rattle.bites_spec.specs.Template.{Part, byte, name, Cuts, ends, plain, doubled, named, braced, alone, IsName, EndsWord, StandsAlone, Cut, cut, before_brace, braced_cut, word_cut, dollar_cut, first_cut, parts_after, parts_of, stands_for, Expands, expansion}
 use Rattle.bites_spec.specs.TemplateLaws.{PlainStandsForItself}
 use Rattle.bites_spec.specs.Cutting.{CutsFirst, CutsFront, NoName, IsWordAt}
 use Rattle.bites_spec.proofs.templates.CuttingLemmas.{no_brace, cuts_last, cuts_doubled, cuts_braced, cuts_unnamed, cuts_alone, cuts_named, cuts_plain}
 
--- what is known of the bytes by what stands before their first brace
+-- the word is what stands before the first closing brace; None says that there is no such brace
 abbrev pub IsBeforeBrace : List ℕ → Option (List ℕ) → Type 0
 IsBeforeBrace bytes None = IsNew 125 bytes
 IsBeforeBrace bytes (Some word) = (bytes ≡ word ++ 125 ∷ drop (length word + 1) bytes) × IsNew 125 word
@@ -45,7 +45,7 @@ before_first_brace (b ∷ word) tail new =
     ap₂ (λ (d : Bool) (o : Option (List ℕ)). cond d (Some []) (option_map (λ w. b ∷ w) o))
     (ne_eqb b 125 (λ is. new (inl is))) (before_first_brace word tail (λ a. new (inr a)))
 
--- the longest run of bytes of a word
+-- the bytes of a word, up to its end, are the longest run of such bytes
 run_of_word : (word rest : List ℕ) → list_all is_word_byte word ≡ true → EndsWord rest → take_while is_word_byte (word ++ rest) ≡ word
 run_of_word [] [] all none = refl
 run_of_word [] (b ∷ rest) all none = take_while-cons is_word_byte b rest ∙ ap (λ (d : Bool). cond d (b ∷ take_while is_word_byte rest) []) none
@@ -75,7 +75,7 @@ pub word_at_is : (bytes : List ℕ) → IsWordAt bytes (take_while is_word_byte 
 word_at_is [] = record { whole = refl; word_bytes = refl; ends = tt }
 word_at_is (b ∷ bytes) = subst (IsWordAt (b ∷ bytes)) (sym (take_while-cons is_word_byte b bytes)) (word_step b bytes (is_word_byte b) refl (word_at_is bytes))
 
--- whether a word may be a name, as a test
+-- a word that may be a name passes the test
 name_test : (any : Bool) (word : List ℕ) → IsName any word → (any || is_utf8 word) ≡ true
 name_test true word h = refl
 name_test false word h = ⊎_elim (λ (e : false ≡ true). absurd (true≢false (sym e))) (λ (u : IsUtf8 word). is_utf8-from_IsUtf8 word u) h
@@ -87,19 +87,19 @@ no_name_test false word h =
 
 -- ## The function follows the relation
 
-parts_drop : (any : Bool) (n : ℕ) (rest : List ℕ) → parts_behind any n rest ≡ parts_of any (drop n rest)
-unfolding parts_behind
+parts_drop : (any : Bool) (n : ℕ) (rest : List ℕ) → parts_after any n rest ≡ parts_of any (drop n rest)
+unfolding parts_after
 parts_drop any zero [] = refl
 parts_drop any zero (b ∷ rest) = refl
 parts_drop any (suc n) [] = refl
 parts_drop any (suc n) (b ∷ rest) = parts_drop any n rest
 
--- one part, and the parts of what stands behind it
+-- the parts are the first part and the parts of the bytes after it
 first_of_parts : (any : Bool) (b : ℕ) (rest newer : List ℕ) (part : Part) (len : ℕ) → first_cut any b rest ≡ cut part len → drop len rest ≡ newer →
     parts_of any (b ∷ rest) ≡ part ∷ parts_of any newer
-unfolding parts_behind
+unfolding parts_after
 first_of_parts any b rest newer part len e d =
-    ap (λ (c : Cut). c.part ∷ parts_behind any c.len rest) e ∙ ap (λ (l : List Part). part ∷ l) (parts_drop any len rest ∙ ap (parts_of any) d)
+    ap (λ (c : Cut). c.part ∷ parts_after any c.len rest) e ∙ ap (λ (l : List Part). part ∷ l) (parts_drop any len rest ∙ ap (parts_of any) d)
 
 plain_cut : (any : Bool) (b : ℕ) (rest : List ℕ) → b ≢ 36 → first_cut any b rest ≡ cut (byte b) 0
 plain_cut any b rest ne = ap (λ (d : Bool). cond d (dollar_cut any rest) (cut (byte b) 0)) (ne_eqb b 36 ne)
@@ -108,7 +108,7 @@ doubled_cut : (any : Bool) (rest : List ℕ) → first_cut any 36 (36 ∷ rest) 
 unfolding dollar_cut
 doubled_cut any rest = refl
 
--- a byte of a word is neither a dollar nor a brace
+-- a byte of a word differs from each byte that no word has
 word_byte_is_not : (b c : ℕ) → is_word_byte b ≡ true → is_word_byte c ≡ false → (b == c) ≡ false
 word_byte_is_not b c is other = ne_eqb b c (λ e. true≢false (sym is ∙ ap is_word_byte e ∙ other))
 
@@ -143,7 +143,7 @@ behind_name word rest = ap (λ (k : ℕ). drop k (123 ∷ word ++ 125 ∷ rest))
     two : (n : ℕ) → n + 2 ≡ suc (n + 1)
     two n = omega arith
 
--- braces that hold no name
+-- after a brace that opens no name, the function cuts the dollar alone
 unnamed_cut : (any : Bool) (inside : List ℕ) (o : Option (List ℕ)) → IsBeforeBrace inside o → NoName any inside → braced_cut any o ≡ cut (byte 36) 0
 unnamed_cut any inside None is none = refl
 unnamed_cut any inside (Some word) is none =
@@ -166,7 +166,7 @@ alone_cut any (b ∷ rest) stands =
     (cases_Bool (b == 123))
 
 pub cuts_once : {any : Bool} {template : List ℕ} {parts : List Part} → Cuts any template parts → parts ≡ parts_of any template
-unfolding parts_behind
+unfolding parts_after
 cuts_once {any} ends = refl
 cuts_once {any} (plain b rest parts ne c) =
     ap (λ (l : List Part). byte b ∷ l) (cuts_once c) ∙ sym (first_of_parts any b rest rest (byte b) 0 (plain_cut any b rest ne) refl)
@@ -185,7 +185,7 @@ cuts_once {any} (alone rest parts stands c) =
 
 -- ## Every template is cut
 
--- what a cut says of the bytes behind the first
+-- the cut is right for the first byte and the bytes after it
 abbrev Follows : Bool → ℕ → List ℕ → Cut → Type 0
 Follows any b rest c = CutsFirst any (b ∷ rest) c.part (drop c.len rest)
 
@@ -242,7 +242,7 @@ first_follows any b rest = by_dollar (b == 36) refl
     by_dollar false e = cuts_plain any b rest (λ is. true≢false (sym (ap (λ (c : ℕ). c == 36) is) ∙ e))
 
 cuts_within : (any : Bool) (n : ℕ) (template : List ℕ) → length template ≤ n → Cuts any template (parts_of any template)
-unfolding parts_behind
+unfolding parts_after
 cuts_within any n [] le = ends
 cuts_within any zero (b ∷ rest) le = absurd (omega arith)
 cuts_within any (suc n) (b ∷ rest) le =
@@ -266,7 +266,7 @@ expands_once any largest text_of index_of template text = (
 
 -- ## Texts part by part
 
--- what a front stands for, and the text of what is left
+-- the text of a template is that of its first parts and that of the rest
 pub expansion_front : (any : Bool) (largest : ℕ) (text_of : ℕ → Option (List ℕ)) (index_of : List ℕ → Option ℕ) (template rest : List ℕ) (front : List Part) →
     CutsFront any template front rest →
     expansion any largest text_of index_of template
@@ -277,7 +277,7 @@ expansion_front any largest text_of index_of template rest front cuts =
     ∙ flat_map-append (stands_for largest text_of index_of) front (parts_of any rest)
 
 pub expansion_end : (any : Bool) (largest : ℕ) (text_of : ℕ → Option (List ℕ)) (index_of : List ℕ → Option ℕ) → expansion any largest text_of index_of [] ≡ []
-unfolding expansion parts_behind
+unfolding expansion parts_after
 expansion_end any largest text_of index_of = refl
 
 -- bytes stand for themselves

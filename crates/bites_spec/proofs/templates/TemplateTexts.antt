@@ -1,4 +1,4 @@
--- Templates that begin with UTF-8: names in braces do not reach past it.
+-- In a template that begins with UTF-8, names in braces do not reach past that text.
 use Rattle.std.proofs.Common.{◌≡◌, ◌≢◌, ℕ, zero, suc, ◌+◌, ltb, ltb-true, ltb-false, ◌<◌, ◌≤◌, true, false, List, [], ◌∷◌, ◌++◌, length, take, drop, Option, flat_map, refl, sym, ap, ap₂, ◌∙◌, subst, inl, inr, ⊎_elim, true≢false, arith, length-append, append_assoc}
 use Rattle.std.specs.Prelude.{IsUtf8, IsAscii}
 use Rattle.std.specs.Str.{IsValidUpTo}
@@ -16,7 +16,7 @@ use Rattle.bites_spec.proofs.templates.TemplateLemmas.{cuts_once, cuts_all, expa
 seam_within : (u v : List ℕ) (c : ℕ) → length u < length (u ++ c ∷ v)
 seam_within u v c = omega (arith, length-append u (c ∷ v))
 
--- a text is cut at a byte of ASCII
+-- the bytes before an ASCII byte of a text are a text; below it, so are those after it
 pub before_ascii : (u v : List ℕ) (c : ℕ) → c < 128 → IsUtf8 (u ++ c ∷ v) → IsUtf8 u
 before_ascii u v c low utf8 =
     let at = get_or-append_seam u c v 0 in
@@ -29,7 +29,7 @@ behind_ascii u v c low utf8 =
     subst IsUtf8 (drop-append-add u (c ∷ v) 1)
     (IsUtf8-drop (u ++ c ∷ v) (length u + 1) utf8 (IsCharBoundary-after_ascii (u ++ c ∷ v) (length u) utf8 (seam_within u v c) (omega (arith, at))))
 
--- UTF-8 goes no further into what stands behind it
+-- no bytes at the beginning of the rest extend the text as UTF-8
 abbrev pub NoFurther : List ℕ → List ℕ → Type 0
 NoFurther text behind = (front rest : List ℕ) → behind ≡ front ++ rest → 0 < length front → IsUtf8 (text ++ front) → ⊥
 
@@ -44,7 +44,7 @@ high_behind text tail x utf8 none =
     (λ (e : ltb x 128 ≡ false). ltb-false x 128 e)
     (cases_Bool (ltb x 128))
 
--- a byte above ASCII ends a word
+-- a byte that is not ASCII ends a word
 high_ends_word : (behind : List ℕ) → ((x : ℕ) (tail : List ℕ) → behind ≡ x ∷ tail → 128 ≤ x) → EndsWord behind
 high_ends_word [] high = tt
 high_ends_word (x ∷ tail) high = no_word x (high x tail refl)
@@ -52,7 +52,7 @@ high_ends_word (x ∷ tail) high = no_word x (high x tail refl)
     no_word : (x : ℕ) → 128 ≤ x → is_word_byte x ≡ false
     no_word x le = grind (arith, nat_tests)
 
--- the first brace stands in the front, or behind it
+-- the first brace stands in the prefix, or after it
 data Brace (front behind word tail : List ℕ) : Type 0 where
   within : (middle : List ℕ) → front ≡ word ++ 125 ∷ middle → Brace front behind word tail
   past : (more : List ℕ) → word ≡ front ++ more → behind ≡ more ++ 125 ∷ tail → Brace front behind word tail
@@ -76,7 +76,7 @@ brace_of (b ∷ front) behind (c ∷ word) tail e =
     inner : b ∷ (front ++ behind) ≡ c ∷ (word ++ 125 ∷ tail) → front ++ behind ≡ word ++ 125 ∷ tail
     inner e = cc
 
--- a text with what stands behind it, in which UTF-8 goes no further
+-- a text and the bytes after it, none of which extend it as UTF-8
 module _ (whole behind : List ℕ) (utf8 : IsUtf8 whole) (none : NoFurther whole behind) where
   high : (x : ℕ) (tail : List ℕ) → behind ≡ x ∷ tail → 128 ≤ x
   high x tail e = high_behind whole tail x utf8 (subst (NoFurther whole) e none)
@@ -156,7 +156,7 @@ module _ (whole behind : List ℕ) (utf8 : IsUtf8 whole) (none : NoFurther whole
   cuts_before more pre is d (alone rest parts stands c) =
       alone (rest ++ behind) (parts ++ more) (still_alone pre rest is stands) (cuts_before more (pre ++ 36 ∷ []) (further pre (36 ∷ []) rest is) d c)
 
-  -- the text of the front with any names, and that of the rest
+  -- the template expands to the text's expansion with any names, and then to the rest's
   pub expansion_before : (largest : ℕ) (text_of : ℕ → Option (List ℕ)) (index_of : List ℕ → Option ℕ) →
       expansion false largest text_of index_of (whole ++ behind)
       ≡ expansion true largest text_of index_of whole ++ expansion false largest text_of index_of behind
@@ -165,7 +165,7 @@ module _ (whole behind : List ℕ) (utf8 : IsUtf8 whole) (none : NoFurther whole
       ap (flat_map (stands_for largest text_of index_of)) (sym (cuts_once (cuts_before (parts_of false behind) [] refl (cuts_all false behind) (cuts_all true whole))))
       ∙ flat_map-append (stands_for largest text_of index_of) (parts_of true whole) (parts_of false behind)
 
--- in UTF-8 any name is UTF-8
+-- in a UTF-8 template, each name is UTF-8
 pub expansion_of_text : (largest : ℕ) (text_of : ℕ → Option (List ℕ)) (index_of : List ℕ → Option ℕ) (template : List ℕ) → IsUtf8 template →
     expansion false largest text_of index_of template ≡ expansion true largest text_of index_of template
 expansion_of_text largest text_of index_of template utf8 =
@@ -178,7 +178,7 @@ expansion_of_text largest text_of index_of template utf8 =
     none [] rest e some u = omega arith
     none (b ∷ front) rest e some u = cc
 
--- where bytes stop being UTF-8
+-- after the longest prefix that is UTF-8, no bytes extend it
 pub no_further : (bytes : List ℕ) (n : ℕ) → IsValidUpTo bytes n → NoFurther (take n bytes) (drop n bytes)
 no_further bytes n valid front rest e some utf8 =
     valid.longest (n + length front) (omega arith) (subst IsUtf8 (sym is) utf8)

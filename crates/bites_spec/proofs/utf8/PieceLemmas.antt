@@ -1,4 +1,4 @@
--- Pieces have a length within the haystack, and places lie in it.
+-- Each piece ends within the haystack, and each decoded place lies in it.
 use Rattle.std.proofs.Common.{◌≡◌, ℕ, zero, suc, ◌+◌, ◌<◌, ◌≤◌, cond, max, List, [], ◌∷◌, length, drop, subst, ⊎_elim, arith, ◌⊎◌, length-drop, leb-true}
 use Rattle.std.specs.Prelude.{nat_le, ◌==◌}
 use Rattle.std.proofs.lemmas.Bool.{cases_Bool}
@@ -46,7 +46,7 @@ pub piece_within : (hay : List ℕ) (i : ℕ) → i ≤ length hay → i + (piec
 unfolding piece
 piece_within hay i le = omega (arith, (piece_of_len (drop i hay)).0, length-drop i hay)
 
--- before the end it has a length, and at the end it has none
+-- before the end a piece has a length, and at the end it has none
 pub piece_some : (hay : List ℕ) (i : ℕ) → i < length hay → 0 < (piece hay i).len
 unfolding piece
 piece_some hay i lt = (piece_of_len (drop i hay)).1 (omega (arith, length-drop i hay))
@@ -67,15 +67,15 @@ Among-places_within (suc n) hay s i h =
     (λ is. absurd (subst (λ b. Among (cond b (s ∷ places_within n hay (s + step_len hay s)) []) i) is h))
     (cases_Bool (nat_le s (length hay)))
 
--- a place lies from the start on, and in the haystack or at its end
+-- a place lies at or after the start, and no later than the end of the haystack
 pub Among-places : (hay : List ℕ) (s i : ℕ) → Among (places hay s) i → (s ≤ i) × (i ≤ length hay)
 unfolding places
 Among-places hay s i h = Among-places_within (suc (length hay)) hay s i h
 
--- a scan always goes on
+-- each step of a scan has a length
 pub step_some : (hay : List ℕ) (s : ℕ) → 0 < step_len hay s
 step_some hay s = omega arith
 
--- the places stand in order: those behind the first are above it
+-- each place after the first lies above it
 pub places_within_above : (n : ℕ) (hay : List ℕ) (s i : ℕ) → Among (places_within n hay (s + step_len hay s)) i → s < i
 places_within_above n hay s i h = omega (arith, (Among-places_within n hay (s + step_len hay s) i h).0, step_some hay s)

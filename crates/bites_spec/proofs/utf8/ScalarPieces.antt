@@ -1,4 +1,4 @@
--- The bytes of a scalar value are one piece, whose character it is.
+-- The UTF-8 bytes of a scalar value are one piece, which has that character.
 use Rattle.std.proofs.Common.{◌≡◌, ℕ, suc, ◌+◌, ◌/◌, ◌<◌, ◌≤◌, Bool, true, false, ◌==◌, cond, List, [], ◌∷◌, ◌++◌, length, take, drop, Some, refl, ap, ap₂, ◌∙◌, ⊎_elim, ◌⊎◌, inl, inr, arith, ltb, ltb-true, ltb-false, leb}
 use Rattle.std.specs.Char.{len_utf8, IsScalar, encode_utf8}
 use Rattle.std.proofs.lemmas.Bool.Decides.{nat_tests}
@@ -6,7 +6,7 @@ use Rattle.std.proofs.Math.Utf8.{scalar, next, scalar_cases}
 use Rattle.bites_spec.specs.Range.{Range, in_range}
 use Rattle.bites_spec.specs.Utf8.{Piece, front_piece, piece_by, fitting, whole_len, well_formed_rows, scalar_value}
 
--- a number in a range, below it and above it
+-- a number in a range passes its test; one below or above it fails
 inside : (a b x : ℕ) → a ≤ x → x ≤ b → in_range (a, b) x ≡ true
 inside a b x l h = grind (arith, nat_tests)
 
@@ -16,18 +16,18 @@ below a b x l = grind (arith, nat_tests)
 above : (a b x : ℕ) → b < x → in_range (a, b) x ≡ false
 above a b x l = grind (arith, nat_tests)
 
--- a byte that fits, and one that does not
+-- a byte that fits is counted
 fits : (r : Range) (row : List Range) (b n : ℕ) (bytes : List ℕ) → in_range r b ≡ true → fitting row bytes ≡ n → fitting (r ∷ row) (b ∷ bytes) ≡ suc n
 fits r row b n bytes is e = ap₂ (λ (d : Bool) (k : ℕ). cond d (suc k) 0) is e
 
 same_eq : (n : ℕ) → (n == n) ≡ true
 same_eq n = grind (arith, nat_tests)
 
--- the row stands whole at the front
+-- a row that fits whole gives the length
 take_row : (row : List Range) (rows : List (List Range)) (bytes : List ℕ) → fitting row bytes ≡ length row → whole_len (row ∷ rows) bytes ≡ length row
 take_row row rows bytes e = ap (λ (n : ℕ). cond (n == length row) n (whole_len rows bytes)) e ∙ ap (λ (d : Bool). cond d (length row) (whole_len rows bytes)) (same_eq (length row))
 
--- the first byte does not fit the row
+-- a row that the first byte does not fit is skipped
 skip_row : (r : Range) (row : List Range) (rows : List (List Range)) (b n : ℕ) (bytes : List ℕ) → in_range r b ≡ false → whole_len rows (b ∷ bytes) ≡ n →
     whole_len ((r ∷ row) ∷ rows) (b ∷ bytes) ≡ n
 skip_row r row rows b n bytes is later =
@@ -38,7 +38,7 @@ skip_row r row rows b n bytes is later =
     zero_unlike : (n : ℕ) → (0 == suc n) ≡ false
     zero_unlike n = grind (arith, nat_tests)
 
--- the rows that begin with these first bytes
+-- the well-formed rows without the first n
 abbrev rows_from : ℕ → List (List Range)
 rows_from n = drop n well_formed_rows
 
@@ -48,13 +48,13 @@ whole_two b x rest l h m k =
     (take_row ((0xC2, 0xDF) ∷ (0x80, 0xBF) ∷ []) (rows_from 2) (b ∷ x ∷ rest)
     (fits (0xC2, 0xDF) ((0x80, 0xBF) ∷ []) b 1 (x ∷ rest) (inside 0xC2 0xDF b l h) (fits (0x80, 0xBF) [] x 0 rest (inside 0x80 0xBF x m k) refl)))
 
--- three bytes fit such a row
+-- three bytes fit a row of three ranges
 fits_three : (r s : Range) (b x y : ℕ) (rest : List ℕ) → in_range r b ≡ true → in_range s x ≡ true → 0x80 ≤ y → y ≤ 0xBF →
     fitting (r ∷ s ∷ (0x80, 0xBF) ∷ []) (b ∷ x ∷ y ∷ rest) ≡ 3
 fits_three r s b x y rest one two m k =
     fits r (s ∷ (0x80, 0xBF) ∷ []) b 2 (x ∷ y ∷ rest) one (fits s ((0x80, 0xBF) ∷ []) x 1 (y ∷ rest) two (fits (0x80, 0xBF) [] y 0 rest (inside 0x80 0xBF y m k) refl))
 
--- the first two rows do not begin with such a byte
+-- a first byte from E0 on fits neither of the first two rows
 skip_two : (b n : ℕ) (bytes : List ℕ) → 0xE0 ≤ b → whole_len (rows_from 2) (b ∷ bytes) ≡ n → whole_len well_formed_rows (b ∷ bytes) ≡ n
 skip_two b n bytes l later =
     skip_row (0x00, 0x7F) [] (rows_from 1) b n bytes (above 0x00 0x7F b (omega arith))
@@ -95,7 +95,7 @@ whole_three b x y rest l h m k long no_surrogate s t = skip_two b 3 (x ∷ y ∷
         let more : 0xE0 < b = grind (arith, nat_tests) in
         skip_row (0xE0, 0xE0) ((0xA0, 0xBF) ∷ (0x80, 0xBF) ∷ []) (rows_from 3) b 3 (x ∷ y ∷ rest) (above 0xE0 0xE0 b more) (from_3 (omega (arith, more)) (leb b 0xEC) refl)
 
--- four bytes fit such a row
+-- four bytes fit a row of four ranges
 fits_four : (r s : Range) (b x y z : ℕ) (rest : List ℕ) → in_range r b ≡ true → in_range s x ≡ true → 0x80 ≤ y → y ≤ 0xBF → 0x80 ≤ z → z ≤ 0xBF →
     fitting (r ∷ s ∷ (0x80, 0xBF) ∷ (0x80, 0xBF) ∷ []) (b ∷ x ∷ y ∷ z ∷ rest) ≡ 4
 fits_four r s b x y z rest one two m k n o =
@@ -103,7 +103,7 @@ fits_four r s b x y z rest one two m k n o =
     (fits s ((0x80, 0xBF) ∷ (0x80, 0xBF) ∷ []) x 2 (y ∷ z ∷ rest) two
     (fits (0x80, 0xBF) ((0x80, 0xBF) ∷ []) y 1 (z ∷ rest) (inside 0x80 0xBF y m k) (fits (0x80, 0xBF) [] z 0 rest (inside 0x80 0xBF z n o) refl)))
 
--- the first six rows do not begin with such a byte
+-- a first byte from F0 on fits none of the first six rows
 skip_six : (b n : ℕ) (bytes : List ℕ) → 0xF0 ≤ b → whole_len (rows_from 6) (b ∷ bytes) ≡ n → whole_len well_formed_rows (b ∷ bytes) ≡ n
 skip_six b n bytes l later =
     skip_two b n bytes (omega arith)
@@ -140,7 +140,7 @@ whole_four b x y z rest l h m k long not_past s t u v = skip_six b 4 (x ∷ y �
         let more : 0xF0 < b = grind (arith, nat_tests) in
         skip_row (0xF0, 0xF0) ((0x90, 0xBF) ∷ (0x80, 0xBF) ∷ (0x80, 0xBF) ∷ []) (rows_from 7) b 4 (x ∷ y ∷ z ∷ rest) (above 0xF0 0xF0 b more) (from_7 (omega (arith, more)) (leb b 0xF3) refl)
 
--- a character by its value and length
+-- the piece of a whole character, by its value and length
 abbrev pub whole : ℕ → ℕ → Piece
 whole c n = record { decoded = Some c; len = n }
 
@@ -175,7 +175,7 @@ piece_four c rest l h =
 
 -- ## The bytes of a scalar value
 
--- what the bytes of a character make, by the tests on its size
+-- the piece that a character's bytes make, by the three tests on its size
 abbrev IsPiece : ℕ → List ℕ → Bool → Bool → Bool → Type 0
 IsPiece c rest one two three =
     front_piece (cond one (c ∷ []) (cond two ((192 + c / 64) ∷ next c ∷ []) (cond three ((224 + c / 4096) ∷ next (c / 64) ∷ next c ∷ []) ((240 + c / 262144) ∷ next (c / 4096) ∷ next (c / 64) ∷ next c ∷ []))) ++ rest)
@@ -195,7 +195,7 @@ by_size c rest s false e true f three g = piece_two c rest (ltb-false c 128 e) (
 by_size c rest s false e false f true g = piece_three c rest (ltb-false c 2048 f) (ltb-true c 65536 g) (not_surrogate c (scalar_cases c s))
 by_size c rest s false e false f false g = piece_four c rest (ltb-false c 65536 g) (not_past c (scalar_cases c s))
 
--- where the bytes of a character stand its piece is whole
+-- where the bytes of a character stand, the piece is that whole character
 pub scalar_piece : (c : ℕ) (rest : List ℕ) → IsScalar c → front_piece (encode_utf8 c ++ rest) ≡ whole c (len_utf8 c)
 unfolding encode_utf8
 scalar_piece c rest s = by_size c rest s (ltb c 128) refl (ltb c 2048) refl (ltb c 65536) refl

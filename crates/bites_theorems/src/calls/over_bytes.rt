@@ -20,9 +20,9 @@ use regex_bites::bytes::{
 use std::alloc::{AllocError, Global};
 use std::borrow::CowSlice;
 
-/// Builds a regex without flags, under the limits that a builder begins with. A pattern is accepted exactly if the grammar reads
-/// it as a tree within these limits. Otherwise the error is the message of its first fault, or of the first limit that the tree
-/// passes. Either may give way to out of memory.
+/// Builds a regex without flags, under the default limits of a builder. A pattern is accepted exactly if the grammar
+/// reads it as a tree within these limits. Otherwise the error is the message of its first fault, or of the first limit
+/// that the tree exceeds. The call may run out of memory in either case.
 pub fn new(alloc: Global, pattern: &str) -> Result<Regex, Error>
     ensures kept { IfOk result (λ r. (r.pattern ≡ pattern.now)
         × (r.flags ≡ no_flags) × (r.leftmost_longest ≡ false)) }
@@ -40,8 +40,9 @@ pub fn is_match(regex: &Regex, haystack: &[u8], start: usize) -> Result<bool, Al
     regex.is_match_at(haystack, start)
 }
 
-/// Returns the first match. It begins at the first such place, and is what the tree matches there. Where the tree is plain, it
-/// ends where the preferred parse there does; where the longest match is asked for, no match there ends after it.
+/// Returns the first match. It begins at the first place from the start on at which the tree matches, and is what the
+/// tree matches there. If the longest match is asked for, no match there ends after it. Otherwise, if the tree is
+/// plain, it ends where the preferred parse there does.
 pub fn find<'h>(
     regex: &Regex,
     haystack: &'h [u8],
@@ -53,9 +54,9 @@ pub fn find<'h>(
     regex.find_at(haystack, start)
 }
 
-/// Returns the groups of the first match. Its end and its groups are those of one parse at the first place that has one. Where
-/// the tree is plain, it is the parse that the pattern prefers. Where the longest match is asked for, it goes to the greatest
-/// end, and is the one that the pattern prefers of those that do.
+/// Returns the groups of the first match. Its end and its groups are those of one parse at the first place that has
+/// one. If the longest match is asked for, it is a longest parse, and if the tree is plain too, the one of these that
+/// the pattern prefers. Otherwise, if the tree is plain, it is the parse that the pattern prefers.
 pub fn captures<'h>(
     regex: &Regex,
     haystack: &'h [u8],
@@ -78,8 +79,8 @@ pub fn shortest_match(
     regex.shortest_match_at(haystack, start)
 }
 
-/// Returns whether something matches. No state is visited twice at a place, and so there are at most as many visits as states
-/// times places. Where nothing is found, all that can be reached was visited; otherwise all of one run was.
+/// Returns whether something matches. No state is visited twice at a place, so there are at most as many visits as
+/// states times places. If nothing is found, all that can be reached was visited. Otherwise all of one run was.
 pub fn is_match_visits(regex: &Regex, cache: &mut Cache, haystack: &[u8], start: usize) -> bool
     requires { cache.old.fits ≡ fit_of regex.now.program }
     ensures once { IsBounded regex.now.program haystack.now start cache.new.walked }
@@ -88,7 +89,7 @@ pub fn is_match_visits(regex: &Regex, cache: &mut Cache, haystack: &[u8], start:
     regex.is_match_at_with(cache, haystack, start)
 }
 
-/// Visits no state twice at a place in a search for the least end.
+/// Returns the least end of all matches from the start on. No state is visited twice at a place.
 pub fn shortest_match_visits(
     regex: &Regex,
     cache: &mut Cache,
@@ -102,7 +103,7 @@ pub fn shortest_match_visits(
     regex.shortest_match_at_with(cache, haystack, start)
 }
 
-/// Visits no state twice at a place in a search for the match.
+/// Returns the first match. No state is visited twice at a place.
 pub fn find_visits<'h>(
     regex: &Regex,
     cache: &mut Cache,
@@ -123,8 +124,9 @@ pub fn is_match_anchored(regex: &Regex, haystack: &[u8], start: usize) -> Result
     regex.is_match_anchored_at(haystack, start)
 }
 
-/// Returns the match that begins at the start itself, which is what the tree matches there. Where the tree is plain, it ends
-/// where the preferred parse there does; where the longest match is asked for, no match there ends after it.
+/// Returns the match that begins at the start itself, which is what the tree matches there. If the longest match is
+/// asked for, no match there ends after it. Otherwise, if the tree is plain, it ends where the preferred parse there
+/// does.
 pub fn find_anchored<'h>(
     regex: &Regex,
     haystack: &'h [u8],
@@ -136,9 +138,9 @@ pub fn find_anchored<'h>(
     regex.find_anchored_at(haystack, start)
 }
 
-/// Returns the groups of this match: its end and its groups are those of one parse from the start. Where the tree is plain, it is
-/// the parse that the pattern prefers. Where the longest match is asked for, it goes to the greatest end, and is the one that
-/// the pattern prefers of those that do.
+/// Returns the groups of this match: its end and its groups are those of one parse from the start. If the longest match
+/// is asked for, it is a longest parse, and if the tree is plain too, the one of these that the pattern prefers.
+/// Otherwise, if the tree is plain, it is the parse that the pattern prefers.
 pub fn captures_anchored<'h>(
     regex: &Regex,
     haystack: &'h [u8],
@@ -146,14 +148,17 @@ pub fn captures_anchored<'h>(
 ) -> Result<Option<Captures<'h>>, AllocError>
     ensures { IfOk result (AnchoredHeadline regex.now haystack.now start) }
 {
-    // Its contract says that the regex is compiled, which no field shows to a caller. So do the calls below.
+    // For proofs: the contract of `as_str` says that the regex is compiled, here and below.
     regex.as_str();
     let found = regex.captures_anchored_at(haystack, start)?;
     Ok(found)
 }
 
-/// Says all of this of one call. It takes no memory, so it cannot fail. It visits no state twice at a place; where nothing is
-/// found, all that can be reached from the start was visited, and otherwise all of one run.
+/// Returns the match that begins at the start itself, and writes its groups into the locations: all of the above in one
+/// call. It allocates nothing and cannot fail.
+///
+/// No state is visited twice at a place. If nothing is found, all that can be reached from the start was visited.
+/// Otherwise all of one run was.
 pub fn search_anchored<'h>(
     regex: &Regex,
     cache: &mut Cache,
@@ -179,8 +184,8 @@ pub fn is_full_match(regex: &Regex, haystack: &[u8]) -> Result<bool, AllocError>
     regex.is_full_match(haystack)
 }
 
-/// Returns the groups of a match of the whole haystack: those of one parse of it, and where the tree is plain of the one that the
-/// pattern prefers.
+/// Returns the groups of a match of the whole haystack: those of one parse of it, and if the tree is plain, of the one
+/// that the pattern prefers.
 pub fn captures_full<'h>(
     regex: &Regex,
     haystack: &'h [u8],
@@ -221,7 +226,7 @@ pub fn pieces<'h>(
     Ok(pieces)
 }
 
-/// Returns at most `limit` of these pieces; the last of them has the whole rest.
+/// Returns at most `limit` of these pieces. The last of them has the whole rest.
 pub fn pieces_up_to<'h>(
     alloc: Global,
     regex: &Regex,
@@ -235,7 +240,7 @@ pub fn pieces_up_to<'h>(
     Ok(pieces)
 }
 
-/// Returns the haystack with the first `limit` matches of the tree, or all for 0, replaced by a text.
+/// Returns the haystack with the first `limit` matches of the tree replaced by a text, or all if `limit` is 0.
 pub fn replaced_by_text<'h>(
     regex: &Regex,
     haystack: &'h [u8],
@@ -249,7 +254,7 @@ pub fn replaced_by_text<'h>(
     Ok(replaced)
 }
 
-/// Returns the haystack with the first `limit` matches of the tree, or all for 0, replaced as a replacer says.
+/// Returns the haystack with the first `limit` matches of the tree replaced as a replacer says, or all if `limit` is 0.
 pub fn replaced_by<'h, R: Replacer + Drop>(
     regex: &Regex,
     haystack: &'h [u8],

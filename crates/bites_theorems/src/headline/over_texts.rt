@@ -1,4 +1,4 @@
-//! The headline over texts. A start within the text is the border of a character.
+//! The headline over texts. A start within the text must be at a character boundary.
 
 ghost use Rattle.std.specs.Prelude.{◌≡◌, ◌≢◌, ◌↔◌, length, map, is_some, Some, IsSome, IfOk, IfErr, IfSome, ◌≤◌, IsCharBoundary};
 ghost use Rattle.bites_spec.specs.Tree.{Tree};
@@ -16,9 +16,9 @@ ghost use Rattle.bites_theorems.specs.Promises.{StandApart};
 use regex_bites::{Cache, CaptureLocations, Error, Match, Regex, RegexBuilder};
 use std::alloc::{AllocError, Global};
 
-/// Builds a regex. A pattern is accepted exactly if the grammar reads it under the builder's flags as a tree, and all limits
-/// hold: the regex has that tree. Otherwise the error is the message of the pattern's first fault, or of the first limit that
-/// the tree passes. Either may give way to out of memory.
+/// Builds a regex. A pattern is accepted exactly if the grammar reads it under the builder's flags as a tree, and all
+/// limits hold: the regex has that tree. Otherwise the error is the message of the pattern's first fault, or of the
+/// first limit that the tree exceeds. The call may run out of memory in either case.
 pub fn build(builder: &RegexBuilder) -> Result<Regex, Error>
     ensures kept { IfOk result (λ r. (r.pattern ≡ builder.now.pattern)
         × (r.flags ≡ builder.now.flags)
@@ -30,13 +30,13 @@ pub fn build(builder: &RegexBuilder) -> Result<Regex, Error>
     builder.build()
 }
 
-/// Returns the first match, exactly if the tree matches at a place from the start on, and puts its groups into the locations.
-/// It begins at the first such place. Its end and its groups are those of one parse there: of the preferred one where the tree
-/// is plain, and of one with the greatest end where the longest match is asked for. Each group begins and ends at borders of
-/// characters.
+/// Returns the first match, exactly if the tree matches at a place from the start on, and writes its groups into the
+/// locations. It begins at the first such place. Its end and its groups are those of one parse there: of a longest one
+/// if the longest match is asked for, and otherwise, if the tree is plain, of the preferred one. Each group begins and
+/// ends at character boundaries.
 ///
-/// It visits no state twice at a place. Where nothing is found, all that can be reached was visited; otherwise all of one run
-/// was. It takes no memory, so it cannot fail.
+/// No state is visited twice at a place. If nothing is found, all that can be reached was visited. Otherwise all of one
+/// run was. It allocates nothing and cannot fail.
 pub fn search<'h>(
     regex: &Regex,
     cache: &mut Cache,
@@ -54,14 +54,14 @@ pub fn search<'h>(
     ensures once { IsBounded regex.now.program haystack.now start cache.new.walked }
     ensures reached { VisitedBy regex.now.program haystack.now start (is_some result) cache.new.walked }
 {
-    // Its contract says that the regex is compiled, which no field shows to a caller. So does the call below.
+    // For proofs: the contract of `as_str` says that the regex is compiled.
     regex.as_str();
     regex.captures_read_at_with(cache, locations, haystack, start)
 }
 
-/// Returns all matches: what the tree finds from the start, and then what it finds after each. Nothing matches between two of
-/// them. They stand in order, none overlaps another, and each ends after the one before. All begin and end at borders of
-/// characters.
+/// Returns all matches: what the tree finds from the start, and then what it finds after each. Nothing matches between
+/// two of them. They stand in order, none overlaps another, and each ends after the one before. All begin and end at
+/// character boundaries.
 pub fn all_matches<'h>(
     alloc: Global,
     regex: &Regex,

@@ -118,8 +118,8 @@ impl RegexBuilder {
     /// Sets the greatest size of the program, roughly in bytes. The default is 10 MiB (10485760). A build that
     /// exceeds it is refused with [`Error::TooBig`] before any state is made.
     ///
-    /// A state counts 32, a target of a choice 4, and a range of characters 8. Each group number from 0 to the
-    /// greatest that is left counts 16, and the name of a group its bytes and 4.
+    /// A state counts 32, a target of a state that splits 4, and a range of characters 8. Each group number from 0 to
+    /// the greatest that is left counts 16, and the name of a group its bytes and 4.
     pub fn size_limit(&mut self, limit: usize) -> &mut RegexBuilder
         ensures same { result.ghost_name ≡ self.entry.ghost_name }
         ensures set { result.now ≡ record self.old { size_limit = limit } }
@@ -174,7 +174,8 @@ impl RegexBuilder {
         self
     }
 
-    /// Returns a regex of this pattern, in time linear in the pattern and the size limit.
+    /// Returns a regex of this pattern, in time linear in the pattern and the size limit, except for the sorting of
+    /// classes and of group names.
     ///
     /// The error is the message of the pattern's first fault, or of the first limit that the pattern exceeds, or out
     /// of memory. A refused build leaves the builder unchanged, and it may be used again.

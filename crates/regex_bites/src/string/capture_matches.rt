@@ -45,7 +45,7 @@ impl<'r, 'h> CaptureMatches<'r, 'h> {
         Ok(CaptureMatches { matches, haystack })
     }
 
-    // The groups of the next match, or a refusal.
+    // Returns the groups of the next match, or that memory ran out.
     fn step(&mut self) -> Option<Result<Captures<'h>, AllocError>>
         ensures steps { YieldsUntilRefused (λ c. c) captures_left self.old result self.new }
         ensures same { haystack_of_captures self.new ≡ haystack_of_captures self.old }
@@ -57,7 +57,7 @@ impl<'r, 'h> CaptureMatches<'r, 'h> {
         }
     }
 
-    // The same, if one match more is to be replaced.
+    // Like [`CaptureMatches::step`], but takes one from `left`, and returns None if nothing is left.
     pub(super) fn step_of(
         &mut self,
         left: &mut Option<usize>,

@@ -2,7 +2,7 @@
 
 ghost use Rattle.std.specs.Prelude.{◌≡◌, ◌≤◌, ◌+◌, ◌/◌, length, map, take, drop, is_some, IfOk, IfSome, IsSome, Some, option_map, option_and_then, IsCharBoundary};
 ghost use Rattle.bites_spec.specs.Measure.{static_captures_len};
-ghost use Rattle.bites_spec.specs.Slots.{group_in, taking_part};
+ghost use Rattle.bites_spec.specs.Slots.{group_in, participating};
 ghost use Rattle.bites_spec.specs.Pieces.{text_at};
 ghost use Rattle.bites_spec.specs.Counts.{fit_of, IsWalked};
 ghost use Rattle.bites_spec.specs.Regex.{slots_at};
@@ -62,7 +62,7 @@ impl<'h> Captures<'h> {
     ghost use Rattle.regex_bites.specs.Matched.{excerpt_of};
     ghost use Rattle.regex_bites.specs.Borders.{AreGroupsOf, IsPart};
 
-    // The groups in the text whose bytes were searched.
+    // Returns groups in the bytes of the text as groups in the text.
     pub(super) fn of(haystack: &'h str, captures: bytes::Captures<'h>) -> Captures<'h>
         requires { AreGroupsOf haystack.now captures }
         ensures { result ≡ captures.entry }
@@ -80,7 +80,7 @@ impl<'h> Captures<'h> {
         Match::of_found(self.haystack, found)
     }
 
-    // The match.
+    // Returns the whole match, which is group 0.
     pub(super) fn whole(&self) -> Match<'h>
         ensures span { excerpt_of result ≡ excerpt self.now.haystack (span_in self.now) }
         ensures part { IsPart self.now.haystack (excerpt_of result) }
@@ -106,7 +106,7 @@ impl<'h> Captures<'h> {
         Match::of_found(self.haystack, found)
     }
 
-    // The text of the group of this number, if it participates.
+    // Returns the text of the group with this number, if it participates.
     fn group_text(&self, group: usize) -> Option<&'h str>
         ensures { answer_text result ≡ text_in self.now.slots self.now.haystack group }
     {
@@ -179,7 +179,7 @@ impl<'h> Captures<'h> {
         requires { static_captures_len self.now.regex.tree ≡ Some (length parts.old + 1) }
         ensures whole { Some result.now ≡ option_map (text_at self.now.haystack) (group_in self.now.slots 0) }
         ensures parts { map (λ text. text.now) parts.new
-            ≡ map (text_at self.now.haystack) (take (length parts.old) (drop 1 (taking_part self.now.slots))) }
+            ≡ map (text_at self.now.haystack) (take (length parts.old) (drop 1 (participating self.now.slots))) }
     {
         let mut filled = 0;
         for group in 1..self.len() {
@@ -194,7 +194,7 @@ impl<'h> Captures<'h> {
         self.part(0)
     }
 
-    // Where a group participates, and its text.
+    // Returns where a group begins and ends, and its text, if it participates.
     fn debug_part(&self, group: usize) -> Part<&'h str> {
         match self.get(group) {
             Some(found) => Part(Some((found.start(), found.end(), found.as_str()))),

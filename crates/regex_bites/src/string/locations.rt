@@ -15,7 +15,7 @@ use std::marker::Model;
 /// For proofs: a contract sees the two slots of each group, which are known if the group participates.
 #[derive(Drop)]
 pub struct CaptureLocations {
-    // The places of a search over bytes.
+    // The locations of a search over bytes.
     pub(super) locations: bytes::CaptureLocations,
 }
 

@@ -27,7 +27,7 @@ impl<'h> Match<'h> {
     ghost use Rattle.regex_bites.specs.Matched.{excerpt_of};
     ghost use Rattle.regex_bites.specs.Borders.{IsPart};
 
-    // The same part of the text whose bytes were searched.
+    // Returns the part of the text at the offsets of a match in its bytes.
     pub(super) fn of(haystack: &'h str, found: bytes::Match<'_>) -> Match<'h>
         requires { IsPart haystack.now (over_bytes.excerpt_of found) }
         ensures { excerpt_of result ≡ over_bytes.excerpt_of found.entry }
@@ -39,7 +39,7 @@ impl<'h> Match<'h> {
         }
     }
 
-    // The same, if there is one.
+    // Like [`Match::of`], but for a match that may be missing.
     pub(super) fn of_found(haystack: &'h str, found: Option<bytes::Match<'_>>) -> Option<Match<'h>>
         requires { ForSome found (λ m. IsPart haystack.now (over_bytes.excerpt_of m)) }
         ensures { option_map excerpt_of result ≡ option_map over_bytes.excerpt_of found.entry }

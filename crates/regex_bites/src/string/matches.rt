@@ -53,7 +53,7 @@ impl<'r, 'h> Matches<'r, 'h> {
         self.haystack
     }
 
-    // The next match.
+    // Returns the next match.
     pub(super) fn step(&mut self) -> Option<Match<'h>>
         ensures steps { YieldsFirstBy excerpt_of matches_left self.old result self.new }
         ensures same { haystack_of_matches self.new ≡ haystack_of_matches self.old }
@@ -62,7 +62,7 @@ impl<'r, 'h> Matches<'r, 'h> {
         Match::of_found(self.haystack, found)
     }
 
-    // The next match, if one more is to be replaced.
+    // Like [`Matches::step`], but takes one from `left`, and returns None if nothing is left.
     pub(super) fn step_of(&mut self, left: &mut Option<usize>) -> Option<Match<'h>>
         ensures steps { TakesFirst excerpt_of (taken left.old (matches_left self.old))
             result (taken left.new (matches_left self.new)) }

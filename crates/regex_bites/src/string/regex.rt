@@ -70,7 +70,8 @@ impl Regex {
         Ok(Regex::from_bytes(alloc, regex))
     }
 
-    // The regex over texts with this pattern and program. The contract of `as_str` says that it is compiled.
+    // Returns the regex over texts with this pattern and program.
+    // For proofs: the contract of `as_str` says that it is compiled.
     pub(super) fn from_bytes(alloc: Global, regex: bytes::Regex) -> Regex
         ensures { result ≡ regex }
     {
@@ -82,7 +83,7 @@ impl Regex {
         self.alloc
     }
 
-    // The regex over bytes.
+    // Returns the regex over bytes.
     pub(super) fn over_bytes(&self) -> &bytes::Regex
         ensures same { result.now ≡ self.now }
         ensures compiled { IsCompiled self.now }

@@ -18,7 +18,7 @@ struct ReplacedText<'h> {
     haystack: &'h str,
     // Where the last match that was replaced ends, if one was.
     last: Option<usize>,
-    // The haystack up to there, with the new texts.
+    // The haystack up to there, with its matches replaced.
     out: String,
     ghost border: { IsCharBoundary haystack.now (unwrap_or last 0) },
     ghost fresh: { last ≡ None → string_bytes out ≡ [] },
@@ -29,7 +29,7 @@ impl<'h> ReplacedText<'h> {
     ghost use Rattle.regex_bites.specs.Borders.{IsPart};
     ghost use Rattle.regex_bites.specs.ReplacedText.{KeepsUpTo, Writes, WritesBy};
 
-    // Nothing is replaced yet.
+    // Returns a text in which nothing is replaced yet.
     fn new(alloc: Global, haystack: &'h str) -> ReplacedText<'h>
         ensures haystack { result.haystack.now ≡ haystack.now }
         ensures last { result.last ≡ None }
@@ -42,7 +42,7 @@ impl<'h> ReplacedText<'h> {
         }
     }
 
-    // Keeps what stands before a match, and goes on after it.
+    // Appends the text between the last match and this one, and goes on after it.
     fn keep_up_to(&mut self, found: Match<'h>) -> Result<(), AllocError>
         requires part { IsPart self.old.haystack.now (excerpt_of found) }
         requires order { unwrap_or self.old.last 0 ≤ (excerpt_of found).span.start }
@@ -80,7 +80,7 @@ impl<'h> ReplacedText<'h> {
         replacer.replace_append(captures, &mut self.out)
     }
 
-    // What is written, with the rest of the haystack; where nothing was replaced, the haystack as it is.
+    // Returns what is written, and then the rest of the haystack. If nothing was replaced, it borrows the haystack.
     fn finish(self) -> Result<CowStr<'h>, AllocError>
         ensures bytes { IfOk result (λ r. cow_str_bytes r ≡ string_bytes self.entry.out
             ++ drop (unwrap_or self.entry.last 0) self.entry.haystack.now) }
@@ -96,7 +96,7 @@ impl<'h> ReplacedText<'h> {
 }
 
 impl Regex {
-    // The haystack with at most `limit` matches, or all for 0, replaced by the text.
+    // Returns the haystack with its first `limit` matches replaced by the text, or all of them if `limit` is 0.
     fn replace_by_text<'h>(
         &self,
         haystack: &'h str,
@@ -117,7 +117,7 @@ impl Regex {
         out.finish()
     }
 
-    // The same, by what the replacer gives for each match.
+    // Like [`Regex::replace_by_text`], but replaces each match by what the replacer gives for it.
     fn replace_each<'h, R: Replacer>(
         &self,
         haystack: &'h str,
@@ -138,7 +138,7 @@ impl Regex {
         out.finish()
     }
 
-    // The haystack with at most `limit` matches replaced, or all for 0.
+    // Returns the haystack with its first `limit` matches replaced, or all of them if `limit` is 0.
     fn replace_by<'h, R: Replacer>(
         &self,
         haystack: &'h str,

@@ -258,14 +258,14 @@ impl<'c, 't> Replacer for &'c CowStr<'t> {
     }
 }
 
-/// The text, if it holds no `$`.
+/// Returns the text, if it holds no `$`.
 fn plain(text: &str) -> Option<&str>
     ensures { answer_text result ≡ plain_text text.now }
 {
     if is_plain(text) { Some(text) } else { None }
 }
 
-/// Whether the text holds no `$`.
+/// Returns whether the text holds no `$`.
 fn is_plain(text: &str) -> bool
     ensures { result ≡ is_plain text.now }
 {

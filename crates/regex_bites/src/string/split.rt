@@ -15,7 +15,7 @@ pub struct Split<'r, 'h> {
     matches: Matches<'r, 'h>,
     // Where the next piece begins: at the end of the match before, if there was one.
     begin: usize,
-    // Whether the last piece was handed out.
+    // Whether the last piece was returned.
     done: bool,
     ghost border: { IsCharBoundary (haystack_of_matches matches) begin },
     ghost in_order: { BeginFrom begin (spans_left matches) } by { BeginFrom-prop begin (spans_left matches) },
@@ -26,7 +26,7 @@ impl<'r, 'h> Split<'r, 'h> {
     ghost use Rattle.regex_bites.specs.Split.{StepsOn, pieces_by, pieces_left, at_most_left, text_now};
     ghost use Rattle.std.specs.Prelude.{[]};
 
-    // No piece was handed out yet.
+    // Returns an iterator that has returned no piece yet.
     fn new(regex: &'r Regex, haystack: &'h str) -> Result<Split<'r, 'h>, AllocError>
         ensures all { IfOk result (λ s. pieces_left s ≡ pieces_in regex.now haystack.now) }
         ensures limited { IfOk result (λ s. (n : ℕ)
@@ -39,7 +39,7 @@ impl<'r, 'h> Split<'r, 'h> {
         })
     }
 
-    // The next piece.
+    // Returns the next piece.
     fn step(&mut self) -> Option<&'h str>
         ensures { StepsOn self.old result self.new }
     {
@@ -60,7 +60,7 @@ impl<'r, 'h> Split<'r, 'h> {
         }
     }
 
-    // The rest of the haystack as the last piece.
+    // Returns the rest of the haystack as the last piece.
     fn rest(&mut self) -> Option<&'h str>
         ensures steps { YieldsFirstBy text_now (λ s. pieces_by s []) self.old result self.new }
         ensures done { self.new.done ≡ true }
@@ -73,7 +73,7 @@ impl<'r, 'h> Split<'r, 'h> {
         Some(&haystack[self.begin..haystack.len()])
     }
 
-    /// The number of pieces that are left. It searches for each match that is left, and takes no memory.
+    /// Returns the number of pieces that are left. It searches for each match that is left, and allocates nothing.
     pub fn count(self) -> usize
         ensures { result ≡ length (pieces_left self.entry) }
     {
@@ -122,7 +122,7 @@ impl<'r, 'h> SplitN<'r, 'h> {
     ghost use Rattle.std.specs.Iterator.{YieldsFirstBy};
     ghost use Rattle.regex_bites.specs.Split.{limited_left, text_now};
 
-    // The next piece: the rest, if no more may come after it.
+    // Returns the next piece: the whole rest, if no more may come after it.
     fn step(&mut self) -> Option<&'h str>
         ensures { YieldsFirstBy text_now limited_left self.old result self.new }
     {
@@ -137,7 +137,7 @@ impl<'r, 'h> SplitN<'r, 'h> {
         }
     }
 
-    /// The number of pieces that are left. It searches for the matches between them, and takes no memory.
+    /// Returns the number of pieces that are left. It searches for the matches between them, and allocates nothing.
     pub fn count(mut self) -> usize
         ensures { result ≡ length (limited_left self.entry) }
     {

@@ -14,6 +14,6 @@ returns-clause-message c e is other =
     rw (← c.in-Ok.ensures.cases.0) c.in-Err.ensures.message in
     subst (λ (f : Fault). f ≢ Memory → Refuses (asked c.args.pattern.now c.args.flags c.args.size_limit c.args.nest_limit) f) same told other
 
--- want of memory is an error of its own
+-- out of memory is an error of its own
 pub returns-in-Ok-build-clause-known : goal.returns-in-Ok-build-clause-known
 returns-in-Ok-build-clause-known c other = (Memory, refl)

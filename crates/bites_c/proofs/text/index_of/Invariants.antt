@@ -3,7 +3,7 @@ use Rattle.std.specs.List.{prefix_len}
 use Rattle.bites_c.proofs.NameLemmas.{is_other}
 use Rattle.bites_c.proofs.text.index_of.Given as goal
 
--- so many names were passed over, each another one
+-- `number` names were passed over, and none of them is the name
 abbrev pub invariant-loop-own : goal.invariant-loop-own
 invariant-loop-own l =
     (l.number + prefix_len (is_other l.name) l.names ≡ prefix_len (is_other l.name) l.regex.names)

@@ -5,7 +5,7 @@ use Rattle.bites_bytes.specs.Names.{bytes_of}
 use Rattle.bites_c.proofs.NameLemmas.{none_there}
 use Rattle.bites_c.proofs.text.name_of.Goals as goal
 
--- no name came, so that there are not so many
+-- no name came, so the number is past the last group
 pub returns-in-None : goal.returns-in-None
 returns-in-None c =
     let ran = c.nth.ensures.ran in let n = c.args.group in

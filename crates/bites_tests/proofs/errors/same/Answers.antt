@@ -1,4 +1,4 @@
--- By the lemma on what `==` of two errors answers.
+-- By the lemma on what `==` of two errors returns.
 use Rattle.bites_text.proofs.ErrorLemmas.{same_errors}
 use Rattle.bites_tests.proofs.errors.same.Goals as goal
 

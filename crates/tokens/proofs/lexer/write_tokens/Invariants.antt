@@ -3,7 +3,7 @@ use Rattle.bites_filter.specs.Table.{IsFurthest}
 use Rattle.tokens.proofs.TokenLemmas.{IsSoFar}
 use Rattle.tokens.proofs.lexer.write_tokens.Given as goal
 
--- the rules stay, the token is the next one, and what was written is right so far
+-- the rules are unchanged, the token is the next one, and what was written so far is right
 abbrev pub invariant-loop-start : goal.invariant-loop-start
 invariant-loop-start g l =
     (l.rules ≡ l.initial.rules) × IsFurthest l.initial.rules l.text l.start l.token.rule l.token.end

@@ -14,7 +14,7 @@ some c = omega (arith, c.self.invariant.0.free.some, c.self.invariant.0.few)
 left : (c : After-truncate) → c.truncate.new.self.items ≡ 0 ∷ []
 left c = c.truncate.ensures.items ∙ first_left _ _ c.self.invariant.0.free
 
--- where rows are as wide as in the search before
+-- if rows are as wide as in the search before
 
 pub returns-then-slots_per_row-self-clause-nothing : goal.returns-then-slots_per_row-self-clause-nothing
 returns-then-slots_per_row-self-clause-nothing c =
@@ -29,7 +29,7 @@ returns-then-slots_per_row-self-clause-even c =
     length-rows_of c.self.inside.slots_per_row c.self.inside.row_count _
     ∙ sym (length-ref_counts_of c.self.inside.row_count c.truncate.new.self.items (omega (arith, ap length left, c.self.invariant.0.free.some, c.self.invariant.0.few)))
 
--- where they are not
+-- if they are not
 
 written : (c : After-resize) → 0 < c.self.inside.row_count → c.resize.new.self.items ≡ replicate c.args.slots_per_row no_slot
 written c rows =

@@ -1,6 +1,6 @@
 use Rattle.std.proofs.Common.{◌≡◌, ◌/◌, ◌+◌, ◌≤◌, ◌<◌, ◌⊎◌, length, map, take, drop, ap, sym, subst, inl, inr, ◌∙◌, arith}
 use Rattle.bites_spec.specs.Pieces.{text_at}
-use Rattle.bites_spec.specs.Slots.{taking_part}
+use Rattle.bites_spec.specs.Slots.{participating}
 use Rattle.bites_spec.specs.Replacer.{answer_text}
 use Rattle.bites_bytes.proofs.PartLemmas.{Written, nothing_written, passed_over, one_written, all_written}
 use Rattle.regex_bites.proofs.string.captures.Captures.extract.Goals as goal
@@ -32,9 +32,9 @@ pub returns-clause-parts : goal.returns-clause-parts
 returns-clause-parts c =
     let slots = c.args.self.now.slots in let hay = c.args.self.now.haystack in let l = c.loop-group in
     let e = c.len-group-end.ensures in
-    let enough = subst (λ n. n + 1 ≤ length (taking_part slots)) (sym l.auto.parts) (e.are.enough (length c.args.parts.now + 1) c.requires) in
+    let enough = subst (λ n. n + 1 ≤ length (participating slots)) (sym l.auto.parts) (e.are.enough (length c.args.parts.now + 1) c.requires) in
     let all = λ (done : (l.filled ≡ length l.parts) ⊎ (length slots / 2 ≤ l.group)).
-    all_written slots hay l.filled l.group l.parts l.invariant done enough e.are.whole ∙ ap (λ n. map (text_at hay) (take n (drop 1 (taking_part slots)))) l.auto.parts in
+    all_written slots hay l.filled l.group l.parts l.invariant done enough e.are.whole ∙ ap (λ n. map (text_at hay) (take n (drop 1 (participating slots)))) l.auto.parts in
     elim c.loop-group-test.branch [
       | else-loop-group-test w ↦ all (inr (omega (arith, e.slots, w.loop-group-test.false)))
       | then-loop-group-test+then-filled-parts w ↦ all (inl w.if-filled-parts.true)

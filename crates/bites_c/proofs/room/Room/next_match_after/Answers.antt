@@ -1,7 +1,7 @@
 use Rattle.std.proofs.Common.{option_map, sym, ◌∙◌}
 use Rattle.bites_spec.specs.Match.{span}
 use Rattle.bites_c.proofs.NextLemmas.{found_next, later_next}
-use Rattle.bites_c.proofs.room.Room.next_behind.Goals as goal
+use Rattle.bites_c.proofs.room.Room.next_match_after.Goals as goal
 
 pub returns-then-not-is_empty_at-clause-next : goal.returns-then-not-is_empty_at-clause-next
 returns-then-not-is_empty_at-clause-next c =

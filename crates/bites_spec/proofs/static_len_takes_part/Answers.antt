@@ -1,5 +1,0 @@
-use Rattle.bites_spec.proofs.Laws as laws
-use Rattle.bites_spec.proofs.static_len_takes_part.Goals as goal
-
-pub returns : goal.returns
-returns c = laws.static_len_takes_part
