@@ -15,9 +15,9 @@ use std::marker::Model;
 #[derive(Drop)]
 pub struct Ranges {
     list: RangeList,
-    /// Returns a bit for each ASCII character: whether it lies in one of the ranges.
+    /// A bit for each ASCII character: whether it lies in one of the ranges.
     ascii: [u64; 2],
-    /// Returns whether one of the ranges ends above ASCII.
+    /// Whether one of the ranges ends above ASCII.
     past_ascii: bool,
 }
 
