@@ -35,20 +35,9 @@ impl Report {
             return self
                 .leave_out("the pattern is not UTF-8, and a pattern of the crate is a text");
         };
-        let over_texts = row.kind == "text";
-        if !over_texts {
-            self.compare("bytes", row, surface::over_bytes(row, pattern));
-        }
+        self.compare("bytes", row, surface::over_bytes(row, pattern));
         if let Some(answers) = surface::over_texts(row, pattern) {
-            self.compare(
-                if over_texts {
-                    "texts"
-                } else {
-                    "texts, of bytes"
-                },
-                row,
-                answers,
-            );
+            self.compare("texts", row, answers);
         }
     }
 

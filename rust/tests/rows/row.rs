@@ -8,7 +8,6 @@ pub struct Row {
     /// The table and the line.
     pub place: String,
     pub call: String,
-    pub kind: String,
     pub flags: String,
     pub size_limit: Option<usize>,
     pub nest_limit: Option<u32>,
@@ -36,7 +35,7 @@ pub fn read(path: &Path) -> Vec<Row> {
 
 fn row(place: String, line: &str) -> Row {
     let columns: Vec<&str> = line.split('\t').collect();
-    let [_, call, kind, flags, size, nest, pattern, haystack, number, template, wanted, _] =
+    let [_, call, _, flags, size, nest, pattern, haystack, number, template, wanted, _] =
         columns[..]
     else {
         panic!("{place} has {} columns", columns.len());
@@ -44,7 +43,6 @@ fn row(place: String, line: &str) -> Row {
     let number_of = |column: &str| (column != "-").then(|| column.parse().expect("a number"));
     Row {
         call: call.into(),
-        kind: kind.into(),
         flags: flags.trim_matches('-').into(),
         size_limit: number_of(size),
         nest_limit: number_of(nest).map(|limit| u32::try_from(limit).expect("a nest limit")),
