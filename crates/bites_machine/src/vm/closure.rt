@@ -61,8 +61,6 @@ fn follow(
 ) -> Option<Frame>
     requires known { frame.state < length counted.old.states.now }
     requires fresh { IsNew (at frame.state here.now.place) counted.old.walked.visits }
-    requires place { here.now.place ≤ length here.now.haystack.now }
-    requires ch { here.now.ch ≡ next_character here.now.haystack.now here.now.place }
     requires ranges { HasRanges (state_at (states_of counted.old.states.now) frame.state) }
     requires stack { length scratch.old.stack.frames + length (targets_of
         (state_at (states_of counted.old.states.now) frame.state)) ≤ scratch.old.stack.room }
@@ -145,7 +143,6 @@ fn step_char(
 // Returns whether the assertion holds here. No assertion always holds.
 #[inline(always)]
 fn holds(look: &Option<Look>, here: &Position<'_>) -> bool
-    requires { here.now.place ≤ length here.now.haystack.now }
     ensures { result ≡ lets_on (option_map look_of look.now)
         here.now.haystack.now here.now.place }
 {
@@ -275,8 +272,6 @@ fn explore(
     frame: Frame,
     slots: &mut [Option<usize>],
 ) -> Option<Frame>
-    requires place { here.now.place ≤ length here.now.haystack.now }
-    requires ch { here.now.ch ≡ next_character here.now.haystack.now here.now.place }
     requires sound { AreSound (states_of counted.old.states.now) }
     requires ready { IsReady (states_of counted.old.states.now) here.now.place here.now.longest
         counted.old.walked scratch.old thread (frame ∷ scratch.old.stack.frames) (length slots.old) }
@@ -305,8 +300,6 @@ pub(super) fn epsilon_closure(
     thread: Thread,
     slots: &mut [Option<usize>],
 )
-    requires place { here.now.place ≤ length here.now.haystack.now }
-    requires ch { here.now.ch ≡ next_character here.now.haystack.now here.now.place }
     requires sound { AreSound (states_of counted.old.states.now) }
     requires empty { scratch.old.stack.frames ≡ [] }
     requires ready { IsReady (states_of counted.old.states.now) here.now.place here.now.longest

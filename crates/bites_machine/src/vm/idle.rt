@@ -139,10 +139,6 @@ pub(super) fn skip<'h>(
     first: u32,
     prefix: Option<&StartPrefix>,
 ) -> Position<'h>
-    requires place { from.place ≤ length from.haystack.now }
-    requires within { from.place + from.ch_len ≤ length from.haystack.now }
-    requires ch { from.ch ≡ next_character from.haystack.now from.place }
-    requires len { from.ch_len ≡ (piece from.haystack.now from.place).len }
     requires prefix { IfSome prefix (λ x.
         IsPrefix (states_of counted.old.states.now) first x.now) }
     requires before { (v : program.Configuration) → Among counted.old.walked.visits v
@@ -151,9 +147,6 @@ pub(super) fn skip<'h>(
     ensures haystack { result.haystack.now ≡ from.entry.haystack.now }
     ensures longest { result.longest ≡ from.entry.longest }
     ensures onward { from.entry.place ≤ result.place }
-    ensures within { result.place + result.ch_len ≤ length from.entry.haystack.now }
-    ensures ch { result.ch ≡ next_character from.entry.haystack.now result.place }
-    ensures len { result.ch_len ≡ (piece from.entry.haystack.now result.place).len }
     ensures before { (v : program.Configuration) → Among counted.new.walked.visits v
         → v.place < result.place }
     ensures passes { Passes from.entry.haystack.now from.entry.longest from.entry.place result.place

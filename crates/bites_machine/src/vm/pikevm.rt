@@ -51,9 +51,6 @@ pub(super) fn piece_at(haystack: &[u8], place: usize, longest: bool) -> Position
     ensures haystack { result.haystack.now ≡ haystack.now }
     ensures place { result.place ≡ place }
     ensures longest { result.longest ≡ longest }
-    ensures ch { result.ch ≡ next_character haystack.now place }
-    ensures len { result.ch_len ≡ (piece haystack.now place).len }
-    ensures within { place + result.ch_len ≤ length haystack.now }
 {
     let (ch, ch_len) = decode_lossy(&haystack[place..]);
     let ch = if ch_len > 0 { Some(ch) } else { None };
@@ -101,8 +98,6 @@ fn close_thread(
     thread: Thread,
     slots: &mut [Option<usize>],
 )
-    requires place { here.now.place ≤ length here.now.haystack.now }
-    requires ch { here.now.ch ≡ next_character here.now.haystack.now here.now.place }
     requires sound { AreSound (states_of counted.old.states.now) }
     requires known { thread.state < length counted.old.states.now }
     requires within_step { InvariantWithinStep (states_of counted.old.states.now) here.now.place
@@ -129,8 +124,6 @@ fn close_threads(
     threads: &Threads,
     slots: &mut [Option<usize>],
 )
-    requires place { here.now.place ≤ length here.now.haystack.now }
-    requires ch { here.now.ch ≡ next_character here.now.haystack.now here.now.place }
     requires sound { AreSound (states_of counted.old.states.now) }
     requires known { (t : thread.Thread) → Among threads.now.threads t
         → t.state < length counted.old.states.now }
@@ -162,8 +155,6 @@ fn close_all(
     prefix: Option<&StartPrefix>,
     slots: &mut [Option<usize>],
 )
-    requires place { here.now.place ≤ length here.now.haystack.now }
-    requires ch { here.now.ch ≡ next_character here.now.haystack.now here.now.place }
     requires sound { AreSound (states_of counted.old.states.now) }
     requires known { (t : thread.Thread) → Among threads.now.threads t
         → t.state < length counted.old.states.now }
@@ -209,9 +200,6 @@ pub(super) fn step_threads(
     prefix: Option<&StartPrefix>,
     slots: &mut [Option<usize>],
 )
-    requires place { here.now.place ≤ length here.now.haystack.now }
-    requires ch { here.now.ch ≡ next_character here.now.haystack.now here.now.place }
-    requires len { here.now.ch_len ≡ (piece here.now.haystack.now here.now.place).len }
     requires program { IsOfProgram (states_of counted.old.states.now) first }
     requires prefix { IfSome first (λ q. IfSome prefix (λ x.
         IsPrefix (states_of counted.old.states.now) q x.now)) }
@@ -248,10 +236,6 @@ fn skip_idle<'h>(
     threads: usize,
     prefix: Option<&StartPrefix>,
 ) -> Position<'h>
-    requires place { from.place ≤ length from.haystack.now }
-    requires within { from.place + from.ch_len ≤ length from.haystack.now }
-    requires ch { from.ch ≡ next_character from.haystack.now from.place }
-    requires len { from.ch_len ≡ (piece from.haystack.now from.place).len }
     requires prefix { IfSome first (λ q. IfSome prefix (λ x.
         IsPrefix (states_of counted.old.states.now) q x.now)) }
     requires before { (v : program.Configuration) → Among counted.old.walked.visits v
@@ -260,9 +244,6 @@ fn skip_idle<'h>(
     ensures haystack { result.haystack.now ≡ from.entry.haystack.now }
     ensures longest { result.longest ≡ from.entry.longest }
     ensures onward { from.entry.place ≤ result.place }
-    ensures within { result.place + result.ch_len ≤ length from.entry.haystack.now }
-    ensures ch { result.ch ≡ next_character from.entry.haystack.now result.place }
-    ensures len { result.ch_len ≡ (piece from.entry.haystack.now result.place).len }
     ensures before { (v : program.Configuration) → Among counted.new.walked.visits v
         → v.place < result.place }
     ensures passes { PassesIdle from.entry.haystack.now from.entry.longest from.entry.place
@@ -287,19 +268,14 @@ fn step<'h>(
     prefix: Option<&StartPrefix>,
     slots: &mut [Option<usize>],
 ) -> Position<'h>
-    requires place { here.place ≤ length here.haystack.now }
-    requires within { here.place + here.ch_len ≤ length here.haystack.now }
-    requires ch { here.ch ≡ next_character here.haystack.now here.place }
-    requires len { here.ch_len ≡ (piece here.haystack.now here.place).len }
     requires program { IsOfProgram (states_of counted.old.states.now) first }
     requires prefix { IfSome first (λ q. IfSome prefix (λ x.
         IsPrefix (states_of counted.old.states.now) q x.now)) }
     requires between { InvariantBetweenSteps (states_of counted.old.states.now) here.place
         counted.old.walked scratch.old threads.old (length slots.old) }
     ensures states { counted.new.states ≡ counted.old.states }
+    ensures haystack { result.haystack.now ≡ here.entry.haystack.now }
     ensures onward { here.entry.place ≤ result.place }
-    ensures within { result.place + result.ch_len ≤ length here.entry.haystack.now }
-    ensures len { result.ch_len ≡ (piece here.entry.haystack.now result.place).len }
     ensures searched { PlacesSearched here.entry.haystack.now here.entry.longest here.entry.place
         result.place (states_of counted.old.states.now) first counted.old.walked
         counted.new.walked scratch.old scratch.new threads.old.threads threads.new.threads

@@ -1,9 +1,10 @@
 //! A place of a haystack, with the character that stands there.
 
-ghost use Rattle.std.specs.Prelude.{◌≡◌, ◌<◌, ◌==◌, ℕ};
+ghost use Rattle.std.specs.Prelude.{◌≡◌, ◌+◌, ◌<◌, ◌≤◌, ◌==◌, ℕ, length};
 ghost use Rattle.bites_spec.specs.Program.{AreRanges};
 ghost use Rattle.bites_spec.specs.Range.{in_ranges};
-ghost use Rattle.bites_machine.specs.Ends.{code_of, takes_by};
+ghost use Rattle.bites_spec.specs.Utf8.{piece};
+ghost use Rattle.bites_machine.specs.Ends.{code_of, next_character, takes_by};
 
 use crate::ranges::Ranges;
 
@@ -22,6 +23,9 @@ pub struct Position<'h> {
     pub ch_len: usize,
     pub longest: bool,
     ghost code_is: { code ≡ code_of ch },
+    pub ghost ch_is: { ch ≡ next_character haystack.now place },
+    pub ghost len_is: { ch_len ≡ (piece haystack.now place).len },
+    pub ghost within: { place + ch_len ≤ length haystack.now },
 }
 
 impl Position<'_> {

@@ -1,4 +1,4 @@
-use Rattle.std.proofs.Common.{◌≡◌, None, ap, ◌∙◌, sym, arith}
+use Rattle.std.proofs.Common.{None, ap, ◌∙◌, sym, arith}
 use Rattle.std.specs.Prelude.{replicate}
 use Rattle.bites_spec.specs.Measure.{groups_of}
 use Rattle.bites_machine.specs.Names.{filled}

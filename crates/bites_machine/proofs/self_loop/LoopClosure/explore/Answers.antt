@@ -1,4 +1,4 @@
-use Rattle.std.proofs.Common.{◌≡◌, ℕ, List, [], ◌∷◌, refl, sym, ap, ◌∙◌, subst}
+use Rattle.std.proofs.Common.{ℕ, List, ◌∷◌, refl, sym, ap, ◌∙◌, subst}
 use Rattle.bites_machine.specs.States.{states_of}
 use Rattle.bites_machine.specs.LoopClosure.{HasLooped}
 use Rattle.bites_machine.proofs.self_loop.LoopClosure.explore.Goals as goal

@@ -22,7 +22,7 @@ returns-in-Char-clause-moves c =
     subst (λ st. VisitsTo c.args.here.now.haystack.now c.args.here.now.longest c.args.here.now.place st c.args.thread c.args.frame c.args.scratch.now c.step_char.new.scratch
     c.args.slots.now c.args.slots.now None) e
     (visits_char c.args.here.now.haystack.now c.args.here.now.longest c.args.here.now.place c.in-Char.target c.in-Char.ch c.args.thread c.args.frame c.args.scratch.now c.step_char.new.scratch
-    c.args.slots.now c.is_char-takes.result (c.is_char-takes.ensures ∙ ap (takes_by (λ d. d == c.in-Char.ch)) c.requires.ch) c.step_char.ensures c.requires.pending c.requires.starts)
+    c.args.slots.now c.is_char-takes.result (c.is_char-takes.ensures ∙ ap (takes_by (λ d. d == c.in-Char.ch)) c.args.here.now.ch_is) c.step_char.ensures c.requires.pending c.requires.starts)
 
 pub returns-in-Ranges-clause-moves : goal.returns-in-Ranges-clause-moves
 returns-in-Ranges-clause-moves c =
@@ -30,7 +30,7 @@ returns-in-Ranges-clause-moves c =
     subst (λ st. VisitsTo c.args.here.now.haystack.now c.args.here.now.longest c.args.here.now.place st c.args.thread c.args.frame c.args.scratch.now c.step_char-in-Ranges.new.scratch
     c.args.slots.now c.args.slots.now None) e
     (visits_ranges c.args.here.now.haystack.now c.args.here.now.longest c.args.here.now.place c.in-Ranges.target c.in-Ranges.ranges c.args.thread c.args.frame c.args.scratch.now
-    c.step_char-in-Ranges.new.scratch c.args.slots.now c.is_in-takes.result (c.is_in-takes.ensures ∙ ap (takes_by (in_ranges c.in-Ranges.ranges)) c.requires.ch)
+    c.step_char-in-Ranges.new.scratch c.args.slots.now c.is_in-takes.result (c.is_in-takes.ensures ∙ ap (takes_by (in_ranges c.in-Ranges.ranges)) c.args.here.now.ch_is)
     c.step_char-in-Ranges.ensures c.requires.pending c.requires.starts)
 
 pub returns-in-Splits-clause-moves : goal.returns-in-Splits-clause-moves

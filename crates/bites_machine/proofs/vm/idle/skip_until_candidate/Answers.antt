@@ -1,4 +1,5 @@
-use Rattle.std.proofs.Common.{◌≡◌, ℕ, List, Bor, false, ◌<◌, ◌+◌, Option, Some, length, sym, ap, ◌∙◌, subst, arith}
+use Rattle.std.proofs.Common.{◌≡◌, ℕ, List, Bor, false, ◌<◌, ◌+◌, Option, Some, length, sym, ap, ap₂, ◌∙◌, subst, arith}
+use Rattle.bites_spec.specs.Utf8.{piece}
 use Rattle.bites_spec.specs.Walks.{Among}
 use Rattle.bites_machine.specs.Ends.{next_character}
 use Rattle.bites_machine.specs.States.{states_of}
@@ -30,24 +31,26 @@ places-preserved c =
     let inv = c.places.invariant in
     let ascii = c.skip_ascii-place.ensures in
     let here = c.piece_at-here.result in
+    let ch_is = here.ch_is ∙ ap₂ next_character e.haystack e.place in
+    let len_is = here.len_is ∙ ap₂ (λ (h : List ℕ) (i : ℕ). (piece h i).len) e.haystack e.place in
     let place = c.skip_ascii-place.result in
     let x = c.args.prefix.now in
     let hay = c.args.haystack.now in
     let states = states_of c.args.counted.now.states.now in
     let was = c.skip_ascii-place.new.counted.walked in
     let now = c.visit_prefix.new.self.walked in
-    let stands : next_character hay place ≡ Some c.in-Some.ch = sym e.ch ∙ c.in-Some.is in
-    let some : 0 < here.ch_len = subst (λ n. 0 < n) (sym e.len) (some_taken hay place c.in-Some.ch stands) in
+    let stands : next_character hay place ≡ Some c.in-Some.ch = sym ch_is ∙ c.in-Some.is in
+    let some : 0 < here.ch_len = subst (λ n. 0 < n) (sym len_is) (some_taken hay place c.in-Some.ch stands) in
     let later : place < place + here.ch_len = omega (arith, some) in
     let out : TakesNone x (next_character hay place) = subst (λ (o : Option ℕ). TakesNone x o) (sym stands) (sym c.may_take.ensures ∙ c.if-may_take.false) in
     record {
       onward = omega (arith, inv.onward, ascii.onward);
-      within = omega (arith, e.within, e.place, ap length e.haystack);
+      within = omega (arith, here.within, e.place, ap length e.haystack);
       states = c.visit_prefix.ensures.states ∙ ascii.states ∙ inv.states;
       before = λ v h. visited_behind place (place + here.ch_len) x.visited.value was.visits later ascii.before v
           (subst (λ vs. Among vs v) c.visit_prefix.ensures.visits h);
       passes = λ longest. skips_on hay longest c.args.from place here.ch_len states c.args.first x c.args.counted.now.walked was now
-          c.requires.prefix out (λ a. let from = c.requires.apart a in omega (arith, from, inv.onward, ascii.onward)) e.len some
+          c.requires.prefix out (λ a. let from = c.requires.apart a in omega (arith, from, inv.onward, ascii.onward)) len_is some
           c.visit_prefix.ensures.visits c.visit_prefix.ensures.looks
           (passes_further hay longest c.args.from c.places.place place states c.args.first c.args.counted.now.walked c.places.counted.walked was (inv.passes longest)
           (subst (λ (b : Bor (List State)). Passes hay longest c.places.place place (states_of b.now) c.args.first c.places.counted.walked was) inv.states (ascii.passes longest)));

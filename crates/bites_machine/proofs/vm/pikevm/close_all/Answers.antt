@@ -54,7 +54,7 @@ returns-in-Some-idle_prefix-clause-walks c =
     let prefix : IsPrefix states q x = subst (λ (o : Option (Bor StartPrefix)). IfSome o (λ (y : Bor StartPrefix). IsPrefix states q y.now)) idle.one given in
     let some = c.close_threads.ensures.walks in
     let out : RestTakesNone x (seen_here here.place c.close_threads.new.counted.walked.visits) (next_character here.haystack.now here.place) =
-    ⊎_elim (λ none. inl (subst (λ (o : Option ℕ). TakesNone x o) c.requires.ch none))
+    ⊎_elim (λ none. inl (subst (λ (o : Option ℕ). TakesNone x o) c.args.here.now.ch_is none))
     (λ has. inr (
       has.0,
       has.1,

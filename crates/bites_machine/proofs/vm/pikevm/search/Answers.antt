@@ -1,5 +1,5 @@
 use Rattle.std.specs.Prelude.{IfSome}
-use Rattle.std.proofs.Common.{◌≡◌, ◌≤◌, ◌<◌, ◌+◌, ℕ, false, List, length, refl, sym, ap, ap₂, ◌∙◌, subst, arith, Bor}
+use Rattle.std.proofs.Common.{◌≡◌, ◌≤◌, ◌<◌, ◌+◌, ℕ, false, List, length, refl, sym, ap, ◌∙◌, subst, arith, Bor}
 use Rattle.bites_spec.specs.Utf8.{piece}
 use Rattle.bites_spec.specs.Program as program
 use Rattle.bites_machine.specs.States.{states_of}
@@ -12,7 +12,6 @@ use Rattle.bites_machine.specs.declared.state.State.{State}
 use Rattle.bites_machine.specs.declared.vm.closure.Scratch.{Scratch}
 use Rattle.bites_machine.proofs.refine.SkipLemmas.{between_skipped}
 use Rattle.bites_machine.specs.declared.prefix.StartPrefix.{StartPrefix}
-use Rattle.bites_machine.specs.Ends.{next_character}
 use Rattle.bites_machine.specs.Sweep.{InvariantBetweenSteps}
 use Rattle.bites_machine.proofs.refine.PlaceSteps.{ends_by, some_piece, of_first, between_first, between_later, room_between, reached_first, reached_next, result_by}
 use Rattle.bites_machine.proofs.refine.HuntSteps.{searched_on}
@@ -59,11 +58,6 @@ step-last-requires c =
     let mid = c.pass_self_loop-reached.new.counted in
     let states = ap (λ s. states_of s.now) (on.states ∙ inv.states) in
     record {
-      place = subst (λ i. i ≤ length c.piece_at-here.result.haystack.now) (sym e.place)
-          (subst (λ (h : List ℕ). reached.place ≤ length h) (sym e.haystack) on.within);
-      within = omega (arith, e.within, e.place, ap length e.haystack);
-      ch = e.ch ∙ sym (ap₂ next_character e.haystack e.place);
-      len = e.len ∙ sym (ap₂ (λ h i. (piece h i).len) e.haystack e.place);
       program = (p, is.states ∙ sym states, is.well, of_first (λ q. q ≡ p.start) reached.is_found c.first_of-begins.result c.args.request.now.first c.first_of-begins.ensures (sym is.start));
       prefix = of_first (λ q. IfSome c.args.request.now.prefix (λ (x : Bor StartPrefix). IsPrefix (states_of mid.states.now) q x.now))
           reached.is_found c.first_of-begins.result c.args.request.now.first c.first_of-begins.ensures
@@ -86,12 +80,12 @@ places-preserved c =
     let new = c.step-last.new in
     let last = c.step-last.result in
     let states = ap (λ s. states_of s.now) (on.states ∙ inv.states) in
-    let lens = done.len ∙ ap (λ (h : List ℕ). (piece h last.place).len) e.haystack in
+    let lens = last.len_is ∙ ap (λ (h : List ℕ). (piece h last.place).len) (done.haystack ∙ e.haystack) in
     let on_ends : ends_by c.args.request.now.earliest last.ch_len c.is_found_with-is_found.result c.len.result ≡ false = sym c.is_over.ensures ∙ c.if-is_over.false in
     let some : 0 < last.ch_len = some_piece c.args.request.now.earliest last.ch_len c.is_found_with-is_found.result c.len.result on_ends in
     let later : last.place + 1 ≤ last.place + last.ch_len = omega (arith, some) in
     record {
-      within = omega (arith, done.within, ap length e.haystack);
+      within = omega (arith, last.within, ap length done.haystack, ap length e.haystack);
       len = done.slots ∙ on.len ∙ inv.len;
       states = done.states ∙ on.states ∙ inv.states;
       max_slots = done.max_slots ∙ inv.max_slots;
@@ -120,7 +114,7 @@ returns-clause-search_result c p is =
     let new = c.step-last.new in
     let last = c.step-last.result in
     let states = ap (λ s. states_of s.now) (on.states ∙ inv.states) in
-    let lens = done.len ∙ ap (λ (h : List ℕ). (piece h last.place).len) e.haystack in
+    let lens = last.len_is ∙ ap (λ (h : List ℕ). (piece h last.place).len) (done.haystack ∙ e.haystack) in
     result_by p c.args.request.now.haystack.now c.args.request.now.longest c.args.request.now.earliest c.args.request.now.start c.args.slots.now last.place last.ch_len c.is_found_with-is_found.result
     new.counted.walked new.scratch.rows new.threads.threads new.slots c.len.result
     (searched_on p c.args.request.now.haystack.now c.args.request.now.longest c.args.request.now.earliest c.args.request.now.start c.args.slots.now reached.place c.piece_at-here.result.place last.place c.args.request.now.first
@@ -146,4 +140,4 @@ places-smaller c =
     let last = c.step-last.result in
     let on : ends_by c.args.request.now.earliest last.ch_len c.is_found_with-is_found.result c.len.result ≡ false = sym c.is_over.ensures ∙ c.if-is_over.false in
     let some : 0 < last.ch_len = some_piece c.args.request.now.earliest last.ch_len c.is_found_with-is_found.result c.len.result on in
-    omega (arith, some, c.step-last.ensures.within, c.step-last.ensures.onward, c.pass_self_loop-reached.ensures.onward, c.piece_at-here.ensures.place, ap length c.piece_at-here.ensures.haystack)
+    omega (arith, some, last.within, ap length c.step-last.ensures.haystack, c.step-last.ensures.onward, c.pass_self_loop-reached.ensures.onward, c.piece_at-here.ensures.place, ap length c.piece_at-here.ensures.haystack)

@@ -1,5 +1,4 @@
-use Rattle.std.proofs.Common.{ℕ, List, length, sym, ap, ◌∙◌, subst}
-use Rattle.bites_spec.specs.Utf8.{piece}
+use Rattle.std.proofs.Common.{ℕ, List, length, sym, ap, subst}
 use Rattle.bites_spec.specs.Program as program
 use Rattle.bites_machine.specs.States.{states_of}
 use Rattle.bites_machine.specs.Sweep.{InvariantBetweenSteps, PassesIdle}
@@ -27,6 +26,6 @@ returns-clause-searched c =
     let states = states_of c.args.counted.now.states.now in
     skipped_then_searched from.haystack.now from.longest from.place states c.args.first here.place here.ch_len here.haystack.now here.longest (states_of mid.states.now)
     c.args.counted.now.walked mid.walked new.counted.walked c.args.scratch.now new.scratch c.args.threads.now.threads new.threads.threads c.args.slots.now new.slots
-    on.haystack on.longest (ap (λ s. states_of s.now) on.states) (on.len ∙ ap (λ (h : List ℕ). (piece h here.place).len) (sym on.haystack))
+    on.haystack on.longest (ap (λ s. states_of s.now) on.states) here.len_is
     (subst (λ (n : ℕ). PassesIdle from.haystack.now from.longest from.place here.place states c.args.first n c.args.counted.now.walked mid.walked) c.len.ensures on.passes)
     c.step_threads.ensures.searched

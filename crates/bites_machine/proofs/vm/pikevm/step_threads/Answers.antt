@@ -1,4 +1,4 @@
-use Rattle.std.proofs.Common.{ℕ, ◌+◌, List, Option, None, length, refl, sym, subst}
+use Rattle.std.proofs.Common.{ℕ, ◌+◌, List, Option, None, length, refl, sym, subst, arith}
 use Rattle.bites_spec.specs.Program as program
 use Rattle.bites_machine.specs.Threads.{Listed}
 use Rattle.bites_machine.specs.States.{states_of}
@@ -28,7 +28,7 @@ returns-clause-searched c =
     c.args.counted.now.walked c.close_all.new.counted.walked c.args.scratch.now new c.args.threads.now.threads c.close_all.new.scratch.next.threads c.args.slots.now c.close_all.new.slots =
     record {
       searches = place_searches c.args.here.now.haystack.now c.args.here.now.longest c.args.here.now.place (states_of c.args.counted.now.states.now) c.args.first c.args.threads.now.threads
-          c.args.counted.now.walked c.close_all.new.counted.walked cleared c.close_all.new.scratch c.args.slots.now c.close_all.new.slots c.close_all.ensures.walks refl c.clear-2.ensures.threads c.requires.between.visits c.args.here.now.ch_len c.requires.len;
+          c.args.counted.now.walked c.close_all.new.counted.walked cleared c.close_all.new.scratch c.args.slots.now c.close_all.new.slots c.close_all.ensures.walks refl c.clear-2.ensures.threads c.requires.between.visits c.args.here.now.ch_len c.args.here.now.len_is;
     } in
     subst (λ (x : Listed). PlaceSearched c.args.here.now.haystack.now c.args.here.now.longest c.args.here.now.place c.args.here.now.ch_len (states_of c.args.counted.now.states.now) c.args.first
     c.args.counted.now.walked c.close_all.new.counted.walked c.args.scratch.now
@@ -40,7 +40,7 @@ returns-clause-between c =
     let cleared : Scratch = record { visited_set = c.clear.new.self; stack = c.args.scratch.now.stack; rows = c.args.scratch.now.rows; next = c.clear-2.new.self; first_match = None } in
     let again = between_again c.args.here.now.haystack.now c.args.here.now.longest c.args.here.now.place (states_of c.args.counted.now.states.now) c.args.first c.args.threads.now.threads
     c.args.counted.now.walked c.close_all.new.counted.walked cleared c.close_all.new.scratch c.args.slots.now c.close_all.new.slots c.close_all.ensures.walks refl c.clear-2.ensures.threads c.requires.between.visits
-    c.requires.program.0 c.requires.program.1 c.requires.program.2 c.requires.place c.requires.program.3 c.args.threads.now c.requires.between.known c.requires.between.room in
+    c.requires.program.0 c.requires.program.1 c.requires.program.2 (omega (arith, c.args.here.now.within)) c.requires.program.3 c.args.threads.now c.requires.between.known c.requires.between.room in
     subst (λ (y : Listed). InvariantBetweenSteps (states_of c.args.counted.now.states.now) (c.args.here.now.place + 1) c.close_all.new.counted.walked
     (record { visited_set = c.close_all.new.scratch.visited_set; stack = c.close_all.new.scratch.stack; rows = c.close_all.new.scratch.rows; next = y; first_match = c.close_all.new.scratch.first_match })
     c.swap.new.self (length c.close_all.new.slots)) (sym c.swap.ensures.other)
@@ -65,6 +65,6 @@ returns-clause-alone c alone =
     subst (λ (o : Option ℕ). ClosesAll hay longest place states o threads was now cleared c.close_all.new.scratch slots left) alone c.close_all.ensures.walks in
     let searched : ThreadsSearched hay longest place c.args.here.now.ch_len states was now c.args.scratch.now new threads c.close_all.new.scratch.next.threads slots left =
     record {
-      steps = threads_steps hay longest place states threads was now cleared c.close_all.new.scratch slots left walks refl c.clear-2.ensures.threads c.requires.between.visits c.args.here.now.ch_len c.requires.len;
+      steps = threads_steps hay longest place states threads was now cleared c.close_all.new.scratch slots left walks refl c.clear-2.ensures.threads c.requires.between.visits c.args.here.now.ch_len c.args.here.now.len_is;
     } in
     subst (λ (x : Listed). ThreadsSearched hay longest place c.args.here.now.ch_len states was now c.args.scratch.now new threads x.threads slots left) (sym c.swap.ensures.this) searched

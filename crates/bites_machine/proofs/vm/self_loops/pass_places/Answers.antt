@@ -1,4 +1,5 @@
-use Rattle.std.proofs.Common.{◌≡◌, List, Some, true, ◌<◌, ◌+◌, length, refl, sym, ap, ◌∙◌, subst, arith}
+use Rattle.std.proofs.Common.{◌≡◌, ℕ, List, Some, true, ◌<◌, ◌+◌, length, refl, sym, ap, ap₂, ◌∙◌, subst, arith}
+use Rattle.bites_spec.specs.Utf8.{piece}
 use Rattle.bites_spec.specs.Walks.{Among}
 use Rattle.bites_spec.specs.Program.{Configuration}
 use Rattle.bites_machine.specs.Ends.{next_character}
@@ -22,6 +23,8 @@ places-preserved c =
     let e = c.piece_at-here.ensures in
     let inv = c.places.invariant in
     let here = c.piece_at-here.result in
+    let ch_is = here.ch_is ∙ ap₂ next_character e.haystack e.place in
+    let len_is = here.len_is ∙ ap₂ (λ (h : List ℕ) (i : ℕ). (piece h i).len) e.haystack e.place in
     let place = c.places.place in
     let x = c.args.body.now in
     let hay = c.args.haystack.now in
@@ -29,17 +32,17 @@ places-preserved c =
     let was = c.places.counted.walked in
     let now = c.visit.new.counted.walked in
     let ch = c.in-Some.ch in
-    let stands : next_character hay place ≡ Some ch = sym e.ch ∙ c.in-Some.is in
-    let some : 0 < here.ch_len = subst (λ n. 0 < n) (sym e.len) (some_taken hay place ch stands) in
+    let stands : next_character hay place ≡ Some ch = sym ch_is ∙ c.in-Some.is in
+    let some : 0 < here.ch_len = subst (λ n. 0 < n) (sym len_is) (some_taken hay place ch stands) in
     let later : place < place + here.ch_len = omega (arith, some) in
     let stays : c.stays.result ≡ true = c.if-not-stays.false in
     record {
       onward = omega (arith, inv.onward);
-      within = omega (arith, e.within, e.place, ap length e.haystack);
+      within = omega (arith, here.within, e.place, ap length e.haystack);
       states = c.visit.ensures.states ∙ inv.states;
       before = λ v h. visits_behind x (lent c.args.rest) place (place + here.ch_len) was.visits later inv.before v (subst (λ (vs : List Configuration). Among vs v) c.visit.ensures.visits h);
       stays = stays_on hay states x c.args.first c.args.from place c.places.last here.ch_len ch (lent c.args.rest) c.args.counted.now.walked was now c.requires.self_loop inv.onward
-          e.len stands some (c.stays.ensures.stays stays)
+          len_is stands some (c.stays.ensures.stays stays)
           (rest_stays hay states x c.args.first c.args.rest c.args.from place ch inv.onward c.requires.prefix c.requires.apart c.requires.covered (c.stays.ensures.rest stays))
           inv.before c.visit.ensures.visits c.visit.ensures.looks inv.stays;
     }
