@@ -30,7 +30,7 @@ pub spans_of_captures : (r : Regex) → IsCompiled r → (hay : List ℕ) → sp
 spans_of_captures r is hay =
     sym (known_spans (spans_in r hay)) ∙ ap (map known) (sym (captures_have_spans r is hay)) ∙ known_groups (captures_in r hay)
 
-same_texts : {A B : Type 0} (f : A → B) (text : List ℕ) (xs : List A) → map (λ y. text) (map f xs) ≡ map (λ x. text) xs
+pub same_texts : {A B : Type 0} (f : A → B) (text : List ℕ) (xs : List A) → map (λ y. text) (map f xs) ≡ map (λ x. text) xs
 same_texts f text [] = refl
 same_texts f text (x ∷ xs) = ap (λ ts. text ∷ ts) (same_texts f text xs)
 

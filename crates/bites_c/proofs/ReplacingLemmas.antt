@@ -11,10 +11,11 @@ use Rattle.bites_spec.specs.Replacer.{expanded}
 use Rattle.bites_bytes.specs.ReplaceLimit.{taken, bound}
 use Rattle.bites_bytes.specs.Replacing.{replaces_none}
 use Rattle.bites_bytes.proofs.ReplacingLemmas.{taken_limited, limited_map}
-use Rattle.bites_bytes.proofs.ReplacedLemmas.{nothing_iff, limited_none, mapped_none, spans_of_captures}
+use Rattle.bites_bytes.proofs.ReplacedLemmas.{nothing_iff, limited_none, mapped_none, spans_of_captures, same_texts}
 use Rattle.bites_c.specs.Replaced.{IsReplaced, with_template, with_text}
 use Rattle.bites_c.specs.Replacing.{IsFresh, spans_left, captures_left, Ends}
 use Rattle.bites_c.specs.declared.replacing.Replacing.{Replacing}
+use Rattle.std.proofs.lemmas.List.{map-id}
 
 module _ {C : Type 0} (items : Replacing → List C) (span_of : C → Span) (text_of : C → List ℕ) where
   -- from nothing written to nothing left
@@ -29,14 +30,6 @@ module _ {C : Type 0} (items : Replacing → List C) (span_of : C → Span) (tex
 
     pub end_nothing : (t.last ≡ None) ↔ (items s ≡ [])
     end_nothing = nothing_iff t.last (items t) (items s) ends.1 (ends.0.nothing ∙ ap (λ l. replaces_none l (items s)) fresh.last)
-
-same_map : {A : Type 0} (xs : List A) → map (λ x. x) xs ≡ xs
-same_map [] = refl
-same_map (x ∷ xs) = ap (λ ys. x ∷ ys) (same_map xs)
-
-same_texts : {A B : Type 0} (f : A → B) (text : List ℕ) (xs : List A) → map (λ y. text) (map f xs) ≡ map (λ x. text) xs
-same_texts f text [] = refl
-same_texts f text (x ∷ xs) = ap (λ ts. text ∷ ts) (same_texts f text xs)
 
 -- what was finished is the haystack with its matches replaced
 finished : {V : Type 0} (view : V → List ℕ) (cs : List Captured) (text : List ℕ) (last : Option ℕ) (bytes : List ℕ) (o : Option V) →
@@ -75,7 +68,7 @@ module _ (r : Regex) (hay : List ℕ) (n : ℕ) (s t : Replacing) (fresh : IsFre
       (λ e. d.0 (b.0 (sym (spans_start is) ∙ a.0 e)), λ e. a.1 (spans_start is ∙ b.1 (d.1 e)))
       (end_written (spans_left r) (λ x. x) (λ x. text) hay n s t fresh ends
       ∙ ap (λ ss. replaced_from hay 0 (map (λ x. x) ss) (map (λ x. text) ss)) (spans_start is)
-      ∙ ap (λ ss. replaced_from hay 0 ss (map (λ x. text) spans)) (same_map spans)
+      ∙ ap (λ ss. replaced_from hay 0 ss (map (λ x. text) spans)) (map-id spans)
       ∙ ap (λ (l : List Span). replaced_from hay 0 spans (map (λ x. text) l)) (limited_map span_in n cs)
       ∙ ap (replaced_from hay 0 spans) (same_texts span_in text (limited n cs)))
       h

@@ -1,6 +1,6 @@
 -- Matches replaced by a template, on the tree.
 use Rattle.std.proofs.Common.{◌≡◌, ◌≢◌, ℕ, zero, suc, Bool, true, false, not, cond, List, [], ◌∷◌, map, Option, Some, None, refl, ap, ◌∙◌, subst, inl, inr, eq-eqb, ◌⊎◌}
-use Rattle.std.proofs.lemmas.Bool.{cases_Bool}
+use Rattle.std.proofs.lemmas.Bool.{cases_Bool, and_parts}
 use Rattle.std.specs.Prelude.{◌==◌, flat_map, ◌&&◌}
 use Rattle.bites_spec.specs.Code.{code}
 use Rattle.bites_spec.specs.Found.{NoMatch}
@@ -16,10 +16,6 @@ use Rattle.bites_spec.specs.Template.{byte, Cuts, plain, ends, stands_for}
 use Rattle.bites_spec.specs.Expansion.{text_in, index_in}
 use Rattle.bites_spec.specs.TemplateLaws.{ExpandsOnce}
 use Rattle.bites_filter.specs.Substituted.{Substitutes}
-
-both_true : (a b : Bool) → a && b ≡ true → (a ≡ true) × (b ≡ true)
-both_true true b e = (refl, e)
-both_true false b e = let never : false ≡ true = e in absurd (cc)
 
 nothing_replaced : (text template : List ℕ) (n : ℕ) →
     replaced text n (map span_in []) (map (λ c. expanded c template) (limited n [])) ≡ text
@@ -52,7 +48,7 @@ plain_answer template x e = elim (cases_Bool (is_plain template)) [
 plain_cuts : (text : List ℕ) → is_plain text ≡ true → Cuts false text (map byte text)
 plain_cuts [] e = ends
 plain_cuts (b ∷ bs) e =
-    let both = both_true (not (b == code "$")) (is_plain bs) e in
+    let both = and_parts (not (b == code "$")) (is_plain bs) e in
     plain b bs (map byte bs) (is_other b both.0) (plain_cuts bs both.1)
 
 bytes_stand : (largest : ℕ) (text_of : ℕ → Option (List ℕ)) (index_of : List ℕ → Option ℕ) (text : List ℕ) →

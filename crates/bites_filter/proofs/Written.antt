@@ -1,6 +1,6 @@
 -- Texts that are written one after another.
 use Rattle.std.proofs.Common.{◌≡◌, ℕ, ◌-◌, ◌<◌, Bool, true, false, List, [], ◌++◌, length, Option, Some, None, refl, sym, ap, ◌∙◌, inl, inr, ◌⊎◌, eqb-true, append_assoc, arith}
-use Rattle.std.proofs.lemmas.Bool.{cases_Bool}
+use Rattle.std.proofs.lemmas.Bool.{cases_Bool, and_parts}
 use Rattle.std.proofs.lemmas.Grind.{common_steps}
 use Rattle.std.proofs.lemmas.List.{append-nil}
 use borrow.Author.Tests.{ltb-true}
@@ -25,14 +25,10 @@ appends_kept (Some a) None c x f k = absurd f
 appends_kept (Some a) (Some b) None x f k = absurd k
 appends_kept (Some a) (Some b) (Some c) x f k = k ∙ f
 
-both_true : (a b : Bool) → a && b ≡ true → (a ≡ true) × (b ≡ true)
-both_true true b e = (refl, e)
-both_true false b e = let never : false ≡ true = e in absurd (cc)
-
 -- a line is its text followed by its line feed
 pub line_is : (line : List ℕ) → line ≡ strip_last 10 line ++ line_feed_of line
 line_is line = elim (cases_Bool (ends_with_byte 10 line)) [
-  | inl is ↦ let both = both_true (nat_lt 0 (length line)) (slice_index line (length line - 1) == 10) is in
+  | inl is ↦ let both = and_parts (nat_lt 0 (length line)) (slice_index line (length line - 1) == 10) is in
       let some : 0 < length line = ltb-true 0 (length line) both.0 in
       let last : slice_index line (length line - 1) ≡ 10 = eqb-true (slice_index line (length line - 1)) 10 both.1 in
       rw is (grind (arith, common_steps, some, last))

@@ -1,5 +1,5 @@
 -- What is left when memory is refused.
-use Rattle.std.specs.Prelude.{◌≡◌, ℕ, ◌<◌, ◌⊎◌, List, [], ◌∷◌, ◌++◌, length, Option, Some, None, MatchOption, Result, Ok, Err, MatchResult}
+use Rattle.std.specs.Prelude.{◌≡◌, ℕ, ◌<◌, List, [], ◌∷◌, ◌++◌, length, Option, MatchOption, Result, Ok, Err, MatchResult}
 use Rattle.std.specs.Iterator.{Drains}
 
 -- `front` is a prefix of `whole`

@@ -72,15 +72,6 @@ pub skip_blank-nil : (inside : Bool) (t : Text) → t ≡ [] → skip_blank insi
 unfolding skip_blank
 skip_blank-nil inside t at = rw at refl
 
-pub skip_white_shorter : (t : Text) → length (skip_white t) ≤ length t
-unfolding skip_white
-skip_white_shorter [] = omega arith
-skip_white_shorter (c ∷ t) = ⊎_elim (λ e. rw e (omega (arith, skip_white_shorter t))) (λ e. rw e (omega arith)) (either (is_whitespace c))
-  where
-    either : (x : Bool) → (x ≡ true) ⊎ (x ≡ false)
-    either true = inl refl
-    either false = inr refl
-
 pub skip_white_more : (t u : Text) (c : ℕ) → t ≡ c ∷ u → is_whitespace c ≡ true → skip_white t ≡ skip_white u
 unfolding skip_white
 skip_white_more t u c at passes = rw at (rw passes refl)

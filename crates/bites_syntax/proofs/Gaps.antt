@@ -8,6 +8,7 @@ use Rattle.bites_spec.specs.Class.{is_scalar, complement, following, AreCanonica
 use Rattle.bites_spec.proofs.classes.RangeLemmas.{Within, is_range, none_below, tail_is_canonical, scalar_within, within_scalar, following_within, after_following, in_first}
 use Rattle.bites_spec.proofs.classes.ClassLemmas.{StartsFrom, none_before, starts_lower, starts_behind, put_before}
 use Rattle.bites_syntax.proofs.Merging.{in_range-within, in_range-above}
+use Rattle.bites_syntax.proofs.RangeLists.{starts_anywhere}
 
 -- the scalar value before one, over the surrogates
 abbrev pub preceding : ℕ → ℕ
@@ -133,10 +134,6 @@ fills low (r ∷ ranges) start g from =
         same = λ c scalar above. after_first_part r ranges (gaps (following r.1) ranges) g f c scalar (omega (arith, equal, above));
       }
     ]
-
-starts_anywhere : (ranges : List Range) → StartsFrom 0 ranges
-starts_anywhere [] = tt
-starts_anywhere (r ∷ ranges) = omega arith
 
 -- the gaps between the canonical ranges of a set list all other characters
 pub lists_gaps : (ranges : List Range) → AreCanonical ranges → Lists (gaps 0 ranges) (complement (in_ranges ranges))

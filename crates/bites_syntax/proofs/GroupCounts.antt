@@ -8,7 +8,7 @@ at_least_one : (n x : ℕ) → 1 ≤ n → x ≤ n * x
 at_least_one zero x h = absurd (omega (arith, h))
 at_least_one (suc n) x h = rw (suc-mul n x) (omega arith)
 
-repeated_more : (min : ℕ) (most : Option ℕ) (is_empty : Bool) (b : Size) → IsCount min most → b.states ≤ (repeated_size min most is_empty b).states
+pub repeated_more : (min : ℕ) (most : Option ℕ) (is_empty : Bool) (b : Size) → IsCount min most → b.states ≤ (repeated_size min most is_empty b).states
 repeated_more zero None true b count = omega (arith, at_least_one 1 b.states (omega arith))
 repeated_more zero None false b count = omega (arith, at_least_one 1 b.states (omega arith))
 repeated_more (suc min) None is_empty b count =

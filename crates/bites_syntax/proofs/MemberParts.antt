@@ -15,6 +15,7 @@ use Rattle.bites_syntax.specs.Members.{Adds, AnswersLeading, IsOperatorError}
 use Rattle.bites_syntax.specs.Parts.{IsErrorOf, error_in}
 use Rattle.bites_syntax.specs.Steps.{each_of}
 use Rattle.bites_syntax.proofs.CursorLemmas.{each_by, each_more, each_ends}
+use Rattle.bites_spec.proofs.brackets.BracketFirst.{nothing}
 
 -- another way to write what the reader does
 pub Adds_by : (old new : List Range) (r : Result (Unit {0}) Error) (rest : Text) (f g : Members → Set → ReadResult Set) → ((go : Members) (set : Set) → g go set ≡ f go set) →
@@ -126,16 +127,11 @@ leading_bracket n flags negated t u rest c (Ok lead) room at is gap end =
 leading_bracket n flags negated t u rest c (Err e) room at is gap end =
     ap error_in (no_dashes n flags negated t u c room at is) ∙ rw (at, is, ← gap, end.0, end.1) refl
 
--- no steps are needed at the end
-shortest : (t : Text) → length t ≤ 0 → t ≡ []
-shortest [] none = refl
-shortest (c ∷ t) none = absurd (omega (arith, none))
-
 -- the members after a gap
 pub enter : (n : ℕ) (flags : Flags) (t u : Text) → length t ≤ n → u ≡ skip flags t →
     (m : ℕ) × (length u ≤ suc m) × ((set : Set) → class_members n flags set t ≡ member (class_members m flags) m flags set u)
 enter zero flags t u room gap =
-    let none : u ≡ [] = shortest u (omega (arith, room, skip_shorter flags t, ap length gap)) in
+    let none : u ≡ [] = nothing u (omega (arith, room, skip_shorter flags t, ap length gap)) in
     (zero, omega (arith, ap length none), λ set. rw none refl)
 enter (suc n) flags t u room gap = (n, omega (arith, room, skip_shorter flags t, ap length gap), λ set. rw gap refl)
 

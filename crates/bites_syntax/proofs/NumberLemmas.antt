@@ -9,11 +9,11 @@ use Rattle.bites_spec.specs.Message as message
 use Rattle.bites_spec.specs.OperatorFault.{greatest_number}
 use Rattle.bites_spec.specs.Pattern.{Text, Flags, number, next_is, skip, skip_white}
 use Rattle.bites_spec.specs.Reader.{decimal, decimal_by, choose, answer, stop}
-use Rattle.bites_spec.proofs.characters.EachLemmas.{each_shorter, each_sound}
+use Rattle.bites_spec.proofs.characters.EachLemmas.{each_shorter, each_sound, skip_white_shorter}
 use Rattle.bites_text.specs.declared.error.Error.TheVariants.{InvalidDecimal}
 use Rattle.bites_syntax.specs.Parts.{error_in}
 use Rattle.bites_syntax.specs.Steps.{each_of}
-use Rattle.bites_syntax.proofs.CursorLemmas.{each_by, each_more, skip_white_shorter}
+use Rattle.bites_syntax.proofs.CursorLemmas.{each_by, each_more}
 use Rattle.bites_syntax.specs.Numbers.{AgreeBelow}
 
 -- the number that digits write after those that wrote this number

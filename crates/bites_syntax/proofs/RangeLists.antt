@@ -33,7 +33,7 @@ pub merged_at_end : (done ranges : List Range) (i : ℕ) (last : Option Range) �
     done ++ merged last (drop i ranges) ≡ merged None ranges → done ++ merged last [] ≡ merged None ranges
 merged_at_end done ranges i last all so_far = ap (λ x. done ++ x) (sym (at_drop_all (merged last) ranges i all)) ∙ so_far
 
-starts_anywhere : (ranges : List Range) → StartsFrom 0 ranges
+pub starts_anywhere : (ranges : List Range) → StartsFrom 0 ranges
 starts_anywhere [] = tt
 starts_anywhere (r ∷ ranges) = omega arith
 

@@ -31,7 +31,7 @@ parts_end [] (suc i) h = refl
 parts_end (t ∷ ts) zero h = absurd (omega arith)
 parts_end (t ∷ ts) (suc i) h = parts_end ts i (omega arith)
 
-greatest-append : (xs ys : List ℕ) → greatest (xs ++ ys) ≡ max (greatest xs) (greatest ys)
+pub greatest-append : (xs ys : List ℕ) → greatest (xs ++ ys) ≡ max (greatest xs) (greatest ys)
 greatest-append [] ys = omega arith
 greatest-append (x ∷ xs) ys = omega (arith, greatest-append xs ys)
 

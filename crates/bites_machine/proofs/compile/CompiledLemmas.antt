@@ -1,5 +1,5 @@
 -- The program of a tree holds the tree, and has no fault.
-use Rattle.std.proofs.Common.{◌≡◌, ℕ, ◌+◌, ◌*◌, ◌%◌, ◌≤◌, ◌<◌, Bool, true, false, not, cond, ◌&&◌, List, [], ◌∷◌, length, Option, Some, None, Result, Ok, Err, OnOk, IfErr, refl, sym, true≢false, lt-ltb, le-leb, eq-eqb, arith}
+use Rattle.std.proofs.Common.{◌≡◌, ℕ, ◌+◌, ◌*◌, ◌%◌, ◌≤◌, ◌<◌, Bool, true, false, cond, ◌&&◌, List, [], ◌∷◌, length, Option, Some, None, Result, Ok, Err, OnOk, IfErr, refl, true≢false, lt-ltb, le-leb, eq-eqb, arith}
 use Rattle.std.specs.Prelude.{nat_lt, nat_le, ◌==◌, sum_by}
 use Rattle.std.proofs.lemmas.Bool.Decides.{nat_tests}
 use Rattle.bites_spec.specs.Tree.{Tree, group, captures_len, IsReduced}
@@ -8,7 +8,7 @@ use Rattle.bites_spec.specs.Program as program
 use Rattle.bites_spec.specs.Program.{State, state_at, IsWellFormed}
 use Rattle.bites_spec.specs.Built.{Built, HasForm}
 use Rattle.bites_spec.specs.ProgramFaults.{ProgramFault, first_fault}
-use Rattle.bites_spec.proofs.runs.FaultLemmas.{first_fault-IsWellFormed}
+use Rattle.bites_spec.proofs.runs.FaultLemmas.{first_fault-IsWellFormed, passed}
 use Rattle.bites_machine.specs.Emitted.{emit}
 use Rattle.bites_machine.specs.Sizes.{held}
 use Rattle.bites_machine.specs.Compiled.{whole, program_of_tree, LimitsBy, RefusesTree, RefusesBy}
@@ -50,10 +50,6 @@ pub length-compiled : (n : ℕ) (t : Tree) → IsReduced t → length (program_o
 length-compiled n t reduced =
     omega (arith, (Grows-grouped (emit t) (size_of t).states (Grows-emit t reduced) 0 0 (program.match ∷ [])).len)
 
-no_fault : (b : Bool) (f : ProgramFault) (rest : Option ProgramFault) → b ≡ true → rest ≡ None → cond (not b) (Some f) rest ≡ None
-no_fault true f rest e h = h
-no_fault false f rest e h = absurd (true≢false (sym e))
-
 not_many : (b : Bool) (f : ProgramFault) (rest : Option ProgramFault) → b ≡ false → rest ≡ None → cond b (Some f) rest ≡ None
 not_many false f rest e h = h
 not_many true f rest e h = absurd (true≢false e)
@@ -72,7 +68,7 @@ first_fault-compiled n t room classes few =
     let slots = 2 * n in
     let long = (whole_forms t).extends.longer in
     let s = Sound-grouped len slots (λ l. HasForm l t) (emit t) (Forms-emit t) (Sound-emit len slots t classes (omega arith)) 0 (omega arith) 0 (program.match ∷ []) refl (omega (arith, long)) (omega arith) in
-    not_many _ _ _ (few_enough len few) (no_fault _ _ _ (even_slots n (omega arith)) (no_fault _ _ _ (lt-ltb (whole t).from len s.entered) s.fine))
+    not_many _ _ _ (few_enough len few) (passed _ _ _ (even_slots n (omega arith)) (passed _ _ _ (lt-ltb (whole t).from len s.entered) s.fine))
 
 -- The program of a tree is well-formed.
 pub IsWellFormed-compiled : (n : ℕ) (t : Tree) → captures_len t ≤ n → HasClasses t → length (program_of_tree n t).states ≤ 4294967295 →

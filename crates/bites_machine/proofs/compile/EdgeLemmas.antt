@@ -1,5 +1,5 @@
 -- The edges of a state, apart into those that take a character and those that take nothing.
-use Rattle.std.proofs.Common.{◌≡◌, ℕ, ◌+◌, ◌<◌, Bool, true, false, cond, ◌&&◌, List, [], ◌∷◌, ◌++◌, map, reverse, Option, Some, None, refl, sym, ap, subst, inl, inr, ⊎_elim, ◌⊎◌, ltb-true}
+use Rattle.std.proofs.Common.{◌≡◌, ℕ, ◌+◌, ◌<◌, Bool, true, false, cond, ◌&&◌, List, [], ◌∷◌, map, reverse, Option, Some, None, refl, sym, ap, subst, inl, inr, ⊎_elim, ◌⊎◌, ltb-true}
 use Rattle.std.specs.Prelude.{nat_lt, ◌==◌, if◌then◌else◌}
 use mathlib.Core.List.{reverse-cons}
 use Rattle.bites_spec.specs.Utf8.{piece, character}
@@ -9,17 +9,13 @@ use Rattle.bites_spec.specs.Walks.{Among}
 use Rattle.bites_spec.specs.Program.{State, Configuration, at, edges, taking, looking, char, ranges, splits, goto, capture, fail, match}
 use Rattle.bites_spec.proofs.programs.SlotLemmas.{Among-left, Among-right}
 use Rattle.bites_machine.specs.Ends.{next_character, targets_over, targets_at}
-
--- what is among one list or another is among both together, and conversely
-pub Among-apart : {A : Type 0} (xs ys : List A) (x : A) → Among (xs ++ ys) x → Among xs x ⊎ Among ys x
-Among-apart [] ys x h = inr h
-Among-apart (y ∷ xs) ys x h = ⊎_elim (λ (e : y ≡ x). inl (inl e)) (λ later. ⊎_elim (λ a. inl (inr a)) inr (Among-apart xs ys x later)) h
+use Rattle.bites_spec.proofs.programs.BuiltLemmas.{Among-append}
 
 pub Among-reverse : (xs : List ℕ) (x : ℕ) → Among (reverse xs) x → Among xs x
 Among-reverse [] x h = h
 Among-reverse (y ∷ xs) x h =
     ⊎_elim (λ a. inr (Among-reverse xs x a)) (⊎_elim (λ (e : y ≡ x). inl e) (λ (no : ⊥). absurd no))
-    (Among-apart (reverse xs) (y ∷ []) x (subst (λ l. Among l x) (reverse-cons y xs) h))
+    (Among-append (reverse xs) (y ∷ []) x (subst (λ l. Among l x) (reverse-cons y xs) h))
 
 -- the order of a list does not matter to what is among it
 pub Among-reversed : (xs : List ℕ) (x : ℕ) → Among xs x → Among (reverse xs) x

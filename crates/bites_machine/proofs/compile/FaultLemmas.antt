@@ -1,5 +1,5 @@
 -- What is written for a tree has no fault.
-use Rattle.std.proofs.Common.{◌≡◌, ℕ, zero, suc, ◌+◌, ◌-◌, ◌*◌, ◌<◌, ◌≤◌, Bool, true, false, cond, not, ◌&&◌, max, List, [], ◌∷◌, ◌++◌, length, Option, Some, None, refl, arith, lt-ltb, le-leb, slice_set}
+use Rattle.std.proofs.Common.{◌≡◌, ℕ, zero, suc, ◌+◌, ◌-◌, ◌*◌, ◌<◌, ◌≤◌, Bool, true, false, cond, not, ◌&&◌, List, [], ◌∷◌, ◌++◌, length, Option, Some, None, refl, arith, lt-ltb, le-leb, slice_set}
 use Rattle.std.specs.Prelude.{nat_lt}
 use Rattle.std.specs.List.{list_all}
 use Rattle.std.specs.Option.{option_or}
@@ -16,6 +16,7 @@ use Rattle.bites_spec.proofs.runs.FirstLemmas.{or_none}
 use Rattle.bites_machine.specs.Emitted.{Emitted, Emitter, pushed, in_front, again, choice, options, bounded, around, loop, star, optional_loop, copies_up_to, repeated, class_state, grouped, Branches, emit, emit_all, emit_each}
 use Rattle.bites_machine.specs.Classes.{HasClasses, AllHaveClasses}
 use Rattle.bites_machine.proofs.compile.EmitLemmas.{length_pushed, FormsBody, Forms-emit, Forms-options, Forms-loop, Forms-emit_each}
+use Rattle.bites_syntax.proofs.TreeParts.{greatest-append}
 
 pub both_true : (a b : Bool) → a ≡ true → b ≡ true → (a && b) ≡ true
 both_true true b e f = f
@@ -35,10 +36,6 @@ first_among-set f [] i s e h = e
 first_among-set f (x ∷ xs) zero s e h = none_none (f s) _ h (or_none (f x) (first_among f xs) e).1
 first_among-set f (x ∷ xs) (suc i) s e h =
     let both = or_none (f x) (first_among f xs) e in none_none (f x) _ both.0 (first_among-set f xs i s both.1 h)
-
-pub greatest-append : (xs ys : List ℕ) → greatest (xs ++ ys) ≡ max (greatest xs) (greatest ys)
-greatest-append [] ys = omega arith
-greatest-append (x ∷ xs) ys = omega (arith, greatest-append xs ys)
 
 follows : (c d : ℕ) → following c < d → c < d
 follows c d h = grind (arith, nat_tests)

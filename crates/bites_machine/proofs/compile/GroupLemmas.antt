@@ -1,36 +1,22 @@
 -- What is known of the groups of a tree.
-use Rattle.std.proofs.Common.{◌≡◌, ◌≢◌, ℕ, zero, suc, ◌+◌, ◌*◌, ◌<◌, ◌≤◌, Bool, true, false, cond, List, [], ◌∷◌, ◌++◌, length, map, drop, get_or, Option, Some, None, refl, sym, ap, ◌∙◌, subst, arith, length-append, ◌⊎◌, inl, inr, ⊎_elim, slice_set, eq-eqb, ne_eqb}
+use Rattle.std.proofs.Common.{◌≡◌, ◌≢◌, ℕ, zero, suc, ◌+◌, ◌*◌, ◌<◌, ◌≤◌, cond, List, [], ◌∷◌, ◌++◌, length, map, drop, get_or, Option, None, refl, sym, ap, ◌∙◌, subst, arith, length-append, ◌⊎◌, inl, inr, ⊎_elim, slice_set, eq-eqb, ne_eqb}
 use Rattle.std.specs.Prelude.{replicate}
 use Rattle.std.proofs.lemmas.List.{length-set, get_or-set_same, get_or-set_other, get_or-replicate, length-replicate, ext_get_or}
 use Rattle.std.proofs.lemmas.List.FromFn.{length-map-range_with_len, get_or-map-range_with_len}
 use Rattle.std.proofs.lemmas.Bool.{cases_lt}
 use Rattle.bites_spec.specs.Walks.{IsNew, AllApart}
-use Rattle.bites_spec.specs.Tree.{Tree, Trees, empty, char, class, look, repetition, group, sequence, alternation, no_tree, tree_and, trees_of, groups_in, groups_in_all, greatest, captures_len, is_nullable, IsCount, IsReduced, AllAreReduced}
-use Rattle.bites_spec.specs.Measure.{Size, groups_of, name_in, group_name, groups_left, size_of, repeated_size}
+use Rattle.bites_spec.specs.Tree.{Tree, Trees, empty, char, class, look, repetition, group, sequence, alternation, no_tree, tree_and, trees_of, groups_in, groups_in_all, greatest, captures_len, is_nullable, IsReduced, AllAreReduced}
+use Rattle.bites_spec.specs.Measure.{groups_of, name_in, group_name, groups_left, size_of}
 use Rattle.bites_machine.specs.Names.{filled}
 use Rattle.bites_spec.proofs.regex.LeftLemmas.{number, groups_in-map}
-use Rattle.bites_machine.proofs.compile.FaultLemmas.{greatest-append}
 use Rattle.bites_machine.proofs.compile.LengthLemmas.{product}
-use Rattle.bites_machine.proofs.compile.EmittedLemmas.{loop-room, exact-room, several-room, ranged_or_once-room}
+use Rattle.bites_syntax.proofs.TreeParts.{greatest-append}
+use Rattle.bites_syntax.proofs.GroupCounts.{repeated_more}
 
 -- a copy at least
 positive_times : (n s : ℕ) → 0 < n → s ≤ n * s
 positive_times zero s h = absurd (omega arith)
 positive_times (suc n) s h = omega (arith, product n s)
-
-body_fits : (min : ℕ) (most : Option ℕ) (is_empty : Bool) (b : Size) → IsCount min most → b.states ≤ (repeated_size min most is_empty b).states
-body_fits zero None true b fit = omega arith
-body_fits zero None false b fit = omega arith
-body_fits (suc n) None is_empty b fit = omega (arith, loop-room is_empty b (suc n) (omega arith))
-body_fits zero (Some zero) is_empty b fit = absurd (omega (arith, fit.1))
-body_fits zero (Some (suc zero)) is_empty b fit = omega arith
-body_fits zero (Some (suc (suc m))) is_empty b fit =
-    omega (arith, several-room is_empty b (suc (suc m)) (omega arith), positive_times (suc (suc m)) b.states (omega arith))
-body_fits (suc n) (Some most) is_empty b fit =
-    ⊎_elim
-    (λ (h : suc n < most). omega (arith, ranged_or_once-room is_empty b (suc n) most h (λ e. absurd (omega (arith, e))), positive_times (suc n) b.states (omega arith)))
-    (λ (h : most ≤ suc n). omega (arith, exact-room is_empty b (suc n) most (omega arith) (omega (arith, fit.0))))
-    (cases_lt (suc n) most)
 
 mutual
   -- there are no more groups than states
@@ -40,7 +26,7 @@ mutual
   groups_fit (class rs) reduced = omega arith
   groups_fit (look l) reduced = omega arith
   groups_fit (repetition min most greedy t) reduced =
-      omega (arith, groups_fit t reduced.1, body_fits min most (is_nullable t) (size_of t) reduced.0)
+      omega (arith, groups_fit t reduced.1, repeated_more min most (is_nullable t) (size_of t) reduced.0)
   groups_fit (group k name t) reduced = omega (arith, groups_fit t reduced.1)
   groups_fit (sequence ts) reduced = all_groups_fit ts reduced.1
   groups_fit (alternation ts) reduced = omega (arith, all_groups_fit ts reduced.1)

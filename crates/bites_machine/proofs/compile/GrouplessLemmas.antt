@@ -4,7 +4,7 @@ use Rattle.std.specs.Prelude.{option_map, ◌&&◌, if◌then◌else◌}
 use Rattle.std.specs.List.{range_with_len}
 use Rattle.bites_spec.specs.Tree.{Tree, Trees, empty, char, class, look, repetition, group, sequence, alternation, no_tree, tree_and, count, groups_in, groups_in_all, greatest, captures_len, IsReduced, AllAreReduced}
 use Rattle.bites_spec.specs.Measure.{both, agreed, repeated_count, groups_of, groups_of_all, name_in, group_name, groups_left, static_count, static_sum, static_agreed, static_captures_len}
-use Rattle.bites_machine.proofs.compile.FaultLemmas.{greatest-append}
+use Rattle.bites_syntax.proofs.TreeParts.{greatest-append}
 
 mutual
   no_groups : (t : Tree) → IsReduced t → greatest (groups_in t) ≡ 0 → groups_of t ≡ []

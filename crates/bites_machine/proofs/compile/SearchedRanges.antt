@@ -1,12 +1,12 @@
 -- A search in ranges that rise.
-use Rattle.std.proofs.Common.{◌≡◌, ℕ, zero, suc, ◌+◌, ◌<◌, ◌≤◌, Bool, true, false, ◌&&◌, List, [], ◌∷◌, length, get_or, refl, ap, ap₂, ◌∙◌, subst, arith, ⊎_elim, le-leb}
+use Rattle.std.proofs.Common.{◌≡◌, ℕ, zero, suc, ◌+◌, ◌<◌, ◌≤◌, true, false, ◌&&◌, List, [], ◌∷◌, length, get_or, ap, ap₂, ◌∙◌, subst, arith, ⊎_elim, le-leb}
 use Rattle.std.specs.Prelude.{nat_le}
 use Rattle.std.proofs.lemmas.Bool.{cases_lt}
 use Rattle.std.proofs.lemmas.List.Folds.{list_any_at, list_any_none}
 use Rattle.std.proofs.lemmas.List.{get_or_default}
-use Rattle.std.proofs.lemmas.Bool.Decides.{nat_tests}
 use Rattle.bites_spec.specs.Range.{Range, in_range, in_ranges}
 use Rattle.bites_spec.specs.Program.{AreRanges}
+use Rattle.bites_spec.proofs.characters.DigitLemmas.{and_false, not_below}
 
 -- the range at an index
 abbrev pub range_at : List Range → ℕ → Range
@@ -62,13 +62,6 @@ hit rs m c within from to =
     list_any_at (λ r. in_range r c) rs m (0, 0) within
     (ap₂ ◌&&◌ (le-leb (range_at rs m).0 c from) (le-leb c (range_at rs m).1 to))
 
-and_false_right : (a b : Bool) → b ≡ false → (a && b) ≡ false
-and_false_right true b e = e
-and_false_right false b e = refl
-
-not_le : (a b : ℕ) → b < a → nat_le a b ≡ false
-not_le a b lt = grind (arith, nat_tests)
-
 -- no range is left between the two parts
 pub no_hit : (rs : List Range) (n m c : ℕ) → AllEndBelow rs n c → AllBeginAbove rs m c → m ≤ n → in_ranges rs c ≡ false
 no_hit rs n m c below above le =
@@ -77,6 +70,6 @@ no_hit rs n m c below above le =
     misses : (k : ℕ) → k < length rs → in_range (range_at rs k) c ≡ false
     misses k lt =
         ⊎_elim
-        (λ (less : k < n). let ends = below k less in and_false_right (nat_le (range_at rs k).0 c) (nat_le c (range_at rs k).1) (not_le c (range_at rs k).1 ends))
-        (λ (ge : n ≤ k). let begins = above k (omega (arith, le, ge)) lt in ap (λ b. b && nat_le c (range_at rs k).1) (not_le (range_at rs k).0 c begins))
+        (λ (less : k < n). let ends = below k less in and_false (nat_le (range_at rs k).0 c) (nat_le c (range_at rs k).1) (not_below c (range_at rs k).1 ends))
+        (λ (ge : n ≤ k). let begins = above k (omega (arith, le, ge)) lt in ap (λ b. b && nat_le c (range_at rs k).1) (not_below (range_at rs k).0 c begins))
         (cases_lt k n)

@@ -6,14 +6,14 @@ use mathlib.Core.List.{reverse-cons}
 use Rattle.bites_spec.specs.Walks.{Among, IsNew, AllApart}
 use Rattle.bites_spec.specs.Program.{State, Configuration, at, state_at}
 use Rattle.bites_spec.proofs.programs.SlotLemmas.{Among-left, Among-right}
-use Rattle.bites_machine.proofs.compile.EdgeLemmas.{Among-apart}
+use Rattle.bites_spec.proofs.programs.BuiltLemmas.{Among-append}
 
 -- the order of a list does not matter to what is among it
 pub Among-reverse : {A : Type 0} (xs : List A) (x : A) → Among (reverse xs) x → Among xs x
 Among-reverse [] x h = h
 Among-reverse (y ∷ xs) x h =
     ⊎_elim (λ a. inr (Among-reverse xs x a)) (⊎_elim (λ (e : y ≡ x). inl e) (λ (no : ⊥). absurd no))
-    (Among-apart (reverse xs) (y ∷ []) x (subst (λ l. Among l x) (reverse-cons y xs) h))
+    (Among-append (reverse xs) (y ∷ []) x (subst (λ l. Among l x) (reverse-cons y xs) h))
 
 pub Among-reversed : {A : Type 0} (xs : List A) (x : A) → Among xs x → Among (reverse xs) x
 Among-reversed [] x h = h
@@ -25,7 +25,7 @@ Among-reversed (y ∷ xs) x h =
 pub AllApart_push : {A : Type 0} (xs : List A) (x : A) → AllApart xs → IsNew x xs → AllApart (xs ++ x ∷ [])
 AllApart_push [] x apart new = ((λ h. h), tt)
 AllApart_push (y ∷ xs) x apart new = (
-  (λ h. ⊎_elim (λ a. apart.0 a) (⊎_elim (λ (e : x ≡ y). new (inl (sym e))) (λ (no : ⊥). no)) (Among-apart xs (x ∷ []) y h)),
+  (λ h. ⊎_elim (λ a. apart.0 a) (⊎_elim (λ (e : x ≡ y). new (inl (sym e))) (λ (no : ⊥). no)) (Among-append xs (x ∷ []) y h)),
   AllApart_push xs x apart.1 (λ h. new (inr h)),
 )
 

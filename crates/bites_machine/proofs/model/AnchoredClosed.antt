@@ -11,15 +11,14 @@ use Rattle.bites_spec.specs.Anchored.{NoRunFrom, LeastEndFrom, VisitedAllFrom, V
 use Rattle.bites_spec.proofs.programs.SlotLemmas.{Among-left, Among-right}
 use Rattle.bites_machine.specs.Machine.{Thread, Walking, Searching, moved, dropped}
 use Rattle.bites_machine.specs.Anchored.{resumed, Steps, at_place, SteppedTo, Stepped}
-use Rattle.bites_machine.proofs.model.SweepLemmas.{places-past, Runs-forward}
+use Rattle.bites_machine.proofs.model.SweepLemmas.{Runs-forward}
 use Rattle.bites_machine.proofs.model.PathLemmas.{closed_walk}
 use Rattle.bites_machine.proofs.model.MachineCases.{taken, gone, Keeps, walk_keeps}
 use Rattle.bites_machine.proofs.model.MachineSearch.{configurations_of, option_or_cases}
 use Rattle.bites_machine.proofs.model.MachineClosed.{Waits, IsClosed, IsHere, IsClosing, here_on, closing_keeps, never, seen_among}
 use Rattle.bites_machine.proofs.model.AnchoredRoots.{FoundFrom, place_rooted, stepped_rooted, stepped_keeps, still_open, done_cases, end_rooted}
-
-none_some : {A : Type 0} (x : A) → None ≡ Some x → ⊥
-none_some x e = cc
+use Rattle.std.proofs.lemmas.Option.{none-some}
+use Rattle.bites_spec.proofs.runs.PlaceLemmas.{places-past}
 
 module _ (p : Program) (hay : List ℕ) (longest : Bool) (width : ℕ) (start : ℕ) where
   -- the start of the search
@@ -74,7 +73,7 @@ module _ (p : Program) (hay : List ℕ) (longest : Bool) (width : ℕ) (start : 
 
   both_none : (o q : Option Thread) → option_or o q ≡ None → (o ≡ None) × (q ≡ None)
   both_none None q e = (refl, e)
-  both_none (Some u) q e = absurd (none_some u (sym e))
+  both_none (Some u) q e = absurd (none-some u (sym e))
 
   -- one place more
   module _ (s t : Searching) (place : Steps hay longest p width s t) (now : IsShutYet s) where
@@ -141,7 +140,7 @@ module _ (p : Program) (hay : List ℕ) (longest : Bool) (width : ℕ) (start : 
       not_early : (a : Bool) (o : Option Thread) → o ≡ None → (a && is_some o) ≡ true → ⊥
       not_early true None e is = true≢false (sym is)
       not_early false None e is = true≢false (sym is)
-      not_early a (Some u) e is = none_some u (sym e)
+      not_early a (Some u) e is = none-some u (sym e)
 
       no_threads : t.best ≡ None → t.threads ≡ []
       no_threads none =
@@ -196,7 +195,7 @@ module _ (p : Program) (hay : List ℕ) (longest : Bool) (width : ℕ) (start : 
 
         first_match : end.last.last.first_match ≡ Some b
         first_match =
-            ⊎_elim (λ here. here) (λ before. absurd (none_some b (sym none ∙ before.1)))
+            ⊎_elim (λ here. here) (λ before. absurd (none-some b (sym none ∙ before.1)))
             (option_or_cases end.last.last.first_match end.before.best b (ap (λ (x : Searching). x.best) end.last.is ∙ is))
 
         found : FoundFrom p hay longest width start fits (configurations_of end.before.place end.before.visits end.last.last.seen) end.before.place b

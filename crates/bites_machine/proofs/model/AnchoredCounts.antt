@@ -6,12 +6,12 @@ use Rattle.bites_spec.specs.Program.{Program, Configuration, at, IsWellFormed}
 use Rattle.bites_spec.specs.Counts.{IsBounded}
 use Rattle.bites_machine.specs.Machine.{Searching}
 use Rattle.bites_machine.specs.Anchored.{resumed, Steps, at_place, SteppedTo, Stepped}
-use Rattle.bites_machine.proofs.compile.EdgeLemmas.{Among-apart}
-use Rattle.bites_machine.proofs.model.SweepLemmas.{places-here}
 use Rattle.bites_machine.proofs.model.MachineCases.{walk_keeps}
-use Rattle.bites_machine.proofs.model.MachineTrace.{Among-mapped}
 use Rattle.bites_machine.proofs.model.MachineCounts.{IsCounted, counted_keeps, HasCounted, led, counted_bounded}
 use Rattle.bites_machine.proofs.model.AnchoredRoots.{AreRooted, are_traced, rooted_traced, resumed_rooted, rooted_start, rooted_on, stepped_place, stepped_keeps, goes_on}
+use Rattle.bites_spec.proofs.programs.BuiltLemmas.{Among-append}
+use Rattle.bites_spec.proofs.runs.PlaceLemmas.{places-here}
+use Rattle.bites_spec.proofs.programs.ListedRunLemmas.{Among-map}
 
 module _ (p : Program) (hay : List ℕ) (well : IsWellFormed p) (longest : Bool) (width : ℕ) (fits : width ≤ p.slots) (start : ℕ) (within : start ≤ length hay) where
   record IsCounting (s : Searching) : Type 0 where
@@ -59,8 +59,8 @@ module _ (p : Program) (hay : List ℕ) (well : IsWellFormed p) (longest : Bool)
     before_on : 0 < (piece hay s.place).len → (u : Configuration) → Among t.visits u → u.place < t.place
     before_on some =
         subst (λ (x : Searching). (u : Configuration) → Among x.visits u → u.place < x.place) place.is
-        (λ u h. ⊎_elim (λ a. let m = Among-mapped (λ q. at q s.place) place.last.seen u a in let e = ap (λ (x : Configuration). x.place) m.2 in omega arith)
-        (λ a. let lt = now.before u a in omega arith) (Among-apart (map (λ q. at q s.place) place.last.seen) s.visits u h))
+        (λ u h. ⊎_elim (λ a. let m = Among-map (λ q. at q s.place) place.last.seen u a in let e = ap (λ (x : Configuration). x.place) m.2 in omega arith)
+        (λ a. let lt = now.before u a in omega arith) (Among-append (map (λ q. at q s.place) place.last.seen) s.visits u h))
 
   module _ (earliest : Bool) where
     counting : (n : ℕ) (s : Searching) → SteppedTo hay longest p width earliest start n s → IsCounting s

@@ -10,14 +10,13 @@ use Rattle.bites_spec.proofs.utf8.PieceLemmas.{Among-places}
 use Rattle.bites_spec.proofs.runs.RunLemmas.{found_from_none}
 use Rattle.bites_machine.specs.Machine.{Thread, Searching, started}
 use Rattle.bites_machine.specs.Anchored.{resumed, Steps, at_place, Stepped}
-use Rattle.bites_machine.proofs.model.SweepLemmas.{places-here}
 use Rattle.bites_machine.proofs.model.MachineCases.{walk_keeps}
 use Rattle.bites_machine.proofs.model.MachineWaiting.{Outcome, outcome, wait_all, marks, pend_later}
-use Rattle.bites_machine.proofs.model.MachineFirst.{or_none, or_map, pended, answer_from, total, IsWorth, worth_keeps, pend_none, pend_one, answer_is, front_of}
+use Rattle.bites_machine.proofs.model.MachineFirst.{or_map, pended, answer_from, total, IsWorth, worth_keeps, pend_none, pend_one, answer_is, front_of}
 use Rattle.bites_machine.proofs.model.AnchoredRoots.{AreRooted, rooted_traced, resumed_rooted, rooted_start, rooted_on, stepped_place, stepped_keeps, done_cases, nothing_found, end_rooted}
-
-none_some : {A : Type 0} (x : A) → None ≡ Some x → ⊥
-none_some x e = cc
+use Rattle.std.proofs.lemmas.Option.{none-some}
+use Rattle.bites_spec.proofs.programs.SlotLemmas.{or_none}
+use Rattle.bites_spec.proofs.runs.PlaceLemmas.{places-here}
 
 module _ (p : Program) (hay : List ℕ) (well : IsWellFormed p) (width : ℕ) (fits : width ≤ p.slots) (start : ℕ) (within : start ≤ length hay) where
   abbrev waits : (Configuration → Bool) → List (Configuration × (List Configuration → Outcome)) → Option Outcome
@@ -62,7 +61,7 @@ module _ (p : Program) (hay : List ℕ) (well : IsWellFormed p) (width : ℕ) (f
           (resumed hay false p width s) place.last place.walks record {
             traced = rooted_traced p hay false width start fits s.place s.visits (resumed hay false p width s) (resumed_rooted p hay false width start fits s now.rooted);
             worth_is = now.value_is;
-            done = λ u e. absurd (none_some u e);
+            done = λ u e. absurd (none-some u e);
           }
 
       abbrev next_place : ℕ
@@ -104,7 +103,7 @@ module _ (p : Program) (hay : List ℕ) (well : IsWellFormed p) (width : ℕ) (f
 
   no_first : (o : Option Run) → None ≡ option_map (front_of p hay well width fits start within) o → o ≡ None
   no_first None e = refl
-  no_first (Some r) e = absurd (none_some (front_of p hay well width fits start within r) e)
+  no_first (Some r) e = absurd (none-some (front_of p hay well width fits start within r) e)
 
   -- A search that is not stopped early ends with the first slots of the first run from its start, or with nothing.
   pub first_from_answer : (t : Searching) → Stepped hay false p width false start t →

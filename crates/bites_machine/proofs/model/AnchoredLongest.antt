@@ -11,19 +11,15 @@ use Rattle.bites_spec.proofs.utf8.PieceLemmas.{Among-places}
 use Rattle.bites_spec.proofs.programs.LongestLemmas.{IsLongestBelow, below_some, below_none, ends_below}
 use Rattle.bites_machine.specs.Machine.{Thread, Walking, Searching, started}
 use Rattle.bites_machine.specs.Anchored.{resumed, Steps, at_place, Stepped}
-use Rattle.bites_machine.proofs.model.SweepLemmas.{places-here, Runs-forward}
+use Rattle.bites_machine.proofs.model.SweepLemmas.{Runs-forward}
 use Rattle.bites_machine.proofs.model.MachineCases.{walk_keeps}
 use Rattle.bites_machine.proofs.model.MachineSlots.{run_writes}
 use Rattle.bites_machine.proofs.model.MachineWaiting.{Outcome, outcome, worth, wait_all, marks, pend_later}
 use Rattle.bites_machine.proofs.model.MachineLongest.{below_or_not, is_end, end_matches, run_to_end, pended, longest_found, the_outcome, pend_past, pend_after, pend_one, later, waiting, IsAhead, ahead_keeps, AtEnd, IsAtEnd, at_end_keeps, runs_to_match}
 use Rattle.bites_machine.proofs.model.AnchoredRoots.{AreRooted, IsRooted, rooted_traced, resumed_rooted, place_rooted, rooted_start, rooted_on, stepped_place, stepped_keeps, goes_on, done_cases, nothing_found, end_rooted}
-
-none_some : {A : Type 0} (x : A) → None ≡ Some x → ⊥
-none_some x e = cc
-
-or_none : {A : Type 0} (o : Option A) → option_or o None ≡ o
-or_none None = refl
-or_none (Some x) = refl
+use Rattle.std.proofs.lemmas.Option.{none-some}
+use Rattle.bites_spec.proofs.programs.SlotLemmas.{or_none}
+use Rattle.bites_spec.proofs.runs.PlaceLemmas.{places-here}
 
 module _ (p : Program) (hay : List ℕ) (well : IsWellFormed p) (width : ℕ) (fits : width ≤ p.slots) (start : ℕ) (within : start ≤ length hay) where
   module _ (r : Run) (at_start : r.start ≡ start) (longest : LongestRun p hay start (Some r)) where
@@ -129,7 +125,7 @@ module _ (p : Program) (hay : List ℕ) (well : IsWellFormed p) (width : ℕ) (f
           by_hit (Some h) is now = (h, sym best_is ∙ ap (λ (o : Option Thread). option_or o s.best) is, now)
           by_hit None is now =
               absurd
-              (none_some goal
+              (none-some goal
               (sym (last_waiting ∙ pend_after p hay well width fits start within r longest (λ q. false) next_place t.threads late_threads)
               ∙ sym (or_none (waits_here last.seen last.next last.stack)) ∙ now))
             where
@@ -154,7 +150,7 @@ module _ (p : Program) (hay : List ℕ) (well : IsWellFormed p) (width : ℕ) (f
       not_behind : IsAheadAt s.place s.threads → s.place ≤ r.end
       not_behind ahead =
           ⊎_elim
-          (λ (lt : r.end < s.place). absurd (none_some goal (sym (pend_past p hay well width fits start within r longest (λ q. false) s.place s.threads lt) ∙ ahead)))
+          (λ (lt : r.end < s.place). absurd (none-some goal (sym (pend_past p hay well width fits start within r longest (λ q. false) s.place s.threads lt) ∙ ahead)))
           (λ (le : s.place ≤ r.end). le)
           (below_or_not r.end s.place)
 
@@ -180,7 +176,7 @@ module _ (p : Program) (hay : List ℕ) (well : IsWellFormed p) (width : ℕ) (f
       stands_end : t.threads ≡ [] → HasBest t
       stands_end none =
           ⊎_elim
-          (λ ahead. absurd (none_some goal
+          (λ ahead. absurd (none-some goal
           (sym (pend_after p hay well width fits start within r longest (λ q. false) next_place [] (λ u h. absurd h))
           ∙ ap (λ (l : List Thread). waits (λ q. false) (wait_all p hay next_place l)) (sym none) ∙ ahead)))
           (λ done. done.0)

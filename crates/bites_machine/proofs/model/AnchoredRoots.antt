@@ -1,6 +1,6 @@
 -- In an anchored search each thread has come by a walk from the start.
-use Rattle.std.proofs.Common.{◌≡◌, ℕ, zero, suc, ◌+◌, ◌<◌, ◌≤◌, Bool, true, false, ◌||◌, List, [], ◌∷◌, map, length, Option, Some, None, refl, sym, ap, ◌∙◌, subst, inl, inr, ⊎_elim, ◌⊎◌, true≢false, arith, eq-eqb, eqb-true}
-use Rattle.std.proofs.lemmas.Bool.{or_parts}
+use Rattle.std.proofs.Common.{◌≡◌, ℕ, zero, suc, ◌+◌, ◌<◌, ◌≤◌, Bool, true, false, ◌||◌, List, [], ◌∷◌, map, length, Option, Some, None, refl, sym, ap, ◌∙◌, subst, inl, inr, ⊎_elim, ◌⊎◌, arith, eqb-true}
+use Rattle.std.proofs.lemmas.Bool.{or_parts, or_cases}
 use Rattle.std.specs.Prelude.{◌==◌, ◌&&◌, is_some}
 use Rattle.std.specs.Option.{option_or}
 use Rattle.bites_spec.specs.Utf8.{piece, places}
@@ -10,27 +10,16 @@ use Rattle.bites_spec.specs.Run.{leads, IsRun}
 use Rattle.bites_spec.proofs.programs.SlotLemmas.{Among-right}
 use Rattle.bites_machine.specs.Machine.{Thread, Walking, Searching, with_write, thread_on, moved, is_empty}
 use Rattle.bites_machine.specs.Anchored.{resumed, Steps, at_place, is_done, SteppedTo, Stepped}
-use Rattle.bites_machine.proofs.compile.EdgeLemmas.{Among-apart}
-use Rattle.bites_machine.proofs.model.SweepLemmas.{places-here}
-use Rattle.bites_machine.proofs.model.PathLemmas.{place_on}
 use Rattle.bites_machine.proofs.model.MachineCases.{Keeps, walk_keeps}
-use Rattle.bites_machine.proofs.model.MachineTrace.{Trace, Found, trace_more, found_more, trace_start, trace_on, found_here, Among-mapped, Among-kept}
-use Rattle.bites_machine.proofs.model.MachineSearch.{IsTraced, AreTraced, configurations_of, option_or_cases}
-use Rattle.bites_machine.proofs.model.MachineFirst.{nothing_among, or_true, empty_is}
-
-some_len : (n : ℕ) → (n == 0) ≡ false → 0 < n
-some_len zero e = absurd (true≢false (sym (eq-eqb 0 0 refl) ∙ e))
-some_len (suc n) e = omega arith
+use Rattle.bites_machine.proofs.model.MachineTrace.{Trace, Found, trace_more, found_more, trace_start, trace_on, found_here, Among-kept}
+use Rattle.bites_machine.proofs.model.MachineSearch.{IsTraced, AreTraced, configurations_of, option_or_cases, some_len, option_or_some}
+use Rattle.bites_machine.proofs.model.MachineFirst.{nothing_among, empty_is}
+use Rattle.bites_spec.proofs.programs.BuiltLemmas.{Among-append}
+use Rattle.bites_spec.proofs.runs.PlaceLemmas.{place_on, places-here}
+use Rattle.bites_spec.proofs.programs.ListedRunLemmas.{Among-map}
 
 none_some : (t : Thread) → None ≡ Some t → ⊥
 none_some t e = cc
-
-option_or_some : (o : Option Thread) (t u : Thread) → option_or o (Some t) ≡ Some u → (o ≡ Some u) ⊎ (t ≡ u)
-option_or_some None t u e = inr (same t u e)
-  where
-    same : (t u : Thread) → Some t ≡ Some u → t ≡ u
-    same t u e = cc
-option_or_some (Some v) t u e = inl e
 
 module _ (p : Program) (hay : List ℕ) (longest : Bool) (width : ℕ) (earliest : Bool) (start : ℕ) (within : start ≤ length hay) where
   -- a search that is not over continues at a next place, and what is open there
@@ -82,7 +71,7 @@ module _ (p : Program) (hay : List ℕ) (longest : Bool) (width : ℕ) (start : 
       Rooted visits i t → (u : Thread) → Among (moved hay longest i (state_at p.states t.state) t) u → Rooted visits k u
   unfolding trace_on
   rooted_moved visits i k t there here r u h =
-      let m = Among-mapped (thread_on t.start (with_write (state_at p.states t.state) i t.slots)) (leads p hay (at t.state i)) u h in
+      let m = Among-map (thread_on t.start (with_write (state_at p.states t.state) i t.slots)) (leads p hay (at t.state i)) u h in
       subst (λ (x : Thread). Rooted visits k x) m.2
       (subst (λ (j : ℕ). Rooted visits j (thread_on t.start (with_write (state_at p.states t.state) i t.slots) m.0)) (there m.0 m.1)
       (trace_on p hay longest width start visits i t m.0 here m.1 r.0, r.1))
@@ -146,12 +135,12 @@ module _ (p : Program) (hay : List ℕ) (longest : Bool) (width : ℕ) (start : 
               (over (edge_of t u a).0 (edge_of t u a).1).0,
               rooted_moved (configurations_of i old (t.state ∷ w.seen)) i (i + (piece hay i).len) t (λ v e. (over v e).1) (inl refl) (top_now w t rest is now) u a,
             ))
-            (Among-apart w.next (moved hay longest i (state_at p.states t.state) t) u h);
+            (Among-append w.next (moved hay longest i (state_at p.states t.state) t) u h);
         first_match = hit_now w t rest is now;
       };
       on_gone = λ t rest w is new none beside now. record {
         stack = λ u h. ⊎_elim (λ a. rooted_moved (configurations_of i old (t.state ∷ w.seen)) i i t beside (inl refl) (top_now w t rest is now) u a)
-            (rest_now w t rest is now u) (Among-apart (moved hay longest i (state_at p.states t.state) t) rest u h);
+            (rest_now w t rest is now u) (Among-append (moved hay longest i (state_at p.states t.state) t) rest u h);
         next = next_now w t rest is now;
         first_match = hit_now w t rest is now;
       };
@@ -159,7 +148,7 @@ module _ (p : Program) (hay : List ℕ) (longest : Bool) (width : ℕ) (start : 
       where
         edge_of : (t u : Thread) → Among (moved hay longest i (state_at p.states t.state) t) u → (v : Configuration) × Among (leads p hay (at t.state i)) v
             × (thread_on t.start (with_write (state_at p.states t.state) i t.slots) v ≡ u)
-        edge_of t u a = Among-mapped (thread_on t.start (with_write (state_at p.states t.state) i t.slots)) (leads p hay (at t.state i)) u a
+        edge_of t u a = Among-map (thread_on t.start (with_write (state_at p.states t.state) i t.slots)) (leads p hay (at t.state i)) u a
 
   -- the threads of a search have come from its start, and the best has found a run from there
   pub record AreRooted (s : Searching) : Type 0 where
@@ -224,8 +213,8 @@ module _ (p : Program) (hay : List ℕ) (longest : Bool) (width : ℕ) (start : 
         inl (sym (ap (λ (x : Searching). x.threads) place.is)
         ∙ nothing_among place.last.next (λ u h. let some = ((place_rooted s t now place).next u h).0 in omega arith)))
         (λ rest.
-        ⊎_elim (λ (e : is_empty t.threads ≡ true). inl (empty_is t.threads e)) inr (or_true (is_empty t.threads) (earliest && is_some t.best) rest))
-        (or_true ((piece hay s.place).len == 0) (is_empty t.threads || (earliest && is_some t.best)) over)
+        ⊎_elim (λ (e : is_empty t.threads ≡ true). inl (empty_is t.threads e)) inr (or_cases (is_empty t.threads) (earliest && is_some t.best) rest))
+        (or_cases ((piece hay s.place).len == 0) (is_empty t.threads || (earliest && is_some t.best)) over)
 
     -- where no run begins at the start, nothing is found
     pub nothing_found : (t : Searching) → AreRooted t → ((r : List Configuration) (j : ℕ) → IsRun p hay start r j → ⊥) → t.best ≡ None

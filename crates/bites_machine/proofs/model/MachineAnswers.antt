@@ -1,6 +1,6 @@
 -- What the machine on lists returns, as contracts say it.
 use Rattle.std.proofs.Common.{◌≡◌, ℕ, ◌<◌, ◌≤◌, Bool, true, false, List, [], length, take, Option, Some, None, option_map, refl, sym, ap, ◌∙◌, subst, arith}
-use Rattle.std.proofs.lemmas.Option.{same_Some}
+use Rattle.std.proofs.lemmas.Option.{same_Some, none-some}
 use Rattle.std.specs.Prelude.{is_some}
 use Rattle.bites_spec.specs.Walks.{Among, first_among}
 use Rattle.bites_spec.specs.Program.{Program, IsWellFormed}
@@ -8,14 +8,11 @@ use Rattle.bites_spec.specs.Run.{Run, Answered, LeastEnd, slots, first_run, firs
 use Rattle.bites_spec.specs.Counts.{Record, IsBounded, VisitedBy}
 use Rattle.bites_machine.specs.Machine.{Thread, Searching, Searched}
 use Rattle.bites_machine.specs.Sweep.{left_in}
-use Rattle.bites_machine.proofs.model.SweepLemmas.{places-past}
 use Rattle.bites_machine.proofs.model.MachineFirst.{first_answer}
 use Rattle.bites_machine.proofs.model.MachineLongest.{longest_answer}
 use Rattle.bites_machine.proofs.model.MachineCounts.{search_bounded}
 use Rattle.bites_machine.proofs.model.MachineClosed.{all_visited, some_visited, no_run, least_end}
-
-none_some : {A : Type 0} (x : A) → None ≡ Some x → ⊥
-none_some x e = cc
+use Rattle.bites_spec.proofs.runs.PlaceLemmas.{places-past}
 
 -- what was visited, and how often was looked
 abbrev pub record_of : Searching → Record
@@ -24,8 +21,8 @@ record_of t = record { visits = t.visits; looks = t.looks }
 pub answered : (p : Program) (width : ℕ) (o : Option Run) (best : Option Thread) (old : List (Option ℕ)) → length old ≡ width →
     option_map (λ (b : Thread). b.slots) best ≡ option_map (λ (r : Run). take width (slots p r)) o → Answered p o (is_some best) old (left_in best old)
 answered p width None None old len e = (refl, refl)
-answered p width None (Some b) old len e = absurd (none_some b.slots (sym e))
-answered p width (Some r) None old len e = absurd (none_some (take width (slots p r)) e)
+answered p width None (Some b) old len e = absurd (none-some b.slots (sym e))
+answered p width (Some r) None old len e = absurd (none-some (take width (slots p r)) e)
 answered p width (Some r) (Some b) old len e = (
   refl,
   same_Some b.slots (take width (slots p r)) e ∙ ap (λ (n : ℕ). take n (slots p r)) (sym len),

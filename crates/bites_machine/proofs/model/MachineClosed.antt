@@ -12,15 +12,14 @@ use Rattle.bites_spec.proofs.utf8.PieceLemmas.{Among-places}
 use Rattle.bites_spec.proofs.programs.SlotLemmas.{Among-left, Among-right}
 use Rattle.bites_spec.proofs.programs.ListedLemmas.{Among-under}
 use Rattle.bites_machine.specs.Machine.{Thread, Walking, Searching, with_write, thread_on, moved, dropped, started, begun, Searches, at_start, SearchedTo, Searched, is_empty}
-use Rattle.bites_machine.proofs.model.SweepLemmas.{places-here, Runs-forward}
+use Rattle.bites_machine.proofs.model.SweepLemmas.{Runs-forward}
 use Rattle.bites_machine.proofs.model.PathLemmas.{closed_walk}
 use Rattle.bites_machine.proofs.model.MachineCases.{was_seen, taken, gone, Keeps, walk_keeps}
 use Rattle.bites_machine.proofs.model.MachineFirst.{nothing_among, places_end}
 use Rattle.bites_machine.proofs.model.MachineTrace.{Found}
 use Rattle.bites_machine.proofs.model.MachineSearch.{AreTraced, place_traced, traced_on, searched_place, searched_keeps, searched_traced, goes_on, still_open, configurations_of, option_or_cases}
-
-none_some : {A : Type 0} (x : A) → None ≡ Some x → ⊥
-none_some x e = cc
+use Rattle.std.proofs.lemmas.Option.{none-some}
+use Rattle.bites_spec.proofs.runs.PlaceLemmas.{places-here}
 
 -- a thread of the list is at the configuration
 abbrev pub Waits : List Thread → ℕ → Configuration → Type 0
@@ -92,8 +91,8 @@ module _ (p : Program) (hay : List ℕ) (longest : Bool) (width : ℕ) (start : 
     )
 
     pub never : (o : Option Thread) (t : Thread) → option_or o (Some t) ≡ None → ⊥
-    never None t e = none_some t (sym e)
-    never (Some u) t e = none_some u (sym e)
+    never None t e = none-some t (sym e)
+    never (Some u) t e = none-some u (sym e)
 
     abbrev pub IsClosingYet : Walking → Type 0
     IsClosingYet w = w.first_match ≡ None → IsClosing w
@@ -131,7 +130,7 @@ module _ (p : Program) (hay : List ℕ) (longest : Bool) (width : ℕ) (start : 
 
     begun_closing : (best : Option Thread) → s.best ≡ best → best ≡ None → IsClosing s.place s.visits
         (record { stack = s.threads ++ cond (is_some best) [] (start_thread ∷ []); seen = []; next = []; first_match = None; looks = s.looks })
-    begun_closing (Some b) is none = absurd (none_some b (sym none))
+    begun_closing (Some b) is none = absurd (none-some b (sym none))
     begun_closing None is none =
         let before = now is in record {
           closed = λ u h v edge. ⊎_elim (λ a. inl (inl a)) (λ waits. inl (inr (waits.0, Among-left s.threads (start_thread ∷ []) waits.0 waits.1, waits.2))) (before.closed u h v edge);
@@ -151,7 +150,7 @@ module _ (p : Program) (hay : List ℕ) (longest : Bool) (width : ℕ) (start : 
 
     both_none : (o q : Option Thread) → option_or o q ≡ None → (o ≡ None) × (q ≡ None)
     both_none None q e = (refl, e)
-    both_none (Some u) q e = absurd (none_some u (sym e))
+    both_none (Some u) q e = absurd (none-some u (sym e))
 
     no_stack : (v : Configuration) → Waits place.last.stack s.place v → ⊥
     no_stack v waits = subst (λ (l : List Thread). Among l waits.0) place.over waits.1
@@ -298,7 +297,7 @@ module _ (p : Program) (hay : List ℕ) (longest : Bool) (width : ℕ) (start : 
 
         first_match : end.last.last.first_match ≡ Some b
         first_match =
-            ⊎_elim (λ here. here) (λ before. absurd (none_some b (sym none ∙ before.1)))
+            ⊎_elim (λ here. here) (λ before. absurd (none-some b (sym none ∙ before.1)))
             (option_or_cases end.last.last.first_match end.before.best b (ap (λ (x : Searching). x.best) end.last.is ∙ is))
 
         found : Found p hay longest width start (configurations_of end.before.place end.before.visits end.last.last.seen) end.before.place b

@@ -13,13 +13,14 @@ use Rattle.bites_spec.specs.Run.{leads}
 use Rattle.bites_spec.specs.Counts.{IsBounded}
 use Rattle.bites_spec.proofs.utf8.PieceLemmas.{Among-places}
 use Rattle.bites_machine.specs.Machine.{Thread, Walking, Searching, with_write, thread_on, kept, moved, started, begun, Searches, at_start, SearchedTo, Searched}
-use Rattle.bites_machine.proofs.compile.EdgeLemmas.{Among-apart}
-use Rattle.bites_machine.proofs.model.SweepLemmas.{places-here}
 use Rattle.bites_machine.proofs.compile.SumLemmas.{sum_of_ones, sum_of_configurations}
 use Rattle.bites_machine.proofs.model.PathLemmas.{edges_within}
 use Rattle.bites_machine.proofs.model.MachineCases.{was_seen, Keeps, walk_keeps}
-use Rattle.bites_machine.proofs.model.MachineTrace.{Among-mapped, trace_inside}
+use Rattle.bites_machine.proofs.model.MachineTrace.{trace_inside}
 use Rattle.bites_machine.proofs.model.MachineSearch.{IsTraced, traced_keeps, begun_traced, AreTraced, traced_start, traced_on, searched_place, searched_keeps, goes_on, configurations_of}
+use Rattle.bites_spec.proofs.programs.BuiltLemmas.{Among-append}
+use Rattle.bites_spec.proofs.runs.PlaceLemmas.{places-here}
+use Rattle.bites_spec.proofs.programs.ListedRunLemmas.{Among-map}
 
 length-filter : {A : Type 0} (test : A → Bool) (xs : List A) → length (filter test xs) ≤ length xs
 length-filter test [] = omega arith
@@ -71,7 +72,7 @@ module _ (p : Program) (hay : List ℕ) (well : IsWellFormed p) (longest : Bool)
       now_apart : was_seen hay longest i p w.seen t.state ≡ false → AllApart (configurations_of i old (t.state ∷ w.seen))
       now_apart new = (
         λ h. ⊎_elim (unseen_here hay longest p i w.seen t.state new) (λ (a : Among old (at t.state i)). let lt = before (at t.state i) a in omega arith)
-            (Among-apart (map (λ x. at x i) w.seen) old (at t.state i) h),
+            (Among-append (map (λ x. at x i) w.seen) old (at t.state i) h),
         now.apart,
       )
 
@@ -163,8 +164,8 @@ module _ (p : Program) (hay : List ℕ) (well : IsWellFormed p) (longest : Bool)
     before_behind : 0 < (piece hay s.place).len → (u : Configuration) → Among t.visits u → u.place < t.place
     before_behind some =
         subst (λ (x : Searching). (u : Configuration) → Among x.visits u → u.place < x.place) place.is
-        (λ u h. ⊎_elim (λ a. let m = Among-mapped (λ q. at q s.place) place.last.seen u a in let e = ap (λ (x : Configuration). x.place) m.2 in omega arith)
-        (λ a. let lt = before u a in omega arith) (Among-apart (map (λ q. at q s.place) place.last.seen) s.visits u h))
+        (λ u h. ⊎_elim (λ a. let m = Among-map (λ q. at q s.place) place.last.seen u a in let e = ap (λ (x : Configuration). x.place) m.2 in omega arith)
+        (λ a. let lt = before u a in omega arith) (Among-append (map (λ q. at q s.place) place.last.seen) s.visits u h))
 
   record IsCounting (s : Searching) : Type 0 where
     counted : HasCounted s (length (places hay s.place))

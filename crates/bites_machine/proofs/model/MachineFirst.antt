@@ -1,9 +1,9 @@
 -- The machine finds the first run.
-use Rattle.std.proofs.Common.{◌≡◌, ℕ, ◌+◌, ◌<◌, ◌≤◌, Bool, true, false, ◌||◌, ◌&&◌, cond, List, [], ◌∷◌, ◌++◌, take, length, Option, Some, None, option_map, refl, sym, ap, ap₂, ◌∙◌, subst, inl, inr, ⊎_elim, ◌⊎◌, true≢false, arith, eqb-true, leb-true, le-leb}
+use Rattle.std.proofs.Common.{◌≡◌, ℕ, ◌+◌, ◌<◌, ◌≤◌, Bool, true, false, ◌&&◌, cond, List, [], ◌∷◌, ◌++◌, take, length, Option, Some, None, option_map, refl, sym, ap, ap₂, ◌∙◌, subst, inl, inr, ⊎_elim, ◌⊎◌, true≢false, arith, eqb-true, leb-true, le-leb}
 use Rattle.std.specs.Prelude.{◌==◌, nat_le, is_some, replicate, option_and_then}
 use Rattle.std.specs.Option.{option_or}
 use Rattle.std.proofs.lemmas.List.{append-nil, map-append}
-use Rattle.std.proofs.lemmas.Bool.{cases_Bool, and_parts}
+use Rattle.std.proofs.lemmas.Bool.{cases_Bool, and_parts, or_cases}
 use Rattle.bites_spec.specs.Utf8.{piece, places, step_len}
 use Rattle.bites_spec.specs.Walks.{Among, Walk, first_among, last_of}
 use Rattle.bites_spec.specs.Program.{Program, Configuration, at, state_at, is_match, IsWellFormed}
@@ -11,30 +11,19 @@ use Rattle.bites_spec.specs.Run.{Run, is_same_configuration, leads, matches, eno
 use Rattle.bites_spec.proofs.utf8.PieceLemmas.{piece_some, Among-places}
 use Rattle.bites_spec.proofs.runs.RunLemmas.{same_is, same_refl, match_ends}
 use Rattle.bites_spec.proofs.runs.FirstLemmas.{sound}
-use Rattle.bites_spec.proofs.runs.WalkLemmas.{pending}
+use Rattle.bites_spec.proofs.runs.WalkLemmas.{pending, or_assoc}
 use Rattle.bites_machine.specs.Machine.{Thread, Walking, Searching, kept, moved, started, begun, Searches, at_start, is_over, SearchedTo, Searched, is_empty}
-use Rattle.bites_machine.proofs.model.SweepLemmas.{places-here, places-past}
 use Rattle.bites_machine.proofs.model.MachineCases.{was_seen, Keeps, walk_keeps}
 use Rattle.bites_machine.proofs.model.MachineSlots.{run_writes}
 use Rattle.bites_machine.proofs.model.MachineWaiting.{Outcome, outcome, worth, wait, wait_all, marks, run, pend, pend-append, pend_later, pend_seen, pend_gone, pend_taken, pend_hit}
 use Rattle.bites_machine.proofs.model.MachineTrace.{trace_inside}
 use Rattle.bites_machine.proofs.model.MachineSearch.{IsTraced, traced_keeps, begun_traced, AreTraced, traced_start, traced_on, searched_place, searched_keeps, goes_on, configurations_of}
-
-pub or_assoc : {A : Type 0} (o p q : Option A) → option_or (option_or o p) q ≡ option_or o (option_or p q)
-or_assoc None p q = refl
-or_assoc (Some x) p q = refl
-
-pub or_none : {A : Type 0} (o : Option A) → option_or o None ≡ o
-or_none None = refl
-or_none (Some x) = refl
+use Rattle.bites_spec.proofs.programs.SlotLemmas.{or_none}
+use Rattle.bites_spec.proofs.runs.PlaceLemmas.{places-here, places-past}
 
 pub or_map : {A B : Type 0} (f : A → B) (o q : Option A) → option_map f (option_or o q) ≡ option_or (option_map f o) (option_map f q)
 or_map f None q = refl
 or_map f (Some x) q = refl
-
-pub or_true : (a b : Bool) → (a || b) ≡ true → (a ≡ true) ⊎ (b ≡ true)
-or_true true b e = inl refl
-or_true false b e = inr e
 
 pub nothing_among : {A : Type 0} (xs : List A) → ((x : A) → Among xs x → ⊥) → xs ≡ []
 nothing_among [] none = refl
@@ -254,7 +243,7 @@ module _ (p : Program) (hay : List ℕ) (well : IsWellFormed p) (width : ℕ) (f
         (λ (e : (is_some t.best && is_empty t.threads) ≡ true).
         let both = and_parts (is_some t.best) (is_empty t.threads) e in
         best_stays t.best both.0 ∙ nothing_waits (empty_is t.threads both.1))
-        (or_true ((piece hay s.place).len == 0) (is_some t.best && is_empty t.threads) over)
+        (or_cases ((piece hay s.place).len == 0) (is_some t.best && is_empty t.threads) over)
       where
         nothing_waits : t.threads ≡ [] → rest_of t.best (s.place + step_len hay s.place) ≡ total
         nothing_waits none =

@@ -1,11 +1,11 @@
 -- The machine finds the longest run.
-use Rattle.std.proofs.Common.{◌≡◌, ℕ, suc, ◌+◌, ◌<◌, ◌≤◌, Bool, true, false, ◌||◌, ◌&&◌, cond, List, [], ◌∷◌, ◌++◌, take, length, Option, Some, None, option_map, refl, sym, ap, ap₂, ◌∙◌, subst, inl, inr, ⊎_elim, ◌⊎◌, true≢false, arith, eqb-true, eq-eqb, le-leb, leb-true}
-use Rattle.std.proofs.lemmas.Option.{same_Some}
+use Rattle.std.proofs.Common.{◌≡◌, ℕ, suc, ◌+◌, ◌<◌, ◌≤◌, Bool, true, false, ◌&&◌, cond, List, [], ◌∷◌, ◌++◌, take, length, Option, Some, None, option_map, refl, sym, ap, ap₂, ◌∙◌, subst, inl, inr, ⊎_elim, ◌⊎◌, true≢false, arith, eqb-true, eq-eqb, le-leb, leb-true}
+use Rattle.std.proofs.lemmas.Option.{same_Some, none-some}
 use Rattle.std.specs.Prelude.{◌==◌, nat_le, is_some, replicate}
 use Rattle.std.specs.List.{filter}
 use Rattle.std.specs.Option.{option_or}
 use Rattle.std.proofs.lemmas.List.{append-nil, map-append}
-use Rattle.std.proofs.lemmas.Bool.{cases_Bool, and_parts}
+use Rattle.std.proofs.lemmas.Bool.{cases_Bool, and_parts, or_cases}
 use Rattle.bites_spec.specs.Utf8.{piece, places, step_len}
 use Rattle.bites_spec.specs.Walks.{Among, Walk, first_among, last_of}
 use Rattle.bites_spec.specs.Program.{Program, Configuration, at, state_at, is_match, IsWellFormed}
@@ -16,30 +16,16 @@ use Rattle.bites_spec.proofs.runs.RunLemmas.{same_is, same_refl, match_ends, fir
 use Rattle.bites_spec.proofs.programs.LongestLemmas.{no_run_to, no_walk_no_run, walk_makes_run, below_found, below_some, one_longest_answer, longest_run-LongestRun}
 use Rattle.bites_spec.proofs.runs.WalkLemmas.{pending}
 use Rattle.bites_machine.specs.Machine.{Thread, Walking, Searching, kept, moved, started, begun, Searches, at_start, is_over, SearchedTo, Searched, is_empty}
-use Rattle.bites_machine.proofs.model.SweepLemmas.{places-here, Runs-forward}
+use Rattle.bites_machine.proofs.model.SweepLemmas.{Runs-forward}
 use Rattle.bites_machine.proofs.model.MachineCases.{was_seen, Keeps, walk_keeps}
 use Rattle.bites_machine.proofs.model.MachineSlots.{run_writes}
 use Rattle.bites_machine.proofs.model.MachineWaiting.{Outcome, outcome, worth, wait, wait_all, marks, run, pend, pend-append, pend_later, pend_seen, pend_gone, pend_taken, pend_dead, pend_hit}
 use Rattle.bites_machine.proofs.model.MachineTrace.{Found, trace_inside}
-use Rattle.bites_machine.proofs.model.MachineSearch.{IsTraced, traced_keeps, begun_traced, AreTraced, traced_start, traced_on, place_traced, searched_place, searched_keeps, goes_on, configurations_of}
+use Rattle.bites_machine.proofs.model.MachineSearch.{IsTraced, traced_keeps, begun_traced, AreTraced, traced_start, traced_on, place_traced, searched_place, searched_keeps, goes_on, configurations_of, option_or_cases}
 use Rattle.bites_machine.proofs.model.MachineClosed.{best_found}
-use Rattle.bites_machine.proofs.model.MachineFirst.{nothing_among, places_end}
+use Rattle.bites_machine.proofs.model.MachineFirst.{nothing_among, places_end, empty_is}
 use Rattle.bites_machine.proofs.model.MachineOrder.{AreOrdered, ordered_start, ordered_on, place_ordered}
-
-or_cases : {A : Type 0} (o q : Option A) (x : A) → option_or o q ≡ Some x → (o ≡ Some x) ⊎ ((o ≡ None) × (q ≡ Some x))
-or_cases None q x e = inr (refl, e)
-or_cases (Some y) q x e = inl e
-
-or_true : (a b : Bool) → (a || b) ≡ true → (a ≡ true) ⊎ (b ≡ true)
-or_true true b e = inl refl
-or_true false b e = inr e
-
-empty_is : (ts : List Thread) → is_empty ts ≡ true → ts ≡ []
-empty_is [] e = refl
-empty_is (t ∷ ts) e = absurd (true≢false (sym e))
-
-none_some : {A : Type 0} (x : A) → None ≡ Some x → ⊥
-none_some x e = cc
+use Rattle.bites_spec.proofs.runs.PlaceLemmas.{places-here}
 
 none_or_some : {A : Type 0} (o : Option A) → (o ≡ None) ⊎ ((x : A) × (o ≡ Some x))
 none_or_some None = inl refl
@@ -137,7 +123,7 @@ module _ (p : Program) (hay : List ℕ) (well : IsWellFormed p) (width : ℕ) (f
     answer_start k y e = by_answer (run_to_end (at p.start k)) e
       where
         by_answer : (o : Option (List Configuration)) → option_map (worth p hay k base) o ≡ Some y → y.start ≡ k
-        by_answer None e = absurd (none_some y e)
+        by_answer None e = absurd (none-some y e)
         by_answer (Some l) e = sym (ap (λ (x : Outcome). x.start) (same_Some (worth p hay k base l) y e))
 
     answer_first : first_among answer_from (places hay start) ≡ Some the_outcome
@@ -145,14 +131,14 @@ module _ (p : Program) (hay : List ℕ) (well : IsWellFormed p) (width : ℕ) (f
     answer_first = by_answer (first_among answer_from (places hay start)) refl
       where
         by_answer : (o : Option Outcome) → first_among answer_from (places hay start) ≡ o → o ≡ Some the_outcome
-        by_answer None e = absurd (none_some the_outcome (sym (no_place answer_from (places hay start) e r.start first.from) ∙ answer_here))
+        by_answer None e = absurd (none-some the_outcome (sym (no_place answer_from (places hay start) e r.start first.from) ∙ answer_here))
         by_answer (Some y) e =
             let at_first = first_place answer_from (suc (length hay)) hay start y e in
             ⊎_elim
-            (λ (lt : at_first.place < r.start). absurd (none_some y (sym (answer_before at_first.place at_first.among lt) ∙ at_first.is)))
+            (λ (lt : at_first.place < r.start). absurd (none-some y (sym (answer_before at_first.place at_first.among lt) ∙ at_first.is)))
             (λ (le : r.start ≤ at_first.place).
             ⊎_elim
-            (λ (lt : r.start < at_first.place). absurd (none_some the_outcome (sym (at_first.none_before r.start first.from lt) ∙ answer_here)))
+            (λ (lt : r.start < at_first.place). absurd (none-some the_outcome (sym (at_first.none_before r.start first.from lt) ∙ answer_here)))
             (λ (ge : at_first.place ≤ r.start).
             let same : at_first.place ≡ r.start = omega arith in
             sym at_first.is ∙ ap answer_from same ∙ answer_here)
@@ -164,10 +150,10 @@ module _ (p : Program) (hay : List ℕ) (well : IsWellFormed p) (width : ℕ) (f
     answer_behind m e = let x = from_one (places hay m) e in let a = (Among-places hay m x.0 x.1).0 in let b = answer_start x.0 the_outcome x.2 in omega arith
       where
         from_one : (ks : List ℕ) → first_among answer_from ks ≡ Some the_outcome → (k : ℕ) × Among ks k × (answer_from k ≡ Some the_outcome)
-        from_one [] e = absurd (none_some the_outcome e)
+        from_one [] e = absurd (none-some the_outcome e)
         from_one (k ∷ ks) e =
             ⊎_elim (λ here. (k, inl refl, here)) (λ later. let x = from_one ks later.1 in (x.0, inr x.1, x.2))
-            (or_cases (answer_from k) (first_among answer_from ks) the_outcome e)
+            (option_or_cases (answer_from k) (first_among answer_from ks) the_outcome e)
 
     -- from past the end there is no run to it
     pub pend_past : (seen : Configuration → Bool) (j : ℕ) (ts : List Thread) → r.end < j → pended seen (wait_all p hay j ts) ≡ None
@@ -199,10 +185,10 @@ module _ (p : Program) (hay : List ℕ) (well : IsWellFormed p) (width : ℕ) (f
         (sym (le-leb t.start c (omega arith)))
         (ap (λ (o : Option Outcome). option_or o (pended seen (wait_all p hay i (filter (λ u. nat_le u.start c) ts)))) here))
         (λ later. kept_or_not (nat_le t.start c) later.0 (pend_filter seen i c ts le later.1))
-        (or_cases (option_map (worth p hay t.start t.slots) (run p hay is_end end_matches seen (at t.state i))) (pended seen (wait_all p hay i ts)) the_outcome e)
+        (option_or_cases (option_map (worth p hay t.start t.slots) (run p hay is_end end_matches seen (at t.state i))) (pended seen (wait_all p hay i ts)) the_outcome e)
       where
         start_is : (o : Option (List Configuration)) → option_map (worth p hay t.start t.slots) o ≡ Some the_outcome → t.start ≡ r.start
-        start_is None e = absurd (none_some the_outcome e)
+        start_is None e = absurd (none-some the_outcome e)
         start_is (Some l) e = ap (λ (x : Outcome). x.start) (same_Some (worth p hay t.start t.slots l) the_outcome e)
 
         kept_or_not : (b : Bool) → option_map (worth p hay t.start t.slots) (run p hay is_end end_matches seen (at t.state i)) ≡ None →
@@ -231,7 +217,7 @@ module _ (p : Program) (hay : List ℕ) (well : IsWellFormed p) (width : ℕ) (f
 
       not_later : (o : Option Thread) → r.start ≤ i → later o ≡ Some the_outcome → ⊥
       not_later None le e = let a = answer_behind next_step e in omega arith
-      not_later (Some b) le e = none_some the_outcome e
+      not_later (Some b) le e = none-some the_outcome e
 
       -- a first match has found a run, which begins no earlier than the longest
       hit_start : (visits : List Configuration) (h : Thread) → Found p hay true width start visits i h → (r.start ≤ h.start) × (h.start ≤ i)
@@ -294,10 +280,10 @@ module _ (p : Program) (hay : List ℕ) (well : IsWellFormed p) (width : ℕ) (f
             (λ waits. pend-append p hay is_end end_matches seen (wait_all p hay there w.next) (wait_all p hay i (filter (λ u. nat_le u.start c) rest))
             ∙ ⊎_elim (λ one. ap (λ (o : Option Outcome). option_or o (pended seen (wait_all p hay i (filter (λ u. nat_le u.start c) rest)))) one)
             (λ two. ap₂ option_or two.0 (pend_filter seen i c rest le two.1))
-            (or_cases (pended seen (wait_all p hay there w.next)) (pended seen (wait_all p hay i rest)) the_outcome
+            (option_or_cases (pended seen (wait_all p hay there w.next)) (pended seen (wait_all p hay i rest)) the_outcome
             (sym (pend-append p hay is_end end_matches seen (wait_all p hay there w.next) (wait_all p hay i rest)) ∙ waits)))
             (λ none. absurd (not_later (option_or w.first_match best) before none.1))
-            (or_cases (waiting (t.state ∷ w.seen) w.next rest) (later (option_or w.first_match best)) the_outcome
+            (option_or_cases (waiting (t.state ∷ w.seen) w.next rest) (later (option_or w.first_match best)) the_outcome
             (ap (λ (o : Option Outcome). option_or o (later (option_or w.first_match best))) dead_waiting ∙ now.ahead))
           where
             seen : Configuration → Bool
@@ -314,8 +300,8 @@ module _ (p : Program) (hay : List ℕ) (well : IsWellFormed p) (width : ℕ) (f
       changed w now o e = ap (λ (x : Option Outcome). option_or x (later (option_or w.first_match best))) e ∙ now.ahead
 
       never_none : (o : Option Thread) (t : Thread) → option_or o (Some t) ≡ None → ⊥
-      never_none None t e = none_some t (sym e)
-      never_none (Some u) t e = none_some u (sym e)
+      never_none None t e = none-some t (sym e)
+      never_none (Some u) t e = none-some u (sym e)
 
       pub ahead_keeps : i < r.end → Keeps hay true i p IsAhead
       ahead_keeps early =
@@ -423,7 +409,7 @@ module _ (p : Program) (hay : List ℕ) (well : IsWellFormed p) (width : ℕ) (f
       where
         no_later : (o : Option Thread) → r.end < s.place → later_at o s.place ≡ Some the_outcome → ⊥
         no_later None lt e = let a = answer_behind s.place e in omega (arith, forward)
-        no_later (Some b) lt e = none_some the_outcome e
+        no_later (Some b) lt e = none-some the_outcome e
 
     pub pend_one : (i : ℕ) (t : Thread) → pended (λ q. false) (wait_all p hay i (t ∷ [])) ≡ option_map (worth p hay t.start t.slots) (run_to_end (at t.state i))
     unfolding pending
@@ -570,11 +556,11 @@ module _ (p : Program) (hay : List ℕ) (well : IsWellFormed p) (width : ℕ) (f
               nothing_left (sym threads_are ∙ nothing_among last.next (λ u h. let some = (last_traced.next u h).0 in omega arith)) (no_places t.best none))
               (λ (e : (is_some t.best && is_empty t.threads) ≡ true).
               let both = and_parts (is_some t.best) (is_empty t.threads) e in nothing_left (empty_is t.threads both.1) (has_best t.best both.0))
-              (or_true ((piece hay s.place).len == 0) (is_some t.best && is_empty t.threads) over)
+              (or_cases ((piece hay s.place).len == 0) (is_some t.best && is_empty t.threads) over)
             where
               nothing_left : t.threads ≡ [] → later_at t.best (s.place + step_len hay s.place) ≡ None → ⊥
               nothing_left none last =
-                  none_some the_outcome
+                  none-some the_outcome
                   (sym (ap (λ (l : List Thread). option_or (pended (λ q. false) (wait_all p hay next_place l)) (later_at t.best (s.place + step_len hay s.place))) none
                   ∙ ap₂ option_or (pend_after (λ q. false) next_place [] (λ u h. absurd h)) last)
                   ∙ ahead)

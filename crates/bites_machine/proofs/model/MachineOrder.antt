@@ -9,13 +9,13 @@ use Rattle.bites_spec.specs.Walks.{Among, Walk}
 use Rattle.bites_spec.specs.Program.{Program, Configuration, at, state_at}
 use Rattle.bites_spec.specs.Run.{leads}
 use Rattle.bites_machine.specs.Machine.{Thread, Walking, Searching, with_write, thread_on, kept, moved, started, begun, Searches, at_start}
-use Rattle.bites_machine.proofs.compile.EdgeLemmas.{Among-apart, edges_apart}
+use Rattle.bites_machine.proofs.compile.EdgeLemmas.{edges_apart}
 use Rattle.bites_machine.proofs.model.MachineCases.{Keeps, walk_keeps}
-use Rattle.bites_machine.proofs.model.MachineTrace.{Trace, Among-mapped, Among-filter, Among-kept}
+use Rattle.bites_machine.proofs.model.MachineTrace.{Trace, Among-filter, Among-kept}
 use Rattle.bites_machine.proofs.model.MachineSearch.{AreTraced, option_or_cases}
-
-none_some : {A : Type 0} (x : A) → None ≡ Some x → ⊥
-none_some x e = cc
+use Rattle.std.proofs.lemmas.Option.{none-some}
+use Rattle.bites_spec.proofs.programs.BuiltLemmas.{Among-append}
+use Rattle.bites_spec.proofs.programs.ListedRunLemmas.{Among-map}
 
 -- none of these was started later
 abbrev pub AreUpTo : ℕ → List Thread → Type 0
@@ -35,7 +35,7 @@ sorted_append [] ys a b below = b
 sorted_append (x ∷ xs) ys a b below = (
   λ y h t is. ⊎_elim (λ here. a.0 y here t is)
       (λ later. below y later t (⊎_elim (λ (e : x ≡ t). inl e) (λ (no : ⊥). absurd no) is))
-      (Among-apart xs ys y h),
+      (Among-append xs ys y h),
   sorted_append xs ys a.1 b (λ y h t is. below y h t (inr is)),
 )
 
@@ -111,7 +111,7 @@ module _ (p : Program) (hay : List ℕ) (width : ℕ) (fits : width ≤ p.slots)
 
       on_start : (u : Thread) → Among on u → u.start ≡ t.start
       on_start u h =
-          let m = Among-mapped (thread_on t.start (with_write (state_at p.states t.state) i t.slots)) (leads p hay (at t.state i)) u h in
+          let m = Among-map (thread_on t.start (with_write (state_at p.states t.state) i t.slots)) (leads p hay (at t.state i)) u h in
           sym (ap (λ (v : Thread). v.start) m.2)
 
       on_upto : (c : ℕ) → AreUpTo c w.stack → AreUpTo c on
@@ -121,7 +121,7 @@ module _ (p : Program) (hay : List ℕ) (width : ℕ) (fits : width ≤ p.slots)
       rest_upto c upto u h = upto u (of_stack u (inr h))
 
       both_upto : (c : ℕ) (xs ys : List Thread) → AreUpTo c xs → AreUpTo c ys → AreUpTo c (xs ++ ys)
-      both_upto c xs ys a b u h = ⊎_elim (a u) (b u) (Among-apart xs ys u h)
+      both_upto c xs ys a b u h = ⊎_elim (a u) (b u) (Among-append xs ys u h)
 
       -- the first of the stack goes, and some of the rest stay
       module _ (some : List Thread) (sorted : AreSorted some) (among : (u : Thread) → Among some u → Among rest u) where
@@ -195,7 +195,7 @@ module _ (p : Program) (hay : List ℕ) (width : ℕ) (fits : width ≤ p.slots)
             below = λ y h u a. ⊎_elim
                 (λ here. let e = on_start t rest w is now y here in let b = now.below t (of_stack t rest w is now t (inl refl)) u a in omega arith)
                 (λ there. next_below t rest w is now rest sorted (λ v x. x) y there u a)
-                (Among-apart on rest y h);
+                (Among-append on rest y h);
             by_hit = λ h e. let x = now.by_hit h e in
                 (x.0, both_upto t rest w is now h.start on rest (on_upto t rest w is now h.start x.1) (rest_upto t rest w is now h.start x.1));
             by_best = λ b e. let x = now.by_best b e in
@@ -217,9 +217,9 @@ module _ (p : Program) (hay : List ℕ) (width : ℕ) (fits : width ≤ p.slots)
     next = tt;
     stack = with_start s.best;
     below = λ y h u a. absurd a;
-    by_hit = λ h e. absurd (none_some h e);
+    by_hit = λ h e. absurd (none-some h e);
     by_best = λ b e. (λ u a. absurd a, λ u a. now.by_best b e u (of_threads s.best u b e a));
-    hit_by_best = λ b e h x. absurd (none_some h x);
+    hit_by_best = λ b e h x. absurd (none-some h x);
   }
     where
       starting : Thread
@@ -234,8 +234,8 @@ module _ (p : Program) (hay : List ℕ) (width : ℕ) (fits : width ≤ p.slots)
 
       of_threads : (best : Option Thread) (u b : Thread) → best ≡ Some b →
           Among (s.threads ++ cond (is_some best) [] (started hay true p width s.place ∷ [])) u → Among s.threads u
-      of_threads None u b e a = absurd (none_some b e)
-      of_threads (Some c) u b e a = ⊎_elim (λ x. x) (λ (no : ⊥). absurd no) (Among-apart s.threads [] u a)
+      of_threads None u b e a = absurd (none-some b e)
+      of_threads (Some c) u b e a = ⊎_elim (λ x. x) (λ (no : ⊥). absurd no) (Among-append s.threads [] u a)
 
   -- one place more
   pub place_ordered : (s t : Searching) → AreTraced p hay true width start fits s → AreOrdered s → (place : Searches hay true p width s t) →

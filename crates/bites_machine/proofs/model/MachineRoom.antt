@@ -11,13 +11,14 @@ use Rattle.bites_spec.specs.Program.{State, Program, Configuration, at, state_at
 use Rattle.bites_spec.specs.Run.{leads}
 use Rattle.bites_spec.proofs.runs.RunLemmas.{inside_on}
 use Rattle.bites_machine.specs.Machine.{Thread, Walking, with_write, thread_on, moved, visited, dropped, step, WalksTo}
-use Rattle.bites_machine.proofs.compile.EdgeLemmas.{Among-apart}
 use Rattle.bites_machine.proofs.compile.SumLemmas.{sum_of_ones, sum_of_configurations}
 use Rattle.bites_machine.proofs.model.PathLemmas.{edges_within}
 use Rattle.bites_machine.proofs.model.MachineCases.{takes, was_seen, at_match, taken, gone}
 use Rattle.bites_machine.proofs.model.MachineCounts.{length-kept, unseen_here}
-use Rattle.bites_machine.proofs.model.MachineTrace.{Among-mapped, Among-kept}
+use Rattle.bites_machine.proofs.model.MachineTrace.{Among-kept}
 use Rattle.bites_machine.proofs.model.MachineWalks.{stack_cases, step_done, step_seen, step_new, visited_match, visited_taken, visited_gone}
+use Rattle.bites_spec.proofs.programs.BuiltLemmas.{Among-append}
+use Rattle.bites_spec.proofs.programs.ListedRunLemmas.{Among-map}
 
 module _ (p : Program) where
   -- the targets of these states, all together
@@ -34,14 +35,14 @@ module _ (p : Program) where
   apart_at : (seen : List ℕ) → AllApart seen → AllApart (map (λ q. at q 0) seen)
   apart_at [] apart = tt
   apart_at (q ∷ seen) apart = (
-    λ h. let m = Among-mapped (λ x. at x 0) seen (at q 0) h in
+    λ h. let m = Among-map (λ x. at x 0) seen (at q 0) h in
         apart.0 (subst (λ (x : ℕ). Among seen x) (ap (λ (s : Configuration). s.state) m.2) m.1),
     apart_at seen apart.1,
   )
 
   within_at : (seen : List ℕ) → AreStatesOf seen → (s : Configuration) → Among (map (λ q. at q 0) seen) s → (s.state < length p.states) × Among (0 ∷ []) s.place
   within_at seen inside s h =
-      let m = Among-mapped (λ x. at x 0) seen s h in
+      let m = Among-map (λ x. at x 0) seen s h in
       subst (λ (x : Configuration). (x.state < length p.states) × Among (0 ∷ []) x.place) m.2 (inside m.0 m.1, inl refl)
 
   sum_at : (f : Configuration → ℕ) (seen : List ℕ) → sum_by f (map (λ q. at q 0) seen) ≡ sum_by (λ q. f (at q 0)) seen
@@ -91,7 +92,7 @@ module _ (p : Program) where
 
     moved_inside : (t : Thread) → t.state < length p.states → (u : Thread) → Among (moved hay longest i (st_of t) t) u → u.state < length p.states
     moved_inside t inside u h =
-        let m = Among-mapped (thread_on t.start (with_write (st_of t) i t.slots)) (leads p hay (at t.state i)) u h in
+        let m = Among-map (thread_on t.start (with_write (st_of t) i t.slots)) (leads p hay (at t.state i)) u h in
         subst (λ (x : Thread). x.state < length p.states) m.2 (inside_on p hay well (at t.state i) m.0 (inside, here) m.1).0
 
     moved_len : (st : State) (t : Thread) → length (moved hay longest i st t) ≤ length (targets_of st)
@@ -151,7 +152,7 @@ module _ (p : Program) where
           next = let b = now.next in let c = one_target (st_of t) one in let d = moved_len (st_of t) t in
               let e = length-append w.next (moved hay longest i (st_of t) t) in omega arith;
           stack_inside = rest_inside;
-          next_inside = λ u h. ⊎_elim (now.next_inside u) (moved_inside t top_inside u) (Among-apart w.next (moved hay longest i (st_of t) t) u h);
+          next_inside = λ u h. ⊎_elim (now.next_inside u) (moved_inside t top_inside u) (Among-append w.next (moved hay longest i (st_of t) t) u h);
         }
 
         room_gone : HasRoom (gone hay longest i (st_of t) t rest w)
@@ -161,7 +162,7 @@ module _ (p : Program) where
           stack = let a = len_is in let b = now.stack in let c = moved_len (st_of t) t in let d = pushed_more t.state w.seen in
               let e = length-append (moved hay longest i (st_of t) t) rest in omega arith;
           next = let b = now.next in omega arith;
-          stack_inside = λ u h. ⊎_elim (moved_inside t top_inside u) (rest_inside u) (Among-apart (moved hay longest i (st_of t) t) rest u h);
+          stack_inside = λ u h. ⊎_elim (moved_inside t top_inside u) (rest_inside u) (Among-append (moved hay longest i (st_of t) t) rest u h);
           next_inside = now.next_inside;
         }
 

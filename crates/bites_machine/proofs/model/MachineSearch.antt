@@ -8,14 +8,14 @@ use Rattle.bites_spec.specs.Walks.{Among}
 use Rattle.bites_spec.specs.Program.{Program, Configuration, at, state_at}
 use Rattle.bites_spec.specs.Run.{leads}
 use Rattle.bites_machine.specs.Machine.{Thread, Walking, Searching, with_write, thread_on, moved, started, begun, Searches, at_start, is_over, SearchedTo, is_empty}
-use Rattle.bites_machine.proofs.compile.EdgeLemmas.{Among-apart}
-use Rattle.bites_machine.proofs.model.SweepLemmas.{places-here}
-use Rattle.bites_machine.proofs.model.PathLemmas.{place_on}
 use Rattle.bites_machine.proofs.model.MachineCases.{Keeps, walk_keeps}
-use Rattle.bites_machine.proofs.model.MachineTrace.{Trace, Found, trace_more, found_more, trace_start, trace_on, found_here, Among-mapped, Among-kept}
+use Rattle.bites_machine.proofs.model.MachineTrace.{Trace, Found, trace_more, found_more, trace_start, trace_on, found_here, Among-kept}
 use Rattle.bites_spec.proofs.programs.SlotLemmas.{Among-right}
+use Rattle.bites_spec.proofs.programs.BuiltLemmas.{Among-append}
+use Rattle.bites_spec.proofs.runs.PlaceLemmas.{place_on, places-here}
+use Rattle.bites_spec.proofs.programs.ListedRunLemmas.{Among-map}
 
-some_len : (n : ℕ) → (n == 0) ≡ false → 0 < n
+pub some_len : (n : ℕ) → (n == 0) ≡ false → 0 < n
 some_len zero e = absurd (true≢false (sym (eq-eqb 0 0 refl) ∙ e))
 some_len (suc n) e = omega arith
 
@@ -50,14 +50,14 @@ module _ (p : Program) (hay : List ℕ) (longest : Bool) (width : ℕ) (earliest
 abbrev pub configurations_of : ℕ → List Configuration → List ℕ → List Configuration
 configurations_of i old seen = map (λ q. at q i) seen ++ old
 
-option_or_some : (o : Option Thread) (t u : Thread) → option_or o (Some t) ≡ Some u → (o ≡ Some u) ⊎ (t ≡ u)
+pub option_or_some : (o : Option Thread) (t u : Thread) → option_or o (Some t) ≡ Some u → (o ≡ Some u) ⊎ (t ≡ u)
 option_or_some None t u e = inr (same t u e)
   where
     same : (t u : Thread) → Some t ≡ Some u → t ≡ u
     same t u e = cc
 option_or_some (Some v) t u e = inl e
 
-pub option_or_cases : (o q : Option Thread) (u : Thread) → option_or o q ≡ Some u → (o ≡ Some u) ⊎ ((o ≡ None) × (q ≡ Some u))
+pub option_or_cases : {A : Type 0} (o q : Option A) (u : A) → option_or o q ≡ Some u → (o ≡ Some u) ⊎ ((o ≡ None) × (q ≡ Some u))
 option_or_cases None q u e = inr (refl, e)
 option_or_cases (Some v) q u e = inl e
 
@@ -72,7 +72,7 @@ module _ (p : Program) (hay : List ℕ) (longest : Bool) (width : ℕ) (start : 
   traced_moved : (visits : List Configuration) (i k : ℕ) (t : Thread) → ((v : Configuration) → Among (leads p hay (at t.state i)) v → v.place ≡ k) → Among visits (at t.state i) →
       TraceAt visits i t → (u : Thread) → Among (moved hay longest i (state_at p.states t.state) t) u → TraceAt visits k u
   traced_moved visits i k t there here tr u h =
-      let m = Among-mapped (thread_on t.start (with_write (state_at p.states t.state) i t.slots)) (leads p hay (at t.state i)) u h in
+      let m = Among-map (thread_on t.start (with_write (state_at p.states t.state) i t.slots)) (leads p hay (at t.state i)) u h in
       subst (λ (x : Thread). TraceAt visits k x) m.2
       (subst (λ (j : ℕ). TraceAt visits j (thread_on t.start (with_write (state_at p.states t.state) i t.slots) m.0)) (there m.0 m.1)
       (trace_on p hay longest width start visits i t m.0 here m.1 tr))
@@ -131,12 +131,12 @@ module _ (p : Program) (hay : List ℕ) (longest : Bool) (width : ℕ) (start : 
               (over (edge_of t u a).0 (edge_of t u a).1).0,
               traced_moved (configurations_of i old (t.state ∷ w.seen)) i there t (λ v e. (over v e).1) (inl refl) (top_now w t rest is now) u a,
             ))
-            (Among-apart w.next (moved hay longest i (state_at p.states t.state) t) u h);
+            (Among-append w.next (moved hay longest i (state_at p.states t.state) t) u h);
         first_match = hit_now w t rest is now;
       };
       on_gone = λ t rest w is new none beside now. record {
         stack = λ u h. ⊎_elim (λ a. traced_moved (configurations_of i old (t.state ∷ w.seen)) i i t beside (inl refl) (top_now w t rest is now) u a)
-            (rest_now w t rest is now u) (Among-apart (moved hay longest i (state_at p.states t.state) t) rest u h);
+            (rest_now w t rest is now u) (Among-append (moved hay longest i (state_at p.states t.state) t) rest u h);
         next = next_now w t rest is now;
         first_match = hit_now w t rest is now;
       };
@@ -144,7 +144,7 @@ module _ (p : Program) (hay : List ℕ) (longest : Bool) (width : ℕ) (start : 
       where
         edge_of : (t u : Thread) → Among (moved hay longest i (state_at p.states t.state) t) u → (v : Configuration) × Among (leads p hay (at t.state i)) v
             × (thread_on t.start (with_write (state_at p.states t.state) i t.slots) v ≡ u)
-        edge_of t u a = Among-mapped (thread_on t.start (with_write (state_at p.states t.state) i t.slots)) (leads p hay (at t.state i)) u a
+        edge_of t u a = Among-map (thread_on t.start (with_write (state_at p.states t.state) i t.slots)) (leads p hay (at t.state i)) u a
 
   -- the threads of a search have come by walks, and the best has found a run
   pub record AreTraced (s : Searching) : Type 0 where
@@ -153,7 +153,7 @@ module _ (p : Program) (hay : List ℕ) (longest : Bool) (width : ℕ) (start : 
 
   pub begun_traced : (s : Searching) → Among (places hay start) s.place → AreTraced s → IsTraced s.place s.visits (begun hay longest p width s)
   begun_traced s among now = record {
-    stack = λ t h. ⊎_elim (now.threads t) (at_begin s.best t) (Among-apart s.threads (cond (is_some s.best) [] (started hay longest p width s.place ∷ [])) t h);
+    stack = λ t h. ⊎_elim (now.threads t) (at_begin s.best t) (Among-append s.threads (cond (is_some s.best) [] (started hay longest p width s.place ∷ [])) t h);
     next = λ t h. absurd h;
     first_match = λ t h. absurd (none_some t h);
   }

@@ -1,5 +1,5 @@
 -- Each thread of the machine has come by a walk through configurations that were visited, and has the slots of that walk.
-use Rattle.std.proofs.Common.{◌≡◌, ℕ, ◌≤◌, Bool, true, false, cond, List, [], ◌∷◌, ◌++◌, map, take, Option, Some, None, refl, sym, ap, ◌∙◌, subst, inl, inr, ⊎_elim, ◌⊎◌}
+use Rattle.std.proofs.Common.{◌≡◌, ℕ, ◌≤◌, Bool, true, false, cond, List, [], ◌∷◌, ◌++◌, take, Option, Some, None, refl, sym, ap, ◌∙◌, subst, inl, inr, ⊎_elim, ◌⊎◌}
 use Rattle.std.specs.Prelude.{replicate, if◌then◌else◌, nat_le}
 use Rattle.std.specs.List.{filter}
 use Rattle.std.proofs.lemmas.Bool.{cases_Bool}
@@ -10,16 +10,10 @@ use Rattle.bites_spec.specs.Run.{Run, leads, matches, Runs, IsRun, slots}
 use Rattle.bites_spec.proofs.runs.RunLemmas.{Inside, inside_on}
 use Rattle.bites_spec.proofs.utf8.PieceLemmas.{Among-places}
 use Rattle.bites_machine.specs.Machine.{Thread, with_write, thread_on, kept, started}
-use Rattle.bites_machine.proofs.compile.EdgeLemmas.{Among-apart}
 use Rattle.bites_machine.proofs.model.PathLemmas.{walk_on}
 use Rattle.bites_machine.proofs.model.MachineSlots.{all_written, run_writes}
 use Rattle.bites_machine.proofs.model.MachineWaiting.{match_keeps}
-
--- what is among the images is the image of something
-pub Among-mapped : {A B : Type 0} (f : A → B) (xs : List A) (y : B) → Among (map f xs) y → (x : A) × Among xs x × (f x ≡ y)
-Among-mapped f [] y h = absurd h
-Among-mapped f (x ∷ xs) y h =
-    ⊎_elim (λ (e : f x ≡ y). (x, inl refl, e)) (λ later. let r = Among-mapped f xs y later in (r.0, inr r.1, r.2)) h
+use Rattle.bites_spec.proofs.programs.BuiltLemmas.{Among-append}
 
 pub Among-filter : {A : Type 0} (test : A → Bool) (xs : List A) (x : A) → Among (filter test xs) x → Among xs x
 Among-filter test [] x h = h
@@ -113,7 +107,7 @@ module _ (p : Program) (hay : List ℕ) (longest : Bool) (width : ℕ) (start : 
     was = λ u h. ⊎_elim
         (λ before. ⊎_elim inl (λ (e : at t.state i ≡ u). inl (subst (λ (x : Configuration). Among visits x) e here)) (tr.was u before))
         (λ last. ⊎_elim (λ (e : v ≡ u). inr e) (λ (no : ⊥). absurd no) last)
-        (Among-apart (at p.start tr.from ∷ tr.configurations) (v ∷ []) u h);
+        (Among-append (at p.start tr.from ∷ tr.configurations) (v ∷ []) u h);
     slots = all_written-push (with_write (state_at p.states p.start) tr.from base) tr.configurations v ∙ ap (with_write (state_at p.states v.state) v.place) tr.slots;
     started = tr.started;
   }

@@ -1,15 +1,13 @@
 -- Walks along edges: what they pass, and where they stay.
-use Rattle.std.proofs.Common.{◌≡◌, ℕ, zero, suc, ◌+◌, ◌<◌, ◌≤◌, Bool, true, false, ◌&&◌, List, [], ◌∷◌, ◌++◌, length, Option, Some, None, refl, sym, subst, arith, inl, inr, ⊎_elim, cond}
+use Rattle.std.proofs.Common.{◌≡◌, ℕ, ◌+◌, ◌≤◌, Bool, true, false, ◌&&◌, List, [], ◌∷◌, ◌++◌, length, Option, Some, None, refl, sym, subst, arith, ⊎_elim, cond}
 use Rattle.std.specs.Prelude.{nat_lt, ◌==◌}
 use Rattle.std.proofs.lemmas.List.{length-map}
-use Rattle.bites_spec.specs.Utf8.{piece, places, step_len, character}
+use Rattle.bites_spec.specs.Utf8.{piece, character}
 use Rattle.bites_spec.specs.Look.{Look, holds}
 use Rattle.bites_spec.specs.Range.{in_ranges}
 use Rattle.bites_spec.specs.Walks.{Among, Walk}
 use Rattle.bites_spec.specs.Program.{State, Program, Configuration, at, edges, looking, targets_of, char, ranges, splits, goto, capture, fail, match}
 use Rattle.bites_spec.specs.Run.{leads, Runs, Reaches}
-use Rattle.bites_spec.proofs.utf8.PieceLemmas.{piece_within, Among-places}
-use Rattle.bites_machine.proofs.model.SweepLemmas.{places-here, places-past}
 
 -- a state has at each place at most as many edges as targets
 taking_one : (b : Bool) (t : Configuration) → length (cond b (t ∷ []) []) ≤ 1
@@ -28,24 +26,6 @@ edges_within hay (goto q look) i = looking_one hay look q i
 edges_within hay (capture q k) i = omega arith
 edges_within hay fail i = omega arith
 edges_within hay match i = omega arith
-
--- after a place of the list comes the one after its piece
-pub place_on : (n : ℕ) (hay : List ℕ) (s i : ℕ) → length hay < n + s → Among (places hay s) i → 0 < (piece hay i).len → Among (places hay s) (i + (piece hay i).len)
-place_on zero hay s i room h some = absurd (subst (λ (l : List ℕ). Among l i) (places-past hay s (omega arith)) h)
-place_on (suc n) hay s i room h some =
-    let le : s ≤ length hay = (let r = Among-places hay s i h in omega (arith, r)) in
-    subst (λ (l : List ℕ). Among l (i + (piece hay i).len)) (sym (places-here hay s le))
-    (⊎_elim
-    (λ (here : s ≡ i). inr (subst (λ (k : ℕ). Among (places hay (s + step_len hay s)) k) (step here)
-    (subst (λ (l : List ℕ). Among l (s + step_len hay s)) (sym (places-here hay (s + step_len hay s) (fits here))) (inl refl))))
-    (λ later. inr (place_on n hay (s + step_len hay s) i (omega arith) later some))
-    (subst (λ (l : List ℕ). Among l i) (places-here hay s le) h))
-  where
-    step : s ≡ i → s + step_len hay s ≡ i + (piece hay i).len
-    step here = subst (λ (k : ℕ). k + step_len hay k ≡ i + (piece hay i).len) (sym here) (omega arith)
-
-    fits : s ≡ i → s + step_len hay s ≤ length hay
-    fits here = let le = (Among-places hay s i h).1 in omega (arith, step here, piece_within hay i le)
 
 module _ (p : Program) (hay : List ℕ) where
   -- a list that no edge leaves has all that is reached from one of its configurations

@@ -5,7 +5,6 @@ use Rattle.std.specs.List.{list_any}
 use Rattle.std.proofs.lemmas.List.{get_or-set_other, length-replicate, length-map}
 use Rattle.std.proofs.lemmas.List.Sums.{sum_by-cons, sum_by-set}
 use Rattle.bites_spec.specs.Walks.{Among}
-use Rattle.bites_machine.proofs.compile.EdgeLemmas.{Among-apart}
 use Rattle.bites_spec.specs.Program as program
 use Rattle.bites_spec.specs.Program.{Program, Configuration, State, at, state_at, targets_of, HasRanges, AreStates, IsWellFormed}
 use Rattle.bites_spec.specs.Counts.{Record}
@@ -23,8 +22,9 @@ use Rattle.bites_machine.specs.declared.vm.closure.Scratch.{Scratch}
 use Rattle.bites_machine.proofs.tables.UsedLemmas.{same_or_not, users_same, user_counted}
 use Rattle.bites_machine.proofs.refine.ClosureSteps.{kept_nothing}
 use Rattle.bites_machine.proofs.refine.IdleLemmas.{released}
-use Rattle.bites_machine.proofs.model.MachineTrace.{Among-mapped}
 use Rattle.bites_machine.proofs.model.MachineWalks.{walks_through}
+use Rattle.bites_spec.proofs.programs.BuiltLemmas.{Among-append}
+use Rattle.bites_spec.proofs.programs.ListedRunLemmas.{Among-map}
 
 -- the states of a program without a fault
 sound_at : (n slots : ℕ) (ss : List State) (q : ℕ) → AreStates n slots ss → q < length ss → HasRanges (state_at ss q) × ((r : ℕ) → Among (targets_of (state_at ss q)) r → r < n)
@@ -99,9 +99,9 @@ here_and_before place (v ∷ vs) = by_test (here_and_before place vs) (v.place =
 among_both : (place : ℕ) (seen : List ℕ) (vs : List Configuration) (v : Configuration) → ((u : Configuration) → Among vs u → u.place < place) → Among (map (λ q. at q place) seen ++ vs) v → v.place < place + 1
 among_both place seen vs v before h =
     ⊎_elim
-    (λ (a : Among (map (λ q. at q place) seen) v). let m = Among-mapped (λ q. at q place) seen v a in omega (arith, ap (λ (s : Configuration). s.place) m.2))
+    (λ (a : Among (map (λ q. at q place) seen) v). let m = Among-map (λ q. at q place) seen v a in omega (arith, ap (λ (s : Configuration). s.place) m.2))
     (λ (b : Among vs v). omega (arith, before v b))
-    (Among-apart (map (λ q. at q place) seen) vs v h)
+    (Among-append (map (λ q. at q place) seen) vs v h)
 
 -- nothing was visited after this place
 pub none_behind : (place : ℕ) (vs : List Configuration) → ((v : Configuration) → Among (visited_before place vs) v → v.place < place) → (v : Configuration) → Among vs v → v.place < place + 1

@@ -1,8 +1,8 @@
 -- A thread whose closure is explored, or which is cut off, while others wait below it.
-use Rattle.std.proofs.Common.{◌≡◌, ℕ, ◌+◌, ◌-◌, ◌*◌, ◌<◌, ◌≤◌, ⊎_elim, Bool, true, false, cond, List, [], ◌∷◌, ◌++◌, map, length, sum, Option, Some, None, refl, sym, ap, ap₂, ◌∙◌, subst, arith, true≢false}
-use Rattle.std.specs.Prelude.{◌==◌, nat_le, sum_by, slice_index, slice_index_or, slice_set}
+use Rattle.std.proofs.Common.{◌≡◌, ℕ, ◌+◌, ◌*◌, ◌<◌, ◌≤◌, ⊎_elim, Bool, true, false, cond, List, [], ◌∷◌, ◌++◌, map, length, sum, Option, Some, None, refl, sym, ap, ap₂, ◌∙◌, subst, arith, true≢false}
+use Rattle.std.specs.Prelude.{nat_le, sum_by, slice_index_or}
 use Rattle.std.specs.List.{filter}
-use Rattle.std.proofs.lemmas.List.Sums.{sum_by-cons, sum_by-set}
+use Rattle.std.proofs.lemmas.List.Sums.{sum_by-cons}
 use Rattle.bites_spec.specs.Program as program
 use Rattle.bites_spec.specs.Program.{Program, targets_of}
 use Rattle.bites_spec.specs.Counts.{Record}
@@ -14,7 +14,7 @@ use Rattle.bites_machine.specs.Scratch.{first_match_of, thread_of, row_of}
 use Rattle.bites_machine.specs.SlotTable.{Pool, one_less}
 use Rattle.bites_machine.specs.Used.{slots_at}
 use Rattle.bites_machine.proofs.tables.ScratchLemmas.{threads_kept}
-use Rattle.bites_machine.proofs.refine.IdleLemmas.{released, length-one_less}
+use Rattle.bites_machine.proofs.refine.IdleLemmas.{released}
 use Rattle.bites_machine.specs.Explore.{IsReady, edges_left, seen_here}
 use Rattle.bites_machine.specs.Cuts.{cuts}
 use Rattle.bites_machine.specs.Sweep.{InvariantWithinStep, ClosesFrames, ClosesThread, walking_at}
@@ -23,6 +23,7 @@ use Rattle.bites_machine.specs.declared.vm.stack.Frame.{Frame}
 use Rattle.bites_machine.specs.declared.vm.closure.FirstMatch.{FirstMatch}
 use Rattle.bites_machine.specs.declared.vm.closure.Scratch.{Scratch}
 use Rattle.bites_machine.proofs.model.MachineWalks.{walks_above}
+use Rattle.bites_machine.proofs.tables.UsedLemmas.{length-one_less, sum-one_less}
 
 -- no more edges are left than there are
 pub edges_left_within : (states : List program.State) (visited_set : List Bool) → edges_left states visited_set ≤ sum_by (λ s. length (targets_of s)) states
@@ -107,13 +108,6 @@ kept_cut hay false (Some h) slots t below is = refl
 kept_cut hay true (Some h) slots t below is =
     let gt : nat_le t.start h.start ≡ false = grind (arith, is) in
     ap (λ (b : Bool). cond b (t ∷ filter (λ u. nat_le u.start h.start) below) (filter (λ u. nat_le u.start h.start) below)) gt
-
-sum-one_less : (ref_counts : List ℕ) (row : ℕ) → row < length ref_counts → sum (one_less ref_counts row) ≤ sum ref_counts
-sum-one_less ref_counts row known = by_test (row == 0)
-  where
-    by_test : (b : Bool) → sum (cond b ref_counts (slice_set ref_counts row (slice_index ref_counts row - 1))) ≤ sum ref_counts
-    by_test true = omega arith
-    by_test false = omega (arith, sum_by-set (λ n. n) ref_counts row (slice_index ref_counts row - 1) 0 known)
 
 -- a thread that was cut off released its row
 pub closes_by_cut : (hay : List ℕ) (longest : Bool) (place : ℕ) (states : List program.State) (t : Thread) (was : Record) (old : Scratch) (rows : Pool) (slots : List (Option ℕ)) →

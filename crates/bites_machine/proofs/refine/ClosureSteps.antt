@@ -3,7 +3,6 @@ use Rattle.std.proofs.Common.{◌≡◌, ◌≢◌, ℕ, ◌<◌, ◌≤◌, ⊎
 use Rattle.std.specs.Prelude.{option_to_list, slice_index, slice_index_or, sum, count_by, ◌==◌}
 use Rattle.bites_spec.specs.Walks.{Among}
 use Rattle.bites_spec.proofs.programs.SlotLemmas.{Among-left, Among-right}
-use Rattle.bites_machine.proofs.compile.EdgeLemmas.{Among-apart}
 use Rattle.bites_spec.specs.Program as program
 use Rattle.bites_spec.specs.Counts.{Record}
 use Rattle.bites_machine.specs.Machine as machine
@@ -21,6 +20,7 @@ use Rattle.bites_machine.specs.declared.vm.closure.Scratch.{Scratch}
 use Rattle.bites_machine.proofs.tables.UsedLemmas.{same_or_not, users_same, released, length-one_less, sum-one_less}
 use Rattle.bites_machine.proofs.tables.ScratchLemmas.{counted_user}
 use Rattle.bites_machine.proofs.model.MachineWalks.{walks_here, walks_through}
+use Rattle.bites_spec.proofs.programs.BuiltLemmas.{Among-append}
 
 -- A closure was explored for some steps, and goes on with these frames.
 pub record ClosesSome (hay : List ℕ) (longest : Bool) (place : ℕ) (states : List program.State) (t : Thread) (was now : Record) (old new : Scratch) (slots left : List (Option ℕ)) (on : Option Frame) : Type 0 where
@@ -67,7 +67,7 @@ users_stay mine xs ys others within r h =
     (λ l. inr (⊎_elim
     (λ (a : Among xs r). Among-left ys others r (within r a))
     (λ (b : Among others r). Among-right ys others r b)
-    (Among-apart xs others r l))) h
+    (Among-append xs others r l))) h
 
 -- what nothing keeps
 pub kept_nothing : (hay : List ℕ) (longest : Bool) (first_match : Option machine.Thread) → kept hay longest first_match [] ≡ []

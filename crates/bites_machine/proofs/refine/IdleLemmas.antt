@@ -1,14 +1,14 @@
 -- The users of rows, when they release them.
-use Rattle.std.proofs.Common.{◌≡◌, ◌≢◌, ℕ, suc, ◌+◌, ◌-◌, ◌<◌, ⊎_elim, inl, inr, Bool, true, false, cond, List, [], ◌∷◌, length, Option, None, refl, sym, ap, ◌∙◌, subst, arith, eq-eqb, ne_eqb}
+use Rattle.std.proofs.Common.{◌≡◌, ◌≢◌, ℕ, suc, ◌+◌, ◌-◌, ◌<◌, ⊎_elim, inl, inr, cond, List, [], ◌∷◌, length, Option, None, refl, sym, ap, ◌∙◌, subst, arith, eq-eqb, ne_eqb}
 use Rattle.std.specs.Prelude.{◌==◌, slice_set, slice_index, slice_index_or, count_by, replicate}
-use Rattle.std.proofs.lemmas.List.{length-set, get_or-set_same, get_or-set_other}
+use Rattle.std.proofs.lemmas.List.{get_or-set_same, get_or-set_other}
 use Rattle.std.proofs.Math.Seq.{drop-cons}
 use Rattle.std.specs.Prelude.{drop, map}
 use Rattle.bites_machine.specs.Scratch.{row_of}
 use Rattle.bites_machine.specs.declared.vm.threads.Thread.{Thread}
 use Rattle.bites_machine.specs.SlotTable.{Pool, one_less}
 use Rattle.bites_machine.specs.Used.{IsUsed, slots_at}
-use Rattle.bites_machine.proofs.tables.UsedLemmas.{users_more, users_same, same_or_not}
+use Rattle.bites_machine.proofs.tables.UsedLemmas.{users_more, users_same, same_or_not, length-one_less}
 
 -- a user of the row goes, the counts follow
 counts_less : (ref_counts : List ℕ) (row : ℕ) (users : List ℕ) → row < length ref_counts →
@@ -29,13 +29,6 @@ counts_less ref_counts row users known are r other =
   where
     less : (n : ℕ) → (n + 1) - 1 ≡ n
     less n = omega arith
-
-pub length-one_less : (ref_counts : List ℕ) (row : ℕ) → length (one_less ref_counts row) ≡ length ref_counts
-length-one_less ref_counts row = by_test (row == 0)
-  where
-    by_test : (b : Bool) → length (cond b ref_counts (slice_set ref_counts row (slice_index ref_counts row - 1))) ≡ length ref_counts
-    by_test true = refl
-    by_test false = length-set ref_counts row (slice_index ref_counts row - 1)
 
 -- a user releases its row
 pub released : (row : ℕ) (users : List ℕ) (old new : Pool) → new.ref_counts ≡ one_less old.ref_counts row → new.rows ≡ old.rows → new.slots_per_row ≡ old.slots_per_row →

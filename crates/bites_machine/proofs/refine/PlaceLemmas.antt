@@ -4,7 +4,6 @@ use Rattle.std.specs.Prelude.{slice_index_or}
 use Rattle.std.proofs.Math.Seq.{drop-cons}
 use Rattle.bites_spec.specs.Walks.{Among}
 use Rattle.bites_spec.proofs.programs.SlotLemmas.{Among-left, Among-right}
-use Rattle.bites_machine.proofs.compile.EdgeLemmas.{Among-apart}
 use Rattle.bites_spec.specs.Program as program
 use Rattle.bites_spec.specs.Program.{Program}
 use Rattle.bites_spec.specs.Counts.{Record}
@@ -18,6 +17,7 @@ use Rattle.bites_machine.specs.declared.vm.threads.Thread.{Thread}
 use Rattle.bites_machine.specs.declared.vm.closure.Scratch.{Scratch}
 use Rattle.bites_machine.proofs.tables.ScratchLemmas.{reordered, row_kept, threads_kept, uses-cons, uses-append}
 use Rattle.bites_machine.proofs.model.MachineWalks.{walks_here, walks_through}
+use Rattle.bites_spec.proofs.programs.BuiltLemmas.{Among-append}
 
 -- a user after others, put before them
 pub used_first : (pool : Pool) (xs : List ℕ) (row : ℕ) (rest : List ℕ) → IsUsed pool (xs ++ row ∷ rest) → IsUsed pool (row ∷ (xs ++ rest))
@@ -25,7 +25,7 @@ used_first pool xs row rest used =
     reordered pool (xs ++ row ∷ rest) (row ∷ (xs ++ rest)) used
     (λ r. omega (arith, uses-cons r row (xs ++ rest), uses-append r xs rest, uses-append r xs (row ∷ rest), uses-cons r row rest))
     (λ r h. ⊎_elim (λ (e : row ≡ r). Among-right xs (row ∷ rest) r (inl e))
-    (λ l. ⊎_elim (λ (a : Among xs r). Among-left xs (row ∷ rest) r a) (λ (b : Among rest r). Among-right xs (row ∷ rest) r (inr b)) (Among-apart xs rest r l)) h)
+    (λ l. ⊎_elim (λ (a : Among xs r). Among-left xs (row ∷ rest) r a) (λ (b : Among rest r). Among-right xs (row ∷ rest) r (inr b)) (Among-append xs rest r l)) h)
 
 -- the thread at an index is the first of those from it on
 pub front_is : (ts : List Thread) (i : ℕ) (t : Thread) → i < length ts → t ≡ slice_index_or ts i t → drop i ts ≡ t ∷ drop (i + 1) ts

@@ -19,10 +19,10 @@ use Rattle.bites_machine.specs.Sweep.{ClosesAll, InvariantBetweenSteps, Represen
 use Rattle.bites_machine.specs.declared.vm.threads.Thread.{Thread}
 use Rattle.bites_machine.specs.declared.vm.closure.FirstMatch.{FirstMatch}
 use Rattle.bites_machine.specs.declared.vm.closure.Scratch.{Scratch}
-use Rattle.bites_machine.proofs.compile.EdgeLemmas.{Among-apart}
-use Rattle.bites_machine.proofs.model.MachineTrace.{Among-mapped}
 use Rattle.bites_machine.proofs.model.MachineRoom.{HasRoom, walk_room}
 use Rattle.bites_machine.proofs.refine.BetweenStepsLemmas.{none_here, all_before, here_and_before, none_behind}
+use Rattle.bites_spec.proofs.programs.BuiltLemmas.{Among-append}
+use Rattle.bites_spec.proofs.programs.ListedRunLemmas.{Among-map}
 
 abbrev pub walking_on : List machine.Thread → List ℕ → List machine.Thread → Option machine.Thread → ℕ → machine.Walking
 walking_on stack seen next first_match looks = record { stack = stack; seen = seen; next = next; first_match = first_match; looks = looks }
@@ -89,10 +89,10 @@ module _ (hay : List ℕ) (longest : Bool) (place : ℕ) (states : List program.
           next = omega arith;
           stack_inside = λ u among. ⊎_elim
               (λ (a : Among (map (thread_of old.rows) threads) u).
-              let m = Among-mapped (thread_of old.rows) threads u a in
+              let m = Among-map (thread_of old.rows) threads u a in
               omega (arith, known m.0 m.1, ap (λ (x : machine.Thread). x.state) m.2, ap length is))
               (λ (b : Among (starts_of longest place (length slots) begins) u). starts_inside longest place (length slots) (length p.states) p.start begins starts well.start u b)
-              (Among-apart (map (thread_of old.rows) threads) (starts_of longest place (length slots) begins) u among);
+              (Among-append (map (thread_of old.rows) threads) (starts_of longest place (length slots) begins) u among);
           next_inside = λ u none. absurd none;
         } in
         let last = walk_room p hay well longest place here (length stack) (walking_on stack [] [] None was.looks) (walking_at place new left [] now) (walk_begun p is) first in

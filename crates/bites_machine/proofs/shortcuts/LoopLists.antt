@@ -4,7 +4,7 @@ use Rattle.bites_spec.specs.Walks.{Among}
 use Rattle.bites_spec.specs.Program.{State}
 use Rattle.bites_machine.specs.SelfLoop.{IsSelfLoop, IsCovered, AreLoops, AreCovered}
 use Rattle.bites_machine.specs.declared.self_loop.SelfLoop.{SelfLoop}
-use Rattle.bites_machine.proofs.compile.EdgeLemmas.{Among-apart}
+use Rattle.bites_spec.proofs.programs.BuiltLemmas.{Among-append}
 
 -- what is at an index of the list is among it
 pub among_at : {A : Type 0} (xs : List A) (k : ℕ) (d : A) → k < length xs → Among xs (get_or xs k d)
@@ -16,7 +16,7 @@ among_at (x ∷ xs) (suc k) d lt = inr (among_at xs k d (omega arith))
 among_more : {A : Type 0} (P : A → Type 0) (xs ys : List A) (y : A) → ys ≡ xs ++ y ∷ [] → ((x : A) → Among xs x → P x) → P y → (x : A) → Among ys x → P x
 among_more {A} P xs ys y is all one x h =
     ⊎_elim (all x) (λ m. ⊎_elim (λ (e : y ≡ x). subst P e one) (λ l. absurd l) m)
-    (Among-apart xs (y ∷ []) x (subst (λ (l : List A). Among l x) is h))
+    (Among-append xs (y ∷ []) x (subst (λ (l : List A). Among l x) is h))
 
 -- one self-loop more
 pub loops_more : (states : List State) (xs ys : List SelfLoop) (y : SelfLoop) → ys ≡ xs ++ y ∷ [] → IsSelfLoop states y → AreLoops states xs → AreLoops states ys

@@ -7,7 +7,6 @@ use Rattle.std.proofs.lemmas.List.{length-map}
 use Rattle.std.proofs.lemmas.Bool.{cases_Bool}
 use Rattle.bites_spec.specs.Walks.{Among}
 use Rattle.bites_spec.proofs.programs.SlotLemmas.{Among-left, Among-right}
-use Rattle.bites_machine.proofs.compile.EdgeLemmas.{Among-apart}
 use Rattle.bites_spec.specs.Program.{Program, state_at, takes}
 use Rattle.bites_machine.specs.Ends.{next_character}
 use Rattle.bites_machine.specs.Machine.{Thread, Walking, WalksTo}
@@ -19,6 +18,7 @@ use Rattle.bites_machine.proofs.shortcuts.PrefixLemmas.{blind, look_seen, look_n
 use Rattle.bites_machine.proofs.shortcuts.PrefixSets.{takes-none}
 use Rattle.bites_machine.proofs.shortcuts.ShutWalks.{was_among}
 use Rattle.bites_machine.proofs.shortcuts.PrefixWalks.{numbers, no_numbers, walking, seen_kept, blind_done, from_is, visits, IsQuiet}
+use Rattle.bites_spec.proofs.programs.BuiltLemmas.{Among-append}
 
 -- the state is one of these
 abbrev pub was : List ℕ → ℕ → Bool
@@ -73,7 +73,7 @@ module _ (old : List ℕ) where
       (λ (e : was (fresh_of old qs ++ old) q ≡ true). absurd (⊎_elim
       (λ a. true≢false (sym (among_was qs q (fresh_from q qs a)) ∙ new))
       (λ b. true≢false (sym (among_was old q b) ∙ other))
-      (Among-apart (fresh_of old qs) old q (was_among (fresh_of old qs ++ old) q e))))
+      (Among-append (fresh_of old qs) old q (was_among (fresh_of old qs ++ old) q e))))
       (λ e. e)
       (cases_Bool (was (fresh_of old qs ++ old) q))
 

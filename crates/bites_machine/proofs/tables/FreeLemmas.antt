@@ -6,9 +6,9 @@ use Rattle.std.proofs.lemmas.List.Sums.{sum_by-append, sum_by-set, sum_by-le-sum
 use Rattle.std.proofs.lemmas.List.Folds.{sum_by-replicate}
 use Rattle.bites_spec.specs.Walks.{Among, AllApart, IsNew}
 use Rattle.bites_spec.proofs.programs.SlotLemmas.{Among-left, Among-right, AllApart-append}
-use Rattle.bites_machine.proofs.compile.EdgeLemmas.{Among-apart}
 use Rattle.bites_machine.proofs.tables.RowLemmas.{row_fits, rows_apart}
 use Rattle.bites_machine.specs.SlotTable.{AreFree, AreTaken, no_slot, ref_counts_of, is_used, one_more, one_less}
+use Rattle.bites_spec.proofs.programs.BuiltLemmas.{Among-append}
 
 used_by : (n : ℕ) → ℕ
 used_by n = count_by is_used (n ∷ [])
@@ -29,7 +29,7 @@ used_set ref_counts row v lt = grind (arith, sum_by-set)
 apart_push : (xs : List ℕ) (x : ℕ) → AllApart xs → IsNew x xs → AllApart (xs ++ x ∷ [])
 apart_push [] x apart new = (λ h. absurd h, tt)
 apart_push (y ∷ xs) x apart new = (
-  λ h. ⊎_elim (λ a. apart.0 a) (λ (b : Among (x ∷ []) y). ⊎_elim (λ (e : x ≡ y). new (inl (sym e))) (λ n. absurd n) b) (Among-apart xs (x ∷ []) y h),
+  λ h. ⊎_elim (λ a. apart.0 a) (λ (b : Among (x ∷ []) y). ⊎_elim (λ (e : x ≡ y). new (inl (sym e))) (λ n. absurd n) b) (Among-append xs (x ∷ []) y h),
   apart_push xs x apart.1 (λ h. new (inr h)),
 )
 
@@ -45,7 +45,7 @@ freed free ref_counts row are known other used = record {
       (λ (b : Among (row ∷ []) r). ⊎_elim
       (λ (e : row ≡ r). (subst (λ n. r < n) (sym (length-set ref_counts row 0)) (subst (λ q. q < length ref_counts) e known), (λ z. other (e ∙ z)), subst (λ q. slice_index (slice_set ref_counts row 0) q ≡ 0) e (get_or-set_same ref_counts row 0 0 known)))
       (λ n. absurd n) b)
-      (Among-apart free (row ∷ []) r h);
+      (Among-append free (row ∷ []) r h);
   apart = apart_push free row are.apart (λ h. absurd (omega (arith, (are.known row h).2)));
   number = let e = used_set ref_counts row 0 known in
       let one = used_some (slice_index ref_counts row) used in

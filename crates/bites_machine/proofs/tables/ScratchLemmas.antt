@@ -5,13 +5,13 @@ use Rattle.std.proofs.lemmas.List.{map-append}
 use Rattle.std.proofs.lemmas.List.Sums.{sum_by-cons, sum_by-append}
 use Rattle.bites_spec.specs.Walks.{Among}
 use Rattle.bites_spec.proofs.programs.SlotLemmas.{Among-left, Among-right}
-use Rattle.bites_machine.proofs.compile.EdgeLemmas.{Among-apart}
 use Rattle.bites_machine.specs.SlotTable.{Pool}
 use Rattle.bites_machine.specs.Used.{IsUsed, KeepsRows, ForksTo, slots_at}
 use Rattle.bites_machine.specs.Scratch.{thread_of, users_of, row_of, AddsThread}
 use Rattle.bites_machine.specs.declared.vm.threads.Thread.{Thread}
 use Rattle.bites_machine.specs.declared.vm.closure.Scratch.{Scratch}
 use Rattle.bites_machine.proofs.tables.UsedLemmas.{same_or_not, users_more}
+use Rattle.bites_spec.proofs.programs.BuiltLemmas.{Among-append}
 
 -- how often a row is used
 abbrev pub uses : ℕ → List ℕ → ℕ
@@ -74,9 +74,9 @@ moved_among mine fresh xs others r h =
     ⊎_elim (λ (e : mine ≡ r). inr (inl e))
     (λ l. ⊎_elim
     (λ (a : Among (xs ++ fresh ∷ []) r). ⊎_elim (λ (b : Among xs r). inr (inr (Among-left xs others r b)))
-    (λ (b : Among (fresh ∷ []) r). ⊎_elim (λ (e : fresh ≡ r). inl e) (λ n. absurd n) b) (Among-apart xs (fresh ∷ []) r a))
+    (λ (b : Among (fresh ∷ []) r). ⊎_elim (λ (e : fresh ≡ r). inl e) (λ n. absurd n) b) (Among-append xs (fresh ∷ []) r a))
     (λ (b : Among others r). inr (inr (Among-right xs others r b)))
-    (Among-apart (xs ++ fresh ∷ []) others r l)) h
+    (Among-append (xs ++ fresh ∷ []) others r l)) h
 
 -- a thread is appended to the others
 pub puts_in : (place target pending_len fresh : ℕ) (t : Thread) (old new : Scratch) → ForksTo place t.row pending_len fresh old.rows new.rows →

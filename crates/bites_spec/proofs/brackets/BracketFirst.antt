@@ -254,7 +254,7 @@ item_first {flags} (StuckMembers.crossed low high t behind next place m may r da
     second_may last
     (stops_so message.invalid_range m place place _ (rw crossed refl) refl (sym names))
 
-nothing : (t : Text) → length t ≤ 0 → t ≡ []
+pub nothing : (t : Text) → length t ≤ 0 → t ≡ []
 nothing [] short = refl
 nothing (c ∷ t) short = absurd (omega arith)
 

@@ -1,9 +1,9 @@
 -- The reader reads each class in brackets that the grammar's relations read.
-use Rattle.std.proofs.Common.{◌≡◌, ℕ, zero, suc, ◌<◌, ◌≤◌, Bool, true, false, not, ◌||◌, ◌==◌, List, [], ◌∷◌, ◌++◌, length, refl, sym, ap, ap₂, ◌∙◌, subst, inl, inr, ⊎_elim, arith, ◌⊎◌, Some, None, true≢false, length-append, le-leb}
+use Rattle.std.proofs.Common.{◌≡◌, ℕ, zero, suc, ◌<◌, ◌≤◌, Bool, true, false, not, ◌==◌, List, [], ◌∷◌, ◌++◌, length, refl, sym, ap, ap₂, ◌∙◌, subst, inl, inr, ⊎_elim, arith, ◌⊎◌, Some, None, true≢false, length-append, le-leb}
 use Rattle.std.specs.Prelude.{codes, nat_le}
 use Rattle.std.proofs.lemmas.Option.{none-some}
 use Rattle.std.proofs.Math.Path.{fun_ext}
-use Rattle.std.proofs.lemmas.Bool.{cases_Bool}
+use Rattle.std.proofs.lemmas.Bool.{cases_Bool, not-true, not-false}
 use Rattle.bites_spec.specs.Message as message
 use Rattle.bites_spec.specs.Message.{Message}
 use Rattle.bites_spec.specs.Range.{Range}
@@ -18,6 +18,7 @@ use Rattle.bites_spec.proofs.characters.EachLemmas.{skip_shorter, each_complete,
 use Rattle.bites_spec.proofs.brackets.BracketText.{union_assoc, end_shorter, escape_begins}
 use Rattle.bites_spec.proofs.brackets.BracketEscapes.{escape_leads, same_behind}
 use Rattle.bites_spec.proofs.brackets.BracketMeans.{name_front, not_name_front, members_gap}
+use Rattle.std.proofs.Math.Bool.{or-false}
 
 -- the function reads each end of a range that the relation reads
 pub end_leads : {flags : Flags} {t rest : Text} {meaning : Meaning} → ReadsEnd flags t meaning rest → (n : ℕ) → length t ≤ suc n →
@@ -93,27 +94,19 @@ at_first go n flags sofar (c ∷ u) some may plain =
     let others = no_bracket c may in
     rw (others.1, others.0, plain) refl
 
-not_true : (b : Bool) → not b ≡ true → b ≡ false
-not_true true e = absurd (true≢false (sym e))
-not_true false e = refl
-
-not_false : (b : Bool) → not b ≡ false → b ≡ true
-not_false true e = refl
-not_false false e = absurd (true≢false e)
-
 -- where a second end stands, the function reads it
 pub at_second : (go : Members) (n : ℕ) (flags : Flags) (sofar : Set) (first : Meaning) (at v : Text) → 0 < length v → may_be_second v ≡ true →
     after_dash go n flags sofar first at v ≡ and_then (class_end n flags v) (reading.range go sofar first)
 at_second go n flags sofar first at [] some may = absurd (omega arith)
 at_second go n flags sofar first at (c ∷ v) some may =
-    let other = not_true (one_of (codes "]-") c) may in
+    let other = not-true (one_of (codes "]-") c) may in
     rw other refl
 
 alone_behind_dash : (go : Members) (n : ℕ) (flags : Flags) (sofar : Set) (first : Meaning) (at v : Text) → may_be_second v ≡ false →
     after_dash go n flags sofar first at v ≡ alone go sofar first at
 alone_behind_dash go n flags sofar first at [] may = absurd (true≢false may)
 alone_behind_dash go n flags sofar first at (c ∷ v) may =
-    let ends = not_false (one_of (codes "]-") c) may in
+    let ends = not-false (one_of (codes "]-") c) may in
     rw ends refl
 
 -- where no dash leads to a second end, the first end stands alone
@@ -126,10 +119,6 @@ at_alone go n flags sofar first (c ∷ v) some leads =
     let may : may_be_second (skip flags v) ≡ false = rw b at leads in
     rw b (alone_behind_dash go n flags sofar first (c ∷ v) (skip flags v) may))
     (λ (b : (c == dash) ≡ false). rw b refl) (cases_Bool (c == dash))
-
-or_none : (b : Bool) → (b || false) ≡ b
-or_none true = refl
-or_none false = refl
 
 some_set : {a b : Set} → Some a ≡ Some b → a ≡ b
 some_set {a} e = ap (λ o. elim o as (λ _. Set) [ Some set ↦ set | None ↦ a ]) e
@@ -190,7 +179,7 @@ pub members_lead : {flags : Flags} {t rest : Text} {set : Set} → ReadsMembers 
 members_lead {flags} (ReadsMembers.closed t rest set gap same) zero sofar room = absurd (omega (arith, ap length gap, skip_shorter flags t))
 members_lead {flags} (ReadsMembers.closed t rest set gap same) (suc n) sofar room =
     ap (reading.member (class_members n flags) n flags sofar) gap
-    ∙ ap (λ all. answer all rest) (fun_ext (λ c. sym (or_none (sofar c))) ∙ ap (union sofar) (sym same))
+    ∙ ap (λ all. answer all rest) (fun_ext (λ c. sym (or-false (sofar c))) ∙ ap (union sofar) (sym same))
 members_lead {flags} (ReadsMembers.goes_on t next rest one others set plain member r same) zero sofar room =
     absurd (omega (arith, member_shorter member, skip_shorter flags t))
 members_lead {flags} (ReadsMembers.goes_on t next rest one others set plain member r same) (suc n) sofar room =

@@ -19,6 +19,7 @@ use Rattle.bites_spec.specs.Reader.{ReadResult, Members, answer, stop, choose, a
 use Rattle.bites_spec.proofs.characters.EachLemmas.{skip_shorter, each_sound, each_shorter}
 use Rattle.bites_spec.proofs.characters.EscapeLemmas.{Means, either_side}
 use Rattle.bites_spec.proofs.brackets.BracketText.{skip_again, skip_nil, union_assoc, begins_append, end_shorter, end_means}
+use Rattle.std.proofs.Math.Bool.{or-false}
 
 -- what a result for the members of a class claims of the relations, from the set so far
 abbrev pub MembersMean : Flags → Set → Text → ReadResult Set → Type 0
@@ -179,10 +180,6 @@ end_then flags n go sofar t u (Ok x) room on at plain may means =
 end_then flags n go sofar t u (Err e) room on at plain may means =
     StuckMembers.in_first t e.place e.message (subst (λ y. StuckEscape flags y e.message e.place) at means)
 
-or_none : (b : Bool) → (b || false) ≡ b
-or_none true = refl
-or_none false = refl
-
 pub twice_begins : (d c : ℕ) (u : Text) → is_twice d (c ∷ u) ≡ true → c ≡ d
 twice_begins d c u e = eqb-true c d (and_parts (c == d) (next_is (single d) u) e).0
 
@@ -207,7 +204,7 @@ member_means : (flags : Flags) (n : ℕ) (go : Members) (sofar : Set) (t u : Tex
 member_means flags n go sofar t [] room on at = StuckMembers.ends t [] _ (sym at) refl refl
 member_means flags n go sofar t (c ∷ u) room on at =
     either_side (MembersMean flags sofar t) (c == right_bracket) _ _
-    (λ b. (class.none, ReadsMembers.closed t u _ (sym at ∙ ap (λ x. x ∷ u) (eqb-true c right_bracket b)) refl, fun_ext (λ x. sym (or_none (sofar x)))))
+    (λ b. (class.none, ReadsMembers.closed t u _ (sym at ∙ ap (λ x. x ∷ u) (eqb-true c right_bracket b)) refl, fun_ext (λ x. sym (or-false (sofar x)))))
     (λ b. either_side (MembersMean flags sofar t) (c == left_bracket) _ _
     (λ d. named_means flags n go sofar t (c ∷ u) u room on at (ap (λ x. x ∷ u) (eqb-true c left_bracket d)) named_classes refl)
     (λ d. either_side (MembersMean flags sofar t) (is_set_operator (c ∷ u)) _ _

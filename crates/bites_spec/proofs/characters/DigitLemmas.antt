@@ -17,10 +17,10 @@ value_next n (d ∷ ds) (suc i) lt = value_next n ds i (omega arith) ∙ ap (λ 
     next : (i : ℕ) → suc (i + 1) ≡ suc i + 1
     next i = omega arith
 
-not_below : (a b : ℕ) → b < a → nat_le a b ≡ false
+pub not_below : (a b : ℕ) → b < a → nat_le a b ≡ false
 not_below a b lt = grind (arith, nat_tests)
 
-and_false : (a b : Bool) → b ≡ false → (a && b) ≡ false
+pub and_false : (a b : Bool) → b ≡ false → (a && b) ≡ false
 and_false true b e = e
 and_false false b e = refl
 

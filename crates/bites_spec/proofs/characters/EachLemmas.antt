@@ -1,5 +1,5 @@
 -- Runs of characters and decimals: the reader agrees with the grammar's relations.
-use Rattle.std.proofs.Common.{◌≡◌, ℕ, zero, suc, ◌<◌, ◌≤◌, Bool, false, ◌||◌, ◌==◌, [], ◌∷◌, length, refl, sym, ap, ap₂, ◌∙◌, ⊎_elim, arith, ◌⊎◌, Ok, Err, ltb-true, ltb-false, lt-ltb}
+use Rattle.std.proofs.Common.{◌≡◌, ℕ, zero, suc, ◌<◌, ◌≤◌, Bool, false, ◌||◌, ◌==◌, [], ◌∷◌, length, refl, sym, ap, ap₂, ◌∙◌, ⊎_elim, arith, Ok, Err, ltb-true, ltb-false, lt-ltb}
 use Rattle.std.specs.Prelude.{nat_lt, not, if◌then◌else◌}
 use Rattle.std.specs.Char.{is_whitespace, is_ascii_digit}
 use Rattle.std.proofs.lemmas.Bool.{cases_Bool}
@@ -44,7 +44,7 @@ pub each_shorter : {flags : Flags} {set : Set} {t chars rest : Text} → ReadsEa
 each_shorter (none t chars rest ends is same) = omega (arith, ap length same)
 each_shorter {flags} (more c t next chars others rest is pass r same) = omega (arith, each_shorter r, ap length is, skip_shorter flags next)
 
-skip_white_shorter : (t : Text) → length (skip_white t) ≤ length t
+pub skip_white_shorter : (t : Text) → length (skip_white t) ≤ length t
 unfolding skip_white
 skip_white_shorter [] = omega arith
 skip_white_shorter (c ∷ t) = ⊎_elim (λ b. rw b (omega (arith, skip_white_shorter t))) (λ b. rw b (omega arith)) (cases_Bool (is_whitespace c))

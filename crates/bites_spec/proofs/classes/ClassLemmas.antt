@@ -7,6 +7,7 @@ use Rattle.bites_spec.specs.Class.{Set, is_scalar, following, IsRange, AreCanoni
 use Rattle.bites_spec.specs.RangesOf.{with_front, ranges_from, ranges_of, RangesOfList}
 use Rattle.bites_spec.specs.GrammarLaws.{ListsAll}
 use Rattle.bites_spec.proofs.classes.RangeLemmas.{is_range, none_below, scalar_within, following_within, in_first, lists_once}
+use Rattle.std.proofs.Math.Bool.{or-false}
 
 -- the first range, if there is one, begins no lower than the number
 abbrev pub StartsFrom : ℕ → List Range → Type 0
@@ -149,10 +150,6 @@ ranges_of_same a b same = lists_are_ranges_of b (ranges_of a) (lists_same a b (r
 pub in_ranges-append : (a b : List Range) (c : ℕ) → in_ranges (a ++ b) c ≡ (in_ranges a c || in_ranges b c)
 in_ranges-append a b c = list_any-append (λ r. in_range r c) a b
 
-or_false : (b : Bool) → (b || false) ≡ b
-or_false true = refl
-or_false false = refl
-
 -- a list with one range more contains what the list or the range contains
 pub in_ranges-push : (ranges : List Range) (r : Range) (c : ℕ) → in_ranges (ranges ++ r ∷ []) c ≡ (in_ranges ranges c || in_range r c)
-in_ranges-push ranges r c = in_ranges-append ranges (r ∷ []) c ∙ ap (λ b. in_ranges ranges c || b) (or_false (in_range r c))
+in_ranges-push ranges r c = in_ranges-append ranges (r ∷ []) c ∙ ap (λ b. in_ranges ranges c || b) (or-false (in_range r c))

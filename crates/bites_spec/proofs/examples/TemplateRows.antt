@@ -1,17 +1,13 @@
 -- What small templates stand for.
 use Rattle.std.proofs.Common.{◌≡◌, ◌≢◌, ℕ, Bool, true, false, not, ◌&&◌, List, [], ◌∷◌, ◌++◌, map, Option, Some, None, refl, sym, ◌∙◌, subst, inr, ⊎_elim, true≢false, arith, eq-eqb}
-use Rattle.std.proofs.lemmas.Bool.{and_parts}
+use Rattle.std.proofs.lemmas.Bool.{and_parts, not-true}
 use Rattle.std.specs.Prelude.{codes, ◌==◌, if◌then◌else◌}
 use Rattle.std.specs.List.{list_all}
 use Rattle.bites_spec.specs.Walks.{IsNew}
 use Rattle.bites_spec.specs.Template.{Part, byte, name, Cuts, ends, plain, doubled, named, braced, alone, Expands}
 
-not_true : (b : Bool) → not b ≡ true → b ≡ false
-not_true true e = absurd (true≢false (sym e))
-not_true false e = refl
-
 differs : (b c : ℕ) → not (b == c) ≡ true → b ≢ c
-differs b c e is = true≢false (sym (eq-eqb b c is) ∙ not_true (b == c) e)
+differs b c e is = true≢false (sym (eq-eqb b c is) ∙ not-true (b == c) e)
 
 -- bytes without a `$` stand for themselves
 plains : (any : Bool) (bytes rest : List ℕ) (parts : List Part) → list_all (λ b. not (b == 36)) bytes ≡ true → Cuts any rest parts →

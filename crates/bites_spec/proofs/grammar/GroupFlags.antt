@@ -2,7 +2,7 @@
 use Rattle.std.proofs.Common.{◌≡◌, ℕ, ◌<◌, ◌≤◌, Bool, true, false, not, ◌||◌, ◌==◌, [], ◌∷◌, ◌++◌, length, refl, sym, ap, ◌∙◌, subst, ⊎_elim, arith, eqb-true, true≢false, append-nil, length-append}
 use Rattle.std.specs.Prelude.{codes, if◌then◌else◌}
 use Rattle.std.specs.List.{list_all}
-use Rattle.std.proofs.lemmas.Bool.{eq-eqb, cases_Bool, or_parts, and_parts}
+use Rattle.std.proofs.lemmas.Bool.{eq-eqb, cases_Bool, or_parts, and_parts, not-true}
 use Rattle.std.proofs.lemmas.List.Folds.{list_all-append, list_any-append}
 use Rattle.bites_spec.specs.Message as message
 use Rattle.bites_spec.specs.Message.{Message, rank}
@@ -74,10 +74,6 @@ eqb_turned c d = by_cases (c == d) (d == c) refl refl
     by_cases false true same other = absurd (true≢false (sym (eq-eqb c d (sym (eqb-true d c other))) ∙ same))
     by_cases false false same other = same ∙ sym other
 
-is_not : (b : Bool) → not b ≡ true → b ≡ false
-is_not true e = absurd (true≢false (sym e))
-is_not false e = refl
-
 one_of-append : (run more : Text) (c : ℕ) → one_of (run ++ more) c ≡ (one_of run c || one_of more c)
 one_of-append run more c = list_any-append (λ d. c == d) run more
 
@@ -87,7 +83,7 @@ one_more_apart [] c apart new = refl
 one_more_apart (d ∷ run) c apart new =
     let both = and_parts (not (one_of run d)) (are_distinct run) apart in
     let others = or_parts (c == d) (one_of run c) new in
-    rw (one_of-append run (c ∷ []) d, is_not (one_of run d) both.0, eqb_turned d c, others.0, one_more_apart run c both.1 others.1) refl
+    rw (one_of-append run (c ∷ []) d, not-true (one_of run d) both.0, eqb_turned d c, others.0, one_more_apart run c both.1 others.1) refl
 
 one_more_run : (run : Text) (c : ℕ) → is_flag_run run ≡ true → is_flag_mark c ≡ true → one_of run c ≡ false → is_flag_run (run ++ c ∷ []) ≡ true
 one_more_run run c fits mark new =
@@ -144,7 +140,7 @@ is_apart : (run more : Text) (c : ℕ) → are_distinct (run ++ c ∷ more) ≡ 
 is_apart [] more c e = refl
 is_apart (d ∷ run) more c e =
     let both = and_parts (not (one_of (run ++ c ∷ more) d)) (are_distinct (run ++ c ∷ more)) e in
-    let parts = or_parts (one_of run d) (one_of (c ∷ more) d) (sym (one_of-append run (c ∷ more) d) ∙ is_not (one_of (run ++ c ∷ more) d) both.0) in
+    let parts = or_parts (one_of run d) (one_of (c ∷ more) d) (sym (one_of-append run (c ∷ more) d) ∙ not-true (one_of (run ++ c ∷ more) d) both.0) in
     rw (eqb_turned c d, (or_parts (d == c) (one_of more d) parts.1).0) (is_apart run more c both.1)
 
 goes_on : (run more : Text) (c : ℕ) → is_flag_run (run ++ c ∷ more) ≡ true → GoesOn run c

@@ -19,18 +19,11 @@ use Rattle.bites_spec.proofs.characters.EachLemmas.{skip_shorter}
 use Rattle.bites_spec.proofs.characters.ChoiceParts.{ReadsDirective, Opens, LeadsToGroup, StopsBy}
 use Rattle.bites_spec.proofs.grammar.GroupNames.{NameMeans, name_means, name_leads, name_stops, name_shorter, stuck_name_shorter}
 use Rattle.bites_spec.proofs.grammar.GroupFlags.{eqb_turned, FlagsMean, flags_mean, flags_lead, closing_flags_lead, flags_stop, flags_shorter, stuck_flags_shorter}
+use Rattle.bites_spec.proofs.brackets.BracketText.{begins_append}
 
 -- what a result after the parenthesis and its gap claims of the relations
 abbrev pub OpenedMeans : Front → Text → ReadResult Opened → Type 0
 OpenedMeans front next = Means (Opens front (left_parenthesis ∷ next)) (StuckOpening front (left_parenthesis ∷ next))
-
--- a text that begins with these characters is they and what follows them
-begins_is : (chars t : Text) → begins chars t ≡ true → t ≡ chars ++ drop (length chars) t
-begins_is [] t e = refl
-begins_is (c ∷ chars) [] e = absurd (true≢false (sym e))
-begins_is (c ∷ chars) (d ∷ t) e =
-    let both = and_parts (c == d) (begins chars t) e in
-    ap (λ x. x ∷ t) (sym (eqb-true c d both.0)) ∙ ap (λ x. c ∷ x) (begins_is chars t both.1)
 
 number_means : (front : Front) (next t : Text) → t ≡ skip front.flags next → next_is (single question) t ≡ false →
     OpenedMeans front next (with_number front t (answer (group (numbered None) (with_group None front)) t))
@@ -79,9 +72,9 @@ opened_means : (front : Front) (next t : Text) → t ≡ skip front.flags next �
 opened_means front next t is =
     either_side (OpenedMeans front next) (begins_look_around t) _ _ (λ l. stuck.looks_around _ next t _ refl is l refl)
     (λ l. either_side (OpenedMeans front next) (begins (codes "?P<") t) _ _
-    (λ p. named_means front next (drop 3 t) (ap begins_look_around (sym is) ∙ l) (inl (sym is ∙ begins_is (codes "?P<") t p)))
+    (λ p. named_means front next (drop 3 t) (ap begins_look_around (sym is) ∙ l) (inl (sym is ∙ begins_append (codes "?P<") t p)))
     (λ p. either_side (OpenedMeans front next) (begins (codes "?<") t) _ _
-    (λ n. named_means front next (drop 2 t) (ap begins_look_around (sym is) ∙ l) (inr (sym is ∙ begins_is (codes "?<") t n)))
+    (λ n. named_means front next (drop 2 t) (ap begins_look_around (sym is) ∙ l) (inr (sym is ∙ begins_append (codes "?<") t n)))
     (λ n. no_name_means front next t is (rw (p, n) refl))))
 
 -- what the function returns for what a parenthesis opens, the relations read

@@ -1,7 +1,7 @@
 -- Operators in braces: the reader reads what the grammar reads, or stops at too large a number; it stops where the grammar stops.
 use Rattle.std.proofs.Common.{◌≡◌, ℕ, ◌<◌, ◌≤◌, Bool, true, false, ◌==◌, [], ◌∷◌, length, refl, sym, ap, ◌∙◌, subst, inl, inr, ⊎_elim, arith, Option, Some, None, Ok, Err, eqb-true, true≢false, ltb-true, ltb-false, lt-ltb}
 use Rattle.std.specs.Prelude.{codes, nat_lt, unwrap_or}
-use Rattle.std.specs.Char.{is_whitespace, is_ascii_digit}
+use Rattle.std.specs.Char.{is_ascii_digit}
 use Rattle.std.proofs.lemmas.Bool.{cases_Bool}
 use Rattle.bites_spec.specs.Message as message
 use Rattle.bites_spec.specs.Message.{Message, rank}
@@ -14,7 +14,7 @@ use Rattle.bites_spec.specs.OperatorFault as stuck
 use Rattle.bites_spec.specs.OperatorFault.{StuckDecimal, StuckCount, greatest_number}
 use Rattle.bites_spec.specs.Fault.{ComesFirst}
 use Rattle.bites_spec.specs.Reader.{ReadResult, Bounds, answer, stop, and_then, decimal, counted, after_min, after_comma, after_max, whole_count}
-use Rattle.bites_spec.proofs.characters.EachLemmas.{skip_shorter, decimal_complete, decimal_shorter, stuck_decimal}
+use Rattle.bites_spec.proofs.characters.EachLemmas.{skip_shorter, decimal_complete, decimal_shorter, stuck_decimal, skip_white_shorter}
 use Rattle.bites_spec.proofs.characters.ChoiceParts.{StopsBy, most_of, LeadsToCount}
 use Rattle.bites_spec.proofs.grammar.ChoiceSteps.{lazy_complete}
 
@@ -176,12 +176,6 @@ strange_min n flags v c u other =
     ⊎_elim (λ (d : (c == comma) ≡ true). absurd (true≢false (sym (ap (one_of (codes ",}")) (eqb-true c comma d)) ∙ other)))
     (λ (d : (c == comma) ≡ false). rw (b, d) refl) (cases_Bool (c == comma)))
     (cases_Bool (c == right_brace))
-
-skip_white_shorter : (t : Text) → length (skip_white t) ≤ length t
-unfolding skip_white
-skip_white_shorter [] = omega arith
-skip_white_shorter (c ∷ t) =
-    ⊎_elim (λ (b : is_whitespace c ≡ true). rw b (omega (arith, skip_white_shorter t))) (λ (b : is_whitespace c ≡ false). rw b (omega arith)) (cases_Bool (is_whitespace c))
 
 stuck_decimal_shorter : {flags : Flags} {t place : Text} {m : Message} → StuckDecimal flags t m place → length place ≤ length t
 stuck_decimal_shorter (stuck.no_digit t place m is none names) = omega (arith, ap length is, skip_white_shorter t)

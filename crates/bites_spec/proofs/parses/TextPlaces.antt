@@ -1,6 +1,6 @@
 -- In UTF-8, the places from a border on are the borders from it on.
 use Rattle.std.proofs.Common.{◌≡◌, ℕ, zero, suc, ◌+◌, ◌-◌, ◌<◌, ◌≤◌, Bool, true, false, cond, List, [], ◌∷◌, ◌++◌, length, drop, refl, sym, ap, ◌∙◌, subst, inl, inr, ⊎_elim, arith, length-drop, length-append, append_assoc, take, ltb, ltb-true, ltb-false, le-leb, IsUtf8, IsCharBoundary}
-use Rattle.std.specs.Prelude.{◌↔◌, nat_le, encode_utf8_all, ◌&&◌}
+use Rattle.std.specs.Prelude.{◌↔◌, nat_le, encode_utf8_all}
 use Rattle.std.specs.Char.{len_utf8, IsScalar, encode_utf8}
 use Rattle.std.proofs.Math.Utf8.{scalar, scalars, encodes}
 use Rattle.std.proofs.lemmas.Str.{IsCharBoundary-past_char, IsUtf8-drop, IsUtf8-between, len_utf8_bounds, length-encode, length-le-encodes}

@@ -1,7 +1,7 @@
 -- All runs of a plain tree's program, in order, are the tree's listed traced parses, in order.
 use Rattle.std.proofs.Common.{◌≡◌, ℕ, zero, suc, ◌+◌, ◌-◌, ◌*◌, ◌<◌, ◌≤◌, Bool, true, false, not, cond, List, [], ◌∷◌, ◌++◌, map, length, Option, Some, None, refl, sym, ap, ap₂, ◌∙◌, subst, true≢false, arith, append-nil}
 use Rattle.std.specs.Prelude.{nat_lt, ◌&&◌, ◌||◌, ◌==◌, is_some}
-use Rattle.std.proofs.lemmas.Bool.{cases_Bool, and_parts}
+use Rattle.std.proofs.lemmas.Bool.{and_parts, not-true}
 use Rattle.bites_spec.specs.Utf8.{piece, character}
 use Rattle.bites_spec.specs.Look.{holds, Look}
 use Rattle.bites_spec.specs.Walks.{Among}
@@ -14,10 +14,6 @@ use Rattle.bites_spec.specs.Built.{Fragment, One, Behind, Copies, Loop, Star, Bo
 use Rattle.bites_spec.proofs.parses.EventLemmas.{Event, opened, closed, writes_of}
 use Rattle.bites_spec.proofs.programs.OrderLemmas.{TracedParse, traced, stay, Tour, tour_of, prefix, behind, onward, Every, up_to, after_turns, wrap, turns, traced_parses, traced_parses_of_all, traced_parses_of_one, nothing_before, onward-append, runs_within, AreRuns, EachAre, all_before, AreRuns-step, same_runs, Does, One-does, Behind-does, over, Advances, Star-does, Loop-does, Bounded-does, Copies-does, Every-append, Every-also}
 use Rattle.bites_spec.proofs.programs.TracedParses.{traced_parses_advance}
-
-not_true : (b : Bool) → not b ≡ true → b ≡ false
-not_true true e = absurd (true≢false (sym e))
-not_true false e = refl
 
 same_lists : (v w : ℕ → List TracedParse) → ((i : ℕ) → v i ≡ w i) → v ≡ w
 same_lists v w h = λ x. λ i. h i x
@@ -90,7 +86,7 @@ module _ (p : Program) (hay : List ℕ) where
     Repeated-does (suc n) None is_empty is_count plain adv =
         Does-same (Copies p.states n body (Loop p.states greedy body)) _ _ (after_turns-suc w (up_to (length hay) greedy w) n)
         (Copies-does p hay greedy body w does n (Loop p.states greedy body) (λ i. behind (w i) (up_to (length hay) greedy w))
-        (Loop-does p hay greedy body w does (adv (not_true is_empty plain))))
+        (Loop-does p hay greedy body w does (adv (not-true is_empty plain))))
     Repeated-does zero (Some zero) is_empty is_count plain adv =
         Does-same (One p.states (λ to. program.goto to None)) (λ i. stay i ∷ []) _ (λ i. up_to-zero greedy w i ∙ to_bound 0 i) goto_does
     Repeated-does zero (Some (suc zero)) is_empty is_count plain adv =

@@ -1,6 +1,6 @@
 -- Every traced parse of a plain tree is listed.
-use Rattle.std.proofs.Common.{◌≡◌, ℕ, zero, suc, ◌+◌, ◌-◌, ◌<◌, ◌≤◌, Bool, true, false, not, cond, List, [], ◌∷◌, ◌++◌, map, length, Some, None, refl, sym, ap, ap₂, subst, inl, inr, ⊎_elim, true≢false, arith, lt-ltb}
-use Rattle.std.proofs.lemmas.Bool.{and_parts}
+use Rattle.std.proofs.Common.{◌≡◌, ℕ, zero, suc, ◌+◌, ◌-◌, ◌<◌, ◌≤◌, Bool, true, false, not, cond, List, [], ◌∷◌, ◌++◌, map, length, Some, None, sym, ap, ap₂, subst, inl, inr, ⊎_elim, arith, lt-ltb}
+use Rattle.std.proofs.lemmas.Bool.{and_parts, not-true}
 use Rattle.std.specs.Prelude.{◌&&◌, ◌||◌, ◌==◌, is_some}
 use Rattle.bites_spec.specs.Utf8.{piece}
 use Rattle.bites_spec.specs.Walks.{Among}
@@ -13,10 +13,6 @@ use Rattle.bites_spec.proofs.programs.PartLemmas.{Traces}
 use Rattle.bites_spec.proofs.programs.OrderLemmas.{TracedParse, traced, stay, prefix, behind, Every, up_to, after_turns, wrap, taken, turns, traced_parses, traced_parses_of_all, traced_parses_of_one}
 use Rattle.bites_spec.proofs.programs.TracedParses.{traced_parses_are, parse_of, traced_parses-parses, advance, forward}
 use Rattle.bites_spec.proofs.programs.SlotLemmas.{Among-left, Among-right}
-
-not_true : (b : Bool) → not b ≡ true → b ≡ false
-not_true true e = absurd (true≢false (sym e))
-not_true false e = refl
 
 pub Among-under : {A B : Type 0} (f : A → B) (xs : List A) (x : A) → Among xs x → Among (map f xs) (f x)
 Among-under f [] x h = absurd h
@@ -112,7 +108,7 @@ module _ (hay : List ℕ) where
     Among-traced (repetition min None greedy t) plain i l es (n, least, within, all) =
         let both = and_parts (is_some {T = ℕ} None || not (is_nullable t)) (is_plain t) plain in
         Among-turns_none (Steps hay t) (traced_parses hay t) (Among-traced t both.1) hay
-        (λ i j es h. let lt = advance hay t (not_true (is_nullable t) both.0) i j es h in (lt, (forward hay t i j es h).1 lt))
+        (λ i j es h. let lt = advance hay t (not-true (is_nullable t) both.0) i j es h in (lt, (forward hay t i j es h).1 lt))
         min greedy n i l es least all
     Among-traced (repetition min (Some most) greedy t) plain i l es (n, least, within, all) =
         let both = and_parts true (is_plain t) plain in

@@ -1,5 +1,5 @@
 -- All runs of a plain tree's program, in order, are its parses, in order.
-use Rattle.std.proofs.Common.{◌≡◌, ◌≢◌, ℕ, zero, suc, ◌<◌, ◌≤◌, Bool, true, false, cond, List, [], ◌∷◌, ◌++◌, map, length, Option, Some, None, refl, sym, ap, ap₂, ◌∙◌, subst, inl, inr, ⊎_elim, arith, ◌⊎◌, eq-eqb, ltb-false, eqb-true, ◌+◌}
+use Rattle.std.proofs.Common.{◌≡◌, ◌≢◌, ℕ, zero, suc, ◌<◌, ◌≤◌, Bool, true, false, cond, List, [], ◌∷◌, ◌++◌, map, length, Option, Some, None, refl, sym, ap, ap₂, ◌∙◌, subst, inl, inr, ⊎_elim, arith, eq-eqb, ltb-false, eqb-true, ◌+◌}
 use Rattle.std.specs.Prelude.{if◌then◌else◌, flat_map, nat_lt, count_by, ◌==◌, ◌&&◌}
 use Rattle.std.proofs.lemmas.List.{get_or_past}
 use Rattle.std.proofs.lemmas.List.Sums.{sum_by-cons}
@@ -26,16 +26,13 @@ use Rattle.bites_spec.proofs.programs.BuiltLemmas.{Among-append, has_groups}
 use Rattle.bites_spec.proofs.programs.SlotLemmas.{Among-left, Among-right}
 use Rattle.bites_spec.proofs.programs.FoundLemmas.{unfold_whole}
 use Rattle.bites_spec.proofs.programs.ApartLemmas.{HasForm-entered, HasForm-fine, group-fine}
+use Rattle.bites_spec.proofs.programs.ListedLemmas.{Among-under}
 
 -- an element of a mapped list is the image of an element
-Among-map : {A B : Type 0} (f : A → B) (xs : List A) (y : B) → Among (map f xs) y → (x : A) × Among xs x × (f x ≡ y)
+pub Among-map : {A B : Type 0} (f : A → B) (xs : List A) (y : B) → Among (map f xs) y → (x : A) × Among xs x × (f x ≡ y)
 Among-map f [] y h = absurd h
 Among-map f (x ∷ xs) y h =
     ⊎_elim (λ (e : f x ≡ y). (x, inl refl, e)) (λ later. let m = Among-map f xs y later in (m.0, inr m.1, m.2)) h
-
-Among-under : {A B : Type 0} (f : A → B) (xs : List A) (x : A) → Among xs x → Among (map f xs) (f x)
-Among-under f [] x h = absurd h
-Among-under f (y ∷ xs) x h = ⊎_elim (λ (e : y ≡ x). inl (ap f e)) (λ later. inr (Among-under f xs x later)) h
 
 Among-flat : {A B : Type 0} (f : A → List B) (xs : List A) (y : B) → Among (flat_map f xs) y → (x : A) × Among xs x × Among (f x) y
 Among-flat f [] y h = absurd h

@@ -7,9 +7,10 @@ use Rattle.std.proofs.lemmas.Bool.{cases_Bool}
 use Rattle.bites_spec.specs.Walks.{Among, AllApart, Earlier, Walk, Before, first_among, last_of}
 use Rattle.bites_spec.specs.Program.{Program, Configuration, state_at}
 use Rattle.bites_spec.specs.Run.{is_same_configuration, leads, matches, Runs, writes, write_of}
-use Rattle.bites_spec.proofs.runs.FirstLemmas.{or_cases, or_none}
+use Rattle.bites_spec.proofs.runs.FirstLemmas.{or_cases, or_none, map_some}
 use Rattle.bites_spec.proofs.runs.RunLemmas.{same_is, same_refl, match_ends}
 use Rattle.bites_spec.proofs.programs.OrderLemmas.{Tour, before, runs_within, AreRuns}
+use Rattle.bites_spec.proofs.runs.WalkLemmas.{map_none}
 
 configuration_cases : (x y : Configuration) → (x ≡ y) ⊎ (x ≢ y)
 configuration_cases x y =
@@ -103,14 +104,6 @@ none_of f [] e y h = absurd h
 none_of f (x ∷ xs) e y h =
     let both = or_none (f x) (first_among f xs) e in
     ⊎_elim (λ (is : x ≡ y). subst (λ z. f z ≡ None) is both.0) (λ later. none_of f xs both.1 y later) h
-
-map_some : {A B : Type 0} (f : A → B) (o : Option A) (y : B) → option_map f o ≡ Some y → (x : A) × (o ≡ Some x) × (f x ≡ y)
-map_some f None y e = absurd (none-some y e)
-map_some f (Some x) y e = (x, refl, same_Some (f x) y e)
-
-map_none : {A B : Type 0} (f : A → B) (o : Option A) → option_map f o ≡ None → o ≡ None
-map_none f None e = refl
-map_none f (Some x) e = absurd (none-some (f x) (sym e))
 
 module _ (p : Program) (hay : List ℕ) where
   cycle_join : (s t : Configuration) (c b : List Configuration) (j : ℕ) → Walk (leads p hay) (λ u. u ≡ t) s c → Runs p hay t b j → Runs p hay s (c ++ b) j

@@ -1,6 +1,6 @@
 -- A run that a search finds begins at the start of the search or after, and ends within the haystack.
 use Rattle.std.proofs.Common.{◌≡◌, ℕ, ◌+◌, ◌≤◌, ◌⊎◌, Bool, true, false, cond, ◌&&◌, List, [], ◌∷◌, map, length, Option, Some, None, refl, sym, ap, ◌∙◌, subst, inl, inr, ⊎_elim, arith}
-use Rattle.std.proofs.lemmas.Option.{same_Some}
+use Rattle.std.proofs.lemmas.Option.{same_Some, none-some}
 use Rattle.std.specs.Prelude.{◌==◌, nat_lt, option_and_then}
 use Rattle.std.specs.Option.{option_or}
 use Rattle.bites_spec.specs.Utf8.{piece, character, places}
@@ -50,9 +50,6 @@ module _ (hay : List ℕ) where
   edge_lies program.fail i t le h = absurd h
   edge_lies program.match i t le h = absurd h
 
-none_some : {A : Type 0} (x : A) → None ≡ Some x → ⊥
-none_some x e = cc
-
 or_some : {A : Type 0} (a b : Option A) (x : A) → option_or a b ≡ Some x → (a ≡ Some x) ⊎ (b ≡ Some x)
 or_some None b x e = inr e
 or_some (Some y) b x e = inl e
@@ -80,7 +77,7 @@ module _ (p : Program) (hay : List ℕ) where
   found_lies : (i : ℕ) (r : Run) (o : Option (List Configuration)) → i ≤ length hay →
       walks.first_walk is_same_configuration (leads p hay) (matches p) (enough p hay) (λ s. false) (at p.start i) ≡ o →
       option_and_then (run_of p hay i) o ≡ Some r → LiesFrom (length hay) i (span r.start r.end)
-  found_lies i r None le is e = absurd (none_some r e)
+  found_lies i r None le is e = absurd (none-some r e)
   found_lies i r (Some l) le is e =
       let h = sound is_same_configuration (leads p hay) (matches p) same_is same_refl (match_ends p hay) (enough p hay) (λ s. false) (at p.start i) l is in
       let runs = Runs-lie (at p.start i) h.0 (last_of (at p.start i) h.0).place le (ends_at_last (at p.start i) h.0 h.2) in
@@ -93,7 +90,7 @@ module _ (p : Program) (hay : List ℕ) where
 
   first_among_lies : (s : ℕ) (ps : List ℕ) → ((i : ℕ) → Among ps i → (s ≤ i) × (i ≤ length hay)) → (r : Run) →
       first_among (first_run_from p hay) ps ≡ Some r → LiesFrom (length hay) s (span r.start r.end)
-  first_among_lies s [] within r e = absurd (none_some r e)
+  first_among_lies s [] within r e = absurd (none-some r e)
   first_among_lies s (i ∷ ps) within r e =
       let here = within i (inl refl) in
       ⊎_elim

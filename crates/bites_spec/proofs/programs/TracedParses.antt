@@ -12,7 +12,7 @@ use Rattle.bites_spec.specs.Preference as preference
 use Rattle.bites_spec.proofs.utf8.PieceLemmas.{piece_within, piece_none}
 use Rattle.bites_spec.proofs.parses.EventLemmas.{Event, closed, marks_of, marks_of-append, Steps, StepsAll, StepsOne}
 use Rattle.bites_spec.proofs.programs.PartLemmas.{Traces, Both, Several}
-use Rattle.bites_spec.proofs.programs.OrderLemmas.{TracedParse, stay, prefix, behind, Every, up_to, after_turns, wrap, taken, turns, traced_parses, traced_parses_of_all, traced_parses_of_one, map-append}
+use Rattle.bites_spec.proofs.programs.OrderLemmas.{TracedParse, stay, prefix, behind, Every, up_to, after_turns, wrap, taken, turns, traced_parses, traced_parses_of_all, traced_parses_of_one, map-append, Every-also}
 
 and_either : (a b : Bool) → (a && b) ≡ false → (a ≡ false) ⊎ (b ≡ false)
 and_either true b e = inr e
@@ -26,10 +26,6 @@ pub Every-under : {A B : Type 0} (P : B → Type 0) (f : A → B) (xs : List A) 
 Every-under P f [] h = tt
 Every-under P f (x ∷ xs) h = (h.0, Every-under P f xs h.1)
 
-pub Every-weak : {A : Type 0} (P Q : A → Type 0) (ts : List A) → ((t : A) → P t → Q t) → Every P ts → Every Q ts
-Every-weak P Q [] f h = tt
-Every-weak P Q (t ∷ ts) f h = (f t h.0, Every-weak P Q ts f h.1)
-
 -- each traced parse of the list is one of R from i
 abbrev pub Listed : Traces → ℕ → List TracedParse → Type 0
 Listed R i ts = Every (λ w. R i w.end w.events) ts
@@ -40,7 +36,7 @@ Listed-behind R T i [] f h g = tt
 Listed-behind R T i (t ∷ ts) f h g =
     Every-join (λ w. Both R T i w.end w.events) (map (prefix t.events) (f t.end)) (behind ts f)
     (Every-under (λ w. Both R T i w.end w.events) (prefix t.events) (f t.end)
-    (Every-weak (λ v. T t.end v.end v.events) (λ v. Both R T i v.end (t.events ++ v.events)) (f t.end)
+    (Every-also (λ v. T t.end v.end v.events) (λ v. Both R T i v.end (t.events ++ v.events)) (f t.end)
     (λ v parse. (t.end, t.events, v.events, h.0, parse, refl)) (g t.end)))
     (Listed-behind R T i ts f h.1 g)
 
@@ -52,14 +48,14 @@ unfolding up_to
 Listed-up_to R body h greedy zero i = ((zero, omega arith, (refl, refl)), tt)
 Listed-up_to R body h true (suc n) i =
     Every-join (λ w. Several (λ m. m ≤ suc n) R i w.end w.events) (behind (body i) (up_to n true body)) (stay i ∷ [])
-    (Every-weak (λ w. Both R (Several (λ m. m ≤ n) R) i w.end w.events) (λ w. Several (λ m. m ≤ suc n) R i w.end w.events)
+    (Every-also (λ w. Both R (Several (λ m. m ≤ n) R) i w.end w.events) (λ w. Several (λ m. m ≤ suc n) R i w.end w.events)
     (behind (body i) (up_to n true body))
     (λ w. one_more R (λ m. m ≤ n) (λ m. m ≤ suc n) (λ m le. omega arith) i w.end w.events)
     (Listed-behind R (Several (λ m. m ≤ n) R) i (body i) (up_to n true body) (h i) (Listed-up_to R body h true n)))
     ((zero, omega arith, (refl, refl)), tt)
 Listed-up_to R body h false (suc n) i = (
   (zero, omega arith, (refl, refl)),
-  Every-weak (λ w. Both R (Several (λ m. m ≤ n) R) i w.end w.events) (λ w. Several (λ m. m ≤ suc n) R i w.end w.events)
+  Every-also (λ w. Both R (Several (λ m. m ≤ n) R) i w.end w.events) (λ w. Several (λ m. m ≤ suc n) R i w.end w.events)
       (behind (body i) (up_to n false body))
       (λ w. one_more R (λ m. m ≤ n) (λ m. m ≤ suc n) (λ m le. omega arith) i w.end w.events)
       (Listed-behind R (Several (λ m. m ≤ n) R) i (body i) (up_to n false body) (h i) (Listed-up_to R body h false n)),
@@ -69,10 +65,10 @@ Listed-after : (R : Traces) (body rest : ℕ → List TracedParse) (P : ℕ → 
     (n i : ℕ) → Listed (Several (λ m. (k : ℕ) × P k × (m ≡ n + k)) R) i (after_turns n body rest i)
 unfolding after_turns
 Listed-after R body rest P h g zero i =
-    Every-weak (λ w. Several P R i w.end w.events) (λ w. Several (λ m. (k : ℕ) × P k × (m ≡ 0 + k)) R i w.end w.events) (rest i)
+    Every-also (λ w. Several P R i w.end w.events) (λ w. Several (λ m. (k : ℕ) × P k × (m ≡ 0 + k)) R i w.end w.events) (rest i)
     (λ w x. (x.0, (x.0, x.1, omega arith), x.2)) (g i)
 Listed-after R body rest P h g (suc n) i =
-    Every-weak (λ w. Both R (Several (λ m. (k : ℕ) × P k × (m ≡ n + k)) R) i w.end w.events)
+    Every-also (λ w. Both R (Several (λ m. (k : ℕ) × P k × (m ≡ n + k)) R) i w.end w.events)
     (λ w. Several (λ m. (k : ℕ) × P k × (m ≡ suc n + k)) R i w.end w.events)
     (behind (body i) (after_turns n body rest))
     (λ w. one_more R (λ m. (k : ℕ) × P k × (m ≡ n + k)) (λ m. (k : ℕ) × P k × (m ≡ suc n + k)) (λ m c. (c.0, c.1, omega (arith, c.2))) i w.end w.events)
@@ -97,11 +93,11 @@ module _ (hay : List ℕ) where
   Listed-turns : (R : Traces) (body : ℕ → List TracedParse) → ((i : ℕ) → Listed R i (body i)) → (min : ℕ) (most : Option ℕ) (greedy : Bool) → IsCount min most →
       (i : ℕ) → Listed (λ i l es. (n : ℕ) × (min ≤ n) × IsWithin most n × Turns R n i l es) i (turns hay min most greedy body i)
   Listed-turns R body h min None greedy is_count i =
-      Every-weak (λ w. Several (λ m. (k : ℕ) × (k ≤ length hay) × (m ≡ min + k)) R i w.end w.events) _ (after_turns min body (up_to (length hay) greedy body) i)
+      Every-also (λ w. Several (λ m. (k : ℕ) × (k ≤ length hay) × (m ≡ min + k)) R i w.end w.events) _ (after_turns min body (up_to (length hay) greedy body) i)
       (λ w x. let c = x.1 in (x.0, omega (arith, c.2), tt, x.2))
       (Listed-after R body (up_to (length hay) greedy body) (λ k. k ≤ length hay) h (Listed-up_to R body h greedy (length hay)) min i)
   Listed-turns R body h min (Some most) greedy is_count i =
-      Every-weak (λ w. Several (λ m. (k : ℕ) × (k ≤ most - min) × (m ≡ min + k)) R i w.end w.events) _ (after_turns min body (up_to (most - min) greedy body) i)
+      Every-also (λ w. Several (λ m. (k : ℕ) × (k ≤ most - min) × (m ≡ min + k)) R i w.end w.events) _ (after_turns min body (up_to (most - min) greedy body) i)
       (λ w x. let c = x.1 in (x.0, omega (arith, c.2), omega (arith, c.1, c.2, is_count.0), x.2))
       (Listed-after R body (up_to (most - min) greedy body) (λ k. k ≤ most - min) h (Listed-up_to R body h greedy (most - min)) min i)
 
@@ -117,7 +113,7 @@ module _ (hay : List ℕ) where
     traced_parses_are (repetition min most greedy t) reduced i = Listed-turns (Steps hay t) (traced_parses hay t) (traced_parses_are t reduced.1) min most greedy reduced.0 i
     traced_parses_are (group k name t) reduced i =
         Every-under (λ w. Steps hay (group k name t) i w.end w.events) (wrap k i) (traced_parses hay t i)
-        (Every-weak (λ w. Steps hay t i w.end w.events) _ (traced_parses hay t i) (λ w h. (w.events, h, refl)) (traced_parses_are t reduced.1 i))
+        (Every-also (λ w. Steps hay t i w.end w.events) _ (traced_parses hay t i) (λ w h. (w.events, h, refl)) (traced_parses_are t reduced.1 i))
     traced_parses_are (sequence ts) reduced i = traced_all_are ts reduced.1 i
     traced_parses_are (alternation ts) reduced i = traced_one_are ts reduced.1 i
 
@@ -130,8 +126,8 @@ module _ (hay : List ℕ) where
     traced_one_are no_tree reduced i = tt
     traced_one_are (tree_and t ts) reduced i =
         Every-join (λ w. StepsOne hay (tree_and t ts) i w.end w.events) (traced_parses hay t i) (traced_parses_of_one hay ts i)
-        (Every-weak (λ w. Steps hay t i w.end w.events) _ (traced_parses hay t i) (λ w h. inl h) (traced_parses_are t reduced.0 i))
-        (Every-weak (λ w. StepsOne hay ts i w.end w.events) _ (traced_parses_of_one hay ts i) (λ w h. inr h) (traced_one_are ts reduced.1 i))
+        (Every-also (λ w. Steps hay t i w.end w.events) _ (traced_parses hay t i) (λ w h. inl h) (traced_parses_are t reduced.0 i))
+        (Every-also (λ w. StepsOne hay ts i w.end w.events) _ (traced_parses_of_one hay ts i) (λ w h. inr h) (traced_one_are ts reduced.1 i))
 
   -- it does not go back, and where it goes forward it ends within the haystack
   abbrev pub Forward : ℕ → ℕ → Type 0
@@ -234,7 +230,7 @@ module _ (hay : List ℕ) where
   -- the listed traced parses of a tree that is not nullable end further on
   pub traced_parses_advance : (t : Tree) → IsReduced t → is_nullable t ≡ false → (i : ℕ) → Every (λ w. (i < w.end) × (w.end ≤ length hay)) (traced_parses hay t i)
   traced_parses_advance t reduced non i =
-      Every-weak (λ w. Steps hay t i w.end w.events) _ (traced_parses hay t i)
+      Every-also (λ w. Steps hay t i w.end w.events) _ (traced_parses hay t i)
       (λ w h. let lt = advance t non i w.end w.events h in let f = forward t i w.end w.events h in (lt, f.1 lt)) (traced_parses_are t reduced i)
 
   -- where a traced parse ends, and the marks of its events

@@ -27,6 +27,7 @@ use Rattle.bites_spec.proofs.utf8.PieceLemmas.{piece_some}
 use Rattle.bites_spec.proofs.parses.TextPlaces.{border_behind}
 use Rattle.bites_spec.proofs.parses.TextMatches.{found_borders}
 use Rattle.bites_spec.proofs.regex.RegexRuns as runs
+use Rattle.std.proofs.lemmas.List.{map-id}
 
 -- successive answers of one relation are those of another, by a map that keeps spans
 module _ {B C : Type 0} (f : B → C) (span_of : B → Span) (span_of_image : C → Span) (hay : List ℕ)
@@ -185,17 +186,13 @@ module _ (r : Regex) (hay : List ℕ) where
   leave_none_out (x ∷ xs) f =
       let first = first_of 0 x f.0 in (first.0, first.1, follow_closely x.end first.2.2 xs f.1)
 
-same_list : {A : Type 0} (xs : List A) → map (λ x. x) xs ≡ xs
-same_list [] = refl
-same_list (x ∷ xs) = ap (λ ys. x ∷ ys) (same_list xs)
-
 pub none_is_left_out : NoneIsLeftOut
 none_is_left_out = leave_none_out
 
 pub matches_stand_apart : MatchesStandApart
 matches_stand_apart r hay ss all = (
-  subst (AreInOrder (length hay) 0) (same_list ss) (Successive-in_order (λ s. s) hay (FindsSpan r hay) (spans_lie r hay) ss all),
-  λ x xs e. subst (EndsGrow x.end) (same_list xs)
+  subst (AreInOrder (length hay) 0) (map-id ss) (Successive-in_order (λ s. s) hay (FindsSpan r hay) (spans_lie r hay) ss all),
+  λ x xs e. subst (EndsGrow x.end) (map-id xs)
       (Successive-ends_grow (λ s. s) hay (FindsSpan r hay) (spans_lie r hay) x xs (subst (AreMatches r hay) e all)),
 )
 

@@ -17,10 +17,7 @@ use Rattle.bites_spec.specs.Grammar as grammar
 use Rattle.bites_spec.specs.Grammar.{ReadsAtom, ReadsChoice, ReadsSequence, ReadsItem, Reads, literal_of, group_of, at_front}
 use Rattle.bites_spec.proofs.programs.SlotLemmas.{Among-left}
 use Rattle.bites_spec.proofs.regex.CompilableNames.{same_text}
-
-pub Among-append : {A : Type 0} (xs ys : List A) (x : A) → Among (xs ++ ys) x → Among xs x ⊎ Among ys x
-Among-append [] ys x h = inr h
-Among-append (y ∷ xs) ys x h = ⊎_elim (λ (e : y ≡ x). inl (inl e)) (λ later. ⊎_elim (λ a. inl (inr a)) inr (Among-append xs ys x later)) h
+use Rattle.bites_spec.proofs.programs.BuiltLemmas.{Among-append}
 
 both_apart : {A : Type 0} (xs ys : List A) → AllApart xs → AllApart ys → ((x : A) → Among xs x → Among ys x → ⊥) → AllApart (xs ++ ys)
 both_apart [] ys one other disjoint = other

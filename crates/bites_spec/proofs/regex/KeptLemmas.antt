@@ -14,8 +14,8 @@ use Rattle.bites_spec.specs.Grammar as grammar
 use Rattle.bites_spec.specs.Grammar.{ReadsAtom, ReadsChoice, ReadsSequence, ReadsItem, Reading, literal_of, group_of}
 use Rattle.bites_spec.specs.GroupLaws.{OpenedAreKept}
 use Rattle.bites_spec.proofs.programs.SlotLemmas.{Among-left, Among-right}
-use Rattle.bites_spec.proofs.regex.CompilableLemmas.{Among-append}
 use Rattle.bites_spec.proofs.regex.LeftLemmas.{room_for_groups}
+use Rattle.bites_spec.proofs.programs.BuiltLemmas.{Among-append}
 
 -- a group's number, and its name if it has one
 abbrev Entry : Type 0

@@ -10,7 +10,7 @@ use Rattle.bites_spec.specs.Tree.{Tree, group}
 use Rattle.bites_spec.specs.Match.{span}
 use Rattle.bites_spec.specs.Program as program
 use Rattle.bites_spec.specs.Program.{State, Program, Configuration, at, state_at, edges, taking, looking, is_match, IsWellFormed}
-use Rattle.bites_spec.specs.Run.{Run, run, is_same_configuration, write_of, last_write, matches, is_end_at, writes, written, slots, leads, enough, run_of, first_run_from, first_run, first_run_to, longest_run_below, longest_run, chosen_run}
+use Rattle.bites_spec.specs.Run.{Run, is_same_configuration, write_of, last_write, matches, is_end_at, writes, written, slots, leads, enough, run_of, first_run_from, first_run, first_run_to, longest_run_below, longest_run, chosen_run}
 use Rattle.bites_spec.specs.Slots.{slot_in, span_between, span_of_run}
 use Rattle.bites_spec.specs.Built.{Built, IsCompilable}
 use Rattle.bites_spec.specs.Regex.{Regex, IsCompiled, span_at, slots_at}

@@ -1,5 +1,5 @@
 -- A program is well-formed exactly if `first_fault` finds no fault.
-use Rattle.std.proofs.Common.{◌≡◌, ℕ, ◌*◌, ◌%◌, ◌/◌, ◌<◌, ◌≤◌, Bool, true, false, not, cond, ◌&&◌, List, [], ◌∷◌, length, Option, Some, None, refl, sym, ap, ap₂, ◌∙◌, subst, inl, inr, ⊎_elim, true≢false, arith, ◌⊎◌, ltb-true, ltb-false, lt-ltb, leb-true, le-leb, eqb-true, eq-eqb}
+use Rattle.std.proofs.Common.{◌≡◌, ℕ, ◌*◌, ◌%◌, ◌/◌, ◌<◌, ◌≤◌, Bool, true, false, not, cond, ◌&&◌, List, [], ◌∷◌, length, Option, Some, None, refl, sym, ap, ap₂, ◌∙◌, subst, inl, inr, ⊎_elim, true≢false, arith, ltb-true, ltb-false, lt-ltb, leb-true, le-leb, eqb-true, eq-eqb}
 use Rattle.std.specs.Prelude.{nat_lt, nat_le, ◌==◌}
 use Rattle.std.specs.List.{list_all}
 use Rattle.std.specs.Option.{option_or}
@@ -81,7 +81,7 @@ first_fault-IsWellFormed p e =
     }
 
 -- and conversely: where the test holds and the rest of the check finds no fault, the check finds none
-passed : (b : Bool) (f : ProgramFault) (rest : Option ProgramFault) → b ≡ true → rest ≡ None → cond (not b) (Some f) rest ≡ None
+pub passed : (b : Bool) (f : ProgramFault) (rest : Option ProgramFault) → b ≡ true → rest ≡ None → cond (not b) (Some f) rest ≡ None
 passed true f rest is none = none
 passed false f rest is none = absurd (true≢false (sym is))
 

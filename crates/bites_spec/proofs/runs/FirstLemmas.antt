@@ -4,7 +4,7 @@ use Rattle.std.proofs.lemmas.Option.{none-some, same_Some}
 use Rattle.std.specs.Option.{option_or}
 use Rattle.std.proofs.lemmas.Bool.{cases_Bool}
 use Rattle.bites_spec.specs.Walks.{Among, AllApart, Earlier, Walk, Before, first_among, with_configuration, first_walk}
-use Rattle.bites_spec.proofs.runs.WalkLemmas.{run_dead, run_enough}
+use Rattle.bites_spec.proofs.runs.WalkLemmas.{run_dead, run_enough, map_none, IsSome-map}
 
 pub or_cases : {A : Type 0} (o p : Option A) (x : A) → option_or o p ≡ Some x → (o ≡ Some x) ⊎ ((o ≡ None) × (p ≡ Some x))
 or_cases None p x e = inr (refl, e)
@@ -14,13 +14,9 @@ pub or_none : {A : Type 0} (o p : Option A) → option_or o p ≡ None → (o �
 or_none None p e = (refl, e)
 or_none (Some y) p e = absurd (none-some y (sym e))
 
-map_some : {A B : Type 0} (f : A → B) (o : Option A) (y : B) → option_map f o ≡ Some y → (x : A) × (o ≡ Some x) × (f x ≡ y)
+pub map_some : {A B : Type 0} (f : A → B) (o : Option A) (y : B) → option_map f o ≡ Some y → (x : A) × (o ≡ Some x) × (f x ≡ y)
 map_some f None y e = absurd (none-some y e)
 map_some f (Some x) y e = (x, refl, same_Some (f x) y e)
-
-map_none : {A B : Type 0} (f : A → B) (o : Option A) → option_map f o ≡ None → o ≡ None
-map_none f None e = refl
-map_none f (Some x) e = absurd (none-some (f x) (sym e))
 
 among_none : {A B : Type 0} (f : A → Option B) (xs : List A) → first_among f xs ≡ None → (x : A) → Among xs x → f x ≡ None
 among_none f [] e x h = absurd h
@@ -44,10 +40,6 @@ some_among f [] x h some = absurd h
 some_among f (y ∷ ys) x h some =
     IsSome-or (f y) (first_among f ys)
     (⊎_elim (λ (here : y ≡ x). inl (subst (λ z. IsSome (f z)) (sym here) some)) (λ later. inr (some_among f ys x later some)) h)
-
-IsSome-map : {A B : Type 0} (f : A → B) (o : Option A) → IsSome o → IsSome (option_map f o)
-IsSome-map f None h = absurd (true≢false (sym h))
-IsSome-map f (Some x) h = refl
 
 module _ {A : Type 0} (same : A → A → Bool) (leads : A → List A) (is_match : A → Bool)
     (same_is : (p q : A) → same p q ≡ true → p ≡ q) (same_refl : (p : A) → same p p ≡ true)

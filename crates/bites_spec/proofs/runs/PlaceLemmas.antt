@@ -12,13 +12,13 @@ use Rattle.bites_spec.specs.RunLaws.{NothingPastTheEnd}
 use Rattle.bites_spec.proofs.utf8.PieceLemmas.{piece_within, Among-places}
 use Rattle.bites_spec.proofs.runs.RunLemmas.{Inside, inside_on}
 
-past_end : (hay : List ℕ) (s : ℕ) → length hay < s → nat_le s (length hay) ≡ false
+pub past_end : (hay : List ℕ) (s : ℕ) → length hay < s → nat_le s (length hay) ≡ false
 past_end hay s lt =
     ⊎_elim (λ (e : nat_le s (length hay) ≡ true). let le = leb-true s (length hay) e in absurd (omega arith))
     (λ (e : nat_le s (length hay) ≡ false). e) (cases_Bool (nat_le s (length hay)))
 
 -- more fuel than the haystack needs adds no place
-places_enough : (n m : ℕ) (hay : List ℕ) (s : ℕ) → length hay < n + s → length hay < m + s → places_within n hay s ≡ places_within m hay s
+pub places_enough : (n m : ℕ) (hay : List ℕ) (s : ℕ) → length hay < n + s → length hay < m + s → places_within n hay s ≡ places_within m hay s
 places_enough zero zero hay s a b = refl
 places_enough zero (suc m) hay s a b =
     sym (ap (λ c. cond c (s ∷ places_within m hay (s + step_len hay s)) []) (past_end hay s (omega arith)))
@@ -40,7 +40,7 @@ unfolding places
 places-past hay s lt = ap (λ c. cond c (s ∷ places_within (length hay) hay (s + step_len hay s)) []) (past_end hay s lt)
 
 -- if a place is in the list, so is the place after its piece, by induction on the room for places
-place_on : (n : ℕ) (hay : List ℕ) (s i : ℕ) → length hay < n + s → Among (places hay s) i → 0 < (piece hay i).len → Among (places hay s) (i + (piece hay i).len)
+pub place_on : (n : ℕ) (hay : List ℕ) (s i : ℕ) → length hay < n + s → Among (places hay s) i → 0 < (piece hay i).len → Among (places hay s) (i + (piece hay i).len)
 place_on zero hay s i room h some = absurd (subst (λ (l : List ℕ). Among l i) (places-past hay s (omega arith)) h)
 place_on (suc n) hay s i room h some =
     let le : s ≤ length hay = (let r = Among-places hay s i h in omega (arith, r)) in

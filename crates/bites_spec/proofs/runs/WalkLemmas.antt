@@ -40,7 +40,7 @@ some_or_none (Some x) = inl refl
 not_some_none : {A : Type 0} (o : Option A) → o ≡ None → IsSome o → ⊥
 not_some_none o e h = true≢false (sym h ∙ ap is_some e)
 
-or_assoc : {A : Type 0} (o p q : Option A) → option_or (option_or o p) q ≡ option_or o (option_or p q)
+pub or_assoc : {A : Type 0} (o p q : Option A) → option_or (option_or o p) q ≡ option_or o (option_or p q)
 or_assoc None p q = refl
 or_assoc (Some x) p q = refl
 
@@ -49,7 +49,7 @@ map_or : {A B C : Type 0} (o p : Option A) (g : A → B) (f : B → C) →
 map_or None p g f = refl
 map_or (Some x) p g f = refl
 
-map_none : {A B : Type 0} (f : A → B) (o : Option A) → option_map f o ≡ None → o ≡ None
+pub map_none : {A B : Type 0} (f : A → B) (o : Option A) → option_map f o ≡ None → o ≡ None
 map_none f None e = refl
 map_none f (Some x) e = absurd (true≢false (ap is_some e))
 
@@ -57,7 +57,7 @@ or_some : {A : Type 0} (o p q : Option A) → IsSome o → option_or o p ≡ opt
 or_some None p q h = absurd (true≢false (sym h))
 or_some (Some x) p q h = refl
 
-IsSome-map : {A B : Type 0} (f : A → B) (o : Option A) → IsSome o → IsSome (option_map f o)
+pub IsSome-map : {A B : Type 0} (f : A → B) (o : Option A) → IsSome o → IsSome (option_map f o)
 IsSome-map f None h = absurd (true≢false (sym h))
 IsSome-map f (Some x) h = refl
 

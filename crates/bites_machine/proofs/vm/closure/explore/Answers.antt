@@ -8,18 +8,15 @@ use Rattle.bites_machine.specs.declared.state.State.{State}
 use Rattle.bites_machine.proofs.steps.ExploreLemmas.{popped, none_popped, not_visited, not_all_members, edges_of_member}
 use Rattle.bites_machine.proofs.steps.ExploreSteps.{explores_again, explores_new}
 use Rattle.bites_machine.specs.Visits.{VisitsTo}
+use Rattle.std.proofs.lemmas.Bool.{not-false}
 use Rattle.bites_machine.proofs.vm.closure.explore.Goals as goal
-
-was_true : (b : Bool) → not b ≡ false → b ≡ true
-was_true true e = refl
-was_true false e = cc
 
 pub insert-requires : goal.insert-requires
 insert-requires c = omega (arith, c.requires.ready.known c.args.frame (inl refl), c.requires.ready.visited_set)
 
 pub returns-then-not-insert-clause-looks : goal.returns-then-not-insert-clause-looks
 returns-then-not-insert-clause-looks c =
-    let is_member : slice_index_or c.args.scratch.now.visited_set c.args.frame.state false ≡ true = was_true (slice_index_or c.args.scratch.now.visited_set c.args.frame.state false) (sym c.insert.ensures.new ∙ c.if-not-insert.true) in
+    let is_member : slice_index_or c.args.scratch.now.visited_set c.args.frame.state false ≡ true = not-false (slice_index_or c.args.scratch.now.visited_set c.args.frame.state false) (sym c.insert.ensures.new ∙ c.if-not-insert.true) in
     explores_again c.args.here.now.haystack.now c.args.here.now.longest c.args.here.now.place (states_of c.args.counted.now.states.now) c.args.thread c.args.frame c.args.counted.now.walked c.step.new.self.walked
     c.args.scratch.now c.insert.new.self c.pop.new.self c.args.slots.now c.pop.result c.requires.ready is_member
     (c.insert.ensures.inserted ∙ ap (slice_set c.args.scratch.now.visited_set c.args.frame.state) (sym is_member) ∙ set-get_or c.args.scratch.now.visited_set c.args.frame.state false)

@@ -2,8 +2,8 @@ use Rattle.std.proofs.Common.{◌<◌, ◌≤◌, ◌+◌, drop, length, map, re
 use Rattle.std.proofs.lemmas.List.{drop_all}
 use Rattle.bites_machine.specs.Used.{IsUsed}
 use Rattle.bites_machine.specs.Scratch.{row_of}
-use Rattle.bites_machine.proofs.refine.IdleLemmas.{released, length-one_less, front_used, none_used}
-use Rattle.bites_machine.proofs.tables.UsedLemmas.{user_known, user_counted}
+use Rattle.bites_machine.proofs.refine.IdleLemmas.{released, front_used, none_used}
+use Rattle.bites_machine.proofs.tables.UsedLemmas.{user_known, user_counted, length-one_less}
 use Rattle.bites_machine.proofs.vm.pikevm.release_all.Goals as goal
 
 pub release-requires-clause-known : goal.release-requires-clause-known
