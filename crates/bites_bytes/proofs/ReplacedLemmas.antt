@@ -70,7 +70,7 @@ mapped_none f (x ∷ xs) = (λ p. absurd (filled p), λ p. absurd (bare p))
     bare : x ∷ xs ≡ [] → ⊥
     bare p = cc
 
--- a haystack of which nothing is replaced yet
+-- a haystack in which nothing is replaced yet
 module _ (s : Replacing) (r : Regex) (hay : List ℕ) (n : ℕ) (regex_is : s.cursor.regex.now ≡ r) (hay_is : s.cursor.haystack.now ≡ hay)
     (last_is : s.cursor.last ≡ None) (left_is : s.left ≡ bound n) (out_is : s.out.items ≡ []) where
   spans_start : spans_to_replace s ≡ limited n (spans_in r hay)

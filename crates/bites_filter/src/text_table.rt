@@ -1,4 +1,4 @@
-//! Tables of patterns over texts, of which the first that matches a whole text is taken.
+//! Tables of patterns over texts. A search takes the first pattern that matches a whole text.
 
 ghost use Rattle.std.specs.Prelude.{◌≡◌, ◌<◌, length, option_map, MatchOption, IfOk, IfSome, IsUtf8};
 ghost use Rattle.bites_spec.specs.Anchored.{FindsGroupsFull};

@@ -131,7 +131,7 @@ unfoldable mutual
   emit_all no_tree to states = emitted states to
   emit_all (tree_and t ts) to states = in_front (emit t) (emit_all ts to states)
 
-  -- the branches, each of which leads on to `out`
+  -- the branches; each leads on to `out`
   pub emit_each : Trees → ℕ → List State → Branches
   emit_each no_tree out states = branches states []
   emit_each (tree_and t ts) out states = with_branch (emit t out states).from (emit_each ts out (emit t out states).states)

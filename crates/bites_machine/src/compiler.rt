@@ -125,7 +125,7 @@ fn within_limits(
 {
     let size = size_of(tree);
     match program_size(tree, size, size_of_groups) {
-        Some(size) if size <= size_limit => {}
+        Some(total) if total <= size_limit => {}
         _ => return Err(Error::TooBig),
     }
     if size.states() > 4294967292 {

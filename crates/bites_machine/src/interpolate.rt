@@ -196,16 +196,16 @@ fn after_dollar(rest: Rest<'_>) -> (Part<'_>, Rest<'_>)
     ensures cuts { CutsFront true rest.entry.text.now (parts_in result.0) result.1.text.now }
     ensures shorter { length result.1.text.now < length rest.entry.text.now }
 {
-    let behind = after_first_part(rest);
-    match behind.text.as_bytes().first() {
-        Some(b'$') => (Part::Text("$"), after_first_part(behind)),
-        Some(b'{') => in_braces(behind),
-        _ => in_word(behind),
+    let after = after_first_character(rest);
+    match after.text.as_bytes().first() {
+        Some(b'$') => (Part::Text("$"), after_first_character(after)),
+        Some(b'{') => in_braces(after),
+        _ => in_word(after),
     }
 }
 
 /// Returns the rest after its first character, which is ASCII.
-fn after_first_part(rest: Rest<'_>) -> Rest<'_>
+fn after_first_character(rest: Rest<'_>) -> Rest<'_>
     requires some { 0 < length rest.text.now }
     requires ascii { slice_index rest.text.now 0 < 128 }
     ensures { result.text.now ≡ drop 1 rest.entry.text.now }
@@ -230,7 +230,7 @@ fn in_braces(rest: Rest<'_>) -> (Part<'_>, Rest<'_>)
     ensures cuts { CutsFront true (36 ∷ rest.entry.text.now) (parts_in result.0) result.1.text.now }
     ensures shorter { length result.1.text.now < length rest.entry.text.now + 1 }
 {
-    let inside = after_first_part(rest);
+    let inside = after_first_character(rest);
     if !inside.may_close {
         return (Part::Text("$"), rest);
     }
@@ -248,7 +248,7 @@ fn in_braces(rest: Rest<'_>) -> (Part<'_>, Rest<'_>)
         text: behind,
         may_close: true,
     };
-    (Part::Name(name), after_first_part(closing))
+    (Part::Name(name), after_first_character(closing))
 }
 
 /// Returns the part of a `$` before neither a `$` nor an opening brace, and the rest after it.

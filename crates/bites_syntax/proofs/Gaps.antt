@@ -98,9 +98,9 @@ fills_rest low (inr e) = rw (lt-leb low 0x10_FFFF (omega (arith, e))) record {
 }
 
 -- from a range on, the gaps after it
-after_first_part : (r : Range) (ranges all : List Range) → AreCanonical (r ∷ ranges) → Fills (following r.1) ranges all →
+beyond_first : (r : Range) (ranges all : List Range) → AreCanonical (r ∷ ranges) → Fills (following r.1) ranges all →
     (c : ℕ) → is_scalar c ≡ true → r.0 ≤ c → in_ranges all c ≡ not (in_ranges (r ∷ ranges) c)
-after_first_part r ranges all g f c scalar from = elim (cases_lt r.1 c) [
+beyond_first r ranges all g f c scalar from = elim (cases_lt r.1 c) [
   | inr within ↦ rw (in_first r ranges c from within) (none_before (following r.1) c all f.canonical f.starts (omega (arith, within, after_following r.1)))
   | inl above ↦ (let next = following_within r.1 c (scalar_within r.1 (is_range r ranges g).1) (scalar_within c scalar) above in
       rw (in_range-above r c from above) (f.same c scalar next.1))
@@ -117,7 +117,7 @@ fills_gap low r ranges all start less g f =
       starts = omega arith;
       same = λ c scalar from. elim (cases_lt c r.0) [
         | inl below ↦ rw (none_below r ranges g c below, in_range-within (low, preceding r.0) c from (p.most c scalar below)) refl
-        | inr beyond ↦ rw (in_range-above (low, preceding r.0) c from (omega (arith, p.less, beyond))) (after_first_part r ranges all g f c scalar beyond)
+        | inr beyond ↦ rw (in_range-above (low, preceding r.0) c from (omega (arith, p.less, beyond))) (beyond_first r ranges all g f c scalar beyond)
       ];
     }
 
@@ -131,7 +131,7 @@ fills low (r ∷ ranges) start g from =
       | inr equal ↦ rw (le-ltb low r.0 equal) record {
         canonical = f.canonical;
         starts = starts_lower low (following r.1) (gaps (following r.1) ranges) (omega (arith, from, is.2, after_following r.1)) f.starts;
-        same = λ c scalar above. after_first_part r ranges (gaps (following r.1) ranges) g f c scalar (omega (arith, equal, above));
+        same = λ c scalar above. beyond_first r ranges (gaps (following r.1) ranges) g f c scalar (omega (arith, equal, above));
       }
     ]
 

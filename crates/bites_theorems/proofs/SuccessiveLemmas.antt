@@ -18,11 +18,11 @@ use Rattle.bites_theorems.specs.Promises.{StandApart, GrowAfterFirst}
 
 -- all matches of a tree stand apart
 pub stand_apart : (r : Regex) (hay : List ℕ) (ss : List Span) → AreMatches r hay ss → StandApart (length hay) ss
-stand_apart r hay ss all = let apart = laws.matches_stand_apart r hay ss all in (apart.0, after_first_part ss apart.1)
+stand_apart r hay ss all = let apart = laws.matches_stand_apart r hay ss all in (apart.0, grow_after_first ss apart.1)
   where
-    after_first_part : (ss : List Span) → ((x : Span) (xs : List Span) → ss ≡ x ∷ xs → EndsGrow x.end xs) → GrowAfterFirst ss
-    after_first_part [] grow = tt
-    after_first_part (x ∷ xs) grow = grow x xs refl
+    grow_after_first : (ss : List Span) → ((x : Span) (xs : List Span) → ss ≡ x ∷ xs → EndsGrow x.end xs) → GrowAfterFirst ss
+    grow_after_first [] grow = tt
+    grow_after_first (x ∷ xs) grow = grow x xs refl
 
 known : Option Span → Span
 known o = unwrap_or o (span 0 0)

@@ -23,8 +23,8 @@ module _ (t : Tree) (hay : List ℕ) (g : Span) where
   EndsLast = (l : ℕ) → Matches hay t g.start l → l ≤ g.end
 
 module _ (t : Tree) (hay : List ℕ) (s : ℕ) where
-  -- In the slots stand the groups of one parse, of which Q holds. It begins at the first place from s on at which the tree
-  -- matches.
+  -- The slots hold the groups of one parse, and Q holds for it. The parse begins at the first place from s on at which the
+  -- tree matches.
   pub record AreOfParse (Q : (i j : ℕ) → List Mark → Type 0) (slots : List (Option ℕ)) : Type 0 where
     pub start : ℕ
     pub end : ℕ
@@ -86,7 +86,7 @@ module _ (regex : Regex) (hay : List ℕ) (start : ℕ) where
   Headline (Some c) = AreFirstCaptures c
 
 module _ (t : Tree) (hay : List ℕ) (s : ℕ) where
-  -- In the slots stand the groups of one parse from s, of which Q holds.
+  -- The slots hold the groups of one parse from s, and Q holds for it.
   pub record AreOfParseAt (Q : (j : ℕ) → List Mark → Type 0) (slots : List (Option ℕ)) : Type 0 where
     pub end : ℕ
     pub marks : List Mark

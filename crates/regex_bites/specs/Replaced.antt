@@ -1,4 +1,4 @@
--- Texts of which each match is replaced by what a replacer gives.
+-- Texts with each match replaced by what a replacer gives.
 use Rattle.std.specs.Prelude.{◌≡◌, ℕ, List, map, Option}
 use Rattle.bites_spec.specs.Pieces.{limited, replaced}
 use Rattle.bites_spec.specs.Regex.{Regex}

@@ -263,7 +263,7 @@ module _ (p : Program) (hay : List ℕ) (longest : Bool) (width : ℕ) (start : 
           goes s [] a runs = true≢false (sym runs.0 ∙ (behind none).no_match s a)
           goes s (v ∷ r) a runs = goes v r (led_visited none s a v runs.0) runs.1
 
-      -- what a search found is a run, all of which was visited
+      -- what a search found is a run, and each of its configurations was visited
       pub best_found : (b : Thread) → t.best ≡ Some b → (e : ℕ) × Found p hay longest width start t.visits e b
       best_found = (traced_on p hay longest width start fits end.before t place_among before_traced end.last).best
 

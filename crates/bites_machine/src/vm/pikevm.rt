@@ -64,8 +64,8 @@ pub(super) fn piece_at(haystack: &[u8], place: usize, longest: bool) -> Position
     }
 }
 
-// Returns the thread that starts here in the given state. Only the longest search needs the place where a thread was
-// started.
+// Returns the thread that starts at `place` in the given state. Only the longest search needs the place where a thread
+// was started.
 #[inline(always)]
 pub(super) fn started(state: u32, place: usize, longest: bool) -> Thread
     ensures { result ≡ record { state = state; row = 0; start = if longest then place else 0 } }

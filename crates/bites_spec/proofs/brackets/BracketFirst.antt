@@ -134,10 +134,10 @@ front_stops go n flags sofar u place m before may stops =
     (cases_Bool (is_set_operator u))
 
 -- a stop after a first end is a stop of the item
-after_first_part : (go : Members) (n : ℕ) (flags : Flags) (sofar : Set) (u behind place : Text) (m : Message) (first : Meaning) → length u ≤ suc n →
+stops_after_first : (go : Members) (n : ℕ) (flags : Flags) (sofar : Set) (u behind place : Text) (m : Message) (first : Meaning) → length u ≤ suc n →
     length place < length u → may_be_first u ≡ true → ReadsEnd flags u first behind →
     StopsBy m place (after_first go n flags sofar first (skip flags behind)) → StopsBy m place (reading.member go n flags sofar u)
-after_first_part go n flags sofar u behind place m first room before may reads stops =
+stops_after_first go n flags sofar u behind place m first room before may reads stops =
     front_stops go n flags sofar u place m before may
     (subst (λ a. StopsBy m place (and_then a (λ x rest. after_first go n flags sofar x (skip flags rest)))) (sym (end_leads reads n room)) stops)
 
@@ -146,7 +146,7 @@ behind_dash : (go : Members) (n : ℕ) (flags : Flags) (sofar : Set) (u behind n
     length place < length u → may_be_first u ≡ true → ReadsEnd flags u first behind → skip flags behind ≡ dash ∷ next →
     StopsBy m place (after_dash go n flags sofar first (dash ∷ next) (skip flags next)) → StopsBy m place (reading.member go n flags sofar u)
 behind_dash go n flags sofar u behind next place m first room before may reads dashed stops =
-    after_first_part go n flags sofar u behind place m first room before may reads
+    stops_after_first go n flags sofar u behind place m first room before may reads
     (subst (λ y. StopsBy m place (after_first go n flags sofar first y)) (sym dashed) stops)
 
 -- a stop after both ends of a range is a stop of the item
@@ -225,13 +225,13 @@ item_first {flags} (StuckMembers.in_first t place m r) n go sofar room minds on 
     front_stops go n flags sofar (skip flags t) place m (stuck_escape_shorter r) (ap may_be_first (stuck_escape_begins r).1)
     (and_stops m place (class_end n flags (skip flags t)) _ (end_first r n (omega (arith, skip_shorter flags t))))
 item_first {flags} (StuckMembers.ends_after_first t behind place first m may r gap is names) n go sofar room minds on =
-    after_first_part go n flags sofar (skip flags t) behind place m first (omega (arith, skip_shorter flags t)) (omega (arith, end_shorter r, ap length is)) may r
+    stops_after_first go n flags sofar (skip flags t) behind place m first (omega (arith, skip_shorter flags t)) (omega (arith, end_shorter r, ap length is)) may r
     (stops_so message.unclosed_after_member m [] place _ (ap (after_first go n flags sofar first) gap) (sym is) (sym names))
 item_first {flags} (StuckMembers.assertion_alone t behind place first l m r means at leads names) n go sofar room minds on =
     let stops : StopsBy m place (after_first go n flags sofar first (skip flags behind)) =
     subst (λ y. StopsBy m place (after_first go n flags sofar first y)) at
     (subst (λ x. StopsBy m place (after_first go n flags sofar x place)) (sym means) (at_assertion go n flags sofar l place m leads names)) in
-    after_first_part go n flags sofar (skip flags t) behind place m first (omega (arith, skip_shorter flags t))
+    stops_after_first go n flags sofar (skip flags t) behind place m first (omega (arith, skip_shorter flags t))
     (omega (arith, end_shorter r, ap length at, skip_shorter flags behind)) (assertion_may l r means) r stops
 item_first {flags} (StuckMembers.ends_after_dash t behind next place first m may r dashed gap is names) n go sofar room minds on =
     behind_dash go n flags sofar (skip flags t) behind next place m first (omega (arith, skip_shorter flags t)) (omega (arith, end_shorter r, ap length is)) may r

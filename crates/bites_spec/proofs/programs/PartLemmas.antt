@@ -24,7 +24,7 @@ Nothing i l es = (l ≡ i) × (es ≡ [])
 abbrev pub Both : Traces → Traces → Traces
 Both R T i l es = (m : ℕ) × (a : List Event) × (b : List Event) × R i m a × T m l b × (es ≡ a ++ b)
 
--- n turns for some n of which P holds
+-- n turns, for some n for which P holds
 abbrev pub Several : (ℕ → Type 0) → Traces → Traces
 Several P R i l es = (n : ℕ) × P n × Turns R n i l es
 

@@ -76,7 +76,7 @@ brace_of (b ∷ front) behind (c ∷ word) tail e =
     inner : b ∷ (front ++ behind) ≡ c ∷ (word ++ 125 ∷ tail) → front ++ behind ≡ word ++ 125 ∷ tail
     inner e = cc
 
--- a text and the bytes after it, none of which extend it as UTF-8
+-- a text and the bytes after it; no first part of these bytes extends it as UTF-8
 module _ (whole behind : List ℕ) (utf8 : IsUtf8 whole) (none : NoFurther whole behind) where
   high : (x : ℕ) (tail : List ℕ) → behind ≡ x ∷ tail → 128 ≤ x
   high x tail e = high_behind whole tail x utf8 (subst (NoFurther whole) e none)

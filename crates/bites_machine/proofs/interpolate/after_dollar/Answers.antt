@@ -5,6 +5,6 @@ use Rattle.bites_machine.proofs.interpolate.after_dollar.Goals as goal
 
 pub returns-in-Some-eq36-clause-cuts : goal.returns-in-Some-eq36-clause-cuts
 returns-in-Some-eq36-clause-cuts c =
-    dollar_twice c.args.rest.text.now c.after_first_part-behind.result.text.now c.after_first_part.result.text.now c.requires c.after_first_part-behind.ensures c.after_first_part.ensures
-    (begins_at 36 c.in-Some-eq36.field-0.now c.after_first_part-behind.result.text.now c.as_bytes.result.now c.as_bytes.ensures.value
+    dollar_twice c.args.rest.text.now c.after_first_character-after.result.text.now c.after_first_character.result.text.now c.requires c.after_first_character-after.ensures c.after_first_character.ensures
+    (begins_at 36 c.in-Some-eq36.field-0.now c.after_first_character-after.result.text.now c.as_bytes.result.now c.as_bytes.ensures.value
     (sym (ap option_copied c.in-Some-eq36.is) ∙ c.first.ensures.value) c.in-Some-eq36.field-0-test)

@@ -4,29 +4,29 @@ use Rattle.bites_machine.proofs.interpolate.in_braces.Goals as goal
 
 pub returns-then-not-inside-clause-cuts : goal.returns-then-not-inside-clause-cuts
 returns-then-not-inside-clause-cuts c =
-    brace_open c.args.rest.text.now c.after_first_part-inside.result.text.now c.requires c.after_first_part-inside.ensures (c.after_first_part-inside.result.closes c.if-not-inside.true)
+    brace_open c.args.rest.text.now c.after_first_character-inside.result.text.now c.requires c.after_first_character-inside.ensures (c.after_first_character-inside.result.closes c.if-not-inside.true)
 
 pub invariant_of-open : goal.invariant_of-open
 invariant_of-open c = record {
-  closes = λ e. brace_still_none c.args.rest.text.now c.after_first_part-inside.result.text.now c.requires c.after_first_part-inside.ensures
-      (brace_none c.after_first_part-inside.result.text.now c.as_bytes.result.now c.len_before-end.result c.as_bytes.ensures.value c.len_before-end.ensures c.if-end-inside.true);
+  closes = λ e. brace_still_none c.args.rest.text.now c.after_first_character-inside.result.text.now c.requires c.after_first_character-inside.ensures
+      (brace_none c.after_first_character-inside.result.text.now c.as_bytes.result.now c.len_before-end.result c.as_bytes.ensures.value c.len_before-end.ensures c.if-end-inside.true);
 }
 
 pub returns-then-end-inside-clause-cuts : goal.returns-then-end-inside-clause-cuts
 returns-then-end-inside-clause-cuts c =
-    brace_open c.args.rest.text.now c.after_first_part-inside.result.text.now c.requires c.after_first_part-inside.ensures
-    (brace_none c.after_first_part-inside.result.text.now c.as_bytes.result.now c.len_before-end.result c.as_bytes.ensures.value c.len_before-end.ensures c.if-end-inside.true)
+    brace_open c.args.rest.text.now c.after_first_character-inside.result.text.now c.requires c.after_first_character-inside.ensures
+    (brace_none c.after_first_character-inside.result.text.now c.as_bytes.result.now c.len_before-end.result c.as_bytes.ensures.value c.len_before-end.ensures c.if-end-inside.true)
 
 pub split_at-requires : goal.split_at-requires
-split_at-requires c = stop_border 125 c.after_first_part-inside.result.text.now c.as_bytes.result.now c.len_before-end.result c.as_bytes.ensures.value c.len_before-end.ensures (omega arith)
+split_at-requires c = stop_border 125 c.after_first_character-inside.result.text.now c.as_bytes.result.now c.len_before-end.result c.as_bytes.ensures.value c.len_before-end.ensures (omega arith)
 
-pub after_first_part-requires-clause-ascii : goal.after_first_part-requires-clause-ascii
-after_first_part-requires-clause-ascii c =
-    brace_behind c.after_first_part-inside.result.text.now c.as_bytes.result.now c.split_at.result.1.now c.len_before-end.result c.as_bytes.ensures.value c.len_before-end.ensures
+pub after_first_character-requires-clause-ascii : goal.after_first_character-requires-clause-ascii
+after_first_character-requires-clause-ascii c =
+    brace_behind c.after_first_character-inside.result.text.now c.as_bytes.result.now c.split_at.result.1.now c.len_before-end.result c.as_bytes.ensures.value c.len_before-end.ensures
     c.split_at.ensures.back c.if-end-inside.false
 
 pub returns-clause-cuts : goal.returns-clause-cuts
 returns-clause-cuts c =
-    brace_split c.args.rest.text.now c.after_first_part-inside.result.text.now c.as_bytes.result.now c.split_at.result.0.now c.split_at.result.1.now c.after_first_part.result.text.now
-    c.len_before-end.result c.requires c.after_first_part-inside.ensures c.as_bytes.ensures.value c.len_before-end.ensures c.split_at.ensures.front c.split_at.ensures.back
-    c.after_first_part.ensures c.if-end-inside.false
+    brace_split c.args.rest.text.now c.after_first_character-inside.result.text.now c.as_bytes.result.now c.split_at.result.0.now c.split_at.result.1.now c.after_first_character.result.text.now
+    c.len_before-end.result c.requires c.after_first_character-inside.ensures c.as_bytes.ensures.value c.len_before-end.ensures c.split_at.ensures.front c.split_at.ensures.back
+    c.after_first_character.ensures c.if-end-inside.false
