@@ -23,6 +23,8 @@ pub mod Preference
 pub mod Walks
 pub mod Program
 pub mod Contents
+pub mod Closure
+pub mod PikeVm
 pub mod Run
 pub mod Built
 pub mod Found

@@ -9,6 +9,7 @@ use Rattle.bites_spec.specs.Utf8.{piece}
 use Rattle.bites_spec.specs.Walks.{Among}
 use Rattle.bites_spec.specs.Program.{State, Program, Configuration, state_at, edges, is_match, char, ranges, splits, goto, capture, fail, match}
 use Rattle.bites_machine.specs.Ends.{next_character, targets_over}
+use Rattle.bites_spec.specs.Closure as closure
 use Rattle.bites_machine.specs.Machine.{Thread, Walking, kept, moved, visited, dropped, stepped, step, WalksTo}
 use Rattle.bites_machine.proofs.compile.EdgeLemmas.{edges_apart}
 
@@ -80,7 +81,7 @@ module _ (hay : List ℕ) (longest : Bool) (i : ℕ) where
   pub visited_cases : (Q : Walking → Type 0) (st : State) (t : Thread) (rest : List Thread) (w : Walking) →
       (is_match st ≡ true → Q (at_match t rest w)) → (is_match st ≡ false → LeadsOver st → Q (taken st t rest w)) →
       (is_match st ≡ false → LeadsBeside st → Q (gone st t rest w)) → Q (visited hay longest i st t rest w)
-  unfolding visited
+  unfolding closure.visited
   visited_cases Q match t rest w on_match on_taken on_gone = on_match refl
   visited_cases Q (char q c) t rest w on_match on_taken on_gone = on_taken refl (char_over q c)
   visited_cases Q (ranges q rs) t rest w on_match on_taken on_gone = on_taken refl (ranges_over q rs)
@@ -109,7 +110,7 @@ module _ (hay : List ℕ) (longest : Bool) (i : ℕ) where
 
     module _ (P : Walking → Type 0) (keeps : Keeps P) where
       stepped_keeps : (w : Walking) (stack : List Thread) → w.stack ≡ stack → P w → P (stepped hay longest p i stack w)
-      unfolding stepped
+      unfolding closure.stepped
       stepped_keeps w [] is now = now
       stepped_keeps w (t ∷ rest) is now =
           ⊎_elim

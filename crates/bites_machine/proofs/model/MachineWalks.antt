@@ -7,6 +7,7 @@ use Rattle.std.specs.Option.{option_or}
 use Rattle.std.proofs.lemmas.List.Elements.{filter-append}
 use Rattle.std.proofs.lemmas.Bool.{cases_Bool}
 use Rattle.bites_spec.specs.Program.{State, Program, state_at, is_match, char, ranges, splits, goto, capture, fail, match}
+use Rattle.bites_spec.specs.Closure as closure
 use Rattle.bites_machine.specs.Machine.{Thread, Walking, kept, moved, visited, dropped, stepped, step, WalksTo}
 use Rattle.bites_machine.proofs.model.MachineCases.{takes, was_seen, at_match, taken, gone, state_of_thread}
 
@@ -36,19 +37,19 @@ module _ (hay : List ℕ) (longest : Bool) (p : Program) (i : ℕ) where
 
   -- what a step makes of a walk
   pub step_done : (w : Walking) → w.stack ≡ [] → step hay longest p i w ≡ w
-  unfolding stepped
+  unfolding closure.stepped
   step_done w is = ap (λ (l : List Thread). stepped hay longest p i l w) is
 
   pub step_seen : (t : Thread) (rest : List Thread) (w : Walking) → w.stack ≡ t ∷ rest → was_seen hay longest i p w.seen t.state ≡ true →
       step hay longest p i w ≡ dropped hay longest rest w
-  unfolding stepped
+  unfolding closure.stepped
   step_seen t rest w is was =
       ap (λ (l : List Thread). stepped hay longest p i l w) is
       ∙ ap (λ (b : Bool). cond b (dropped hay longest rest w) (visited hay longest i (state_of_thread hay longest i p t) t rest w)) was
 
   pub step_new : (t : Thread) (rest : List Thread) (w : Walking) → w.stack ≡ t ∷ rest → was_seen hay longest i p w.seen t.state ≡ false →
       step hay longest p i w ≡ visited hay longest i (state_at p.states t.state) t rest w
-  unfolding stepped
+  unfolding closure.stepped
   step_new t rest w is new =
       ap (λ (l : List Thread). stepped hay longest p i l w) is
       ∙ ap (λ (b : Bool). cond b (dropped hay longest rest w) (visited hay longest i (state_of_thread hay longest i p t) t rest w)) new
@@ -56,7 +57,7 @@ module _ (hay : List ℕ) (longest : Bool) (p : Program) (i : ℕ) where
   -- what a visit makes of it, by the kind of the state
   pub visited_match : (st : State) → is_match st ≡ true → (t : Thread) (rest : List Thread) (w : Walking) →
       visited hay longest i st t rest w ≡ at_match hay longest i t rest w
-  unfolding visited
+  unfolding closure.visited
   visited_match match e t rest w = refl
   visited_match (char q c) e t rest w = absurd (true≢false (sym e))
   visited_match (ranges q rs) e t rest w = absurd (true≢false (sym e))
@@ -67,7 +68,7 @@ module _ (hay : List ℕ) (longest : Bool) (p : Program) (i : ℕ) where
 
   pub visited_taken : (st : State) → takes st ≡ true → (t : Thread) (rest : List Thread) (w : Walking) →
       visited hay longest i st t rest w ≡ taken hay longest i st t rest w
-  unfolding visited
+  unfolding closure.visited
   visited_taken (char q c) e t rest w = refl
   visited_taken (ranges q rs) e t rest w = refl
   visited_taken match e t rest w = absurd (true≢false (sym e))
@@ -78,7 +79,7 @@ module _ (hay : List ℕ) (longest : Bool) (p : Program) (i : ℕ) where
 
   pub visited_gone : (st : State) → is_match st ≡ false → takes st ≡ false → (t : Thread) (rest : List Thread) (w : Walking) →
       visited hay longest i st t rest w ≡ gone hay longest i st t rest w
-  unfolding visited
+  unfolding closure.visited
   visited_gone (splits qs b) e f t rest w = refl
   visited_gone (goto q look) e f t rest w = refl
   visited_gone (capture q k) e f t rest w = refl
@@ -119,7 +120,7 @@ module _ (hay : List ℕ) (longest : Bool) (p : Program) (i : ℕ) where
 
   visited_above : (below : List Thread) (st : State) (t : Thread) (rest : List Thread) (w : Walking) →
       visited hay longest i st t (rest ++ kept hay longest w.first_match below) (above below w) ≡ above below (visited hay longest i st t rest w)
-  unfolding visited
+  unfolding closure.visited
   visited_above below match t rest w = ap (with_stack (at_match hay longest i t rest w)) (kept_above longest w.first_match t rest below)
   visited_above below (char q c) t rest w = refl
   visited_above below (ranges q rs) t rest w = refl

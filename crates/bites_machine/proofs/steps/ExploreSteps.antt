@@ -7,6 +7,7 @@ use Rattle.bites_spec.specs.Walks.{Among}
 use Rattle.bites_spec.specs.Program as program
 use Rattle.bites_spec.specs.Program.{Configuration, at, targets_of, state_at, is_match}
 use Rattle.bites_spec.specs.Counts.{Record}
+use Rattle.bites_spec.specs.Closure as closure
 use Rattle.bites_machine.specs.Machine as machine
 use Rattle.bites_machine.specs.Machine.{Walking, kept, visited, dropped, stepped}
 use Rattle.bites_machine.specs.Stack.{Frames}
@@ -23,13 +24,13 @@ module _ (hay : List ℕ) (longest : Bool) (place : ℕ) where
   -- a step at a state that was visited here
   pub stepped_seen : (p : program.Program) (u : machine.Thread) (rest : List machine.Thread) (w : Walking) → list_any (λ q. q == u.state) w.seen ≡ true →
       stepped hay longest p place (u ∷ rest) w ≡ dropped hay longest rest w
-  unfolding stepped
+  unfolding closure.stepped
   stepped_seen p u rest w e = ap (λ (b : Bool). cond b (dropped hay longest rest w) (visited hay longest place (state_at p.states u.state) u rest w)) e
 
   -- a step at another state
   pub stepped_new : (p : program.Program) (u : machine.Thread) (rest : List machine.Thread) (w : Walking) → list_any (λ q. q == u.state) w.seen ≡ false →
       stepped hay longest p place (u ∷ rest) w ≡ visited hay longest place (state_at p.states u.state) u rest w
-  unfolding stepped
+  unfolding closure.stepped
   stepped_new p u rest w e = ap (λ (b : Bool). cond b (dropped hay longest rest w) (visited hay longest place (state_at p.states u.state) u rest w)) e
 
   -- a state that was visited here is explored

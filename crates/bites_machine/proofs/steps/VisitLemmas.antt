@@ -8,6 +8,7 @@ use Rattle.bites_spec.specs.Walks.{Among}
 use Rattle.bites_spec.specs.Program as program
 use Rattle.bites_spec.specs.Program.{Configuration, at, targets_of, is_match, taking, looking, edges}
 use Rattle.bites_machine.specs.Ends.{next_character, takes_by}
+use Rattle.bites_spec.specs.Closure as closure
 use Rattle.bites_machine.specs.Machine as machine
 use Rattle.bites_machine.specs.Machine.{Walking, kept, moved, visited, thread_on, with_write}
 use Rattle.bites_machine.specs.SlotTable.{Pool, with_pending}
@@ -47,37 +48,37 @@ known_framed n pending_len (q ∷ qs) fs targets known g h =
 module _ (hay : List ℕ) (longest : Bool) (place : ℕ) where
   visited_splits : (qs : List ℕ) (b : Bool) (t : machine.Thread) (rest : List machine.Thread) (w : Walking) →
       visited hay longest place (program.splits qs b) t rest w ≡ gone hay longest place (program.splits qs b) t rest w
-  unfolding visited
+  unfolding closure.visited
   visited_splits qs b t rest w = refl
 
   visited_goto : (q : ℕ) (look : Option Look) (t : machine.Thread) (rest : List machine.Thread) (w : Walking) →
       visited hay longest place (program.goto q look) t rest w ≡ gone hay longest place (program.goto q look) t rest w
-  unfolding visited
+  unfolding closure.visited
   visited_goto q look t rest w = refl
 
   pub visited_capture : (q k : ℕ) (t : machine.Thread) (rest : List machine.Thread) (w : Walking) →
       visited hay longest place (program.capture q k) t rest w ≡ gone hay longest place (program.capture q k) t rest w
-  unfolding visited
+  unfolding closure.visited
   visited_capture q k t rest w = refl
 
   visited_fail : (t : machine.Thread) (rest : List machine.Thread) (w : Walking) →
       visited hay longest place program.fail t rest w ≡ gone hay longest place program.fail t rest w
-  unfolding visited
+  unfolding closure.visited
   visited_fail t rest w = refl
 
   pub visited_char : (q c : ℕ) (t : machine.Thread) (rest : List machine.Thread) (w : Walking) →
       visited hay longest place (program.char q c) t rest w ≡ taken hay longest place (program.char q c) t rest w
-  unfolding visited
+  unfolding closure.visited
   visited_char q c t rest w = refl
 
   pub visited_ranges : (q : ℕ) (rs : List (ℕ × ℕ)) (t : machine.Thread) (rest : List machine.Thread) (w : Walking) →
       visited hay longest place (program.ranges q rs) t rest w ≡ taken hay longest place (program.ranges q rs) t rest w
-  unfolding visited
+  unfolding closure.visited
   visited_ranges q rs t rest w = refl
 
   pub visited_match : (t : machine.Thread) (rest : List machine.Thread) (w : Walking) →
       visited hay longest place program.match t rest w ≡ at_match hay longest place t rest w
-  unfolding visited
+  unfolding closure.visited
   visited_match t rest w = refl
 
   -- the scratch with another stack
