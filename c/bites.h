@@ -22,12 +22,15 @@
  * and bites_split_next with a `last` other than BITES_NONE. Its caller must pass the haystack that was checked for the first
  * match. So finding all matches checks a haystack once. Without the flag nothing is checked.
  *
+ * Patterns. `docs/SYNTAX.md` of the repository, and of a release, says what a pattern may contain.
+ *
  * Results. Each call returns one of the numbers below. A call that is out of memory returns BITES_NO_MEMORY and leaves what it
  * was given unchanged, except that `out` of a call that makes a regex or a cache then holds nothing. No search allocates. */
 #ifndef BITES_H
 #define BITES_H
 #include <stddef.h>
 #include <stdint.h>
+#include <string.h>
 
 #ifdef __cplusplus
 extern "C" {
@@ -105,7 +108,10 @@ uint32_t bites_is_match_at(bites *regex, bites_cache *cache, const uint8_t *hays
 /* Puts the least end of any match that begins at or after `start` into `end`. */
 uint32_t bites_shortest_match_at(bites *regex, bites_cache *cache, const uint8_t *haystack, size_t len, size_t start, size_t *end);
 
-/* Puts the first match that begins at or after `start` into `out`. */
+/* Puts the first match that begins at or after `start` into `out`. Assertions see the bytes before `start`, so `^` does not match at
+ * a `start` within a line. A pager that goes on in a line passes the whole line and an offset, where regexec takes the rest of the
+ * line and REG_NOTBOL:
+ *     bites_find_at(&regex, &cache, line, len, m.end, &m) */
 uint32_t bites_find_at(bites *regex, bites_cache *cache, const uint8_t *haystack, size_t len, size_t start, bites_span *out);
 
 /* Puts the match that begins at `start` into `out`: the preferred one, or the longest with BITES_LEFTMOST_LONGEST. The search
@@ -181,6 +187,12 @@ bites_size bites_expand(bites *regex, const uint8_t *haystack, size_t len, const
 /* Puts the message of the number `code`, 1 to 58, into `text`, with no NUL: as many of its first bytes as fit into `len`.
  * Returns the length of the whole message in bytes, or 0 for any other number. */
 size_t bites_error_text(uint32_t code, uint8_t *text, size_t len);
+
+/* Puts what the number `code` says into `text`, with a NUL after it: the message of an error, 1 to 58, or what a call returned,
+ * BITES_MATCH to BITES_NOT_BORDER. If `room` is too small, it gets as many of the first bytes as leave a byte for the NUL. With
+ * `room` 0 nothing is put. Returns the length of the whole text in bytes, without the NUL, or 0 for any other number. A room of
+ * 96 bytes is enough for each text. */
+size_t bites_message(uint32_t code, char *text, size_t room);
 
 /* C and C++ call the functions below under the names above. Each refuses a NULL handle, replaces a NULL that has length, room or
  * count 0 by a valid pointer, and then calls the library. */
@@ -326,6 +338,16 @@ static inline size_t bites_checked_error_text(uint32_t code, uint8_t *text, size
     return bites_error_text(code, bites_room(text, len), len);
 }
 
+static inline size_t bites_checked_message(uint32_t code, char *text, size_t room) {
+    static char none;
+    return bites_message(code, room ? text : &none, room);
+}
+
+/* Compiles a pattern that ends with a NUL into `out`, with no flags and the default limits. Returns what bites_new returns. */
+static inline uint32_t bites_compile(const char *pattern, bites *out) {
+    return bites_checked_new((const uint8_t *)pattern, strlen(pattern), 0, BITES_SIZE_LIMIT, BITES_NEST_LIMIT, out);
+}
+
 #ifdef __cplusplus
 }
 #endif
@@ -355,4 +377,5 @@ static inline size_t bites_checked_error_text(uint32_t code, uint8_t *text, size
 #define bites_replace_literal bites_checked_replace_literal
 #define bites_expand bites_checked_expand
 #define bites_error_text bites_checked_error_text
+#define bites_message bites_checked_message
 #endif

@@ -40,12 +40,23 @@ static void searches(void) {
     CHECK(groups[2].start == 7 && groups[2].end == 10 && groups[3].start == 7 && groups[3].end == 7);
     size = bites_captures_at(&regex, &cache, BYTES("x"), 0, groups, 3);
     CHECK(size.code == BITES_MATCH && groups[0].end == 1 && groups[1].start == BITES_NONE && groups[2].end == BITES_NONE);
-    /* a start past the end, and a slice with too few places */
+    /* a start within a line is not the start of the line */
+    CHECK(bites_compile("^b", &regex) == BITES_DONE && bites_cache_new(&regex, &cache) == BITES_DONE);
+    CHECK(bites_find_at(&regex, &cache, BYTES("ab"), 1, &span) == BITES_NO_MATCH && bites_find_at(&regex, &cache, BYTES("b"), 0, &span) == BITES_MATCH);
+    bites_cache_free(&cache);
+    bites_free(&regex);
+}
+
+/* a start past the end, and a slice with too few places */
+static void limits_of_searches(void) {
+    bites regex = {0};
+    bites_cache cache = {0};
+    bites_span span = {7, 7}, groups[2] = {{7, 7}, {7, 7}};
+    CHECK(bites_compile("(x)(y)?", &regex) == BITES_DONE && bites_cache_new(&regex, &cache) == BITES_DONE);
     span.start = 5;
     CHECK(bites_find_at(&regex, &cache, BYTES("x"), 2, &span) == BITES_NO_MATCH && span.start == 5);
     CHECK(bites_is_match_at(&regex, &cache, BYTES("x"), SIZE_MAX) == BITES_NO_MATCH);
-    groups[0].end = 7;
-    size = bites_captures_at(&regex, &cache, BYTES("x"), 0, groups, 2);
+    bites_size size = bites_captures_at(&regex, &cache, BYTES("x"), 0, groups, 2);
     CHECK(size.code == BITES_TOO_SMALL && size.size == 3 && groups[0].end == 7);
     bites_cache_free(&cache);
     bites_free(&regex);
@@ -289,6 +300,17 @@ static void refusals(void) {
     size_t len = bites_error_text(code, text, sizeof text);
     CHECK(!regex.at && len == 36 && !memcmp(text, "found open group without closing ')'", 36));
     CHECK(bites_new(BYTES("abc"), 0, 10, BITES_NEST_LIMIT, &regex) == 55);
+    char message[96] = "-";
+    CHECK(bites_message(code, message, sizeof message) == 36 && !strcmp(message, "found open group without closing ')'"));
+    CHECK(bites_message(code, message, 6) == 36 && !strcmp(message, "found"));
+    CHECK(bites_message(BITES_NO_MATCH, message, 1) == 18 && !strcmp(message, "") && bites_message(BITES_MATCH, NULL, 0) == 17);
+    CHECK(bites_message(BITES_NOT_BORDER, message, sizeof message) == 33 && !strcmp(message, "an offset lies within a character"));
+    CHECK(bites_message(0, message, 96) == 0 && bites_message(59, message, 96) == 0 && bites_message(109, message, 96) == 0 && !message[0]);
+    for (uint32_t number = 1; number <= BITES_NOT_BORDER; number++)
+        CHECK((number > BITES_NO_MEMORY && number < BITES_MATCH) || (bites_message(number, message, sizeof message) < sizeof message && message[0]));
+    CHECK(bites_compile("(a", &regex) == code && bites_compile("\xff", NULL) == BITES_EMPTY_HANDLE);
+    CHECK(bites_compile("x", &regex) == BITES_DONE && bites_captures_len(&regex) == 1);
+    bites_free(&regex);
     CHECK(bites_error_text(BITES_NO_MEMORY, text, 3) > 3 && bites_error_text(0, text, 3) == 0 && bites_error_text(59, text, 3) == 0);
 }
 
@@ -510,6 +532,7 @@ static void no_handles(void) {
 
 int main(void) {
     searches();
+    limits_of_searches();
     anchored();
     successive();
     pieces();

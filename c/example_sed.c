@@ -7,9 +7,9 @@
 #include <string.h>
 
 static int refused(uint32_t code) {
-    uint8_t text[128];
-    size_t len = bites_error_text(code, text, sizeof text);
-    fprintf(stderr, "example_sed: %.*s\n", (int)len, (const char *)text);
+    char text[96];
+    bites_message(code, text, sizeof text);
+    fprintf(stderr, "example_sed: %s\n", text);
     return 2;
 }
 

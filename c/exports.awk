@@ -43,7 +43,9 @@ function header_line(text,    head, inside, name, parts, count, i, type, line) {
     count = split(inside, parts, ",")
     for (i = 1; i <= count; i++) {
         type = trim(parts[i]); if (type == "void") continue; sub(/[A-Za-z_0-9]+$/, "", type); type = trim(type)
-        gsub(/ \*/, "*", type); gsub(/ /, "_", type); line = line " " type
+        gsub(/ \*/, "*", type); gsub(/ /, "_", type)
+        if (type == "char*") type = "uint8_t*" # the bytes of a text that ends with a NUL
+        line = line " " type
     }
     print line
 }

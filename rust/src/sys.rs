@@ -250,4 +250,7 @@ extern "C" {
     ) -> BitesSize;
 
     pub(crate) fn bites_error_text(code: u32, text: *mut u8, len: usize) -> usize;
+    /// An error of this crate allocates its text, so it asks for the text without a NUL.
+    #[allow(dead_code)]
+    pub(crate) fn bites_message(code: u32, text: *mut u8, room: usize) -> usize;
 }

@@ -61,7 +61,7 @@ fn type_of_c(kind: &str, pointer: bool) -> String {
         None => (false, kind),
     };
     let own = match kind {
-        "uint8_t" => "u8",
+        "uint8_t" | "char" => "u8",
         "uint32_t" => "u32",
         "size_t" => "usize",
         "void" => "()",

@@ -1,5 +1,5 @@
 -- The numbers that calls return to C.
-use Rattle.std.specs.Prelude.{ℕ}
+use Rattle.std.specs.Prelude.{ℕ, List, [], codes, if◌then◌else◌, ◌==◌}
 use Rattle.bites_text.specs.declared.error.Error.{Error}
 use Rattle.bites_text.specs.declared.error.Error.TheVariants.{TooMuchNesting, TooManyGroups, DuplicateName, UnclosedGroup, UnclosedQuestion, UnopenedGroup, LookAround, EmptyFlags, MissingName, InvalidName, UnclosedName, EmptyName, UnrecognizedFlag, RepeatedNegation, DuplicateFlag, UnclosedFlags, DanglingNegation, DecimalWithoutDigits, InvalidDecimal, BraceHexDigit, BraceHexUnclosed, BraceHexEmpty, BraceHexInvalid, FixedHexUnfinished, FixedHexDigit, FixedHexInvalid, HexUnfinished, EscapeUnfinished, Backreference, UnicodeClass, UnrecognizedEscape, NothingToRepeat, NothingToCount, UnclosedCount, UnclosedMin, UnclosedComma, UnclosedMax, InvalidCount, MinAboveMax, UnclosedAfterMember, RangeOfNoCharacter, InvalidClassEscape, UnclosedAfterDash, UnclosedAfterCaret, UnclosedAfterBracket, InvalidRange, UnclosedClass, NestedClass, ClassIntersection, ClassDifference, ClassSymmetricDifference, UnclosedBoundary, UnrecognizedBoundary, UnfinishedBoundary, TooBig, TooManyStates, TooManySlots, Memory}
 
@@ -102,3 +102,17 @@ code_of TooBig = 55
 code_of TooManyStates = 56
 code_of TooManySlots = 57
 code_of Memory = 58
+
+-- the text of a number that is no error's: what a call from 100 on returned, or nothing for any other number
+abbrev pub answer_text : ℕ → List ℕ
+answer_text n =
+    if n == matched then codes "a match was found"
+    else if n == not_matched then codes "no match was found"
+    else if n == not_utf8 then codes "a text is not UTF-8"
+    else if n == empty_handle then codes "a handle holds nothing"
+    else if n == unfit_cache then codes "the cache was made for a regex of another size"
+    else if n == too_small then codes "the room for the result is too small"
+    else if n == no_name then codes "no group has this number or name, or the group has no name"
+    else if n == bad_span then codes "a span does not lie in the haystack"
+    else if n == not_border then codes "an offset lies within a character"
+    else []

@@ -91,6 +91,11 @@ PutsReplaced cs len text answer old new =
     (answer.code ≡ code_of Memory → PutsNone (code_of Memory) answer old new)
     × (answer.code ≢ code_of Memory → PutsIfMatched cs len text answer old new)
 
+-- the room with as many of the first bytes of the text as leave a byte, and 0 after them; no room stays as it is
+abbrev pub with_nul : List ℕ → List ℕ → List ℕ
+with_nul text [] = []
+with_nul text (b ∷ bs) = take (length bs) text ++ 0 ∷ drop (length text) bs
+
 -- the number of a group is returned, if there is one
 abbrev pub ReturnsIndex : Option ℕ → BitesSize → Type 0
 ReturnsIndex None answer = (answer.code ≡ no_name) × (answer.size ≡ 0)

@@ -3,7 +3,8 @@
 ghost use Rattle.std.specs.Prelude.{◌≡◌, ◌≢◌, [], ◌≤◌, ◌++◌, IfSome, IfNone, length, take, drop};
 ghost use Rattle.bites_text.specs.Texts.{error_text};
 ghost use Rattle.bites_text.specs.declared.error.Error.{Error as Fault};
-ghost use Rattle.bites_c.specs.Codes.{code_of};
+ghost use Rattle.bites_c.specs.Codes.{answer_text, code_of};
+ghost use Rattle.bites_c.specs.Put.{with_nul};
 
 use bites_text::error::Error;
 
@@ -183,6 +184,51 @@ pub(crate) fn text(code: u32) -> &'static str
         Some(error) => error.text(),
         None => "",
     }
+}
+
+/// Returns what a number from 100 on says, or the empty text if it says nothing.
+pub(crate) fn answer_text(code: u32) -> &'static str
+    ensures { result.now ≡ answer_text code }
+{
+    match code {
+        MATCH => "a match was found",
+        NO_MATCH => "no match was found",
+        NOT_UTF8 => "a text is not UTF-8",
+        EMPTY_HANDLE => "a handle holds nothing",
+        UNFIT_CACHE => "the cache was made for a regex of another size",
+        TOO_SMALL => "the room for the result is too small",
+        NO_NAME => "no group has this number or name, or the group has no name",
+        BAD_SPAN => "a span does not lie in the haystack",
+        NOT_BORDER => "an offset lies within a character",
+        _ => "",
+    }
+}
+
+/// Returns the message of an error's number, or what another number says.
+pub(crate) fn message(code: u32) -> &'static str
+    ensures error { (e : Fault) → code ≡ code_of e → result.now ≡ error_text e }
+    ensures answer { ((e : Fault) → code ≢ code_of e) → result.now ≡ answer_text code }
+{
+    match of_number(code) {
+        Some(error) => error.text(),
+        None => answer_text(code),
+    }
+}
+
+/// Puts as many of the first bytes of `text` into `out` as leave a byte, and a NUL after them. Without room nothing is
+/// put. Returns the length of `text`.
+pub(crate) fn put_with_nul(text: &[u8], out: &mut [u8]) -> usize
+    ensures len { result ≡ length text.now }
+    ensures put { out.new ≡ with_nul text.now out.old }
+{
+    let Some(most) = out.len().checked_sub(1) else {
+        return text.len();
+    };
+    let n = text.len().min(most);
+    let (front, rest) = out.split_at_mut(n);
+    front.copy_from_slice(&text[..n]);
+    rest[0] = 0;
+    text.len()
 }
 
 /// Copies as many of the first bytes of `text` as fit into `buf`. Returns the length of `text`.

@@ -6,8 +6,8 @@ ghost use Rattle.bites_spec.specs.Expansion.{index_in};
 ghost use Rattle.bites_spec.specs.Iteration.{captures_in};
 ghost use Rattle.bites_text.specs.Texts.{error_text};
 ghost use Rattle.bites_text.specs.declared.error.Error.{Error as Fault};
-ghost use Rattle.bites_c.specs.Codes.{code_of, not_utf8, empty_handle};
-ghost use Rattle.bites_c.specs.Put.{ReturnsIndex, PutsMade, PutsName, PutsNone, PutsReplaced};
+ghost use Rattle.bites_c.specs.Codes.{answer_text, code_of, not_utf8, empty_handle};
+ghost use Rattle.bites_c.specs.Put.{ReturnsIndex, PutsMade, PutsName, PutsNone, PutsReplaced, with_nul};
 ghost use Rattle.bites_c.specs.Replaced.{escaped_text, expanded_by, with_template, with_text};
 ghost use Rattle.bites_c.specs.Searched.{SearchedOver};
 ghost use Rattle.bites_c.specs.Texts.{AsksGroups};
@@ -176,4 +176,19 @@ pub extern "C" fn bites_error_text(code: u32, buf: &mut [u8]) -> usize
     ensures none { ((e : Fault) → code ≢ code_of e) → (result ≡ 0) × (buf.new ≡ buf.old) }
 {
     codes::put(codes::text(code).as_bytes(), buf)
+}
+
+/// Puts what the number `code` says into `out`, with a NUL after it: the message of an error, 1 to 58, or what a call
+/// returned, 100 to 108. Any other number says nothing.
+///
+/// If `out` is too small, it gets as many of the first bytes as leave room for the NUL. If it has no room, nothing is
+/// put. Returns the length of the whole text in bytes, without the NUL.
+#[unsafe(no_mangle)]
+pub extern "C" fn bites_message(code: u32, out: &mut [u8]) -> usize
+    ensures error { (e : Fault) → code ≡ code_of e →
+        (result ≡ length (error_text e)) × (out.new ≡ with_nul (error_text e) out.old) }
+    ensures answer { ((e : Fault) → code ≢ code_of e) →
+        (result ≡ length (answer_text code)) × (out.new ≡ with_nul (answer_text code) out.old) }
+{
+    codes::put_with_nul(codes::message(code).as_bytes(), out)
 }

@@ -5,6 +5,8 @@
 //! texts, each match and each group begins and ends at a character boundary. A function that allocates returns a
 //! `Result`, and one that makes an object is given an allocator. In the examples `rt` is the argument of `main`.
 //!
+//! `docs/SYNTAX.md` of the repository says what a pattern may contain.
+//!
 //! # Does it match
 //!
 //! ```rust

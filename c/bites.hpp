@@ -1,0 +1,195 @@
+// The proved engine for regular expressions, for C++17: a regex that frees itself, and its matches by `for`.
+//
+//     BitesRegex word("[a-z]+");
+//     for (BitesMatch match : word.matches("one two")) std::cout << match.text << "\n";
+//
+// Haystacks are bytes, and offsets count bytes. A search takes time in proportion to the states of the regex times the bytes of
+// the haystack, and allocates nothing. One thread at a time may use a regex or copy it. So copy it for another thread before that
+// thread starts; both then share the compiled program. A match points into its haystack, so the haystack must live as long.
+// `bites.h` says more of each call.
+#ifndef BITES_HPP
+#define BITES_HPP
+#include "bites.h"
+#include <cstddef>
+#include <cstdint>
+#include <iterator>
+#include <optional>
+#include <stdexcept>
+#include <string>
+#include <string_view>
+#include <utility>
+#include <vector>
+
+// A refusal. `what()` is its text, and `code` its number: 1 to 57 for a pattern, BITES_NO_MEMORY, or BITES_NOT_UTF8 and
+// BITES_NOT_BORDER for a regex made with BITES_TEXT.
+class BitesError : public std::runtime_error {
+public:
+    explicit BitesError(uint32_t number) : std::runtime_error(text(number)), code(number) {}
+
+    const uint32_t code;
+
+private:
+    static std::string text(uint32_t number) {
+        char room[96];
+        bites_message(number, room, sizeof room);
+        return room;
+    }
+};
+
+// A part of a haystack: its offsets, and what stands there.
+struct BitesMatch {
+    size_t start, end;
+    std::string_view text;
+};
+
+class BitesMatches;
+
+// A compiled pattern with the memory of its searches.
+class BitesRegex {
+public:
+    // Compiles the pattern. Throws BitesError if it is refused, or out of memory.
+    explicit BitesRegex(std::string_view pattern, uint32_t flags = 0, size_t size_limit = BITES_SIZE_LIMIT, uint32_t nest_limit = BITES_NEST_LIMIT) {
+        own(bites_new(bytes(pattern), pattern.size(), flags, size_limit, nest_limit, &regex));
+    }
+    BitesRegex(const BitesRegex &other) { own(bites_clone(&other.regex, &regex)); }
+    BitesRegex(BitesRegex &&other) noexcept : regex(std::exchange(other.regex, {})), cache(std::exchange(other.cache, {})) {}
+    BitesRegex &operator=(BitesRegex other) noexcept {
+        std::swap(regex, other.regex);
+        std::swap(cache, other.cache);
+        return *this;
+    }
+    ~BitesRegex() {
+        bites_cache_free(&cache);
+        bites_free(&regex);
+    }
+
+    // Returns whether a match begins at or after `start`.
+    bool is_match(std::string_view haystack, size_t start = 0) {
+        return found(bites_is_match_at(&regex, &cache, bytes(haystack), haystack.size(), start));
+    }
+
+    // Returns whether the whole haystack is a match.
+    bool is_full_match(std::string_view haystack) {
+        return found(bites_is_full_match(&regex, &cache, bytes(haystack), haystack.size()));
+    }
+
+    // Returns the first match that begins at or after `start`. The bytes before `start` count for assertions.
+    std::optional<BitesMatch> find(std::string_view haystack, size_t start = 0) {
+        bites_span span = {0, 0};
+        if (!found(bites_find_at(&regex, &cache, bytes(haystack), haystack.size(), start, &span))) return std::nullopt;
+        return part(haystack, span);
+    }
+
+    // Returns the groups of that match, from group 0 on, which is the match. A group that does not participate is empty. Returns
+    // an empty list if nothing matches.
+    std::vector<std::optional<BitesMatch>> captures(std::string_view haystack, size_t start = 0) {
+        std::vector<bites_span> spans(bites_captures_len(&regex));
+        std::vector<std::optional<BitesMatch>> groups;
+        if (!found(bites_captures_at(&regex, &cache, bytes(haystack), haystack.size(), start, spans.data(), spans.size()).code)) return groups;
+        for (bites_span span : spans) groups.push_back(span.start == BITES_NONE ? std::nullopt : std::optional<BitesMatch>(part(haystack, span)));
+        return groups;
+    }
+
+    // Returns the number of the group of this name, if there is one.
+    std::optional<size_t> group_index(std::string_view name) {
+        bites_size answer = bites_group_index(&regex, bytes(name), name.size());
+        return answer.code == BITES_DONE ? std::optional<size_t>(answer.size) : std::nullopt;
+    }
+
+    // Returns all matches in turn. The regex and the haystack must live as long as the loop. Other searches of the regex may come
+    // between two matches.
+    BitesMatches matches(std::string_view haystack);
+
+    // Returns the haystack with its first `limit` matches, or all for 0, replaced by what the template stands for: $1, $name and
+    // ${name} stand for groups, and $$ for a $.
+    std::string replace(std::string_view haystack, std::string_view replacement, size_t limit = 0) {
+        std::string text(haystack.size() + haystack.size() / 4 + 64, '\0');
+        bites_size answer = replace_into(haystack, replacement, limit, text);
+        if (answer.code == BITES_TOO_SMALL) {
+            text.resize(answer.size);
+            answer = replace_into(haystack, replacement, limit, text);
+        }
+        if (!found(answer.code)) return std::string(haystack);
+        text.resize(answer.size);
+        return text;
+    }
+
+private:
+    friend class BitesMatches;
+
+    static const uint8_t *bytes(std::string_view text) { return reinterpret_cast<const uint8_t *>(text.data()); }
+
+    static BitesMatch part(std::string_view haystack, bites_span span) {
+        return {span.start, span.end, haystack.substr(span.start, span.end - span.start)};
+    }
+
+    static bool found(uint32_t code) {
+        if (code != BITES_MATCH && code != BITES_NO_MATCH) throw BitesError(code);
+        return code == BITES_MATCH;
+    }
+
+    // Makes the cache of a new regex. Throws if the regex or the cache was refused.
+    void own(uint32_t code) {
+        if (code == BITES_DONE) code = bites_cache_new(&regex, &cache);
+        if (code == BITES_DONE) return;
+        bites_free(&regex);
+        throw BitesError(code);
+    }
+
+    bites_size replace_into(std::string_view haystack, std::string_view replacement, size_t limit, std::string &text) {
+        return bites_replace(&regex, &cache, bytes(haystack), haystack.size(), limit, bytes(replacement), replacement.size(), reinterpret_cast<uint8_t *>(&text[0]), text.size());
+    }
+
+    mutable bites regex = {};
+    bites_cache cache = {};
+};
+
+// The matches of a regex in a haystack, for one loop.
+class BitesMatches {
+public:
+    class iterator {
+    public:
+        using iterator_category = std::input_iterator_tag;
+        using value_type = BitesMatch;
+        using difference_type = std::ptrdiff_t;
+        using pointer = const BitesMatch *;
+        using reference = const BitesMatch &;
+
+        const BitesMatch &operator*() const { return *match; }
+        const BitesMatch *operator->() const { return &*match; }
+        iterator &operator++() {
+            match = of->after(match->end);
+            return *this;
+        }
+        bool operator==(const iterator &other) const { return match.has_value() == other.match.has_value(); }
+        bool operator!=(const iterator &other) const { return !(*this == other); }
+
+    private:
+        friend class BitesMatches;
+        iterator(BitesMatches *matches, std::optional<BitesMatch> first) : of(matches), match(first) {}
+
+        BitesMatches *of;
+        std::optional<BitesMatch> match;
+    };
+
+    iterator begin() { return iterator(this, after(BITES_NONE)); }
+    iterator end() { return iterator(this, std::nullopt); }
+
+private:
+    friend class BitesRegex;
+    BitesMatches(BitesRegex &own, std::string_view text) : regex(own), haystack(text) {}
+
+    std::optional<BitesMatch> after(size_t last) {
+        bites_span span = {0, 0};
+        uint32_t code = bites_find_next(&regex.regex, &regex.cache, BitesRegex::bytes(haystack), haystack.size(), last, &span);
+        if (!BitesRegex::found(code)) return std::nullopt;
+        return BitesRegex::part(haystack, span);
+    }
+
+    BitesRegex &regex;
+    std::string_view haystack;
+};
+
+inline BitesMatches BitesRegex::matches(std::string_view haystack) { return BitesMatches(*this, haystack); }
+
+#endif
