@@ -1,7 +1,6 @@
 -- Examples: what the definitions give on small values, and wrong values that they refuse.
 mod Rows
 mod TemplateRows
-pub mod Sizes
 pub mod Readings
 pub mod Stops
 pub mod Evaluations

@@ -1,0 +1,6 @@
+pub mod Messages
+pub mod Trees
+pub mod Builds
+pub mod Searches
+pub mod Iterations
+pub mod Replacements

@@ -1,0 +1,7 @@
+pub mod Evaluated
+pub mod Messages
+pub mod Trees
+pub mod Builds
+pub mod Searches
+pub mod Iterations
+pub mod Replacements
