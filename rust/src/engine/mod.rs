@@ -17,7 +17,7 @@ use crate::sys::{self, Bites, BitesCache, BitesSize, BitesSpan};
 use handle::{Handle, Searcher};
 use std::str;
 use std::sync::{Arc, Mutex, OnceLock};
-use text::{append, give_up, made_text, text_of, written};
+use text::{append, give_up, made_text, text_of, written, SHORT};
 
 mod handle;
 mod text;
@@ -393,7 +393,9 @@ impl Engine {
         limit: usize,
         template: &[u8],
     ) -> Option<Vec<u8>> {
-        self.replace_by(sys::bites_replace, haystack, limit, template)
+        let groups = template.iter().filter(|byte| **byte == b'$').count();
+        let room = room_for(haystack, limit, template, groups);
+        self.replace_by(sys::bites_replace, haystack, limit, template, room)
     }
 
     /// Like [`Engine::replace`], by a text that stands for itself.
@@ -404,7 +406,8 @@ impl Engine {
         limit: usize,
         text: &[u8],
     ) -> Option<Vec<u8>> {
-        self.replace_by(sys::bites_replace_literal, haystack, limit, text)
+        let room = room_for(haystack, limit, text, 0);
+        self.replace_by(sys::bites_replace_literal, haystack, limit, text, room)
     }
 
     /// Like [`Engine::replace`], over texts.
@@ -439,16 +442,16 @@ impl Engine {
         haystack: &[u8],
         limit: usize,
         template: &[u8],
+        room: usize,
     ) -> Option<Vec<u8>> {
         let (text, len) = (haystack.as_ptr(), haystack.len());
         let (by, by_len) = (template.as_ptr(), template.len());
-        let guess = len.saturating_add(len / 2).saturating_add(by_len);
         let mut searches = self.searches();
         let own = searches.0.value();
         let (regex, cache) = (&mut own.regex.0, &mut own.cache);
         // SAFETY: both handles are borrowed exclusively, two pointers are of slices, and the last of a buffer.
         let new = unsafe {
-            written(guess, sys::MATCH, |out, room| {
+            written(room, sys::MATCH, |out, room| {
                 call(regex, cache, text, len, limit, by, by_len, out, room)
             })
         };
@@ -458,6 +461,24 @@ impl Engine {
             Err(code) => give_up(code),
         }
     }
+}
+
+/// Returns room for the haystack with its first `limit` matches replaced by a template that names this number of groups: the
+/// greatest length that this can have, if it is not far above that of the haystack. With less room the engine would have to be
+/// asked a second time where a replacement makes the text grow.
+fn room_for(haystack: &[u8], limit: usize, template: &[u8], groups: usize) -> usize {
+    let len = haystack.len();
+    // An empty match may stand before each byte and at the end.
+    let matches = match limit {
+        0 => len.saturating_add(1),
+        limit => limit.min(len.saturating_add(1)),
+    };
+    let pieces = template.len().saturating_mul(matches);
+    // The texts of one group in all matches don't overlap.
+    let most = len
+        .saturating_mul(groups.saturating_add(1))
+        .saturating_add(pieces);
+    most.min(len.saturating_mul(16).saturating_add(SHORT))
 }
 
 /// A group that did not participate.
@@ -495,7 +516,25 @@ pub(crate) fn escape(text: &str) -> String {
 
 #[cfg(test)]
 mod tests {
+    use super::{room_for, Engine, Settings};
     use crate::sys;
+
+    /// Where a replacement makes the text grow the engine is asked once.
+    #[test]
+    fn there_is_room_for_a_text_that_grows() {
+        for (pattern, template, groups) in
+            [("x*", "<$0>", 1), ("x*", "--", 0), ("(a+)|", "$0$1 ", 2)]
+        {
+            let engine = Engine::new(pattern, Settings::default()).expect("accepted");
+            for haystack in ["", "b", "axa", "a☃b", &"a".repeat(9), &"ab".repeat(3000)] {
+                for limit in [0, 1, 3] {
+                    let (haystack, template) = (haystack.as_bytes(), template.as_bytes());
+                    let new = engine.replace(haystack, limit, template).expect("a match");
+                    assert!(new.len() <= room_for(haystack, limit, template, groups));
+                }
+            }
+        }
+    }
 
     /// Major, minor and patch of this crate, as the library numbers them.
     #[test]

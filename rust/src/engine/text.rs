@@ -7,10 +7,11 @@ use std::slice;
 use std::sync::OnceLock;
 
 /// The size of the buffer for texts that are probably short.
-const SHORT: usize = 1024;
+pub(super) const SHORT: usize = 4096;
 
 /// Returns what a call of the engine writes, probably at most `guess` bytes. It calls once more if the call needs more room. A
-/// short text goes through a buffer on the stack, so that nothing is allocated if there is no text, and else only its size.
+/// short text goes through a buffer on the stack, so that nothing is allocated if there is no text. Memory that the text does not
+/// fill is given back.
 ///
 /// # Safety
 ///
@@ -36,11 +37,12 @@ pub(super) unsafe fn written(
         room = size;
     }
     let mut text = Vec::new();
+    // A guess may be far too much. If there is no memory for it, the call says how much it needs.
+    let _ = text.try_reserve_exact(room);
     // SAFETY: as the caller says.
-    match unsafe { append(&mut text, room, wanted, ask) } {
-        Ok(()) => Ok(text),
-        Err(code) => Err(code),
-    }
+    unsafe { append(&mut text, 0, wanted, ask) }?;
+    text.shrink_to_fit();
+    Ok(text)
 }
 
 /// Appends what a call of the engine writes, into at least `room` bytes. It calls once more if the call needs more room.
