@@ -2,8 +2,10 @@
 //!
 //! It looks for the library in `BITES_C_DIR` if that is set, else in `lib` of this folder, which a release has, else in the
 //! checkout that this crate is part of. `libbites.a` is complete. `libbites_c.a`, which `rt lib` makes, also needs
-//! `liblibc_c.a` of the toolchain, from `RATTLE_C_DIR` or from where the command `rt` says. If the library is missing, or older
-//! than a source of the checkout, one line says what to run.
+//! `liblibc_c.a` of the toolchain, from `RATTLE_C_DIR` or from where the command `rt` says. If the library is missing, older than
+//! a source of the checkout, or made for another target, one line says what to do.
+//!
+//! With `BITES_C_SKIP` or `DOCS_RS` set it looks for no library. That is enough for `cargo check` and `cargo doc`, which link nothing.
 
 use std::env;
 use std::fs;
@@ -12,23 +14,53 @@ use std::path::{Path, PathBuf};
 use std::process::{exit, Command};
 use std::time::SystemTime;
 
+/// What the library is made for.
+const TARGET: &str = "x86_64-unknown-linux-gnu";
+
+/// What each line ends with.
+const WITHOUT: &str = "for `cargo check` and `cargo doc` alone, set BITES_C_SKIP=1";
+
 fn main() {
+    tell_variables();
+    let links = libraries().unwrap_or_else(|line| {
+        eprintln!("{line}; {WITHOUT}");
+        exit(1)
+    });
+    links.tell();
+}
+
+fn tell_variables() {
+    // A build for the race detector helgrind sets this.
+    println!("cargo:rustc-check-cfg=cfg(helgrind)");
+    for name in ["BITES_C_DIR", "BITES_C_SKIP", "DOCS_RS", "RATTLE_C_DIR"] {
+        println!("cargo:rerun-if-env-changed={name}");
+    }
+}
+
+/// Returns the libraries to link, or a line that says what to do.
+fn libraries() -> Result<Links, String> {
+    if ["BITES_C_SKIP", "DOCS_RS"]
+        .iter()
+        .any(|name| env::var_os(name).is_some())
+    {
+        return Ok(Links::default());
+    }
+    let target = env::var("TARGET").expect("cargo sets TARGET");
+    if target != TARGET {
+        return Err(format!(
+            "the library is made for {TARGET}, and not for {target}"
+        ));
+    }
     let crate_folder =
         PathBuf::from(env::var_os("CARGO_MANIFEST_DIR").expect("cargo sets CARGO_MANIFEST_DIR"));
     let packed = crate_folder.join("lib");
-    let links = if let Some(folder) = env::var_os("BITES_C_DIR") {
+    if let Some(folder) = env::var_os("BITES_C_DIR") {
         installed(Path::new(&folder))
     } else if packed.is_dir() {
         packed_with(&packed)
     } else {
         of_checkout(crate_folder.parent().expect("the folder of a checkout"))
-    };
-    links
-        .unwrap_or_else(|line| {
-            eprintln!("{line}");
-            exit(1)
-        })
-        .tell();
+    }
 }
 
 /// The libraries to link, and the files that this depends on, even if they are not there.
@@ -51,10 +83,6 @@ impl Links {
     }
 
     fn tell(&self) {
-        // A build for the race detector helgrind sets this.
-        println!("cargo:rustc-check-cfg=cfg(helgrind)");
-        println!("cargo:rerun-if-env-changed=BITES_C_DIR");
-        println!("cargo:rerun-if-env-changed=RATTLE_C_DIR");
         for path in &self.watched {
             println!("cargo:rerun-if-changed={}", path.display());
         }
@@ -101,7 +129,7 @@ fn of_checkout(checkout: &Path) -> Result<Links, String> {
     let remedy = format!(
         "run `drive/archive bites_c` in {place}, or set BITES_C_DIR to the folder of an installed libbites.a"
     );
-    let sources = sources(checkout)?;
+    let needed = Needed::read(checkout)?;
     let folder = checkout.join("crates/bites_c/out");
     let archive = folder.join("libbites_c.a");
     links.watch(archive.clone());
@@ -110,38 +138,73 @@ fn of_checkout(checkout: &Path) -> Result<Links, String> {
             "crates/bites_c/out/libbites_c.a is missing: {remedy}"
         ));
     };
-    for source in sources {
-        if let Some(newer) = newer_than(made, &source) {
-            let newer = newer.strip_prefix(checkout).unwrap_or(&newer).display();
-            return Err(format!(
-                "crates/bites_c/out/libbites_c.a is older than {newer}: {remedy}"
-            ));
-        }
-        links.watch(source);
+    if let Some(newer) = needed.newer_than(made, &folder.join("libbites_c.crates")) {
+        let newer = newer.strip_prefix(checkout).unwrap_or(&newer).display();
+        return Err(format!(
+            "crates/bites_c/out/libbites_c.a is older than {newer}: {remedy}"
+        ));
     }
+    links.watched.extend(needed.sources);
+    links.watched.push(needed.list);
     links.add("bites_c", &folder);
     add_toolchain(&mut links)?;
     Ok(links)
 }
 
-/// Returns the folders of the sources of `bites_c` and of the crates below it, as `crates.txt` lists them.
-fn sources(checkout: &Path) -> Result<Vec<PathBuf>, String> {
-    let list = checkout.join("crates.txt");
-    let text = fs::read_to_string(&list).map_err(|_| {
-        let list = list.display();
-        format!("no file {list}: this crate is neither in a checkout nor in a release")
-    })?;
-    let mut lines = text.lines();
-    let line = lines.find_map(|line| line.strip_prefix("bites_c staticlib"));
-    let below = line.and_then(|line| line.split_once(':'));
-    let names = below.map_or("", |(_, names)| names).split_whitespace();
-    let folders = iter::once("bites_c").chain(names).flat_map(|name| {
-        let folder = checkout.join("crates").join(name);
-        ["src", "specs", "proofs"].map(|part| folder.join(part))
-    });
-    let mut sources: Vec<PathBuf> = folders.filter(|folder| folder.is_dir()).collect();
-    sources.push(list);
-    Ok(sources)
+/// What the archive is made of.
+struct Needed {
+    /// The file `crates.txt`.
+    list: PathBuf,
+    /// The lines of that file for `bites_c` and for the crates below it.
+    lines: String,
+    /// The folders of the sources of these crates.
+    sources: Vec<PathBuf>,
+}
+
+impl Needed {
+    fn read(checkout: &Path) -> Result<Needed, String> {
+        let list = checkout.join("crates.txt");
+        let text = fs::read_to_string(&list).map_err(|_| {
+            let list = list.display();
+            format!(
+                "no file {list}: this crate is neither in a checkout nor in a release; \
+                 set BITES_C_DIR to the folder of an installed libbites.a"
+            )
+        })?;
+        let mut lines = text.lines();
+        let line = lines.find_map(|line| line.strip_prefix("bites_c staticlib"));
+        let below = line.and_then(|line| line.split_once(':'));
+        let below = below.map_or("", |(_, names)| names).split_whitespace();
+        let names: Vec<&str> = iter::once("bites_c").chain(below).collect();
+        let folders = names.iter().flat_map(|name| {
+            let folder = checkout.join("crates").join(name);
+            ["src", "specs", "proofs"].map(|part| folder.join(part))
+        });
+        let is_needed = |line: &&str| names.contains(&line.split([' ', ':']).next().unwrap_or(""));
+        Ok(Needed {
+            lines: text
+                .lines()
+                .filter(is_needed)
+                .map(|line| format!("{line}\n"))
+                .collect(),
+            sources: folders.filter(|folder| folder.is_dir()).collect(),
+            list,
+        })
+    }
+
+    /// Returns what changed after this time, when the archive was made. `drive/archive` records the lines of `crates.txt` that
+    /// the archive was made by. Without a record that is as new as the archive the file's own time counts.
+    fn newer_than(&self, made: SystemTime, record: &Path) -> Option<PathBuf> {
+        let mut sources = self.sources.iter();
+        if let Some(newer) = sources.find_map(|source| newer_than(made, source)) {
+            return Some(newer);
+        }
+        let recorded = modified(record).filter(|time| *time >= made);
+        match recorded.and_then(|_| fs::read_to_string(record).ok()) {
+            Some(lines) => (lines != self.lines).then(|| self.list.clone()),
+            None => newer_than(made, &self.list),
+        }
+    }
 }
 
 /// Returns a file at or below this path that was changed after this time.
