@@ -14,6 +14,7 @@ mod race;
 mod replacer;
 mod string;
 mod sys;
+mod unicode;
 
 pub use error::Error;
 pub use escape::escape;

@@ -11,9 +11,31 @@ macro_rules! replacer {
         /// The replacement of a match: a template, a literal, or what a closure returns for the match's groups.
         pub trait Replacer {
             /// Appends the replacement of the match to `dst`.
+            ///
+            /// ```
+            /// use regex_bites::{Captures, Regex, Replacer};
+            ///
+            /// struct Numbers(usize);
+            ///
+            /// impl Replacer for Numbers {
+            ///     fn replace_append(&mut self, _: &Captures<'_>, dst: &mut String) {
+            ///         self.0 += 1;
+            ///         dst.push_str(&self.0.to_string());
+            ///     }
+            /// }
+            ///
+            /// assert_eq!("1-2", Regex::new("[a-z]+").unwrap().replace_all("one-two", Numbers(0)));
+            /// ```
             fn replace_append(&mut self, caps: &Captures<'_>, dst: &mut $owned);
 
             /// Returns the replacement of every match, if it is the same for all. Then nothing else is called.
+            ///
+            /// ```
+            /// use regex_bites::Replacer;
+            ///
+            /// assert_eq!(Some("text".into()), "text".no_expansion());
+            /// assert_eq!(None, "$1".no_expansion());
+            /// ```
             fn no_expansion<'r>(&'r mut self) -> Option<Cow<'r, $text>> {
                 None
             }
@@ -26,6 +48,19 @@ macro_rules! replacer {
             }
 
             /// Returns a replacer that borrows this one, so that it can be used again.
+            ///
+            /// ```
+            /// use regex_bites::{Captures, Regex, Replacer};
+            ///
+            /// let letter = Regex::new("[a-z]").unwrap();
+            /// let mut count = 0;
+            /// let mut number = |_: &Captures<'_>| {
+            ///     count += 1;
+            ///     count.to_string()
+            /// };
+            /// assert_eq!("1-2", letter.replace_all("a-b", number.by_ref()));
+            /// assert_eq!("3", letter.replace_all("c", number));
+            /// ```
             fn by_ref<'r>(&'r mut self) -> ReplacerRef<'r, Self> {
                 ReplacerRef(self)
             }

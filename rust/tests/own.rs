@@ -81,19 +81,27 @@ fn a_start_within_a_character_hands_out_no_text() {
     assert!(std::panic::catch_unwind(expanded).is_err());
 }
 
-/// The three searches that the Rust crate does not have, with their types.
+/// The calls that the Rust crate does not have, with their types.
 mod added {
     type Finds<R, T, M> = fn(&R, T, usize) -> Option<M>;
     type Asks<R, T> = fn(&R, T) -> bool;
+    type Sets<B, V> = fn(&mut B, V) -> &mut B;
 
     macro_rules! added {
         ($name:ident = $($path:ident)::+, $text:ty) => {
             #[test]
             fn $name() {
-                use $($path)::+::{Captures, Match, Regex};
+                use $($path)::+::{CaptureLocations, Captures, Match, Regex, RegexBuilder};
                 let _: Finds<Regex, &'static $text, Match<'static>> = Regex::find_anchored_at;
                 let _: Finds<Regex, &'static $text, Captures<'static>> = Regex::captures_anchored_at;
                 let _: Asks<Regex, &$text> = Regex::is_full_match;
+                let _: fn(&CaptureLocations, usize) -> Option<(usize, usize)> = CaptureLocations::pos;
+                let _: Sets<RegexBuilder, usize> = RegexBuilder::dfa_size_limit;
+                let _: Sets<RegexBuilder, bool> = RegexBuilder::octal;
+                let _: Sets<RegexBuilder, bool> = RegexBuilder::unicode;
+                let _: Sets<RegexBuilder, bool> = RegexBuilder::leftmost_longest;
+                let _: Sets<RegexBuilder, bool> = RegexBuilder::keep_dropped_groups;
+                let _: fn(&RegexBuilder) -> RegexBuilder = RegexBuilder::clone;
             }
         };
     }

@@ -31,36 +31,63 @@ impl<'h> Match<'h> {
     }
 
     /// Returns the offset of its first byte.
+    ///
+    /// ```
+    /// let found = regex_bites::bytes::Regex::new("b").unwrap().find(b"a\xFFb").unwrap();
+    /// assert_eq!(2, found.start());
+    /// ```
     #[inline]
     pub fn start(&self) -> usize {
         self.start
     }
 
     /// Returns the offset after its last byte.
+    ///
+    /// ```
+    /// let found = regex_bites::bytes::Regex::new("b+").unwrap().find(b"abb").unwrap();
+    /// assert_eq!(3, found.end());
+    /// ```
     #[inline]
     pub fn end(&self) -> usize {
         self.end
     }
 
     /// Returns whether it has no byte.
+    ///
+    /// ```
+    /// assert!(regex_bites::bytes::Regex::new("a*").unwrap().find(b"baa").unwrap().is_empty());
+    /// ```
     #[inline]
     pub fn is_empty(&self) -> bool {
         self.start == self.end
     }
 
     /// Returns its length in bytes.
+    ///
+    /// ```
+    /// assert_eq!(2, regex_bites::bytes::Regex::new("a+").unwrap().find(b"baa").unwrap().len());
+    /// ```
     #[inline]
     pub fn len(&self) -> usize {
         self.end - self.start
     }
 
     /// Returns its range of offsets, in bytes.
+    ///
+    /// ```
+    /// let found = regex_bites::bytes::Regex::new("a+").unwrap().find(b"baa").unwrap();
+    /// assert_eq!(1..3, found.range());
+    /// ```
     #[inline]
     pub fn range(&self) -> Range<usize> {
         self.start..self.end
     }
 
     /// Returns its bytes.
+    ///
+    /// ```
+    /// assert_eq!(b"a\xFF", regex_bites::bytes::Regex::new("a.").unwrap().find(b"ba\xFF").unwrap().as_bytes());
+    /// ```
     #[inline]
     pub fn as_bytes(&self) -> &'h [u8] {
         &self.haystack[self.range()]
@@ -117,6 +144,12 @@ impl<'h> Captures<'h> {
     }
 
     /// Returns the group of this number, if there is one and it participated. Group 0 is the match.
+    ///
+    /// ```
+    /// let captures = regex_bites::bytes::Regex::new("(a)|(b)").unwrap().captures(b"b").unwrap();
+    /// assert!(captures.get(1).is_none());
+    /// assert_eq!(0..1, captures.get(2).unwrap().range());
+    /// ```
     #[inline]
     pub fn get(&self, i: usize) -> Option<Match<'h>> {
         let (start, end) = self.locations.get(i)?;
@@ -124,12 +157,24 @@ impl<'h> Captures<'h> {
     }
 
     /// Returns the group of this name, if there is one and it participated.
+    ///
+    /// ```
+    /// let captures = regex_bites::bytes::Regex::new(r"(?<year>\d{4})").unwrap().captures(b"in 2010").unwrap();
+    /// assert_eq!(b"2010", captures.name("year").unwrap().as_bytes());
+    /// assert!(captures.name("month").is_none());
+    /// ```
     #[inline]
     pub fn name(&self, name: &str) -> Option<Match<'h>> {
         self.get(self.program.index_of(name)?)
     }
 
     /// Returns the bytes of the match, and the bytes of the first `N` groups that participated.
+    ///
+    /// ```
+    /// let date = regex_bites::bytes::Regex::new(r"(\d{4})-(\d\d)").unwrap();
+    /// let (_, [year, month]) = date.captures(b"on 2010-03").unwrap().extract();
+    /// assert_eq!((&b"2010"[..], &b"03"[..]), (year, month));
+    /// ```
     ///
     /// # Panics
     ///
@@ -149,6 +194,13 @@ impl<'h> Captures<'h> {
 
     /// Appends what the template stands for: in it `$1`, `$name`, `${1}` and `${name}` are groups, and `$$` is a `$`. A group
     /// that does not exist or did not participate is empty.
+    ///
+    /// ```
+    /// let captures = regex_bites::bytes::Regex::new(r"(?<key>\w)=(\d)").unwrap().captures(b"a=1").unwrap();
+    /// let mut bytes = b"\xFF".to_vec();
+    /// captures.expand(b"$2, ${key}x, $$", &mut bytes);
+    /// assert_eq!(b"\xFF1, ax, $", &bytes[..]);
+    /// ```
     #[inline]
     pub fn expand(&self, replacement: &[u8], dst: &mut Vec<u8>) {
         let groups = self.locations.groups();
@@ -156,12 +208,22 @@ impl<'h> Captures<'h> {
     }
 
     /// Returns an iterator over all groups from group 0 on, with `None` for one that did not participate.
+    ///
+    /// ```
+    /// let captures = regex_bites::bytes::Regex::new("(a)(b)?").unwrap().captures(b"a").unwrap();
+    /// let there: Vec<bool> = captures.iter().map(|group| group.is_some()).collect();
+    /// assert_eq!([true, true, false], there[..]);
+    /// ```
     #[inline]
     pub fn iter<'c>(&'c self) -> SubCaptureMatches<'c, 'h> {
         SubCaptureMatches::new(self)
     }
 
     /// Returns the number of groups, with group 0.
+    ///
+    /// ```
+    /// assert_eq!(3, regex_bites::bytes::Regex::new("(a)(b)?").unwrap().captures(b"a").unwrap().len());
+    /// ```
     #[inline]
     #[allow(clippy::len_without_is_empty)]
     pub fn len(&self) -> usize {
@@ -278,13 +340,37 @@ impl CaptureLocations {
     }
 
     /// Returns the start and the end of the group of this number, if there is one and it participated.
+    ///
+    /// ```
+    /// let regex = regex_bites::bytes::Regex::new("(a)(b)?").unwrap();
+    /// let mut locations = regex.capture_locations();
+    /// assert!(regex.captures_read(&mut locations, b"xa").is_some());
+    /// assert_eq!((Some((1, 2)), None), (locations.get(1), locations.get(2)));
+    /// ```
     #[inline]
     pub fn get(&self, i: usize) -> Option<(usize, usize)> {
         let span = self.0.get(i)?;
         (span.start != sys::NONE).then_some((span.start, span.end))
     }
 
+    /// Returns what [`CaptureLocations::get`] returns. Rust's `regex` has it under this name too.
+    ///
+    /// ```
+    /// let regex = regex_bites::bytes::Regex::new("a+").unwrap();
+    /// let mut locations = regex.capture_locations();
+    /// assert!(regex.captures_read(&mut locations, b"baa").is_some());
+    /// assert_eq!(Some((1, 3)), locations.pos(0));
+    /// ```
+    #[inline]
+    pub fn pos(&self, i: usize) -> Option<(usize, usize)> {
+        self.get(i)
+    }
+
     /// Returns the number of groups, with group 0.
+    ///
+    /// ```
+    /// assert_eq!(3, regex_bites::bytes::Regex::new("(a)(b)").unwrap().capture_locations().len());
+    /// ```
     #[inline]
     #[allow(clippy::len_without_is_empty)]
     pub fn len(&self) -> usize {

@@ -87,11 +87,23 @@ impl TryFrom<String> for Regex {
 /// What most programs use.
 impl Regex {
     /// Compiles the pattern with no flag set and with the default limits. The error says why it is refused.
+    ///
+    /// ```
+    /// use regex_bites::bytes::Regex;
+    ///
+    /// assert!(Regex::new(r"\d+").is_ok());
+    /// assert!(Regex::new("a(").is_err());
+    /// ```
     pub fn new(pattern: &str) -> Result<Regex, Error> {
         Regex::of(pattern, Settings::default())
     }
 
     /// Returns whether the pattern matches somewhere in the haystack.
+    ///
+    /// ```
+    /// let digits = regex_bites::bytes::Regex::new(r"\d+").unwrap();
+    /// assert!(digits.is_match(b"\xFF 42") && !digits.is_match(b"\xFF"));
+    /// ```
     #[inline]
     pub fn is_match(&self, haystack: &[u8]) -> bool {
         self.is_match_at(haystack, 0)
@@ -109,6 +121,12 @@ impl Regex {
     }
 
     /// Returns an iterator over all matches that do not overlap, from left to right.
+    ///
+    /// ```
+    /// let word = regex_bites::bytes::Regex::new(r"\w+").unwrap();
+    /// let starts: Vec<usize> = word.find_iter(b"one\xFF two").map(|found| found.start()).collect();
+    /// assert_eq!([0, 5], starts[..]);
+    /// ```
     #[inline]
     pub fn find_iter<'r, 'h>(&'r self, haystack: &'h [u8]) -> Matches<'r, 'h> {
         Matches::new(self, haystack)
@@ -127,6 +145,12 @@ impl Regex {
     }
 
     /// Returns an iterator over the groups of each match that [`Regex::find_iter`] yields.
+    ///
+    /// ```
+    /// let pair = regex_bites::bytes::Regex::new(r"(\w)=(\d)").unwrap();
+    /// let keys: Vec<u8> = pair.captures_iter(b"a=1 b=2").map(|pair| pair[1][0]).collect();
+    /// assert_eq!(b"ab", &keys[..]);
+    /// ```
     #[inline]
     pub fn captures_iter<'r, 'h>(&'r self, haystack: &'h [u8]) -> CaptureMatches<'r, 'h> {
         CaptureMatches::new(self, haystack)
@@ -144,12 +168,22 @@ impl Regex {
     }
 
     /// Like [`Regex::split`], but yields at most `limit` pieces. The last one is the rest of the haystack.
+    ///
+    /// ```
+    /// let comma = regex_bites::bytes::Regex::new(", *").unwrap();
+    /// assert_eq!([&b"a"[..], b"b, c"], comma.splitn(b"a, b, c", 2).collect::<Vec<_>>()[..]);
+    /// ```
     #[inline]
     pub fn splitn<'r, 'h>(&'r self, haystack: &'h [u8], limit: usize) -> SplitN<'r, 'h> {
         SplitN::new(self.split(haystack), limit)
     }
 
     /// Returns the haystack with its first match replaced, or borrows it if nothing matches.
+    ///
+    /// ```
+    /// let digits = regex_bites::bytes::Regex::new(r"\d+").unwrap();
+    /// assert_eq!(digits.replace(b"a1 b2", &b"#"[..]), &b"a# b2"[..]);
+    /// ```
     #[inline]
     pub fn replace<'h, R: Replacer>(&self, haystack: &'h [u8], rep: R) -> Cow<'h, [u8]> {
         self.replacen(haystack, 1, rep)
@@ -167,6 +201,11 @@ impl Regex {
     }
 
     /// Returns the haystack with its first `limit` matches replaced, or all of them for 0. Borrows it if nothing matches.
+    ///
+    /// ```
+    /// let digits = regex_bites::bytes::Regex::new(r"\d+").unwrap();
+    /// assert_eq!(digits.replacen(b"a1 b2 c3", 2, &b"#"[..]), &b"a# b# c3"[..]);
+    /// ```
     #[inline]
     pub fn replacen<'h, R: Replacer>(
         &self,
@@ -217,24 +256,46 @@ impl Regex {
 /// nothing.
 impl Regex {
     /// Returns the least end of any match.
+    ///
+    /// ```
+    /// let regex = regex_bites::bytes::Regex::new("a+").unwrap();
+    /// assert_eq!(Some(2), regex.shortest_match(b"baaa"));
+    /// ```
     #[inline]
     pub fn shortest_match(&self, haystack: &[u8]) -> Option<usize> {
         self.shortest_match_at(haystack, 0)
     }
 
     /// Returns the least end of any match that begins at or after `start`.
+    ///
+    /// ```
+    /// let regex = regex_bites::bytes::Regex::new("a+").unwrap();
+    /// assert_eq!(Some(3), regex.shortest_match_at(b"baaa", 2));
+    /// ```
     #[inline]
     pub fn shortest_match_at(&self, haystack: &[u8], start: usize) -> Option<usize> {
         self.engine.shortest_match_at(haystack, start)
     }
 
     /// Returns whether a match begins at or after `start`.
+    ///
+    /// ```
+    /// let word = regex_bites::bytes::Regex::new(r"\bin\b").unwrap();
+    /// assert!(word.is_match_at(b"in or in", 2) && !word.is_match_at(b"in or within", 2));
+    /// ```
     #[inline]
     pub fn is_match_at(&self, haystack: &[u8], start: usize) -> bool {
         self.engine.is_match_at(haystack, start)
     }
 
     /// Returns the leftmost match at or after `start`.
+    ///
+    /// ```
+    /// let start = regex_bites::bytes::Regex::new("^a").unwrap();
+    /// assert!(start.find_at(b"aa", 0).is_some());
+    /// // At 1 there is no start of the haystack.
+    /// assert!(start.find_at(b"aa", 1).is_none());
+    /// ```
     #[inline]
     pub fn find_at<'h>(&self, haystack: &'h [u8], start: usize) -> Option<Match<'h>> {
         let span = self.engine.find_at(haystack, start)?;
@@ -242,6 +303,11 @@ impl Regex {
     }
 
     /// Returns the groups of the leftmost match at or after `start`.
+    ///
+    /// ```
+    /// let pair = regex_bites::bytes::Regex::new(r"(\w)=(\d)").unwrap();
+    /// assert_eq!(b"b", &pair.captures_at(b"a=1 b=2", 1).unwrap()[1]);
+    /// ```
     #[inline]
     pub fn captures_at<'h>(&self, haystack: &'h [u8], start: usize) -> Option<Captures<'h>> {
         let groups = self.engine.captures_at(haystack, start)?;
@@ -252,6 +318,13 @@ impl Regex {
     ///
     /// Locations of another regex take as many groups as they have room for. Those that this regex has no group for become
     /// groups that did not participate.
+    ///
+    /// ```
+    /// let pair = regex_bites::bytes::Regex::new(r"(\w)=(\d)").unwrap();
+    /// let mut locations = pair.capture_locations();
+    /// assert!(pair.captures_read(&mut locations, b"a=1").is_some());
+    /// assert_eq!(Some((2, 3)), locations.get(2));
+    /// ```
     #[inline]
     pub fn captures_read<'h>(
         &self,
@@ -262,6 +335,13 @@ impl Regex {
     }
 
     /// Like [`Regex::captures_read`], for the leftmost match at or after `start`.
+    ///
+    /// ```
+    /// let pair = regex_bites::bytes::Regex::new(r"(\w)=(\d)").unwrap();
+    /// let mut locations = pair.capture_locations();
+    /// assert!(pair.captures_read_at(&mut locations, b"a=1 b=2", 1).is_some());
+    /// assert_eq!(Some((4, 5)), locations.get(1));
+    /// ```
     #[inline]
     pub fn captures_read_at<'h>(
         &self,
@@ -328,18 +408,31 @@ impl Regex {
 /// What is known of the pattern.
 impl Regex {
     /// Returns the pattern.
+    ///
+    /// ```
+    /// assert_eq!(r"\d+", regex_bites::bytes::Regex::new(r"\d+").unwrap().as_str());
+    /// ```
     #[inline]
     pub fn as_str(&self) -> &str {
         self.engine.program().pattern()
     }
 
     /// Returns an iterator over the name of each group, or `None` for one without, from group 0 on.
+    ///
+    /// ```
+    /// let date = regex_bites::bytes::Regex::new(r"(?<year>\d{4})-(\d\d)").unwrap();
+    /// assert_eq!([None, Some("year"), None], date.capture_names().collect::<Vec<_>>()[..]);
+    /// ```
     #[inline]
     pub fn capture_names(&self) -> CaptureNames<'_> {
         CaptureNames::new(self.engine.program().names())
     }
 
     /// Returns the number of groups, with group 0.
+    ///
+    /// ```
+    /// assert_eq!(3, regex_bites::bytes::Regex::new("(a)(b)?").unwrap().captures_len());
+    /// ```
     #[inline]
     pub fn captures_len(&self) -> usize {
         self.engine.program().captures_len()
@@ -347,12 +440,24 @@ impl Regex {
 
     /// Returns a lower bound on the groups that participate in any match, with group 0, if the pattern's form gives one: the
     /// same number for all branches of each alternation.
+    ///
+    /// ```
+    /// use regex_bites::bytes::Regex;
+    ///
+    /// assert_eq!(Some(2), Regex::new("(a)|(b)").unwrap().static_captures_len());
+    /// assert_eq!(None, Regex::new("(a)|b").unwrap().static_captures_len());
+    /// ```
     #[inline]
     pub fn static_captures_len(&self) -> Option<usize> {
         self.engine.program().static_captures_len()
     }
 
     /// Returns locations for the groups of this regex. No group participated yet.
+    ///
+    /// ```
+    /// let locations = regex_bites::bytes::Regex::new("(a)").unwrap().capture_locations();
+    /// assert_eq!((2, None), (locations.len(), locations.get(0)));
+    /// ```
     #[inline]
     pub fn capture_locations(&self) -> CaptureLocations {
         CaptureLocations::new(vec![ABSENT; self.captures_len()])

@@ -79,11 +79,23 @@ impl TryFrom<String> for Regex {
 /// What most programs use.
 impl Regex {
     /// Compiles the pattern with no flag set and with the default limits. The error says why it is refused.
+    ///
+    /// ```
+    /// use regex_bites::Regex;
+    ///
+    /// assert!(Regex::new(r"\d+").is_ok());
+    /// assert!(Regex::new("a(").is_err());
+    /// ```
     pub fn new(pattern: &str) -> Result<Regex, Error> {
         Regex::of(pattern, Settings::default())
     }
 
     /// Returns whether the pattern matches somewhere in the haystack.
+    ///
+    /// ```
+    /// let digits = regex_bites::Regex::new(r"\d+").unwrap();
+    /// assert!(digits.is_match("in 2010") && !digits.is_match("never"));
+    /// ```
     #[inline]
     pub fn is_match(&self, haystack: &str) -> bool {
         self.is_match_at(haystack, 0)
@@ -101,6 +113,12 @@ impl Regex {
     }
 
     /// Returns an iterator over all matches that do not overlap, from left to right.
+    ///
+    /// ```
+    /// let word = regex_bites::Regex::new(r"\w+").unwrap();
+    /// let words: Vec<&str> = word.find_iter("one, two").map(|found| found.as_str()).collect();
+    /// assert_eq!(["one", "two"], words[..]);
+    /// ```
     #[inline]
     pub fn find_iter<'r, 'h>(&'r self, haystack: &'h str) -> Matches<'r, 'h> {
         Matches::new(self, haystack)
@@ -119,6 +137,12 @@ impl Regex {
     }
 
     /// Returns an iterator over the groups of each match that [`Regex::find_iter`] yields.
+    ///
+    /// ```
+    /// let pair = regex_bites::Regex::new(r"(\w)=(\d)").unwrap();
+    /// let keys: Vec<String> = pair.captures_iter("a=1 b=2").map(|pair| pair[1].to_string()).collect();
+    /// assert_eq!(["a", "b"], keys[..]);
+    /// ```
     #[inline]
     pub fn captures_iter<'r, 'h>(&'r self, haystack: &'h str) -> CaptureMatches<'r, 'h> {
         CaptureMatches::new(self, haystack)
@@ -136,12 +160,22 @@ impl Regex {
     }
 
     /// Like [`Regex::split`], but yields at most `limit` pieces. The last one is the rest of the haystack.
+    ///
+    /// ```
+    /// let comma = regex_bites::Regex::new(", *").unwrap();
+    /// assert_eq!(["a", "b, c"], comma.splitn("a, b, c", 2).collect::<Vec<_>>()[..]);
+    /// ```
     #[inline]
     pub fn splitn<'r, 'h>(&'r self, haystack: &'h str, limit: usize) -> SplitN<'r, 'h> {
         SplitN::new(self.split(haystack), limit)
     }
 
     /// Returns the haystack with its first match replaced, or borrows it if nothing matches.
+    ///
+    /// ```
+    /// let digits = regex_bites::Regex::new(r"\d+").unwrap();
+    /// assert_eq!("a# b2", digits.replace("a1 b2", "#"));
+    /// ```
     #[inline]
     pub fn replace<'h, R: Replacer>(&self, haystack: &'h str, rep: R) -> Cow<'h, str> {
         self.replacen(haystack, 1, rep)
@@ -159,6 +193,11 @@ impl Regex {
     }
 
     /// Returns the haystack with its first `limit` matches replaced, or all of them for 0. Borrows it if nothing matches.
+    ///
+    /// ```
+    /// let digits = regex_bites::Regex::new(r"\d+").unwrap();
+    /// assert_eq!("a# b# c3", digits.replacen("a1 b2 c3", 2, "#"));
+    /// ```
     #[inline]
     pub fn replacen<'h, R: Replacer>(
         &self,
@@ -212,24 +251,46 @@ impl Regex {
 /// are not UTF-8, and asking for the text of a match that begins or ends there panics.
 impl Regex {
     /// Returns the least end of any match.
+    ///
+    /// ```
+    /// let regex = regex_bites::Regex::new("a+").unwrap();
+    /// assert_eq!(Some(2), regex.shortest_match("baaa"));
+    /// ```
     #[inline]
     pub fn shortest_match(&self, haystack: &str) -> Option<usize> {
         self.shortest_match_at(haystack, 0)
     }
 
     /// Returns the least end of any match that begins at or after `start`.
+    ///
+    /// ```
+    /// let regex = regex_bites::Regex::new("a+").unwrap();
+    /// assert_eq!(Some(3), regex.shortest_match_at("baaa", 2));
+    /// ```
     #[inline]
     pub fn shortest_match_at(&self, haystack: &str, start: usize) -> Option<usize> {
         self.engine.shortest_match_at(haystack.as_bytes(), start)
     }
 
     /// Returns whether a match begins at or after `start`.
+    ///
+    /// ```
+    /// let word = regex_bites::Regex::new(r"\bin\b").unwrap();
+    /// assert!(word.is_match_at("in or in", 2) && !word.is_match_at("in or within", 2));
+    /// ```
     #[inline]
     pub fn is_match_at(&self, haystack: &str, start: usize) -> bool {
         self.engine.is_match_at(haystack.as_bytes(), start)
     }
 
     /// Returns the leftmost match at or after `start`.
+    ///
+    /// ```
+    /// let start = regex_bites::Regex::new("^a").unwrap();
+    /// assert!(start.find_at("aa", 0).is_some());
+    /// // At 1 there is no start of the text.
+    /// assert!(start.find_at("aa", 1).is_none());
+    /// ```
     #[inline]
     pub fn find_at<'h>(&self, haystack: &'h str, start: usize) -> Option<Match<'h>> {
         let span = self.engine.find_at(haystack.as_bytes(), start)?;
@@ -237,6 +298,11 @@ impl Regex {
     }
 
     /// Returns the groups of the leftmost match at or after `start`.
+    ///
+    /// ```
+    /// let pair = regex_bites::Regex::new(r"(\w)=(\d)").unwrap();
+    /// assert_eq!("b", &pair.captures_at("a=1 b=2", 1).unwrap()[1]);
+    /// ```
     #[inline]
     pub fn captures_at<'h>(&self, haystack: &'h str, start: usize) -> Option<Captures<'h>> {
         let groups = self.engine.captures_at(haystack.as_bytes(), start)?;
@@ -247,6 +313,13 @@ impl Regex {
     ///
     /// Locations of another regex take as many groups as they have room for. Those that this regex has no group for become
     /// groups that did not participate.
+    ///
+    /// ```
+    /// let pair = regex_bites::Regex::new(r"(\w)=(\d)").unwrap();
+    /// let mut locations = pair.capture_locations();
+    /// assert!(pair.captures_read(&mut locations, "a=1").is_some());
+    /// assert_eq!(Some((2, 3)), locations.get(2));
+    /// ```
     #[inline]
     pub fn captures_read<'h>(
         &self,
@@ -257,6 +330,13 @@ impl Regex {
     }
 
     /// Like [`Regex::captures_read`], for the leftmost match at or after `start`.
+    ///
+    /// ```
+    /// let pair = regex_bites::Regex::new(r"(\w)=(\d)").unwrap();
+    /// let mut locations = pair.capture_locations();
+    /// assert!(pair.captures_read_at(&mut locations, "a=1 b=2", 1).is_some());
+    /// assert_eq!(Some((4, 5)), locations.get(1));
+    /// ```
     #[inline]
     pub fn captures_read_at<'h>(
         &self,
@@ -329,18 +409,31 @@ impl Regex {
 /// What is known of the pattern.
 impl Regex {
     /// Returns the pattern.
+    ///
+    /// ```
+    /// assert_eq!(r"\d+", regex_bites::Regex::new(r"\d+").unwrap().as_str());
+    /// ```
     #[inline]
     pub fn as_str(&self) -> &str {
         self.engine.program().pattern()
     }
 
     /// Returns an iterator over the name of each group, or `None` for one without, from group 0 on.
+    ///
+    /// ```
+    /// let date = regex_bites::Regex::new(r"(?<year>\d{4})-(\d\d)").unwrap();
+    /// assert_eq!([None, Some("year"), None], date.capture_names().collect::<Vec<_>>()[..]);
+    /// ```
     #[inline]
     pub fn capture_names(&self) -> CaptureNames<'_> {
         CaptureNames::new(self.engine.program().names())
     }
 
     /// Returns the number of groups, with group 0.
+    ///
+    /// ```
+    /// assert_eq!(3, regex_bites::Regex::new("(a)(b)?").unwrap().captures_len());
+    /// ```
     #[inline]
     pub fn captures_len(&self) -> usize {
         self.engine.program().captures_len()
@@ -348,12 +441,24 @@ impl Regex {
 
     /// Returns a lower bound on the groups that participate in any match, with group 0, if the pattern's form gives one: the
     /// same number for all branches of each alternation.
+    ///
+    /// ```
+    /// use regex_bites::Regex;
+    ///
+    /// assert_eq!(Some(2), Regex::new("(a)|(b)").unwrap().static_captures_len());
+    /// assert_eq!(None, Regex::new("(a)|b").unwrap().static_captures_len());
+    /// ```
     #[inline]
     pub fn static_captures_len(&self) -> Option<usize> {
         self.engine.program().static_captures_len()
     }
 
     /// Returns locations for the groups of this regex. No group participated yet.
+    ///
+    /// ```
+    /// let locations = regex_bites::Regex::new("(a)").unwrap().capture_locations();
+    /// assert_eq!((2, None), (locations.len(), locations.get(0)));
+    /// ```
     #[inline]
     pub fn capture_locations(&self) -> CaptureLocations {
         CaptureLocations::new(vec![ABSENT; self.captures_len()])
