@@ -12,3 +12,12 @@ contents_by states start slots pattern names static_captures_len = record {
   names = names;
   static_captures_len = static_captures_len;
 }
+
+-- these contents with another pattern
+abbrev pub patterned : List ℕ → Contents → Contents
+patterned pattern c = record {
+  program = c.program;
+  pattern = pattern;
+  names = c.names;
+  static_captures_len = c.static_captures_len;
+}

@@ -1,6 +1,6 @@
 //! Compiles the tree of a pattern to a program.
 
-ghost use Rattle.std.specs.Prelude.{◌≡◌, ◌+◌, ◌*◌, ◌<◌, ◌≤◌, ◌^◌, ℕ, IfOk, IfErr, OnOk, length, string_bytes, sum_by};
+ghost use Rattle.std.specs.Prelude.{◌≡◌, ◌+◌, ◌*◌, ◌<◌, ◌≤◌, ◌^◌, ℕ, IfOk, IfErr, OnOk, length, sum_by};
 ghost use Rattle.std.specs.Option.{SomeIff};
 ghost use Rattle.bites_spec.specs.Tree.{groups_in, greatest, captures_len, IsReduced};
 ghost use Rattle.bites_spec.specs.Measure.{states, size_of, group_size, groups_left, static_captures_len, HasItsGroups, TreeLimits, TreeLimitsWith};
@@ -25,7 +25,7 @@ use bites_syntax::tree::Tree;
 use bites_text::error::Error;
 use std::alloc::{AllocError, Global};
 
-/// Compiles a tree to a program, which keeps `pattern` and the groups that are left in the tree.
+/// Compiles a tree to a program, which keeps a copy of `pattern` and the groups that are left in the tree.
 ///
 /// `size_limit` is roughly bytes: 32 for each state, 4 for each target of a split, 8 for each range, 16 for each group
 /// number from 0 to the greatest, and for each name its bytes and 4.
@@ -36,11 +36,11 @@ use std::alloc::{AllocError, Global};
 pub fn compile(
     alloc: Global,
     tree: &Tree,
-    pattern: String,
+    pattern: &str,
     size_limit: usize,
 ) -> Result<Program, Error>
     requires { IsCompilable tree.now }
-    ensures pattern { IfOk result (λ p. p.pattern ≡ string_bytes pattern) }
+    ensures pattern { IfOk result (λ p. p.pattern ≡ pattern.now) }
     ensures names { IfOk result (λ p. p.names ≡ groups_left tree.now) }
     ensures slots { IfOk result (λ p. p.program.slots ≡ 2 * captures_len tree.now) }
     ensures static_len { IfOk result
@@ -62,12 +62,12 @@ pub fn compile_with_groups(
     alloc: Global,
     tree: &Tree,
     groups: &Groups,
-    pattern: String,
+    pattern: &str,
     size_limit: usize,
 ) -> Result<Program, Error>
     requires compilable { IsCompilable tree.now }
     requires groups { HasItsGroups groups.now tree.now }
-    ensures pattern { IfOk result (λ p. p.pattern ≡ string_bytes pattern) }
+    ensures pattern { IfOk result (λ p. p.pattern ≡ pattern.now) }
     ensures names { IfOk result (λ p. p.names ≡ groups.now) }
     ensures slots { IfOk result (λ p. p.program.slots ≡ 2 * length groups.now) }
     ensures static_len { IfOk result
@@ -159,14 +159,14 @@ fn with_names(
     tree: &Tree,
     capacity: usize,
     names: GroupNames,
-    pattern: String,
+    pattern: &str,
 ) -> Result<Program, Error>
     requires compilable { IsCompilable tree.now }
     requires classes { HasClasses tree.now }
     requires few_states { states tree.now ≤ 4294967295 }
     requires few_groups { length names ≤ 2147483648 }
     requires room { captures_len tree.now ≤ length names }
-    ensures pattern { IfOk result (λ p. p.pattern ≡ string_bytes pattern) }
+    ensures pattern { IfOk result (λ p. p.pattern ≡ pattern.now) }
     ensures names { IfOk result (λ p. p.names ≡ names) }
     ensures slots { IfOk result (λ p. p.program.slots ≡ 2 * length names) }
     ensures static_len { IfOk result
@@ -178,6 +178,7 @@ fn with_names(
     let (states, start) = whole_states(alloc, tree, capacity)?;
     let slots = 2 * names.len();
     let at_least = static_captures_len(tree, names.len());
+    let pattern = String::from_str(alloc, pattern)?;
     let mut program = Program::new(alloc, states, start, slots, pattern, names, at_least).ok_or(
         Error::Memory,
     )?;

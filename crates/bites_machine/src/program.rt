@@ -1,11 +1,11 @@
-ghost use Rattle.std.specs.Prelude.{◌≡◌, ◌≢◌, ◌<◌, ◌≤◌, ◌^◌, ℕ, length, None, Some, IfSome, IfNone, IfOk, IfErr, OnOk, slice_index_or, sum_by};
+ghost use Rattle.std.specs.Prelude.{◌≡◌, ◌≢◌, ◌<◌, ◌≤◌, ◌^◌, ℕ, length, None, Some, IfSome, IfNone, IfOk, IfErr, OnOk, slice_index_or, string_bytes, sum_by};
 ghost use Rattle.std.specs.Option.{option_copied, SomeIff};
 ghost use Rattle.bites_spec.specs.Program.{state_at, targets, IsWellFormed};
 ghost use Rattle.bites_spec.specs.Program.{targets_of};
 ghost use Rattle.bites_spec.specs.ProgramFaults.{first_fault};
 ghost use Rattle.bites_machine.specs.States.{state_of, states_of, program_of};
 ghost use Rattle.bites_spec.specs.Contents.{contents_of_states};
-ghost use Rattle.bites_machine.specs.Contents.{contents_by};
+ghost use Rattle.bites_machine.specs.Contents.{contents_by, patterned};
 ghost use Rattle.bites_machine.specs.Bad.{IsBad};
 
 pub use crate::compiler::{compile, compile_with_groups};
@@ -146,8 +146,15 @@ impl Program {
         Ok(())
     }
 
+    /// Returns the program with this pattern in place of its own. Copies nothing.
+    pub fn with_pattern(self, pattern: String) -> Program
+        ensures { result ≡ patterned (string_bytes pattern) self }
+    {
+        Program { pattern, ..self }
+    }
+
     /// Returns the allocator that the program was made with.
-    pub fn alloc(&self) -> Global {
+    pub(crate) fn alloc(&self) -> Global {
         self.alloc
     }
 

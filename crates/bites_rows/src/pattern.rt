@@ -61,7 +61,6 @@ fn push_program(
     text: &mut String,
 ) -> Result<(), Error> {
     let tree = parse(alloc, pattern, settings.flags, settings.nest_limit)?;
-    let pattern = String::from_str(alloc, pattern)?;
     let program = compile(alloc, &tree, pattern, settings.size_limit)?;
     let (states, slots, targets) = (program.len(), program.slots(), program.targets());
     Ok(write!(text, "{states} {slots} {targets}")?)

@@ -42,23 +42,6 @@ fn one_cache_for_haystacks_and_regexes(rt: HostRuntime) -> Result<(), Error> {
     Ok(())
 }
 
-/// The visited set of a new cache has a thousand generations left, so the first search here passes the greatest one. If
-/// the set were not empty after that, it would end the thread that began at 0.
-#[test]
-fn a_search_that_uses_up_the_generations(rt: HostRuntime) -> Result<(), Error> {
-    let mut cache = cache_of(rt.alloc(), "(?:a|b)*c")?;
-    let mut haystack = String::new(rt.alloc());
-    for _ in 0..1000 {
-        haystack.push_str("ab")?;
-    }
-    haystack.push_str("c")?;
-    for _ in 0..2 {
-        let found = found(rt.alloc(), &mut cache, "(?:a|b)*c", &haystack);
-        assert_eq!(rt; found, Ok((true, Some((0, 2001)))));
-    }
-    Ok(())
-}
-
 // Returns whether the regex matches, and if so the spans of two groups, read into locations that may not fit it.
 fn read(
     regex: &Regex,

@@ -8,7 +8,8 @@
 //! - caches and locations that are used more than once
 //! - what the program `bites` writes, even if its streams fail
 //!
-//! The libraries have no tests of their own, so that each is proved once. No expected value comes from this engine.
+//! The libraries have no tests of their own, so that each is proved once; only `bites_machine` has one. No expected
+//! value comes from this engine.
 //!
 //! Each `?` and each assertion makes the proof of a test longer. So rows are a slice that one loop goes through, and
 //! what many tests do is a function.

@@ -300,23 +300,23 @@ impl RegexBuilder {
             keep_dropped_groups: keep,
             leftmost_longest,
         } = self;
-        let program = compile_kept(alloc, tree, groups, keep, pattern, limits.size)?;
+        let program = compile_kept(alloc, tree, groups, keep, limits.size)?;
+        let program = program.with_pattern(pattern);
         Regex::from_parts(alloc, tree, flags, keep, leftmost_longest, program)
     }
 }
 
-// Compiles the tree with all of the groups, or with those that are left in the tree.
+// Compiles the tree with all of the groups, or with those that are left in the tree. The pattern is still to be given
+// to the program, which then owns it without a copy.
 fn compile_kept(
     alloc: Global,
     tree: &syntax::Tree,
     groups: &Groups,
     keep: bool,
-    pattern: String,
     size_limit: usize,
 ) -> Result<Program, Error>
     requires compilable { IsCompilable tree.now }
     requires groups { HasItsGroups groups.now tree.now }
-    ensures pattern { IfOk result (λ p. p.pattern ≡ string_bytes pattern) }
     ensures names { IfOk result (λ p. p.names ≡ chosen keep groups.now tree.now) }
     ensures slots { IfOk result
         (λ p. p.program.slots ≡ 2 * length (chosen keep groups.now tree.now)) }
@@ -330,9 +330,9 @@ fn compile_kept(
         (compiled.RefusesTree size_limit (chosen keep groups.now tree.now) tree.now) }
 {
     if keep {
-        compile_with_groups(alloc, tree, groups, pattern, size_limit)
+        compile_with_groups(alloc, tree, groups, "", size_limit)
     } else {
-        compile(alloc, tree, pattern, size_limit)
+        compile(alloc, tree, "", size_limit)
     }
 }
 

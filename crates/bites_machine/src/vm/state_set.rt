@@ -5,10 +5,6 @@ ghost use Rattle.std.specs.Prelude.{◌≡◌, ◌<◌, false, true, not, IfOk, 
 use std::alloc::{AllocError, Global};
 use std::marker::Model;
 
-// The first generation. It is so close to the greatest that each test with a long haystack gets past that one, and so
-// tests the restart.
-const FIRST: u64 = u64::MAX - 1000;
-
 /// A set of states with generations. Clearing it takes constant time, unless the generations run out.
 ///
 /// For proofs: contracts see for each state whether it is a member.
@@ -38,7 +34,7 @@ impl StateSet {
         let generations = vec![in alloc; 0; states]?;
         Ok(StateSet {
             generations,
-            generation: FIRST,
+            generation: 1,
         })
     }
 
@@ -76,5 +72,14 @@ impl StateSet {
         }
         self.generations[state as usize] = self.generation;
         true
+    }
+
+    /// Removes all states, and leaves one generation before the restart.
+    #[cfg(test)]
+    pub(super) fn use_up_generations(&mut self)
+        ensures { length self.new ≡ length self.old }
+    {
+        self.generations.fill(0);
+        self.generation = u64::MAX - 1;
     }
 }

@@ -1,11 +1,14 @@
 use Rattle.std.proofs.Common.{◌≡◌, refl, sym, subst}
-use Rattle.std.specs.Prelude.{chars}
+use Rattle.std.specs.Prelude.{chars, string_bytes}
+use Rattle.bites_spec.specs.Contents.{Contents}
 use Rattle.bites_spec.specs.Grammar.{Reading}
 use Rattle.bites_spec.specs.Measure.{HasItsGroups, TreeLimitsWith, groups_opened}
+use Rattle.bites_spec.specs.Regex.{IsCompiled}
 use Rattle.bites_spec.specs.Settings.{Settings}
 use Rattle.bites_spec.proofs.regex.KeptLemmas.{opened_has_groups}
 use Rattle.bites_syntax.specs.FlagsView.{flags_of}
 use Rattle.bites_machine.specs.Compiled as compiled
+use Rattle.bites_machine.specs.Contents.{patterned}
 use Rattle.bites_bytes.specs.Parts.{chosen, regex_of}
 use Rattle.bites_bytes.specs.Settings.{limit}
 use Rattle.bites_bytes.proofs.SettingsLemmas.{handed_on, no_other_tree, accepted_clause, refused_kept, compiled_of}
@@ -49,8 +52,11 @@ from_parts-requires c =
     let Opens : Settings → Type 0 = λ s. (r : Reads s) → groups ≡ groups_opened r in
     let reading = subst Reads (sym c.self.view_is) c.requires.read.reading in
     let made = c.in_ok-program.ensures in
-    compiled_of (flags_of x.flags) t x.keep_dropped_groups x.leftmost_longest c.in_ok-program.program _ groups reading
-    (subst Opens (sym c.self.view_is) c.requires.groups reading) c.requires.compilable made.pattern made.names made.slots made.static_len made.built made.well_formed
+    let pattern = string_bytes x.pattern in
+    let Compiled : Contents → Type 0 = λ p. IsCompiled (regex_of (flags_of x.flags) t x.keep_dropped_groups x.leftmost_longest p) in
+    subst Compiled (sym c.with_pattern-program.ensures)
+    (compiled_of (flags_of x.flags) t x.keep_dropped_groups x.leftmost_longest (patterned pattern c.in_ok-program.program) pattern groups reading
+    (subst Opens (sym c.self.view_is) c.requires.groups reading) c.requires.compilable refl made.names made.slots made.static_len made.built made.well_formed)
 
 pub returns-clause-accepted : goal.returns-clause-accepted
 returns-clause-accepted c =
@@ -60,4 +66,4 @@ returns-clause-accepted c =
     let read = c.requires.read in
     let Within : Settings → Type 0 = λ s. TreeLimitsWith s.size_limit (chosen s.keep_dropped_groups groups t) t in
     accepted_clause c.args.self t groups read (c.requires.groups read.reading) (subst Within c.self.view_is c.in_ok-program.ensures.limits) c.from_parts.result
-    (regex_of (flags_of x.flags) t x.keep_dropped_groups x.leftmost_longest c.in_ok-program.program) refl c.from_parts.ensures.made
+    (regex_of (flags_of x.flags) t x.keep_dropped_groups x.leftmost_longest c.with_pattern-program.result) refl c.from_parts.ensures.made
