@@ -4,13 +4,9 @@ use Rattle.std.proofs.Crossing.{crosses}
 use Rattle.bites_syntax.proofs.flags.Flags.TheSendSync as flags
 use Rattle.bites_syntax.proofs.tree.Tree.TheLaws.TheKnot.{crosses as tree_crosses}
 use Rattle.bites_machine.proofs.state.State.TheSendSync as state
-use Rattle.bites_machine.specs.contracts.prefix.StartPrefix as StartPrefix
 use Rattle.bites_machine.proofs.vm.threads.Threads.TheSendSync as threads
 use Rattle.bites_machine.proofs.vm.closure.Scratch.TheSendSync as scratch
 use Rattle.bites_machine.proofs.group_names.GroupNames.TheSendSync as group_names
-use Rattle.bites_machine.proofs.kept_ranges.KeptRanges.TheSendSync as kept_ranges
-use Rattle.bites_machine.specs.contracts.self_loop.SelfLoop as SelfLoop
-use Rattle.bites_machine.specs.contracts.self_loop.SelfLoops as SelfLoops
 use Rattle.bites_machine.specs.contracts.program.Program as Program
 use Rattle.bites_machine.specs.contracts.vm.cache.Cache as MachineCache
 use Rattle.bites_machine.specs.contracts.vm.counted.Trace as Trace
@@ -21,29 +17,11 @@ use Rattle.bites_bytes.specs.contracts.bytes.regex.Regex as Regex
 use Rattle.bites_c.specs.contracts.held.Held as Held
 use Rattle.bites_c.specs.contracts.room.Room as Room
 
-prefix_send : IsSend StartPrefix.the_row
-prefix_send = search (sendable, crosses) depth 20
-
-prefix_sync : IsSync StartPrefix.the_row
-prefix_sync = search (sendable, crosses) depth 20
-
-loop_send : IsSend SelfLoop.the_row
-loop_send = search (sendable, crosses, kept_ranges.the_send) depth 30
-
-loop_sync : IsSync SelfLoop.the_row
-loop_sync = search (sendable, crosses, kept_ranges.the_sync) depth 30
-
-loops_send : IsSend SelfLoops.the_row
-loops_send = search (sendable, crosses, loop_send) depth 20
-
-loops_sync : IsSync SelfLoops.the_row
-loops_sync = search (sendable, crosses, loop_sync) depth 20
-
 program_send : IsSend Program.the_row
-program_send = search (sendable, crosses, prefix_send, loops_send, group_names.the_send, state.the_send) depth 30
+program_send = search (sendable, crosses, group_names.the_send, state.the_send) depth 30
 
 program_sync : IsSync Program.the_row
-program_sync = search (sendable, crosses, prefix_sync, loops_sync, group_names.the_sync, state.the_sync) depth 30
+program_sync = search (sendable, crosses, group_names.the_sync, state.the_sync) depth 30
 
 compiled_send : IsSend Compiled.the_row
 compiled_send = search (sendable, crosses, tree_crosses, flags.the_field_send, program_send) depth 20

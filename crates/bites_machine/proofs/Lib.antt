@@ -3,5 +3,4 @@ pub mod templates
 pub mod tables
 pub mod model
 pub mod steps
-pub mod shortcuts
 pub mod refine

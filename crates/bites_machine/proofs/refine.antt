@@ -7,8 +7,4 @@ pub mod PlaceSteps
 pub mod PlaceLemmas
 pub mod BetweenStepsLemmas
 pub mod PlaceSearches
-pub mod HuntSteps
 pub mod AnchoredSteps
-pub mod SkipLemmas
-pub mod RestSteps
-pub mod StayLemmas

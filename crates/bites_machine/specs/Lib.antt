@@ -25,9 +25,3 @@ pub mod Explore
 pub mod Sweep
 pub mod Anchored
 pub mod Cuts
-pub mod Prefix
-pub mod Skipped
-pub mod SelfLoop
-pub mod Staying
-pub mod KeptRanges
-pub mod LoopClosure

@@ -1,5 +1,5 @@
 -- What the closure of a thread leaves, and a search that goes from place to place.
-use Rattle.std.specs.Prelude.{◌≡◌, ◌≢◌, ℕ, ◌+◌, ◌*◌, ◌<◌, ◌≤◌, ◌⊎◌, Bool, false, ◌||◌, if◌then◌else◌, List, [], ◌∷◌, ◌++◌, map, length, replicate, Option, None, Some, is_some, ◌==◌, slice_index, slice_index_or, sum, sum_by, IfSome}
+use Rattle.std.specs.Prelude.{◌≡◌, ◌≢◌, ℕ, ◌+◌, ◌*◌, ◌<◌, ◌≤◌, Bool, false, ◌||◌, if◌then◌else◌, List, [], ◌∷◌, ◌++◌, map, length, replicate, Option, None, Some, is_some, ◌==◌, slice_index, slice_index_or, sum, sum_by, IfSome}
 use Rattle.std.specs.List.{list_any}
 use Rattle.bites_spec.specs.Walks.{Among}
 use Rattle.bites_spec.specs.Program as program
@@ -199,23 +199,6 @@ pub record IsProgramOf (p : Program) (all : List program.State) (first : ℕ) : 
   pub states : p.states ≡ all
   pub start : p.start ≡ first
   pub well : IsWellFormed p
-
--- Places from one on were searched, up to the last.
-pub record PlacesSearched (hay : List ℕ) (longest : Bool) (place last : ℕ) (states : List program.State) (begins : Option ℕ) (was now : Record) (old new : Scratch) (threads later : List Thread) (slots left : List (Option ℕ)) : Type 0 where
-  pub searches : (p : Program) (q : ℕ) → IsProgramOf p states q → (earliest : Bool) (start : ℕ) (first : List (Option ℕ)) (found : Bool) →
-      begins ≡ (if found then None else Some q) → length slots ≡ length first →
-      HasReached p hay longest earliest start first place found was old.rows threads slots →
-      HasSearched p hay longest earliest start first last (found || is_some new.first_match) now new.rows later left
-
--- Places from one on and before another were passed: no thread is alive there, nothing is found, and nothing is written.
-pub record Passes (hay : List ℕ) (longest : Bool) (place here : ℕ) (states : List program.State) (q : ℕ) (was now : Record) : Type 0 where
-  pub gone : (p : Program) → IsProgramOf p states q → (earliest : Bool) (start : ℕ) (first slots : List (Option ℕ)) (pool : Pool) → length slots ≡ length first →
-      HasReached p hay longest earliest start first place false was pool [] slots → HasReached p hay longest earliest start first here false now pool [] slots
-
--- Places were passed if the start is given and no thread is alive; else the place and the record are unchanged.
-abbrev pub PassesIdle : List ℕ → Bool → ℕ → ℕ → List program.State → Option ℕ → ℕ → Record → Record → Type 0
-PassesIdle hay longest place here states begins threads was now =
-    ((here ≡ place) × (now ≡ was)) ⊎ ((threads ≡ 0) × (q : ℕ) × (begins ≡ Some q) × Passes hay longest place here states q was now)
 
 -- The machine on lists searched from the start on, with this result and record.
 pub record SearchResult (p : Program) (hay : List ℕ) (longest earliest : Bool) (start : ℕ) (answer : Bool) (old new : List (Option ℕ)) (walked : Record) : Type 0 where

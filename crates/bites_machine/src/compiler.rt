@@ -179,11 +179,8 @@ fn with_names(
     let slots = 2 * names.len();
     let at_least = static_captures_len(tree, names.len());
     let pattern = String::from_str(alloc, pattern)?;
-    let mut program = Program::new(alloc, states, start, slots, pattern, names, at_least).ok_or(
-        Error::Memory,
-    )?;
-    program.find_shortcuts()?;
-    Ok(program)
+    let program = Program::new(alloc, states, start, slots, pattern, names, at_least);
+    program.ok_or(Error::Memory)
 }
 
 /// Writes the states of the match and of group 0 around the tree. Returns them with the number of the start state.

@@ -12,12 +12,10 @@ pub use crate::compiler::{compile, compile_with_groups};
 pub use crate::fault::BadProgram;
 use crate::fault::first_fault_of;
 use crate::group_names::GroupNames;
-use crate::prefix::{StartClosure, StartPrefix};
 pub use crate::ranges::Ranges;
-use crate::self_loop::SelfLoops;
 pub use crate::state::State;
 pub use crate::targets::Targets;
-use std::alloc::{AllocError, Global};
+use std::alloc::Global;
 use std::marker::Model;
 
 /// A well-formed program, with the pattern that it was compiled from and the names of its groups.
@@ -31,15 +29,6 @@ pub struct Program {
     pattern: String,
     names: GroupNames,
     static_captures_len: Option<usize>,
-    prefix: Option<StartPrefix>,
-    loops: SelfLoops,
-}
-
-/// What a search knows in advance of epsilon closures: the start prefix, if there is one, and the self-loops.
-#[derive(Clone, Copy, Drop)]
-pub struct Shortcuts<'p> {
-    pub prefix: Option<&'p StartPrefix>,
-    pub loops: &'p SelfLoops,
 }
 
 impl Model for Program {
@@ -55,9 +44,6 @@ impl Model for Program {
 }
 
 impl Program {
-    ghost use Rattle.bites_machine.specs.Prefix.{IsPrefix};
-    ghost use Rattle.bites_machine.specs.SelfLoop.{AreLoops, AreCovered};
-
     /// Makes a program of these states, with the empty pattern and no names.
     ///
     /// The error is the first fault: of the number of states, of the number of slots, of the start, then of each state
@@ -89,9 +75,7 @@ impl Program {
         let pattern = String::new(alloc);
         let names = GroupNames::none(alloc, 0);
         let program = Program::new(alloc, states, start, slots as usize, pattern, names, None);
-        let mut program = program.ok_or(BadProgram::Memory)?;
-        program.find_prefix();
-        Ok(program)
+        program.ok_or(BadProgram::Memory)
     }
 
     /// Makes a program of states that have no fault. Returns `None` if the number of edges does not fit in a `usize`.
@@ -119,31 +103,7 @@ impl Program {
             pattern,
             names,
             static_captures_len,
-            prefix: None,
-            loops: SelfLoops::none(alloc),
         })
-    }
-
-    // Finds the start prefix alone, without self-loops. Allocates nothing.
-    fn find_prefix(&mut self)
-        ensures { self.new ≡ self.old }
-    {
-        self.loops = SelfLoops::none(self.alloc);
-        self.prefix = StartPrefix::of(&self.states, self.start);
-    }
-
-    /// Finds the start prefix and the self-loops. The error is out of memory.
-    pub(crate) fn find_shortcuts(&mut self) -> Result<(), AllocError>
-        ensures { self.new ≡ self.old }
-    {
-        let Some((found, looks)) = StartClosure::of(&self.states, self.start) else {
-            self.prefix = None;
-            self.loops = SelfLoops::of(self.alloc, &self.states, None)?;
-            return Ok(());
-        };
-        self.loops = SelfLoops::of(self.alloc, &self.states, Some(&found.visited))?;
-        self.prefix = Some(found.finish(looks));
-        Ok(())
     }
 
     /// Returns the program with this pattern in place of its own. Copies nothing.
@@ -180,22 +140,6 @@ impl Program {
     {
         let _ = &self.states;
         self.start
-    }
-
-    /// Returns what a search knows in advance of epsilon closures.
-    pub(crate) fn shortcuts(&self) -> Shortcuts<'_>
-        ensures prefix { IfSome result.prefix (λ x.
-            IsPrefix self.now.program.states self.now.program.start x.now) }
-        ensures loops { AreLoops self.now.program.states result.loops.now }
-        ensures covered { IfSome result.prefix (λ x. AreCovered self.now.program.states
-            result.loops.now x.now.visited.value) }
-    {
-        let _ = &self.states;
-        let _ = self.start;
-        Shortcuts {
-            prefix: self.prefix.as_ref(),
-            loops: &self.loops,
-        }
     }
 
     /// Returns the number of states.

@@ -42,23 +42,6 @@ impl Ranges {
         self.list.as_slice()
     }
 
-    /// Returns a bit for each ASCII character, 64 a word: whether it lies in one of the ranges.
-    pub(crate) fn ascii(&self) -> [u64; 2]
-        ensures { HasAscii result self.now }
-    {
-        let _ = &self.list;
-        self.ascii
-    }
-
-    /// Returns whether one of the ranges ends above ASCII.
-    #[inline(always)]
-    pub(crate) fn reaches_past_ascii(&self) -> bool
-        ensures { ReachesPast result self.now }
-    {
-        let _ = &self.list;
-        self.past_ascii
-    }
-
     /// Copies the ranges of a list. Allocates only if the list itself is allocated.
     pub(crate) fn copy_of(alloc: Global, list: &RangeList) -> Result<Ranges, AllocError>
         ensures { IfOk result (λ ranges. ranges ≡ list.now) }
@@ -78,34 +61,6 @@ impl Ranges {
             ascii,
             past_ascii,
         }
-    }
-
-    /// Returns the range of one character. Allocates nothing.
-    pub(crate) fn one(ch: char) -> Ranges
-        ensures { result ≡ (ch, ch) ∷ [] }
-    {
-        Ranges::new(RangeList::one((ch, ch)))
-    }
-
-    /// Returns a copy of the ranges, if that allocates nothing.
-    pub(crate) fn copy_in_place(&self) -> Option<Ranges>
-        ensures { IfSome result (λ copy. copy ≡ self.now) }
-    {
-        let list = self.list.copy_in_place()?;
-        Some(Ranges {
-            list,
-            ascii: self.ascii,
-            past_ascii: self.past_ascii,
-        })
-    }
-
-    /// Returns whether the character lies in one of the ranges. May miss an ASCII character, and any character if the
-    /// ranges are not in ascending order.
-    #[inline]
-    pub(crate) fn takes_past_ascii(&self, ch: char) -> bool
-        ensures { result ≡ true → in_ranges self.now ch ≡ true }
-    {
-        self.past_ascii && is_in_ranges(self.list.as_slice(), ch)
     }
 
     /// Returns a copy of the ranges. Allocates only if their list is allocated.
@@ -156,8 +111,8 @@ impl From<Vec<(char, char)>> for Ranges {
     }
 }
 
-/// Returns a bit for each ASCII character, 64 a word: whether it lies in one of the ranges.
-pub(crate) fn words_of(ranges: &[(char, char)]) -> [u64; 2]
+// Returns a bit for each ASCII character, 64 a word: whether it lies in one of the ranges.
+fn words_of(ranges: &[(char, char)]) -> [u64; 2]
     ensures { HasAscii result ranges.now }
 {
     let bits = ascii_of(ranges);

@@ -10,11 +10,8 @@ mod anchored;
 mod cache;
 mod closure;
 mod counted;
-mod idle;
 mod pikevm;
 mod position;
-mod recorded_bytes;
-mod self_loops;
 mod slot_table;
 mod stack;
 mod state_set;
@@ -49,13 +46,10 @@ pub fn search(
     ensures visited { VisitedBy program.now.program haystack.now start result cache.new.walked }
 {
     let counted = counted::Counted::new(program.states());
-    let shortcuts = program.shortcuts();
     let request = pikevm::Request {
         haystack,
         start,
         first: program.start(),
-        prefix: shortcuts.prefix,
-        loops: shortcuts.loops,
         earliest,
         longest: false,
     };
@@ -80,13 +74,10 @@ pub fn search_longest(
     ensures visited { VisitedBy program.now.program haystack.now start result cache.new.walked }
 {
     let counted = counted::Counted::new(program.states());
-    let shortcuts = program.shortcuts();
     let request = pikevm::Request {
         haystack,
         start,
         first: program.start(),
-        prefix: shortcuts.prefix,
-        loops: shortcuts.loops,
         earliest: false,
         longest: true,
     };
@@ -131,13 +122,10 @@ pub fn search_anchored(
     ensures visited { VisitedFrom program.now.program haystack.now start result cache.new.walked }
 {
     let counted = counted::Counted::new(program.states());
-    let shortcuts = program.shortcuts();
     let request = pikevm::Request {
         haystack,
         start,
         first: program.start(),
-        prefix: None,
-        loops: shortcuts.loops,
         earliest: anchored::is_earliest(kind),
         longest: anchored::is_longest(kind),
     };

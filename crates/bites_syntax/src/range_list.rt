@@ -104,19 +104,6 @@ impl RangeList {
         }
     }
 
-    /// Returns a copy of the ranges, if that needs no allocation.
-    pub fn copy_in_place(&self) -> Option<RangeList>
-        ensures { IfSome result (λ copy. copy ≡ self.now) }
-    {
-        let kept = match &self.kept {
-            Kept::One(ranges) => Kept::One(*ranges),
-            Kept::Two(ranges) => Kept::Two(*ranges),
-            Kept::Constant(set) => Kept::Constant(*set),
-            Kept::Many(_) => return None,
-        };
-        Some(RangeList { kept })
-    }
-
     /// Returns a copy of the ranges. It allocates only if this list is allocated. The error is out of memory.
     pub fn copy(&self, alloc: Global) -> Result<RangeList, AllocError>
         ensures { IfOk result (λ copy. copy ≡ self.now) }

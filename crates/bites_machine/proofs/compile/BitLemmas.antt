@@ -10,7 +10,7 @@ use Rattle.bites_spec.specs.Range.{in_range}
 use Rattle.bites_machine.specs.Bits.{has_bit}
 
 -- a bit is set where it is set in one of both
-pub has_bit-or : (a b c : ℕ) → has_bit (bit_or a b) c ≡ (has_bit a c || has_bit b c)
+has_bit-or : (a b c : ℕ) → has_bit (bit_or a b) c ≡ (has_bit a c || has_bit b c)
 has_bit-or a b c =
     let either = bit_at_or a b c in
     let first = bit_at-lt a c in

@@ -31,10 +31,6 @@ module _ (hay : List ℕ) (longest : Bool) (p : Program) (i : ℕ) where
   pub walks_through : (w v u : Walking) → WalksTo hay longest p i w v → WalksTo hay longest p i v u → WalksTo hay longest p i w u
   walks_through w v u (k, is) (m, more) = (k + m, iterate_through k m w v is ∙ more)
 
-  -- one step more
-  pub walks_on : (w v : Walking) → WalksTo hay longest p i w v → WalksTo hay longest p i w (step hay longest p i v)
-  walks_on w v to = walks_through w v (step hay longest p i v) to (1, refl)
-
   -- what a step makes of a walk
   pub step_done : (w : Walking) → w.stack ≡ [] → step hay longest p i w ≡ w
   unfolding closure.stepped

@@ -111,16 +111,17 @@ module _ (p : Program) (hay : List ℕ) (longest earliest : Bool) (start : ℕ) 
   }
 
   -- one place more is searched
-  pub has_searched : (place here len first : ℕ) (text : List ℕ) (states : List program.State) (begins : Option ℕ) (is_found found : Bool) (was now : Record) (scratch new : Scratch) (threads later : List Thread) (slots left : List (Option ℕ)) →
-      text ≡ hay → here ≡ place → len ≡ (piece hay place).len → length slots ≡ length old → IsProgramOf p states first →
+  pub has_searched : (place here len first : ℕ) (text : List ℕ) (long : Bool) (states : List program.State) (begins : Option ℕ) (is_found found : Bool) (was now : Record) (scratch new : Scratch) (threads later : List Thread) (slots left : List (Option ℕ)) →
+      text ≡ hay → long ≡ longest → here ≡ place → len ≡ (piece hay place).len → length slots ≡ length old → IsProgramOf p states first →
       begins ≡ cond is_found None (Some first) → found ≡ (is_found || is_some new.first_match) →
-      HasReached p hay longest earliest start old place is_found was scratch.rows threads slots → PlaceSearched text longest here len states begins was now scratch new threads later slots left →
+      HasReached p hay longest earliest start old place is_found was scratch.rows threads slots → PlaceSearched text long here len states begins was now scratch new threads later slots left →
       HasSearched p hay longest earliest start old place found now new.rows later left
-  has_searched place here len first text states begins is_found found was now scratch new threads later slots left texts heres lens same is begun founds gone one =
+  has_searched place here len first text long states begins is_found found was now scratch new threads later slots left texts longs heres lens same is begun founds gone one =
       let there : PlaceSearched hay longest place (piece hay place).len states begins was now scratch new threads later slots left =
-      subst (λ (h : List ℕ). PlaceSearched h longest place (piece hay place).len states begins was now scratch new threads later slots left) texts
-      (subst (λ i. PlaceSearched text longest i (piece hay place).len states begins was now scratch new threads later slots left) heres
-      (subst (λ n. PlaceSearched text longest here n states begins was now scratch new threads later slots left) lens one)) in
+      subst (λ (b : Bool). PlaceSearched hay b place (piece hay place).len states begins was now scratch new threads later slots left) longs
+      (subst (λ (h : List ℕ). PlaceSearched h long place (piece hay place).len states begins was now scratch new threads later slots left) texts
+      (subst (λ i. PlaceSearched text long i (piece hay place).len states begins was now scratch new threads later slots left) heres
+      (subst (λ n. PlaceSearched text long here n states begins was now scratch new threads later slots left) lens one))) in
       let on = there.searches p is.states gone.now old is_found (begun ∙ ap (λ q. cond is_found None (Some q)) (sym is.start)) gone.stands in
       record {
         places = gone.places;

@@ -22,13 +22,13 @@ use Rattle.bites_machine.proofs.steps.ExploreLemmas.{member_more, edges_of_membe
 
 module _ (hay : List ℕ) (longest : Bool) (place : ℕ) where
   -- a step at a state that was visited here
-  pub stepped_seen : (p : program.Program) (u : machine.Thread) (rest : List machine.Thread) (w : Walking) → list_any (λ q. q == u.state) w.seen ≡ true →
+  stepped_seen : (p : program.Program) (u : machine.Thread) (rest : List machine.Thread) (w : Walking) → list_any (λ q. q == u.state) w.seen ≡ true →
       stepped hay longest p place (u ∷ rest) w ≡ dropped hay longest rest w
   unfolding closure.stepped
   stepped_seen p u rest w e = ap (λ (b : Bool). cond b (dropped hay longest rest w) (visited hay longest place (state_at p.states u.state) u rest w)) e
 
   -- a step at another state
-  pub stepped_new : (p : program.Program) (u : machine.Thread) (rest : List machine.Thread) (w : Walking) → list_any (λ q. q == u.state) w.seen ≡ false →
+  stepped_new : (p : program.Program) (u : machine.Thread) (rest : List machine.Thread) (w : Walking) → list_any (λ q. q == u.state) w.seen ≡ false →
       stepped hay longest p place (u ∷ rest) w ≡ visited hay longest place (state_at p.states u.state) u rest w
   unfolding closure.stepped
   stepped_new p u rest w e = ap (λ (b : Bool). cond b (dropped hay longest rest w) (visited hay longest place (state_at p.states u.state) u rest w)) e

@@ -66,12 +66,12 @@ module _ (hay : List ℕ) (longest : Bool) (place : ℕ) where
   unfolding closure.visited
   visited_fail t rest w = refl
 
-  pub visited_char : (q c : ℕ) (t : machine.Thread) (rest : List machine.Thread) (w : Walking) →
+  visited_char : (q c : ℕ) (t : machine.Thread) (rest : List machine.Thread) (w : Walking) →
       visited hay longest place (program.char q c) t rest w ≡ taken hay longest place (program.char q c) t rest w
   unfolding closure.visited
   visited_char q c t rest w = refl
 
-  pub visited_ranges : (q : ℕ) (rs : List (ℕ × ℕ)) (t : machine.Thread) (rest : List machine.Thread) (w : Walking) →
+  visited_ranges : (q : ℕ) (rs : List (ℕ × ℕ)) (t : machine.Thread) (rest : List machine.Thread) (w : Walking) →
       visited hay longest place (program.ranges q rs) t rest w ≡ taken hay longest place (program.ranges q rs) t rest w
   unfolding closure.visited
   visited_ranges q rs t rest w = refl
@@ -173,7 +173,7 @@ module _ (hay : List ℕ) (longest : Bool) (place : ℕ) where
       (pending_more old.rows f.pending_len (f.pending_len + 1) old.stack.frames (omega arith) pending_len.2) (omega arith) (λ n targets known g h. known g h) refl starts
 
   -- whether a state that takes a character does
-  pub taking_by : (test : ℕ → Bool) (q : ℕ) → taking hay test q place ≡ (if takes_by test (next_character hay place) then at q (place + (piece hay place).len) ∷ [] else [])
+  taking_by : (test : ℕ → Bool) (q : ℕ) → taking hay test q place ≡ (if takes_by test (next_character hay place) then at q (place + (piece hay place).len) ∷ [] else [])
   taking_by test q = by_test (nat_lt 0 (piece hay place).len)
     where
       by_test : (b : Bool) →

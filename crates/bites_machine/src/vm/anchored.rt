@@ -48,7 +48,7 @@ pub(super) fn search(
     counted: &mut Counted<'_>,
     scratch: &mut Scratch,
     threads: &mut Threads,
-    request: &Request<'_, '_>,
+    request: &Request<'_>,
     slots: &mut [Option<usize>],
 ) -> bool
     requires start { request.now.start ≤ length request.now.haystack.now }
@@ -75,14 +75,13 @@ pub(super) fn search(
         first,
         earliest,
         longest,
-        ..
     } = *request;
     threads.push(started(first, start, longest));
     let mut is_found = false;
     let mut place = start;
     'places: loop {
         let here = piece_at(haystack, place, longest);
-        step_threads(counted, scratch, threads, &here, None, None, slots);
+        step_threads(counted, scratch, threads, &here, None, slots);
         is_found = is_found_with(is_found, &scratch.first_match);
         if is_done(here.ch_len, threads.len(), is_found, earliest) {
             break;

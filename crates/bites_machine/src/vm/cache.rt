@@ -1,10 +1,8 @@
 //! The working memory of searches, allocated once.
 
-ghost use Rattle.std.specs.Prelude.{◌≡◌, ◌<◌, ◌≤◌, ◌↔◌, [], IfOk, IfSome, IsTrue, None, length, replicate, false};
+ghost use Rattle.std.specs.Prelude.{◌≡◌, ◌<◌, ◌≤◌, ◌↔◌, [], IfOk, IsTrue, None, length, replicate, false};
 ghost use Rattle.bites_spec.specs.Program as program;
 ghost use Rattle.bites_spec.specs.Counts.{fit_of};
-ghost use Rattle.bites_machine.specs.Prefix.{IsPrefix};
-ghost use Rattle.bites_machine.specs.SelfLoop.{AreLoops, AreCovered};
 ghost use Rattle.bites_machine.specs.States.{states_of};
 ghost use Rattle.bites_machine.specs.Sweep.{HasRoom, IsIdle, IsProgramOf, SearchResult, frames_for, rows_for};
 ghost use Rattle.bites_machine.specs.Anchored.{AnchoredResult};
@@ -115,7 +113,7 @@ impl Cache {
     pub(super) fn search(
         &mut self,
         mut counted: Counted<'_>,
-        request: &Request<'_, '_>,
+        request: &Request<'_>,
         slots: &mut [Option<usize>],
     ) -> bool
         requires visits { counted.walked.visits ≡ [] }
@@ -123,12 +121,6 @@ impl Cache {
         requires fits { (p : program.Program)
             × IsProgramOf p (states_of counted.states.now) request.now.first
             × (self.old.fits ≡ fit_of p) }
-        requires prefix { IfSome request.now.prefix (λ x.
-            IsPrefix (states_of counted.states.now) request.now.first x.now) }
-        requires loops { AreLoops (states_of counted.states.now)
-            request.now.loops.now }
-        requires covered { IfSome request.now.prefix (λ x. AreCovered
-            (states_of counted.states.now) request.now.loops.now x.now.visited.value) }
         requires slots_per_row { length slots.old ≤ self.old.fits.slots }
         ensures search_result { request.now.start ≤ length request.now.haystack.now →
             (p : program.Program) →
@@ -165,7 +157,7 @@ impl Cache {
     pub(super) fn search_anchored(
         &mut self,
         mut counted: Counted<'_>,
-        request: &Request<'_, '_>,
+        request: &Request<'_>,
         slots: &mut [Option<usize>],
     ) -> bool
         requires visits { counted.walked.visits ≡ [] }
@@ -210,7 +202,7 @@ fn search_width<const WIDTH: usize, const LONGEST: bool>(
     counted: &mut Counted<'_>,
     scratch: &mut Scratch,
     threads: &mut Threads,
-    request: &Request<'_, '_>,
+    request: &Request<'_>,
     slots: &mut [Option<usize>],
 ) -> bool
     requires start { request.now.start ≤ length request.now.haystack.now }
@@ -218,12 +210,6 @@ fn search_width<const WIDTH: usize, const LONGEST: bool>(
     requires looks { counted.old.walked.looks ≡ 0 }
     requires program { (p : program.Program) × IsProgramOf p (states_of counted.old.states.now)
         request.now.first × HasRoom (fit_of p) scratch.old threads.old }
-    requires prefix { IfSome request.now.prefix (λ x.
-        IsPrefix (states_of counted.old.states.now) request.now.first x.now) }
-    requires loops { AreLoops (states_of counted.old.states.now)
-        request.now.loops.now }
-    requires covered { IfSome request.now.prefix (λ x. AreCovered
-        (states_of counted.old.states.now) request.now.loops.now x.now.visited.value) }
     requires idle { IsIdle scratch.old threads.old }
     requires slots_per_row { length slots.old ≡ scratch.old.rows.slots_per_row }
     requires one { WIDTH < 3 → length slots.old ≡ WIDTH }

@@ -14,31 +14,22 @@ ghost use Rattle.bites_machine.specs.declared.vm.threads.Thread as thread;
 ghost use Rattle.bites_machine.specs.Explore.{AreSound};
 ghost use Rattle.bites_machine.specs.Cuts.{cuts};
 ghost use Rattle.bites_machine.specs.Anchored.{ThreadsSearched};
-ghost use Rattle.bites_machine.specs.Prefix.{IsPrefix};
-ghost use Rattle.bites_machine.specs.SelfLoop.{AreLoops, AreCovered};
-ghost use Rattle.bites_machine.specs.Sweep.{InvariantWithinStep, ClosesThread, ClosesThreads, ClosesAll, InvariantBetweenSteps, PassesIdle, PlaceSearched, PlacesSearched, IsOfProgram, HasRoom, IsIdle, IsProgramOf, SearchResult};
+ghost use Rattle.bites_machine.specs.Sweep.{InvariantWithinStep, ClosesThread, ClosesThreads, ClosesAll, InvariantBetweenSteps, PlaceSearched, IsOfProgram, HasRoom, IsIdle, IsProgramOf, SearchResult};
 
 use super::closure::{FirstMatch, Scratch, epsilon_closure};
 use super::counted::Counted;
-use super::idle::{idle_prefix, skip};
 use super::position::{Position, code};
-use super::self_loops::{Reached, pass_self_loop};
 use super::slot_table::SlotTable;
 use super::threads::{Thread, Threads};
-use crate::prefix::StartPrefix;
-use crate::self_loop::SelfLoops;
 use bites_text::utf8::decode_lossy;
 
 /// What to search for: matches of runs from the state `first`, in the haystack from `start` on. `earliest` asks for one
 /// with the least end, `longest` for the longest at the leftmost place, and neither for the preferred one there.
-/// `prefix` is the start prefix of `first`.
 #[derive(Clone, Copy, Drop)]
-pub struct Request<'h, 'p> {
+pub struct Request<'h> {
     pub haystack: &'h [u8],
     pub start: usize,
     pub first: u32,
-    pub prefix: Option<&'p StartPrefix>,
-    pub loops: &'p SelfLoops,
     pub earliest: bool,
     pub longest: bool,
 }
@@ -143,8 +134,7 @@ fn close_threads(
     }
 }
 
-// Explores the closures of the threads of a place, and after them that of the start state, if it is given. Where the
-// start takes nothing, its closure is not explored: the rest of its prefix is only recorded as visited.
+// Explores the closures of the threads of a place, and after them that of the start state, if it is given.
 #[inline(always)]
 fn close_all(
     counted: &mut Counted<'_>,
@@ -152,17 +142,12 @@ fn close_all(
     here: &Position<'_>,
     threads: &Threads,
     first: Option<u32>,
-    prefix: Option<&StartPrefix>,
     slots: &mut [Option<usize>],
 )
     requires sound { AreSound (states_of counted.old.states.now) }
     requires known { (t : thread.Thread) → Among threads.now.threads t
         → t.state < length counted.old.states.now }
     requires first { IfSome first (λ q. q < length counted.old.states.now) }
-    requires prefix { IfSome first (λ q. IfSome prefix (λ x.
-        IsPrefix (states_of counted.old.states.now) q x.now)) }
-    requires before { (v : program.Configuration) → Among counted.old.walked.visits v
-        → v.place < here.now.place }
     requires within_step { InvariantWithinStep (states_of counted.old.states.now) here.now.place
         counted.old.walked scratch.old (length slots.old) }
     requires used { IsUsed scratch.old.rows
@@ -173,18 +158,9 @@ fn close_all(
         counted.old.walked counted.new.walked scratch.old scratch.new slots.old slots.new }
 {
     close_threads(counted, scratch, here, threads, slots);
-    let Some(state) = first else {
-        return;
-    };
-    match idle_prefix(prefix, here, scratch) {
-        Some(prefix) => counted.visit_rest(prefix, here.place),
-        None => close_thread(
-            counted,
-            scratch,
-            here,
-            started(state, here.place, here.longest),
-            slots,
-        ),
+    if let Some(state) = first {
+        let thread = started(state, here.place, here.longest);
+        close_thread(counted, scratch, here, thread, slots);
     }
 }
 
@@ -197,12 +173,9 @@ pub(super) fn step_threads(
     threads: &mut Threads,
     here: &Position<'_>,
     first: Option<u32>,
-    prefix: Option<&StartPrefix>,
     slots: &mut [Option<usize>],
 )
     requires program { IsOfProgram (states_of counted.old.states.now) first }
-    requires prefix { IfSome first (λ q. IfSome prefix (λ x.
-        IsPrefix (states_of counted.old.states.now) q x.now)) }
     requires between { InvariantBetweenSteps (states_of counted.old.states.now) here.now.place
         counted.old.walked scratch.old threads.old (length slots.old) }
     ensures states { counted.new.states ≡ counted.old.states }
@@ -223,71 +196,8 @@ pub(super) fn step_threads(
     scratch.next.clear();
     scratch.first_match = None;
     scratch.rows.first_is_free();
-    close_all(counted, scratch, here, threads, first, prefix, slots);
+    close_all(counted, scratch, here, threads, first, slots);
     threads.swap(&mut scratch.next);
-}
-
-// Skips the places where the closure of the start leaves no thread, if the start is given and no thread is alive.
-#[inline(always)]
-fn skip_idle<'h>(
-    counted: &mut Counted<'_>,
-    from: Position<'h>,
-    first: Option<u32>,
-    threads: usize,
-    prefix: Option<&StartPrefix>,
-) -> Position<'h>
-    requires prefix { IfSome first (λ q. IfSome prefix (λ x.
-        IsPrefix (states_of counted.old.states.now) q x.now)) }
-    requires before { (v : program.Configuration) → Among counted.old.walked.visits v
-        → v.place < from.place }
-    ensures states { counted.new.states ≡ counted.old.states }
-    ensures haystack { result.haystack.now ≡ from.entry.haystack.now }
-    ensures longest { result.longest ≡ from.entry.longest }
-    ensures onward { from.entry.place ≤ result.place }
-    ensures before { (v : program.Configuration) → Among counted.new.walked.visits v
-        → v.place < result.place }
-    ensures passes { PassesIdle from.entry.haystack.now from.entry.longest from.entry.place
-        result.place (states_of counted.old.states.now) first threads
-        counted.old.walked counted.new.walked }
-{
-    match first {
-        Some(state) if threads == 0 => skip(counted, from, state, prefix),
-        _ => from,
-    }
-}
-
-// Skips places if no thread is alive and no match was found, and steps over the next one. Returns the place that was
-// stepped over. Then `threads` are those of the place after it.
-#[inline(always)]
-fn step<'h>(
-    counted: &mut Counted<'_>,
-    scratch: &mut Scratch,
-    threads: &mut Threads,
-    here: Position<'h>,
-    first: Option<u32>,
-    prefix: Option<&StartPrefix>,
-    slots: &mut [Option<usize>],
-) -> Position<'h>
-    requires program { IsOfProgram (states_of counted.old.states.now) first }
-    requires prefix { IfSome first (λ q. IfSome prefix (λ x.
-        IsPrefix (states_of counted.old.states.now) q x.now)) }
-    requires between { InvariantBetweenSteps (states_of counted.old.states.now) here.place
-        counted.old.walked scratch.old threads.old (length slots.old) }
-    ensures states { counted.new.states ≡ counted.old.states }
-    ensures haystack { result.haystack.now ≡ here.entry.haystack.now }
-    ensures onward { here.entry.place ≤ result.place }
-    ensures searched { PlacesSearched here.entry.haystack.now here.entry.longest here.entry.place
-        result.place (states_of counted.old.states.now) first counted.old.walked
-        counted.new.walked scratch.old scratch.new threads.old.threads threads.new.threads
-        slots.old slots.new }
-    ensures between { InvariantBetweenSteps (states_of counted.old.states.now) (result.place + 1)
-        counted.new.walked scratch.new threads.new (length slots.new) }
-    ensures max_slots { scratch.new.rows.max_slots ≡ scratch.old.rows.max_slots }
-    ensures slots { length slots.new ≡ length slots.old }
-{
-    let here = skip_idle(counted, here, first, threads.len(), prefix);
-    step_threads(counted, scratch, threads, &here, first, prefix, slots);
-    here
 }
 
 // Returns the state where runs start, as long as no match was found.
@@ -321,7 +231,7 @@ pub(super) fn search(
     counted: &mut Counted<'_>,
     scratch: &mut Scratch,
     threads: &mut Threads,
-    request: &Request<'_, '_>,
+    request: &Request<'_>,
     slots: &mut [Option<usize>],
 ) -> bool
     requires start { request.now.start ≤ length request.now.haystack.now }
@@ -329,12 +239,6 @@ pub(super) fn search(
     requires looks { counted.old.walked.looks ≡ 0 }
     requires program { (p : program.Program) × IsProgramOf p (states_of counted.old.states.now)
         request.now.first × HasRoom (fit_of p) scratch.old threads.old }
-    requires prefix { IfSome request.now.prefix (λ x.
-        IsPrefix (states_of counted.old.states.now) request.now.first x.now) }
-    requires loops { AreLoops (states_of counted.old.states.now)
-        request.now.loops.now }
-    requires covered { IfSome request.now.prefix (λ x. AreCovered
-        (states_of counted.old.states.now) request.now.loops.now x.now.visited.value) }
     requires idle { IsIdle scratch.old threads.old }
     requires slots_per_row { length slots.old ≡ scratch.old.rows.slots_per_row }
     requires nothing { slots_at scratch.old.rows 0 ≡ replicate scratch.old.rows.slots_per_row None }
@@ -352,25 +256,20 @@ pub(super) fn search(
         haystack,
         start,
         first,
-        prefix,
         earliest,
         longest,
-        ..
     } = *request;
     let mut is_found = false;
     let mut place = start;
     'places: loop {
-        let from = Reached { place, is_found };
-        let reached = pass_self_loop(counted, scratch, threads, request, from, slots);
-        is_found = reached.is_found;
-        let here = piece_at(haystack, reached.place, longest);
+        let here = piece_at(haystack, place, longest);
         let begins = first_of(is_found, first);
-        let last = step(counted, scratch, threads, here, begins, prefix, slots);
+        step_threads(counted, scratch, threads, &here, begins, slots);
         is_found = is_found_with(is_found, &scratch.first_match);
-        if is_over(last.ch_len, is_found, earliest, threads.len()) {
+        if is_over(here.ch_len, is_found, earliest, threads.len()) {
             break;
         }
-        place = last.place + last.ch_len;
+        place += here.ch_len;
     }
     release_all(&mut scratch.rows, threads);
     is_found

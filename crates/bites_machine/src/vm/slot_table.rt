@@ -284,23 +284,6 @@ impl SlotTable {
         let from = row * self.slots_per_row;
         copy_slots(slots, &self.slots[from..from + slots.len()]);
     }
-
-    /// Writes the row into the slice, with `place` in those of the given slots that the slice has.
-    pub(super) fn write_later_match(
-        &self,
-        row: usize,
-        pending: &[u32],
-        place: usize,
-        slots: &mut [Option<usize>],
-    )
-        requires known { row < length self.now.ref_counts }
-        requires used { row ≢ 0 → 0 < slice_index self.now.ref_counts row }
-        requires slots_per_row { length slots.old ≡ self.now.slots_per_row }
-        ensures { slots.new ≡ with_pending place pending.now (slice_index_or self.now.rows row []) }
-    {
-        self.write_row(row, slots);
-        write_pending(slots, pending, place);
-    }
 }
 
 // Returns the slot that a word stands for.

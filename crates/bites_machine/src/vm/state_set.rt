@@ -51,15 +51,6 @@ impl StateSet {
         self.generation = 1;
     }
 
-    /// Returns whether the state is a member.
-    #[inline(always)]
-    pub(super) fn contains(&self, state: u32) -> bool
-        ensures { result ≡ slice_index_or self.now state false }
-    {
-        (state as usize) < self.generations.len()
-            && self.generations[state as usize] == self.generation
-    }
-
     /// Inserts the state. Returns whether it was not a member.
     #[inline(always)]
     pub(super) fn insert(&mut self, state: u32) -> bool
