@@ -14,6 +14,8 @@ macro_rules! regex_builder {
         pub struct RegexBuilder {
             pattern: String,
             settings: Settings,
+            octal: bool,
+            unicode: bool,
         }
 
         impl Regex {
@@ -34,6 +36,8 @@ macro_rules! regex_builder {
                 RegexBuilder {
                     pattern: pattern.to_string(),
                     settings: Settings::default(),
+                    octal: false,
+                    unicode: true,
                 }
             }
 
@@ -44,7 +48,16 @@ macro_rules! regex_builder {
             /// assert_eq!("found open group without closing ')'", error.to_string());
             /// ```
             pub fn build(&self) -> Result<Regex, Error> {
-                Regex::of(&self.pattern, self.settings)
+                // First, since the engine takes an octal escape for a back reference.
+                if self.octal {
+                    return Err(Error::of_switch(crate::error::Switch::Octal));
+                }
+                let regex = Regex::of(&self.pattern, self.settings)?;
+                if !self.unicode {
+                    let skips_space = self.settings.has(sys::IGNORE_WHITESPACE);
+                    crate::unicode::check(&self.pattern, skips_space)?;
+                }
+                Ok(regex)
             }
 
             /// Sets the flag `i`: ASCII letters match in both cases.
@@ -158,7 +171,7 @@ macro_rules! regex_builder {
             /// assert_eq!("RegexBuilder::octal(true) is not supported", error.to_string());
             /// ```
             pub fn octal(&mut self, yes: bool) -> &mut RegexBuilder {
-                self.settings.set_octal(yes);
+                self.octal = yes;
                 self
             }
 
@@ -175,7 +188,7 @@ macro_rules! regex_builder {
             /// assert!(error.to_string().starts_with("RegexBuilder::unicode(false) is not supported"));
             /// ```
             pub fn unicode(&mut self, yes: bool) -> &mut RegexBuilder {
-                self.settings.set_unicode(yes);
+                self.unicode = yes;
                 self
             }
 

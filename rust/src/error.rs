@@ -18,8 +18,33 @@ pub struct Error {
 enum Reason {
     /// The engine's number of the message.
     Refused(u32),
-    /// The message on a switch of the builder that the engine doesn't have.
-    Switch(&'static str),
+    Switch(Switch),
+}
+
+/// A switch of the builder that the engine doesn't have, and what it would matter for.
+#[derive(Clone, Copy, Debug, Eq, PartialEq)]
+pub(crate) enum Switch {
+    Octal,
+    UnicodeOfDot,
+    UnicodeOfNegatedClass,
+    UnicodeOfByteEscape,
+}
+
+impl Switch {
+    fn message(self) -> &'static str {
+        match self {
+            Switch::Octal => "RegexBuilder::octal(true) is not supported",
+            Switch::UnicodeOfDot => {
+                "RegexBuilder::unicode(false) is not supported for a pattern with a dot"
+            }
+            Switch::UnicodeOfNegatedClass => {
+                "RegexBuilder::unicode(false) is not supported for a pattern with a negated class"
+            }
+            Switch::UnicodeOfByteEscape => {
+                "RegexBuilder::unicode(false) is not supported for a pattern with a byte escape above \\x7F"
+            }
+        }
+    }
 }
 
 impl Error {
@@ -28,15 +53,15 @@ impl Error {
         Error { reason }
     }
 
-    pub(crate) fn of_switch(message: &'static str) -> Error {
-        let reason = Reason::Switch(message);
+    pub(crate) fn of_switch(switch: Switch) -> Error {
+        let reason = Reason::Switch(switch);
         Error { reason }
     }
 
     fn message(&self) -> &'static str {
         match self.reason {
             Reason::Refused(code) => engine::message(code),
-            Reason::Switch(message) => message,
+            Reason::Switch(switch) => switch.message(),
         }
     }
 }

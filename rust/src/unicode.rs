@@ -3,23 +3,27 @@
 //! The classes `\w`, `\d` and `\s`, word boundaries and the flag `i` are ASCII in any case. So the switch would change only what
 //! could match a single byte of a character: a dot, a negated class, and a byte escape such as `\xFF`.
 
-const DOT: &str = "RegexBuilder::unicode(false) is not supported for a pattern with a dot";
-const NEGATED: &str =
-    "RegexBuilder::unicode(false) is not supported for a pattern with a negated class";
-const BYTE: &str =
-    "RegexBuilder::unicode(false) is not supported for a pattern with a byte escape above \\x7F";
+use crate::error::{Error, Switch};
 
-/// Returns the message of the first part that the switch would change, if the pattern has one. The engine accepted the pattern,
-/// with the flag `x` from its start or without.
-pub(crate) fn refusal(pattern: &str, skips_space: bool) -> Option<&'static str> {
+/// Refuses a pattern that the switch would change. The engine accepted the pattern, with the flag `x` from its start or without.
+pub(crate) fn check(pattern: &str, skips_space: bool) -> Result<(), Error> {
+    match first_change(pattern, skips_space) {
+        Some(switch) => Err(Error::of_switch(switch)),
+        None => Ok(()),
+    }
+}
+
+/// Returns the first part that the switch would change, if the pattern has one.
+fn first_change(pattern: &str, skips_space: bool) -> Option<Switch> {
     let mut reader = Reader {
         rest: pattern,
         skips_space,
         outside: Vec::new(),
     };
     while let Some(first) = reader.next() {
-        if let Some(message) = reader.read(first) {
-            return Some(message);
+        let found = reader.read(first);
+        if found.is_some() {
+            return found;
         }
     }
     None
@@ -36,9 +40,9 @@ struct Reader<'p> {
 
 impl Reader<'_> {
     /// Reads what this character begins.
-    fn read(&mut self, first: char) -> Option<&'static str> {
+    fn read(&mut self, first: char) -> Option<Switch> {
         match first {
-            '.' => Some(DOT),
+            '.' => Some(Switch::UnicodeOfDot),
             '\\' => self.escape(),
             '[' => self.class(),
             '(' => {
@@ -79,32 +83,33 @@ impl Reader<'_> {
     }
 
     /// Reads what comes after a backslash, as far as it decides.
-    fn escape(&mut self) -> Option<&'static str> {
+    fn escape(&mut self) -> Option<Switch> {
         match self.next_plain()? {
-            'D' | 'S' | 'W' => Some(NEGATED),
-            'x' => matches!(self.next()?, '8'..='9' | 'a'..='f' | 'A'..='F').then_some(BYTE),
+            'D' | 'S' | 'W' => Some(Switch::UnicodeOfNegatedClass),
+            'x' => matches!(self.next()?, '8'..='9' | 'a'..='f' | 'A'..='F')
+                .then_some(Switch::UnicodeOfByteEscape),
             _ => None,
         }
     }
 
     /// Reads what comes after an opening bracket, up to the closing one.
-    fn class(&mut self) -> Option<&'static str> {
+    fn class(&mut self) -> Option<Switch> {
         let mut item = self.next()?;
         if item == '^' {
-            return Some(NEGATED);
+            return Some(Switch::UnicodeOfNegatedClass);
         }
         // A closing bracket that comes first is an item.
         if item == ']' {
             item = self.next()?;
         }
         while item != ']' {
-            let message = match item {
+            let found = match item {
                 '\\' => self.escape(),
                 '[' => self.posix_class(),
                 _ => None,
             };
-            if message.is_some() {
-                return message;
+            if found.is_some() {
+                return found;
             }
             item = self.next()?;
         }
@@ -112,10 +117,10 @@ impl Reader<'_> {
     }
 
     /// Reads what comes after the bracket of a class such as `[:alpha:]`. There is no other bracket within a class.
-    fn posix_class(&mut self) -> Option<&'static str> {
+    fn posix_class(&mut self) -> Option<Switch> {
         let is_negated = self.rest.starts_with(":^");
         self.rest = behind(self.rest, ']');
-        is_negated.then_some(NEGATED)
+        is_negated.then_some(Switch::UnicodeOfNegatedClass)
     }
 
     /// Reads what comes after an opening parenthesis: a name, or flags. Those of `(?x)` hold up to the end of the group around it.
@@ -149,17 +154,18 @@ fn behind(text: &str, end: char) -> &str {
 
 #[cfg(test)]
 mod tests {
-    use super::{refusal, BYTE, DOT, NEGATED};
+    use super::first_change;
+    use crate::error::Switch;
 
-    fn message(pattern: &str) -> Option<&'static str> {
+    fn found(pattern: &str) -> Option<Switch> {
         assert!(crate::Regex::new(pattern).is_ok(), "{pattern}");
-        refusal(pattern, false)
+        first_change(pattern, false)
     }
 
     #[test]
     fn what_matches_bytes_is_found() {
         for pattern in [".", "a.", r"\\.", "(a|.)", "[.].", "(?s-u:.)", r"\x{FF}."] {
-            assert_eq!(message(pattern), Some(DOT), "{pattern}");
+            assert_eq!(found(pattern), Some(Switch::UnicodeOfDot), "{pattern}");
         }
         for pattern in [
             r"\W",
@@ -169,10 +175,18 @@ mod tests {
             "[[:^alpha:]]",
             "[][:alpha:]a[:^alpha:]]",
         ] {
-            assert_eq!(message(pattern), Some(NEGATED), "{pattern}");
+            assert_eq!(
+                found(pattern),
+                Some(Switch::UnicodeOfNegatedClass),
+                "{pattern}"
+            );
         }
         for pattern in [r"\xFF", r"\x80", r"[a-\xe9]", r"\xC3\xA9"] {
-            assert_eq!(message(pattern), Some(BYTE), "{pattern}");
+            assert_eq!(
+                found(pattern),
+                Some(Switch::UnicodeOfByteEscape),
+                "{pattern}"
+            );
         }
     }
 
@@ -204,7 +218,7 @@ mod tests {
             "(a|b)",
         ];
         for pattern in patterns {
-            assert_eq!(message(pattern), None, "{pattern}");
+            assert_eq!(found(pattern), None, "{pattern}");
         }
     }
 
@@ -219,7 +233,7 @@ mod tests {
             "(?x)( ?<a.b>a)",
             "(?ix) # [^a]",
         ] {
-            assert_eq!(message(pattern), None, "{pattern}");
+            assert_eq!(found(pattern), None, "{pattern}");
         }
         for pattern in [
             "# .",
@@ -231,11 +245,14 @@ mod tests {
             "(?x)a\\ .",
             "(?x)\\#.",
         ] {
-            assert_eq!(message(pattern), Some(DOT), "{pattern}");
+            assert_eq!(found(pattern), Some(Switch::UnicodeOfDot), "{pattern}");
         }
-        assert_eq!(message("(?x)[ ^a]"), Some(NEGATED));
-        assert_eq!(message("(?x)\\x # a\n F F"), Some(BYTE));
-        assert_eq!(refusal("a # .", true), None);
-        assert_eq!(refusal("(?-x)# .", true), Some(DOT));
+        assert_eq!(found("(?x)[ ^a]"), Some(Switch::UnicodeOfNegatedClass));
+        assert_eq!(
+            found("(?x)\\x # a\n F F"),
+            Some(Switch::UnicodeOfByteEscape)
+        );
+        assert_eq!(first_change("a # .", true), None);
+        assert_eq!(first_change("(?-x)# .", true), Some(Switch::UnicodeOfDot));
     }
 }

@@ -3,19 +3,14 @@
 use super::text::{give_up, text_of, written};
 use crate::error::Error;
 use crate::sys::{self, Bites, BitesCache, BitesSpan};
-use crate::unicode;
 use std::mem;
 
-const OCTAL: &str = "RegexBuilder::octal(true) is not supported";
-
-/// The flags, limits and switches of a pattern.
+/// The flags and limits of a pattern.
 #[derive(Clone, Copy, Debug)]
 pub(crate) struct Settings {
     flags: u32,
     size_limit: usize,
     nest_limit: u32,
-    octal: bool,
-    unicode: bool,
 }
 
 impl Settings {
@@ -27,20 +22,16 @@ impl Settings {
         };
     }
 
+    pub(crate) fn has(&self, flag: u32) -> bool {
+        self.flags & flag != 0
+    }
+
     pub(crate) fn set_size_limit(&mut self, limit: usize) {
         self.size_limit = limit;
     }
 
     pub(crate) fn set_nest_limit(&mut self, limit: u32) {
         self.nest_limit = limit;
-    }
-
-    pub(crate) fn set_octal(&mut self, yes: bool) {
-        self.octal = yes;
-    }
-
-    pub(crate) fn set_unicode(&mut self, yes: bool) {
-        self.unicode = yes;
     }
 }
 
@@ -50,8 +41,6 @@ impl Default for Settings {
             flags: 0,
             size_limit: sys::SIZE_LIMIT,
             nest_limit: sys::NEST_LIMIT,
-            octal: false,
-            unicode: true,
         }
     }
 }
@@ -64,26 +53,11 @@ unsafe impl Send for Handle {}
 
 impl Handle {
     pub(super) fn new(pattern: &str, settings: Settings) -> Result<Handle, Error> {
-        if settings.octal {
-            return Err(Error::of_switch(OCTAL));
-        }
-        let handle = Handle::compiled(pattern, settings)?;
-        if !settings.unicode {
-            let skips_space = settings.flags & sys::IGNORE_WHITESPACE != 0;
-            if let Some(message) = unicode::refusal(pattern, skips_space) {
-                return Err(Error::of_switch(message));
-            }
-        }
-        Ok(handle)
-    }
-
-    fn compiled(pattern: &str, settings: Settings) -> Result<Handle, Error> {
         let mut handle = Handle(Bites::EMPTY);
         let Settings {
             flags,
             size_limit,
             nest_limit,
-            ..
         } = settings;
         let (text, len) = (pattern.as_ptr(), pattern.len());
         // SAFETY: the pattern is a text, and the handle an empty local.

@@ -393,8 +393,8 @@ impl Engine {
         limit: usize,
         template: &[u8],
     ) -> Option<Vec<u8>> {
-        let groups = template.iter().filter(|byte| **byte == b'$').count();
-        let room = room_for(haystack, limit, template, groups);
+        // The name of a group takes two bytes at least.
+        let room = room_for(haystack, limit, template, template.len() / 2);
         self.replace_by(sys::bites_replace, haystack, limit, template, room)
     }
 
@@ -463,9 +463,9 @@ impl Engine {
     }
 }
 
-/// Returns room for the haystack with its first `limit` matches replaced by a template that names this number of groups: the
-/// greatest length that this can have, if it is not far above that of the haystack. With less room the engine would have to be
-/// asked a second time where a replacement makes the text grow.
+/// Returns room for the haystack with its first `limit` matches replaced by a template that names at most this number of groups:
+/// the greatest length that this can have, if it is not far above that of the haystack. With less room the engine would have to
+/// be asked a second time where a replacement makes the text grow.
 fn room_for(haystack: &[u8], limit: usize, template: &[u8], groups: usize) -> usize {
     let len = haystack.len();
     // An empty match may stand before each byte and at the end.
