@@ -1,3 +1,4 @@
+pub mod LeastLemmas
 pub mod Messages
 pub mod Trees
 pub mod Builds

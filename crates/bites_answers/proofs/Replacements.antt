@@ -59,4 +59,5 @@ all = (
   refl,
   refl,
   refl,
+  refl,
 )

@@ -227,4 +227,5 @@ all = (
   refl,
   refl,
   refl,
+  refl,
 )

@@ -1,5 +1,5 @@
 -- What the definitions give for a pattern and a haystack, as values that compute.
-use Rattle.std.specs.Prelude.{◌≡◌, ℕ, zero, suc, Bool, true, false, List, [], ◌∷◌, length, map, flat_map, take, chars, Option, Some, None, option_map, unwrap_or, is_some, Result, Ok, Err, if◌then◌else◌, nat_lt, nat_le}
+use Rattle.std.specs.Prelude.{◌≡◌, ℕ, zero, suc, Bool, true, false, List, [], ◌∷◌, length, map, take, chars, Option, Some, None, option_map, unwrap_or, is_some, Result, Ok, Err, if◌then◌else◌, nat_lt, nat_le}
 use Rattle.std.specs.List.{range_with_len}
 use Rattle.bites_spec.specs.Range.{Range}
 use Rattle.bites_spec.specs.Class.{Set}
@@ -10,11 +10,11 @@ use Rattle.bites_spec.specs.Grammar.{at_front}
 use Rattle.bites_spec.specs.Settings.{no_flags}
 use Rattle.bites_spec.specs.Escaped.{escaped}
 use Rattle.bites_spec.specs.Reader.{Stop, read, inner}
-use Rattle.bites_spec.specs.Tree.{Tree, greatest, is_plain}
+use Rattle.bites_spec.specs.Tree.{Tree, greatest, is_plain, IsPlain, IsReduced}
 use Rattle.bites_spec.specs.Measure.{height, groups_left, opened_by, static_captures_len, size_with}
 use Rattle.bites_spec.specs.Match.{Span, span, groups}
 use Rattle.bites_spec.specs.Preference.{ParseTo, parses}
-use Rattle.bites_spec.specs.Found.{head_of, first_ending}
+use Rattle.bites_spec.specs.Found.{head_of, first_ending, IsLeastEnd}
 use Rattle.bites_spec.specs.Utf8.{places}
 use Rattle.bites_spec.specs.Program.{targets}
 use Rattle.bites_spec.specs.Walks.{first_among}
@@ -188,14 +188,24 @@ module _ (r : Regex) (hay : List ℕ) where
   abbrev pub extracted : Option (List (List ℕ))
   extracted = option_map (λ slots. map (text_at hay) (take (unwrap_or r.static_captures_len 0) (participating slots))) (slots_at r hay 0)
 
-  -- the least end of a parse from a place from s on
-  abbrev pub ends_from : ℕ → List ℕ
-  ends_from s = flat_map (λ i. map (λ w. w.end) (parses hay r.tree i)) (places hay s)
+-- the lesser of two numbers, or the one that is there
+abbrev pub lesser : Option ℕ → Option ℕ → Option ℕ
+lesser None o = o
+lesser (Some m) None = Some m
+lesser (Some m) (Some n) = if nat_le m n then Some m else Some n
 
--- the least number of a list
-abbrev pub least : List ℕ → Option ℕ
-least [] = None
-least (n ∷ ns) = Some (unwrap_or (option_map (λ m. if nat_le n m then n else m) (least ns)) n)
+-- the least of what the elements of a list give
+abbrev pub least : {A : Type 0} → (A → Option ℕ) → List A → Option ℕ
+least f [] = None
+least f (x ∷ xs) = lesser (f x) (least f xs)
+
+-- the least end of a parse, from a place from s on
+abbrev pub least_parse_end : Tree → List ℕ → ℕ → Option ℕ
+least_parse_end t hay s = least (λ i. least (λ w. Some (w.end)) (parses hay t i)) (places hay s)
+
+-- the least end of a plain tree's parses is that of its matches
+abbrev pub LeastParseEndIsLeast : Type 0
+LeastParseEndIsLeast = (t : Tree) (hay : List ℕ) (s : ℕ) → IsReduced t → IsPlain t → IsLeastEnd t hay s (least_parse_end t hay s)
 
 -- ## Answers
 
@@ -244,7 +254,7 @@ module _ (q : Question) (hay : List ℕ) where
 
   -- the tree is plain, and this is the least end of a parse from a place from s on
   abbrev pub EndsSoonest : ℕ → Option ℕ → Type 0
-  EndsSoonest s answer = of_regex q {A = Bool × Option ℕ} (λ r. (is_plain r.tree, least (ends_from r hay s))) ≡ Some (true, answer)
+  EndsSoonest s answer = of_regex q {A = Bool × Option ℕ} (λ r. (is_plain r.tree, least_parse_end r.tree hay s)) ≡ Some (true, answer)
 
   -- these are the groups of all matches
   abbrev pub FindsAllGroups : List Groups → Type 0

@@ -78,90 +78,94 @@ Row18 = Replaces (ask (codes "\\S") []) (226 ∷ 226 ∷ 98 ∷ 98 ∷ 98 ∷ 19
 abbrev pub Row19 : Type 0
 Row19 = Replaces (ask (codes "(_*?\\.| *[^.\\-[:digit:]]|(?:(?s)){0}?)") (codes "m")) (codes "  b") 0 (codes "${$1}") []
 
--- rust: replace_lit both , a,b 0 $0
+-- rust: replace both R [\\U0000ffff]{2} \xF4\x8F\xBF\xBF\xEF\xBF\xBF\xEF\xBF\xBF\x7F 2 $_
 abbrev pub Row20 : Type 0
-Row20 = ReplacesBy (ask (codes ",") []) (codes "a,b") 0 (codes "$0") (codes "a$0b")
+Row20 = Replaces (parted ((128, 55295) ∷ (57344, 65534) ∷ (65535, 65535) ∷ (65536, 1114111) ∷ []) (ask (codes "[\\U0000ffff]{2}") (codes "R"))) (244 ∷ 143 ∷ 191 ∷ 191 ∷ 239 ∷ 191 ∷ 191 ∷ 239 ∷ 191 ∷ 191 ∷ 127 ∷ []) 2 (codes "$_") (244 ∷ 143 ∷ 191 ∷ 191 ∷ 127 ∷ [])
+
+-- rust: replace_lit both , a,b 0 $0
+abbrev pub Row21 : Type 0
+Row21 = ReplacesBy (ask (codes ",") []) (codes "a,b") 0 (codes "$0") (codes "a$0b")
 
 -- rust: replace_lit both \xE2\x98\x83 0
-abbrev pub Row21 : Type 0
-Row21 = ReplacesBy (ask [] []) (226 ∷ 152 ∷ 131 ∷ []) 0 (codes "-") (45 ∷ 226 ∷ 152 ∷ 131 ∷ 45 ∷ [])
+abbrev pub Row22 : Type 0
+Row22 = ReplacesBy (ask [] []) (226 ∷ 152 ∷ 131 ∷ []) 0 (codes "-") (45 ∷ 226 ∷ 152 ∷ 131 ∷ 45 ∷ [])
 
 -- hand: replace_lit both L a+? baac 0
-abbrev pub Row22 : Type 0
-Row22 = ReplacesBy (longest (ask (codes "a+?") [])) (codes "baac") 0 (codes "-") (codes "b-c")
+abbrev pub Row23 : Type 0
+Row23 = ReplacesBy (longest (ask (codes "a+?") [])) (codes "baac") 0 (codes "-") (codes "b-c")
 
 -- rust: replace_lit bytes (a)(b)? ab\xF4\x90\x80\x80 2 $x-$n
-abbrev pub Row23 : Type 0
-Row23 = ReplacesBy (ask (codes "(a)(b)?") []) (97 ∷ 98 ∷ 244 ∷ 144 ∷ 128 ∷ 128 ∷ []) 2 (codes "$x-$n") (36 ∷ 120 ∷ 45 ∷ 36 ∷ 110 ∷ 244 ∷ 144 ∷ 128 ∷ 128 ∷ [])
+abbrev pub Row24 : Type 0
+Row24 = ReplacesBy (ask (codes "(a)(b)?") []) (97 ∷ 98 ∷ 244 ∷ 144 ∷ 128 ∷ 128 ∷ []) 2 (codes "$x-$n") (36 ∷ 120 ∷ 45 ∷ 36 ∷ 110 ∷ 244 ∷ 144 ∷ 128 ∷ 128 ∷ [])
 
 -- rust: replace_lit both s 804 0
-abbrev pub Row24 : Type 0
-Row24 = ReplacesBy (ask [] (codes "s")) (codes "804") 0 [] (codes "804")
+abbrev pub Row25 : Type 0
+Row25 = ReplacesBy (ask [] (codes "s")) (codes "804") 0 [] (codes "804")
 
 -- rust: replace_lit both (?<x>a)|(?<n>b) aabbab 3 $18446744073709551615
-abbrev pub Row25 : Type 0
-Row25 = ReplacesBy (ask (codes "(?<x>a)|(?<n>b)") []) (codes "aabbab") 3 (codes "$18446744073709551615") (codes "$18446744073709551615$18446744073709551615$18446744073709551615bab")
+abbrev pub Row26 : Type 0
+Row26 = ReplacesBy (ask (codes "(?<x>a)|(?<n>b)") []) (codes "aabbab") 3 (codes "$18446744073709551615") (codes "$18446744073709551615$18446744073709551615$18446744073709551615bab")
 
 -- rust: replace_lit both a[b]\\u0062b ababbbb 5 $x-$n
-abbrev pub Row26 : Type 0
-Row26 = ReplacesBy (parted ((128, 1578) ∷ (1579, 1579) ∷ (1580, 55295) ∷ (57344, 1114111) ∷ []) (ask (codes "a[b]\\u0062b") [])) (codes "ababbbb") 5 (codes "$x-$n") (codes "ab$x-$nb")
+abbrev pub Row27 : Type 0
+Row27 = ReplacesBy (parted ((128, 1578) ∷ (1579, 1579) ∷ (1580, 55295) ∷ (57344, 1114111) ∷ []) (ask (codes "a[b]\\u0062b") [])) (codes "ababbbb") 5 (codes "$x-$n") (codes "ab$x-$nb")
 
 -- rust: expand both (?<bar>y{3})(?<foo>x{3}) yyyxxx test ${wat $bar ok
-abbrev pub Row27 : Type 0
-Row27 = Expands (ask (codes "(?<bar>y{3})(?<foo>x{3})") []) (codes "yyyxxx") (codes "test ${wat $bar ok") (Some (codes "test ${wat yyy ok"))
+abbrev pub Row28 : Type 0
+Row28 = Expands (ask (codes "(?<bar>y{3})(?<foo>x{3})") []) (codes "yyyxxx") (codes "test ${wat $bar ok") (Some (codes "test ${wat yyy ok"))
 
 -- rust: expand both (?<bar>y{3})(?<foo>x{3}) yyyxxx test$2test
-abbrev pub Row28 : Type 0
-Row28 = Expands (ask (codes "(?<bar>y{3})(?<foo>x{3})") []) (codes "yyyxxx") (codes "test$2test") (Some (codes "test"))
+abbrev pub Row29 : Type 0
+Row29 = Expands (ask (codes "(?<bar>y{3})(?<foo>x{3})") []) (codes "yyyxxx") (codes "test$2test") (Some (codes "test"))
 
 -- rust: expand both (?<bar>y{3})(?<foo>x{3}) yyyxxx ${+1}
-abbrev pub Row29 : Type 0
-Row29 = Expands (ask (codes "(?<bar>y{3})(?<foo>x{3})") []) (codes "yyyxxx") (codes "${+1}") (Some (codes "yyy"))
+abbrev pub Row30 : Type 0
+Row30 = Expands (ask (codes "(?<bar>y{3})(?<foo>x{3})") []) (codes "yyyxxx") (codes "${+1}") (Some (codes "yyy"))
 
 -- rust: expand both (?<bar>y{3})(?<foo>x{3}) yyyxxx test $$foo test
-abbrev pub Row30 : Type 0
-Row30 = Expands (ask (codes "(?<bar>y{3})(?<foo>x{3})") []) (codes "yyyxxx") (codes "test $$foo test") (Some (codes "test $foo test"))
+abbrev pub Row31 : Type 0
+Row31 = Expands (ask (codes "(?<bar>y{3})(?<foo>x{3})") []) (codes "yyyxxx") (codes "test $$foo test") (Some (codes "test $foo test"))
 
 -- rust: expand both (?<bar>y{3})(?<foo>x{3}) yyyxxx test ${} test
-abbrev pub Row31 : Type 0
-Row31 = Expands (ask (codes "(?<bar>y{3})(?<foo>x{3})") []) (codes "yyyxxx") (codes "test ${} test") (Some (codes "test  test"))
+abbrev pub Row32 : Type 0
+Row32 = Expands (ask (codes "(?<bar>y{3})(?<foo>x{3})") []) (codes "yyyxxx") (codes "test ${} test") (Some (codes "test  test"))
 
 -- rust: expand both a a $$$0
-abbrev pub Row32 : Type 0
-Row32 = Expands (ask (codes "a") []) (codes "a") (codes "$$$0") (Some (codes "$a"))
+abbrev pub Row33 : Type 0
+Row33 = Expands (ask (codes "a") []) (codes "a") (codes "$$$0") (Some (codes "$a"))
 
 -- rust: expand both a a $+1
-abbrev pub Row33 : Type 0
-Row33 = Expands (ask (codes "a") []) (codes "a") (codes "$+1") (Some (codes "$+1"))
+abbrev pub Row34 : Type 0
+Row34 = Expands (ask (codes "a") []) (codes "a") (codes "$+1") (Some (codes "$+1"))
 
 -- rust: expand both a a a$
-abbrev pub Row34 : Type 0
-Row34 = Expands (ask (codes "a") []) (codes "a") (codes "a$") (Some (codes "a$"))
+abbrev pub Row35 : Type 0
+Row35 = Expands (ask (codes "a") []) (codes "a") (codes "a$") (Some (codes "a$"))
 
 -- rust: expand both a a ${1
-abbrev pub Row35 : Type 0
-Row35 = Expands (ask (codes "a") []) (codes "a") (codes "${1") (Some (codes "${1"))
+abbrev pub Row36 : Type 0
+Row36 = Expands (ask (codes "a") []) (codes "a") (codes "${1") (Some (codes "${1"))
 
 -- rust: expand both a a ${ 0 }
-abbrev pub Row36 : Type 0
-Row36 = Expands (ask (codes "a") []) (codes "a") (codes "${ 0 }") (Some [])
+abbrev pub Row37 : Type 0
+Row37 = Expands (ask (codes "a") []) (codes "a") (codes "${ 0 }") (Some [])
 
 -- rust: expand both a a ${+}
-abbrev pub Row37 : Type 0
-Row37 = Expands (ask (codes "a") []) (codes "a") (codes "${+}") (Some [])
+abbrev pub Row38 : Type 0
+Row38 = Expands (ask (codes "a") []) (codes "a") (codes "${+}") (Some [])
 
 -- rust: expand both a a ${-1}
-abbrev pub Row38 : Type 0
-Row38 = Expands (ask (codes "a") []) (codes "a") (codes "${-1}") (Some [])
+abbrev pub Row39 : Type 0
+Row39 = Expands (ask (codes "a") []) (codes "a") (codes "${-1}") (Some [])
 
 -- rust: expand both a a $00
-abbrev pub Row39 : Type 0
-Row39 = Expands (ask (codes "a") []) (codes "a") (codes "$00") (Some (codes "a"))
+abbrev pub Row40 : Type 0
+Row40 = Expands (ask (codes "a") []) (codes "a") (codes "$00") (Some (codes "a"))
 
 -- rust: expand bytes a a ${\xFF}x
-abbrev pub Row40 : Type 0
-Row40 = Expands (ask (codes "a") []) (codes "a") (36 ∷ 123 ∷ 255 ∷ 125 ∷ 120 ∷ []) (Some (36 ∷ 123 ∷ 255 ∷ 125 ∷ 120 ∷ []))
+abbrev pub Row41 : Type 0
+Row41 = Expands (ask (codes "a") []) (codes "a") (36 ∷ 123 ∷ 255 ∷ 125 ∷ 120 ∷ []) (Some (36 ∷ 123 ∷ 255 ∷ 125 ∷ 120 ∷ []))
 
 -- all of these
 abbrev pub Replacements : Type 0
-Replacements = Row1 × Row2 × Row3 × Row4 × Row5 × Row6 × Row7 × Row8 × Row9 × Row10 × Row11 × Row12 × Row13 × Row14 × Row15 × Row16 × Row17 × Row18 × Row19 × Row20 × Row21 × Row22 × Row23 × Row24 × Row25 × Row26 × Row27 × Row28 × Row29 × Row30 × Row31 × Row32 × Row33 × Row34 × Row35 × Row36 × Row37 × Row38 × Row39 × Row40
+Replacements = Row1 × Row2 × Row3 × Row4 × Row5 × Row6 × Row7 × Row8 × Row9 × Row10 × Row11 × Row12 × Row13 × Row14 × Row15 × Row16 × Row17 × Row18 × Row19 × Row20 × Row21 × Row22 × Row23 × Row24 × Row25 × Row26 × Row27 × Row28 × Row29 × Row30 × Row31 × Row32 × Row33 × Row34 × Row35 × Row36 × Row37 × Row38 × Row39 × Row40 × Row41

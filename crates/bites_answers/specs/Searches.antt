@@ -763,78 +763,82 @@ Row189 = FindsGroups (ask (97 ∷ 42 ∷ 40 ∷ 63 ∷ 120 ∷ 41 ∷ 91 ∷ 97 
 abbrev pub Row190 : Type 0
 Row190 = FindsGroups (ask (97 ∷ 42 ∷ 40 ∷ 63 ∷ 120 ∷ 41 ∷ 91 ∷ 97 ∷ 45 ∷ 35 ∷ 99 ∷ 10 ∷ 93 ∷ 93 ∷ 40 ∷ 98 ∷ 41 ∷ []) []) (codes "aab") 0 None
 
--- rust: extract both a ba
+-- rust: captures_at both R \\B|[\\U0000004D-O\\D]\xEF\xBF\xBF\\b{1,3}\\: \xDF\xBF\xF4\x8F\xBF\xBF\xC2\x80\xEF\xBF\xBF: 11
 abbrev pub Row191 : Type 0
-Row191 = Extracts (ask (codes "a") []) (codes "ba") (Some ((codes "a") ∷ []))
+Row191 = FindsGroups (parted ((128, 55295) ∷ (57344, 65534) ∷ (65535, 65535) ∷ (65536, 1114111) ∷ []) (ask (92 ∷ 66 ∷ 124 ∷ 91 ∷ 92 ∷ 85 ∷ 48 ∷ 48 ∷ 48 ∷ 48 ∷ 48 ∷ 48 ∷ 52 ∷ 68 ∷ 45 ∷ 79 ∷ 92 ∷ 68 ∷ 93 ∷ 239 ∷ 191 ∷ 191 ∷ 92 ∷ 98 ∷ 123 ∷ 49 ∷ 44 ∷ 51 ∷ 125 ∷ 92 ∷ 58 ∷ []) (codes "R"))) (223 ∷ 191 ∷ 244 ∷ 143 ∷ 191 ∷ 191 ∷ 194 ∷ 128 ∷ 239 ∷ 191 ∷ 191 ∷ 58 ∷ []) 11 (Some ((Some (span 11 11)) ∷ []))
+
+-- rust: extract both a ba
+abbrev pub Row192 : Type 0
+Row192 = Extracts (ask (codes "a") []) (codes "ba") (Some ((codes "a") ∷ []))
 
 -- rust: extract both (a) b
-abbrev pub Row192 : Type 0
-Row192 = Extracts (ask (codes "(a)") []) (codes "b") None
+abbrev pub Row193 : Type 0
+Row193 = Extracts (ask (codes "(a)") []) (codes "b") None
 
 -- rust: extract both ()
-abbrev pub Row193 : Type 0
-Row193 = Extracts (ask (codes "()") []) [] (Some ([] ∷ [] ∷ []))
+abbrev pub Row194 : Type 0
+Row194 = Extracts (ask (codes "()") []) [] (Some ([] ∷ [] ∷ []))
 
 -- rust: extract both (\\d{4})-(\\d{2}) on 2010-03
-abbrev pub Row194 : Type 0
-Row194 = Extracts (ask (codes "(\\d{4})-(\\d{2})") []) (codes "on 2010-03") (Some ((codes "2010-03") ∷ (codes "2010") ∷ (codes "03") ∷ []))
+abbrev pub Row195 : Type 0
+Row195 = Extracts (ask (codes "(\\d{4})-(\\d{2})") []) (codes "on 2010-03") (Some ((codes "2010-03") ∷ (codes "2010") ∷ (codes "03") ∷ []))
 
 -- rust: extract both (?<year>\\d{4})-(?<month>\\d{2}) on 2010-03, 2011-04
-abbrev pub Row195 : Type 0
-Row195 = Extracts (ask (codes "(?<year>\\d{4})-(?<month>\\d{2})") []) (codes "on 2010-03, 2011-04") (Some ((codes "2010-03") ∷ (codes "2010") ∷ (codes "03") ∷ []))
+abbrev pub Row196 : Type 0
+Row196 = Extracts (ask (codes "(?<year>\\d{4})-(?<month>\\d{2})") []) (codes "on 2010-03, 2011-04") (Some ((codes "2010-03") ∷ (codes "2010") ∷ (codes "03") ∷ []))
 
 -- rust: extract both (a)((b)c) xabcabc
-abbrev pub Row196 : Type 0
-Row196 = Extracts (ask (codes "(a)((b)c)") []) (codes "xabcabc") (Some ((codes "abc") ∷ (codes "a") ∷ (codes "bc") ∷ (codes "b") ∷ []))
+abbrev pub Row197 : Type 0
+Row197 = Extracts (ask (codes "(a)((b)c)") []) (codes "xabcabc") (Some ((codes "abc") ∷ (codes "a") ∷ (codes "bc") ∷ (codes "b") ∷ []))
 
 -- rust: extract both (a)|(b) xb
-abbrev pub Row197 : Type 0
-Row197 = Extracts (ask (codes "(a)|(b)") []) (codes "xb") (Some ((codes "b") ∷ (codes "b") ∷ []))
+abbrev pub Row198 : Type 0
+Row198 = Extracts (ask (codes "(a)|(b)") []) (codes "xb") (Some ((codes "b") ∷ (codes "b") ∷ []))
 
 -- rust: extract both (?:(a)|(b))+ ab
-abbrev pub Row198 : Type 0
-Row198 = Extracts (ask (codes "(?:(a)|(b))+") []) (codes "ab") (Some ((codes "ab") ∷ (codes "a") ∷ []))
+abbrev pub Row199 : Type 0
+Row199 = Extracts (ask (codes "(?:(a)|(b))+") []) (codes "ab") (Some ((codes "ab") ∷ (codes "a") ∷ []))
 
 -- rust: extract both (?:(a)|(b))(c) bc
-abbrev pub Row199 : Type 0
-Row199 = Extracts (ask (codes "(?:(a)|(b))(c)") []) (codes "bc") (Some ((codes "bc") ∷ (codes "b") ∷ (codes "c") ∷ []))
+abbrev pub Row200 : Type 0
+Row200 = Extracts (ask (codes "(?:(a)|(b))(c)") []) (codes "bc") (Some ((codes "bc") ∷ (codes "b") ∷ (codes "c") ∷ []))
 
 -- rust: extract both ((a)|(b)) b
-abbrev pub Row200 : Type 0
-Row200 = Extracts (ask (codes "((a)|(b))") []) (codes "b") (Some ((codes "b") ∷ (codes "b") ∷ (codes "b") ∷ []))
+abbrev pub Row201 : Type 0
+Row201 = Extracts (ask (codes "((a)|(b))") []) (codes "b") (Some ((codes "b") ∷ (codes "b") ∷ (codes "b") ∷ []))
 
 -- rust: extract bytes (.)(.) \xFF\xC3\xA9
-abbrev pub Row201 : Type 0
-Row201 = Extracts (ask (codes "(.)(.)") []) (255 ∷ 195 ∷ 169 ∷ []) (Some ((255 ∷ 195 ∷ 169 ∷ []) ∷ (255 ∷ []) ∷ (195 ∷ 169 ∷ []) ∷ []))
+abbrev pub Row202 : Type 0
+Row202 = Extracts (ask (codes "(.)(.)") []) (255 ∷ 195 ∷ 169 ∷ []) (Some ((255 ∷ 195 ∷ 169 ∷ []) ∷ (255 ∷ []) ∷ (195 ∷ 169 ∷ []) ∷ []))
 
 -- rust: extract bytes \xE2\x98\x83(.) \xE2\x98\x83\xE2\x98
-abbrev pub Row202 : Type 0
-Row202 = Extracts (parted ((128, 9730) ∷ (9731, 9731) ∷ (9732, 55295) ∷ (57344, 1114111) ∷ []) (ask (226 ∷ 152 ∷ 131 ∷ 40 ∷ 46 ∷ 41 ∷ []) [])) (226 ∷ 152 ∷ 131 ∷ 226 ∷ 152 ∷ []) (Some ((226 ∷ 152 ∷ 131 ∷ 226 ∷ 152 ∷ []) ∷ (226 ∷ 152 ∷ []) ∷ []))
+abbrev pub Row203 : Type 0
+Row203 = Extracts (parted ((128, 9730) ∷ (9731, 9731) ∷ (9732, 55295) ∷ (57344, 1114111) ∷ []) (ask (226 ∷ 152 ∷ 131 ∷ 40 ∷ 46 ∷ 41 ∷ []) [])) (226 ∷ 152 ∷ 131 ∷ 226 ∷ 152 ∷ []) (Some ((226 ∷ 152 ∷ 131 ∷ 226 ∷ 152 ∷ []) ∷ (226 ∷ 152 ∷ []) ∷ []))
 
 -- rust: extract both \xC3\xA4 b\xC3\xA4
-abbrev pub Row203 : Type 0
-Row203 = Extracts (parted ((128, 227) ∷ (228, 228) ∷ (229, 55295) ∷ (57344, 1114111) ∷ []) (ask (195 ∷ 164 ∷ []) [])) (98 ∷ 195 ∷ 164 ∷ []) (Some ((195 ∷ 164 ∷ []) ∷ []))
+abbrev pub Row204 : Type 0
+Row204 = Extracts (parted ((128, 227) ∷ (228, 228) ∷ (229, 55295) ∷ (57344, 1114111) ∷ []) (ask (195 ∷ 164 ∷ []) [])) (98 ∷ 195 ∷ 164 ∷ []) (Some ((195 ∷ 164 ∷ []) ∷ []))
 
 -- rust: extract both (\xC3\xA4) b
-abbrev pub Row204 : Type 0
-Row204 = Extracts (parted ((128, 227) ∷ (228, 228) ∷ (229, 55295) ∷ (57344, 1114111) ∷ []) (ask (40 ∷ 195 ∷ 164 ∷ 41 ∷ []) [])) (codes "b") None
+abbrev pub Row205 : Type 0
+Row205 = Extracts (parted ((128, 227) ∷ (228, 228) ∷ (229, 55295) ∷ (57344, 1114111) ∷ []) (ask (40 ∷ 195 ∷ 164 ∷ 41 ∷ []) [])) (codes "b") None
 
 -- rust: extract both (\xC3\xA4)((\xE2\x98\x83)c) x\xC3\xA4\xE2\x98\x83c\xC3\xA4\xE2\x98\x83c
-abbrev pub Row205 : Type 0
-Row205 = Extracts (parted ((128, 227) ∷ (228, 228) ∷ (229, 9730) ∷ (9731, 9731) ∷ (9732, 55295) ∷ (57344, 1114111) ∷ []) (ask (40 ∷ 195 ∷ 164 ∷ 41 ∷ 40 ∷ 40 ∷ 226 ∷ 152 ∷ 131 ∷ 41 ∷ 99 ∷ 41 ∷ []) [])) (120 ∷ 195 ∷ 164 ∷ 226 ∷ 152 ∷ 131 ∷ 99 ∷ 195 ∷ 164 ∷ 226 ∷ 152 ∷ 131 ∷ 99 ∷ []) (Some ((195 ∷ 164 ∷ 226 ∷ 152 ∷ 131 ∷ 99 ∷ []) ∷ (195 ∷ 164 ∷ []) ∷ (226 ∷ 152 ∷ 131 ∷ 99 ∷ []) ∷ (226 ∷ 152 ∷ 131 ∷ []) ∷ []))
+abbrev pub Row206 : Type 0
+Row206 = Extracts (parted ((128, 227) ∷ (228, 228) ∷ (229, 9730) ∷ (9731, 9731) ∷ (9732, 55295) ∷ (57344, 1114111) ∷ []) (ask (40 ∷ 195 ∷ 164 ∷ 41 ∷ 40 ∷ 40 ∷ 226 ∷ 152 ∷ 131 ∷ 41 ∷ 99 ∷ 41 ∷ []) [])) (120 ∷ 195 ∷ 164 ∷ 226 ∷ 152 ∷ 131 ∷ 99 ∷ 195 ∷ 164 ∷ 226 ∷ 152 ∷ 131 ∷ 99 ∷ []) (Some ((195 ∷ 164 ∷ 226 ∷ 152 ∷ 131 ∷ 99 ∷ []) ∷ (195 ∷ 164 ∷ []) ∷ (226 ∷ 152 ∷ 131 ∷ 99 ∷ []) ∷ (226 ∷ 152 ∷ 131 ∷ []) ∷ []))
 
 -- rust: extract both (\xC3\xA4)|(\xE2\x98\x83) x\xE2\x98\x83
-abbrev pub Row206 : Type 0
-Row206 = Extracts (parted ((128, 227) ∷ (228, 228) ∷ (229, 9730) ∷ (9731, 9731) ∷ (9732, 55295) ∷ (57344, 1114111) ∷ []) (ask (40 ∷ 195 ∷ 164 ∷ 41 ∷ 124 ∷ 40 ∷ 226 ∷ 152 ∷ 131 ∷ 41 ∷ []) [])) (120 ∷ 226 ∷ 152 ∷ 131 ∷ []) (Some ((226 ∷ 152 ∷ 131 ∷ []) ∷ (226 ∷ 152 ∷ 131 ∷ []) ∷ []))
+abbrev pub Row207 : Type 0
+Row207 = Extracts (parted ((128, 227) ∷ (228, 228) ∷ (229, 9730) ∷ (9731, 9731) ∷ (9732, 55295) ∷ (57344, 1114111) ∷ []) (ask (40 ∷ 195 ∷ 164 ∷ 41 ∷ 124 ∷ 40 ∷ 226 ∷ 152 ∷ 131 ∷ 41 ∷ []) [])) (120 ∷ 226 ∷ 152 ∷ 131 ∷ []) (Some ((226 ∷ 152 ∷ 131 ∷ []) ∷ (226 ∷ 152 ∷ 131 ∷ []) ∷ []))
 
 -- rust: extract both (?:(\xC3\xA4)|(\xE2\x98\x83))+ \xC3\xA4\xE2\x98\x83
-abbrev pub Row207 : Type 0
-Row207 = Extracts (parted ((128, 227) ∷ (228, 228) ∷ (229, 9730) ∷ (9731, 9731) ∷ (9732, 55295) ∷ (57344, 1114111) ∷ []) (ask (40 ∷ 63 ∷ 58 ∷ 40 ∷ 195 ∷ 164 ∷ 41 ∷ 124 ∷ 40 ∷ 226 ∷ 152 ∷ 131 ∷ 41 ∷ 41 ∷ 43 ∷ []) [])) (195 ∷ 164 ∷ 226 ∷ 152 ∷ 131 ∷ []) (Some ((195 ∷ 164 ∷ 226 ∷ 152 ∷ 131 ∷ []) ∷ (195 ∷ 164 ∷ []) ∷ []))
+abbrev pub Row208 : Type 0
+Row208 = Extracts (parted ((128, 227) ∷ (228, 228) ∷ (229, 9730) ∷ (9731, 9731) ∷ (9732, 55295) ∷ (57344, 1114111) ∷ []) (ask (40 ∷ 63 ∷ 58 ∷ 40 ∷ 195 ∷ 164 ∷ 41 ∷ 124 ∷ 40 ∷ 226 ∷ 152 ∷ 131 ∷ 41 ∷ 41 ∷ 43 ∷ []) [])) (195 ∷ 164 ∷ 226 ∷ 152 ∷ 131 ∷ []) (Some ((195 ∷ 164 ∷ 226 ∷ 152 ∷ 131 ∷ []) ∷ (195 ∷ 164 ∷ []) ∷ []))
 
 -- rust: extract both (.)(.) \xF0\x9D\x84\x9E\xC3\xA9
-abbrev pub Row208 : Type 0
-Row208 = Extracts (ask (codes "(.)(.)") []) (240 ∷ 157 ∷ 132 ∷ 158 ∷ 195 ∷ 169 ∷ []) (Some ((240 ∷ 157 ∷ 132 ∷ 158 ∷ 195 ∷ 169 ∷ []) ∷ (240 ∷ 157 ∷ 132 ∷ 158 ∷ []) ∷ (195 ∷ 169 ∷ []) ∷ []))
+abbrev pub Row209 : Type 0
+Row209 = Extracts (ask (codes "(.)(.)") []) (240 ∷ 157 ∷ 132 ∷ 158 ∷ 195 ∷ 169 ∷ []) (Some ((240 ∷ 157 ∷ 132 ∷ 158 ∷ 195 ∷ 169 ∷ []) ∷ (240 ∷ 157 ∷ 132 ∷ 158 ∷ []) ∷ (195 ∷ 169 ∷ []) ∷ []))
 
 -- all of these
 abbrev pub Searches : Type 0
-Searches = Row1 × Row2 × Row3 × Row4 × Row5 × Row6 × Row7 × Row8 × Row9 × Row10 × Row11 × Row12 × Row13 × Row14 × Row15 × Row16 × Row17 × Row18 × Row19 × Row20 × Row21 × Row22 × Row23 × Row24 × Row25 × Row26 × Row27 × Row28 × Row29 × Row30 × Row31 × Row32 × Row33 × Row34 × Row35 × Row36 × Row37 × Row38 × Row39 × Row40 × Row41 × Row42 × Row43 × Row44 × Row45 × Row46 × Row47 × Row48 × Row49 × Row50 × Row51 × Row52 × Row53 × Row54 × Row55 × Row56 × Row57 × Row58 × Row59 × Row60 × Row61 × Row62 × Row63 × Row64 × Row65 × Row66 × Row67 × Row68 × Row69 × Row70 × Row71 × Row72 × Row73 × Row74 × Row75 × Row76 × Row77 × Row78 × Row79 × Row80 × Row81 × Row82 × Row83 × Row84 × Row85 × Row86 × Row87 × Row88 × Row89 × Row90 × Row91 × Row92 × Row93 × Row94 × Row95 × Row96 × Row97 × Row98 × Row99 × Row100 × Row101 × Row102 × Row103 × Row104 × Row105 × Row106 × Row107 × Row108 × Row109 × Row110 × Row111 × Row112 × Row113 × Row114 × Row115 × Row116 × Row117 × Row118 × Row119 × Row120 × Row121 × Row122 × Row123 × Row124 × Row125 × Row126 × Row127 × Row128 × Row129 × Row130 × Row131 × Row132 × Row133 × Row134 × Row135 × Row136 × Row137 × Row138 × Row139 × Row140 × Row141 × Row142 × Row143 × Row144 × Row145 × Row146 × Row147 × Row148 × Row149 × Row150 × Row151 × Row152 × Row153 × Row154 × Row155 × Row156 × Row157 × Row158 × Row159 × Row160 × Row161 × Row162 × Row163 × Row164 × Row165 × Row166 × Row167 × Row168 × Row169 × Row170 × Row171 × Row172 × Row173 × Row174 × Row175 × Row176 × Row177 × Row178 × Row179 × Row180 × Row181 × Row182 × Row183 × Row184 × Row185 × Row186 × Row187 × Row188 × Row189 × Row190 × Row191 × Row192 × Row193 × Row194 × Row195 × Row196 × Row197 × Row198 × Row199 × Row200 × Row201 × Row202 × Row203 × Row204 × Row205 × Row206 × Row207 × Row208
+Searches = Row1 × Row2 × Row3 × Row4 × Row5 × Row6 × Row7 × Row8 × Row9 × Row10 × Row11 × Row12 × Row13 × Row14 × Row15 × Row16 × Row17 × Row18 × Row19 × Row20 × Row21 × Row22 × Row23 × Row24 × Row25 × Row26 × Row27 × Row28 × Row29 × Row30 × Row31 × Row32 × Row33 × Row34 × Row35 × Row36 × Row37 × Row38 × Row39 × Row40 × Row41 × Row42 × Row43 × Row44 × Row45 × Row46 × Row47 × Row48 × Row49 × Row50 × Row51 × Row52 × Row53 × Row54 × Row55 × Row56 × Row57 × Row58 × Row59 × Row60 × Row61 × Row62 × Row63 × Row64 × Row65 × Row66 × Row67 × Row68 × Row69 × Row70 × Row71 × Row72 × Row73 × Row74 × Row75 × Row76 × Row77 × Row78 × Row79 × Row80 × Row81 × Row82 × Row83 × Row84 × Row85 × Row86 × Row87 × Row88 × Row89 × Row90 × Row91 × Row92 × Row93 × Row94 × Row95 × Row96 × Row97 × Row98 × Row99 × Row100 × Row101 × Row102 × Row103 × Row104 × Row105 × Row106 × Row107 × Row108 × Row109 × Row110 × Row111 × Row112 × Row113 × Row114 × Row115 × Row116 × Row117 × Row118 × Row119 × Row120 × Row121 × Row122 × Row123 × Row124 × Row125 × Row126 × Row127 × Row128 × Row129 × Row130 × Row131 × Row132 × Row133 × Row134 × Row135 × Row136 × Row137 × Row138 × Row139 × Row140 × Row141 × Row142 × Row143 × Row144 × Row145 × Row146 × Row147 × Row148 × Row149 × Row150 × Row151 × Row152 × Row153 × Row154 × Row155 × Row156 × Row157 × Row158 × Row159 × Row160 × Row161 × Row162 × Row163 × Row164 × Row165 × Row166 × Row167 × Row168 × Row169 × Row170 × Row171 × Row172 × Row173 × Row174 × Row175 × Row176 × Row177 × Row178 × Row179 × Row180 × Row181 × Row182 × Row183 × Row184 × Row185 × Row186 × Row187 × Row188 × Row189 × Row190 × Row191 × Row192 × Row193 × Row194 × Row195 × Row196 × Row197 × Row198 × Row199 × Row200 × Row201 × Row202 × Row203 × Row204 × Row205 × Row206 × Row207 × Row208 × Row209
