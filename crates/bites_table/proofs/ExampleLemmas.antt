@@ -1,0 +1,178 @@
+-- The table of the example is one, a search by it ends as that of the Pike VM, and other transitions are refused.
+use Rattle.std.proofs.Common.{◌≡◌, ℕ, zero, suc, ◌+◌, Bool, true, false, cond, List, [], ◌∷◌, Option, Some, None, refl, sym, ap, subst, ⊎_elim, arith}
+use Rattle.std.specs.Prelude.{◌==◌}
+use Rattle.std.proofs.lemmas.Bool.{cases_Bool}
+use Rattle.std.proofs.lemmas.Option.{none-some}
+use Rattle.std.proofs.lemmas.Bool.Decides.{nat_tests}
+use Rattle.bites_spec.specs.Program.{state_at, takes}
+use Rattle.bites_spec.specs.Look.{before}
+use Rattle.bites_spec.specs.Utf8.{piece, front_piece}
+use Rattle.bites_spec.specs.Closure.{stepped, visited}
+use Rattle.bites_table.specs.Kinds.{other, AreClasses, AreAlike, kind_of, leads_by, asserts}
+use Rattle.bites_table.specs.Sources.{Thread, Source, unwritten}
+use Rattle.bites_table.specs.Transition.{Starts, everywhere, Transition, IsTransition}
+use Rattle.bites_table.specs.Table.{IsTable, TableSearch, list_at, with_list, search_after, table_step, is_over, RunsTo}
+use Rattle.bites_table.specs.Example.{program, class_of, member, classes, idle_list, letter_list, dead_list, over_letter, over_other, to_match, transition, table, ExampleIsTable, input, ExampleEnds, EndsAtLetter, TransitionsRefuse}
+use Rattle.bites_table.proofs.LeadLemmas.{alike_kinds, alike_plain, alike_itself}
+use Rattle.bites_table.proofs.TransitionLemmas.{is_one}
+use Rattle.bites_table.proofs.TableLemmas.{begins, runs, ends}
+
+no_looks : (q : ℕ) → asserts (state_at program.states q) ≡ false
+no_looks zero = refl
+no_looks (suc zero) = refl
+no_looks (suc (suc zero)) = refl
+no_looks (suc (suc (suc zero))) = refl
+no_looks (suc (suc (suc (suc q)))) = refl
+
+untaken : (c : ℕ) → (c == 97) ≡ false → (q : ℕ) → takes (state_at program.states q) 98 ≡ takes (state_at program.states q) c
+untaken c e zero = refl
+untaken c e (suc zero) = sym e
+untaken c e (suc (suc zero)) = refl
+untaken c e (suc (suc (suc zero))) = refl
+untaken c e (suc (suc (suc (suc q)))) = refl
+
+are_classes : AreClasses program classes
+are_classes None = alike_itself program None
+are_classes (Some c) =
+    ⊎_elim
+    (λ (e : (c == 97) ≡ true). let is : c ≡ 97 = grind (arith, nat_tests) in subst (λ n. AreAlike program (member (class_of (Some n))) (Some n)) (sym is) (alike_itself program (Some 97)))
+    (λ (e : (c == 97) ≡ false). subst (λ b. AreAlike program (member (cond b 0 1)) (Some c)) (sym e) (alike_plain program no_looks 98 c (untaken c e)))
+    (cases_Bool (c == 97))
+
+abbrev Right : ℕ → ℕ → Transition ℕ → Type 0
+Right n c t = IsTransition program (leads_by (list_at table n).kind (member c)) (list_at table n) (with_list table t)
+
+this : (n c : ℕ) (t u : Transition ℕ) → Some t ≡ Some u → Right n c t → Right n c u
+this n c t u e right = subst (Right n c) (let is : t ≡ u = cc in is) right
+
+are_right : (n c : ℕ) (t : Transition ℕ) → transition n c ≡ Some t → Right n c t
+unfolding stepped visited
+are_right zero zero t e = this 0 0 _ t e (record { last = _; walks = (2, refl); over = refl; next = refl; hit = refl; starts = refl; seen = refl; looks = refl })
+are_right zero (suc zero) t e = this 0 1 _ t e (record { last = _; walks = (2, refl); over = refl; next = refl; hit = refl; starts = refl; seen = refl; looks = refl })
+are_right zero (suc (suc c)) t e = this 0 (suc (suc c)) _ t e (record { last = _; walks = (2, refl); over = refl; next = refl; hit = refl; starts = refl; seen = refl; looks = refl })
+are_right (suc zero) c t e = this 1 c _ t e (record { last = _; walks = (2, refl); over = refl; next = refl; hit = refl; starts = refl; seen = refl; looks = refl })
+are_right (suc (suc zero)) c t e = absurd (none-some t e)
+are_right (suc (suc (suc zero))) zero t e = this 3 0 _ t e (record { last = _; walks = (2, refl); over = refl; next = refl; hit = refl; starts = refl; seen = refl; looks = refl })
+are_right (suc (suc (suc zero))) (suc zero) t e = this 3 1 _ t e (record { last = _; walks = (2, refl); over = refl; next = refl; hit = refl; starts = refl; seen = refl; looks = refl })
+are_right (suc (suc (suc zero))) (suc (suc c)) t e = this 3 (suc (suc c)) _ t e (record { last = _; walks = (2, refl); over = refl; next = refl; hit = refl; starts = refl; seen = refl; looks = refl })
+are_right (suc (suc (suc (suc zero)))) c t e = this 4 c _ t e (record { last = _; walks = (2, refl); over = refl; next = refl; hit = refl; starts = refl; seen = refl; looks = refl })
+are_right (suc (suc (suc (suc (suc n))))) c t e = absurd (none-some t e)
+
+is_table : IsTable program classes table
+is_table = record { transition = are_right; kind = λ n c t e d f. alike_kinds program no_looks (list_at table t.next).kind (kind_of (Some d)) }
+
+pub example_is_table : ExampleIsTable
+example_is_table = (are_classes, is_table)
+
+-- where a search begins at a thread list, and goes on
+abbrev first : ℕ → ℕ → TableSearch
+first place list = record { place = place; list = list; registers = λ r. []; best = None; visits = []; looks = 0 }
+
+-- from 0 on: over the x, over the letter, to the match
+abbrev after_x : TableSearch
+after_x = search_after (input 0 false) (over_other 0) (first 0 0)
+
+abbrev after_letter : TableSearch
+after_letter = search_after (input 0 false) (over_letter 1) after_x
+
+abbrev last : TableSearch
+last = search_after (input 0 false) (to_match 2) after_letter
+
+run : RunsTo classes table (input 0 false) (first 0 0) 2 after_letter
+unfolding piece front_piece
+run = (after_x, (first 0 0, refl, refl, refl), refl, refl)
+
+step : table_step classes table (input 0 false) after_letter ≡ Some last
+unfolding piece front_piece
+step = refl
+
+over : is_over classes table (input 0 false) after_letter.place last ≡ true
+unfolding piece front_piece
+over = refl
+
+slots : last.best ≡ Some (record { state = 3; start = 0; slots = Some 1 ∷ Some 2 ∷ [] })
+unfolding piece front_piece
+slots = refl
+
+ends_at_letter : EndsAtLetter 0 false
+ends_at_letter =
+    let begun = begins program table (input 0 false) (first 0 0) refl (omega arith) refl refl refl refl refl (alike_kinds program no_looks other (kind_of (before (input 0 false).hay 0))) in
+    let reached = runs program classes are_classes table is_table (input 0 false) 0 2 (first 0 0) after_letter begun run in
+    (last, ends program classes are_classes table is_table (input 0 false) (0 + 2) after_letter last reached step over, slots)
+
+-- at 1 alone: over the letter, to the match
+abbrev after_letter_there : TableSearch
+after_letter_there = search_after (input 1 true) (over_letter 4) (first 1 3)
+
+abbrev last_there : TableSearch
+last_there = search_after (input 1 true) (to_match 2) after_letter_there
+
+run_there : RunsTo classes table (input 1 true) (first 1 3) 1 after_letter_there
+unfolding piece front_piece
+run_there = (first 1 3, refl, refl, refl)
+
+step_there : table_step classes table (input 1 true) after_letter_there ≡ Some last_there
+unfolding piece front_piece
+step_there = refl
+
+over_there : is_over classes table (input 1 true) after_letter_there.place last_there ≡ true
+unfolding piece front_piece
+over_there = refl
+
+slots_there : last_there.best ≡ Some (record { state = 3; start = 0; slots = Some 1 ∷ Some 2 ∷ [] })
+unfolding piece front_piece
+slots_there = refl
+
+ends_at_letter_there : EndsAtLetter 1 true
+ends_at_letter_there =
+    let begun = begins program table (input 1 true) (first 1 3) refl (omega arith) refl refl refl refl refl (alike_kinds program no_looks other (kind_of (before (input 1 true).hay 1))) in
+    let reached = runs program classes are_classes table is_table (input 1 true) 0 1 (first 1 3) after_letter_there begun run_there in
+    (last_there, ends program classes are_classes table is_table (input 1 true) (0 + 1) after_letter_there last_there reached step_there over_there, slots_there)
+
+pub example_ends : ExampleEnds
+example_ends = (ends_at_letter, ends_at_letter_there)
+
+-- the transitions of the first two thread lists
+good_letter : IsTransition program (leads_by other (Some 97)) idle_list (over_letter letter_list)
+unfolding stepped visited
+good_letter = record { last = _; walks = (2, refl); over = refl; next = refl; hit = refl; starts = refl; seen = refl; looks = refl }
+
+good_other : IsTransition program (leads_by other (Some 98)) idle_list (over_other idle_list)
+unfolding stepped visited
+good_other = record { last = _; walks = (2, refl); over = refl; next = refl; hit = refl; starts = refl; seen = refl; looks = refl }
+
+good_match : IsTransition program (leads_by other (Some 97)) letter_list (to_match dead_list)
+unfolding stepped visited
+good_match = record { last = _; walks = (2, refl); over = refl; next = refl; hit = refl; starts = refl; seen = refl; looks = refl }
+
+-- what differs
+abbrev first_or : {X : Type 0} → X → List X → X
+first_or d [] = d
+first_or d (x ∷ xs) = x
+
+abbrev writes_1 : Option (Thread Source) → Bool
+writes_1 None = false
+writes_1 (Some t) = t.row.writes 1
+
+abbrev is_everywhere : Starts → Bool
+is_everywhere everywhere = true
+is_everywhere _ = false
+
+abbrev is_none : List ℕ → Bool
+is_none [] = true
+is_none (q ∷ qs) = false
+
+no : true ≡ false → ⊥
+no e = absurd (let f : true ≡ false = e in cc)
+
+pub transitions_refuse : TransitionsRefuse
+transitions_refuse = (
+  λ is. no (ap (λ l. (first_or unwritten l).writes 0) (is_one program (leads_by other (Some 97)) idle_list _ _ good_letter is).5),
+  λ is. absurd (let e : 2 ≡ 3 = ap (first_or 0) (is_one program (leads_by other (Some 97)) idle_list _ _ good_letter is).4 in omega (arith, e)),
+  λ is. no (ap is_none (is_one program (leads_by other (Some 98)) idle_list _ _ good_other is).4),
+  λ is. no (ap writes_1 (is_one program (leads_by other (Some 97)) letter_list _ _ good_match is).2),
+  λ is. no (ap is_everywhere (sym (is_one program (leads_by other (Some 97)) letter_list _ _ good_match is).3)),
+  λ is. no (ap writes_1 (is_one program (leads_by other (Some 97)) letter_list _ _ good_match is).2),
+  λ is. absurd (let e : 1 ≡ 0 = ap (first_or 9) (is_one program (leads_by other (Some 97)) idle_list _ _ good_letter is).0 in omega (arith, e)),
+  λ is. absurd (let e : 2 ≡ 1 = (is_one program (leads_by other (Some 97)) idle_list _ _ good_letter is).1 in omega (arith, e)),
+)

@@ -1,0 +1,220 @@
+-- A search by a table stays in step with that of the Pike VM.
+use Rattle.std.proofs.Common.{◌≡◌, ℕ, zero, suc, ◌+◌, ◌<◌, ◌≤◌, Bool, true, false, cond, List, [], ◌∷◌, ◌++◌, map, length, Option, Some, None, option_map, refl, sym, ap, ap₂, ◌∙◌, subst, inl, inr, arith}
+use Rattle.std.specs.Prelude.{is_some, ◌||◌, ◌&&◌, not, ◌==◌, nat_lt}
+use Rattle.std.specs.Option.{option_or}
+use Rattle.std.proofs.lemmas.Option.{none-some}
+use Rattle.std.proofs.lemmas.Bool.Decides.{nat_tests}
+use Rattle.bites_spec.specs.Walks.{Among}
+use Rattle.bites_spec.specs.Look.{before}
+use Rattle.bites_spec.specs.Utf8.{piece, character}
+use Rattle.bites_spec.specs.Program.{State, Program, at, state_at}
+use Rattle.bites_spec.specs.PikeVm as vm
+use Rattle.bites_spec.specs.PikeVm.{Searching, Searches, SearchedTo, at_start}
+use Rattle.bites_spec.proofs.utf8.PieceLemmas.{piece_within}
+use Rattle.bites_machine.specs.Ends.{next_character}
+use Rattle.bites_table.specs.Kinds.{kind_of, leads_by, leads_at, AreAlikeKinds, Classes, AreClasses, AreAlike}
+use Rattle.bites_table.specs.Sources.{Thread, row_of_register, row_at, thread_of}
+use Rattle.bites_table.specs.Transition.{is_walked, ThreadList, Transition, IsTransition, source_at}
+use Rattle.bites_table.specs.Table.{Table, IsTable, list_at, with_list, TableSearch, Input, search_after, transition_at, table_step, is_empty, is_over, RunsTo, starts_of, IsInStep, HasKind, Reached, Ended}
+use Rattle.bites_table.specs.Laws.{passed}
+use Rattle.bites_table.proofs.TransitionLemmas.{searched_by, searches, starts_on, none_written, walked_is}
+use Rattle.bites_table.proofs.LeadLemmas.{leads_is}
+use Rattle.bites_table.proofs.PieceKinds.{kind_before}
+
+-- a search in step begins where the table's does
+pub begins : (p : Program) (tab : Table) (x : Input) (a : TableSearch) → a.place ≡ x.start → x.start ≤ length x.hay →
+    (list_at tab a.list).threads ≡ [] → (list_at tab a.list).starts ≡ starts_of x.anchored true →
+    a.best ≡ None → a.visits ≡ [] → a.looks ≡ 0 → HasKind p tab x a → Reached p tab x 0 a
+begins p tab x a place within threads starts best visits looks kind = record {
+  search = at_start x.start;
+  searched = refl;
+  in_step = record {
+    place = sym place;
+    within = subst (λ i. i ≤ length x.hay) (sym place) within;
+    threads = ap (map (thread_of a.registers)) (sym threads);
+    starts = sym starts;
+    best = sym best;
+    visits = sym visits;
+    looks = sym looks;
+  };
+  kind = kind;
+}
+
+pub comes_back : (p : Program) (tab : Table) (x : Input) (n : ℕ) (s : Searching) (a : TableSearch) →
+    SearchedTo x.hay false p x.width x.anchored x.earliest x.start n s → s.threads ≡ [] →
+    s.place ≡ a.place → a.place ≤ length x.hay → (list_at tab a.list).threads ≡ [] → starts_of x.anchored s.starts ≡ (list_at tab a.list).starts →
+    s.best ≡ a.best → s.visits ≡ a.visits → s.looks ≡ a.looks → HasKind p tab x a → Reached p tab x n a
+comes_back p tab x n s a searched none place within threads starts best visits looks kind = record {
+  search = s;
+  searched = searched;
+  in_step = record {
+    place = place;
+    within = within;
+    threads = none ∙ ap (map (thread_of a.registers)) (sym threads);
+    starts = starts;
+    best = best;
+    visits = visits;
+    looks = looks;
+  };
+  kind = kind;
+}
+
+module _ (p : Program) (k : Classes) (classes : AreClasses p k) (tab : Table) (right : IsTable p k tab) (x : Input) where
+  -- one place more
+  pub record OnePlace (s : Searching) (b : TableSearch) : Type 0 where
+    pub after : Searching
+    pub searches : Searches x.hay false p x.width x.anchored s after
+    pub in_step : IsInStep tab x after b
+
+  by_transition : (s : Searching) (a : TableSearch) → IsInStep tab x s a → HasKind p tab x a → (t : Transition ℕ) → transition_at k tab x a ≡ Some t →
+      OnePlace s (search_after x t a)
+  by_transition s a step kind t known = record {
+    after = searched_by p here l u is x.hay x.width x.anchored s a.registers alike step.threads step.starts;
+    searches = searches p here l u is x.hay x.width x.anchored s a.registers alike step.threads step.starts;
+    in_step = record {
+      place = ap (λ i. i + (piece x.hay i).len) step.place;
+      within = piece_within x.hay a.place step.within;
+      threads = ap (λ i. map (thread_of (λ r. row_at x.width i a.registers (source_at t.moves r))) u.next.threads) step.place;
+      starts = starts_on p here l u is x.hay x.width x.anchored s a.registers alike step.threads step.starts;
+      best = ap₂ (λ i o. option_or (option_map (thread_of (row_at x.width i a.registers)) t.hit) o) step.place step.best;
+      visits = ap₂ (λ i vs. map (λ q. at q i) t.seen ++ vs) step.place step.visits;
+      looks = ap (λ n. t.looks + n) step.looks;
+    };
+  }
+    where
+      l : ThreadList
+      l = list_at tab a.list
+
+      u : Transition ThreadList
+      u = with_list tab t
+
+      here : State → List ℕ
+      here = leads_by (list_at tab a.list).kind (k.member (k.class_of (next_character x.hay a.place)))
+
+      is : IsTransition p here l u
+      is = right.transition a.list (k.class_of (next_character x.hay a.place)) t known
+
+      alike : (q : ℕ) → here (state_at p.states q) ≡ leads_at x.hay s.place (state_at p.states q)
+      alike q =
+          kind (k.member (k.class_of (next_character x.hay a.place))) q
+          ∙ (classes (next_character x.hay a.place)).leads (kind_of (before x.hay a.place)) q
+          ∙ leads_is x.hay a.place step.within (state_at p.states q)
+          ∙ ap (λ i. leads_at x.hay i (state_at p.states q)) (sym step.place)
+
+  -- the table knows the transition
+  known : (a b : TableSearch) (o : Option (Transition ℕ)) → transition_at k tab x a ≡ o → option_map (λ t. search_after x t a) o ≡ Some b →
+      (t : Transition ℕ) × (transition_at k tab x a ≡ Some t) × (search_after x t a ≡ b)
+  known a b None is e = absurd (none-some b e)
+  known a b (Some t) is e = (t, is, cc)
+
+  pub one_place : (s : Searching) (a b : TableSearch) → IsInStep tab x s a → HasKind p tab x a → table_step k tab x a ≡ Some b → OnePlace s b
+  one_place s a b step kind e =
+      let t = known a b (transition_at k tab x a) refl e in
+      subst (λ c. OnePlace s c) t.2 (by_transition s a step kind t.0 t.1)
+
+  -- the thread list after a character is one for it
+  member_is : (o u : Option ℕ) → AreAlike p o u → (c : ℕ) → u ≡ Some c → (d : ℕ) × (o ≡ Some d) × AreAlikeKinds p (kind_of (Some d)) (kind_of u)
+  member_is (Some d) u alike c e = (d, refl, alike.kinds)
+  member_is None u alike c e = absurd (let no : false ≡ true = alike.some ∙ ap is_some e in cc)
+
+  some_character : (i : ℕ) → 0 < (piece x.hay i).len → next_character x.hay i ≡ Some (character (piece x.hay i))
+  some_character i lt = ap (λ b. cond b (Some (character (piece x.hay i))) None) (positive (piece x.hay i).len lt)
+    where
+      positive : (n : ℕ) → 0 < n → nat_lt 0 n ≡ true
+      positive n lt = grind (arith, nat_tests)
+
+  kind_on : (a b : TableSearch) → a.place ≤ length x.hay → 0 < (piece x.hay a.place).len → table_step k tab x a ≡ Some b → HasKind p tab x b
+  kind_on a b within some e =
+      let t = known a b (transition_at k tab x a) refl e in
+      let c = character (piece x.hay a.place) in
+      let d = member_is (k.member (k.class_of (next_character x.hay a.place))) (next_character x.hay a.place) (classes (next_character x.hay a.place)) c (some_character a.place some) in
+      subst (HasKind p tab x) t.2
+      (λ o q. right.kind a.list (k.class_of (next_character x.hay a.place)) t.0 t.1 d.0 d.1 o q ∙ d.2 o q
+      ∙ ap (λ l. leads_by l o (state_at p.states q)) (sym (kind_before x.hay a.place within some)))
+
+  rows_alike : (f g : ℕ → List (Option ℕ)) (ts : List (Thread ℕ)) → ((t : Thread ℕ) → Among ts t → f t.row ≡ g t.row) → map (thread_of f) ts ≡ map (thread_of g) ts
+  rows_alike f g [] same = refl
+  rows_alike f g (t ∷ ts) same =
+      ap₂ ◌∷◌ (ap (λ (r : List (Option ℕ)). record { state = t.state; start = 0; slots = r }) (same t (inl refl))) (rows_alike f g ts (λ u h. same u (inr h)))
+
+  best_is : (t : Transition ℕ) (a : TableSearch) → t.hit ≡ None → (search_after x t a).best ≡ a.best
+  best_is t a none = ap (λ o. option_or (option_map (thread_of (row_at x.width a.place a.registers)) o) a.best) none
+
+  over_alike : (i : ℕ) (a b : TableSearch) → a.list ≡ b.list → a.best ≡ b.best → is_over k tab x i a ≡ is_over k tab x i b
+  over_alike i a b list best =
+      ap₂ (λ o n. ((piece x.hay i).len == 0) || ((x.earliest && is_some o) || (not (is_walked (list_at tab n).starts) && is_empty (list_at tab n).threads))) best list
+
+  some_len : (n : ℕ) (b : Bool) → ((n == 0) || b) ≡ false → 0 < n
+  some_len zero b e = absurd (let no : true ≡ false = e in cc)
+  some_len (suc n) b e = omega arith
+
+  bare : (registers : ℕ → List (Option ℕ)) (ts : List (Thread ℕ)) → vm.is_empty (map (thread_of registers) ts) ≡ is_empty ts
+  bare registers [] = refl
+  bare registers (t ∷ ts) = refl
+
+  -- the search of the Pike VM is over where that by the table is
+  over_is : (s t : Searching) (a b : TableSearch) → s.place ≡ a.place → IsInStep tab x t b →
+      vm.is_over x.hay false p x.width x.anchored x.earliest s.place t ≡ is_over k tab x a.place b
+  over_is s t a b place step =
+      ap₂ (λ i o. ((piece x.hay i).len == 0) || ((x.earliest && is_some o) || (not t.starts && vm.is_empty t.threads))) place step.best
+      ∙ ap₂ (λ o c. ((piece x.hay a.place).len == 0) || ((x.earliest && is_some b.best) || (not o && c)))
+      (sym (walked_is x.anchored t.starts) ∙ ap is_walked step.starts)
+      (ap vm.is_empty step.threads ∙ bare b.registers (list_at tab b.list).threads)
+
+  -- it goes on by the table
+  goes_on : (n : ℕ) (a b : TableSearch) → Reached p tab x n a → table_step k tab x a ≡ Some b → is_over k tab x a.place b ≡ false → Reached p tab x (suc n) b
+  goes_on n a b reached e goes =
+      let on = one_place reached.search a b reached.in_step reached.kind e in record {
+        search = on.after;
+        searched = (reached.search, reached.searched, on.searches, over_is reached.search on.after a b reached.in_step.place on.in_step ∙ goes);
+        in_step = on.in_step;
+        kind = kind_on a b reached.in_step.within (some_len (piece x.hay a.place).len _ goes) e;
+      }
+
+  pub runs : (n m : ℕ) (a b : TableSearch) → Reached p tab x n a → RunsTo k tab x a m b → Reached p tab x (n + m) b
+  runs n zero a b reached e = subst (Reached p tab x (n + 0)) e (subst (λ j. Reached p tab x j a) (zero_more n) reached)
+    where
+      zero_more : (n : ℕ) → n ≡ n + 0
+      zero_more n = omega arith
+  runs n (suc m) a c reached (b, run, e, goes) =
+      subst (λ j. Reached p tab x j c) (one_more n m) (goes_on (n + m) b c (runs n m a b reached run) e goes)
+    where
+      one_more : (n m : ℕ) → suc (n + m) ≡ n + suc m
+      one_more n m = omega arith
+
+  pub passes : (n : ℕ) (a : TableSearch) (t : Transition ℕ) → Reached p tab x n a → transition_at k tab x a ≡ Some t → t.hit ≡ None →
+      ((u : Thread ℕ) → Among (list_at tab t.next).threads u → source_at t.moves u.row ≡ row_of_register u.row) →
+      is_over k tab x a.place (passed x t a) ≡ false → Reached p tab x (suc n) (passed x t a)
+  passes n a t reached known none same goes =
+      let on = goes_on n a (search_after x t a) reached (ap (option_map (λ c. search_after x c a)) known)
+      (over_alike a.place (search_after x t a) (passed x t a) refl (best_is t a none) ∙ goes) in record {
+        search = on.search;
+        searched = on.searched;
+        in_step = record {
+          place = on.in_step.place;
+          within = on.in_step.within;
+          threads = on.in_step.threads ∙ rows_alike (search_after x t a).registers a.registers (list_at tab t.next).threads
+              (λ u h. ap (row_at x.width a.place a.registers) (same u h) ∙ none_written a.place 0 (a.registers u.row));
+          starts = on.in_step.starts;
+          best = on.in_step.best ∙ best_is t a none;
+          visits = on.in_step.visits;
+          looks = on.in_step.looks;
+        };
+        kind = on.kind;
+      }
+
+  pub ends : (n : ℕ) (a b : TableSearch) → Reached p tab x n a → table_step k tab x a ≡ Some b → is_over k tab x a.place b ≡ true → Ended p x b
+  ends n a b reached e over =
+      let on = one_place reached.search a b reached.in_step reached.kind e in record {
+        search = on.after;
+        searched = record {
+          places = n;
+          before = reached.search;
+          searched = reached.searched;
+          last = on.searches;
+          over = over_is reached.search on.after a b reached.in_step.place on.in_step ∙ over;
+        };
+        best = on.in_step.best;
+        visits = on.in_step.visits;
+        looks = on.in_step.looks;
+      }

@@ -1,0 +1,213 @@
+-- A transition searches a place for the Pike VM, for all rows of its registers; and a thread list has one transition.
+use Rattle.std.proofs.Common.{◌≡◌, ℕ, zero, suc, ◌+◌, ◌<◌, ◌≤◌, Bool, true, false, cond, ◌||◌, List, [], ◌∷◌, ◌++◌, map, Option, Some, None, option_map, refl, sym, ap, ap₂, ◌∙◌, subst, arith}
+use Rattle.std.specs.Prelude.{◌&&◌, not, is_some, ◌==◌, slice_set, replicate}
+use Rattle.std.specs.Option.{option_or, option_map_or}
+use Rattle.std.proofs.lemmas.Bool.Decides.{nat_tests}
+use Rattle.bites_spec.specs.Utf8.{piece}
+use Rattle.bites_spec.specs.Program.{State, Program, Configuration, at, state_at, edges, char, ranges, splits, goto, capture, fail, match}
+use Rattle.bites_spec.specs.Closure.{Walking, WalksTo}
+use Rattle.bites_spec.specs.PikeVm as vm
+use Rattle.bites_spec.specs.PikeVm.{Searching, Searches, started, thread_on, with_write, moved, threads_at}
+use Rattle.bites_table.specs.Kinds.{leads_at}
+use Rattle.bites_table.specs.Sources.{Thread, thread_with, on_row, Source, unwritten, row_of_register, write, written_by, kept, threads_by, slots_from, row_at, thread_of}
+use Rattle.bites_table.specs.Transition.{is_walked, starts_after, ThreadList, Transition, source_at, begun, IsTransition}
+use Rattle.bites_table.specs.Table.{starts_of}
+use Rattle.bites_table.specs.Laws.{IsThreadMap, mapped}
+use Rattle.bites_table.proofs.WalkLemmas.{walks_on, later, walks_later, one_end}
+
+-- slots of sets that agree from a slot on
+slots_alike : (i : ℕ) (s t : ℕ → Bool) (a : ℕ) (xs : List (Option ℕ)) → ((k : ℕ) → a ≤ k → s k ≡ t k) → slots_from i s a xs ≡ slots_from i t a xs
+slots_alike i s t a [] same = refl
+slots_alike i s t a (x ∷ xs) same =
+    ap₂ (λ b l. cond b (Some i) x ∷ l) (same a (omega arith)) (slots_alike i s t (suc a) xs (λ k le. same k (omega arith)))
+
+-- nothing is written
+pub none_written : (i a : ℕ) (xs : List (Option ℕ)) → slots_from i (λ k. false) a xs ≡ xs
+none_written i a [] = refl
+none_written i a (x ∷ xs) = ap (λ l. x ∷ l) (none_written i (suc a) xs)
+
+one_written : (i : ℕ) (s : ℕ → Bool) (a : ℕ) (xs : List (Option ℕ)) (k slot : ℕ) → a + k ≡ slot →
+    slots_from i (λ j. (j == slot) || s j) a xs ≡ slice_set (slots_from i s a xs) k (Some i)
+one_written i s a [] k slot e = refl
+one_written i s a (x ∷ xs) zero slot e =
+    ap₂ (λ b l. cond (b || s a) (Some i) x ∷ l) (is_same a slot (omega arith))
+    (slots_alike i (λ j. (j == slot) || s j) s (suc a) xs (λ k le. ap (λ b. b || s k) (is_other k slot (omega arith))))
+  where
+    is_same : (a slot : ℕ) → a ≡ slot → (a == slot) ≡ true
+    is_same a slot e = grind (arith, nat_tests)
+
+    is_other : (k slot : ℕ) → slot < k → (k == slot) ≡ false
+    is_other k slot lt = grind (arith, nat_tests)
+one_written i s a (x ∷ xs) (suc k) slot e =
+    ap₂ (λ b l. cond (b || s a) (Some i) x ∷ l) (is_before a slot (omega arith)) (one_written i s (suc a) xs k slot (omega arith))
+  where
+    is_before : (a slot : ℕ) → a < slot → (a == slot) ≡ false
+    is_before a slot lt = grind (arith, nat_tests)
+
+-- threads with sources stand for threads of the Pike VM, where states lead alike
+module _ (hay : List ℕ) (p : Program) (width i : ℕ) (registers : ℕ → List (Option ℕ)) (leads : State → List ℕ)
+    (alike : (q : ℕ) → leads (state_at p.states q) ≡ leads_at hay i (state_at p.states q)) where
+  abbrev row : Source → List (Option ℕ)
+  row = row_at width i registers
+
+  write_is : (slot : ℕ) (s : Source) → row (write slot s) ≡ slice_set (row s) slot (Some i)
+  write_is slot s = one_written i s.writes 0 (option_map_or registers s.register (replicate width None)) slot slot (from_zero slot)
+    where
+      from_zero : (k : ℕ) → 0 + k ≡ k
+      from_zero k = omega arith
+
+  written_is : (st : State) (s : Source) → row (written_by st s) ≡ with_write st i (row s)
+  written_is (capture q slot) s = write_is slot s
+  written_is (char q c) s = refl
+  written_is (ranges q rs) s = refl
+  written_is (splits qs b) s = refl
+  written_is (goto q look) s = refl
+  written_is fail s = refl
+  written_is match s = refl
+
+  all_of : (s : Source) (slots : List (Option ℕ)) → row s ≡ slots → (cs : List Configuration) →
+      map (thread_on 0 slots) cs ≡ map (thread_of row) (map (thread_with s) (map (λ c. c.state) cs))
+  all_of s slots e [] = refl
+  all_of s slots e (c ∷ cs) = ap₂ ◌∷◌ (ap (λ l. thread_on 0 l c) (sym e)) (all_of s slots e cs)
+
+  moved_is : (st : State) → leads st ≡ leads_at hay i st → (t : Thread Source) →
+      moved hay false i st (thread_of row t) ≡ map (thread_of row) ((threads_by leads).moved st t)
+  moved_is st same t =
+      all_of (written_by st t.row) (with_write st i (row t.row)) (written_is st t.row) (edges hay st i)
+      ∙ ap (λ l. map (thread_of row) (map (thread_with (written_by st t.row)) l)) (sym same)
+
+  pub stand_for : IsThreadMap p (threads_by leads) (threads_at hay false i) (thread_of row)
+  stand_for = record {
+    state = λ t. refl;
+    moved = λ q t. moved_is (state_at p.states q) (alike q) t;
+    kept = kept_is;
+  }
+    where
+      kept_is : (o : Option (Thread Source)) (ts : List (Thread Source)) →
+          (threads_at hay false i).kept (option_map (thread_of row) o) (map (thread_of row) ts) ≡ map (thread_of row) (kept o ts)
+      kept_is None ts = refl
+      kept_is (Some t) ts = refl
+
+-- rows of rows
+rows_of : (f : Source → List (Option ℕ)) (g : ℕ → Source) (ts : List (Thread ℕ)) → map (thread_of f) (map (on_row g) ts) ≡ map (thread_of (λ r. f (g r))) ts
+rows_of f g [] = refl
+rows_of f g (t ∷ ts) = ap (λ l. thread_of (λ r. f (g r)) t ∷ l) (rows_of f g ts)
+
+-- where the start is walked, for both kinds of search
+pub walked_is : (anchored starts : Bool) → is_walked (starts_of anchored starts) ≡ starts
+walked_is true true = refl
+walked_is true false = refl
+walked_is false true = refl
+walked_is false false = refl
+
+after_is : (anchored found starts : Bool) → starts_of anchored (starts && not (anchored || found)) ≡ starts_after found (starts_of anchored starts)
+after_is true true true = refl
+after_is true true false = refl
+after_is true false true = refl
+after_is true false false = refl
+after_is false true true = refl
+after_is false true false = refl
+after_is false false true = refl
+after_is false false false = refl
+
+module _ (p : Program) (leads : State → List ℕ) (l : ThreadList) (t : Transition ThreadList) (is : IsTransition p leads l t)
+    (hay : List ℕ) (width : ℕ) (anchored : Bool) (s : Searching) (registers : ℕ → List (Option ℕ))
+    (alike : (q : ℕ) → leads (state_at p.states q) ≡ leads_at hay s.place (state_at p.states q))
+    (threads : s.threads ≡ map (thread_of registers) l.threads) (starts : starts_of anchored s.starts ≡ l.starts) where
+  abbrev here_row : Source → List (Option ℕ)
+  here_row = row_at width s.place registers
+
+  abbrev search_of : List ℕ → ℕ → List vm.Thread → Bool → Option (Thread Source) → Searching
+  search_of seen looks threads starts hit = record {
+    place = s.place + (piece hay s.place).len;
+    threads = threads;
+    starts = starts;
+    best = option_or (option_map (thread_of here_row) hit) s.best;
+    visits = map (λ q. at q s.place) seen ++ s.visits;
+    looks = looks + s.looks;
+  }
+
+  -- the search after the place
+  abbrev pub searched_by : Searching
+  searched_by =
+      search_of t.seen t.looks (map (thread_of (λ r. here_row (source_at t.moves r))) t.next.threads) (s.starts && not (anchored || is_some t.hit)) t.hit
+
+  -- which walks the start where the transition says
+  pub starts_on : starts_of anchored searched_by.starts ≡ t.next.starts
+  starts_on = after_is anchored (is_some t.hit) s.starts ∙ ap (starts_after (is_some t.hit)) starts ∙ sym is.starts
+
+  abbrev start : vm.Thread
+  start = started hay false p width s.place
+
+  abbrev left : Walking vm.Thread
+  left = mapped (thread_of here_row) is.last
+
+  -- the threads and the start
+  stack_on : (b : Bool) (ts : List (Thread ℕ)) →
+      map (thread_of here_row) (map (on_row row_of_register) ts ++ cond b (thread_with unwritten p.start ∷ []) []) ≡ map (thread_of registers) ts ++ cond b (start ∷ []) []
+  stack_on true [] = ap (λ (r : List (Option ℕ)). record { state = p.start; start = 0; slots = r } ∷ []) (none_written s.place 0 (replicate width None))
+  stack_on false [] = refl
+  stack_on b (t ∷ ts) = ap₂ ◌∷◌ (ap (λ (r : List (Option ℕ)). record { state = t.state; start = 0; slots = r }) (none_written s.place 0 (registers t.row))) (stack_on b ts)
+
+  abbrev from : List vm.Thread → ℕ → Walking vm.Thread
+  from stack looks = record { stack = stack; seen = []; next = []; first_match = None; looks = looks }
+
+  begun_is : later p (threads_at hay false s.place) s.looks (mapped (thread_of here_row) (begun p l)) ≡ vm.begun hay false p width s
+  begun_is =
+      ap (λ x. from x (0 + s.looks)) (stack_on (is_walked l.starts) l.threads)
+      ∙ ap₂ (λ x b. from (x ++ cond b (start ∷ []) []) (0 + s.looks)) (sym threads) (ap is_walked (sym starts) ∙ walked_is anchored s.starts)
+      ∙ ap (from (s.threads ++ cond s.starts (start ∷ []) [])) (from_zero s.looks)
+    where
+      from_zero : (n : ℕ) → 0 + n ≡ n
+      from_zero n = omega arith
+
+  some_on : (o : Option (Thread Source)) → is_some (option_map (thread_of here_row) o) ≡ is_some o
+  some_on None = refl
+  some_on (Some t) = refl
+
+  -- one place of the Pike VM
+  pub searches : Searches hay false p width anchored s searched_by
+  searches = record {
+    last = later p (threads_at hay false s.place) s.looks left;
+    walks = subst (λ w. WalksTo (threads_at hay false s.place) p w (later p (threads_at hay false s.place) s.looks left)) begun_is
+        (walks_later p (threads_at hay false s.place) s.looks (mapped (thread_of here_row) (begun p l)) left
+        (walks_on p (threads_by leads) (threads_at hay false s.place) (thread_of here_row) (stand_for hay p width s.place registers leads alike)
+        (begun p l) is.last is.walks));
+    over = ap (map (thread_of here_row)) is.over;
+    is = ap₂ (λ x b. search_of is.last.seen is.last.looks x (s.starts && not (anchored || b)) is.last.first_match)
+        (ap (map (thread_of here_row)) is.next ∙ rows_of here_row (source_at t.moves) t.next.threads)
+        (some_on is.last.first_match)
+        ∙ ap (λ o. search_of is.last.seen is.last.looks (map (thread_of (λ r. here_row (source_at t.moves r))) t.next.threads) (s.starts && not (anchored || is_some o)) o) is.hit
+        ∙ ap₂ (λ x n. search_of x n (map (thread_of (λ r. here_row (source_at t.moves r))) t.next.threads) (s.starts && not (anchored || is_some t.hit)) t.hit) is.seen is.looks;
+  }
+
+-- what a walk leaves is known of each of its transitions
+states_of : (m : List Source) (ts : List (Thread ℕ)) → map (λ (a : Thread Source). a.state) (map (on_row (source_at m)) ts) ≡ map (λ (a : Thread ℕ). a.state) ts
+states_of m [] = refl
+states_of m (t ∷ ts) = ap (λ l. t.state ∷ l) (states_of m ts)
+
+sources_of : (m : List Source) (ts : List (Thread ℕ)) → map (λ (a : Thread Source). a.row) (map (on_row (source_at m)) ts) ≡ map (λ (a : Thread ℕ). source_at m a.row) ts
+sources_of m [] = refl
+sources_of m (t ∷ ts) = ap (λ l. source_at m t.row ∷ l) (sources_of m ts)
+
+module _ (p : Program) (leads : State → List ℕ) (l : ThreadList) (t u : Transition ThreadList) (one : IsTransition p leads l t) (other : IsTransition p leads l u) where
+  pub same_walk : one.last ≡ other.last
+  same_walk = one_end p (threads_by leads) (begun p l) one.last other.last one.walks one.over other.walks other.over
+
+  same_hit : t.hit ≡ u.hit
+  same_hit = sym one.hit ∙ ap (λ (w : Walking (Thread Source)). w.first_match) same_walk ∙ other.hit
+
+  same_next : map (on_row (source_at t.moves)) t.next.threads ≡ map (on_row (source_at u.moves)) u.next.threads
+  same_next = sym one.next ∙ ap (λ (w : Walking (Thread Source)). w.next) same_walk ∙ other.next
+
+  pub is_one : (t.seen ≡ u.seen) × (t.looks ≡ u.looks) × (t.hit ≡ u.hit) × (t.next.starts ≡ u.next.starts)
+      × (map (λ (a : Thread ℕ). a.state) t.next.threads ≡ map (λ (a : Thread ℕ). a.state) u.next.threads)
+      × (map (λ (a : Thread ℕ). source_at t.moves a.row) t.next.threads ≡ map (λ (a : Thread ℕ). source_at u.moves a.row) u.next.threads)
+  is_one = (
+    sym one.seen ∙ ap (λ (w : Walking (Thread Source)). w.seen) same_walk ∙ other.seen,
+    sym one.looks ∙ ap (λ (w : Walking (Thread Source)). w.looks) same_walk ∙ other.looks,
+    same_hit,
+    one.starts ∙ ap (λ o. starts_after (is_some o) l.starts) same_hit ∙ sym other.starts,
+    sym (states_of t.moves t.next.threads) ∙ ap (map (λ (a : Thread Source). a.state)) same_next ∙ states_of u.moves u.next.threads,
+    sym (sources_of t.moves t.next.threads) ∙ ap (map (λ (a : Thread Source). a.row)) same_next ∙ sources_of u.moves u.next.threads,
+  )

@@ -1,0 +1,87 @@
+-- What a walk sees of a place: the kind of the byte before it, and the character after it.
+use Rattle.std.specs.Prelude.{◌≡◌, ℕ, Bool, true, false, not, ◌||◌, ◌&&◌, List, [], ◌∷◌, map, Option, Some, None, is_some, if◌then◌else◌, ◌==◌}
+use Rattle.bites_spec.specs.Look.{Look, start, end, start_lf, end_lf, start_crlf, end_crlf, word, word_negate, word_start, word_end, word_start_half, word_end_half, is_word_byte}
+use Rattle.bites_spec.specs.Program.{State, Program, state_at, targets_of, edges, char, ranges, splits, goto, capture, fail, match}
+use Rattle.bites_machine.specs.Ends.{targets_over}
+
+-- the kinds of bytes that assertions tell apart; the edge is an end of the haystack, where there is no byte
+pub data Kind : Type 0 where
+  edge line_feed carriage_return word_byte other : Kind
+
+abbrev pub kind_of_byte : ℕ → Kind
+kind_of_byte b = if b == 10 then line_feed else if b == 13 then carriage_return else if is_word_byte b then word_byte else other
+
+-- the kind of a byte or of a character, if there is one
+abbrev pub kind_of : Option ℕ → Kind
+kind_of None = edge
+kind_of (Some b) = kind_of_byte b
+
+abbrev pub is_edge : Kind → Bool
+is_edge edge = true
+is_edge _ = false
+
+abbrev pub is_line_feed : Kind → Bool
+is_line_feed line_feed = true
+is_line_feed _ = false
+
+abbrev pub is_carriage_return : Kind → Bool
+is_carriage_return carriage_return = true
+is_carriage_return _ = false
+
+abbrev pub is_word_kind : Kind → Bool
+is_word_kind word_byte = true
+is_word_kind _ = false
+
+-- whether an assertion holds between bytes of two kinds
+abbrev pub holds_by : Look → Kind → Kind → Bool
+holds_by start b a = is_edge b
+holds_by end b a = is_edge a
+holds_by start_lf b a = is_edge b || is_line_feed b
+holds_by end_lf b a = is_edge a || is_line_feed a
+holds_by start_crlf b a = is_edge b || is_line_feed b || (is_carriage_return b && not (is_line_feed a))
+holds_by end_crlf b a = is_edge a || is_carriage_return a || (is_line_feed a && not (is_carriage_return b))
+holds_by word b a = if is_word_kind b then not (is_word_kind a) else is_word_kind a
+holds_by word_negate b a = if is_word_kind b then is_word_kind a else not (is_word_kind a)
+holds_by word_start b a = not (is_word_kind b) && is_word_kind a
+holds_by word_end b a = is_word_kind b && not (is_word_kind a)
+holds_by word_start_half b a = not (is_word_kind b)
+holds_by word_end_half b a = not (is_word_kind a)
+
+-- where a state leads, by the kind of the byte before and the character after
+abbrev pub leads_by : Kind → Option ℕ → State → List ℕ
+leads_by k o (char q c) = targets_over o (char q c)
+leads_by k o (ranges q rs) = targets_over o (ranges q rs)
+leads_by k o (splits qs is_reversed) = targets_of (splits qs is_reversed)
+leads_by k o (goto q None) = q ∷ []
+leads_by k o (goto q (Some look)) = if holds_by look k (kind_of o) then q ∷ [] else []
+leads_by k o (capture q slot) = q ∷ []
+leads_by k o fail = []
+leads_by k o match = []
+
+-- where a state leads at a place of a haystack
+abbrev pub leads_at : List ℕ → ℕ → State → List ℕ
+leads_at hay i st = map (λ s. s.state) (edges hay st i)
+
+-- the state tests an assertion
+abbrev pub asserts : State → Bool
+asserts (goto q (Some look)) = true
+asserts _ = false
+
+-- no assertion of the program tells the two kinds of the byte before apart
+abbrev pub AreAlikeKinds : Program → Kind → Kind → Type 0
+AreAlikeKinds p k l = (o : Option ℕ) (q : ℕ) → leads_by k o (state_at p.states q) ≡ leads_by l o (state_at p.states q)
+
+-- no state tells the two characters apart, here or as the character before; the end is alike to itself alone
+pub record AreAlike (p : Program) (o u : Option ℕ) : Type 0 where
+  pub leads : (k : Kind) (q : ℕ) → leads_by k o (state_at p.states q) ≡ leads_by k u (state_at p.states q)
+  pub kinds : AreAlikeKinds p (kind_of o) (kind_of u)
+  pub some : is_some o ≡ is_some u
+
+-- classes of characters, one of them for the end, each with a member
+pub record Classes : Type 0 where
+  pub class_of : Option ℕ → ℕ
+  pub member : ℕ → Option ℕ
+
+-- the member of each class is alike to all of the class
+abbrev pub AreClasses : Program → Classes → Type 0
+AreClasses p k = (o : Option ℕ) → AreAlike p (k.member (k.class_of o)) o
