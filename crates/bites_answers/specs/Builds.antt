@@ -114,11 +114,11 @@ Row27 = HasGroups (ask (codes "(a)") []) 2 (Some 2) (None ∷ None ∷ [])
 abbrev pub Row28 : Type 0
 Row28 = HasGroups (ask (codes "(?x)[- - -a]") []) 1 (Some 1) (None ∷ [])
 
--- rust: build both (?x:a )b 
+-- rust: build both (?x:a )b
 abbrev pub Row29 : Type 0
 Row29 = HasGroups (ask (codes "(?x:a )b ") []) 1 (Some 1) (None ∷ [])
 
--- rust: build both b (?x:b )b 
+-- rust: build both b (?x:b )b
 abbrev pub Row30 : Type 0
 Row30 = HasGroups (ask (codes "b (?x:b )b ") []) 1 (Some 1) (None ∷ [])
 

@@ -125,7 +125,7 @@ module _ (q : Question) where
   -- the message by which reading refuses the pattern
   abbrev pub refusal : Option (List ℕ)
   refusal = elim reading [
-      Ok t ↦ if nat_lt q.nest_limit (height t) then Some (message_text too_much_nesting) else None
+    | Ok t ↦ if nat_lt q.nest_limit (height t) then Some (message_text too_much_nesting) else None
     | Err e ↦ Some (message_text e.message)
   ]
 

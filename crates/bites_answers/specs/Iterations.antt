@@ -367,7 +367,7 @@ Row90 = FindsAllGroups (ask (codes "\\<") []) (codes "- -") []
 abbrev pub Row91 : Type 0
 Row91 = FindsAllGroups (ask (codes "\\W") []) [] []
 
--- rust: captures_iter both \\b - 
+-- rust: captures_iter both \\b -
 abbrev pub Row92 : Type 0
 Row92 = FindsAllGroups (ask (codes "\\b") []) (codes "- ") []
 
@@ -375,7 +375,7 @@ Row92 = FindsAllGroups (ask (codes "\\b") []) (codes "- ") []
 abbrev pub Row93 : Type 0
 Row93 = FindsAllGroups (ask (codes "[0a]a*[[:^blank:]]") []) (codes "aaaabbaaaabba") (((Some (span 0 5)) ∷ []) ∷ ((Some (span 6 11)) ∷ []) ∷ [])
 
--- rust: captures_iter both \\b{start-half}   
+-- rust: captures_iter both \\b{start-half}
 abbrev pub Row94 : Type 0
 Row94 = FindsAllGroups (ask (codes "\\b{start-half}") []) (codes "  ") (((Some (span 0 0)) ∷ []) ∷ ((Some (span 1 1)) ∷ []) ∷ ((Some (span 2 2)) ∷ []) ∷ [])
 
@@ -495,7 +495,7 @@ Row122 = FindsAllGroups (ask (40 ∷ 63 ∷ 120 ∷ 41 ∷ 91 ∷ 97 ∷ 45 ∷ 
 abbrev pub Row123 : Type 0
 Row123 = FindsAllGroups (ask (40 ∷ 63 ∷ 120 ∷ 41 ∷ 91 ∷ 97 ∷ 45 ∷ 35 ∷ 99 ∷ 10 ∷ 93 ∷ 93 ∷ []) []) (codes "a]") (((Some (span 0 2)) ∷ []) ∷ [])
 
--- port: captures_iter both (?i)[\\u{61}-z] 5a  
+-- port: captures_iter both (?i)[\\u{61}-z] 5a
 abbrev pub Row124 : Type 0
 Row124 = FindsAllGroups (ask (codes "(?i)[\\u{61}-z]") []) (codes "5a  ") (((Some (span 1 2)) ∷ []) ∷ [])
 

@@ -262,7 +262,7 @@ Row64 = IsRefused (ask (codes "a{5, }") []) (Some (codes "expected decimal numbe
 abbrev pub Row65 : Type 0
 Row65 = IsRefused (ask (codes "(?x)a{5, }") []) None
 
--- rust: message both (?x)\\b{ 
+-- rust: message both (?x)\\b{
 abbrev pub Row66 : Type 0
 Row66 = IsRefused (ask (codes "(?x)\\b{ ") []) (Some (codes "found start of special word boundary or repetition without an end"))
 
@@ -286,7 +286,7 @@ Row70 = IsRefused (ask (codes "[b[c]&&d]") []) (Some (codes "nested character cl
 abbrev pub Row71 : Type 0
 Row71 = IsRefused (ask (codes "a{4294967296;") []) (Some (codes "got invalid decimal number"))
 
--- rust: message both \\b{ 
+-- rust: message both \\b{
 abbrev pub Row72 : Type 0
 Row72 = IsRefused (ask (codes "\\b{ ") []) (Some (codes "expected decimal number, but found no digits"))
 

@@ -40,7 +40,7 @@ Row8 = IsRead (ask (codes "\\v") []) (char 11)
 abbrev pub Row9 : Type 0
 Row9 = IsRead (ask (codes "\\\\") []) (char 92)
 
--- hand: tree bytes \\ 
+-- hand: tree bytes \\
 abbrev pub Row10 : Type 0
 Row10 = IsRead (ask (codes "\\ ") []) (char 32)
 
@@ -68,7 +68,7 @@ Row15 = IsRead (parted ((128, 55295) ∷ (57344, 128511) ∷ (128512, 128512) �
 abbrev pub Row16 : Type 0
 Row16 = IsRead (ask (codes "(?x)\\x 4 1") []) (char 65)
 
--- hand: tree bytes (?x)\\ 
+-- hand: tree bytes (?x)\\
 abbrev pub Row17 : Type 0
 Row17 = IsRead (ask (codes "(?x)\\ ") []) (char 32)
 
