@@ -290,6 +290,98 @@ Row71 = IsRefused (ask (codes "a{4294967296;") []) (Some (codes "got invalid dec
 abbrev pub Row72 : Type 0
 Row72 = IsRefused (ask (codes "\\b{ ") []) (Some (codes "expected decimal number, but found no digits"))
 
+-- rust: message both a)
+abbrev pub Row73 : Type 0
+Row73 = IsRefused (ask (codes "a)") []) (Some (codes "found closing ')' without matching '('"))
+
+-- rust: message both (?<\xC2\xBE>z)
+abbrev pub Row74 : Type 0
+Row74 = IsRefused (parted ((128, 189) ∷ (190, 190) ∷ (191, 55295) ∷ (57344, 1114111) ∷ []) (ask (40 ∷ 63 ∷ 60 ∷ 194 ∷ 190 ∷ 62 ∷ 122 ∷ 41 ∷ []) [])) (Some (codes "invalid group name"))
+
+-- rust: message both (?<\xE5\x90\x8D\xE5\xAD\x97>z)
+abbrev pub Row75 : Type 0
+Row75 = IsRefused (parted ((128, 21516) ∷ (21517, 21517) ∷ (21518, 23382) ∷ (23383, 23383) ∷ (23384, 55295) ∷ (57344, 1114111) ∷ []) (ask (40 ∷ 63 ∷ 60 ∷ 229 ∷ 144 ∷ 141 ∷ 229 ∷ 173 ∷ 151 ∷ 62 ∷ 122 ∷ 41 ∷ []) [])) None
+
+-- rust: message both (?P<a>y)(?P<a>z)
+abbrev pub Row76 : Type 0
+Row76 = IsRefused (ask (codes "(?P<a>y)(?P<a>z)") []) (Some (codes "duplicate capture group name"))
+
+-- rust: message both (?z:foo)
+abbrev pub Row77 : Type 0
+Row77 = IsRefused (ask (codes "(?z:foo)") []) (Some (codes "unrecognized inline flag"))
+
+-- rust: message both (?s-i-R)
+abbrev pub Row78 : Type 0
+Row78 = IsRefused (ask (codes "(?s-i-R)") []) (Some (codes "inline flag negation cannot be repeated"))
+
+-- rust: message both (?is
+abbrev pub Row79 : Type 0
+Row79 = IsRefused (ask (codes "(?is") []) (Some (codes "expected ':' or ')' to end inline flags, but got end of pattern"))
+
+-- rust: message both *a
+abbrev pub Row80 : Type 0
+Row80 = IsRefused (ask (codes "*a") []) (Some (codes "uncounted repetition operator must be applied to a sub-expression"))
+
+-- rust: message both a{5,
+abbrev pub Row81 : Type 0
+Row81 = IsRefused (ask (codes "a{5,") []) (Some (codes "found counted repetition operator with a comma that is unclosed"))
+
+-- rust: message both a{6,5}
+abbrev pub Row82 : Type 0
+Row82 = IsRefused (ask (codes "a{6,5}") []) (Some (codes "found counted repetition with a min bigger than its max"))
+
+-- rust: message both \\u{D800}
+abbrev pub Row83 : Type 0
+Row83 = IsRefused (ask (codes "\\u{D800}") []) (Some (codes "got invalid hexadecimal number in braces"))
+
+-- rust: message both \\b{foo}
+abbrev pub Row84 : Type 0
+Row84 = IsRefused (ask (codes "\\b{foo}") []) (Some (codes "special word boundary assertion is unrecognized"))
+
+-- rust: message both (?x)[-#]
+abbrev pub Row85 : Type 0
+Row85 = IsRefused (ask (codes "(?x)[-#]") []) (Some (codes "non-empty character class has no closing bracket after dash"))
+
+-- rust: message both (?x)[a-
+abbrev pub Row86 : Type 0
+Row86 = IsRefused (ask (codes "(?x)[a- ") []) (Some (codes "non-empty character class has no closing bracket after dash"))
+
+-- rust: message both [z-a]
+abbrev pub Row87 : Type 0
+Row87 = IsRefused (ask (codes "[z-a]") []) (Some (codes "invalid range in character class"))
+
+-- rust: message both 0 (?=
+abbrev pub Row88 : Type 0
+Row88 = IsRefused (nested 0 (ask (codes "(?=") [])) (Some (codes "look-around is not supported"))
+
+-- rust: message both 0 ab*[
+abbrev pub Row89 : Type 0
+Row89 = IsRefused (nested 0 (ask (codes "ab*[") [])) (Some (codes "found unclosed character class"))
+
+-- rust: message both ((((((((((((((((((((((((((((((((((((((((((((((((((
+abbrev pub Row90 : Type 0
+Row90 = IsRefused (ask (codes "((((((((((((((((((((((((((((((((((((((((((((((((((") []) (Some (codes "found open group without closing ')'"))
+
+-- rust: message both 0 a
+abbrev pub Row91 : Type 0
+Row91 = IsRefused (nested 0 (ask (codes "a") [])) None
+
+-- rust: message both 0 a{1}
+abbrev pub Row92 : Type 0
+Row92 = IsRefused (nested 0 (ask (codes "a{1}") [])) None
+
+-- rust: message both 0 a**{0}
+abbrev pub Row93 : Type 0
+Row93 = IsRefused (nested 0 (ask (codes "a**{0}") [])) None
+
+-- rust: message both 0 a*
+abbrev pub Row94 : Type 0
+Row94 = IsRefused (nested 0 (ask (codes "a*") [])) (Some (codes "pattern has too much nesting"))
+
+-- rust: message both 0 (?:a)
+abbrev pub Row95 : Type 0
+Row95 = IsRefused (nested 0 (ask (codes "(?:a)") [])) (Some (codes "pattern has too much nesting"))
+
 -- all of these
 abbrev pub Messages : Type 0
-Messages = Row1 × Row2 × Row3 × Row4 × Row5 × Row6 × Row7 × Row8 × Row9 × Row10 × Row11 × Row12 × Row13 × Row14 × Row15 × Row16 × Row17 × Row18 × Row19 × Row20 × Row21 × Row22 × Row23 × Row24 × Row25 × Row26 × Row27 × Row28 × Row29 × Row30 × Row31 × Row32 × Row33 × Row34 × Row35 × Row36 × Row37 × Row38 × Row39 × Row40 × Row41 × Row42 × Row43 × Row44 × Row45 × Row46 × Row47 × Row48 × Row49 × Row50 × Row51 × Row52 × Row53 × Row54 × Row55 × Row56 × Row57 × Row58 × Row59 × Row60 × Row61 × Row62 × Row63 × Row64 × Row65 × Row66 × Row67 × Row68 × Row69 × Row70 × Row71 × Row72
+Messages = Row1 × Row2 × Row3 × Row4 × Row5 × Row6 × Row7 × Row8 × Row9 × Row10 × Row11 × Row12 × Row13 × Row14 × Row15 × Row16 × Row17 × Row18 × Row19 × Row20 × Row21 × Row22 × Row23 × Row24 × Row25 × Row26 × Row27 × Row28 × Row29 × Row30 × Row31 × Row32 × Row33 × Row34 × Row35 × Row36 × Row37 × Row38 × Row39 × Row40 × Row41 × Row42 × Row43 × Row44 × Row45 × Row46 × Row47 × Row48 × Row49 × Row50 × Row51 × Row52 × Row53 × Row54 × Row55 × Row56 × Row57 × Row58 × Row59 × Row60 × Row61 × Row62 × Row63 × Row64 × Row65 × Row66 × Row67 × Row68 × Row69 × Row70 × Row71 × Row72 × Row73 × Row74 × Row75 × Row76 × Row77 × Row78 × Row79 × Row80 × Row81 × Row82 × Row83 × Row84 × Row85 × Row86 × Row87 × Row88 × Row89 × Row90 × Row91 × Row92 × Row93 × Row94 × Row95
