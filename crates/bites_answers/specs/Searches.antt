@@ -143,7 +143,7 @@ Row34 = FindsSpan (longest (ask (codes "(?:|a)*") [])) (codes "aa") 0 (Some (spa
 abbrev pub Row35 : Type 0
 Row35 = FindsSpan (longest (ask (codes "(?:a*(?:|b))+") [])) (codes "ab") 0 (Some (span 0 2))
 
--- hand: find_at both a|ab ab 0
+-- rust: find_at both a|ab ab 0
 abbrev pub Row36 : Type 0
 Row36 = FindsSpan (ask (codes "a|ab") []) (codes "ab") 0 (Some (span 0 1))
 

@@ -1,27 +1,46 @@
 //! A row with its answer.
 
+use crate::ask::{Answers, ask_each};
 use crate::call::{Call, Question, Search};
 use crate::fault::Fault;
 use crate::question::{Asked, asked_by};
-use crate::settings::Settings;
-use crate::texts::haystack_from;
+use crate::settings::{Maker, Settings};
 use crate::told::push_refusal;
 use crate::{bytes, pattern, texts};
-use regex_bites::{Error, Regex};
+use regex_bites::Error;
 use std::alloc::{AllocError, Global};
-use std::fmt::Write;
-use std::str;
 
 /// The number of the column of the answer, counted from 0.
 const ANSWER: usize = 10;
 
+/// What the rows of a table share.
+#[derive(Drop)]
+pub struct Table {
+    /// How often a call that takes no memory is asked.
+    pub times: usize,
+    /// The cache and the locations of the row before, which this one uses if they fit.
+    bytes: Option<bytes::Room>,
+    texts: Option<texts::Room>,
+}
+
+impl Table {
+    /// Returns what the first row has.
+    pub fn new(times: usize) -> Table {
+        Table {
+            times,
+            bytes: None,
+            texts: None,
+        }
+    }
+}
+
 /// Returns the line with the engine's answer instead of the expected one.
-pub fn answered(alloc: Global, line: &str) -> Result<String, AllocError> {
+pub fn answered(alloc: Global, table: &mut Table, line: &str) -> Result<String, AllocError> {
     if line.is_empty() || line.starts_with('#') {
         return String::from_str(alloc, line);
     }
     let columns: Vec<&str> = line.split('\t').collect(alloc)?;
-    let answer = answer_to(alloc, &columns)?;
+    let answer = answer_to(alloc, table, &columns)?;
     let mut row = String::new(alloc);
     for (number, column) in columns.iter().enumerate() {
         if number > 0 {
@@ -32,91 +51,90 @@ pub fn answered(alloc: Global, line: &str) -> Result<String, AllocError> {
     Ok(row)
 }
 
-fn answer_to(alloc: Global, columns: &[&str]) -> Result<String, AllocError> {
-    match asked_by(alloc, columns) {
-        Ok(asked) => answer(alloc, &asked),
-        Err(Fault::NoRow) => String::from_str(alloc, "no row"),
-        Err(Fault::Memory) => Err(AllocError),
-    }
-}
-
-fn answer(alloc: Global, asked: &Asked) -> Result<String, AllocError> {
+fn answer_to(alloc: Global, table: &mut Table, columns: &[&str]) -> Result<String, AllocError> {
+    let asked = match asked_by(alloc, columns, table.times) {
+        Ok(asked) => asked,
+        Err(Fault::NoRow) => return String::from_str(alloc, "no row"),
+        Err(Fault::Memory) => return Err(AllocError),
+    };
+    let mut answers = Answers::new(alloc);
     match asked.call {
-        Call::Pattern(question) => answer_of_pattern(alloc, asked, question),
-        Call::Search(search) => answer_of_search(alloc, asked, search),
+        Call::Pattern(question) => ask_pattern(alloc, &asked, question, &mut answers)?,
+        Call::Search(search) => ask_search(alloc, table, &asked, search, &mut answers)?,
     }
+    Ok(answers.all)
 }
 
-// Returns the answer over bytes, and the answer over texts if it differs.
-fn answer_of_pattern(
-    alloc: Global,
-    asked: &Asked,
-    question: Question,
-) -> Result<String, AllocError> {
-    let mut answer = String::new(alloc);
-    pattern::push_answer(alloc, asked, question, false, &mut answer)?;
-    let mut all = answer.clone()?;
-    if asked.is_text {
-        let mut other = String::new(alloc);
-        pattern::push_answer(alloc, asked, question, true, &mut other)?;
-        push_other(&mut all, &answer, &other, "over texts")?;
-    }
-    Ok(all)
-}
-
-/// The ways to ask a search besides the one over bytes: the name, whether it is over texts, and whether it keeps the
-/// groups that the pattern drops.
-const WAYS: [(&str, bool, bool); 3] = [
-    ("over bytes with all groups", false, true),
-    ("over texts", true, false),
-    ("over texts with all groups", true, true),
+/// The ways to ask about a pattern: the name, whether the regex is over texts, and the call that builds it.
+const BUILDS: [(&str, bool, Maker); 5] = [
+    ("over bytes", false, Maker::Build),
+    ("over bytes by into_regex", false, Maker::IntoRegex),
+    ("over bytes by Regex::new", false, Maker::New),
+    ("over texts", true, Maker::Build),
+    ("over texts by Regex::new", true, Maker::New),
 ];
 
-// Returns the answer over bytes, and the answers of the other ways that differ from it.
-fn answer_of_search(alloc: Global, asked: &Asked, search: Search) -> Result<String, AllocError> {
-    let answer = over_bytes(alloc, asked, asked.settings, search)?;
+// Asks about the pattern alone. Each way to build is tried if the answer is that of a regex.
+fn ask_pattern(
+    alloc: Global,
+    asked: &Asked<'_>,
+    question: Question,
+    answers: &mut Answers,
+) -> Result<(), AllocError> {
+    for (way, is_text, maker) in BUILDS {
+        let is_asked = match maker {
+            Maker::Build => true,
+            Maker::IntoRegex => question.is_of_regex(),
+            Maker::New => question.is_of_regex() && asked.settings.are_default,
+        };
+        if !is_asked || (is_text && !asked.is_text) {
+            continue;
+        }
+        let mut answer = String::new(alloc);
+        let settings = asked.settings.made_by(maker);
+        pattern::push_answer(alloc, asked, settings, question, is_text, &mut answer)?;
+        answers.push(&answer, way, "")?;
+    }
+    Ok(())
+}
+
+/// The ways to ask a search: the name, whether it is over texts, and whether it keeps the groups that the pattern
+/// drops.
+const WAYS: [(&str, bool, bool); 4] = [
+    ("over bytes ", false, false),
+    ("over bytes with all groups ", false, true),
+    ("over texts ", true, false),
+    ("over texts with all groups ", true, true),
+];
+
+fn ask_search(
+    alloc: Global,
+    table: &mut Table,
+    asked: &Asked<'_>,
+    search: Search,
+    answers: &mut Answers,
+) -> Result<(), AllocError> {
     let has_others = search.has_groups() && drops_groups(alloc, asked)?;
-    let mut all = answer.clone()?;
     for (way, is_text, keeps) in WAYS {
         if (keeps && has_others) || (is_text && !asked.is_text) {
             continue;
         }
-        let other = asked_otherwise(alloc, asked, search, is_text, keeps)?;
-        push_other(&mut all, &answer, &other, way)?;
+        let settings = if keeps {
+            asked.settings.keeping()
+        } else {
+            asked.settings
+        };
+        if is_text {
+            ask_texts(alloc, table, asked, settings, search, way, answers)?;
+        } else {
+            ask_bytes(alloc, table, asked, settings, search, way, answers)?;
+        }
     }
-    Ok(all)
-}
-
-// Returns the answer in another way.
-fn asked_otherwise(
-    alloc: Global,
-    asked: &Asked,
-    search: Search,
-    is_text: bool,
-    keeps: bool,
-) -> Result<String, AllocError> {
-    let settings = if keeps {
-        asked.settings.keeping()
-    } else {
-        asked.settings
-    };
-    if is_text {
-        over_texts(alloc, asked, settings, search)
-    } else {
-        over_bytes(alloc, asked, settings, search)
-    }
-}
-
-// Adds the other answer and the name of its way, if the answers differ.
-fn push_other(all: &mut String, answer: &str, other: &str, way: &str) -> Result<(), AllocError> {
-    if answer == other {
-        return Ok(());
-    }
-    write!(all, ", but {way}: {other}")
+    Ok(())
 }
 
 // Returns whether the pattern drops groups, so that numbers and names differ if they are kept.
-fn drops_groups(alloc: Global, asked: &Asked) -> Result<bool, AllocError> {
+fn drops_groups(alloc: Global, asked: &Asked<'_>) -> Result<bool, AllocError> {
     match (
         lens(alloc, asked, asked.settings),
         lens(alloc, asked, asked.settings.keeping()),
@@ -127,57 +145,60 @@ fn drops_groups(alloc: Global, asked: &Asked) -> Result<bool, AllocError> {
     }
 }
 
-fn lens(alloc: Global, asked: &Asked, settings: Settings) -> Result<usize, Error> {
+fn lens(alloc: Global, asked: &Asked<'_>, settings: Settings) -> Result<usize, Error> {
     Ok(settings.bytes(alloc, &asked.pattern)?.captures_len())
 }
 
-fn over_bytes(
+// Adds that the pattern is refused.
+fn refuse(
     alloc: Global,
-    asked: &Asked,
-    settings: Settings,
-    search: Search,
-) -> Result<String, AllocError> {
-    let mut answer = String::new(alloc);
-    match settings.bytes(alloc, &asked.pattern) {
-        Ok(regex) => bytes::push_answer(alloc, &regex, asked, search, &mut answer)?,
-        Err(error) => push_refusal(&mut answer, error)?,
-    }
-    Ok(answer)
-}
-
-fn over_texts(
-    alloc: Global,
-    asked: &Asked,
-    settings: Settings,
-    search: Search,
-) -> Result<String, AllocError> {
-    let mut answer = String::new(alloc);
-    match settings.texts(alloc, &asked.pattern) {
-        Ok(regex) => push_answer_of_texts(alloc, &regex, asked, search, &mut answer)?,
-        Err(error) => push_refusal(&mut answer, error)?,
-    }
-    Ok(answer)
-}
-
-// Adds the answer over texts, or that the row can't be asked over texts.
-fn push_answer_of_texts(
-    alloc: Global,
-    regex: &Regex,
-    asked: &Asked,
-    search: Search,
-    answer: &mut String,
+    asked: &Asked<'_>,
+    error: Error,
+    way: &str,
+    answers: &mut Answers,
 ) -> Result<(), AllocError> {
-    let (Ok(text), Ok(template)) = (
-        str::from_utf8(&asked.haystack),
-        str::from_utf8(&asked.template),
-    ) else {
-        return answer.push_str("not UTF-8");
+    let mut answer = String::new(alloc);
+    push_refusal(&mut answer, error)?;
+    answers.push(&answer, way, asked.word)
+}
+
+fn ask_bytes(
+    alloc: Global,
+    table: &mut Table,
+    asked: &Asked<'_>,
+    settings: Settings,
+    search: Search,
+    way: &str,
+    answers: &mut Answers,
+) -> Result<(), AllocError> {
+    let regex = match settings.bytes(alloc, &asked.pattern) {
+        Ok(regex) => regex,
+        Err(error) => return refuse(alloc, asked, error, way, answers),
     };
-    if !search.has_start() {
-        return texts::push_answer(alloc, regex, text, search, template, asked.argument, answer);
-    }
-    match haystack_from(text, asked.argument) {
-        Some(haystack) => texts::push_answer_from(regex, haystack, search, answer),
-        None => answer.push_str("within a character"),
-    }
+    let mut searcher = bytes::Searcher::new(alloc, regex, table.bytes.take(), asked)?;
+    ask_each(alloc, &mut searcher, asked, search, way, answers)?;
+    table.bytes = Some(searcher.into_room());
+    Ok(())
+}
+
+fn ask_texts(
+    alloc: Global,
+    table: &mut Table,
+    asked: &Asked<'_>,
+    settings: Settings,
+    search: Search,
+    way: &str,
+    answers: &mut Answers,
+) -> Result<(), AllocError> {
+    let Some(texts) = texts::texts_of(asked, search) else {
+        return answers.push("not asked", way, asked.word);
+    };
+    let regex = match settings.texts(alloc, &asked.pattern) {
+        Ok(regex) => regex,
+        Err(error) => return refuse(alloc, asked, error, way, answers),
+    };
+    let mut searcher = texts::Searcher::new(alloc, regex, table.texts.take(), texts, asked)?;
+    ask_each(alloc, &mut searcher, asked, search, way, answers)?;
+    table.texts = Some(searcher.into_room());
+    Ok(())
 }

@@ -1,19 +1,25 @@
 //! Comparing a table with the engine's answers.
 
-use crate::answer::answered;
+use crate::answer::{Table, answered};
 use std::alloc::{AllocError, Global};
 use std::fmt::Write;
 
 /// Returns a report on a table: the rows whose answer is not the expected one, with the engine's answers, and the
 /// number of rows.
-pub fn compared(alloc: Global, name: &str, table: &str) -> Result<String, AllocError> {
+pub fn compared(
+    alloc: Global,
+    name: &str,
+    table: &str,
+    times: usize,
+) -> Result<String, AllocError> {
     let mut report = String::new(alloc);
+    let mut shared = Table::new(times);
     let (mut rows, mut wrong) = (0usize, 0usize);
     for line in table.lines() {
         if line.is_empty() || line.starts_with('#') {
             continue;
         }
-        let row = answered(alloc, line)?;
+        let row = answered(alloc, &mut shared, line)?;
         rows = rows.saturating_add(1);
         if row.as_str() != line {
             wrong = wrong.saturating_add(1);

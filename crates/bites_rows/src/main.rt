@@ -2,18 +2,21 @@
 //! -`.
 //!
 //! With words, which are names of tables, it prints the rows whose answer is not the expected one, and how many rows
-//! each table has. `data/README.md` says what a row is. A line that is empty or begins with `#` is printed unchanged. A
-//! row is asked in each way that can ask it: over bytes, over texts, and over both with `keep_dropped_groups`. An
-//! answer that differs from the one over bytes follows it with the name of its way. A line that is not a row has the
-//! answer `no row`.
+//! each table has. A word that is a number says how often a row asks a call that takes no memory; without one it does
+//! so once. `data/README.md` says what a row is. A line that is empty or begins with `#` is printed unchanged. A row is
+//! asked in each way that can ask it: over bytes, over texts, over both with `keep_dropped_groups`, and by each call
+//! that must give the same answer. An answer that differs from the first one follows it with the name of its way. A
+//! line that is not a row has the answer `no row`.
 #![tactic(auto)]
 
 mod answer;
+mod ask;
 mod bytes;
 mod call;
 mod compare;
 mod escaped;
 mod fault;
+mod others;
 mod pattern;
 mod question;
 mod settings;
@@ -24,18 +27,24 @@ mod words;
 use std::{env, fs, io};
 
 fn main(rt: HostRuntime) -> io::Result<()> {
+    let mut times = 1;
     let mut has_tables = false;
-    for name in env::args(&rt)?.skip(1) {
+    for word in env::args(&rt)?.skip(1) {
+        if let Ok(number) = word.parse() {
+            times = number;
+            continue;
+        }
         has_tables = true;
-        let table = fs::read_to_string(&rt, &name)?;
-        let report = compare::compared(rt.alloc(), &name, &table)?;
+        let table = fs::read_to_string(&rt, &word)?;
+        let report = compare::compared(rt.alloc(), &word, &table, times)?;
         print!(rt; "{report}")?;
     }
     if has_tables {
         return Ok(());
     }
+    let mut table = answer::Table::new(times);
     for line in rt.lines(rt.alloc()) {
-        let row = answer::answered(rt.alloc(), line?.as_str())?;
+        let row = answer::answered(rt.alloc(), &mut table, line?.as_str())?;
         println!(rt; "{row}")?;
     }
     Ok(())

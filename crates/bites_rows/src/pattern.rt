@@ -17,15 +17,16 @@ use std::fmt::Write;
 /// The greatest size limit that is tried, a power of two.
 const GREATEST: usize = 67108864;
 
-/// Adds the answer to a question about the pattern alone, of regexes over bytes or over texts.
+/// Adds the answer to a question about the pattern of a row, of a regex with these settings over bytes or over texts.
 pub fn push_answer(
     alloc: Global,
-    asked: &Asked,
+    asked: &Asked<'_>,
+    settings: Settings,
     question: Question,
     is_text: bool,
     text: &mut String,
 ) -> Result<(), AllocError> {
-    let (pattern, settings) = (asked.pattern.as_str(), asked.settings);
+    let pattern = asked.pattern.as_str();
     let told = match question {
         Question::Message => push_message(alloc, pattern, settings, is_text, text),
         Question::LeastSize => push_least_size(alloc, pattern, settings, is_text, text),

@@ -11,8 +11,12 @@ const COLUMNS: usize = 12;
 
 /// What a row asks.
 #[derive(Drop)]
-pub struct Asked {
+pub struct Asked<'r> {
+    /// The word of the call.
+    pub word: &'r str,
     pub call: Call,
+    /// How often a call that takes no memory is asked.
+    pub times: usize,
     /// Whether the row is asked over texts too.
     pub is_text: bool,
     pub settings: Settings,
@@ -24,7 +28,7 @@ pub struct Asked {
 }
 
 /// Reads the columns of a row.
-pub fn asked_by(alloc: Global, columns: &[&str]) -> Result<Asked, Fault> {
+pub fn asked_by<'r>(alloc: Global, columns: &[&'r str], times: usize) -> Result<Asked<'r>, Fault> {
     if columns.len() != COLUMNS {
         return Err(Fault::NoRow);
     }
@@ -33,7 +37,9 @@ pub fn asked_by(alloc: Global, columns: &[&str]) -> Result<Asked, Fault> {
     let settings = settings_of(columns[3], columns[4], columns[5])?;
     let argument = number_or(0, columns[8])?;
     Ok(Asked {
+        word: columns[1],
         call,
+        times,
         is_text,
         settings,
         pattern: text_of(alloc, columns[6])?,

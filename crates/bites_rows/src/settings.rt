@@ -14,9 +14,20 @@ const NEST_LIMIT: usize = 50;
 /// The letters that may stand in the column of flags.
 const LETTERS: &str = "-imsURxLK";
 
+/// The call that builds a regex.
+#[derive(Clone, Copy)]
+pub enum Maker {
+    Build,
+    IntoRegex,
+    New,
+}
+
 /// What a regex is built with.
 #[derive(Clone, Copy)]
 pub struct Settings {
+    pub maker: Maker,
+    /// Whether the flags and limits are those that a new builder has.
+    pub are_default: bool,
     pub flags: Flags,
     pub leftmost_longest: bool,
     pub keep_dropped_groups: bool,
@@ -32,6 +43,8 @@ pub fn settings_of(letters: &str, size: &str, nest: &str) -> Result<Settings, Fa
     let size_limit = number_or(SIZE_LIMIT, size)?;
     let nest_limit = number_or(NEST_LIMIT, nest)?;
     Ok(Settings {
+        maker: Maker::Build,
+        are_default: letters == "-" && size == "-" && nest == "-",
         flags: flags_of(letters),
         leftmost_longest: letters.contains('L'),
         keep_dropped_groups: letters.contains('K'),
@@ -78,6 +91,11 @@ impl Settings {
         }
     }
 
+    /// Returns these settings with another call that builds.
+    pub fn made_by(self, maker: Maker) -> Settings {
+        Settings { maker, ..self }
+    }
+
     /// Returns these settings with another size limit.
     pub fn limited(self, size_limit: usize) -> Settings {
         Settings { size_limit, ..self }
@@ -85,6 +103,9 @@ impl Settings {
 
     /// Builds a regex over bytes with these settings.
     pub fn bytes(self, alloc: Global, pattern: &str) -> Result<bytes::Regex, Error> {
+        if matches!(self.maker, Maker::New) {
+            return bytes::Regex::new(alloc, pattern);
+        }
         let flags = self.flags;
         let mut builder = bytes::RegexBuilder::new(alloc, pattern)?;
         builder.case_insensitive(flags.case_insensitive);
@@ -97,11 +118,17 @@ impl Settings {
         builder.keep_dropped_groups(self.keep_dropped_groups);
         builder.size_limit(self.size_limit);
         builder.nest_limit(self.nest_limit);
+        if matches!(self.maker, Maker::IntoRegex) {
+            return builder.into_regex();
+        }
         builder.build()
     }
 
     /// Builds a regex over texts with these settings.
     pub fn texts(self, alloc: Global, pattern: &str) -> Result<Regex, Error> {
+        if matches!(self.maker, Maker::New) {
+            return Regex::new(alloc, pattern);
+        }
         let flags = self.flags;
         let mut builder = RegexBuilder::new(alloc, pattern)?;
         builder.case_insensitive(flags.case_insensitive);

@@ -45,6 +45,22 @@ pub fn push_none(text: &mut String) -> Result<(), AllocError> {
     Ok(())
 }
 
+/// Adds the span of a match, or `none`.
+pub fn push_match(text: &mut String, span: Option<(usize, usize)>) -> Result<(), AllocError> {
+    if span.is_some() {
+        return push_span(text, span);
+    }
+    push_none(text)
+}
+
+/// Adds an offset, or `none`.
+pub fn push_end(text: &mut String, end: Option<usize>) -> Result<(), AllocError> {
+    if let Some(end) = end {
+        return write!(text, "{end}");
+    }
+    push_none(text)
+}
+
 /// Adds the pieces of a haystack. Each piece begins where the previous match ends.
 pub fn push_pieces(
     text: &mut String,

@@ -1,7 +1,7 @@
-//! Caches that are kept, and locations that are read into more than once.
+//! Caches that are kept.
 
-use bites_bytes::bytes::{Cache, CaptureLocations, Error, Regex};
-use std::alloc::{AllocError, Global};
+use bites_bytes::bytes::{Cache, Error, Regex};
+use std::alloc::Global;
 
 // Returns whether the cache fits the regex of the pattern, and if so the first match.
 fn found(
@@ -38,32 +38,6 @@ fn one_cache_for_haystacks_and_regexes(rt: HostRuntime) -> Result<(), Error> {
     ] {
         let found = found(rt.alloc(), &mut cache, pattern, haystack);
         assert_eq!(rt; found, Ok(*wanted));
-    }
-    Ok(())
-}
-
-// Returns whether the regex matches, and if so the spans of two groups, read into locations that may not fit it.
-fn read(
-    regex: &Regex,
-    locations: &mut CaptureLocations,
-    haystack: &[u8],
-) -> Result<(bool, [Option<(usize, usize)>; 2]), AllocError> {
-    let is_found = locations.fits(regex) && regex.captures_read(locations, haystack)?.is_some();
-    Ok((is_found, [locations.get(0), locations.get(1)]))
-}
-
-#[test]
-fn locations_stay_where_nothing_matches(rt: HostRuntime) -> Result<(), Error> {
-    let regex = Regex::new(rt.alloc(), "(a)|b")?;
-    let mut locations = regex.capture_locations()?;
-    let whole = Some((0, 1));
-    for (haystack, wanted) in &[
-        ("a", (true, [whole, whole])),
-        ("x", (false, [whole, whole])),
-        ("b", (true, [whole, None])),
-    ] {
-        let read = read(&regex, &mut locations, haystack.as_bytes())?;
-        assert_eq!(rt; read, *wanted);
     }
     Ok(())
 }

@@ -5,7 +5,7 @@
 //! - characters in bytes
 //! - patterns of a million characters
 //! - programs made by hand
-//! - caches and locations that are used more than once
+//! - caches that are used more than once
 //! - what the program `bites` writes, even if its streams fail
 //!
 //! The libraries have no tests of their own, so that each is proved once; only `bites_machine` has one. No expected
@@ -15,8 +15,6 @@
 //! what many tests do is a function.
 #![tactic(auto)]
 
-#[cfg(test)]
-mod anchored;
 #[cfg(test)]
 mod answers;
 #[cfg(test)]

@@ -99,6 +99,10 @@ macro_rules! surface {
                     "shortest" => shortest(regex, haystack, row.number),
                     "find_at" => find(regex, haystack, row.number),
                     "captures_at" | "captures_read" => captures(regex, haystack, row.number),
+                    "is_anchored" => vec![regex.find_anchored_at(haystack, row.number).is_some().to_string()],
+                    "find_anchored" => vec![shown(regex.find_anchored_at(haystack, row.number))],
+                    "captures_anchored" => vec![shown_groups(regex.captures_anchored_at(haystack, row.number))],
+                    "is_full" => vec![regex.is_full_match(haystack).to_string()],
                     "find_iter" => find_iter(regex, haystack),
                     "captures_iter" => captures_iter(regex, haystack),
                     "split" => vec![pieces(haystack, regex.split(haystack))],
@@ -107,6 +111,7 @@ macro_rules! surface {
                     "replace_lit" => replace_lit(regex, haystack, row.number, template),
                     "replace_count" => vec![replace_count(regex, haystack, row.number)],
                     "expand" => vec![expand(regex, haystack, template)],
+                    "group" => vec![group(regex, haystack, template)],
                     "extract" => vec![extract(regex, haystack)],
                     call => panic!("{}: no call {call}", row.place),
                 }
@@ -169,18 +174,21 @@ macro_rules! surface {
                 joined(groups.collect(), " ")
             }
 
+            fn shown_groups(found: Option<Captures<'_>>) -> String {
+                found.map_or("none".into(), |found| groups(&found))
+            }
+
             fn captures(regex: &Regex, haystack: &$text, start: usize) -> Vec<String> {
-                let none = || "none".to_string();
                 let mut locations = regex.capture_locations();
                 let found = regex.captures_read_at(&mut locations, haystack, start);
                 let first = found.map_or(start, |found| found.start());
                 let mut answers = vec![
-                    found.map_or_else(none, |_| places(&locations)),
-                    regex.captures_at(haystack, start).map_or_else(none, |found| groups(&found)),
-                    regex.captures_anchored_at(haystack, first).map_or_else(none, |found| groups(&found)),
+                    found.map_or("none".into(), |_| places(&locations)),
+                    shown_groups(regex.captures_at(haystack, start)),
+                    shown_groups(regex.captures_anchored_at(haystack, first)),
                 ];
                 if start == 0 {
-                    answers.push(regex.captures(haystack).map_or_else(none, |found| groups(&found)));
+                    answers.push(shown_groups(regex.captures(haystack)));
                 }
                 answers
             }
@@ -265,6 +273,18 @@ macro_rules! surface {
                     Some(captures) => new(expanded(&captures, template).as_ref()),
                     None => "same".into(),
                 }
+            }
+
+            fn group(regex: &Regex, haystack: &$text, word: &$text) -> String {
+                let Some(captures) = regex.captures(haystack) else {
+                    return "none".into();
+                };
+                let word = std::str::from_utf8(word.as_ref()).expect("a number or a name");
+                let found = match word.parse() {
+                    Ok(number) => captures.get(number),
+                    Err(_) => captures.name(word),
+                };
+                found.map_or("-".into(), |found| span(found.start(), found.end()))
             }
 
             fn extract(regex: &Regex, haystack: &$text) -> String {

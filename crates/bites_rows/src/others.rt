@@ -1,0 +1,152 @@
+//! The calls that must give the same answer.
+
+use crate::call::Expander::{
+    ByRef, Cow, CowRef, Function, Interpolate, Literal, Owned, OwnedRef, Template,
+};
+use crate::call::Form::{self, At, AtWith, Whole, WholeWith};
+use crate::call::Search::{
+    self, CapturesAnchored, CapturesAt, CapturesFull, CapturesRead, Expand, FindAnchored, FindAt,
+    Is, IsAnchored, IsFull, ReadAnchored, Replace, ReplaceCount, ReplaceFixed, ReplaceLiteral,
+    ReplaceOwned, Shortest,
+};
+
+/// A word, a call that must give the answer of that word, what it searches, its form, and whether it takes no memory.
+pub type Other = (&'static str, &'static str, Search, Form, bool);
+
+/// The calls of each word, but for its first one.
+pub const OTHERS: &[Other] = &[
+    ("is", "is_match", Is, Whole, false),
+    ("is", "is_match_at_with", Is, AtWith, true),
+    ("is", "is_match_with", Is, WholeWith, true),
+    ("shortest", "shortest_match", Shortest, Whole, false),
+    ("shortest", "shortest_match_at_with", Shortest, AtWith, true),
+    ("shortest", "shortest_match_with", Shortest, WholeWith, true),
+    ("find_at", "find", FindAt, Whole, false),
+    ("find_at", "find_at_with", FindAt, AtWith, true),
+    ("find_at", "find_with", FindAt, WholeWith, true),
+    ("captures_at", "captures", CapturesAt, Whole, false),
+    ("captures_at", "captures_at_with", CapturesAt, AtWith, false),
+    ("captures_at", "captures_with", CapturesAt, WholeWith, false),
+    (
+        "captures_at",
+        "captures_read_at_with",
+        CapturesRead,
+        AtWith,
+        true,
+    ),
+    ("captures_read", "captures_read", CapturesRead, Whole, false),
+    (
+        "captures_read",
+        "captures_read_at_with",
+        CapturesRead,
+        AtWith,
+        true,
+    ),
+    (
+        "captures_read",
+        "captures_read_with",
+        CapturesRead,
+        WholeWith,
+        true,
+    ),
+    (
+        "is_anchored",
+        "is_match_anchored_at_with",
+        IsAnchored,
+        AtWith,
+        true,
+    ),
+    (
+        "find_anchored",
+        "find_anchored_at_with",
+        FindAnchored,
+        AtWith,
+        true,
+    ),
+    (
+        "captures_anchored",
+        "captures_anchored_at_with",
+        CapturesAnchored,
+        AtWith,
+        false,
+    ),
+    (
+        "captures_anchored",
+        "captures_read_anchored_at_with",
+        ReadAnchored,
+        AtWith,
+        true,
+    ),
+    ("is_full", "is_full_match_with", IsFull, AtWith, true),
+    (
+        "captures_full",
+        "captures_full_with",
+        CapturesFull,
+        AtWith,
+        false,
+    ),
+    ("replace", "replacen", Replace, Whole, false),
+    ("replace", "replacen_with", Replace, AtWith, false),
+    ("replace", "replace_all_with", Replace, WholeWith, false),
+    ("replace_owned", "replacen", ReplaceOwned, Whole, false),
+    (
+        "replace_owned",
+        "replacen_with",
+        ReplaceOwned,
+        AtWith,
+        false,
+    ),
+    (
+        "replace_owned",
+        "replace_all_with",
+        ReplaceOwned,
+        WholeWith,
+        false,
+    ),
+    ("replace_lit", "replacen", ReplaceLiteral, Whole, false),
+    (
+        "replace_lit",
+        "replacen_with",
+        ReplaceLiteral,
+        AtWith,
+        false,
+    ),
+    (
+        "replace_lit",
+        "replace_all_with",
+        ReplaceLiteral,
+        WholeWith,
+        false,
+    ),
+    ("replace_count", "replacen", ReplaceCount, Whole, false),
+    (
+        "replace_count",
+        "replacen_with",
+        ReplaceCount,
+        AtWith,
+        false,
+    ),
+    (
+        "replace_count",
+        "replace_all_with",
+        ReplaceCount,
+        WholeWith,
+        false,
+    ),
+    (
+        "replace_lit",
+        "a replacer with this no_expansion",
+        ReplaceFixed,
+        At,
+        false,
+    ),
+    ("expand", "interpolate", Expand(Interpolate), At, false),
+    ("expand", "a borrowed template", Expand(Template), At, false),
+    ("expand", "an owned template", Expand(Owned), At, false),
+    ("expand", "a reference to one", Expand(OwnedRef), At, false),
+    ("expand", "a Cow", Expand(Cow), At, false),
+    ("expand", "a reference to a Cow", Expand(CowRef), At, false),
+    ("expand", "NoExpand", Expand(Literal), At, false),
+    ("expand", "by_ref", Expand(ByRef), At, false),
+    ("expand", "With", Expand(Function), At, false),
+];
