@@ -1,7 +1,8 @@
-//! Caches that are kept.
+//! Caches that are kept, and groups that are read after their regex is dropped.
 
-use bites_bytes::bytes::{Cache, Error, Regex};
+use bites_bytes::bytes::{Cache, Captures, Error, Regex};
 use std::alloc::Global;
+use std::test::Fail;
 
 // Returns whether the cache fits the regex of the pattern, and if so the first match.
 fn found(
@@ -39,5 +40,22 @@ fn one_cache_for_haystacks_and_regexes(rt: HostRuntime) -> Result<(), Error> {
         let found = found(rt.alloc(), &mut cache, pattern, haystack);
         assert_eq!(rt; found, Ok(*wanted));
     }
+    Ok(())
+}
+
+// Returns the groups of a match. The regex is dropped.
+fn captures_of<'h>(
+    alloc: Global,
+    pattern: &str,
+    haystack: &'h [u8],
+) -> Result<Option<Captures<'h>>, Error> {
+    Ok(Regex::new(alloc, pattern)?.captures(haystack)?)
+}
+
+#[test]
+fn captures_outlive_their_regex(rt: HostRuntime) -> Result<(), Fail> {
+    let captures = captures_of(rt.alloc(), "a(?<x>b)", b"cab")?.ok_or("no match")?;
+    let named = captures.name("x").ok_or("no group")?;
+    assert_eq!(rt; named.range(), 2..3);
     Ok(())
 }

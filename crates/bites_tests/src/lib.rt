@@ -5,7 +5,7 @@
 //! - characters in bytes
 //! - patterns of a million characters
 //! - programs made by hand
-//! - caches that are used more than once
+//! - caches that are used more than once, and groups that outlive their regex
 //! - what the program `bites` writes, even if its streams fail
 //!
 //! The libraries have no tests of their own, so that each is proved once; only `bites_machine` has one. No expected
