@@ -8,7 +8,7 @@ ghost use Rattle.bites_spec.specs.Template.{expansion, group_named, number_in, n
 ghost use Rattle.bites_spec.specs.Cutting.{CutsFront};
 ghost use Rattle.bites_machine.specs.Interpolate.{parts_in, IsTextFront, BeginsWith};
 ghost use Rattle.bites_spec.specs.Expansion.{GivesTexts, GivesNumbers};
-ghost use Rattle.bites_spec.specs.Refused.{AppendsUntilRefused};
+ghost use Rattle.bites_spec.specs.Refused.{AppendsUntilRefused, IsFront};
 
 use bites_text::utf8::is_word_byte;
 use std::alloc::AllocError;
@@ -17,8 +17,8 @@ use std::str;
 /// Appends the expansion of a template. `text_of` returns the text that a group matched, and `index_of` the group
 /// number of a name. A name without a group and a group without a text expand to nothing.
 ///
-/// The error is out of memory: `dst` is then the old text followed by a prefix of the expansion. The work is linear in
-/// the template and in what is appended, apart from the calls.
+/// The error is out of memory: `dst` is then the old text followed by a prefix of the expansion. The old text stays,
+/// whatever the two functions return. The work is linear in the template and in what is appended, apart from the calls.
 pub fn string<'t, T, I>(
     template: &str,
     text_of: T,
@@ -30,7 +30,8 @@ where
     I: Fn(&str) -> Option<usize>,
     requires texts { T.IsAlwaysCallable text_of }
     requires names { I.IsAlwaysCallable index_of }
-    ensures { (texts : _) (numbers : _)
+    ensures kept { IsFront (string_bytes dst.old) (string_bytes dst.new) }
+    ensures expanded { (texts : _) (numbers : _)
         → GivesTexts (T.post text_of) texts → GivesNumbers (I.post index_of) numbers
         → AppendsUntilRefused result (string_bytes dst.old) (string_bytes dst.new)
         (expansion true usize.MAX texts numbers template.now) }
@@ -58,8 +59,8 @@ where
 
 /// Like [`string`], but over bytes. A `$` before braces around bytes that are not UTF-8 stands for itself.
 ///
-/// The error is out of memory: `dst` is then the old bytes followed by a prefix of the expansion. The work is linear in
-/// the template and in what is appended, apart from the calls.
+/// The error is out of memory: `dst` is then the old bytes followed by a prefix of the expansion. The old bytes stay,
+/// whatever the two functions return. The work is linear in the template and in what is appended, apart from the calls.
 pub fn bytes<'t, T, I>(
     template: &[u8],
     text_of: T,
@@ -71,7 +72,8 @@ where
     I: Fn(&str) -> Option<usize>,
     requires texts { T.IsAlwaysCallable text_of }
     requires names { I.IsAlwaysCallable index_of }
-    ensures { (texts : _) (numbers : _)
+    ensures kept { IsFront dst.old.items dst.new.items }
+    ensures expanded { (texts : _) (numbers : _)
         → GivesTexts (T.post text_of) texts → GivesNumbers (I.post index_of) numbers
         → AppendsUntilRefused result dst.old.items dst.new.items
         (expansion false usize.MAX texts numbers template.now) }
@@ -113,7 +115,8 @@ where
     I: Fn(&str) -> Option<usize>,
     requires texts { T.IsAlwaysCallable text_of.now }
     requires names { I.IsAlwaysCallable index_of.now }
-    ensures { (texts : _) (numbers : _)
+    ensures kept { IsFront dst.old.items dst.new.items }
+    ensures expanded { (texts : _) (numbers : _)
         → GivesTexts (T.post text_of.now) texts → GivesNumbers (I.post index_of.now) numbers
         → AppendsUntilRefused result dst.old.items dst.new.items
         (expansion true usize.MAX texts numbers template.now) }

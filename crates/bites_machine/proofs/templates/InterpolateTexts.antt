@@ -32,6 +32,14 @@ appended_more old now next whole rest piece left (front, e, f) is put = (
 pub appended_same : (old now whole rest left : List ℕ) → Appended old now whole rest → rest ≡ left → Appended old now whole left
 appended_same old now whole rest left so_far same = subst (Appended old now whole) same so_far
 
+-- the old text stays
+pub kept_none : (old : List ℕ) → IsFront old old
+kept_none old = ([], sym (append-nil old))
+
+-- also where more is put after it
+pub kept_through : (old now next : List ℕ) → IsFront old now → IsFront now next → IsFront old next
+kept_through old now next (text, e) (more, f) = (text ++ more, f ∙ ap (λ (l : List ℕ). l ++ more) e ∙ append_assoc old text more)
+
 -- all of it
 pub appended_all : (old now whole rest : List ℕ) → Appended old now whole rest → rest ≡ [] → now ≡ old ++ whole
 appended_all old now whole rest (front, e, f) none = e ∙ ap (λ (l : List ℕ). old ++ l) (sym (append-nil front) ∙ sym (ap (λ (l : List ℕ). front ++ l) none) ∙ sym f)

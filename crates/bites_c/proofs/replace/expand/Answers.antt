@@ -7,5 +7,5 @@ use Rattle.bites_c.proofs.replace.expand.Goals as goal
 pub returns : goal.returns
 unfolding expanded_by
 returns c =
-    c.bytes.ensures (λ k. option_map (text_at c.args.haystack.now) (group_from_c c.args.groups.now k)) (index_in c.args.regex.now.names)
+    c.bytes.ensures.expanded (λ k. option_map (text_at c.args.haystack.now) (group_from_c c.args.groups.now k)) (index_in c.args.regex.now.names)
     (λ k r h p. search rules) (λ n r p. search rules)

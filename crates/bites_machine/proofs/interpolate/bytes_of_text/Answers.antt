@@ -1,7 +1,7 @@
 use Rattle.std.proofs.Common.{◌++◌, List, ℕ, Some, None, true, sym, ap, ◌∙◌, subst, length, eqb-true, true≢false, rules}
 use Rattle.bites_spec.specs.Cutting.{CutsFront}
 use Rattle.bites_machine.specs.Interpolate.{parts_in}
-use Rattle.bites_machine.proofs.templates.InterpolateTexts.{appended_none, appended_more, appended_same, appended_all, appended_front, appends_err, text_of_template, text_part, some_part, no_part, text_found, no_group, text_at_end}
+use Rattle.bites_machine.proofs.templates.InterpolateTexts.{kept_none, kept_through, appended_none, appended_more, appended_same, appended_all, appended_front, appends_err, text_of_template, text_part, some_part, no_part, text_found, no_group, text_at_end}
 use Rattle.bites_machine.proofs.interpolate.bytes_of_text.Goals as goal
 
 pub invariant_of-rest : goal.invariant_of-rest
@@ -9,20 +9,21 @@ invariant_of-rest g c = record { closes = c.loop-rest.invariant.closes }
 
 pub loop-rest-init : goal.loop-rest-init
 loop-rest-init g c = record {
+  kept = kept_none c.args.dst.now.items;
   closes = λ e. absurd (true≢false e);
   appended = λ texts numbers ht hn. appended_none c.args.dst.now.items (text_of_template texts numbers c.args.template.now);
 }
 
-pub returns-in_err-extend_from_slice-in-Text : goal.returns-in_err-extend_from_slice-in-Text
-returns-in_err-extend_from_slice-in-Text g c = λ texts numbers ht hn.
+pub returns-in_err-extend_from_slice-in-Text-clause-expanded : goal.returns-in_err-extend_from_slice-in-Text-clause-expanded
+returns-in_err-extend_from_slice-in-Text-clause-expanded g c = λ texts numbers ht hn.
     appends_err c.from_residual.result c.args.dst.now.items c.extend_from_slice.new.self.items (text_of_template texts numbers c.args.template.now)
     c.from_residual.ensures.0
     (appended_front c.args.dst.now.items c.loop-rest.dst.items c.extend_from_slice.new.self.items
     (text_of_template texts numbers c.args.template.now) (text_of_template texts numbers c.loop-rest.rest.0.now) (c.loop-rest.invariant.appended texts numbers ht hn)
     c.in_err-extend_from_slice-in-Text.ensures.items)
 
-pub returns-in_err-extend_from_slice-in-Name : goal.returns-in_err-extend_from_slice-in-Name
-returns-in_err-extend_from_slice-in-Name g c = λ texts numbers ht hn.
+pub returns-in_err-extend_from_slice-in-Name-clause-expanded : goal.returns-in_err-extend_from_slice-in-Name-clause-expanded
+returns-in_err-extend_from_slice-in-Name-clause-expanded g c = λ texts numbers ht hn.
     appends_err c.from_residual-in_err-extend_from_slice-in-Name.result c.args.dst.now.items c.extend_from_slice-in-Some-text_of.new.self.items (text_of_template texts numbers c.args.template.now)
     c.from_residual-in_err-extend_from_slice-in-Name.ensures.0
     (appended_front c.args.dst.now.items c.loop-rest.dst.items c.extend_from_slice-in-Some-text_of.new.self.items
@@ -31,6 +32,7 @@ returns-in_err-extend_from_slice-in-Name g c = λ texts numbers ht hn.
 
 pub loop-rest-preserved-in_ok-extend_from_slice-in-Text : goal.loop-rest-preserved-in_ok-extend_from_slice-in-Text
 loop-rest-preserved-in_ok-extend_from_slice-in-Text g c = record {
+  kept = kept_through c.args.dst.now.items c.loop-rest.dst.items c.extend_from_slice.new.self.items c.loop-rest.invariant.kept (c.in-Text.text.now, c.in_ok-extend_from_slice-in-Text.ensures.items ∙ ap (λ (l : List ℕ). c.loop-rest.dst.items ++ l) c.as_bytes.ensures.value);
   closes = c.next_part.result.1.closes;
   appended = λ texts numbers ht hn.
       appended_more c.args.dst.now.items c.loop-rest.dst.items c.extend_from_slice.new.self.items (text_of_template texts numbers c.args.template.now)
@@ -43,6 +45,7 @@ loop-rest-preserved-in_ok-extend_from_slice-in-Text g c = record {
 
 pub loop-rest-preserved-in_ok-extend_from_slice-in-Name : goal.loop-rest-preserved-in_ok-extend_from_slice-in-Name
 loop-rest-preserved-in_ok-extend_from_slice-in-Name g c = record {
+  kept = kept_through c.args.dst.now.items c.loop-rest.dst.items c.extend_from_slice-in-Some-text_of.new.self.items c.loop-rest.invariant.kept (c.in-Some-text_of.text.now, c.in_ok-extend_from_slice-in-Name.ensures.items);
   closes = c.next_part.result.1.closes;
   appended = λ texts numbers ht hn.
       appended_more c.args.dst.now.items c.loop-rest.dst.items c.extend_from_slice-in-Some-text_of.new.self.items (text_of_template texts numbers c.args.template.now)
@@ -57,6 +60,7 @@ loop-rest-preserved-in_ok-extend_from_slice-in-Name g c = record {
 
 pub loop-rest-preserved-in_default-text_of : goal.loop-rest-preserved-in_default-text_of
 loop-rest-preserved-in_default-text_of g c = record {
+  kept = c.loop-rest.invariant.kept;
   closes = c.next_part.result.1.closes;
   appended = λ texts numbers ht hn.
       appended_same c.args.dst.now.items c.loop-rest.dst.items (text_of_template texts numbers c.args.template.now)
@@ -70,6 +74,7 @@ loop-rest-preserved-in_default-text_of g c = record {
 
 pub loop-rest-preserved : goal.loop-rest-preserved
 loop-rest-preserved g c = record {
+  kept = c.loop-rest.invariant.kept;
   closes = c.next_part.result.1.closes;
   appended = λ texts numbers ht hn.
       appended_same c.args.dst.now.items c.loop-rest.dst.items (text_of_template texts numbers c.args.template.now)
@@ -80,7 +85,7 @@ loop-rest-preserved g c = record {
       (no_group texts numbers c.in-Name.name.now (c.in_default.ensures texts numbers hn)));
 }
 
-pub returns : goal.returns
-returns g c = λ texts numbers ht hn.
+pub returns-clause-expanded : goal.returns-clause-expanded
+returns-clause-expanded g c = λ texts numbers ht hn.
     appended_all c.args.dst.now.items c.loop-rest.dst.items (text_of_template texts numbers c.args.template.now) (text_of_template texts numbers c.loop-rest.rest.0.now)
     (c.loop-rest.invariant.appended texts numbers ht hn) (text_at_end texts numbers c.loop-rest.rest.0.now (eqb-true (length c.loop-rest.rest.0.now) 0 (sym c.loop-rest-test.ensures)))

@@ -1,7 +1,7 @@
 use Rattle.std.proofs.Common.{Some, None, true, sym, subst, length, eqb-true, true≢false, rules, string_bytes}
 use Rattle.bites_spec.specs.Cutting.{CutsFront}
 use Rattle.bites_machine.specs.Interpolate.{parts_in}
-use Rattle.bites_machine.proofs.templates.InterpolateTexts.{appended_none, appended_more, appended_same, appended_all, appended_front, appends_err, text_of_template, text_part, some_part, no_part, text_found, no_group, text_at_end}
+use Rattle.bites_machine.proofs.templates.InterpolateTexts.{kept_none, kept_through, appended_none, appended_more, appended_same, appended_all, appended_front, appends_err, text_of_template, text_part, some_part, no_part, text_found, no_group, text_at_end}
 use Rattle.bites_machine.proofs.interpolate.string.Goals as goal
 
 pub invariant_of-rest : goal.invariant_of-rest
@@ -9,20 +9,21 @@ invariant_of-rest g c = record { closes = c.loop-rest.invariant.closes }
 
 pub loop-rest-init : goal.loop-rest-init
 loop-rest-init g c = record {
+  kept = kept_none (string_bytes c.args.dst.now);
   closes = λ e. absurd (true≢false e);
   appended = λ texts numbers ht hn. appended_none (string_bytes c.args.dst.now) (text_of_template texts numbers c.args.template.now);
 }
 
-pub returns-in_err-push_str-in-Text : goal.returns-in_err-push_str-in-Text
-returns-in_err-push_str-in-Text g c = λ texts numbers ht hn.
+pub returns-in_err-push_str-in-Text-clause-expanded : goal.returns-in_err-push_str-in-Text-clause-expanded
+returns-in_err-push_str-in-Text-clause-expanded g c = λ texts numbers ht hn.
     appends_err c.from_residual.result (string_bytes c.args.dst.now) (string_bytes c.push_str.new.self) (text_of_template texts numbers c.args.template.now)
     c.from_residual.ensures.0
     (appended_front (string_bytes c.args.dst.now) (string_bytes c.loop-rest.dst) (string_bytes c.push_str.new.self)
     (text_of_template texts numbers c.args.template.now) (text_of_template texts numbers c.loop-rest.rest.0.now) (c.loop-rest.invariant.appended texts numbers ht hn)
     c.in_err-push_str-in-Text.ensures.bytes)
 
-pub returns-in_err-push_str-in-Name : goal.returns-in_err-push_str-in-Name
-returns-in_err-push_str-in-Name g c = λ texts numbers ht hn.
+pub returns-in_err-push_str-in-Name-clause-expanded : goal.returns-in_err-push_str-in-Name-clause-expanded
+returns-in_err-push_str-in-Name-clause-expanded g c = λ texts numbers ht hn.
     appends_err c.from_residual-in_err-push_str-in-Name.result (string_bytes c.args.dst.now) (string_bytes c.push_str-in-Some-text_of.new.self) (text_of_template texts numbers c.args.template.now)
     c.from_residual-in_err-push_str-in-Name.ensures.0
     (appended_front (string_bytes c.args.dst.now) (string_bytes c.loop-rest.dst) (string_bytes c.push_str-in-Some-text_of.new.self)
@@ -31,6 +32,7 @@ returns-in_err-push_str-in-Name g c = λ texts numbers ht hn.
 
 pub loop-rest-preserved-in_ok-push_str-in-Text : goal.loop-rest-preserved-in_ok-push_str-in-Text
 loop-rest-preserved-in_ok-push_str-in-Text g c = record {
+  kept = kept_through (string_bytes c.args.dst.now) (string_bytes c.loop-rest.dst) (string_bytes c.push_str.new.self) c.loop-rest.invariant.kept (c.in-Text.text.now, c.in_ok-push_str-in-Text.ensures.bytes);
   closes = c.next_part.result.1.closes;
   appended = λ texts numbers ht hn.
       appended_more (string_bytes c.args.dst.now) (string_bytes c.loop-rest.dst) (string_bytes c.push_str.new.self) (text_of_template texts numbers c.args.template.now)
@@ -43,6 +45,7 @@ loop-rest-preserved-in_ok-push_str-in-Text g c = record {
 
 pub loop-rest-preserved-in_ok-push_str-in-Name : goal.loop-rest-preserved-in_ok-push_str-in-Name
 loop-rest-preserved-in_ok-push_str-in-Name g c = record {
+  kept = kept_through (string_bytes c.args.dst.now) (string_bytes c.loop-rest.dst) (string_bytes c.push_str-in-Some-text_of.new.self) c.loop-rest.invariant.kept (c.in-Some-text_of.text.now, c.in_ok-push_str-in-Name.ensures.bytes);
   closes = c.next_part.result.1.closes;
   appended = λ texts numbers ht hn.
       appended_more (string_bytes c.args.dst.now) (string_bytes c.loop-rest.dst) (string_bytes c.push_str-in-Some-text_of.new.self) (text_of_template texts numbers c.args.template.now)
@@ -57,6 +60,7 @@ loop-rest-preserved-in_ok-push_str-in-Name g c = record {
 
 pub loop-rest-preserved-in_default-text_of : goal.loop-rest-preserved-in_default-text_of
 loop-rest-preserved-in_default-text_of g c = record {
+  kept = c.loop-rest.invariant.kept;
   closes = c.next_part.result.1.closes;
   appended = λ texts numbers ht hn.
       appended_same (string_bytes c.args.dst.now) (string_bytes c.loop-rest.dst) (text_of_template texts numbers c.args.template.now)
@@ -70,6 +74,7 @@ loop-rest-preserved-in_default-text_of g c = record {
 
 pub loop-rest-preserved : goal.loop-rest-preserved
 loop-rest-preserved g c = record {
+  kept = c.loop-rest.invariant.kept;
   closes = c.next_part.result.1.closes;
   appended = λ texts numbers ht hn.
       appended_same (string_bytes c.args.dst.now) (string_bytes c.loop-rest.dst) (text_of_template texts numbers c.args.template.now)
@@ -80,7 +85,7 @@ loop-rest-preserved g c = record {
       (no_group texts numbers c.in-Name.name.now (c.in_default.ensures texts numbers hn)));
 }
 
-pub returns : goal.returns
-returns g c = λ texts numbers ht hn.
+pub returns-clause-expanded : goal.returns-clause-expanded
+returns-clause-expanded g c = λ texts numbers ht hn.
     appended_all (string_bytes c.args.dst.now) (string_bytes c.loop-rest.dst) (text_of_template texts numbers c.args.template.now) (text_of_template texts numbers c.loop-rest.rest.0.now)
     (c.loop-rest.invariant.appended texts numbers ht hn) (text_at_end texts numbers c.loop-rest.rest.0.now (eqb-true (length c.loop-rest.rest.0.now) 0 (sym c.loop-rest-test.ensures)))

@@ -1,11 +1,13 @@
 use Rattle.std.proofs.Common.{◌≡◌, ℕ, false, List, length, Option, string_bytes}
 use Rattle.bites_spec.specs.Walks.{IsNew}
+use Rattle.bites_spec.specs.Refused.{IsFront}
 use Rattle.bites_spec.specs.Expansion.{GivesTexts, GivesNumbers}
 use Rattle.bites_machine.proofs.templates.InterpolateTexts.{Appended, text_of_template}
 use Rattle.bites_machine.proofs.interpolate.string.Given as goal
 
 abbrev pub invariant-loop-rest : goal.invariant-loop-rest
 invariant-loop-rest g l = record {
+  kept : IsFront (string_bytes l.fn.dst) (string_bytes l.dst);
   closes : l.rest.1.0 ≡ false → IsNew 125 l.rest.0.now;
   appended : (texts : ℕ → Option (List ℕ)) (numbers : List ℕ → Option ℕ) →
       GivesTexts (λ k r. g.T.Fn.post l.text_of (k, tt) r) texts → GivesNumbers (λ n r. g.I.Fn.post l.index_of (n, tt) r) numbers →

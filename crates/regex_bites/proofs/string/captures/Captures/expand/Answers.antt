@@ -9,4 +9,4 @@ returns c =
     let s = c.args.self.now in
     subst (AppendsUntilRefused c.string.result (string_bytes c.args.dst.now) (string_bytes c.string.new.dst))
     (sym (expansion_of_text 0xFFFF_FFFF_FFFF_FFFF (text_in s.slots s.haystack) (index_in s.regex.names) c.args.template.now c.utf8.template))
-    (c.string.ensures (text_in s.slots s.haystack) (index_in s.regex.names) (λ k r h p. search rules) (λ n r p. search rules))
+    (c.string.ensures.expanded (text_in s.slots s.haystack) (index_in s.regex.names) (λ k r h p. search rules) (λ n r p. search rules))
