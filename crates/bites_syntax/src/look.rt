@@ -47,7 +47,7 @@ impl Look {
     }
 
     /// Returns whether the assertion holds between two bytes. At an end of the haystack one of them is None.
-    fn holds_between(
+    pub fn holds_between(
         &self,
         before: Option<u8>,
         after: Option<u8>,

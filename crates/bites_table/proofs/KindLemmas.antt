@@ -5,7 +5,7 @@ use Rattle.std.proofs.lemmas.Option.{slice_get_past}
 use Rattle.std.proofs.lemmas.Bool.{cases_Bool}
 use Rattle.std.proofs.lemmas.Bool.Decides.{nat_tests}
 use Rattle.bites_spec.specs.Look.{Look, start, end, start_lf, end_lf, start_crlf, end_crlf, word, word_negate, word_start, word_end, word_start_half, word_end_half, is_word_byte, is_byte, is_word, before, after, holds_between}
-use Rattle.bites_table.specs.Kinds.{line_feed, carriage_return, word_byte, other, kind_of_byte, kind_of, is_edge, is_line_feed, is_carriage_return, is_word_kind, holds_by}
+use Rattle.bites_table.specs.Kinds.{line_feed, carriage_return, word_byte, other, kind_of_byte, kind_of, is_edge, byte_of, holds_by}
 
 is_10 : (b : ℕ) → (b == 10) ≡ true → b ≡ 10
 is_10 b e = grind (arith, nat_tests)
@@ -13,7 +13,11 @@ is_10 b e = grind (arith, nat_tests)
 is_13 : (b : ℕ) → (b == 13) ≡ true → b ≡ 13
 is_13 b e = grind (arith, nat_tests)
 
-line_feed_is : (b : ℕ) → is_line_feed (kind_of_byte b) ≡ (b == 10)
+-- a byte of the kind of a byte
+abbrev like : ℕ → Option ℕ
+like b = byte_of (kind_of_byte b)
+
+line_feed_is : (b : ℕ) → is_byte 10 (like b) ≡ (b == 10)
 line_feed_is b =
     ⊎_elim (λ (e : (b == 10) ≡ true). rw e refl)
     (λ (e : (b == 10) ≡ false). rw e
@@ -23,9 +27,9 @@ line_feed_is b =
     (cases_Bool (b == 13))))
     (cases_Bool (b == 10))
 
-carriage_return_is : (b : ℕ) → is_carriage_return (kind_of_byte b) ≡ (b == 13)
+carriage_return_is : (b : ℕ) → is_byte 13 (like b) ≡ (b == 13)
 carriage_return_is b =
-    ⊎_elim (λ (e : (b == 10) ≡ true). subst (λ n. is_carriage_return (kind_of_byte n) ≡ (n == 13)) (sym (is_10 b e)) refl)
+    ⊎_elim (λ (e : (b == 10) ≡ true). subst (λ n. is_byte 13 (like n) ≡ (n == 13)) (sym (is_10 b e)) refl)
     (λ (e : (b == 10) ≡ false). rw e
     (⊎_elim (λ (f : (b == 13) ≡ true). rw f refl)
     (λ (f : (b == 13) ≡ false). rw f
@@ -33,25 +37,25 @@ carriage_return_is b =
     (cases_Bool (b == 13))))
     (cases_Bool (b == 10))
 
-word_is : (b : ℕ) → is_word_kind (kind_of_byte b) ≡ is_word_byte b
+word_is : (b : ℕ) → is_word (like b) ≡ is_word_byte b
 word_is b =
-    ⊎_elim (λ (e : (b == 10) ≡ true). subst (λ n. is_word_kind (kind_of_byte n) ≡ is_word_byte n) (sym (is_10 b e)) refl)
+    ⊎_elim (λ (e : (b == 10) ≡ true). subst (λ n. is_word (like n) ≡ is_word_byte n) (sym (is_10 b e)) refl)
     (λ (e : (b == 10) ≡ false). rw e
-    (⊎_elim (λ (f : (b == 13) ≡ true). subst (λ n. is_word_kind (cond (n == 13) carriage_return (cond (is_word_byte n) word_byte other)) ≡ is_word_byte n) (sym (is_13 b f)) refl)
+    (⊎_elim (λ (f : (b == 13) ≡ true). subst (λ n. is_word (byte_of (cond (n == 13) carriage_return (cond (is_word_byte n) word_byte other))) ≡ is_word_byte n) (sym (is_13 b f)) refl)
     (λ (f : (b == 13) ≡ false). rw f
     (⊎_elim (λ (g : is_word_byte b ≡ true). rw g refl) (λ (g : is_word_byte b ≡ false). rw g refl) (cases_Bool (is_word_byte b))))
     (cases_Bool (b == 13))))
     (cases_Bool (b == 10))
 
-line_feed_at : (o : Option ℕ) → is_byte 10 o ≡ is_line_feed (kind_of o)
+line_feed_at : (o : Option ℕ) → is_byte 10 o ≡ is_byte 10 (byte_of (kind_of o))
 line_feed_at None = refl
 line_feed_at (Some b) = sym (line_feed_is b)
 
-carriage_return_at : (o : Option ℕ) → is_byte 13 o ≡ is_carriage_return (kind_of o)
+carriage_return_at : (o : Option ℕ) → is_byte 13 o ≡ is_byte 13 (byte_of (kind_of o))
 carriage_return_at None = refl
 carriage_return_at (Some b) = sym (carriage_return_is b)
 
-word_at : (o : Option ℕ) → is_word o ≡ is_word_kind (kind_of o)
+word_at : (o : Option ℕ) → is_word o ≡ is_word (byte_of (kind_of o))
 word_at None = refl
 word_at (Some b) = sym (word_is b)
 
@@ -63,10 +67,10 @@ between start_lf b a = ap (λ x. is_edge (kind_of b) || x) (line_feed_at b)
 between end_lf b a = ap (λ x. is_edge (kind_of a) || x) (line_feed_at a)
 between start_crlf b a =
     ap₂ (λ x y. is_edge (kind_of b) || x || (y && not (is_byte 10 a))) (line_feed_at b) (carriage_return_at b)
-    ∙ ap (λ x. is_edge (kind_of b) || is_line_feed (kind_of b) || (is_carriage_return (kind_of b) && not x)) (line_feed_at a)
+    ∙ ap (λ x. is_edge (kind_of b) || is_byte 10 (byte_of (kind_of b)) || (is_byte 13 (byte_of (kind_of b)) && not x)) (line_feed_at a)
 between end_crlf b a =
     ap₂ (λ x y. is_edge (kind_of a) || x || (y && not (is_byte 13 b))) (carriage_return_at a) (line_feed_at a)
-    ∙ ap (λ x. is_edge (kind_of a) || is_carriage_return (kind_of a) || (is_line_feed (kind_of a) && not x)) (carriage_return_at b)
+    ∙ ap (λ x. is_edge (kind_of a) || is_byte 13 (byte_of (kind_of a)) || (is_byte 10 (byte_of (kind_of a)) && not x)) (carriage_return_at b)
 between word b a = ap₂ (λ x y. cond x (not y) y) (word_at b) (word_at a)
 between word_negate b a = ap₂ (λ x y. cond x y (not y)) (word_at b) (word_at a)
 between word_start b a = ap₂ (λ x y. not x && y) (word_at b) (word_at a)

@@ -5,3 +5,7 @@ pub mod WalkLemmas
 pub mod TransitionLemmas
 pub mod TableLemmas
 pub mod ExampleLemmas
+pub mod FrameLemmas
+pub mod RegisterLemmas
+pub mod StepLemmas
+pub mod VisitedLemmas

@@ -1,6 +1,6 @@
 -- What a walk sees of a place: the kind of the byte before it, and the character after it.
-use Rattle.std.specs.Prelude.{◌≡◌, ℕ, Bool, true, false, not, ◌||◌, ◌&&◌, List, [], ◌∷◌, map, Option, Some, None, is_some, if◌then◌else◌, ◌==◌}
-use Rattle.bites_spec.specs.Look.{Look, start, end, start_lf, end_lf, start_crlf, end_crlf, word, word_negate, word_start, word_end, word_start_half, word_end_half, is_word_byte}
+use Rattle.std.specs.Prelude.{◌≡◌, ℕ, Bool, true, false, List, [], ◌∷◌, map, Option, Some, None, is_some, if◌then◌else◌, ◌==◌}
+use Rattle.bites_spec.specs.Look.{Look, is_word_byte, holds_between}
 use Rattle.bites_spec.specs.Program.{State, Program, state_at, targets_of, edges, char, ranges, splits, goto, capture, fail, match}
 use Rattle.bites_machine.specs.Ends.{targets_over}
 
@@ -20,32 +20,17 @@ abbrev pub is_edge : Kind → Bool
 is_edge edge = true
 is_edge _ = false
 
-abbrev pub is_line_feed : Kind → Bool
-is_line_feed line_feed = true
-is_line_feed _ = false
-
-abbrev pub is_carriage_return : Kind → Bool
-is_carriage_return carriage_return = true
-is_carriage_return _ = false
-
-abbrev pub is_word_kind : Kind → Bool
-is_word_kind word_byte = true
-is_word_kind _ = false
+-- a byte of the kind
+abbrev pub byte_of : Kind → Option ℕ
+byte_of edge = None
+byte_of line_feed = Some 10
+byte_of carriage_return = Some 13
+byte_of word_byte = Some 97
+byte_of other = Some 32
 
 -- whether an assertion holds between bytes of two kinds
 abbrev pub holds_by : Look → Kind → Kind → Bool
-holds_by start b a = is_edge b
-holds_by end b a = is_edge a
-holds_by start_lf b a = is_edge b || is_line_feed b
-holds_by end_lf b a = is_edge a || is_line_feed a
-holds_by start_crlf b a = is_edge b || is_line_feed b || (is_carriage_return b && not (is_line_feed a))
-holds_by end_crlf b a = is_edge a || is_carriage_return a || (is_line_feed a && not (is_carriage_return b))
-holds_by word b a = if is_word_kind b then not (is_word_kind a) else is_word_kind a
-holds_by word_negate b a = if is_word_kind b then is_word_kind a else not (is_word_kind a)
-holds_by word_start b a = not (is_word_kind b) && is_word_kind a
-holds_by word_end b a = is_word_kind b && not (is_word_kind a)
-holds_by word_start_half b a = not (is_word_kind b)
-holds_by word_end_half b a = not (is_word_kind a)
+holds_by look b a = holds_between look (byte_of b) (byte_of a) (is_edge b) (is_edge a)
 
 -- where a state leads, by the kind of the byte before and the character after
 abbrev pub leads_by : Kind → Option ℕ → State → List ℕ

@@ -1,0 +1,71 @@
+-- Frames that are pushed, the last one first, and the bits of their sources.
+use Rattle.std.proofs.Common.{◌≡◌, ℕ, zero, suc, ◌+◌, ◌-◌, ◌*◌, ◌%◌, ◌^◌, ◌<◌, ◌≤◌, Bool, true, false, ◌||◌, List, [], ◌∷◌, ◌++◌, map, drop, length, refl, sym, ap, ◌∙◌, subst, arith, ⊎_elim, bit_or}
+use mathlib.Core.Path.{fun_ext}
+use Rattle.std.specs.Prelude.{◌==◌, slice_index_or}
+use Rattle.std.specs.Int.{w64}
+use Rattle.std.proofs.lemmas.Bool.{cases_Bool}
+use Rattle.std.proofs.lemmas.Bool.Decides.{nat_tests}
+use Rattle.std.proofs.lemmas.List.{length-reverse, drop_more}
+use Rattle.std.proofs.lemmas.Nat.Bits.{bit_at_set_same, bit_at_set_other}
+use Rattle.bites_spec.specs.Program as program
+use Rattle.bites_spec.specs.Program.{targets_of, state_at, AreStates, HasRanges, IsWellFormed}
+use Rattle.bites_machine.specs.Bits.{has_bit}
+use Rattle.bites_table.specs.Sources.{write}
+use Rattle.bites_table.specs.Built.{source_of}
+use Rattle.bites_table.specs.declared.thread_list.Source.{Source}
+
+-- one more bit
+has_bit-set : (bits slot k : ℕ) → slot < 64 → has_bit (bit_or bits (1 * 2 ^ slot % 18446744073709551616)) k ≡ ((k == slot) || has_bit bits k)
+has_bit-set bits slot k within =
+    ⊎_elim
+    (λ (e : (k == slot) ≡ true).
+    let is : k ≡ slot = grind (arith, nat_tests) in
+    let one = bit_at_set_same w64 bits slot within in
+    subst (λ n. has_bit (bit_or bits (1 * 2 ^ slot % 18446744073709551616)) n ≡ ((n == slot) || has_bit bits n)) (sym is)
+    (ap (λ x. x == 1) one ∙ grind (arith, nat_tests)))
+    (λ (e : (k == slot) ≡ false).
+    let other : k ≡ slot → ⊥ = λ is. grind (arith, nat_tests) in
+    ap (λ x. x == 1) (bit_at_set_other w64 bits slot within k other) ∙ ap (λ b. b || has_bit bits k) (sym e))
+    (cases_Bool (k == slot))
+
+-- a source with one more slot written
+pub source-written : (s : Source) (slot : ℕ) → slot < 64 → source_of (record { register = s.register; writes = bit_or s.writes (1 * 2 ^ slot % 18446744073709551616) }) ≡ write slot (source_of s)
+source-written s slot within = ap (λ (h : ℕ → Bool). record { register = s.register; writes = h }) (fun_ext (λ k. has_bit-set s.writes slot k within))
+
+-- as many targets, in whichever order
+pub length-targets : (qs : List ℕ) (reverse : Bool) → length (targets_of (program.splits qs reverse)) ≡ length qs
+length-targets qs true = length-reverse qs
+length-targets qs false = refl
+
+drop_all : {X : Type 0} (xs : List X) → drop (length xs) xs ≡ []
+drop_all [] = refl
+drop_all (x ∷ xs) = drop_all xs
+
+-- before the first push nothing is pushed
+pub none_pushed : {X Y : Type 0} (f : X → Y) (xs : List X) (ys : List Y) (n : ℕ) → n ≡ length xs → ys ≡ map f (drop n xs) ++ ys
+none_pushed f xs ys n is = ap (λ l. map f l ++ ys) (sym (drop_all xs)) ∙ ap (λ k. map f (drop k xs) ++ ys) (sym is)
+
+-- one more push
+pub one_pushed : {X Y : Type 0} (f : X → Y) (xs : List X) (x : X) (before ys : List Y) (n : ℕ) → 0 < n → n ≤ length xs → ((d : X) → x ≡ slice_index_or xs (n - 1) d) →
+    ys ≡ map f (drop n xs) ++ before → f x ∷ ys ≡ map f (drop (n - 1) xs) ++ before
+one_pushed f xs x before ys n some within is e =
+    let more : drop (n - 1) xs ≡ slice_index_or xs (n - 1) x ∷ drop (n - 1 + 1) xs = drop_more xs (n - 1) x (omega arith) in
+    let on : n - 1 + 1 ≡ n = omega arith in
+    ap (λ l. f x ∷ l) e
+    ∙ ap (λ k. f x ∷ (map f (drop k xs) ++ before)) (sym on)
+    ∙ ap (λ z. f z ∷ (map f (drop (n - 1 + 1) xs) ++ before)) (is x)
+    ∙ ap (λ l. map f l ++ before) (sym more)
+
+-- one map after another
+pub maps_at_once : {X Y Z : Type 0} (f : Y → Z) (g : X → Y) (xs : List X) → map (λ x. f (g x)) xs ≡ map f (map g xs)
+maps_at_once f g [] = refl
+maps_at_once f g (x ∷ xs) = ap (λ l. f (g x) ∷ l) (maps_at_once f g xs)
+
+ranges_rise : (len slots : ℕ) (ss : List program.State) (q : ℕ) → AreStates len slots ss → q < length ss → HasRanges (state_at ss q)
+ranges_rise len slots [] q are lt = absurd (omega arith)
+ranges_rise len slots (s ∷ ss) zero are lt = are.1
+ranges_rise len slots (s ∷ ss) (suc q) are lt = ranges_rise len slots ss q are.3 (omega arith)
+
+-- the ranges of a state of a program are in order
+pub has_ranges : (p : program.Program) → IsWellFormed p → (s : program.State) (q : ℕ) → q < length p.states → s ≡ state_at p.states q → HasRanges s
+has_ranges p well s q lt is = subst HasRanges (sym is) (ranges_rise (length p.states) p.slots p.states q well.states lt)

@@ -1,0 +1,70 @@
+//! The states that a walk visited.
+
+ghost use Rattle.std.specs.Prelude.{◌≡◌, ◌==◌, [], ◌∷◌, not, IfSome, IfOk, reverse, if◌then◌else◌};
+ghost use Rattle.std.specs.List.{list_any};
+
+use std::alloc::{AllocError, Global};
+use std::marker::Model;
+use std::snapshot::Snapshot;
+
+/// A set of states, with a list of them. Clearing it takes as long as it has members.
+///
+/// For proofs: contracts see the members, the last one first.
+#[derive(Drop)]
+pub(crate) struct Visited {
+    // For each state whether it is a member.
+    members: Vec<bool>,
+    states: Vec<u32>,
+}
+
+impl Model for Visited {
+    ghost use Rattle.std.specs.Prelude.{ℕ, List, reverse};
+    ghost use Rattle.bites_table.specs.Visited.{AreMembers};
+
+    ghost Value = { List ℕ };
+
+    ghost view = { λ a. reverse a.states.items };
+
+    ghost invariant = { λ a. AreMembers a.members.items (reverse a.states.items) };
+}
+
+impl Visited {
+    /// Allocates an empty set for the given number of states. The error is out of memory.
+    pub(crate) fn new(alloc: Global, len: usize) -> Result<Visited, AllocError>
+        ensures { IfOk result (λ v. v ≡ []) }
+    {
+        Ok(Visited {
+            members: vec![in alloc; false; len]?,
+            states: Vec::new(alloc),
+        })
+    }
+
+    /// Inserts a state. Returns whether it was not a member, or `None` if there is no such state or memory runs out.
+    pub(crate) fn insert(&mut self, state: u32) -> Option<bool>
+        ensures is_new { IfSome result (λ n. n ≡ not (list_any (λ s. s == state) self.old)) }
+        ensures states { IfSome result (λ n. self.new ≡ (if n then state ∷ self.old else self.old)) }
+    {
+        if *self.members.get(state as usize)? {
+            return Some(false);
+        }
+        self.states.push(state).ok()?;
+        self.members[state as usize] = true;
+        Some(true)
+    }
+
+    /// Removes all states.
+    pub(crate) fn clear(&mut self)
+        ensures { self.new ≡ [] }
+    {
+        while let Some(state) = self.states.pop() {
+            self.members[state as usize] = false;
+        }
+    }
+
+    /// Returns the members, for proofs.
+    pub(crate) fn states(&self) -> Snapshot<Vec<u32>>
+        ensures { reverse result.value.items ≡ self.now }
+    {
+        Snapshot::of(&self.states)
+    }
+}
