@@ -35,7 +35,8 @@ fn main() -> ExitCode {
     match run() {
         Ok(0) => ExitCode::SUCCESS,
         Ok(bad) => {
-            eprintln!("fields: {bad} lines are not in the common log format");
+            let lines_are = if bad == 1 { "line is" } else { "lines are" };
+            eprintln!("fields: {bad} {lines_are} not in the common log format");
             ExitCode::from(1)
         }
         Err(error) => {

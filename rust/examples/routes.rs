@@ -7,8 +7,13 @@ use std::process::ExitCode;
 
 fn read_table(table: &str) -> Result<Vec<(&str, Regex)>, Box<dyn std::error::Error>> {
     let mut routes = Vec::new();
-    for line in table.lines() {
-        let (name, pattern) = line.split_once(' ').ok_or("cannot read the table")?;
+    for (number, line) in (1..).zip(table.lines()) {
+        if line.trim().is_empty() || line.starts_with('#') {
+            continue;
+        }
+        let (name, pattern) = line
+            .split_once(' ')
+            .ok_or_else(|| format!("line {number} of the table has no pattern"))?;
         // Between these ends a pattern matches exactly the whole text.
         routes.push((name, Regex::new(&format!(r"\A(?:{pattern})\z"))?));
     }

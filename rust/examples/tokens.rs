@@ -7,15 +7,34 @@ use std::process::ExitCode;
 
 fn read_rules(rules: &str) -> Result<Vec<(&str, Regex)>, Box<dyn std::error::Error>> {
     let mut read = Vec::new();
-    for line in rules.lines() {
-        let (name, pattern) = line.split_once(' ').ok_or("cannot read the table")?;
+    for (number, line) in (1..).zip(rules.lines()) {
+        if line.trim().is_empty() || line.starts_with('#') {
+            continue;
+        }
+        let (name, pattern) = line
+            .split_once(' ')
+            .ok_or_else(|| format!("line {number} of the table has no pattern"))?;
         let regex = RegexBuilder::new(pattern).leftmost_longest(true).build()?;
         read.push((name, regex));
     }
     Ok(read)
 }
 
-// Returns where the tokens stop, if that is before the end of the input: the line, from 1, and the byte, from 0.
+// Returns the bytes with each tab as `\t`, each line feed as `\n` and each backslash as `\\`.
+fn escaped(text: &[u8]) -> Vec<u8> {
+    let mut escaped = Vec::new();
+    for byte in text {
+        match byte {
+            b'\\' => escaped.extend(br"\\"),
+            b'\t' => escaped.extend(br"\t"),
+            b'\n' => escaped.extend(br"\n"),
+            _ => escaped.push(*byte),
+        }
+    }
+    escaped
+}
+
+// Returns where the tokens stop, if that is before the end of the input: the line and the byte, both from 1.
 fn run(rules: &str) -> Result<Option<(usize, usize)>, Box<dyn std::error::Error>> {
     let rules = std::fs::read_to_string(rules)?;
     let rules = read_rules(&rules)?;
@@ -36,8 +55,9 @@ fn run(rules: &str) -> Result<Option<(usize, usize)>, Box<dyn std::error::Error>
         let Some(name) = longest else {
             break;
         };
-        write!(out, "{name}\t")?;
-        out.write_all(&text[place..end])?;
+        out.write_all(&escaped(name.as_bytes()))?;
+        out.write_all(b"\t")?;
+        out.write_all(&escaped(&text[place..end]))?;
         out.write_all(b"\n")?;
         place = end;
     }
@@ -46,7 +66,7 @@ fn run(rules: &str) -> Result<Option<(usize, usize)>, Box<dyn std::error::Error>
         return Ok(None);
     }
     let feeds = text[..place].iter().filter(|byte| **byte == b'\n').count();
-    Ok(Some((feeds + 1, place)))
+    Ok(Some((feeds + 1, place + 1)))
 }
 
 fn main() -> ExitCode {

@@ -1,12 +1,12 @@
 -- Tables of named patterns, and which of them reads furthest.
-use Rattle.std.proofs.Common.{◌≡◌, ℕ, ◌+◌, ◌<◌, ◌≤◌, zero, suc, true, List, [], ◌∷◌, ◌++◌, length, take, drop, All, Option, Some, None, option_map, unwrap_or, refl, sym, ◌∙◌, subst, arith, ap, get_or, slice_get, slice_set, append_assoc, below_more}
+use Rattle.std.proofs.Common.{◌≡◌, ℕ, ◌+◌, ◌<◌, ◌≤◌, zero, suc, true, false, inl, inr, List, [], ◌∷◌, ◌++◌, length, take, drop, All, Some, None, option_map, unwrap_or, refl, sym, ◌∙◌, subst, arith, ap, get_or, slice_get, slice_set, append_assoc, below_more}
 use Rattle.std.proofs.lemmas.List.{append-nil}
 use Rattle.std.proofs.lemmas.List.Elements.{All-nil, All-cons}
 use Rattle.std.proofs.lemmas.Option.{slice_get_read, slice_get_within}
 use Rattle.bites_spec.specs.Match.{Matches}
 use Rattle.bites_spec.specs.Anchored.{IsFullMatch, FindsGroupsFull}
 use Rattle.bites_filter.specs.declared.table.Reading.{Reading}
-use Rattle.bites_filter.specs.Table.{NamedRegex, IsRule, IsEntry, AreEntries, without_end, IsReach, Reads, IsFurthest, AreReadings, MatchesFull, NoneMatches, name_at}
+use Rattle.bites_filter.specs.Table.{NamedRegex, IsRule, IsEntry, AreEntries, says_nothing, without_end, IsReach, Reads, IsFurthest, AreReadings, MatchesFull, NoneMatches, name_at}
 
 module _ {S : Type 0} (Is : List ℕ → List ℕ → S → Type 0) (lines : List (List ℕ)) where
   -- the entries so far are right, with any that may follow for the lines that are left
@@ -14,10 +14,15 @@ module _ {S : Type 0} (Is : List ℕ → List ℕ → S → Type 0) (lines : Lis
   AreSoFar entries left = (more : List S) → AreEntries Is left more → AreEntries Is lines (entries ++ more)
 
   pub entry_more : (entries : List S) (all : List (List ℕ)) (line : List ℕ) (left : List (List ℕ)) → all ≡ line ∷ left →
-      AreSoFar entries all → (e : S) → IsEntry Is (without_end line) e → AreSoFar (entries ++ e ∷ []) left
-  entry_more entries all line left is so e entry more are =
+      AreSoFar entries all → says_nothing (without_end line) ≡ false → (e : S) → IsEntry Is (without_end line) e →
+      AreSoFar (entries ++ e ∷ []) left
+  entry_more entries all line left is so says e entry more are =
       subst (AreEntries Is lines) (sym (append_assoc entries (e ∷ []) more))
-      (subst (λ ls. AreSoFar entries ls) is so (e ∷ more) (e, more, entry, are, refl))
+      (subst (λ ls. AreSoFar entries ls) is so (e ∷ more) (inr (says, e, more, entry, are, refl)))
+
+  pub line_passed : (entries : List S) (all : List (List ℕ)) (line : List ℕ) (left : List (List ℕ)) → all ≡ line ∷ left →
+      AreSoFar entries all → says_nothing (without_end line) ≡ true → AreSoFar entries left
+  line_passed entries all line left is so says more are = subst (λ ls. AreSoFar entries ls) is so more (inl (says, are))
 
   pub no_entry_more : (entries : List S) (all : List (List ℕ)) → all ≡ [] → AreSoFar entries all → AreEntries Is lines entries
   no_entry_more entries all is so =
@@ -29,7 +34,8 @@ FindsLongest r = r.regex.leftmost_longest ≡ true
 -- every rule of a table finds the longest match
 pub all_longest : (ls : List (List ℕ)) (rules : List NamedRegex) → AreEntries IsRule ls rules → All FindsLongest rules
 all_longest [] rules are = subst (All FindsLongest) (sym are) (All-nil FindsLongest)
-all_longest (l ∷ ls) rules (r, rs, entry, are, is) =
+all_longest (l ∷ ls) rules (inl (says, are)) = all_longest ls rules are
+all_longest (l ∷ ls) rules (inr (says, r, rs, entry, are, is)) =
     subst (All FindsLongest) (sym is) (All-cons FindsLongest r rs entry.entry_is.longest (all_longest ls rs are))
 
 module _ (rules : List NamedRegex) (text : List ℕ) (i : ℕ) where

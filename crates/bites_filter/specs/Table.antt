@@ -1,5 +1,6 @@
 -- Tables of named patterns, and which of them reads furthest from an offset.
-use Rattle.std.specs.Prelude.{◌≡◌, ◌≢◌, ℕ, ◌<◌, ◌≤◌, true, false, List, [], ◌∷◌, ◌++◌, length, Option, Some, option_map, unwrap_or, get_or, slice_get, if◌then◌else◌}
+use Rattle.std.specs.Prelude.{◌≡◌, ◌≢◌, ℕ, ◌<◌, ◌≤◌, Bool, true, false, List, [], ◌∷◌, ◌++◌, length, Option, Some, option_map, unwrap_or, get_or, slice_get, if◌then◌else◌, ◌==◌, ◌||◌, ◌⊎◌}
+use Rattle.std.specs.List.{list_all}
 use Rattle.std.specs.Io.BufRead.{strip_last, ends_with_byte}
 use Rattle.bites_filter.specs.declared.table.Reading.{Reading}
 use Rattle.bites_spec.specs.Tree.{Tree}
@@ -35,6 +36,15 @@ IsTextRule name pattern rule = (rule.name ≡ name) × Accepts (by_default patte
 abbrev pub without_end : List ℕ → List ℕ
 without_end line = if ends_with_byte 10 line then strip_last 13 (strip_last 10 line) else line
 
+-- nothing but spaces and tabs stands in the line
+abbrev pub is_blank : List ℕ → Bool
+is_blank = list_all (λ b. (b == 32) || (b == 9))
+
+-- the line is blank, or begins with `#`
+abbrev pub says_nothing : List ℕ → Bool
+says_nothing [] = true
+says_nothing (b ∷ bs) = if b == 35 then true else is_blank (b ∷ bs)
+
 module _ {S : Type 0} (Is : List ℕ → List ℕ → S → Type 0) where
   -- The line is a name without a space, then a space and a pattern. The entry is that of both.
   pub record IsEntry (line : List ℕ) (entry : S) : Type 0 where
@@ -44,11 +54,13 @@ module _ {S : Type 0} (Is : List ℕ → List ℕ → S → Type 0) where
     pub no_space : (i : ℕ) → i < length name → get_or name i 0 ≢ 32
     pub entry_is : Is name pattern entry
 
-  -- there is an entry for each line, without the end of the line
+  -- there is an entry for each line, without the end of the line, but for the lines that say nothing
   abbrev pub AreEntries : List (List ℕ) → List S → Type 0
   AreEntries [] entries = entries ≡ []
   AreEntries (l ∷ ls) entries =
-      (e : S) × (es : List S) × IsEntry (without_end l) e × AreEntries ls es × (entries ≡ e ∷ es)
+      ((says_nothing (without_end l) ≡ true) × AreEntries ls entries)
+      ⊎ ((says_nothing (without_end l) ≡ false) × (e : S) × (es : List S) × IsEntry (without_end l) e × AreEntries ls es
+      × (entries ≡ e ∷ es))
 
 -- j is the greatest end of a match from i, or i if none ends after it
 pub record IsReach (t : Tree) (text : List ℕ) (i j : ℕ) : Type 0 where

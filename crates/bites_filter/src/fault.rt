@@ -1,35 +1,64 @@
 //! Why a program ends before its input does.
 
+use crate::help::Help;
 use bites_text::error::Error;
-use std::alloc::AllocError;
+use std::alloc::{AllocError, Global};
 use std::io::{ErrorKind, Write};
 use std::{fmt, io};
 
 /// A fault. Its text is one line of standard error, without the program's name.
 #[derive(Drop)]
 pub enum Fault {
-    /// The words after the program's name are not those that it takes. The text says how to use it.
-    Usage(&'static str),
-    /// The pattern is not accepted.
+    /// The words after the program's name are not those that it takes. The text is the usage.
+    Usage(&'static Help),
+    /// The pattern is not accepted, or the program is out of memory.
     Pattern(Error),
-    /// The named file can't be read, or does not have its form.
-    File(&'static str),
+    /// A line of a table is not a rule. The first line has number 1.
+    Rule { line: u64, fault: RuleFault },
+    /// The file of this name can't be opened or read.
+    File { name: String, error: io::Error },
     /// The input can't be read.
-    Read,
+    Read(io::Error),
     /// The output can't be written.
     Write,
     /// Nobody reads the output any more.
     Closed,
 }
 
+/// Why a line of a table is not a rule.
+#[derive(Drop)]
+pub enum RuleFault {
+    /// It is not UTF-8.
+    NotUtf8,
+    /// No space stands in it, so it has no pattern.
+    NoPattern,
+    /// Its pattern is not accepted, or the program is out of memory.
+    Pattern(Error),
+}
+
+impl RuleFault {
+    /// Returns the fault of a table that has this line.
+    pub fn at_line(self, line: u64) -> Fault {
+        match self {
+            RuleFault::Pattern(Error::Memory) => Fault::Pattern(Error::Memory),
+            fault => Fault::Rule { line, fault },
+        }
+    }
+}
+
 impl Fault {
     /// Returns why the input could not be read.
-    pub fn of_reading(error: &io::Error) -> Fault {
+    pub fn of_reading(error: io::Error) -> Fault {
         if error.kind() == ErrorKind::OutOfMemory {
             Fault::Pattern(Error::Memory)
         } else {
-            Fault::Read
+            Fault::Read(error)
         }
+    }
+
+    /// Returns the fault of an input that has more lines than can be counted. No input is that long.
+    pub fn too_long() -> Fault {
+        Fault::Read(ErrorKind::FileTooLarge.into())
     }
 
     /// Returns why the output could not be written, or its buffer not made.
@@ -38,6 +67,17 @@ impl Fault {
             ErrorKind::OutOfMemory => Fault::Pattern(Error::Memory),
             ErrorKind::BrokenPipe => Fault::Closed,
             _ => Fault::Write,
+        }
+    }
+
+    /// Returns why the file of this name could not be read.
+    pub fn of_file(alloc: Global, name: &str, error: io::Error) -> Fault {
+        if error.kind() == ErrorKind::OutOfMemory {
+            return Fault::Pattern(Error::Memory);
+        }
+        match String::from_str(alloc, name) {
+            Ok(name) => Fault::File { name, error },
+            Err(_) => Fault::Pattern(Error::Memory),
         }
     }
 
@@ -56,13 +96,33 @@ impl Fault {
 impl fmt::Display for Fault {
     fn fmt<W: fmt::Write>(&self, f: &mut fmt::Formatter<W>) -> fmt::Result {
         match self {
-            Fault::Usage(usage) => write!(f, "usage: {usage}"),
+            Fault::Usage(help) => {
+                let Help { program, usage, .. } = help;
+                write!(f, "usage: {program} {usage}; {program} --help says more")
+            }
             Fault::Pattern(error) => write!(f, "{error}"),
-            Fault::File(name) => write!(f, "cannot read {name}"),
-            Fault::Read => f.write_str("cannot read standard input"),
+            Fault::Rule { line, fault } => write!(f, "line {line} of the table {fault}"),
+            Fault::File { name, error } => write!(f, "cannot read {name}: {error}"),
+            Fault::Read(error) => write!(f, "cannot read standard input: {error}"),
             Fault::Write => f.write_str("cannot write standard output"),
             Fault::Closed => f.write_str("standard output is closed"),
         }
+    }
+}
+
+impl fmt::Display for RuleFault {
+    fn fmt<W: fmt::Write>(&self, f: &mut fmt::Formatter<W>) -> fmt::Result {
+        match self {
+            RuleFault::NotUtf8 => f.write_str("is not UTF-8"),
+            RuleFault::NoPattern => f.write_str("has no pattern"),
+            RuleFault::Pattern(error) => write!(f, "has a pattern that is refused: {error}"),
+        }
+    }
+}
+
+impl From<Error> for RuleFault {
+    fn from(error: Error) -> RuleFault {
+        RuleFault::Pattern(error)
     }
 }
 

@@ -45,8 +45,7 @@ pub fn each_line<T: LineTask, R: BufRead, W: Write>(
             count += 1;
         }
     }
-    // No input is that long.
-    Err(Fault::Read)
+    Err(Fault::too_long())
 }
 
 /// Reads the next line, with the line feed that ends it, into `line`, which is cleared first. Returns whether there was
@@ -59,7 +58,7 @@ pub fn next_line<R: BufRead>(input: &mut R, line: &mut Vec<u8>) -> Result<bool, 
     match input.read_until(b'\n', line) {
         Ok(0) => Ok(false),
         Ok(_) => Ok(true),
-        Err(error) => Err(Fault::of_reading(&error)),
+        Err(error) => Err(Fault::of_reading(error)),
     }
 }
 

@@ -1,6 +1,7 @@
 //! What programs share: the words of the command line, buffers, and the status.
 
 use crate::fault::Fault;
+use crate::help::Help;
 use std::alloc::Global;
 use std::io::{BufReader, BufWriter, Read, Write};
 use std::process::ExitCode;
@@ -8,20 +9,11 @@ use std::rt::Env;
 use std::{env, io};
 
 /// Returns the words after the program's name. The fault is out of memory, or the usage if a word is not UTF-8.
-pub fn words(rt: &(impl Env + AllocGlobal), usage: &'static str) -> Result<Vec<String>, Fault> {
+pub fn words(rt: &(impl Env + AllocGlobal), help: &'static Help) -> Result<Vec<String>, Fault> {
     match read_words(rt) {
         Ok(words) => Ok(words),
-        Err(error) if error.kind() == io::ErrorKind::OutOfMemory => Err(Fault::of_reading(&error)),
-        Err(_) => Err(Fault::Usage(usage)),
-    }
-}
-
-/// Returns a fault with the usage if there are words after the program's name.
-pub fn no_words(rt: &(impl Env + AllocGlobal), usage: &'static str) -> Result<(), Fault> {
-    if words(rt, usage)?.is_empty() {
-        Ok(())
-    } else {
-        Err(Fault::Usage(usage))
+        Err(error) if error.kind() == io::ErrorKind::OutOfMemory => Err(Fault::of_reading(error)),
+        Err(_) => Err(Fault::Usage(help)),
     }
 }
 
@@ -75,7 +67,8 @@ pub fn tell_bad<E: Write>(program: &str, bad: u64, form: &str, err: &mut E) -> u
     if bad == 0 {
         return 0;
     }
+    let lines_are = if bad == 1 { "line is" } else { "lines are" };
     // The status is 1 even if the line can't be written.
-    let _written = writeln!(err, "{program}: {bad} lines are not in {form}");
+    let _written = writeln!(err, "{program}: {bad} {lines_are} not in {form}");
     1
 }

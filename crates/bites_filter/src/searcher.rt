@@ -1,13 +1,17 @@
 //! A regex with the cache for its searches.
 
-ghost use Rattle.std.specs.Prelude.{◌≡◌, ◌↔◌, option_map, IfOk, IsTrue};
+ghost use Rattle.std.specs.Prelude.{◌≡◌, ◌↔◌, List, map, option_map, IfOk, IsTrue};
 ghost use Rattle.std.specs.Cow.{cow_slice_items};
 ghost use Rattle.bites_spec.specs.Anchored.{FindsMatchFrom};
 ghost use Rattle.bites_spec.specs.Found.{HasMatch, NoMatch};
+ghost use Rattle.bites_spec.specs.Match.{Span};
+ghost use Rattle.bites_spec.specs.Captured.{excerpt};
+ghost use Rattle.bites_spec.specs.AllMatches.{AreMatches};
 ghost use Rattle.bites_bytes.specs.Matched.{excerpt_of};
+ghost use Rattle.bites_bytes.specs.Matches.{matches_left};
 ghost use Rattle.bites_filter.specs.Substituted.{Substitutes};
 
-use bites_bytes::bytes::{Cache, Match, Regex};
+use bites_bytes::bytes::{Cache, Match, Matches, Regex};
 use std::alloc::AllocError;
 use std::borrow::CowSlice;
 use std::marker::Model;
@@ -61,6 +65,17 @@ impl Searcher {
     {
         self.regex
             .find_anchored_at_with(&mut self.cache, haystack, start)
+    }
+
+    /// Returns an iterator over the successive matches in the haystack. The error is out of memory, for the cache of the
+    /// iterator.
+    pub fn find_iter<'s, 'h>(&'s self, haystack: &'h [u8]) -> Result<Matches<'s, 'h>, AllocError>
+        ensures { IfOk result (λ m. (found : List Span) × AreMatches self.now haystack.now found
+            × (matches_left m ≡ map (excerpt haystack.now) found)) }
+    {
+        self.regex.as_str();
+        bites_spec::finds_are_successive();
+        self.regex.find_iter(haystack)
     }
 
     /// Returns the haystack with its first `limit` matches replaced by what the template stands for, or all of them

@@ -1,26 +1,26 @@
-//! Tables of patterns: each line is a name, a space and a pattern.
+//! Tables of patterns: each line is a name, a space and a pattern. A blank line says nothing, nor does one that begins
+//! with `#`.
 
-ghost use Rattle.std.specs.Prelude.{◌≡◌, ◌<◌, ◌≤◌, ℕ, List, true, length, All, IfOk};
+ghost use Rattle.std.specs.Prelude.{◌≡◌, ◌<◌, ◌≤◌, ℕ, List, true, false, length, All, IfOk, MatchOption};
 ghost use Rattle.std.specs.Io.BufRead.{strip_last};
-ghost use Rattle.bites_filter.specs.Table.{IsRule, IsEntry, AreEntries, IsReach, IsFurthest, ReadingsAreOneList, name_at, without_end};
+ghost use Rattle.bites_filter.specs.Table.{IsRule, IsEntry, AreEntries, says_nothing, is_blank, IsReach, IsFurthest, ReadingsAreOneList, name_at, without_end};
 ghost use Rattle.bites_filter.specs.Lines.{lines_of};
 
-use crate::fault::Fault;
+use crate::fault::{Fault, RuleFault};
 use crate::lines::next_line;
-use crate::program::words;
 use bites_bytes::bytes::{Cache, Error, Regex, RegexBuilder};
 use std::alloc::Global;
 use std::marker::Model;
-use std::rt::{Env, Files};
-use std::{fs, io, str};
+use std::rt::Files;
+use std::{fs, str};
 
 /// What a line of a table stands for.
 pub trait Entry: Sized {
     /// Relates a name, a pattern and the entry of both.
     ghost is: { List ℕ → List ℕ → Self → Type 0 };
 
-    /// Makes the entry of a name and a pattern. The fault is that the pattern is not accepted, or out of memory.
-    fn read(alloc: Global, name: &str, pattern: &str) -> Result<Self, Fault>
+    /// Makes the entry of a name and a pattern. The error is that the pattern is not accepted, or out of memory.
+    fn read(alloc: Global, name: &str, pattern: &str) -> Result<Self, Error>
         ensures { IfOk result (is name.now pattern.now) };
 }
 
@@ -53,7 +53,7 @@ impl Model for Rule {
 impl Entry for Rule {
     ghost is = { IsRule };
 
-    fn read(alloc: Global, name: &str, pattern: &str) -> Result<Rule, Fault> {
+    fn read(alloc: Global, name: &str, pattern: &str) -> Result<Rule, Error> {
         let mut builder = RegexBuilder::new(alloc, pattern)?;
         let regex = builder.leftmost_longest(true).build()?;
         let cache = regex.cache()?;
@@ -94,22 +94,11 @@ impl Rule {
     }
 }
 
-/// Returns the bytes of the file that the only word of the command line names. The fault is the usage if there is not
-/// exactly one word. Otherwise it is that the file can't be read, or out of memory.
-pub fn read_file(
-    rt: &(impl Env + Files + AllocGlobal),
-    usage: &'static str,
-) -> Result<Vec<u8>, Fault> {
-    let words = words(rt, usage)?;
-    let [name] = words.as_slice() else {
-        return Err(Fault::Usage(usage));
-    };
-    match fs::read(rt, name.as_str()) {
+/// Returns the bytes of the file of this name. The fault is that it can't be read, or out of memory.
+pub fn read_file(rt: &(impl Files + AllocGlobal), name: &str) -> Result<Vec<u8>, Fault> {
+    match fs::read(rt, name) {
         Ok(bytes) => Ok(bytes),
-        Err(error) if error.kind() == io::ErrorKind::OutOfMemory => {
-            Err(Fault::Pattern(Error::Memory))
-        }
-        Err(_) => Err(Fault::File("the table")),
+        Err(error) => Err(Fault::of_file(rt.alloc(), name, error)),
     }
 }
 
@@ -121,29 +110,60 @@ pub fn read_table<E: Entry + Drop>(alloc: Global, table: &[u8]) -> Result<Vec<E>
     let mut left = table;
     let mut line = Vec::new(alloc);
     let mut entries = Vec::new(alloc);
-    for _ in 0..u64::MAX {
+    for number in 0..u64::MAX {
         if !next_line(&mut left, &mut line)? {
             return Ok(entries);
         }
-        let entry = read_entry(alloc, without_line_end(&line))?;
-        match entries.push(entry) {
-            Ok(()) => {}
-            Err(_) => return Err(Fault::Pattern(Error::Memory)),
+        if let Some(entry) = read_line(alloc, number + 1, without_line_end(&line))? {
+            match entries.push(entry) {
+                Ok(()) => {}
+                Err(_) => return Err(Fault::Pattern(Error::Memory)),
+            }
         }
     }
-    // No table is that long.
-    Err(Fault::Read)
+    Err(Fault::too_long())
+}
+
+// Reads the entry of the line of this number, which has no line end. A line that says nothing has none.
+fn read_line<E: Entry>(alloc: Global, number: u64, line: &[u8]) -> Result<Option<E>, Fault>
+    ensures { IfOk result (λ entry. MatchOption entry (says_nothing line.now ≡ true)
+        (λ x. (says_nothing line.now ≡ false) × IsEntry E.is line.now x)) }
+{
+    if says_nothing(line) {
+        return Ok(None);
+    }
+    match read_entry(alloc, line) {
+        Ok(entry) => Ok(Some(entry)),
+        Err(fault) => Err(fault.at_line(number)),
+    }
+}
+
+// Returns whether the line is blank, or begins with `#`.
+fn says_nothing(line: &[u8]) -> bool
+    ensures { result ≡ says_nothing line.now }
+{
+    match line {
+        [b'#', ..] => true,
+        _ => is_blank(line),
+    }
+}
+
+// Returns whether nothing but spaces and tabs stands in the line.
+fn is_blank(line: &[u8]) -> bool
+    ensures { result ≡ is_blank line.now }
+{
+    line.iter().all(|byte| *byte == b' ' || *byte == b'\t')
 }
 
 // Reads the entry of a line that has no line end.
-fn read_entry<E: Entry>(alloc: Global, line: &[u8]) -> Result<E, Fault>
+fn read_entry<E: Entry>(alloc: Global, line: &[u8]) -> Result<E, RuleFault>
     ensures { IfOk result (IsEntry E.is line.now) }
 {
     let Ok(text) = str::from_utf8(line) else {
-        return Err(Fault::File("the table"));
+        return Err(RuleFault::NotUtf8);
     };
     let Some((name, pattern)) = text.split_once(' ') else {
-        return Err(Fault::File("the table"));
+        return Err(RuleFault::NoPattern);
     };
     let entry = E::read(alloc, name, pattern)?;
     Ok(entry)

@@ -8,7 +8,7 @@ ghost use Rattle.bites_filter.specs.Table.{IsTextRule, AreEntries, NoneMatches, 
 use crate::fault::Fault;
 use crate::table::{Entry, read_table};
 use crate::text_searcher::TextSearcher;
-use regex_bites::{Captures, Regex};
+use regex_bites::{Captures, Error, Regex};
 use std::alloc::{AllocError, Global};
 use std::marker::Model;
 use std::str;
@@ -38,7 +38,7 @@ impl Model for TextRule {
 impl Entry for TextRule {
     ghost is = { IsTextRule };
 
-    fn read(alloc: Global, name: &str, pattern: &str) -> Result<TextRule, Fault> {
+    fn read(alloc: Global, name: &str, pattern: &str) -> Result<TextRule, Error> {
         let regex = Regex::new(alloc, pattern)?;
         Ok(TextRule {
             name: String::from_str(alloc, name)?,

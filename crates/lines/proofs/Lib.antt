@@ -1,1 +1,3 @@
+mod AnyLemmas
+mod ShownLemmas
 mod FilterLemmas

@@ -1,43 +1,58 @@
-//! `lines [-c] [-i] [-n] [-v] PATTERN`: writes the lines of standard input in which a pattern matches somewhere.
-//!
-//! `-v` writes the other lines, `-n` writes the number of each line and a colon before it, `-c` writes only how many
-//! lines there are, and `-i` matches letters of ASCII in both of their cases. The status is 0 if there was such a line,
-//! 1 if there was none, or 2 for a fault, which is one line on standard error. If nobody reads the output any more, the
-//! program ends with status 0.
+//! `lines [-c] [-i] [-l] [-n] [-o] [-q] [-v] PATTERN [FILE..]`: writes the lines in which a pattern matches somewhere.
+//! Its help says the rest (`help.rt`).
 #![tactic(auto)]
 
+mod files;
 mod filter;
+mod help;
 mod options;
+mod shown;
 
 use bites_bytes::bytes::RegexBuilder;
 use bites_filter::fault::Fault;
-use bites_filter::program::{buffers, flush, status, words};
+use bites_filter::help::{asks_for_help, write_help};
+use bites_filter::program::{flush, open, status, words};
 use bites_filter::searcher::Searcher;
-use filter::{Filter, write_lines};
-use options::Options;
+use files::{STANDARD_INPUT, search_files};
+use filter::Filter;
+use help::HELP;
+use options::{Format, Options};
+use std::alloc::Global;
+use std::io::BufWriter;
 use std::process::ExitCode;
 
-const USAGE: &str = "lines [-c] [-i] [-n] [-v] PATTERN";
-
 fn main(rt: HostRuntime) -> ExitCode {
-    status("lines", run(&rt), &mut rt.stderr())
+    status(HELP.program, run(&rt), &mut rt.stderr())
 }
 
-// Does what the words ask for. Returns the status: 0 if a line was selected, else 1.
+// Does what the words ask for. Returns the status.
 fn run(rt: &HostRuntime) -> Result<u8, Fault> {
-    let words = words(rt, USAGE)?;
+    let words = words(rt, &HELP)?;
+    if asks_for_help(&words) {
+        return write_help(&HELP, &mut rt.stdout());
+    }
     let Some(options) = Options::read(words.as_slice()) else {
-        return Err(Fault::Usage(USAGE));
+        return Err(Fault::Usage(&HELP));
     };
-    let mut builder = RegexBuilder::new(rt.alloc(), options.pattern)?;
+    let mut filter = filter_of(rt.alloc(), &options)?;
+    let mut out = open(BufWriter::new(rt.alloc(), rt.stdout()))?;
+    let status = search_files(rt, &mut filter, options.files, &mut out)?;
+    flush(&mut out)?;
+    Ok(status)
+}
+
+// Returns the filter that the options stand for.
+fn filter_of<'w>(alloc: Global, options: &Options<'w>) -> Result<Filter<'w>, Fault> {
+    let mut builder = RegexBuilder::new(alloc, options.pattern)?;
     builder.case_insensitive(options.case_insensitive);
-    let mut filter = Filter {
+    Ok(Filter {
         searcher: Searcher::new(builder.build()?)?,
         invert: options.invert,
-        show: options.show,
-    };
-    let (mut input, mut out) = buffers(rt.alloc(), rt.stdin(), rt.stdout())?;
-    let count = write_lines(rt.alloc(), &mut filter, &mut input, &mut out)?;
-    flush(&mut out)?;
-    Ok(if count > 0 { 0 } else { 1 })
+        format: Format {
+            name: STANDARD_INPUT,
+            named: options.files.len() > 1,
+            numbered: options.numbered,
+            show: options.show,
+        },
+    })
 }

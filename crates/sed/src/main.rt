@@ -1,33 +1,33 @@
-//! `sed [-g] [-i] PATTERN TEMPLATE`: writes each line of standard input with its first match replaced.
-//!
-//! `-g` replaces all matches of a line, and `-i` matches letters of ASCII in both of their cases. In the template `$1`
-//! and `${1}` stand for what the group of that number matched, `$name` and `${name}` for what the group of that name
-//! matched, and `$$` for a `$`. A line in which nothing matches is written unchanged. The status is 0, or 2 for a
-//! fault, which is one line on standard error. If nobody reads the output any more, the program ends with status 0.
+//! `sed [-g] [-i] PATTERN TEMPLATE`: writes each line of standard input with its first match replaced. Its help says
+//! the rest (`help.rt`).
 #![tactic(auto)]
 
 mod editor;
+mod help;
 mod options;
 
 use bites_bytes::bytes::RegexBuilder;
 use bites_filter::fault::Fault;
+use bites_filter::help::{asks_for_help, write_help};
 use bites_filter::program::{buffers, flush, status, words};
 use bites_filter::searcher::Searcher;
 use editor::{Editor, edit_lines};
+use help::HELP;
 use options::Options;
 use std::process::ExitCode;
 
-const USAGE: &str = "sed [-g] [-i] PATTERN TEMPLATE";
-
 fn main(rt: HostRuntime) -> ExitCode {
-    status("sed", run(&rt), &mut rt.stderr())
+    status(HELP.program, run(&rt), &mut rt.stderr())
 }
 
 // Does what the words ask for. Returns the status 0.
 fn run(rt: &HostRuntime) -> Result<u8, Fault> {
-    let words = words(rt, USAGE)?;
+    let words = words(rt, &HELP)?;
+    if asks_for_help(&words) {
+        return write_help(&HELP, &mut rt.stdout());
+    }
     let Some(options) = Options::read(words.as_slice()) else {
-        return Err(Fault::Usage(USAGE));
+        return Err(Fault::Usage(&HELP));
     };
     let mut builder = RegexBuilder::new(rt.alloc(), options.pattern)?;
     builder.case_insensitive(options.case_insensitive);

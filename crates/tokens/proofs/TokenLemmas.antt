@@ -1,11 +1,17 @@
 -- Tokens one after another, and what is written of them.
-use Rattle.std.proofs.Common.{◌≡◌, ℕ, ◌-◌, ◌<◌, ◌≤◌, List, [], ◌∷◌, ◌++◌, length, take, drop, Option, refl, sym, ◌∙◌, subst, ap, arith, append_assoc}
-use Rattle.std.proofs.lemmas.List.{append-nil}
+use Rattle.std.proofs.Common.{◌≡◌, ℕ, ◌+◌, ◌-◌, ◌<◌, ◌≤◌, List, [], ◌∷◌, ◌++◌, length, get_or, take, drop, Option, refl, sym, ◌∙◌, subst, ap, arith, append_assoc}
+use Rattle.std.proofs.lemmas.List.{append-nil, at_drop_more}
 use Rattle.std.specs.Io.KnownBytes.{Appends, Keeps}
 use Rattle.bites_filter.proofs.Written.{appends_none, appends_both, appends_kept}
 use Rattle.bites_filter.specs.Table.{NamedRegex, IsFurthest, AreReadings, name_at}
 use Rattle.bites_filter.specs.declared.table.Reading.{Reading}
-use Rattle.tokens.specs.Tokens.{AreWritten, token_line, token_lines}
+use Rattle.tokens.specs.Tokens.{AreWritten, token_line, token_lines, escaped, escaped_byte}
+
+pub byte_more : (text : List ℕ) (i d : ℕ) (written : List ℕ) → i < length text → escaped text ≡ written ++ escaped (drop i text) →
+    escaped text ≡ (written ++ escaped_byte (get_or text i d)) ++ escaped (drop (i + 1) text)
+byte_more text i d written lt e =
+    e ∙ ap (λ r. written ++ r) (at_drop_more escaped text i d lt)
+    ∙ sym (append_assoc written (escaped_byte (get_or text i d)) (escaped (drop (i + 1) text)))
 
 module _ (rules : List NamedRegex) (text : List ℕ) (old : Option (List ℕ)) where
   -- what was written so far is right: together with the lines of the tokens from i on it is right for all tokens

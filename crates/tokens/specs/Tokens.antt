@@ -1,12 +1,20 @@
 -- How a text is cut into tokens, and what is written of them.
-use Rattle.std.specs.Prelude.{◌==◌, ℕ, ◌+◌, ◌-◌, ◌≤◌, List, [], ◌∷◌, ◌++◌, length, take, drop, count_by, Option}
+use Rattle.std.specs.Prelude.{◌==◌, ℕ, ◌+◌, ◌-◌, ◌≤◌, List, [], ◌∷◌, ◌++◌, length, take, drop, count_by, flat_map, Option, if◌then◌else◌}
 use Rattle.std.specs.Io.KnownBytes.{Appends}
 use Rattle.bites_filter.specs.Table.{NamedRegex, AreReadings, name_at}
 use Rattle.bites_filter.specs.declared.table.Reading.{Reading}
 
--- the line of a token: the name of its rule, a tab and its text
+-- a tab as `\t`, a line feed as `\n`, a backslash as `\\`, and any other byte as it is
+abbrev pub escaped_byte : ℕ → List ℕ
+escaped_byte b = if b == 92 then 92 ∷ 92 ∷ [] else if b == 9 then 92 ∷ 116 ∷ [] else if b == 10 then 92 ∷ 110 ∷ [] else b ∷ []
+
+-- the bytes of a text, each as above
+abbrev pub escaped : List ℕ → List ℕ
+escaped = flat_map escaped_byte
+
+-- the line of a token: the name of its rule, a tab and its text, both escaped
 abbrev pub token_line : List ℕ → List ℕ → List ℕ
-token_line name text = ((name ++ 9 ∷ []) ++ text) ++ 10 ∷ []
+token_line name text = ((escaped name ++ 9 ∷ []) ++ escaped text) ++ 10 ∷ []
 
 module _ (rules : List NamedRegex) (text : List ℕ) where
   -- the lines of tokens; the first token begins at i

@@ -1,0 +1,25 @@
+-- Matches that are written one after another.
+use Rattle.std.proofs.Common.{◌≡◌, ℕ, List, [], ◌∷◌, ◌++◌, map, flat_map, refl, sym, ap, ◌∙◌, append_assoc}
+use Rattle.std.proofs.lemmas.List.{append-nil}
+use Rattle.bites_spec.specs.Match.{Span}
+use Rattle.bites_spec.specs.Pieces.{text_at}
+use Rattle.bites_spec.specs.Captured.{Excerpt, excerpt, text_of}
+use Rattle.lines.specs.declared.options.Format.{Format}
+use Rattle.lines.specs.Selected.{label, labelled_match}
+
+module _ (f : Format) (n : ℕ) where
+  -- the lines of the matches
+  abbrev pub match_lines : List Excerpt → List ℕ
+  match_lines = flat_map (λ e. labelled_match (label f n) (text_of e))
+
+  -- a match, and those after it
+  pub match_more : (left rest : List Excerpt) (e : Excerpt) (all written : List ℕ) → left ≡ e ∷ rest → all ≡ written ++ match_lines left →
+      all ≡ (written ++ labelled_match (label f n) (text_of e)) ++ match_lines rest
+  match_more left rest e all written is so =
+      so ∙ ap (λ l. written ++ match_lines l) is ∙ sym (append_assoc written (labelled_match (label f n) (text_of e)) (match_lines rest))
+
+  -- the lines of the parts of a text
+  pub lines_of_parts : (text : List ℕ) (found : List Span) →
+      match_lines (map (excerpt text) found) ≡ flat_map (λ s. labelled_match (label f n) (text_at text s)) found
+  lines_of_parts text [] = refl
+  lines_of_parts text (s ∷ ss) = ap (λ l. labelled_match (label f n) (text_at text s) ++ l) (lines_of_parts text ss)
