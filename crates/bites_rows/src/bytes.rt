@@ -8,6 +8,7 @@ ghost use Rattle.bites_spec.specs.Measure.{static_captures_len};
 use crate::ask::{Ask, take_items};
 use crate::call::{Expander, Form, Search};
 use crate::question::Asked;
+use crate::served;
 use crate::told::{
     push_end, push_match, push_new, push_next, push_none, push_pieces, push_quoted, push_span,
 };
@@ -110,6 +111,9 @@ impl<'a> Ask for Searcher<'a> {
             Search::ReplaceLiteral => self.replaced(form, NoExpand(self.template), text),
             Search::ReplaceFixed => self.replaced(form, Fixed(self.template), text),
             Search::ReplaceCount => self.by_count(form, text),
+            Search::ReplaceServed => {
+                served::push_bytes(self.alloc, &self.regex, self.haystack, self.limit, text)
+            }
         }
     }
 }
@@ -448,7 +452,7 @@ impl<'t> Replacer for Fixed<'t> {
     }
 }
 
-fn push_replaced(text: &mut String, replaced: &CowSlice<'_, u8>) -> Result<(), AllocError> {
+pub fn push_replaced(text: &mut String, replaced: &CowSlice<'_, u8>) -> Result<(), AllocError> {
     match replaced {
         CowSlice::Borrowed(_) => push_new(text, None),
         CowSlice::Owned(new) => push_new(text, Some(new.as_slice())),

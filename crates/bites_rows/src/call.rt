@@ -44,6 +44,7 @@ pub enum Search {
     ReplaceLiteral,
     ReplaceFixed,
     ReplaceCount,
+    ReplaceServed,
 }
 
 /// What appends the expansion of a template.
@@ -121,7 +122,7 @@ pub enum Call {
 }
 
 /// Each call by its word.
-const CALLS: [(&str, Call); 27] = [
+const CALLS: [(&str, Call); 28] = [
     ("message", Call::Pattern(Question::Message)),
     ("tree", Call::Pattern(Question::Tree)),
     ("build", Call::Pattern(Question::Build)),
@@ -149,6 +150,7 @@ const CALLS: [(&str, Call); 27] = [
     ("replace_owned", Call::Search(Search::ReplaceOwned)),
     ("replace_lit", Call::Search(Search::ReplaceLiteral)),
     ("replace_count", Call::Search(Search::ReplaceCount)),
+    ("replace_served", Call::Search(Search::ReplaceServed)),
 ];
 
 /// Returns the call of this word.

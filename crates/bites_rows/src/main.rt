@@ -19,6 +19,7 @@ mod fault;
 mod others;
 mod pattern;
 mod question;
+mod served;
 mod settings;
 mod texts;
 mod told;

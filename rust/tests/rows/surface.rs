@@ -109,7 +109,7 @@ macro_rules! surface {
                     "splitn" => vec![pieces(haystack, regex.splitn(haystack, row.number))],
                     "replace" | "replace_owned" => replace(regex, haystack, row.number, template),
                     "replace_lit" => replace_lit(regex, haystack, row.number, template),
-                    "replace_count" => vec![replace_count(regex, haystack, row.number)],
+                    "replace_count" | "replace_served" => vec![replace_count(regex, haystack, row.number)],
                     "expand" => vec![expand(regex, haystack, template)],
                     "group" => vec![group(regex, haystack, template)],
                     "extract" => vec![extract(regex, haystack)],
