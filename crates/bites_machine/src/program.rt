@@ -127,7 +127,7 @@ impl Program {
     }
 
     /// Returns all states, in order of their numbers.
-    pub(crate) fn states(&self) -> &[State]
+    pub fn states(&self) -> &[State]
         ensures { states_of result.now ≡ self.now.program.states }
     {
         &self.states

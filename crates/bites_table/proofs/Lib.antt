@@ -1,6 +1,7 @@
 pub mod KindLemmas
 pub mod PieceKinds
 pub mod LeadLemmas
+pub mod BoundLemmas
 pub mod WalkLemmas
 pub mod TransitionLemmas
 pub mod TableLemmas

@@ -1,4 +1,5 @@
 pub mod Kinds
+pub mod Bounds
 pub mod Sources
 pub mod Transition
 pub mod Table

@@ -7,6 +7,7 @@
 ghost use Rattle.bites_table.specs.Example.{ExampleIsTable, ExampleEnds, TransitionsRefuse};
 ghost use Rattle.bites_table.specs.Laws.{LeadsByKind, KindIsPassed, AlikeByTaking, AlikeWithoutAssertions, WalksAreMapped, TransitionIsOne, TransitionSearches, Begins, Runs, Passes, Ends, ComesBack};
 
+pub mod bounds;
 pub mod kind;
 mod registers;
 mod stack;
