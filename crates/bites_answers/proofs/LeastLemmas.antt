@@ -53,7 +53,7 @@ module _ (t : Tree) (hay : List ℕ) (s : ℕ) (reduced : IsReduced t) (plain : 
       IsLeastOf-least (λ i. least (λ w. Some (w.end)) (parses hay t i)) EndsFrom
       (λ i. IsLeastOf-least (λ w. Some (w.end)) (λ w j. w.end ≡ j) (λ w. (refl, λ x e. omega (arith, e))) (parses hay t i)) (places hay s)
 
-  matched : (o : Option ℕ) → IsLeastOf (λ j. (i : ℕ) × Among (places hay s) i × EndsFrom i j) o → IsLeastEnd t hay s o
+  matched : (o : Option ℕ) → IsLeastOf (λ j. (i : ℕ) × Among (places hay s) i × EndsFrom i j) o → IsLeastEnd t hay (places hay s) o
   matched None none = λ i place j m. none j (i, place, (laws.parses_end_at_matches hay t reduced plain i j).1 m)
   matched (Some j) ((i, place, ends), first) = (
     (i, place, (laws.parses_end_at_matches hay t reduced plain i j).0 ends),

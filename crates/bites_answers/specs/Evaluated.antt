@@ -160,7 +160,7 @@ module _ (r : Regex) where
 module _ (r : Regex) (hay : List ℕ) where
   -- what a search from s returns, by the run of the program
   abbrev pub by_run : ℕ → Option Groups
-  by_run s = option_map (groups_in r) (slots_at r hay s)
+  by_run s = option_map (groups_in r) (slots_at r hay (places hay s))
 
   -- by the parses at the first place that has one; if the tree isn't plain, by the run
   abbrev pub by_parses : ℕ → Option Groups
@@ -178,7 +178,7 @@ module _ (r : Regex) (hay : List ℕ) where
 
   -- the first text that the template stands for
   abbrev pub first_expansion : List ℕ → Option (List ℕ)
-  first_expansion template = option_map (λ x. expanded (captured_by r hay x) template) (run_at r hay 0)
+  first_expansion template = option_map (λ x. expanded (captured_by r hay x) template) (run_at r hay (places hay 0))
 
   -- the first n matches, all for 0, replaced by texts
   abbrev pub replaced_by : ℕ → (Captured → List ℕ) → List ℕ
@@ -186,7 +186,7 @@ module _ (r : Regex) (hay : List ℕ) where
 
   -- the match and the groups that participated, as many as the form of the pattern says
   abbrev pub extracted : Option (List (List ℕ))
-  extracted = option_map (λ slots. map (text_at hay) (take (unwrap_or r.static_captures_len 0) (participating slots))) (slots_at r hay 0)
+  extracted = option_map (λ slots. map (text_at hay) (take (unwrap_or r.static_captures_len 0) (participating slots))) (slots_at r hay (places hay 0))
 
 -- the lesser of two numbers, or the one that is there
 abbrev pub lesser : Option ℕ → Option ℕ → Option ℕ
@@ -205,7 +205,7 @@ least_parse_end t hay s = least (λ i. least (λ w. Some (w.end)) (parses hay t 
 
 -- the least end of a plain tree's parses is that of its matches
 abbrev pub LeastParseEndIsLeast : Type 0
-LeastParseEndIsLeast = (t : Tree) (hay : List ℕ) (s : ℕ) → IsReduced t → IsPlain t → IsLeastEnd t hay s (least_parse_end t hay s)
+LeastParseEndIsLeast = (t : Tree) (hay : List ℕ) (s : ℕ) → IsReduced t → IsPlain t → IsLeastEnd t hay (places hay s) (least_parse_end t hay s)
 
 -- ## Answers
 

@@ -3,6 +3,7 @@ use Rattle.std.proofs.Common.{◌≡◌, ℕ, zero, suc, ◌≤◌, Bool, true, 
 use Rattle.std.specs.Prelude.{is_some, unwrap_or}
 use Rattle.std.specs.Iterator.{YieldsFirstBy}
 use Rattle.std.proofs.lemmas.List.{length-map, length-take}
+use Rattle.bites_spec.specs.Utf8.{places}
 use Rattle.bites_spec.specs.Match.{Span}
 use Rattle.bites_spec.specs.Pieces.{gaps_from, text_at}
 use Rattle.bites_spec.specs.Slots.{span_of_run}
@@ -29,8 +30,8 @@ module _ {S A B : Type 0} (view : A → B) (left : S → List B) where
   none_left s t (Some x) steps none = absurd (true≢false none)
 
 spans_bound : (r : Regex) (hay : List ℕ) (last : Option ℕ) → length (spans_after r hay last) ≤ suc (length hay)
-spans_bound r hay None = successive-length (λ s. s) hay (span_at r hay)
-spans_bound r hay (Some e) = let le = successive_after-length (λ s. s) hay (span_at r hay) e in omega (arith, le)
+spans_bound r hay None = successive-length (λ s. s) hay (λ s. span_at r hay (places hay s))
+spans_bound r hay (Some e) = let le = successive_after-length (λ s. s) hay (λ s. span_at r hay (places hay s)) e in omega (arith, le)
 
 pub length-matches : (s : Matches) → length (matches_left s) ≡ length (spans_left s.cursor)
 length-matches s = length-map (spans_left s.cursor) (excerpt s.cursor.haystack.now)
@@ -42,13 +43,13 @@ matches_bound s =
 
 captures_spans : (r : Regex) (hay : List ℕ) (last : Option ℕ) → length (captures_after r hay last) ≡ length (spans_after r hay last)
 captures_spans r hay None =
-    let runs = successive span_of_run hay (run_at r hay) in
+    let runs = successive span_of_run hay (λ s. run_at r hay (places hay s)) in
     length-map runs (captured_by r hay) ∙ sym (length-map runs span_of_run)
-    ∙ ap length (mapped_successive span_of_run span_of_run (λ s. s) (λ x. refl) hay (run_at r hay))
+    ∙ ap length (mapped_successive span_of_run span_of_run (λ s. s) (λ x. refl) hay (λ s. run_at r hay (places hay s)))
 captures_spans r hay (Some e) =
-    let runs = successive_after span_of_run hay (run_at r hay) e in
+    let runs = successive_after span_of_run hay (λ s. run_at r hay (places hay s)) e in
     length-map runs (captured_by r hay) ∙ sym (length-map runs span_of_run)
-    ∙ ap length (mapped_after span_of_run span_of_run (λ s. s) (λ x. refl) hay (run_at r hay) e)
+    ∙ ap length (mapped_after span_of_run span_of_run (λ s. s) (λ x. refl) hay (λ s. run_at r hay (places hay s)) e)
 
 -- as many captures are to come as matches are left
 pub length-captures : (s : Matches) → length (captures_to_come s.cursor) ≡ length (matches_left s)

@@ -2,7 +2,7 @@ pub mod SearchLemmas
 pub mod SettingsLemmas
 pub mod SlotLemmas
 pub mod NextLemmas
-pub mod AnchoredLemmas
+pub mod FullLemmas
 pub mod MatchLemmas
 pub mod SplitLemmas
 pub mod ReplacingLemmas

@@ -4,7 +4,7 @@ use Rattle.std.proofs.lemmas.Option.{same_Some}
 use Rattle.std.specs.Prelude.{unwrap_or, is_some}
 use Rattle.std.proofs.lemmas.List.{take_all}
 use Rattle.std.specs.Iterator.{YieldsFirstBy}
-use Rattle.bites_spec.specs.Utf8.{step_len}
+use Rattle.bites_spec.specs.Utf8.{step_len, places}
 use Rattle.bites_spec.specs.Match.{Span, span}
 use Rattle.bites_spec.specs.Run.{Run, slots}
 use Rattle.bites_spec.specs.Slots.{group_in, span_of_run}
@@ -12,6 +12,7 @@ use Rattle.bites_spec.specs.Spans.{IsNextAfter, is_empty_at, next_after, followe
 use Rattle.bites_spec.specs.Regex.{Regex, IsCompiled, run_at}
 use Rattle.bites_spec.specs.Captured.{Excerpt, excerpt, captured, AreGroups}
 use Rattle.bites_spec.specs.Iteration.{spans_after, captured_by, captures_after}
+use Rattle.bites_spec.proofs.utf8.StartLemmas.{all_are_starts}
 use Rattle.bites_spec.proofs.regex.RegexRuns.{run_at-whole, run_at-lies, run_at-AreGroups}
 use Rattle.bites_spec.proofs.iteration.SpanLemmas.{next_lies}
 use Rattle.bites_spec.proofs.iteration.SuccessiveLemmas.{next_after-IsNextAfter, goes_on, mapped_after, mapped_successive}
@@ -25,40 +26,40 @@ use Rattle.bites_bytes.proofs.NextLemmas.{front_group}
 
 module _ (r : Regex) (is : IsCompiled r) (hay : List ℕ) where
   -- a search from some place returns the next run
-  pub next_place : (last : Option ℕ) (x : Run) → next_run r hay last ≡ Some x → (s : ℕ) × (run_at r hay s ≡ Some x)
+  pub next_place : (last : Option ℕ) (x : Run) → next_run r hay last ≡ Some x → (s : ℕ) × (run_at r hay (places hay s) ≡ Some x)
   unfolding next_after
   next_place None x h = (0, h)
-  next_place (Some e) x h = chosen (is_empty_at span_of_run e (run_at r hay e)) h
+  next_place (Some e) x h = chosen (is_empty_at span_of_run e (run_at r hay (places hay e))) h
     where
-      chosen : (b : Bool) → cond b (run_at r hay (e + step_len hay e)) (run_at r hay e) ≡ Some x → (s : ℕ) × (run_at r hay s ≡ Some x)
+      chosen : (b : Bool) → cond b (run_at r hay (places hay (e + step_len hay e))) (run_at r hay (places hay e)) ≡ Some x → (s : ℕ) × (run_at r hay (places hay s) ≡ Some x)
       chosen true h = (e + step_len hay e, h)
       chosen false h = (e, h)
 
   pub next_lies_there : (last : Option ℕ) (x : Run) → next_run r hay last ≡ Some x → LiesFrom (length hay) (unwrap_or last 0) (span_of_run x)
-  next_lies_there None x h = run_at-lies r is hay 0 x h
+  next_lies_there None x h = run_at-lies r is hay 0 _ (all_are_starts hay 0) x h
   next_lies_there (Some e) x h =
-      (next_lies span_of_run hay (λ s o. run_at r hay s ≡ o) (λ s y same. run_at-lies r is hay s y same) e x
-      (subst (IsNextAfter span_of_run hay (λ s o. run_at r hay s ≡ o) e) h (next_after-IsNextAfter span_of_run hay (run_at r hay) e))).0
+      (next_lies span_of_run hay (λ s o. run_at r hay (places hay s) ≡ o) (λ s y same. run_at-lies r is hay s _ (all_are_starts hay s) y same) e x
+      (subst (IsNextAfter span_of_run hay (λ s o. run_at r hay (places hay s) ≡ o) e) h (next_after-IsNextAfter span_of_run hay (λ s. run_at r hay (places hay s)) e))).0
 
   -- the runs after a match that ends at a place, or all
   abbrev pub runs_after : Option ℕ → List Run
-  runs_after None = successive span_of_run hay (run_at r hay)
-  runs_after (Some e) = successive_after span_of_run hay (run_at r hay) e
+  runs_after None = successive span_of_run hay (λ s. run_at r hay (places hay s))
+  runs_after (Some e) = successive_after span_of_run hay (λ s. run_at r hay (places hay s)) e
 
-  runs_go_on : (last : Option ℕ) → runs_after last ≡ followed span_of_run (successive_after span_of_run hay (run_at r hay)) (next_run r hay last)
+  runs_go_on : (last : Option ℕ) → runs_after last ≡ followed span_of_run (successive_after span_of_run hay (λ s. run_at r hay (places hay s))) (next_run r hay last)
   unfolding successive
   runs_go_on None = refl
-  runs_go_on (Some e) = goes_on span_of_run hay (run_at r hay) (λ s y same. run_at-lies r is hay s y same) e
+  runs_go_on (Some e) = goes_on span_of_run hay (λ s. run_at r hay (places hay s)) (λ s y same. run_at-lies r is hay s _ (all_are_starts hay s) y same) e
 
   pub runs_step : (last : Option ℕ) (x : Run) → next_run r hay last ≡ Some x → runs_after last ≡ x ∷ runs_after (Some x.end)
-  runs_step last x h = runs_go_on last ∙ ap (followed span_of_run (successive_after span_of_run hay (run_at r hay))) h
+  runs_step last x h = runs_go_on last ∙ ap (followed span_of_run (successive_after span_of_run hay (λ s. run_at r hay (places hay s)))) h
 
   pub runs_none : (last : Option ℕ) → next_run r hay last ≡ None → runs_after last ≡ []
-  runs_none last h = runs_go_on last ∙ ap (followed span_of_run (successive_after span_of_run hay (run_at r hay))) h
+  runs_none last h = runs_go_on last ∙ ap (followed span_of_run (successive_after span_of_run hay (λ s. run_at r hay (places hay s)))) h
 
   pub spans_runs : (last : Option ℕ) → spans_after r hay last ≡ map span_of_run (runs_after last)
-  spans_runs None = sym (mapped_successive span_of_run span_of_run (λ s. s) (λ x. refl) hay (run_at r hay))
-  spans_runs (Some e) = sym (mapped_after span_of_run span_of_run (λ s. s) (λ x. refl) hay (run_at r hay) e)
+  spans_runs None = sym (mapped_successive span_of_run span_of_run (λ s. s) (λ x. refl) hay (λ s. run_at r hay (places hay s)))
+  spans_runs (Some e) = sym (mapped_after span_of_run span_of_run (λ s. s) (λ x. refl) hay (λ s. run_at r hay (places hay s)) e)
 
   pub spans_step : (last : Option ℕ) (x : Run) → next_run r hay last ≡ Some x → spans_after r hay last ≡ span_of_run x ∷ spans_after r hay (Some x.end)
   spans_step last x h = spans_runs last ∙ ap (map span_of_run) (runs_step last x h) ∙ ap (λ ss. span_of_run x ∷ ss) (sym (spans_runs (Some x.end)))
@@ -84,7 +85,7 @@ module _ (r : Regex) (is : IsCompiled r) (hay : List ℕ) where
   left_by last None found n new e h leaves holds le is_ends = absurd (true≢false (sym holds ∙ leaves))
   left_by last (Some x) found n new e h leaves holds le is_ends =
       let place = next_place last x h in
-      (x, h, is_ends ∙ ap (λ l. group_in l 0) leaves.1 ∙ front_group n (slots r.program x) le ∙ run_at-whole r is hay place.0 x place.1, leaves.1)
+      (x, h, is_ends ∙ ap (λ l. group_in l 0) leaves.1 ∙ front_group n (slots r.program x) le ∙ run_at-whole r is hay place.0 _ (all_are_starts hay place.0) x place.1, leaves.1)
 
   pub left : (last : Option ℕ) (found : Bool) (n : ℕ) (new : List (Option ℕ)) (e : Option (ℕ × ℕ)) →
       LeavesRun r.program (next_run r hay last) found n new → found ≡ true → 2 ≤ n → option_map ends e ≡ group_in new 0 →
@@ -164,5 +165,5 @@ captures_advance s (Some m) t n new is all step same =
           (sym (moved_captures s t (Some x.end) same step.2.1)),
       subst (λ l. AreGroups t.regex.now t.haystack.now l) (sym e)
           (subst (λ h. AreGroups t.regex.now h (slots r.program x)) (sym same.1)
-          (subst (λ q. AreGroups q hay (slots r.program x)) (sym same.0) (run_at-AreGroups r is hay place.0 x place.1))),
+          (subst (λ q. AreGroups q hay (slots r.program x)) (sym same.0) (run_at-AreGroups r is hay place.0 _ (all_are_starts hay place.0) x place.1))),
     )

@@ -6,6 +6,7 @@ use Rattle.bites_spec.specs.Run.{slots}
 use Rattle.bites_spec.specs.Slots.{group_in}
 use Rattle.bites_spec.specs.Regex.{IsCompiled}
 use Rattle.bites_spec.specs.Captured.{Captured, captured, Excerpt}
+use Rattle.bites_spec.proofs.utf8.StartLemmas.{all_are_starts}
 use Rattle.bites_spec.proofs.regex.RegexRuns.{run_at-whole}
 use Rattle.bites_bytes.specs.Matched.{excerpt_of}
 use Rattle.bites_bytes.specs.Matches.{IsSameSearch, Moves, Advances, left_from, captures_to_come}
@@ -66,7 +67,7 @@ pub advance_span : (s : Cursor) (m : Match) (t : Cursor) (n : ℕ) (new : List (
     Advances s (Some m) t n new → group_in new 0 ≡ Some (excerpt_of m).span
 advance_span s m t n new is le step =
     let r = s.regex.now in let x = step.0 in let place = next_place r is s.haystack.now s.last x step.1 in
-    ap (λ l. group_in l 0) step.3 ∙ front_group n (slots r.program x) le ∙ run_at-whole r is s.haystack.now place.0 x place.1
+    ap (λ l. group_in l 0) step.3 ∙ front_group n (slots r.program x) le ∙ run_at-whole r is s.haystack.now place.0 _ (all_are_starts s.haystack.now place.0) x place.1
     ∙ ap (λ (e : Excerpt). Some e.span) (sym step.2.0)
 
 -- the captures of the match come first

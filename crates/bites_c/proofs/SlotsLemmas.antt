@@ -1,8 +1,7 @@
 -- The slots that a search returns.
 use Rattle.std.proofs.Common.{◌≡◌, ℕ, ◌/◌, List, length, Option, Some, None, is_some, true, option_map, unwrap_or, refl, sym, ap, subst, ◌∙◌, true≢false}
+use Rattle.bites_spec.specs.Utf8.{AreStarts}
 use Rattle.bites_spec.specs.Regex.{Regex, IsCompiled, slots_at}
-use Rattle.bites_spec.specs.Anchored.{anchored_slots_at}
-use Rattle.bites_spec.specs.AnchoredLaws.{AnchoredSlotsAreGroups}
 use Rattle.bites_spec.specs.Captured.{AreGroups, SlotsAreGroups}
 use Rattle.bites_c.specs.Codes.{matched}
 use Rattle.bites_c.specs.Put.{HasPrefix, PutsGroups}
@@ -10,13 +9,13 @@ use Rattle.bites_c.specs.declared.span.BitesSpan.{BitesSpan}
 
 -- locations that were read keep their number
 pub read_len :
-    (r : Regex) → IsCompiled r → SlotsAreGroups → (hay : List ℕ) (s : ℕ) (old new : List (Option ℕ)) →
-    length old ≡ r.program.slots → new ≡ unwrap_or (slots_at r hay s) old → length new ≡ r.program.slots
-read_len r compiled groups hay s old new len is = by_answer (slots_at r hay s) refl is
+    (r : Regex) → IsCompiled r → SlotsAreGroups → (hay : List ℕ) (s : ℕ) (ps : List ℕ) → AreStarts hay s ps → (old new : List (Option ℕ)) →
+    length old ≡ r.program.slots → new ≡ unwrap_or (slots_at r hay ps) old → length new ≡ r.program.slots
+read_len r compiled groups hay s ps are old new len is = by_answer (slots_at r hay ps) refl is
   where
-    by_answer : (o : Option (List (Option ℕ))) → slots_at r hay s ≡ o → new ≡ unwrap_or o old → length new ≡ r.program.slots
+    by_answer : (o : Option (List (Option ℕ))) → slots_at r hay ps ≡ o → new ≡ unwrap_or o old → length new ≡ r.program.slots
     by_answer None e is = ap length is ∙ len
-    by_answer (Some xs) e is = ap length is ∙ (groups r compiled hay s xs e).count
+    by_answer (Some xs) e is = ap length is ∙ (groups r compiled hay s ps are xs e).count
 
 -- if something was found, there are slots
 pub some_slots :
@@ -35,20 +34,10 @@ found_put (Some xs) read was n old new some is half h =
 
 -- if something was found, the slots that were read are groups of the haystack
 pub read_are :
-    (r : Regex) → IsCompiled r → SlotsAreGroups → (hay : List ℕ) (s : ℕ) (old new : List (Option ℕ)) →
-    is_some (slots_at r hay s) ≡ true → new ≡ unwrap_or (slots_at r hay s) old → AreGroups r hay new
-read_are r compiled groups hay s old new some is = by_answer (slots_at r hay s) refl some is
+    (r : Regex) → IsCompiled r → SlotsAreGroups → (hay : List ℕ) (s : ℕ) (ps : List ℕ) → AreStarts hay s ps → (old new : List (Option ℕ)) →
+    is_some (slots_at r hay ps) ≡ true → new ≡ unwrap_or (slots_at r hay ps) old → AreGroups r hay new
+read_are r compiled groups hay s ps are old new some is = by_answer (slots_at r hay ps) refl some is
   where
-    by_answer : (o : Option (List (Option ℕ))) → slots_at r hay s ≡ o → is_some o ≡ true → new ≡ unwrap_or o old → AreGroups r hay new
+    by_answer : (o : Option (List (Option ℕ))) → slots_at r hay ps ≡ o → is_some o ≡ true → new ≡ unwrap_or o old → AreGroups r hay new
     by_answer None e some is = absurd (true≢false (sym some))
-    by_answer (Some xs) e some is = subst (AreGroups r hay) (sym is) (groups r compiled hay s xs e)
-
--- locations that an anchored search read keep their number
-pub anchored_len :
-    (r : Regex) → IsCompiled r → AnchoredSlotsAreGroups → (hay : List ℕ) (s : ℕ) (old new : List (Option ℕ)) →
-    length old ≡ r.program.slots → new ≡ unwrap_or (anchored_slots_at r hay s) old → length new ≡ r.program.slots
-anchored_len r compiled groups hay s old new len is = by_answer (anchored_slots_at r hay s) refl is
-  where
-    by_answer : (o : Option (List (Option ℕ))) → anchored_slots_at r hay s ≡ o → new ≡ unwrap_or o old → length new ≡ r.program.slots
-    by_answer None e is = ap length is ∙ len
-    by_answer (Some xs) e is = ap length is ∙ ((groups r compiled hay).0 s xs e).count
+    by_answer (Some xs) e some is = subst (AreGroups r hay) (sym is) (groups r compiled hay s ps are xs e)

@@ -1,12 +1,12 @@
 -- What a search with two handles returns.
 use Rattle.std.specs.Prelude.{◌≡◌, ◌≢◌, ◌↔◌, ◌<◌, ◌≤◌, ℕ, List, [], ◌∷◌, length, Option, Some, None}
 use Rattle.bites_spec.specs.Counts.{Room, fit_of}
-use Rattle.bites_spec.specs.Anchored.{FindsGroupsFrom, anchored_slots_at}
 use Rattle.bites_spec.specs.Regex.{Regex, slots_at}
 use Rattle.bites_spec.specs.Captured.{FindsGroups, captured}
 use Rattle.bites_spec.specs.Slots.{group_in}
 use Rattle.bites_spec.specs.Match.{Span}
 use Rattle.bites_spec.specs.Iteration.{spans_after, captures_after}
+use Rattle.bites_spec.specs.Found.{Finds}
 use Rattle.bites_c.specs.Put.{Puts, PutsGroups, PutsPiece, PutsSpan}
 use Rattle.bites_c.specs.Codes.{matched, not_matched, not_utf8, empty_handle, unfit_cache, too_small}
 use Rattle.bites_c.specs.Texts.{AreUtf8, Asks, AsksFrom, AsksAfter}
@@ -61,17 +61,10 @@ AnswersPiece len number last next piece P = (found : Option Span) × P found × 
 
 -- a slice with too few places is unchanged, and nothing is searched for; else the groups that are found are put into its first
 -- places
-abbrev pub PutsCaptures : Regex → List ℕ → ℕ → ℕ → List BitesSpan → List BitesSpan → Type 0
-PutsCaptures r hay s number old new =
+abbrev pub PutsCaptures : Regex → List ℕ → List ℕ → ℕ → List BitesSpan → List BitesSpan → Type 0
+PutsCaptures r hay starts number old new =
     (length old < length r.names → (number ≡ too_small) × (new ≡ old))
-    × (length r.names ≤ length old → FindsGroups r hay s (slots_at r hay s) × PutsGroups (slots_at r hay s) (length r.names) number old new)
-
--- the same for an anchored search
-abbrev pub PutsAnchoredCaptures : Regex → List ℕ → ℕ → ℕ → List BitesSpan → List BitesSpan → Type 0
-PutsAnchoredCaptures r hay s number old new =
-    (length old < length r.names → (number ≡ too_small) × (new ≡ old))
-    × (length r.names ≤ length old →
-    FindsGroupsFrom r hay s (anchored_slots_at r hay s) × PutsGroups (anchored_slots_at r hay s) (length r.names) number old new)
+    × (length r.names ≤ length old → FindsGroups r hay starts (slots_at r hay starts) × PutsGroups (slots_at r hay starts) (length r.names) number old new)
 
 -- what is found is the first of the spans that follow a match that ends at `last`, or of all spans; the others follow it
 abbrev pub FindsNext : Regex → List ℕ → Option ℕ → Option Span → Type 0

@@ -14,17 +14,18 @@ ghost use Rattle.std.specs.Prelude.{◌≡◌, ◌≢◌, ◌↔◌, IsSomeAnd, 
 ghost use Rattle.std.specs.declared.option.Option.TheVariants.{None};
 ghost use Rattle.bites_spec.specs.Counts.{fit_of};
 ghost use Rattle.bites_spec.specs.Captured.{FindsSpan};
-ghost use Rattle.bites_spec.specs.Anchored.{FindsSpanFrom, IsFullMatch, anchored_span_at};
+ghost use Rattle.bites_spec.specs.Full.{IsFullMatch};
 ghost use Rattle.bites_spec.specs.Found.{HasMatch, IsLeastEnd};
 ghost use Rattle.bites_spec.specs.Measure.{static_captures_len};
 ghost use Rattle.bites_spec.specs.Regex.{span_at};
+ghost use Rattle.bites_spec.specs.Utf8.{places, start_alone};
 ghost use Rattle.bites_text.specs.declared.error.Error.{Error as Fault};
 ghost use Rattle.bites_text.specs.declared.error.Error.TheVariants.{Memory};
 ghost use Rattle.bites_bytes.specs.Settings.{Refuses};
 ghost use Rattle.bites_c.specs.Codes.{code_of, done, not_utf8, empty_handle};
 ghost use Rattle.bites_c.specs.Made.{IsMadeBy};
 ghost use Rattle.bites_c.specs.Put.{Puts, PutsSpan, last_for_c};
-ghost use Rattle.bites_c.specs.Searched.{AnswersIf, AnswersPiece, AnswersPlace, AnswersSpan, FindsNext, PutsAnchoredCaptures, PutsCaptures, PutsNextCaptures, SearchedAfter, SearchedFrom};
+ghost use Rattle.bites_c.specs.Searched.{AnswersIf, AnswersPiece, AnswersPlace, AnswersSpan, FindsNext, PutsCaptures, PutsNextCaptures, SearchedAfter, SearchedFrom};
 ghost use Rattle.bites_c.specs.Words.{asked, text_in};
 
 mod cache;
@@ -163,7 +164,7 @@ pub extern "C" fn bites_is_match(
     ensures same { regex.new.held ≡ regex.old.held }
     ensures fits { option_map (λ c. c.fits) cache.new.room ≡ option_map (λ c. c.fits) cache.old.room }
     ensures answered { SearchedFrom haystack.now 0 regex.old.held cache.old.room result ⊤ (λ r.
-        AnswersIf result (HasMatch r.tree haystack.now 0)) }
+        AnswersIf result (HasMatch r.tree haystack.now (places haystack.now 0))) }
 {
     bites_is_match_at(alloc, regex, cache, haystack, 0)
 }
@@ -180,7 +181,7 @@ pub extern "C" fn bites_is_match_at(
     ensures same { regex.new.held ≡ regex.old.held }
     ensures fits { option_map (λ c. c.fits) cache.new.room ≡ option_map (λ c. c.fits) cache.old.room }
     ensures answered { SearchedFrom haystack.now start regex.old.held cache.old.room result ⊤ (λ r.
-        AnswersIf result (HasMatch r.tree haystack.now start)) }
+        AnswersIf result (HasMatch r.tree haystack.now (places haystack.now start))) }
 {
     match search::begin_from(alloc, regex, cache, haystack, start) {
         Ok(mut search) => {
@@ -206,7 +207,7 @@ pub extern "C" fn bites_shortest_match_at(
     ensures same { regex.new.held ≡ regex.old.held }
     ensures fits { option_map (λ c. c.fits) cache.new.room ≡ option_map (λ c. c.fits) cache.old.room }
     ensures answered { SearchedFrom haystack.now start regex.old.held cache.old.room result (end.new ≡ end.old) (λ r.
-        AnswersPlace result end.old end.new (IsLeastEnd r.tree haystack.now start)) }
+        AnswersPlace result end.old end.new (IsLeastEnd r.tree haystack.now (places haystack.now start))) }
 {
     match search::begin_from(alloc, regex, cache, haystack, start) {
         Ok(mut search) => {
@@ -232,8 +233,8 @@ pub extern "C" fn bites_find_at(
     ensures same { regex.new.held ≡ regex.old.held }
     ensures fits { option_map (λ c. c.fits) cache.new.room ≡ option_map (λ c. c.fits) cache.old.room }
     ensures answered { SearchedFrom haystack.now start regex.old.held cache.old.room result (out.new ≡ out.old) (λ r.
-        FindsSpan r haystack.now start (span_at r haystack.now start)
-        × PutsSpan (span_at r haystack.now start) result out.old out.new) }
+        FindsSpan r haystack.now (places haystack.now start) (span_at r haystack.now (places haystack.now start))
+        × PutsSpan (span_at r haystack.now (places haystack.now start)) result out.old out.new) }
 {
     match search::begin_from(alloc, regex, cache, haystack, start) {
         Ok(mut search) => {
@@ -259,8 +260,8 @@ pub extern "C" fn bites_find_anchored_at(
     ensures same { regex.new.held ≡ regex.old.held }
     ensures fits { option_map (λ c. c.fits) cache.new.room ≡ option_map (λ c. c.fits) cache.old.room }
     ensures answered { SearchedFrom haystack.now start regex.old.held cache.old.room result (out.new ≡ out.old) (λ r.
-        FindsSpanFrom r haystack.now start (anchored_span_at r haystack.now start)
-        × PutsSpan (anchored_span_at r haystack.now start) result out.old out.new) }
+        FindsSpan r haystack.now (start_alone haystack.now start) (span_at r haystack.now (start_alone haystack.now start))
+        × PutsSpan (span_at r haystack.now (start_alone haystack.now start)) result out.old out.new) }
 {
     match search::begin_from(alloc, regex, cache, haystack, start) {
         Ok(mut search) => {
@@ -377,7 +378,7 @@ pub extern "C" fn bites_captures_at(
     ensures fits { option_map (λ c. c.fits) cache.new.room ≡ option_map (λ c. c.fits) cache.old.room }
     ensures answered { SearchedFrom haystack.now start regex.old.held cache.old.room result.code
         ((result.size ≡ 0) × (groups.new ≡ groups.old)) (λ r. (result.size ≡ length r.names)
-        × PutsCaptures r haystack.now start result.code groups.old groups.new) }
+        × PutsCaptures r haystack.now (places haystack.now start) result.code groups.old groups.new) }
 {
     match search::begin_from(alloc, regex, cache, haystack, start) {
         Ok(mut search) => {
@@ -404,7 +405,7 @@ pub extern "C" fn bites_captures_anchored_at(
     ensures fits { option_map (λ c. c.fits) cache.new.room ≡ option_map (λ c. c.fits) cache.old.room }
     ensures answered { SearchedFrom haystack.now start regex.old.held cache.old.room result.code
         ((result.size ≡ 0) × (groups.new ≡ groups.old)) (λ r. (result.size ≡ length r.names)
-        × PutsAnchoredCaptures r haystack.now start result.code groups.old groups.new) }
+        × PutsCaptures r haystack.now (start_alone haystack.now start) result.code groups.old groups.new) }
 {
     match search::begin_from(alloc, regex, cache, haystack, start) {
         Ok(mut search) => {

@@ -3,14 +3,14 @@
 ghost use Rattle.std.specs.Prelude.{◌≡◌, ◌≤◌, ◌<◌, ◌+◌, ◌/◌, ◌^◌, ◌↔◌, if◌then◌else◌, IfOk, IfSome, IsSome, IsSomeAnd, IsTrue, None, OnOk, Some, is_some, length, option_map, unwrap_or};
 ghost use Rattle.bites_spec.specs.Counts.{fit_of};
 ghost use Rattle.bites_spec.specs.Captured.{AreGroups, FindsGroups, FindsSpan};
-ghost use Rattle.bites_spec.specs.Anchored.{FindsGroupsFrom, FindsSpanFrom, IsFullMatch, anchored_slots_at, anchored_span_at};
+ghost use Rattle.bites_spec.specs.Full.{IsFullMatch};
 ghost use Rattle.bites_spec.specs.Found.{HasMatch, IsLeastEnd};
 ghost use Rattle.bites_spec.specs.Match.{span};
 ghost use Rattle.bites_spec.specs.Regex.{slots_at, span_at};
 ghost use Rattle.bites_spec.specs.Replaced.{span_in};
 ghost use Rattle.bites_spec.specs.Replacer.{expanded};
 ghost use Rattle.bites_spec.specs.Spans.{LiesFrom, is_empty_at};
-ghost use Rattle.bites_spec.specs.Utf8.{step_len};
+ghost use Rattle.bites_spec.specs.Utf8.{step_len, places, start_alone};
 ghost use Rattle.bites_c.specs.Codes.{matched, not_matched};
 ghost use Rattle.bites_c.specs.Put.{HasPrefix, PutsGroups};
 ghost use Rattle.bites_c.specs.Replacing.{Ends, captures_left};
@@ -63,7 +63,7 @@ impl Room {
     /// Returns whether a match begins at or after `start`.
     pub(crate) fn is_match(&mut self, regex: &Regex, haystack: &[u8], start: usize) -> bool
         requires { self.old.fits ≡ fit_of regex.now.program }
-        ensures found { IsTrue result ↔ HasMatch regex.now.tree haystack.now start }
+        ensures found { IsTrue result ↔ HasMatch regex.now.tree haystack.now (places haystack.now start) }
         ensures fits { self.new.fits ≡ self.old.fits }
     {
         regex.is_match_at_with(&mut self.cache, haystack, start)
@@ -72,7 +72,7 @@ impl Room {
     /// Returns the least end of any match that begins at or after `start`.
     pub(crate) fn shortest(&mut self, regex: &Regex, haystack: &[u8], start: usize) -> Option<usize>
         requires { self.old.fits ≡ fit_of regex.now.program }
-        ensures least { IsLeastEnd regex.now.tree haystack.now start result }
+        ensures least { IsLeastEnd regex.now.tree haystack.now (places haystack.now start) result }
         ensures fits { self.new.fits ≡ self.old.fits }
     {
         regex.shortest_match_at_with(&mut self.cache, haystack, start)
@@ -87,8 +87,10 @@ impl Room {
         start: usize,
     ) -> Option<(usize, usize)>
         requires { self.old.fits ≡ fit_of regex.now.program }
-        ensures found { option_map (λ s. span s.0 s.1) result ≡ span_at regex.now haystack.now start }
-        ensures on_tree { FindsSpan regex.now haystack.now start (span_at regex.now haystack.now start) }
+        ensures found { option_map (λ s. span s.0 s.1) result ≡ span_at regex.now haystack.now
+            (places haystack.now start) }
+        ensures on_tree { FindsSpan regex.now haystack.now (places haystack.now start)
+            (span_at regex.now haystack.now (places haystack.now start)) }
         ensures lies { IfSome result (λ s. LiesFrom (length haystack.now) start (span s.0 s.1)) }
         ensures fits { self.new.fits ≡ self.old.fits }
     {
@@ -107,8 +109,10 @@ impl Room {
         start: usize,
     ) -> Option<(usize, usize)>
         requires { self.old.fits ≡ fit_of regex.now.program }
-        ensures found { option_map (λ s. span s.0 s.1) result ≡ anchored_span_at regex.now haystack.now start }
-        ensures on_tree { FindsSpanFrom regex.now haystack.now start (anchored_span_at regex.now haystack.now start) }
+        ensures found { option_map (λ s. span s.0 s.1) result ≡ span_at regex.now haystack.now
+            (start_alone haystack.now start) }
+        ensures on_tree { FindsSpan regex.now haystack.now (start_alone haystack.now start)
+            (span_at regex.now haystack.now (start_alone haystack.now start)) }
         ensures fits { self.new.fits ≡ self.old.fits }
     {
         match regex.find_anchored_at_with(&mut self.cache, haystack, start) {
@@ -179,9 +183,11 @@ impl Room {
     ) -> bool
         requires fits { self.old.fits ≡ fit_of regex.now.program }
         requires wide { length regex.now.names ≤ length groups.old }
-        ensures put { PutsGroups (slots_at regex.now haystack.now start) (length regex.now.names)
+        ensures put { PutsGroups (slots_at regex.now haystack.now (places haystack.now start))
+            (length regex.now.names)
             (if result then matched else not_matched) groups.old groups.new }
-        ensures on_tree { FindsGroups regex.now haystack.now start (slots_at regex.now haystack.now start) }
+        ensures on_tree { FindsGroups regex.now haystack.now (places haystack.now start)
+            (slots_at regex.now haystack.now (places haystack.now start)) }
         ensures len { length groups.new ≡ length groups.old }
         ensures same { self.new.fits ≡ self.old.fits }
     {
@@ -212,15 +218,17 @@ impl Room {
     ) -> bool
         requires fits { self.old.fits ≡ fit_of regex.now.program }
         requires wide { length regex.now.names ≤ length groups.old }
-        ensures put { PutsGroups (anchored_slots_at regex.now haystack.now start) (length regex.now.names)
+        ensures put { PutsGroups (slots_at regex.now haystack.now (start_alone haystack.now start))
+            (length regex.now.names)
             (if result then matched else not_matched) groups.old groups.new }
-        ensures on_tree { FindsGroupsFrom regex.now haystack.now start (anchored_slots_at regex.now haystack.now start) }
+        ensures on_tree { FindsGroups regex.now haystack.now (start_alone haystack.now start)
+            (slots_at regex.now haystack.now (start_alone haystack.now start)) }
         ensures len { length groups.new ≡ length groups.old }
         ensures same { self.new.fits ≡ self.old.fits }
     {
         let _pattern = regex.as_str();
-        bites_spec::anchored_slots_are_found();
-        bites_spec::anchored_slots_are_groups();
+        bites_spec::slots_are_found();
+        bites_spec::slots_are_groups();
         let Some(_) = regex.captures_read_anchored_at_with(
             &mut self.cache,
             &mut self.locations,
@@ -283,10 +291,12 @@ fn read(
 ) -> Option<(usize, usize)>
     requires cache { cache.old.fits ≡ fit_of regex.now.program }
     requires locations { length locations.old ≡ regex.now.program.slots }
-    ensures found { option_map (λ s. span s.0 s.1) result ≡ span_at regex.now haystack.now start }
+    ensures found { option_map (λ s. span s.0 s.1) result ≡ span_at regex.now haystack.now
+        (places haystack.now start) }
     ensures lies { IfSome result (λ s. LiesFrom (length haystack.now) start (span s.0 s.1)) }
     ensures are { IsSome result → AreGroups regex.now haystack.now locations.new }
-    ensures groups { locations.new ≡ unwrap_or (slots_at regex.now haystack.now start) locations.old }
+    ensures groups { locations.new ≡ unwrap_or (slots_at regex.now haystack.now
+        (places haystack.now start)) locations.old }
     ensures len { length locations.new ≡ length locations.old }
     ensures fits { cache.new.fits ≡ cache.old.fits }
 {

@@ -4,14 +4,15 @@ ghost use Rattle.std.specs.Prelude.{◌≡◌, ◌↔◌, IsTrue, IsUtf8, IfOk, 
 ghost use Rattle.std.specs.declared.option.Option.TheVariants.{Some};
 ghost use Rattle.bites_spec.specs.Counts.{fit_of};
 ghost use Rattle.bites_spec.specs.Captured.{FindsSpan};
-ghost use Rattle.bites_spec.specs.Anchored.{FindsSpanFrom, IsFullMatch, anchored_span_at};
+ghost use Rattle.bites_spec.specs.Full.{IsFullMatch};
 ghost use Rattle.bites_spec.specs.Found.{HasMatch, IsLeastEnd};
 ghost use Rattle.bites_spec.specs.Iteration.{captures_in};
 ghost use Rattle.bites_spec.specs.Match.{span};
 ghost use Rattle.bites_spec.specs.Regex.{span_at};
+ghost use Rattle.bites_spec.specs.Utf8.{places, start_alone};
 ghost use Rattle.bites_c.specs.Put.{PutsReplaced};
 ghost use Rattle.bites_c.specs.Replaced.{with_template, with_text};
-ghost use Rattle.bites_c.specs.Searched.{FindsNext, Lacks, PutsAnchoredCaptures, PutsCaptures, PutsNextCaptures, SearchedAfter, SearchedFrom, SearchedOver};
+ghost use Rattle.bites_c.specs.Searched.{FindsNext, Lacks, PutsCaptures, PutsNextCaptures, SearchedAfter, SearchedFrom, SearchedOver};
 ghost use Rattle.bites_c.specs.Texts.{AreUtf8, IsBorder};
 
 use crate::cache::BitesCache;
@@ -146,7 +147,8 @@ pub(crate) fn begin_over(
 impl Search {
     /// Returns whether a match begins at or after `start`.
     pub(crate) fn is_match(&mut self, haystack: &[u8], start: usize) -> bool
-        ensures found { IsTrue result ↔ HasMatch self.old.held.value.regex.tree haystack.now start }
+        ensures found { IsTrue result ↔ HasMatch self.old.held.value.regex.tree haystack.now
+            (places haystack.now start) }
         ensures held { self.new.held.value ≡ self.old.held.value }
         ensures fits { self.new.room.value.fits ≡ self.old.room.value.fits }
     {
@@ -155,7 +157,7 @@ impl Search {
 
     /// Returns the least end of any match that begins at or after `start`.
     pub(crate) fn shortest(&mut self, haystack: &[u8], start: usize) -> Option<usize>
-        ensures least { IsLeastEnd self.old.held.value.regex.tree haystack.now start result }
+        ensures least { IsLeastEnd self.old.held.value.regex.tree haystack.now (places haystack.now start) result }
         ensures held { self.new.held.value ≡ self.old.held.value }
         ensures fits { self.new.room.value.fits ≡ self.old.room.value.fits }
     {
@@ -165,9 +167,9 @@ impl Search {
     /// Returns the span of the first match that begins at or after `start`.
     pub(crate) fn find(&mut self, haystack: &[u8], start: usize) -> Option<(usize, usize)>
         ensures found { option_map (λ s. span s.0 s.1) result
-            ≡ span_at self.old.held.value.regex haystack.now start }
-        ensures on_tree { FindsSpan self.old.held.value.regex haystack.now start
-            (span_at self.old.held.value.regex haystack.now start) }
+            ≡ span_at self.old.held.value.regex haystack.now (places haystack.now start) }
+        ensures on_tree { FindsSpan self.old.held.value.regex haystack.now (places haystack.now start)
+            (span_at self.old.held.value.regex haystack.now (places haystack.now start)) }
         ensures held { self.new.held.value ≡ self.old.held.value }
         ensures fits { self.new.room.value.fits ≡ self.old.room.value.fits }
     {
@@ -177,9 +179,9 @@ impl Search {
     /// Returns the span of the match that begins at `start`.
     pub(crate) fn find_anchored(&mut self, haystack: &[u8], start: usize) -> Option<(usize, usize)>
         ensures found { option_map (λ s. span s.0 s.1) result
-            ≡ anchored_span_at self.old.held.value.regex haystack.now start }
-        ensures on_tree { FindsSpanFrom self.old.held.value.regex haystack.now start
-            (anchored_span_at self.old.held.value.regex haystack.now start) }
+            ≡ span_at self.old.held.value.regex haystack.now (start_alone haystack.now start) }
+        ensures on_tree { FindsSpan self.old.held.value.regex haystack.now (start_alone haystack.now start)
+            (span_at self.old.held.value.regex haystack.now (start_alone haystack.now start)) }
         ensures held { self.new.held.value ≡ self.old.held.value }
         ensures fits { self.new.room.value.fits ≡ self.old.room.value.fits }
     {
@@ -213,7 +215,8 @@ impl Search {
         groups: &mut [BitesSpan],
     ) -> BitesSize
         ensures size { result.size ≡ length self.old.held.value.regex.names }
-        ensures put { PutsCaptures self.old.held.value.regex haystack.now start result.code groups.old groups.new }
+        ensures put { PutsCaptures self.old.held.value.regex haystack.now
+            (places haystack.now start) result.code groups.old groups.new }
         ensures held { self.new.held.value ≡ self.old.held.value }
         ensures fits { self.new.room.value.fits ≡ self.old.room.value.fits }
     {
@@ -241,7 +244,8 @@ impl Search {
         groups: &mut [BitesSpan],
     ) -> BitesSize
         ensures size { result.size ≡ length self.old.held.value.regex.names }
-        ensures put { PutsAnchoredCaptures self.old.held.value.regex haystack.now start result.code groups.old groups.new }
+        ensures put { PutsCaptures self.old.held.value.regex haystack.now
+            (start_alone haystack.now start) result.code groups.old groups.new }
         ensures held { self.new.held.value ≡ self.old.held.value }
         ensures fits { self.new.room.value.fits ≡ self.old.room.value.fits }
     {

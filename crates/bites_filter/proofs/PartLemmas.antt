@@ -9,7 +9,7 @@ use Rattle.bites_spec.specs.Slots.{group_in, participating}
 use Rattle.bites_spec.specs.Pieces.{text_at}
 use Rattle.bites_spec.specs.Regex.{Regex}
 use Rattle.bites_spec.specs.Captured.{Captured, AreGroups}
-use Rattle.bites_spec.specs.Anchored.{FindsGroupsFull}
+use Rattle.bites_spec.specs.Full.{FindsGroupsFull}
 use Rattle.bites_filter.specs.Parts.{HasGroups, AreParts}
 
 -- each group participates

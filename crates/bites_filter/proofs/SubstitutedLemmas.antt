@@ -15,6 +15,7 @@ use Rattle.bites_spec.specs.Replacer.{expanded, is_plain, plain_text, GivesExpan
 use Rattle.bites_spec.specs.Template.{byte, Cuts, plain, ends, stands_for}
 use Rattle.bites_spec.specs.Expansion.{text_in, index_in}
 use Rattle.bites_spec.specs.TemplateLaws.{ExpandsOnce}
+use Rattle.bites_spec.specs.Utf8.{places}
 use Rattle.bites_filter.specs.Substituted.{Substitutes}
 
 nothing_replaced : (text template : List ℕ) (n : ℕ) →
@@ -24,7 +25,7 @@ nothing_replaced text template (suc n) = refl
 
 -- if nothing matches, nothing is replaced
 pub unchanged : CapturesAreMatches → NoneIsLeftOut → (r : Regex) (template text new : List ℕ) (n : ℕ) →
-    Substitutes r template n text new → NoMatch r.tree text 0 → new ≡ text
+    Substitutes r template n text new → NoMatch r.tree text (places text 0) → new ≡ text
 unchanged matches left_out r template text new n s none = by s.found s.all s.new_is
   where
     by : (cs : List Captured) → AreCaptures r text cs →

@@ -4,7 +4,7 @@ use Rattle.std.proofs.lemmas.List.{append-nil}
 use Rattle.std.proofs.lemmas.List.Elements.{All-nil, All-cons}
 use Rattle.std.proofs.lemmas.Option.{slice_get_read, slice_get_within}
 use Rattle.bites_spec.specs.Match.{Matches}
-use Rattle.bites_spec.specs.Anchored.{IsFullMatch, FindsGroupsFull}
+use Rattle.bites_spec.specs.Full.{IsFullMatch, FindsGroupsFull}
 use Rattle.bites_filter.specs.declared.table.Reading.{Reading}
 use Rattle.bites_filter.specs.Table.{NamedRegex, IsRule, IsEntry, AreEntries, says_nothing, without_end, IsReach, Reads, IsFurthest, AreReadings, MatchesFull, NoneMatches, name_at}
 

@@ -3,7 +3,7 @@ use Rattle.std.specs.Prelude.{◌≡◌, ℕ, ◌+◌, ◌<◌, Bool, true, fals
 use Rattle.bites_spec.specs.Tree.{Tree}
 use Rattle.bites_spec.specs.Match.{Mark, Parse, groups}
 use Rattle.bites_spec.specs.Measure.{groups_left, static_captures_len}
-use Rattle.bites_spec.specs.Anchored.{IsFullMatch}
+use Rattle.bites_spec.specs.Full.{IsFullMatch}
 use Rattle.bites_spec.specs.Pieces.{text_at}
 use Rattle.bites_spec.specs.Regex.{Regex}
 

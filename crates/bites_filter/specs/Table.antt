@@ -6,7 +6,7 @@ use Rattle.bites_filter.specs.declared.table.Reading.{Reading}
 use Rattle.bites_spec.specs.Tree.{Tree}
 use Rattle.bites_spec.specs.Match.{Matches}
 use Rattle.bites_spec.specs.Regex.{Regex}
-use Rattle.bites_spec.specs.Anchored.{IsFullMatch, FindsGroupsFull}
+use Rattle.bites_spec.specs.Full.{IsFullMatch, FindsGroupsFull}
 use Rattle.bites_spec.specs.Settings.{Accepts, settings, no_flags, by_default}
 
 -- a regex with its name

@@ -2,11 +2,11 @@
 
 ghost use Rattle.std.specs.Prelude.{◌≡◌, ◌↔◌, List, map, option_map, IfOk, IsTrue};
 ghost use Rattle.std.specs.Cow.{cow_slice_items};
-ghost use Rattle.bites_spec.specs.Anchored.{FindsMatchFrom};
 ghost use Rattle.bites_spec.specs.Found.{HasMatch, NoMatch};
 ghost use Rattle.bites_spec.specs.Match.{Span};
-ghost use Rattle.bites_spec.specs.Captured.{excerpt};
 ghost use Rattle.bites_spec.specs.AllMatches.{AreMatches};
+ghost use Rattle.bites_spec.specs.Captured.{excerpt, FindsMatch};
+ghost use Rattle.bites_spec.specs.Utf8.{places, start_alone};
 ghost use Rattle.bites_bytes.specs.Matched.{excerpt_of};
 ghost use Rattle.bites_bytes.specs.Matches.{matches_left};
 ghost use Rattle.bites_filter.specs.Substituted.{Substitutes};
@@ -52,7 +52,7 @@ impl Searcher {
 
     /// Returns whether the pattern matches somewhere in the haystack. It allocates nothing.
     pub fn is_match(&mut self, haystack: &[u8]) -> bool
-        ensures found { IsTrue result ↔ HasMatch self.old.tree haystack.now 0 }
+        ensures found { IsTrue result ↔ HasMatch self.old.tree haystack.now (places haystack.now 0) }
         ensures same { self.new ≡ self.old }
     {
         self.regex.is_match_with(&mut self.cache, haystack)
@@ -60,7 +60,8 @@ impl Searcher {
 
     /// Returns the match that begins at `start`, if one does. It allocates nothing.
     pub fn find_anchored_at<'h>(&mut self, haystack: &'h [u8], start: usize) -> Option<Match<'h>>
-        ensures found { FindsMatchFrom self.old haystack.now start (option_map excerpt_of result) }
+        ensures found { FindsMatch self.old haystack.now (start_alone haystack.now start)
+            (option_map excerpt_of result) }
         ensures same { self.new ≡ self.old }
     {
         self.regex
@@ -89,7 +90,7 @@ impl Searcher {
         ensures substitutes { IfOk result (λ r.
             Substitutes self.old template.now limit haystack.now (cow_slice_items r)) }
         ensures unchanged { IfOk result (λ r.
-            NoMatch self.old.tree haystack.now 0 → cow_slice_items r ≡ haystack.now) }
+            NoMatch self.old.tree haystack.now (places haystack.now 0) → cow_slice_items r ≡ haystack.now) }
         ensures same { self.new ≡ self.old }
     {
         // What the proof takes from here: that the regex is compiled, and four laws.

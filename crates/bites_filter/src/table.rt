@@ -83,7 +83,8 @@ impl Rule {
         bites_spec::match_is_parse();
         bites_spec::found_lies();
         bites_spec::finds_some();
-        bites_spec::anchored_is_found();
+        bites_spec::searches_have_starts();
+        bites_spec::start_is_alone();
         match self
             .regex
             .find_anchored_at_with(&mut self.cache, text, start)

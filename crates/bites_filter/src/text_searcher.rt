@@ -1,7 +1,7 @@
 //! A regex over texts with the cache for its searches.
 
 ghost use Rattle.std.specs.Prelude.{◌≡◌, ◌+◌, length, map, option_map, IfOk, IfSome};
-ghost use Rattle.bites_spec.specs.Anchored.{FindsGroupsFull};
+ghost use Rattle.bites_spec.specs.Full.{FindsGroupsFull};
 ghost use Rattle.bites_filter.specs.Parts.{HasGroups, Extracts, ExtractsBytes};
 
 use regex_bites::{Cache, Captures, Regex};

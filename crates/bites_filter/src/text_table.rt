@@ -1,7 +1,7 @@
 //! Tables of patterns over texts. A search takes the first pattern that matches a whole text.
 
 ghost use Rattle.std.specs.Prelude.{◌≡◌, ◌<◌, length, option_map, MatchOption, IfOk, IfSome, IsUtf8};
-ghost use Rattle.bites_spec.specs.Anchored.{FindsGroupsFull};
+ghost use Rattle.bites_spec.specs.Full.{FindsGroupsFull};
 ghost use Rattle.bites_filter.specs.Lines.{lines_of};
 ghost use Rattle.bites_filter.specs.Table.{IsTextRule, AreEntries, NoneMatches, IsFirst, name_at};
 

@@ -2,7 +2,7 @@
 
 ghost use Rattle.bites_spec.specs.Counts.{fit_of, IsBounded, VisitedBy};
 ghost use Rattle.bites_spec.specs.Run.{Run, Answered, LeastEnd, first_run, longest_run};
-ghost use Rattle.bites_spec.specs.Anchored.{anchored_run, LeastEndFrom, VisitedFrom};
+ghost use Rattle.bites_spec.specs.Utf8.{places, start_alone};
 ghost use Rattle.bites_machine.specs.declared.vm.MatchKind.TheVariants.{First, Earliest, Longest};
 ghost use Rattle.std.specs.Prelude.{◌⊎◌, Option, true, false, ◌≡◌, length};
 
@@ -37,13 +37,13 @@ pub fn search(
     requires slots { (length slots.old ≡ 0) ⊎ (length slots.old ≡ 2)
         ⊎ (length slots.old ≡ program.now.program.slots) }
     ensures first { earliest ≡ false → Answered program.now.program
-        (first_run program.now.program haystack.now start) result slots.old slots.new }
+        (first_run program.now.program haystack.now (places haystack.now start)) result slots.old slots.new }
     ensures least { earliest ≡ true → (o : Option Run)
-        × LeastEnd program.now.program haystack.now start o
+        × LeastEnd program.now.program haystack.now (places haystack.now start) o
         × Answered program.now.program o result slots.old slots.new }
     ensures fits { cache.new.fits ≡ cache.old.fits }
     ensures bounded { IsBounded program.now.program haystack.now start cache.new.walked }
-    ensures visited { VisitedBy program.now.program haystack.now start result cache.new.walked }
+    ensures visited { VisitedBy program.now.program haystack.now (places haystack.now start) result cache.new.walked }
 {
     let counted = counted::Counted::new(program.states());
     let request = pikevm::Request {
@@ -68,10 +68,10 @@ pub fn search_longest(
     requires slots { (length slots.old ≡ 0) ⊎ (length slots.old ≡ 2)
         ⊎ (length slots.old ≡ program.now.program.slots) }
     ensures longest { Answered program.now.program
-        (longest_run program.now.program haystack.now start) result slots.old slots.new }
+        (longest_run program.now.program haystack.now (places haystack.now start)) result slots.old slots.new }
     ensures fits { cache.new.fits ≡ cache.old.fits }
     ensures bounded { IsBounded program.now.program haystack.now start cache.new.walked }
-    ensures visited { VisitedBy program.now.program haystack.now start result cache.new.walked }
+    ensures visited { VisitedBy program.now.program haystack.now (places haystack.now start) result cache.new.walked }
 {
     let counted = counted::Counted::new(program.states());
     let request = pikevm::Request {
@@ -111,15 +111,16 @@ pub fn search_anchored(
     requires slots { (length slots.old ≡ 0) ⊎ (length slots.old ≡ 2)
         ⊎ (length slots.old ≡ program.now.program.slots) }
     ensures first { kind ≡ First → Answered program.now.program
-        (anchored_run program.now.program haystack.now false start) result slots.old slots.new }
+        (first_run program.now.program haystack.now (start_alone haystack.now start)) result slots.old slots.new }
     ensures least { kind ≡ Earliest → (o : Option Run)
-        × LeastEndFrom program.now.program haystack.now start o
+        × LeastEnd program.now.program haystack.now (start_alone haystack.now start) o
         × Answered program.now.program o result slots.old slots.new }
     ensures longest { kind ≡ Longest → Answered program.now.program
-        (anchored_run program.now.program haystack.now true start) result slots.old slots.new }
+        (longest_run program.now.program haystack.now (start_alone haystack.now start)) result slots.old slots.new }
     ensures fits { cache.new.fits ≡ cache.old.fits }
     ensures bounded { IsBounded program.now.program haystack.now start cache.new.walked }
-    ensures visited { VisitedFrom program.now.program haystack.now start result cache.new.walked }
+    ensures visited { VisitedBy program.now.program haystack.now (start_alone haystack.now start)
+        result cache.new.walked }
 {
     let counted = counted::Counted::new(program.states());
     let request = pikevm::Request {

@@ -2,14 +2,14 @@
 -- proofs: its names are kept, while all others may change.
 use Rattle.std.proofs.Common.{List, ap, arith, map, refl, subst, sym, ℕ, ◌∙◌, ◌≡◌}
 use Rattle.std.proofs.lemmas.List.{length-map}
-use Rattle.bites_spec.specs.AnchoredLaws.{AnchoredRunIsFound, AnchoredSlotsAreFound, AnchoredSlotsAreGroups, LeastEndFromIsLeast, FullRunIsFound, AnchoredFindsSome, AnchoredIsFound, AnchoredHasBorders}
+use Rattle.bites_spec.specs.FullLaws.{FullRunIsFound, FullSlotsAreGroups, FullFindsSome, FullIsFound}
 use Rattle.bites_spec.specs.AllMatches.{MatchesHaveBorders, CapturesAreMatches, FindsAreSuccessive, GroupsAreSuccessive, MatchesStandApart, NoneIsLeftOut}
-use Rattle.bites_spec.specs.CallerLaws.{NamesAreAscii, AnchoredIsBegun, AnchoredIsRead, AnchoredIsWhole, AnchoredMatchesWhole, EachParticipates, LiteralIsRead, RangesAreListed, StartIsPlace, UnionsAreListed}
+use Rattle.bites_spec.specs.CallerLaws.{NamesAreAscii, AnchoredIsBegun, AnchoredIsRead, AnchoredIsWhole, AnchoredMatchesWhole, EachParticipates, LiteralIsRead, RangesAreListed, SearchesHaveStarts, StartIsAlone, StartIsPlace, UnionsAreListed}
 use Rattle.bites_spec.specs.Captured.{SlotsAreFound, SlotsAreGroups}
 use Rattle.bites_spec.specs.Class.{ListsOnce}
 use Rattle.bites_spec.specs.EscapedLaws.{EscapedIsText, EscapedFindsText, EscapedIsAccepted, EscapedIsFlat, EscapedIsRead, EscapedMatchesText}
 use Rattle.bites_spec.specs.Found.{parse_to}
-use Rattle.bites_spec.specs.FoundLaws.{AnswersBeginAlike, FoundLies, LeastEndIsAtMost, StaticLenIsLeast}
+use Rattle.bites_spec.specs.FoundLaws.{AnswersBeginAlike, FoundLies, StartsFind, LeastEndIsAtMost, StaticLenIsLeast}
 use Rattle.bites_spec.specs.GrammarLaws.{FaultsOnce, ListsAll, ReadIsCompilable, ReadOrRefused, ReaderReads, ReaderRefuses, ReadsOnce, RefusedHasNoTree, StuckBracketIsNotRead}
 use Rattle.bites_spec.specs.GroupLaws.{DroppedHaveNoPlace, KeptAnswerAlike, LeftAreKept, OpenedAreKept, OpenedOnce}
 use Rattle.bites_spec.specs.Iteration.{CapturesHaveSpans}
@@ -30,7 +30,8 @@ use Rattle.bites_spec.specs.Tree.{IsPlain, IsReduced, Tree}
 use Rattle.bites_spec.specs.Walks.{Among}
 use Rattle.bites_spec.proofs.regex.AlikeLemmas
 use Rattle.bites_spec.proofs.regex.AllMatchesLemmas
-use Rattle.bites_spec.proofs.regex.AnchoredLemmas
+use Rattle.bites_spec.proofs.regex.FullLemmas
+use Rattle.bites_spec.proofs.utf8.StartLemmas
 use Rattle.bites_spec.proofs.characters.AsciiNames
 use Rattle.bites_spec.proofs.regex.BegunLemmas
 use Rattle.bites_spec.proofs.parses.BoundLemmas
@@ -81,16 +82,16 @@ pub match_is_parse : MatchIsParse
 match_is_parse = (λ hay t i j h. EventLemmas.Matches-Parse hay t i j h, λ hay t i j ms h. EventLemmas.Parse-Matches hay t i j ms h)
 
 pub first_run_is_first : FirstRunIsFirst
-first_run_is_first = λ p hay well s. RunLemmas.first_run-FirstRun p hay well s
+first_run_is_first = λ p hay well s ps are. RunLemmas.first_run-FirstRun p hay well s ps are
 
 pub first_run_is_one : FirstRunIsOne
-first_run_is_one = λ p hay well s o h. OneLemmas.FirstRun-first_run p hay well s o h
+first_run_is_one = λ p hay well s ps are o h. OneLemmas.FirstRun-first_run p hay well s ps are o h
 
 pub longest_run_is_longest : LongestRunIsLongest
-longest_run_is_longest = λ p hay well s. LongestLemmas.longest_run-LongestRun p hay well s
+longest_run_is_longest = λ p hay well s ps are. LongestLemmas.longest_run-LongestRun p hay well s ps are
 
 pub longest_run_is_one : LongestRunIsOne
-longest_run_is_one = λ p hay well s o h. LongestLemmas.LongestRun-longest_run p hay well s o h
+longest_run_is_one = λ p hay well s ps are o h. LongestLemmas.LongestRun-longest_run p hay well s ps are o h
 
 pub slots_are_written : SlotsAreWritten
 slots_are_written = ValueLemmas.slots_are_written
@@ -126,16 +127,16 @@ pub plain_runs_are_simple : PlainRunsAreSimple
 plain_runs_are_simple = λ t p hay fit built plain i j r runs. FoundLemmas.plain_simple t p hay fit built plain i j r runs
 
 pub first_run_is_found : FirstRunIsFound
-first_run_is_found = λ t p hay fit built well s. FoundLemmas.first_run-Found t p hay fit built well s
+first_run_is_found = λ t p hay fit built well s ps are. FoundLemmas.first_run-Found t p hay fit built well s ps are
 
 pub least_end_is_least : LeastEndIsLeast
-least_end_is_least = λ t p hay fit built s o h. FoundLemmas.LeastEnd-IsLeastEnd t p hay fit built s o h
+least_end_is_least = λ t p hay fit built ps o h. FoundLemmas.LeastEnd-IsLeastEnd t p hay fit built ps o h
 
 pub parses_are_listed : ParsesAreListed
 parses_are_listed = λ hay t reduced plain i. (λ w h. ListedLemmas.listed-Parse hay t reduced i w h, λ j ms parse. ListedLemmas.Parse-listed hay t plain i j ms parse)
 
 pub longest_is_found : LongestIsFound
-longest_is_found = λ t p hay fit built s o h. FoundLemmas.LongestRun-FoundLongest t p hay fit built s o h
+longest_is_found = λ t p hay fit built ps o h. FoundLemmas.LongestRun-FoundLongest t p hay fit built ps o h
 
 pub ranges_of_a_set_are_unique : ListsOnce
 ranges_of_a_set_are_unique = RangeLemmas.lists_once
@@ -225,6 +226,9 @@ run_is_found = RegexLemmas.run_is_found
 
 pub finds_some : FindsSome
 finds_some = FoundSomeLemmas.finds_some
+
+pub starts_find : StartsFind
+starts_find = FoundSomeLemmas.starts_find
 
 pub found_lies : FoundLies
 found_lies = BoundLemmas.found_lies
@@ -333,6 +337,12 @@ matches_stand_apart = AllMatchesLemmas.matches_stand_apart
 pub start_is_place : StartIsPlace
 start_is_place = CallerLemmas.start_is_place
 
+pub start_is_alone : StartIsAlone
+start_is_alone = StartLemmas.start_is_alone
+
+pub searches_have_starts : SearchesHaveStarts
+searches_have_starts = StartLemmas.searches_have_starts
+
 pub anchored_is_whole : AnchoredIsWhole
 anchored_is_whole = CallerLemmas.anchored_is_whole
 
@@ -352,7 +362,7 @@ pub each_participates : EachParticipates
 each_participates = CallerLemmas.each_participates
 
 pub answers_have_group_0 : AnswersHaveGroup0
-answers_have_group_0 = λ r is hay s x e. RegexRuns.run_at-whole r is hay s x e
+answers_have_group_0 = λ r is hay s ps are x e. RegexRuns.run_at-whole r is hay s ps are x e
 
 pub escaped_texts_are_texts : EscapedIsText
 escaped_texts_are_texts = EscapedReading.escaped_chars
@@ -402,29 +412,17 @@ appends_refuse = Refuted.appends_refuse
 pub names_are_ascii : NamesAreAscii
 names_are_ascii = AsciiNames.names_are_ascii
 
-pub anchored_run_is_found : AnchoredRunIsFound
-anchored_run_is_found = AnchoredLemmas.anchored_run_is_found
-
-pub anchored_slots_are_found : AnchoredSlotsAreFound
-anchored_slots_are_found = AnchoredLemmas.anchored_slots_are_found
-
-pub anchored_slots_are_groups : AnchoredSlotsAreGroups
-anchored_slots_are_groups = AnchoredLemmas.anchored_slots_are_groups
-
-pub least_end_from_is_least : LeastEndFromIsLeast
-least_end_from_is_least = AnchoredLemmas.least_end_from_is_least
-
 pub full_run_is_found : FullRunIsFound
-full_run_is_found = AnchoredLemmas.full_run_is_found
+full_run_is_found = FullLemmas.full_run_is_found
 
-pub anchored_finds_some : AnchoredFindsSome
-anchored_finds_some = AnchoredLemmas.anchored_finds_some
+pub full_slots_are_groups : FullSlotsAreGroups
+full_slots_are_groups = FullLemmas.full_slots_are_groups
 
-pub anchored_is_found : AnchoredIsFound
-anchored_is_found = AnchoredLemmas.anchored_is_found
+pub full_finds_some : FullFindsSome
+full_finds_some = FullLemmas.full_finds_some
 
-pub anchored_has_borders : AnchoredHasBorders
-anchored_has_borders = AnchoredLemmas.anchored_has_borders
+pub full_is_found : FullIsFound
+full_is_found = FullLemmas.full_is_found
 
 pub anchored_is_read : AnchoredIsRead
 anchored_is_read = WrappedLemmas.anchored_is_read

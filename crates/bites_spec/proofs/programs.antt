@@ -10,7 +10,6 @@ pub mod FormOrderLemmas
 pub mod PlainLemmas
 pub mod OneLemmas
 pub mod LongestLemmas
-pub mod RunPlaces
 pub mod ApartLemmas
 pub mod FoundLemmas
 pub mod ListedRunLemmas

@@ -10,7 +10,7 @@ pub mod RegexLemmas
 pub mod RegexRuns
 pub mod TwinForms
 pub mod TwinRuns
-pub mod AnchoredLemmas
+pub mod FullLemmas
 pub mod WrappedLemmas
 pub mod BegunLemmas
 pub mod CallerLemmas

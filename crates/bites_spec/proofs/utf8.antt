@@ -1,3 +1,4 @@
 -- UTF-8: pieces, places and borders.
 pub mod PieceLemmas
 pub mod ScalarPieces
+pub mod StartLemmas

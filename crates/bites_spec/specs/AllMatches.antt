@@ -16,12 +16,12 @@ use Rattle.bites_spec.specs.Replaced.{span_in}
 module _ (r : Regex) (hay : List ℕ) where
   -- the spans are all matches: what the tree finds from the start, and then what it finds after each
   abbrev pub AreMatches : List Span → Type 0
-  AreMatches = Successive (λ s. s) hay (FindsSpan r hay)
+  AreMatches = Successive (λ s. s) hay (λ s. FindsSpan r hay (places hay s))
 
   -- a search of the tree from s finds nothing, or these groups
   abbrev pub FindsCaptures : ℕ → Option Captured → Type 0
-  FindsCaptures s None = NoMatch r.tree hay s
-  FindsCaptures s (Some c) = (c.regex ≡ r) × (c.haystack ≡ hay) × AreGroupsFrom r hay s c.slots
+  FindsCaptures s None = NoMatch r.tree hay (places hay s)
+  FindsCaptures s (Some c) = (c.regex ≡ r) × (c.haystack ≡ hay) × AreGroupsFrom r hay (places hay s) c.slots
 
   -- these are the groups of all matches: what the tree finds from the start, and then what it finds after each
   abbrev pub AreCaptures : List Captured → Type 0
@@ -43,8 +43,8 @@ module _ (t : Tree) (hay : List ℕ) where
 
   -- the first span begins where the tree first matches, and the others follow closely
   abbrev pub LeaveNoneOut : List Span → Type 0
-  LeaveNoneOut [] = NoMatch t hay 0
-  LeaveNoneOut (s ∷ ss) = IsFirstPlace t hay 0 s.start × Matches hay t s.start s.end × FollowClosely s.end ss
+  LeaveNoneOut [] = NoMatch t hay (places hay 0)
+  LeaveNoneOut (s ∷ ss) = IsFirstPlace t hay (places hay 0) s.start × Matches hay t s.start s.end × FollowClosely s.end ss
 
 -- the spans of all matches of a regex are the matches of its tree
 abbrev pub FindsAreSuccessive : Type 0

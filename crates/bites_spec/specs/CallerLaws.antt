@@ -1,6 +1,6 @@
 -- Laws for callers about patterns, places and groups, each proved.
 use Rattle.std.specs.Prelude.{◌≡◌, ℕ, ◌/◌, ◌<◌, ◌≤◌, ◌↔◌, ◌==◌, ◌||◌, codes, Bool, true, List, [], ◌∷◌, ◌++◌, length, Option, Ok, IsSome, if◌then◌else◌}
-use Rattle.bites_spec.specs.Utf8.{places}
+use Rattle.bites_spec.specs.Utf8.{places, start_alone, AreStarts}
 use Rattle.bites_spec.specs.Walks.{Among}
 use Rattle.bites_spec.specs.Range.{Range, in_ranges}
 use Rattle.bites_spec.specs.Class.{Set, is_letter, none, single, between, union, is_scalar, AreCanonical}
@@ -9,7 +9,6 @@ use Rattle.bites_spec.specs.Look.{start, end}
 use Rattle.bites_spec.specs.Tree.{Tree, look, sequence, trees_of, alternation_of}
 use Rattle.bites_spec.specs.Match.{Matches}
 use Rattle.bites_spec.specs.Found.{Answer, HasMatch, Finds}
-use Rattle.bites_spec.specs.Anchored.{FindsFrom}
 use Rattle.bites_spec.specs.Pattern.{Text, Flags, Front, one_of}
 use Rattle.bites_spec.specs.Code.{code}
 use Rattle.bites_spec.specs.Group.{is_name_start, is_name_part}
@@ -21,13 +20,21 @@ use Rattle.bites_spec.specs.Slots.{group_in, participating}
 abbrev pub StartIsPlace : Type 0
 StartIsPlace = (hay : List ℕ) (s : ℕ) → s ≤ length hay → Among (places hay s) s
 
+-- a search from s may begin at all places from s on, or at s alone
+abbrev pub SearchesHaveStarts : Type 0
+SearchesHaveStarts = (hay : List ℕ) (s : ℕ) → AreStarts hay s (places hay s) × AreStarts hay s (start_alone hay s)
+
+-- the start alone is that start, if it lies in the haystack
+abbrev pub StartIsAlone : Type 0
+StartIsAlone = (hay : List ℕ) (s i : ℕ) → Among (start_alone hay s) i ↔ ((i ≡ s) × (s ≤ length hay))
+
 -- what `\A(?:p)\z` is read as, where p is read as t
 abbrev pub anchored : Tree → Tree
 anchored t = sequence (trees_of (look start ∷ t ∷ look end ∷ []))
 
 -- it matches somewhere exactly if the tree matches the whole haystack
 abbrev pub AnchoredIsWhole : Type 0
-AnchoredIsWhole = (t : Tree) (hay : List ℕ) → HasMatch (anchored t) hay 0 ↔ Matches hay t 0 (length hay)
+AnchoredIsWhole = (t : Tree) (hay : List ℕ) → HasMatch (anchored t) hay (places hay 0) ↔ Matches hay t 0 (length hay)
 
 -- and wherever it matches, it matches the whole haystack
 abbrev pub AnchoredMatchesWhole : Type 0
@@ -49,7 +56,8 @@ begun t = sequence (trees_of (look start ∷ t ∷ []))
 -- a search from the start of the haystack alone finds exactly what a search of that tree finds
 abbrev pub AnchoredIsBegun : Type 0
 AnchoredIsBegun =
-    (longest : Bool) (t : Tree) (hay : List ℕ) (o : Option Answer) → FindsFrom longest t hay 0 o ↔ Finds longest (begun t) hay 0 o
+    (longest : Bool) (t : Tree) (hay : List ℕ) (o : Option Answer) →
+    Finds longest t hay (start_alone hay 0) o ↔ Finds longest (begun t) hay (places hay 0) o
 
 -- A pattern is read as the tree that the grammar's function returns, and as no other. For a pattern that is written in the code,
 -- the function computes that tree.

@@ -1,5 +1,6 @@
 -- What contracts see of the parts of a haystack that a search returns.
 use Rattle.std.specs.Prelude.{◌≡◌, ◌≤◌, ℕ, List, length, Option, Some, None, IsSome, option_map}
+use Rattle.bites_spec.specs.Utf8.{AreStarts}
 use Rattle.bites_spec.specs.Match.{Span, span}
 use Rattle.bites_spec.specs.Pieces.{text_at}
 use Rattle.bites_spec.specs.Measure.{static_captures_len}
@@ -47,40 +48,42 @@ IsInSlots (Some a) None = ⊥
 IsInSlots (Some a) (Some slots) =
     (group_in slots 0 ≡ Some (span a.start a.end)) × ((k : ℕ) → group_in slots k ≡ a.group k)
 
--- the slots hold the groups of a match that a search of the regex's tree from s finds
-pub record AreGroupsFrom (r : Regex) (hay : List ℕ) (s : ℕ) (slots : List (Option ℕ)) : Type 0 where
+-- the slots hold the groups of a match that a search of the regex's tree from these starts finds
+pub record AreGroupsFrom (r : Regex) (hay starts : List ℕ) (slots : List (Option ℕ)) : Type 0 where
   pub answer : Answer
-  pub found : Finds r.leftmost_longest r.tree hay s (Some answer)
+  pub found : Finds r.leftmost_longest r.tree hay starts (Some answer)
   pub in_slots : IsInSlots (Some answer) (Some slots)
 
--- a search of the regex's tree from s finds nothing, or the groups in the slots
-abbrev pub FindsGroups : Regex → List ℕ → ℕ → Option (List (Option ℕ)) → Type 0
-FindsGroups r hay s None = NoMatch r.tree hay s
-FindsGroups r hay s (Some slots) = AreGroupsFrom r hay s slots
+-- a search of the regex's tree finds nothing, or the groups in the slots
+abbrev pub FindsGroups : Regex → List ℕ → List ℕ → Option (List (Option ℕ)) → Type 0
+FindsGroups r hay starts None = NoMatch r.tree hay starts
+FindsGroups r hay starts (Some slots) = AreGroupsFrom r hay starts slots
 
--- the span is that of a match that a search of the regex's tree from s finds
-pub record IsMatchFrom (r : Regex) (hay : List ℕ) (s : ℕ) (g : Span) : Type 0 where
+-- the span is that of a match that a search of the regex's tree from these starts finds
+pub record IsMatchFrom (r : Regex) (hay starts : List ℕ) (g : Span) : Type 0 where
   pub answer : Answer
-  pub found : Finds r.leftmost_longest r.tree hay s (Some answer)
+  pub found : Finds r.leftmost_longest r.tree hay starts (Some answer)
   pub is_span : g ≡ span answer.start answer.end
 
--- a search of the regex's tree from s finds nothing, or a match with this span
-abbrev pub FindsSpan : Regex → List ℕ → ℕ → Option Span → Type 0
-FindsSpan r hay s None = NoMatch r.tree hay s
-FindsSpan r hay s (Some g) = IsMatchFrom r hay s g
+-- a search of the regex's tree finds nothing, or a match with this span
+abbrev pub FindsSpan : Regex → List ℕ → List ℕ → Option Span → Type 0
+FindsSpan r hay starts None = NoMatch r.tree hay starts
+FindsSpan r hay starts (Some g) = IsMatchFrom r hay starts g
 
--- A search of the regex from s finds this part of the haystack, or none. It is the span of the program's run, and what a search
--- of the tree finds.
-pub record FindsMatch (r : Regex) (hay : List ℕ) (s : ℕ) (m : Option Excerpt) : Type 0 where
-  pub span : m ≡ option_map (excerpt hay) (span_at r hay s)
-  pub on_tree : FindsSpan r hay s (option_map (λ x. x.span) m)
+-- A search of the regex finds this part of the haystack, or none. It is the span of the program's run, and what a search of the
+-- tree finds.
+pub record FindsMatch (r : Regex) (hay starts : List ℕ) (m : Option Excerpt) : Type 0 where
+  pub span : m ≡ option_map (excerpt hay) (span_at r hay starts)
+  pub on_tree : FindsSpan r hay starts (option_map (λ x. x.span) m)
 
 -- what a regex's search returns is what a search of its tree finds
 abbrev pub SlotsAreFound : Type 0
 SlotsAreFound =
-    (r : Regex) → IsCompiled r → (hay : List ℕ) (s : ℕ) → FindsGroups r hay s (slots_at r hay s) × FindsSpan r hay s (span_at r hay s)
+    (r : Regex) → IsCompiled r → (hay : List ℕ) (s : ℕ) (starts : List ℕ) → AreStarts hay s starts →
+    FindsGroups r hay starts (slots_at r hay starts) × FindsSpan r hay starts (span_at r hay starts)
 
 -- the slots that a search returns hold groups of the regex
 abbrev pub SlotsAreGroups : Type 0
 SlotsAreGroups =
-    (r : Regex) → IsCompiled r → (hay : List ℕ) (s : ℕ) (slots : List (Option ℕ)) → slots_at r hay s ≡ Some slots → AreGroups r hay slots
+    (r : Regex) → IsCompiled r → (hay : List ℕ) (s : ℕ) (starts : List ℕ) → AreStarts hay s starts →
+    (slots : List (Option ℕ)) → slots_at r hay starts ≡ Some slots → AreGroups r hay slots

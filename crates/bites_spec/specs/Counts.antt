@@ -20,31 +20,31 @@ pub record Fit : Type 0 where
 abbrev pub fit_of : Program → Fit
 fit_of p = record { states = length p.states; slots = p.slots; targets = targets p }
 
-module _ (p : Program) (hay : List ℕ) (s : ℕ) where
-  -- no configuration is visited twice; there are at most states times places visits, at most (targets + 1) times places looks,
-  -- and no fewer looks than visits
-  pub record IsBounded (c : Record) : Type 0 where
+module _ (p : Program) (hay : List ℕ) where
+  -- No configuration is visited twice. A search from s makes at most states times places visits, at most (targets + 1) times
+  -- places looks, and no fewer looks than visits.
+  pub record IsBounded (s : ℕ) (c : Record) : Type 0 where
     pub apart : AllApart c.visits
     pub visits : length c.visits ≤ length p.states * length (places hay s)
     pub looks : c.looks ≤ (targets p + 1) * length (places hay s)
     pub looked : length c.visits ≤ c.looks
 
-  -- every configuration that a walk from the start, at a place from s on, reaches was visited
-  abbrev pub VisitedAll : Record → Type 0
-  VisitedAll c = (i : ℕ) → Among (places hay s) i → (t : Configuration) → Reaches p hay (at p.start i) t → Among c.visits t
+  -- every configuration that a walk reaches from the start of the program, at a start of the search, was visited
+  abbrev pub VisitedAll : List ℕ → Record → Type 0
+  VisitedAll starts c = (i : ℕ) → Among starts i → (t : Configuration) → Reaches p hay (at p.start i) t → Among c.visits t
 
   -- every configuration of the run was visited
   abbrev pub VisitedRun : Record → Run → Type 0
   VisitedRun c r = (t : Configuration) → Among (at p.start r.start ∷ r.configurations) t → Among c.visits t
 
-  -- some run from a place from s on was visited
-  abbrev pub VisitedSome : Record → Type 0
-  VisitedSome c = (r : Run) × IsRun p hay r.start r.configurations r.end × Among (places hay s) r.start × VisitedRun c r
+  -- some run from a start was visited
+  abbrev pub VisitedSome : List ℕ → Record → Type 0
+  VisitedSome starts c = (r : Run) × IsRun p hay r.start r.configurations r.end × Among starts r.start × VisitedRun c r
 
   -- what a search has visited, by whether it finds something
-  abbrev pub VisitedBy : Bool → Record → Type 0
-  VisitedBy true = VisitedSome
-  VisitedBy false = VisitedAll
+  abbrev pub VisitedBy : List ℕ → Bool → Record → Type 0
+  VisitedBy starts true = VisitedSome starts
+  VisitedBy starts false = VisitedAll starts
 
 -- The room for searches, as contracts see it: which programs it fits, and what the last search visited.
 pub record Room : Type 0 where
@@ -55,6 +55,6 @@ pub record Room : Type 0 where
 abbrev pub IsSlotCount : Program → ℕ → Type 0
 IsSlotCount p n = (n ≡ 0) ⊎ ((n ≡ 2) ⊎ (n ≡ p.slots))
 
--- a search from s kept the bounds, and visited what it had to
-abbrev pub IsWalked : Program → List ℕ → ℕ → Bool → Record → Type 0
-IsWalked p hay s found c = IsBounded p hay s c × VisitedBy p hay s found c
+-- a search from s that may begin at these starts kept the bounds, and visited what it had to
+abbrev pub IsWalked : Program → List ℕ → ℕ → List ℕ → Bool → Record → Type 0
+IsWalked p hay s starts found c = IsBounded p hay s c × VisitedBy p hay starts found c

@@ -1,5 +1,6 @@
 -- The laws of escaped texts, each proved.
 use Rattle.std.specs.Prelude.{◌≡◌, ℕ, ◌+◌, ◌≤◌, ◌↔◌, List, [], length, Option, option_map, chars, encode_utf8_all, IsUtf8, IsCharBoundary}
+use Rattle.bites_spec.specs.Utf8.{places}
 use Rattle.bites_spec.specs.Pattern.{Text}
 use Rattle.bites_spec.specs.Tree.{groups_in}
 use Rattle.bites_spec.specs.Measure.{Limits, height, program_size}
@@ -38,4 +39,4 @@ EscapedMatchesText =
 abbrev pub EscapedFindsText : Type 0
 EscapedFindsText =
     (hay text : List ℕ) (s : ℕ) → IsUtf8 hay → IsUtf8 text → IsCharBoundary hay s →
-    (o : Option _) → FoundSome (text_tree (chars text)) hay s o → IsLeftmost hay text s (option_map (λ a. span a.start a.end) o)
+    (o : Option _) → FoundSome (text_tree (chars text)) hay (places hay s) o → IsLeftmost hay text s (option_map (λ a. span a.start a.end) o)

@@ -11,7 +11,7 @@ use Rattle.bites_spec.specs.Slots.{slot_in, group_in}
 use Rattle.bites_spec.specs.Built.{Built, IsCompilable}
 use Rattle.bites_spec.specs.Match.{Span}
 use Rattle.bites_spec.specs.Regex.{Regex, IsCompiled, span_at, slots_at}
-use Rattle.bites_spec.specs.Anchored.{anchored_span_at, anchored_slots_at, full_slots}
+use Rattle.bites_spec.specs.Full.{full_slots}
 
 -- a pattern opens its groups in one way, whatever tree it is read as
 abbrev pub OpenedOnce : Type 0
@@ -49,12 +49,11 @@ abbrev pub AnswerAlike : Option Span → Option (List (Option ℕ)) → Option S
 AnswerAlike g x h y = (g ≡ h) × HaveSameGroups x y
 
 -- Two regexes of one pattern may differ in the groups that are kept, and so in numbers, names and size. They have one tree, and
--- their searches find the same: from each start, from one place alone, and over the whole haystack.
+-- their searches find the same, from any starts and over the whole haystack.
 abbrev pub KeptAnswerAlike : Type 0
 KeptAnswerAlike =
     (r k : Regex) → IsCompiled r → IsCompiled k → r.pattern ≡ k.pattern → r.flags ≡ k.flags → r.leftmost_longest ≡ k.leftmost_longest →
     (r.tree ≡ k.tree)
-    × ((hay : List ℕ) (s : ℕ) → AnswerAlike (span_at r hay s) (slots_at r hay s) (span_at k hay s) (slots_at k hay s))
-    × ((hay : List ℕ) (s : ℕ) →
-    AnswerAlike (anchored_span_at r hay s) (anchored_slots_at r hay s) (anchored_span_at k hay s) (anchored_slots_at k hay s))
+    × ((hay starts : List ℕ) →
+    AnswerAlike (span_at r hay starts) (slots_at r hay starts) (span_at k hay starts) (slots_at k hay starts))
     × ((hay : List ℕ) → HaveSameGroups (full_slots r hay) (full_slots k hay))

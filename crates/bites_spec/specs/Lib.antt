@@ -50,7 +50,7 @@ pub mod Replacer
 pub mod Replaced
 pub mod AllMatches
 pub mod Counts
-pub mod Anchored
+pub mod Full
 pub mod ProgramFaults
 pub mod Reader
 pub mod GrammarLaws
@@ -61,4 +61,4 @@ pub mod FoundLaws
 pub mod RegexLaws
 pub mod CallerLaws
 pub mod Refutations
-pub mod AnchoredLaws
+pub mod FullLaws

@@ -45,12 +45,12 @@ dead_end = one_way program.fail
 -- each search of it makes as many visits and as many looks as the bounds allow, whatever the haystack and the start
 abbrev pub SearchesReachBounds : Type 0
 SearchesReachBounds =
-    (hay : List ℕ) (s : ℕ) (found : Bool) (c : Record) → IsWalked dead_end hay s found c →
+    (hay : List ℕ) (s : ℕ) (found : Bool) (c : Record) → IsWalked dead_end hay s (places hay s) found c →
     (length c.visits ≡ length dead_end.states * length (places hay s)) × (c.looks ≡ (targets dead_end + 1) * length (places hay s))
 
 -- what a search on the empty haystack visited
 abbrev pub Visited : program.State → Bool → List program.Configuration → Type 0
-Visited last found visits = VisitedBy (one_way last) [] 0 found (record { visits = visits; looks = 2 })
+Visited last found visits = VisitedBy (one_way last) [] (places [] 0) found (record { visits = visits; looks = 2 })
 
 -- if something is found, a whole run was visited; if nothing is, all that is reached was
 abbrev pub VisitsRefuse : Type 0
@@ -76,10 +76,10 @@ answer i j = record { start = i; end = j; group = groups i j [] }
 -- `a` on `aa`: something is found, not at 1, not up to 2, and with group 0
 abbrev pub FoundRefuses : Type 0
 FoundRefuses =
-    (Found (char 97) (codes "aa") 0 None → ⊥) × (Found (char 97) (codes "aa") 0 (Some (answer 1 2)) → ⊥)
-    × (Found (char 97) (codes "aa") 0 (Some (answer 0 2)) → ⊥)
-    × (Found (char 97) (codes "aa") 0 (Some (record { start = 0; end = 1; group = λ k. None })) → ⊥)
-    × (IsLeastEnd (char 97) (codes "aa") 0 None → ⊥) × (IsLeastEnd (char 97) (codes "aa") 0 (Some 2) → ⊥)
+    (Found (char 97) (codes "aa") (places (codes "aa") 0) None → ⊥) × (Found (char 97) (codes "aa") (places (codes "aa") 0) (Some (answer 1 2)) → ⊥)
+    × (Found (char 97) (codes "aa") (places (codes "aa") 0) (Some (answer 0 2)) → ⊥)
+    × (Found (char 97) (codes "aa") (places (codes "aa") 0) (Some (record { start = 0; end = 1; group = λ k. None })) → ⊥)
+    × (IsLeastEnd (char 97) (codes "aa") (places (codes "aa") 0) None → ⊥) × (IsLeastEnd (char 97) (codes "aa") (places (codes "aa") 0) (Some 2) → ⊥)
 
 -- `a|ab`
 abbrev pub a_or_ab : Tree
@@ -88,7 +88,7 @@ a_or_ab = alternation (trees_of (char 97 ∷ sequence (trees_of (char 97 ∷ cha
 -- on `ab` the preferred parse is not that to 2, and the longest not that to 1
 abbrev pub PreferredRefuses : Type 0
 PreferredRefuses =
-    (Found a_or_ab (codes "ab") 0 (Some (answer 0 2)) → ⊥) × (FoundLongest a_or_ab (codes "ab") 0 (Some (answer 0 1)) → ⊥)
+    (Found a_or_ab (codes "ab") (places (codes "ab") 0) (Some (answer 0 2)) → ⊥) × (FoundLongest a_or_ab (codes "ab") (places (codes "ab") 0) (Some (answer 0 1)) → ⊥)
 
 -- `a` stands in `aa`, first at 0, and ends at 1
 abbrev pub LeftmostRefuses : Type 0

@@ -37,14 +37,14 @@ pub record IsCompiled (regex : Regex) : Type 0 where
 pub record NamesAreKept (regex : Regex) : Type 0 where
   pub kept : (reading : Reading (chars regex.pattern) regex.flags regex.tree) → regex.names ≡ groups_kept regex.keep_dropped_groups reading
 
--- the run of a regex's program that a search from s returns
-abbrev pub run_at : Regex → List ℕ → ℕ → Option Run
-run_at r hay s = chosen_run r.leftmost_longest r.program hay s
+-- the run of a regex's program that a search returns
+abbrev pub run_at : Regex → List ℕ → List ℕ → Option Run
+run_at r hay starts = chosen_run r.leftmost_longest r.program hay starts
 
 -- where that run begins and ends
-abbrev pub span_at : Regex → List ℕ → ℕ → Option Span
-span_at r hay s = option_map span_of_run (run_at r hay s)
+abbrev pub span_at : Regex → List ℕ → List ℕ → Option Span
+span_at r hay starts = option_map span_of_run (run_at r hay starts)
 
 -- the slots of that run
-abbrev pub slots_at : Regex → List ℕ → ℕ → Option (List (Option ℕ))
-slots_at r hay s = option_map (slots r.program) (run_at r hay s)
+abbrev pub slots_at : Regex → List ℕ → List ℕ → Option (List (Option ℕ))
+slots_at r hay starts = option_map (slots r.program) (run_at r hay starts)

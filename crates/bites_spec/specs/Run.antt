@@ -1,8 +1,8 @@
--- Runs of a program, their order, and the run that a search returns.
+-- Runs of a program, their order, and the run that a search returns. The starts of a search are the places where a run may
+-- begin, in order.
 use Rattle.std.specs.Prelude.{◌≡◌, ℕ, zero, suc, ◌*◌, ◌<◌, ◌≤◌, ◌⊎◌, Bool, true, false, ◌&&◌, List, [], ◌∷◌, ◌++◌, length, map, take, Option, Some, None, option_and_then, if◌then◌else◌, ◌==◌, IsTrue}
 use Rattle.std.specs.Option.{option_or}
 use Rattle.std.specs.List.{range_with_len}
-use Rattle.bites_spec.specs.Utf8.{places}
 use Rattle.bites_spec.specs.Walks.{Among, AllApart, AreOrdered, Walk, Before, first_among, last_of}
 use Rattle.bites_spec.specs.Walks as walks
 use Rattle.bites_spec.specs.Program.{State, Program, Configuration, at, state_at, edges, is_match, capture}
@@ -89,15 +89,15 @@ module _ (p : Program) (hay : List ℕ) where
     pub all : (r : List Configuration) (j : ℕ) → IsRun i r j → Among rs (run i r j)
     pub in_order : AreOrdered (λ r o. Before leads (at p.start i) r.configurations o.configurations) rs
 
-  -- no run begins at a place from s on
-  abbrev pub NoRun : ℕ → Type 0
-  NoRun s = (i : ℕ) → Among (places hay s) i → (r : List Configuration) (j : ℕ) → IsRun i r j → ⊥
+  -- no run begins at a start
+  abbrev pub NoRun : List ℕ → Type 0
+  NoRun starts = (i : ℕ) → Among starts i → (r : List Configuration) (j : ℕ) → IsRun i r j → ⊥
 
-  -- the run begins at the first place from s on at which a run begins
-  pub record StartsFirst (s : ℕ) (r : Run) : Type 0 where
+  -- the run begins at the first of the starts at which a run begins
+  pub record StartsFirst (starts : List ℕ) (r : Run) : Type 0 where
     pub runs : IsRun r.start r.configurations r.end
-    pub from : Among (places hay s) r.start
-    pub none_before : (i : ℕ) → Among (places hay s) i → i < r.start → (o : List Configuration) (j : ℕ) → IsRun i o j → ⊥
+    pub from : Among starts r.start
+    pub none_before : (i : ℕ) → Among starts i → i < r.start → (o : List Configuration) (j : ℕ) → IsRun i o j → ⊥
 
   -- the run is simple, and no simple run from its start whose end passes the test comes before it
   pub record IsFirstOf (Wanted : ℕ → Type 0) (r : Run) : Type 0 where
@@ -105,23 +105,23 @@ module _ (p : Program) (hay : List ℕ) where
     pub first : (o : List Configuration) (j : ℕ) → IsRun r.start o j → IsSimple r.start o → Wanted j →
         (o ≡ r.configurations) ⊎ Before leads (at p.start r.start) r.configurations o
 
-  -- None if no place from s on has a run, else the first simple run from the first such place
-  abbrev pub FirstRun : ℕ → Option Run → Type 0
-  FirstRun s None = NoRun s
-  FirstRun s (Some r) = StartsFirst s r × IsFirstOf (λ j. Unit {0}) r
+  -- None if no start has a run, else the first simple run from the first that has one
+  abbrev pub FirstRun : List ℕ → Option Run → Type 0
+  FirstRun starts None = NoRun starts
+  FirstRun starts (Some r) = StartsFirst starts r × IsFirstOf (λ j. Unit {0}) r
 
-  -- None if there is no run, else a run with the least end of all runs from places from s on
-  abbrev pub LeastEnd : ℕ → Option Run → Type 0
-  LeastEnd s None = NoRun s
-  LeastEnd s (Some r) =
-      IsRun r.start r.configurations r.end × Among (places hay s) r.start
-      × ((i : ℕ) → Among (places hay s) i → (o : List Configuration) (j : ℕ) → IsRun i o j → r.end ≤ j)
+  -- None if there is no run, else a run with the least end of all runs from the starts
+  abbrev pub LeastEnd : List ℕ → Option Run → Type 0
+  LeastEnd starts None = NoRun starts
+  LeastEnd starts (Some r) =
+      IsRun r.start r.configurations r.end × Among starts r.start
+      × ((i : ℕ) → Among starts i → (o : List Configuration) (j : ℕ) → IsRun i o j → r.end ≤ j)
 
-  -- None if there is no run, else the first of the simple runs from the first place whose end is the greatest there
-  abbrev pub LongestRun : ℕ → Option Run → Type 0
-  LongestRun s None = NoRun s
-  LongestRun s (Some r) =
-      StartsFirst s r × ((o : List Configuration) (j : ℕ) → IsRun r.start o j → j ≤ r.end) × IsFirstOf (λ j. j ≡ r.end) r
+  -- None if there is no run, else the first of the simple runs from the first such start whose end is the greatest there
+  abbrev pub LongestRun : List ℕ → Option Run → Type 0
+  LongestRun starts None = NoRun starts
+  LongestRun starts (Some r) =
+      StartsFirst starts r × ((o : List Configuration) (j : ℕ) → IsRun r.start o j → j ≤ r.end) × IsFirstOf (λ j. j ≡ r.end) r
 
   -- one more step than there are configurations
   abbrev pub enough : ℕ
@@ -138,8 +138,8 @@ module _ (p : Program) (hay : List ℕ) where
       option_and_then (run_of i) (walks.first_walk is_same_configuration leads (matches p) enough (λ s. false) (at p.start i))
 
   -- what `FirstRun` says, as a function
-  unfoldable pub first_run : ℕ → Option Run
-  first_run s = first_among first_run_from (places hay s)
+  unfoldable pub first_run : List ℕ → Option Run
+  first_run starts = first_among first_run_from starts
 
   -- the first simple run from i to j
   unfoldable pub first_run_to : ℕ → ℕ → Option Run
@@ -152,9 +152,9 @@ module _ (p : Program) (hay : List ℕ) where
   longest_run_below (suc j) i = option_or (first_run_to i j) (longest_run_below j i)
 
   -- what `LongestRun` says, as a function
-  unfoldable pub longest_run : ℕ → Option Run
-  longest_run s = first_among (longest_run_below (suc (length hay))) (places hay s)
+  unfoldable pub longest_run : List ℕ → Option Run
+  longest_run starts = first_among (longest_run_below (suc (length hay))) starts
 
 -- the run that a search returns: the longest, or the first
-abbrev pub chosen_run : Bool → Program → List ℕ → ℕ → Option Run
-chosen_run longest p hay s = if longest then longest_run p hay s else first_run p hay s
+abbrev pub chosen_run : Bool → Program → List ℕ → List ℕ → Option Run
+chosen_run longest p hay starts = if longest then longest_run p hay starts else first_run p hay starts

@@ -1,6 +1,6 @@
 -- Laws of runs and their slots.
 use Rattle.std.specs.Prelude.{◌≡◌, ℕ, ◌<◌, ◌≤◌, Bool, List, [], length, Option, Some, None, option_map, is_some}
-use Rattle.bites_spec.specs.Utf8.{places}
+use Rattle.bites_spec.specs.Utf8.{places, AreStarts}
 use Rattle.bites_spec.specs.Walks.{Among}
 use Rattle.bites_spec.specs.Tree.{Tree, IsPlain}
 use Rattle.bites_spec.specs.Program.{Program, IsWellFormed}
@@ -13,13 +13,17 @@ use Rattle.bites_spec.specs.Measure.{static_captures_len}
 use Rattle.bites_spec.specs.ProgramFaults.{first_fault}
 use Rattle.bites_spec.specs.Counts.{Record, IsBounded}
 
--- on a well-formed program the function finds the first simple run with the greatest end, at the first place that has a run
+-- on a well-formed program the function finds the first simple run with the greatest end, at the first start that has a run
 abbrev pub LongestRunIsLongest : Type 0
-LongestRunIsLongest = (p : Program) (hay : List ℕ) → IsWellFormed p → (s : ℕ) → LongestRun p hay s (longest_run p hay s)
+LongestRunIsLongest =
+    (p : Program) (hay : List ℕ) → IsWellFormed p → (s : ℕ) (starts : List ℕ) → AreStarts hay s starts →
+    LongestRun p hay starts (longest_run p hay starts)
 
 -- and no other run is the longest
 abbrev pub LongestRunIsOne : Type 0
-LongestRunIsOne = (p : Program) (hay : List ℕ) → IsWellFormed p → (s : ℕ) (o : Option Run) → LongestRun p hay s o → o ≡ longest_run p hay s
+LongestRunIsOne =
+    (p : Program) (hay : List ℕ) → IsWellFormed p → (s : ℕ) (starts : List ℕ) → AreStarts hay s starts →
+    (o : Option Run) → LongestRun p hay starts o → o ≡ longest_run p hay starts
 
 -- the slots of a run of a well-formed program hold what the run wrote to each; past the last slot it writes nothing
 abbrev pub SlotsAreWritten : Type 0
@@ -51,22 +55,24 @@ RunLies =
 -- so does the run that a search returns
 abbrev pub ChosenRunLies : Type 0
 ChosenRunLies =
-    (p : Program) (hay : List ℕ) → IsWellFormed p → (longest : Bool) (s : ℕ) (r : Run) → chosen_run longest p hay s ≡ Some r →
-    Among (places hay s) r.start × IsRun p hay r.start r.configurations r.end × LiesFrom (length hay) s (span_of_run r)
+    (p : Program) (hay : List ℕ) → IsWellFormed p → (longest : Bool) (s : ℕ) (starts : List ℕ) → AreStarts hay s starts →
+    (r : Run) → chosen_run longest p hay starts ≡ Some r →
+    Among starts r.start × IsRun p hay r.start r.configurations r.end × LiesFrom (length hay) s (span_of_run r)
 
 -- the longest run and the first begin at one place, there is one exactly if there is the other, and the longest ends no earlier
 abbrev pub RunsBeginAlike : Type 0
 RunsBeginAlike =
-    (p : Program) (hay : List ℕ) → IsWellFormed p → (s : ℕ) →
-    (option_map (λ r. r.start) (longest_run p hay s) ≡ option_map (λ r. r.start) (first_run p hay s))
-    × ((r q : Run) → first_run p hay s ≡ Some r → longest_run p hay s ≡ Some q → r.end ≤ q.end)
+    (p : Program) (hay : List ℕ) → IsWellFormed p → (s : ℕ) (starts : List ℕ) → AreStarts hay s starts →
+    (option_map (λ r. r.start) (longest_run p hay starts) ≡ option_map (λ r. r.start) (first_run p hay starts))
+    × ((r q : Run) → first_run p hay starts ≡ Some r → longest_run p hay starts ≡ Some q → r.end ≤ q.end)
 
 -- there is a least end exactly if there is a run, and it is at most the end of the run that a search returns
 abbrev pub LeastRunEndIsAtMost : Type 0
 LeastRunEndIsAtMost =
-    (p : Program) (hay : List ℕ) → IsWellFormed p → (longest : Bool) (s : ℕ) (o : Option Run) → LeastEnd p hay s o →
-    (is_some o ≡ is_some (chosen_run longest p hay s))
-    × ((l r : Run) → o ≡ Some l → chosen_run longest p hay s ≡ Some r → l.end ≤ r.end)
+    (p : Program) (hay : List ℕ) → IsWellFormed p → (longest : Bool) (s : ℕ) (starts : List ℕ) → AreStarts hay s starts →
+    (o : Option Run) → LeastEnd p hay starts o →
+    (is_some o ≡ is_some (chosen_run longest p hay starts))
+    × ((l r : Run) → o ≡ Some l → chosen_run longest p hay starts ≡ Some r → l.end ≤ r.end)
 
 -- if the form of a tree says that at least n groups participate, at least n stand in the slots of each run of its program
 abbrev pub StaticLenParticipates : Type 0

@@ -1,6 +1,6 @@
 -- The laws of haystacks that are texts, each proved.
 use Rattle.std.specs.Prelude.{◌≡◌, ℕ, ◌+◌, ◌≤◌, ◌↔◌, List, Some, IsUtf8, IsCharBoundary}
-use Rattle.bites_spec.specs.Utf8.{piece, places}
+use Rattle.bites_spec.specs.Utf8.{piece, places, AreStarts}
 use Rattle.bites_spec.specs.Walks.{Among}
 use Rattle.bites_spec.specs.Tree.{Tree}
 use Rattle.bites_spec.specs.Match.{Span, span, Mark, Matches, Parse, groups}
@@ -33,10 +33,12 @@ GroupsHaveBorders =
 -- what a search from a border on finds begins and ends at borders, and so do its groups
 abbrev pub FoundHasBorders : Type 0
 FoundHasBorders =
-    (t : Tree) (hay : List ℕ) (s : ℕ) (a : Answer) → IsUtf8 hay → IsCharBoundary hay s → FoundSome t hay s (Some a) →
+    (t : Tree) (hay : List ℕ) (s : ℕ) (starts : List ℕ) → AreStarts hay s starts → (a : Answer) → IsUtf8 hay → IsCharBoundary hay s →
+    FoundSome t hay starts (Some a) →
     HasBorders hay (span a.start a.end) × ((k : ℕ) (g : Span) → a.group k ≡ Some g → HasBorders hay g)
 
 -- the least end of a match from a border on is a border
 abbrev pub LeastEndIsBorder : Type 0
 LeastEndIsBorder =
-    (t : Tree) (hay : List ℕ) (s j : ℕ) → IsUtf8 hay → IsCharBoundary hay s → IsLeastEnd t hay s (Some j) → IsCharBoundary hay j
+    (t : Tree) (hay : List ℕ) (s : ℕ) (starts : List ℕ) → AreStarts hay s starts → (j : ℕ) → IsUtf8 hay → IsCharBoundary hay s →
+    IsLeastEnd t hay starts (Some j) → IsCharBoundary hay j

@@ -6,20 +6,20 @@
 ghost use Rattle.bites_spec.specs.Class.{ListsOnce};
 ghost use Rattle.bites_spec.specs.Laws.{MatchIsParse, FirstRunIsFirst, FirstRunIsOne, RunsAreParses, PlainRunsAreSimple, FirstRunIsFound, LeastEndIsLeast, ParsesAreListed, LongestIsFound, ParsesEndAtMatches, StaticCountIsLeast, FoundIsSome, AnsweredKeepsLength, ReplacesOnce};
 ghost use Rattle.bites_spec.specs.RunLaws.{LongestRunIsLongest, LongestRunIsOne, SlotsAreWritten, Group0IsSpan, RunsAreParsesInOrder, NothingPastTheEnd, NoFaultIsWellFormed, RunLies, ChosenRunLies, RunsBeginAlike, LeastRunEndIsAtMost, StaticLenParticipates};
-ghost use Rattle.bites_spec.specs.FoundLaws.{FoundLies, AnswersBeginAlike, LeastEndIsAtMost, StaticLenIsLeast};
+ghost use Rattle.bites_spec.specs.FoundLaws.{StartsFind, FoundLies, AnswersBeginAlike, LeastEndIsAtMost, StaticLenIsLeast};
 ghost use Rattle.bites_spec.specs.RegexLaws.{RunIsFound, FindsSome, AnswersHaveGroup0};
 ghost use Rattle.bites_spec.specs.SpanLaws.{SuccessiveIsOne, SuccessiveGoesOn, SuccessiveIsMapped, SpansGrow, PiecesAndMatches, ReplacedAlternates, ReplacedIsJoined};
 ghost use Rattle.bites_spec.specs.Captured.{SlotsAreGroups, SlotsAreFound};
 ghost use Rattle.bites_spec.specs.Iteration.{CapturesHaveSpans};
 ghost use Rattle.bites_spec.specs.AllMatches.{FindsAreSuccessive, GroupsAreSuccessive, CapturesAreMatches, NoneIsLeftOut, MatchesStandApart, MatchesHaveBorders};
 ghost use Rattle.bites_spec.specs.Refutations.{BoundsAreReached, SearchesReachBounds, BoundsRefuse, VisitsRefuse, AnsweredRefuses, FoundRefuses, PreferredRefuses, LeftmostRefuses, SpansRefuse, LeavingOutRefuses, BordersRefuse, ParticipantsRefuse, ItsGroupsRefuse, AppendsRefuse};
-ghost use Rattle.bites_spec.specs.CallerLaws.{NamesAreAscii, StartIsPlace, AnchoredIsRead, AnchoredIsBegun, AnchoredIsWhole, AnchoredMatchesWhole, LiteralIsRead, UnionsAreListed, RangesAreListed, EachParticipates};
+ghost use Rattle.bites_spec.specs.CallerLaws.{NamesAreAscii, StartIsPlace, StartIsAlone, SearchesHaveStarts, AnchoredIsRead, AnchoredIsBegun, AnchoredIsWhole, AnchoredMatchesWhole, LiteralIsRead, UnionsAreListed, RangesAreListed, EachParticipates};
 ghost use Rattle.bites_spec.specs.Refused.{IterationsEnd};
 ghost use Rattle.bites_spec.specs.GrammarLaws.{ListsAll, ReadIsCompilable, ReadsOnce, FaultsOnce, RefusedHasNoTree, ReadOrRefused, ReaderReads, ReaderRefuses, StuckBracketIsNotRead};
 ghost use Rattle.bites_spec.specs.GroupLaws.{OpenedOnce, OpenedAreKept, LeftAreKept, DroppedHaveNoPlace, KeptAnswerAlike};
 ghost use Rattle.bites_spec.specs.RangesOf.{RangesOfList};
 ghost use Rattle.bites_spec.specs.EscapedLaws.{EscapedIsText, EscapedIsRead, EscapedIsFlat, EscapedIsAccepted, EscapedMatchesText, EscapedFindsText};
-ghost use Rattle.bites_spec.specs.AnchoredLaws.{AnchoredRunIsFound, AnchoredSlotsAreFound, AnchoredSlotsAreGroups, LeastEndFromIsLeast, FullRunIsFound, AnchoredFindsSome, AnchoredIsFound, AnchoredHasBorders};
+ghost use Rattle.bites_spec.specs.FullLaws.{FullRunIsFound, FullSlotsAreGroups, FullFindsSome, FullIsFound};
 ghost use Rattle.bites_spec.specs.TextLaws.{PlacesAreBorders, PiecesEndAtBorders, MatchesEndAtBorders, GroupsHaveBorders, FoundHasBorders, LeastEndIsBorder};
 ghost use Rattle.bites_spec.specs.TemplateLaws.{CutsOnce, ExpandsOnce, PlainStandsForItself, TextsHaveNames, NumbersAreFirst};
 
@@ -199,6 +199,10 @@ pub fn finds_some()
     ensures { FindsSome }
 {}
 
+pub fn starts_find()
+    ensures { StartsFind }
+{}
+
 pub fn found_lies()
     ensures { FoundLies }
 {}
@@ -347,6 +351,14 @@ pub fn start_is_place()
     ensures { StartIsPlace }
 {}
 
+pub fn start_is_alone()
+    ensures { StartIsAlone }
+{}
+
+pub fn searches_have_starts()
+    ensures { SearchesHaveStarts }
+{}
+
 pub fn anchored_is_whole()
     ensures { AnchoredIsWhole }
 {}
@@ -447,36 +459,20 @@ pub fn appends_refuse()
     ensures { AppendsRefuse }
 {}
 
-pub fn anchored_run_is_found()
-    ensures { AnchoredRunIsFound }
-{}
-
-pub fn anchored_slots_are_found()
-    ensures { AnchoredSlotsAreFound }
-{}
-
-pub fn anchored_slots_are_groups()
-    ensures { AnchoredSlotsAreGroups }
-{}
-
-pub fn least_end_from_is_least()
-    ensures { LeastEndFromIsLeast }
-{}
-
 pub fn full_run_is_found()
     ensures { FullRunIsFound }
 {}
 
-pub fn anchored_finds_some()
-    ensures { AnchoredFindsSome }
+pub fn full_slots_are_groups()
+    ensures { FullSlotsAreGroups }
 {}
 
-pub fn anchored_is_found()
-    ensures { AnchoredIsFound }
+pub fn full_finds_some()
+    ensures { FullFindsSome }
 {}
 
-pub fn anchored_has_borders()
-    ensures { AnchoredHasBorders }
+pub fn full_is_found()
+    ensures { FullIsFound }
 {}
 
 pub fn names_are_ascii()

@@ -2,6 +2,7 @@
 use Rattle.std.proofs.Common.{◌≡◌, ◌≢◌, ℕ, ◌<◌, ◌≤◌, List, Option, Some, None, option_map, refl, sym, subst, arith, IsUtf8}
 use Rattle.std.specs.Prelude.{chars, encode_utf8_all, Result, Ok, Err, IfErr}
 use Rattle.std.proofs.lemmas.Str.{IsCharBoundary-start}
+use Rattle.bites_spec.specs.Utf8.{places}
 use Rattle.bites_spec.specs.Pattern.{Text}
 use Rattle.bites_spec.specs.Tree.{Tree}
 use Rattle.bites_spec.specs.Measure.{Limits, program_size, groups_left}
@@ -62,15 +63,15 @@ refused_by_size text pattern utf8 is (Ok x) refused message = tt
 refused_by_size text pattern utf8 is (Err e) refused message = λ known. only_too_big text pattern utf8 is (refused known) e known (message known)
 
 module _ (hay text : List ℕ) (hay_utf8 : IsUtf8 hay) (text_utf8 : IsUtf8 text) (r : Regex) (is : r.tree ≡ text_tree (chars text)) where
-  leftmost_by : (a : Option Answer) → FoundSome r.tree hay 0 a → IsLeftmost hay text 0 (option_map (λ b. span b.start b.end) a)
+  leftmost_by : (a : Option Answer) → FoundSome r.tree hay (places hay 0) a → IsLeftmost hay text 0 (option_map (λ b. span b.start b.end) a)
   leftmost_by a f =
-      laws.escaped_texts_find_their_text hay text 0 hay_utf8 text_utf8 (IsCharBoundary-start hay hay_utf8) a (subst (λ t. FoundSome t hay 0 a) is f)
+      laws.escaped_texts_find_their_text hay text 0 hay_utf8 text_utf8 (IsCharBoundary-start hay hay_utf8) a (subst (λ t. FoundSome t hay (places hay 0) a) is f)
 
   -- what its search finds is where the text stands first
-  pub text_is_found : {M : Type 0} (f : M → Excerpt) (o : Option M) → FindsMatch r hay 0 (option_map f o) →
+  pub text_is_found : {M : Type 0} (f : M → Excerpt) (o : Option M) → FindsMatch r hay (places hay 0) (option_map f o) →
       IsLeftmost hay text 0 (option_map (λ x. (f x).span) o)
   text_is_found f None none = leftmost_by None none.on_tree
   text_is_found f (Some m) found =
       let a = found.on_tree.answer in
       subst (λ g. IsLeftmost hay text 0 (Some g)) (sym found.on_tree.is_span)
-      (leftmost_by (Some a) (laws.finds_some r.leftmost_longest r.tree hay 0 (Some a) found.on_tree.found))
+      (leftmost_by (Some a) (laws.finds_some r.leftmost_longest r.tree hay (places hay 0) (Some a) found.on_tree.found))

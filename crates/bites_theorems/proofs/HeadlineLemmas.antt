@@ -1,9 +1,10 @@
 -- What the clauses of searches say of the headline's words.
 use Rattle.std.proofs.Common.{◌≡◌, ◌↔◌, ℕ, ◌≤◌, true, false, List, Option, Some, None, option_map, refl, sym, ap, ◌∙◌, subst, true≢false, length, arith, IsUtf8, IsCharBoundary}
 use Rattle.std.specs.Prelude.{IsSome, IfSome, unwrap_or}
+use Rattle.bites_spec.specs.Utf8.{AreStarts}
 use Rattle.bites_spec.specs.Tree.{Tree, IsPlain}
 use Rattle.bites_spec.specs.Match.{Span, span, Mark, Matches}
-use Rattle.bites_spec.specs.Found.{Answer, FoundBy, FoundSome, Finds, NoMatch, HasMatch, IsFirstPlace}
+use Rattle.bites_spec.specs.Found.{Answer, FoundBy, FoundSome, Finds, HasMatch, IsFirstPlace}
 use Rattle.bites_spec.specs.Run.{Run, slots}
 use Rattle.bites_spec.specs.Slots.{group_in, span_of_run}
 use Rattle.bites_spec.specs.Regex.{Regex, IsCompiled, run_at, span_at, slots_at}
@@ -14,66 +15,74 @@ use Rattle.regex_bites.specs.Borders.{GroupsAtBorders}
 use Rattle.bites_theorems.specs.Headline.{MatchesOver, IsFirstMatch, EndsAsPreferred, EndsLast, MatchHeadline, Headline, AreFirstGroups, AreOfParse, AreOfOneParse, AreOfPreferredParse, AreOfLongestParse, AreOfPreferredLongestParse}
 
 -- over texts, from a border on, a result begins and ends at borders, and so do its groups
-answer_borders : (t : Tree) (hay : List ℕ) (s : ℕ) → IsUtf8 hay → (s ≤ length hay → IsCharBoundary hay s) → (a : Answer) →
-    FoundSome t hay s (Some a) → HasBorders hay (span a.start a.end) × ((k : ℕ) (g : Span) → a.group k ≡ Some g → HasBorders hay g)
-answer_borders t hay s utf8 border a f =
-    let lies = (laws.found_lies t hay s a f).0 in let one = lies.0 in let two = lies.1 in let three = lies.2 in
-    laws.what_is_found_in_texts_has_borders t hay s a utf8 (border (omega (arith, one, two, three))) f
+answer_borders : (t : Tree) (hay : List ℕ) (s : ℕ) (ps : List ℕ) → AreStarts hay s ps → IsUtf8 hay → (s ≤ length hay → IsCharBoundary hay s) → (a : Answer) →
+    FoundSome t hay ps (Some a) → HasBorders hay (span a.start a.end) × ((k : ℕ) (g : Span) → a.group k ≡ Some g → HasBorders hay g)
+answer_borders t hay s ps are utf8 border a f =
+    let lies = (laws.found_lies t hay s ps are a f).0 in let one = lies.0 in let two = lies.1 in let three = lies.2 in
+    laws.what_is_found_in_texts_has_borders t hay s ps are a utf8 (border (omega (arith, one, two, three))) f
+
+module _ (r : Regex) (hay : List ℕ) where
+  pub captured_by : (o : Option (List (Option ℕ))) (c : Captured) → Some c ≡ option_map (captured r hay) o → (c.regex ≡ r) × (c.haystack ≡ hay)
+  captured_by None c e = let never : Some c ≡ None = e in absurd (cc)
+  captured_by (Some l) c e =
+      let some : Some c ≡ Some (captured r hay l) = e in
+      let same : c ≡ captured r hay l = cc in
+      (ap (λ (d : Captured). d.regex) same, ap (λ (d : Captured). d.haystack) same)
 
 -- what a search finds, read off its clauses on the tree
-module _ (r : Regex) (hay : List ℕ) (s : ℕ) where
-  some_parse : (a : Answer) → Finds r.leftmost_longest r.tree hay s (Some a) → FoundSome r.tree hay s (Some a)
-  some_parse a = laws.finds_some r.leftmost_longest r.tree hay s (Some a)
+module _ (r : Regex) (hay : List ℕ) (s : ℕ) (ps : List ℕ) (are : AreStarts hay s ps) where
+  some_parse : (a : Answer) → Finds r.leftmost_longest r.tree hay ps (Some a) → FoundSome r.tree hay ps (Some a)
+  some_parse a = laws.finds_some r.leftmost_longest r.tree hay ps (Some a)
 
-  matches_from : (a : Answer) → FoundSome r.tree hay s (Some a) → Matches hay r.tree a.start a.end
+  matches_from : (a : Answer) → FoundSome r.tree hay ps (Some a) → Matches hay r.tree a.start a.end
   matches_from a f = laws.match_is_parse.1 hay r.tree a.start a.end f.marks f.parse
 
-  preferred_end : (a : Answer) → Finds false r.tree hay s (Some a) → IsPlain r.tree → EndsAsPreferred r.tree hay (span a.start a.end)
+  preferred_end : (a : Answer) → Finds false r.tree hay ps (Some a) → IsPlain r.tree → EndsAsPreferred r.tree hay (span a.start a.end)
   preferred_end a f plain = (f.marks, f.chosen plain)
 
-  longest_end : (a : Answer) → Finds true r.tree hay s (Some a) → EndsLast r.tree hay (span a.start a.end)
+  longest_end : (a : Answer) → Finds true r.tree hay ps (Some a) → EndsLast r.tree hay (span a.start a.end)
   longest_end a f = f.chosen.0
 
-  first_match : (g : Span) → IsMatchFrom r hay s g → IsFirstMatch r hay s g
+  first_match : (g : Span) → IsMatchFrom r hay ps g → IsFirstMatch r hay ps g
   first_match g m =
       let a = m.answer in let f = some_parse a m.found in let same = sym m.is_span in
       record {
-        first = subst (λ (x : Span). IsFirstPlace r.tree hay s x.start) same f.first;
+        first = subst (λ (x : Span). IsFirstPlace r.tree hay ps x.start) same f.first;
         matches = subst (MatchesOver r.tree hay) same (matches_from a f);
         preferred = λ off plain.
-            subst (EndsAsPreferred r.tree hay) same (preferred_end a (subst (λ b. Finds b r.tree hay s (Some a)) off m.found) plain);
-        longest = λ on. subst (EndsLast r.tree hay) same (longest_end a (subst (λ b. Finds b r.tree hay s (Some a)) on m.found));
+            subst (EndsAsPreferred r.tree hay) same (preferred_end a (subst (λ b. Finds b r.tree hay ps (Some a)) off m.found) plain);
+        longest = λ on. subst (EndsLast r.tree hay) same (longest_end a (subst (λ b. Finds b r.tree hay ps (Some a)) on m.found));
       }
 
   -- where a match is read as a part of the haystack
   module _ {M : Type 0} (f : M → Excerpt) where
-    found_exactly : (o : Option M) → FindsMatch r hay s (option_map f o) → IsSome o ↔ HasMatch r.tree hay s
+    found_exactly : (o : Option M) → FindsMatch r hay ps (option_map f o) → IsSome o ↔ HasMatch r.tree hay ps
     found_exactly None none = (λ h. absurd (true≢false (sym h)), λ has. absurd (none.on_tree has.0 has.2 has.1 has.3))
     found_exactly (Some m) found =
         let a = found.on_tree.answer in let p = some_parse a found.on_tree.found in
         (λ h. (a.start, a.end, p.first.place, matches_from a p), λ has. refl)
 
-    pub match_headline : (o : Option M) → FindsMatch r hay s (option_map f o) → MatchHeadline r hay s (option_map (λ x. (f x).span) o)
+    pub match_headline : (o : Option M) → FindsMatch r hay ps (option_map f o) → MatchHeadline r hay ps (option_map (λ x. (f x).span) o)
     match_headline None none = none.on_tree
     match_headline (Some m) found = first_match (f m).span found.on_tree
 
     -- over texts it begins and ends at borders
-    pub found_at_borders : IsUtf8 hay → (s ≤ length hay → IsCharBoundary hay s) → (o : Option M) → FindsMatch r hay s (option_map f o) →
+    pub found_at_borders : IsUtf8 hay → (s ≤ length hay → IsCharBoundary hay s) → (o : Option M) → FindsMatch r hay ps (option_map f o) →
         IfSome o (λ x. HasBorders hay (f x).span)
     found_at_borders utf8 border None none = tt
     found_at_borders utf8 border (Some m) found =
         let a = found.on_tree.answer in
-        subst (HasBorders hay) (sym found.on_tree.is_span) (answer_borders r.tree hay s utf8 border a (some_parse a found.on_tree.found)).0
+        subst (HasBorders hay) (sym found.on_tree.is_span) (answer_borders r.tree hay s ps are utf8 border a (some_parse a found.on_tree.found)).0
 
   -- the groups in slots
   module _ (l : List (Option ℕ)) where
     -- over texts each begins and ends at borders
-    pub of_borders : IsUtf8 hay → (s ≤ length hay → IsCharBoundary hay s) → FindsGroups r hay s (Some l) → GroupsAtBorders hay l
+    pub of_borders : IsUtf8 hay → (s ≤ length hay → IsCharBoundary hay s) → FindsGroups r hay ps (Some l) → GroupsAtBorders hay l
     of_borders utf8 border found = λ k g e.
-        (answer_borders r.tree hay s utf8 border found.answer (some_parse found.answer found.found)).1 k g (sym (found.in_slots.1 k) ∙ e)
+        (answer_borders r.tree hay s ps are utf8 border found.answer (some_parse found.answer found.found)).1 k g (sym (found.in_slots.1 k) ∙ e)
 
     of_parse : (Q R : (i j : ℕ) → List Mark → Type 0) (a : Answer) → ((i j : ℕ) (ms : List Mark) → Q i j ms → R i j ms) →
-        FoundBy r.tree hay Q s (Some a) → IsInSlots (Some a) (Some l) → AreOfParse r.tree hay s R l
+        FoundBy r.tree hay Q ps (Some a) → IsInSlots (Some a) (Some l) → AreOfParse r.tree hay ps R l
     of_parse Q R a weaker f is = record {
       start = a.start;
       end = a.end;
@@ -85,66 +94,59 @@ module _ (r : Regex) (hay : List ℕ) (s : ℕ) where
     }
 
     -- the groups are the headline's
-    pub first_groups : FindsGroups r hay s (Some l) → AreFirstGroups r hay s l
+    pub first_groups : FindsGroups r hay ps (Some l) → AreFirstGroups r hay ps l
     first_groups found =
         let a = found.answer in
         record {
           one_parse = of_parse _ _ a (λ i j ms h. tt) (some_parse a found.found) found.in_slots;
           preferred = λ off plain.
-              of_parse _ _ a (λ i j ms h. h plain) (subst (λ b. Finds b r.tree hay s (Some a)) off found.found) found.in_slots;
-          longest = λ on. of_parse _ _ a (λ i j ms h. h.0) (subst (λ b. Finds b r.tree hay s (Some a)) on found.found) found.in_slots;
+              of_parse _ _ a (λ i j ms h. h plain) (subst (λ b. Finds b r.tree hay ps (Some a)) off found.found) found.in_slots;
+          longest = λ on. of_parse _ _ a (λ i j ms h. h.0) (subst (λ b. Finds b r.tree hay ps (Some a)) on found.found) found.in_slots;
           preferred_longest = λ on plain.
-              of_parse _ _ a (λ i j ms h. (h.0, h.1 plain)) (subst (λ b. Finds b r.tree hay s (Some a)) on found.found) found.in_slots;
+              of_parse _ _ a (λ i j ms h. (h.0, h.1 plain)) (subst (λ b. Finds b r.tree hay ps (Some a)) on found.found) found.in_slots;
         }
 
-  pub captured_by : (o : Option (List (Option ℕ))) (c : Captured) → Some c ≡ option_map (captured r hay) o → (c.regex ≡ r) × (c.haystack ≡ hay)
-  captured_by None c e = let never : Some c ≡ None = e in absurd (cc)
-  captured_by (Some l) c e =
-      let some : Some c ≡ Some (captured r hay l) = e in
-      let same : c ≡ captured r hay l = cc in
-      (ap (λ (d : Captured). d.regex) same, ap (λ (d : Captured). d.haystack) same)
-
   -- captures are the headline's
-  pub headline : (o : Option Captured) → o ≡ option_map (captured r hay) (slots_at r hay s) → FindsGroups r hay s (option_map (λ c. c.slots) o) →
-      Headline r hay s o
+  pub headline : (o : Option Captured) → o ≡ option_map (captured r hay) (slots_at r hay ps) → FindsGroups r hay ps (option_map (λ c. c.slots) o) →
+      Headline r hay ps o
   headline None e none = none
   headline (Some c) e found =
-      let by = captured_by (slots_at r hay s) c e in
+      let by = captured_by r hay (slots_at r hay ps) c e in
       record { regex_is = by.0; haystack_is = by.1; groups = first_groups c.slots found }
 
   -- what holds of slots with the groups that a search finds holds of captures
-  pub on_captures : (P : List (Option ℕ) → Type 0) → ((l : List (Option ℕ)) → FindsGroups r hay s (Some l) → P l) →
-      (o : Option Captured) → FindsGroups r hay s (option_map (λ c. c.slots) o) → IfSome o (λ c. P c.slots)
+  pub on_captures : (P : List (Option ℕ) → Type 0) → ((l : List (Option ℕ)) → FindsGroups r hay ps (Some l) → P l) →
+      (o : Option Captured) → FindsGroups r hay ps (option_map (λ c. c.slots) o) → IfSome o (λ c. P c.slots)
   on_captures P of None f = tt
   on_captures P of (Some c) f = of c.slots f
 
   -- and of locations into which the search has written
   module _ (is : IsCompiled r) {M : Type 0} (f : M → Excerpt) where
-    written_by : (P : List (Option ℕ) → Type 0) → ((l : List (Option ℕ)) → FindsGroups r hay s (Some l) → P l) →
-        (x : Option Run) → run_at r hay s ≡ x → (o : Option M) → option_map f o ≡ option_map (excerpt hay) (option_map span_of_run x) →
+    written_by : (P : List (Option ℕ) → Type 0) → ((l : List (Option ℕ)) → FindsGroups r hay ps (Some l) → P l) →
+        (x : Option Run) → run_at r hay ps ≡ x → (o : Option M) → option_map f o ≡ option_map (excerpt hay) (option_map span_of_run x) →
         (old new : List (Option ℕ)) → new ≡ unwrap_or (option_map (slots r.program) x) old → IfSome o (λ m. P new)
     written_by P of x e None same old new w = tt
     written_by P of None e (Some m) same old new w = let never : Some (f m) ≡ None = same in absurd (cc)
     written_by P of (Some x) e (Some m) same old new w =
         subst P (sym w)
-        (of (slots r.program x) (subst (λ q. FindsGroups r hay s (option_map (slots r.program) q)) e (laws.slots_are_found r is hay s).0))
+        (of (slots r.program x) (subst (λ q. FindsGroups r hay ps (option_map (slots r.program) q)) e (laws.slots_are_found r is hay s ps are).0))
 
-    written_whole_by : (x : Option Run) → run_at r hay s ≡ x → (o : Option M) → option_map f o ≡ option_map (excerpt hay) (option_map span_of_run x) →
+    written_whole_by : (x : Option Run) → run_at r hay ps ≡ x → (o : Option M) → option_map f o ≡ option_map (excerpt hay) (option_map span_of_run x) →
         (old new : List (Option ℕ)) → new ≡ unwrap_or (option_map (slots r.program) x) old → IfSome o (λ m. group_in new 0 ≡ Some (f m).span)
     written_whole_by x e None same old new w = tt
     written_whole_by None e (Some m) same old new w = let never : Some (f m) ≡ None = same in absurd (cc)
     written_whole_by (Some x) e (Some m) same old new w =
-        ap (λ l. group_in l 0) w ∙ laws.answers_have_group_0 r is hay s x e ∙ sym (ap (option_map (λ (y : Excerpt). y.span)) same)
+        ap (λ l. group_in l 0) w ∙ laws.answers_have_group_0 r is hay s ps are x e ∙ sym (ap (option_map (λ (y : Excerpt). y.span)) same)
 
     -- the match is group 0 in the locations
-    pub written_whole : (o : Option M) → option_map f o ≡ option_map (excerpt hay) (span_at r hay s) →
-        (old new : List (Option ℕ)) → new ≡ unwrap_or (slots_at r hay s) old → IfSome o (λ m. group_in new 0 ≡ Some (f m).span)
-    written_whole = written_whole_by (run_at r hay s) refl
+    pub written_whole : (o : Option M) → option_map f o ≡ option_map (excerpt hay) (span_at r hay ps) →
+        (old new : List (Option ℕ)) → new ≡ unwrap_or (slots_at r hay ps) old → IfSome o (λ m. group_in new 0 ≡ Some (f m).span)
+    written_whole = written_whole_by (run_at r hay ps) refl
 
-    written_match : (m : Option Excerpt) → m ≡ option_map (excerpt hay) (span_at r hay s) → FindsMatch r hay s m
+    written_match : (m : Option Excerpt) → m ≡ option_map (excerpt hay) (span_at r hay ps) → FindsMatch r hay ps m
     written_match m e = record {
       span = e;
-      on_tree = subst (FindsSpan r hay s) (spans (span_at r hay s) ∙ ap (option_map (λ (y : Excerpt). y.span)) (sym e)) (laws.slots_are_found r is hay s).1;
+      on_tree = subst (FindsSpan r hay ps) (spans (span_at r hay ps) ∙ ap (option_map (λ (y : Excerpt). y.span)) (sym e)) (laws.slots_are_found r is hay s ps are).1;
     }
       where
         spans : (q : Option Span) → q ≡ option_map (λ y. y.span) (option_map (excerpt hay) q)
@@ -152,10 +154,10 @@ module _ (r : Regex) (hay : List ℕ) (s : ℕ) where
         spans (Some g) = refl
 
     -- a search that writes locations finds something exactly if the tree matches
-    pub written_exactly : (o : Option M) → option_map f o ≡ option_map (excerpt hay) (span_at r hay s) → IsSome o ↔ HasMatch r.tree hay s
+    pub written_exactly : (o : Option M) → option_map f o ≡ option_map (excerpt hay) (span_at r hay ps) → IsSome o ↔ HasMatch r.tree hay ps
     written_exactly o e = found_exactly f o (written_match (option_map f o) e)
 
-    pub on_written : (P : List (Option ℕ) → Type 0) → ((l : List (Option ℕ)) → FindsGroups r hay s (Some l) → P l) →
-        (o : Option M) → option_map f o ≡ option_map (excerpt hay) (span_at r hay s) →
-        (old new : List (Option ℕ)) → new ≡ unwrap_or (slots_at r hay s) old → IfSome o (λ m. P new)
-    on_written P of = written_by P of (run_at r hay s) refl
+    pub on_written : (P : List (Option ℕ) → Type 0) → ((l : List (Option ℕ)) → FindsGroups r hay ps (Some l) → P l) →
+        (o : Option M) → option_map f o ≡ option_map (excerpt hay) (span_at r hay ps) →
+        (old new : List (Option ℕ)) → new ≡ unwrap_or (slots_at r hay ps) old → IfSome o (λ m. P new)
+    on_written P of = written_by P of (run_at r hay ps) refl

@@ -1,5 +1,5 @@
 pub mod AgreementLemmas
-pub mod AnchoredLemmas
+pub mod FullLemmas
 pub mod EscapedLemmas
 pub mod GroupLemmas
 pub mod HeadlineLemmas

@@ -2,6 +2,7 @@
 use Rattle.std.proofs.Common.{◌≡◌, ℕ, List, [], ◌∷◌, ◌++◌, map, length, Option, Some, None, option_map, refl, sym, ap, ◌∙◌}
 use Rattle.std.specs.Prelude.{unwrap_or}
 use Rattle.std.proofs.lemmas.List.{map-append, append_assoc, append-nil}
+use Rattle.bites_spec.specs.Utf8.{places}
 use Rattle.bites_spec.specs.Match.{Span, span}
 use Rattle.bites_spec.specs.Run.{Run, slots}
 use Rattle.bites_spec.specs.Slots.{group_in, span_of_run}
@@ -130,7 +131,7 @@ module _ {M : Type 0} (f : M → Excerpt) where
         sym (append-nil (map (option_map f) wholes))
         ∙ ap (λ l. map (option_map f) wholes ++ map whole_of l) (sym none)
         ∙ all
-        ∙ wholes_by (successive span_of_run hay (run_at r hay))
+        ∙ wholes_by (successive span_of_run hay (λ s. run_at r hay (places hay s)))
         ∙ ap (map (option_map (excerpt hay))) (laws.captures_have_spans r is hay)
         ∙ some_spans (spans_in r hay)
         ∙ ap (map (λ x. Some x)) (sym found)

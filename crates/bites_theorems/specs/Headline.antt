@@ -1,10 +1,11 @@
 -- What the headline says of what a search returns.
 use Rattle.std.specs.Prelude.{◌≡◌, ℕ, ◌≤◌, true, false, List, length, Option, Some, None}
+use Rattle.bites_spec.specs.Utf8.{start_alone}
 use Rattle.bites_spec.specs.Tree.{Tree, IsPlain}
 use Rattle.bites_spec.specs.Match.{Span, Mark, Matches, Parse, groups}
 use Rattle.bites_spec.specs.Preference.{parses}
 use Rattle.bites_spec.specs.Found.{NoMatch, IsFirstPlace, head_of, first_ending, parse_to}
-use Rattle.bites_spec.specs.Anchored.{HasMatchFrom, IsFullMatch}
+use Rattle.bites_spec.specs.Full.{IsFullMatch}
 use Rattle.bites_spec.specs.Slots.{group_in}
 use Rattle.bites_spec.specs.Regex.{Regex}
 use Rattle.bites_spec.specs.Captured.{Captured}
@@ -22,14 +23,14 @@ module _ (t : Tree) (hay : List ℕ) (g : Span) where
   abbrev pub EndsLast : Type 0
   EndsLast = (l : ℕ) → Matches hay t g.start l → l ≤ g.end
 
-module _ (t : Tree) (hay : List ℕ) (s : ℕ) where
-  -- The slots hold the groups of one parse, and Q holds for it. The parse begins at the first place from s on at which the
-  -- tree matches.
+module _ (t : Tree) (hay starts : List ℕ) where
+  -- The slots hold the groups of one parse, and Q holds for it. The parse begins at the first of the starts from which the tree
+  -- matches.
   pub record AreOfParse (Q : (i j : ℕ) → List Mark → Type 0) (slots : List (Option ℕ)) : Type 0 where
     pub start : ℕ
     pub end : ℕ
     pub marks : List Mark
-    pub first : IsFirstPlace t hay s start
+    pub first : IsFirstPlace t hay starts start
     pub parse : Parse hay t start end marks
     pub groups : (k : ℕ) → group_in slots k ≡ groups start end marks k
     pub chosen : Q start end marks
@@ -51,28 +52,28 @@ module _ (t : Tree) (hay : List ℕ) (s : ℕ) where
   AreOfPreferredLongestParse =
       AreOfParse (λ i j ms. ((l : ℕ) → Matches hay t i l → l ≤ j) × (first_ending j (parses hay t i) ≡ Some (parse_to j ms)))
 
-module _ (regex : Regex) (hay : List ℕ) (start : ℕ) where
-  -- A match that begins at the first place from the start on at which the tree matches. If the longest match is asked for, it
+module _ (regex : Regex) (hay starts : List ℕ) where
+  -- A match that begins at the first of the starts from which the tree matches. If the longest match is asked for, it
   -- ends last; otherwise, if the tree is plain, it ends as the pattern prefers.
   pub record IsFirstMatch (g : Span) : Type 0 where
-    pub first : IsFirstPlace regex.tree hay start g.start
+    pub first : IsFirstPlace regex.tree hay starts g.start
     pub matches : MatchesOver regex.tree hay g
     pub preferred : regex.leftmost_longest ≡ false → IsPlain regex.tree → EndsAsPreferred regex.tree hay g
     pub longest : regex.leftmost_longest ≡ true → EndsLast regex.tree hay g
 
-  -- the search returns such a match, or the tree matches nowhere
+  -- the search returns such a match, or the tree matches from no start
   abbrev pub MatchHeadline : Option Span → Type 0
-  MatchHeadline None = NoMatch regex.tree hay start
+  MatchHeadline None = NoMatch regex.tree hay starts
   MatchHeadline (Some g) = IsFirstMatch g
 
-  -- In the slots stand the groups of one parse from the first place from the start on at which the tree matches. If the longest
-  -- match is asked for, it is a longest parse, and if the tree is plain too, the preferred of those; otherwise, if the tree is
-  -- plain, it is the preferred parse.
+  -- In the slots stand the groups of one parse from the first of the starts from which the tree matches. If the longest match is
+  -- asked for, it is a longest parse, and if the tree is plain too, the preferred of those; otherwise, if the tree is plain, it
+  -- is the preferred parse.
   pub record AreFirstGroups (slots : List (Option ℕ)) : Type 0 where
-    pub one_parse : AreOfOneParse regex.tree hay start slots
-    pub preferred : regex.leftmost_longest ≡ false → IsPlain regex.tree → AreOfPreferredParse regex.tree hay start slots
-    pub longest : regex.leftmost_longest ≡ true → AreOfLongestParse regex.tree hay start slots
-    pub preferred_longest : regex.leftmost_longest ≡ true → IsPlain regex.tree → AreOfPreferredLongestParse regex.tree hay start slots
+    pub one_parse : AreOfOneParse regex.tree hay starts slots
+    pub preferred : regex.leftmost_longest ≡ false → IsPlain regex.tree → AreOfPreferredParse regex.tree hay starts slots
+    pub longest : regex.leftmost_longest ≡ true → AreOfLongestParse regex.tree hay starts slots
+    pub preferred_longest : regex.leftmost_longest ≡ true → IsPlain regex.tree → AreOfPreferredLongestParse regex.tree hay starts slots
 
   -- captures that this regex found in this haystack, with such groups
   pub record AreFirstCaptures (c : Captured) : Type 0 where
@@ -80,78 +81,18 @@ module _ (regex : Regex) (hay : List ℕ) (start : ℕ) where
     pub haystack_is : c.haystack ≡ hay
     pub groups : AreFirstGroups c.slots
 
-  -- the search returns such captures, or the tree matches nowhere
+  -- the search returns such captures, or the tree matches from no start
   abbrev pub Headline : Option Captured → Type 0
-  Headline None = NoMatch regex.tree hay start
+  Headline None = NoMatch regex.tree hay starts
   Headline (Some c) = AreFirstCaptures c
-
-module _ (t : Tree) (hay : List ℕ) (s : ℕ) where
-  -- The slots hold the groups of one parse from s, and Q holds for it.
-  pub record AreOfParseAt (Q : (j : ℕ) → List Mark → Type 0) (slots : List (Option ℕ)) : Type 0 where
-    pub end : ℕ
-    pub marks : List Mark
-    pub parse : Parse hay t s end marks
-    pub groups : (k : ℕ) → group_in slots k ≡ groups s end marks k
-    pub chosen : Q end marks
-
-  -- of one parse, whichever it is
-  abbrev pub AreOfOneParseAt : List (Option ℕ) → Type 0
-  AreOfOneParseAt = AreOfParseAt (λ j ms. Unit {0})
-
-  -- of the parse that the pattern prefers
-  abbrev pub AreOfPreferredParseAt : List (Option ℕ) → Type 0
-  AreOfPreferredParseAt = AreOfParseAt (λ j ms. head_of (parses hay t s) ≡ Some (parse_to j ms))
-
-  -- of a parse to the greatest end
-  abbrev pub AreOfLongestParseAt : List (Option ℕ) → Type 0
-  AreOfLongestParseAt = AreOfParseAt (λ j ms. (l : ℕ) → Matches hay t s l → l ≤ j)
-
-  -- of the one that the pattern prefers among the parses to that end
-  abbrev pub AreOfPreferredLongestParseAt : List (Option ℕ) → Type 0
-  AreOfPreferredLongestParseAt =
-      AreOfParseAt (λ j ms. ((l : ℕ) → Matches hay t s l → l ≤ j) × (first_ending j (parses hay t s) ≡ Some (parse_to j ms)))
-
-module _ (regex : Regex) (hay : List ℕ) (start : ℕ) where
-  -- A match that begins at the start itself. If the longest match is asked for, it ends last; otherwise, if the tree is plain, it
-  -- ends as the pattern prefers.
-  pub record IsMatchHere (g : Span) : Type 0 where
-    pub within : start ≤ length hay
-    pub begins : g.start ≡ start
-    pub matches : MatchesOver regex.tree hay g
-    pub preferred : regex.leftmost_longest ≡ false → IsPlain regex.tree → EndsAsPreferred regex.tree hay g
-    pub longest : regex.leftmost_longest ≡ true → EndsLast regex.tree hay g
-
-  -- the search from there alone returns such a match, or the tree matches nothing there
-  abbrev pub AnchoredMatchHeadline : Option Span → Type 0
-  AnchoredMatchHeadline None = HasMatchFrom regex.tree hay start → ⊥
-  AnchoredMatchHeadline (Some g) = IsMatchHere g
-
-  -- In the slots stand the groups of one parse from the start itself. If the longest match is asked for, it is a longest parse,
-  -- and if the tree is plain too, the preferred of those; otherwise, if the tree is plain, it is the preferred parse.
-  pub record AreGroupsHere (slots : List (Option ℕ)) : Type 0 where
-    pub within : start ≤ length hay
-    pub one_parse : AreOfOneParseAt regex.tree hay start slots
-    pub preferred : regex.leftmost_longest ≡ false → IsPlain regex.tree → AreOfPreferredParseAt regex.tree hay start slots
-    pub longest : regex.leftmost_longest ≡ true → AreOfLongestParseAt regex.tree hay start slots
-    pub preferred_longest : regex.leftmost_longest ≡ true → IsPlain regex.tree → AreOfPreferredLongestParseAt regex.tree hay start slots
-
-  -- captures that this regex found in this haystack, with such groups
-  pub record AreCapturesHere (c : Captured) : Type 0 where
-    pub regex_is : c.regex ≡ regex
-    pub haystack_is : c.haystack ≡ hay
-    pub groups : AreGroupsHere c.slots
-
-  -- the search from there alone returns such captures, or the tree matches nothing there
-  abbrev pub AnchoredHeadline : Option Captured → Type 0
-  AnchoredHeadline None = HasMatchFrom regex.tree hay start → ⊥
-  AnchoredHeadline (Some c) = AreCapturesHere c
 
 module _ (regex : Regex) (hay : List ℕ) where
   -- In the slots stand the groups of one parse of the whole haystack; if the tree is plain, of the one that the pattern prefers.
   pub record AreFullGroups (slots : List (Option ℕ)) : Type 0 where
-    pub one_parse : AreOfParseAt regex.tree hay 0 (λ j ms. j ≡ length hay) slots
+    pub one_parse : AreOfParse regex.tree hay (start_alone hay 0) (λ i j ms. j ≡ length hay) slots
     pub preferred : IsPlain regex.tree →
-        AreOfParseAt regex.tree hay 0 (λ j ms. (j ≡ length hay) × (first_ending (length hay) (parses hay regex.tree 0) ≡ Some (parse_to j ms))) slots
+        AreOfParse regex.tree hay (start_alone hay 0)
+        (λ i j ms. (j ≡ length hay) × (first_ending (length hay) (parses hay regex.tree i) ≡ Some (parse_to j ms))) slots
 
   -- captures that this regex found in this haystack, with such groups
   pub record AreFullCaptures (c : Captured) : Type 0 where

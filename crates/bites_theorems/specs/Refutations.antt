@@ -1,5 +1,6 @@
 -- Values for which a word of this crate is false, each proved: a weaker word, which holds of them, would not do.
 use Rattle.std.specs.Prelude.{◌≡◌, ℕ, true, List, [], ◌∷◌, codes, Option, Some, None}
+use Rattle.bites_spec.specs.Utf8.{places}
 use Rattle.bites_spec.specs.Tree.{Tree, char, group, sequence, alternation, trees_of}
 use Rattle.bites_spec.specs.Match.{Span, span}
 use Rattle.bites_spec.specs.Settings.{by_default}
@@ -37,15 +38,15 @@ a_or_b = alternation (trees_of (group 1 None (char 97) ∷ group 2 None (char 98
 -- on `ab` no parse has both groups, none begins at 1, and none leaves group 1 out
 abbrev pub ParsesRefuse : Type 0
 ParsesRefuse =
-    (AreOfOneParse a_or_b (codes "ab") 0 (Some 0 ∷ Some 1 ∷ Some 0 ∷ Some 1 ∷ Some 1 ∷ Some 2 ∷ []) → ⊥)
-    × (AreOfOneParse a_or_b (codes "ab") 0 (Some 1 ∷ Some 2 ∷ None ∷ None ∷ Some 1 ∷ Some 2 ∷ []) → ⊥)
-    × (AreOfOneParse a_or_b (codes "ab") 0 (Some 0 ∷ Some 1 ∷ None ∷ None ∷ None ∷ None ∷ []) → ⊥)
+    (AreOfOneParse a_or_b (codes "ab") (places (codes "ab") 0) (Some 0 ∷ Some 1 ∷ Some 0 ∷ Some 1 ∷ Some 1 ∷ Some 2 ∷ []) → ⊥)
+    × (AreOfOneParse a_or_b (codes "ab") (places (codes "ab") 0) (Some 1 ∷ Some 2 ∷ None ∷ None ∷ Some 1 ∷ Some 2 ∷ []) → ⊥)
+    × (AreOfOneParse a_or_b (codes "ab") (places (codes "ab") 0) (Some 0 ∷ Some 1 ∷ None ∷ None ∷ None ∷ None ∷ []) → ⊥)
 
 -- on `ab` the groups of `a|ab` are not those of the other parse
 abbrev pub ChoiceRefuses : Type 0
 ChoiceRefuses =
-    (AreOfPreferredParse a_or_ab (codes "ab") 0 (Some 0 ∷ Some 2 ∷ []) → ⊥)
-    × (AreOfLongestParse a_or_ab (codes "ab") 0 (Some 0 ∷ Some 1 ∷ []) → ⊥)
+    (AreOfPreferredParse a_or_ab (codes "ab") (places (codes "ab") 0) (Some 0 ∷ Some 2 ∷ []) → ⊥)
+    × (AreOfLongestParse a_or_ab (codes "ab") (places (codes "ab") 0) (Some 0 ∷ Some 1 ∷ []) → ⊥)
 
 -- a pattern that is read is not refused, and an open group is not refused by another message
 abbrev pub RefusalsRefuse : Type 0

@@ -8,6 +8,7 @@ use Rattle.bites_spec.specs.Match.{Span}
 use Rattle.bites_spec.specs.Found.{HasMatch}
 use Rattle.bites_spec.specs.AllMatches.{AreMatches}
 use Rattle.bites_spec.specs.Pieces.{text_at}
+use Rattle.bites_spec.specs.Utf8.{places}
 use Rattle.lines.specs.declared.options.Show.{Show}
 use Rattle.lines.specs.declared.options.Show.TheVariants.{Lines, Matches, Count, Name, Nothing}
 use Rattle.lines.specs.declared.options.Format.{Format}
@@ -23,8 +24,8 @@ selected n l = record { number = n; line = l }
 
 -- the tree matches somewhere in the line without its line feed, or with `invert` it does not
 abbrev pub IsAskedFor : Tree → Bool → List ℕ → Type 0
-IsAskedFor t false line = HasMatch t (strip_last 10 line) 0
-IsAskedFor t true line = HasMatch t (strip_last 10 line) 0 → ⊥
+IsAskedFor t false line = HasMatch t (strip_last 10 line) (places (strip_last 10 line) 0)
+IsAskedFor t true line = HasMatch t (strip_last 10 line) (places (strip_last 10 line) 0) → ⊥
 
 -- These are the lines that are asked for among the lines after the first n, in their order. Each other line is not asked for.
 abbrev pub AreSelected : Tree → Bool → ℕ → List (List ℕ) → List Selected → Type 0

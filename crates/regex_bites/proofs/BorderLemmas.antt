@@ -5,8 +5,7 @@ use Rattle.std.specs.Prelude.{IfSome, unwrap_or, option_and_then}
 use Rattle.std.specs.List.{AllByRecursion}
 use Rattle.std.proofs.lemmas.Str.{IsCharBoundary-start}
 use Rattle.std.proofs.lemmas.Bool.{cases_Bool}
-use Rattle.bites_spec.specs.Utf8.{piece, places, step_len}
-use Rattle.bites_spec.specs.Walks.{Among}
+use Rattle.bites_spec.specs.Utf8.{piece, places, step_len, AreStarts}
 use Rattle.bites_spec.specs.Match.{Span}
 use Rattle.bites_spec.specs.Spans.{is_empty_at, next_after, followed, some_after, successive, successive_after}
 use Rattle.bites_spec.specs.Tree.{Tree}
@@ -16,13 +15,16 @@ use Rattle.bites_spec.specs.Run.{Run, slots}
 use Rattle.bites_spec.specs.Slots.{group_in, span_of_run, answer_of}
 use Rattle.bites_spec.specs.Regex.{Regex, IsCompiled, run_at, span_at, slots_at}
 use Rattle.bites_spec.specs.Captured.{Excerpt, excerpt, Captured, captured}
+use Rattle.bites_spec.specs.Full.{FoundFull, full_run, full_slots}
 use Rattle.bites_spec.specs.Pieces.{AreInOrder}
 use Rattle.bites_spec.specs.Iteration.{spans_in, captured_by, captures_in}
-use Rattle.bites_spec.proofs.utf8.PieceLemmas.{piece_some, Among-places_within}
+use Rattle.bites_spec.proofs.utf8.PieceLemmas.{piece_some}
+use Rattle.bites_spec.proofs.utf8.StartLemmas.{start_lies, all_are_starts}
 use Rattle.bites_spec.proofs.parses.TextPlaces.{border_behind}
 use Rattle.bites_spec.proofs.parses.TextMatches.{found_borders, least_end_border}
 use Rattle.bites_spec.proofs.regex.FoundSomeLemmas.{finds_some}
 use Rattle.bites_spec.proofs.regex.RegexLemmas.{run_is_found}
+use Rattle.bites_spec.proofs.regex.FullLemmas.{full_run_is_found, full_is_found}
 use Rattle.bites_spec.proofs.iteration.SpanLemmas.{Successive-in_order}
 use Rattle.bites_spec.proofs.iteration.SuccessiveLemmas.{successive_follow}
 use Rattle.bites_spec.proofs.regex.RegexRuns.{run_at-lies, span_at-lies}
@@ -74,61 +76,71 @@ module _ (hay : List ℕ) (utf8 : IsUtf8 hay) where
     unfolding successive successive_after
     each_successive = each_followed (some_after span_of hay A (length hay)) (A 0) (answers 0 may_start) (each_after (length hay))
 
-  place_lies : (s i : ℕ) → Among (places hay s) i → s ≤ length hay
-  unfolding places
-  place_lies s i h = let lies = Among-places_within (suc (length hay)) hay s i h in let one = lies.0 in let two = lies.1 in omega (arith, one, two)
-
   -- the least end of a match is a border
-  pub end_border : (t : Tree) (s : ℕ) → MayStart hay s → (o : Option ℕ) → IsLeastEnd t hay s o → IfSome o (IsCharBoundary hay)
-  end_border t s may None least = tt
-  end_border t s may (Some j) least = least_end_border t hay s j utf8 (may (place_lies s least.0.0 least.0.1)) least
+  pub end_border : (t : Tree) (s : ℕ) (ps : List ℕ) → AreStarts hay s ps → MayStart hay s → (o : Option ℕ) → IsLeastEnd t hay ps o → IfSome o (IsCharBoundary hay)
+  end_border t s ps are may None least = tt
+  end_border t s ps are may (Some j) least =
+      let lies = start_lies hay s ps are least.0.0 least.0.1 in least_end_border t hay s ps are j utf8 (may (omega (arith, lies.0, lies.1))) least
 
   module _ (r : Regex) (is : IsCompiled r) where
-    -- the run that a search returns begins and ends at borders, and so do its groups
-    pub run_borders : (s : ℕ) → MayStart hay s → (x : Run) → run_at r hay s ≡ Some x → HasBorders hay (span_of_run x) × HaveBorders hay (slots r.program x)
-    run_borders s may x e =
-        let lies = run_at-lies r is hay s x e in let one = lies.0 in let two = lies.1 in let three = lies.2 in
-        let finds =
-        subst (λ o. Finds r.leftmost_longest r.tree hay s (option_map (answer_of r.program) o)) e (run_is_found r is hay s) in
-        let found =
-        found_borders r.tree hay s (answer_of r.program x) utf8 (may (omega (arith, one, two, three)))
-        (finds_some r.leftmost_longest r.tree hay s (Some (answer_of r.program x)) finds) in
-        (found.0, record { groups = found.1 })
+    -- a search from these starts
+    module _ (s : ℕ) (ps : List ℕ) (are : AreStarts hay s ps) (may : MayStart hay s) where
+      -- the run that it returns begins and ends at borders, and so do its groups
+      run_borders : (x : Run) → run_at r hay ps ≡ Some x → HasBorders hay (span_of_run x) × HaveBorders hay (slots r.program x)
+      run_borders x e =
+          let lies = run_at-lies r is hay s ps are x e in let one = lies.0 in let two = lies.1 in let three = lies.2 in
+          let finds =
+          subst (λ o. Finds r.leftmost_longest r.tree hay ps (option_map (answer_of r.program) o)) e (run_is_found r is hay s ps are) in
+          let found =
+          found_borders r.tree hay s ps are (answer_of r.program x) utf8 (may (omega (arith, one, two, three)))
+          (finds_some r.leftmost_longest r.tree hay ps (Some (answer_of r.program x)) finds) in
+          (found.0, record { groups = found.1 })
 
-    span_of : (s : ℕ) → MayStart hay s → (o : Option Run) → run_at r hay s ≡ o → (g : Span) → option_map span_of_run o ≡ Some g → HasBorders hay g
-    span_of s may None e g h = none_some g h
-    span_of s may (Some x) e g h = subst (HasBorders hay) (same_Some (span_of_run x) g h) (run_borders s may x e).0
+      pub span_borders : (g : Span) → span_at r hay ps ≡ Some g → HasBorders hay g
+      span_borders g h = by_run (run_at r hay ps) refl h
+        where
+          by_run : (o : Option Run) → run_at r hay ps ≡ o → option_map span_of_run o ≡ Some g → HasBorders hay g
+          by_run None e h = none_some g h
+          by_run (Some x) e h = subst (HasBorders hay) (same_Some (span_of_run x) g h) (run_borders x e).0
 
-    pub span_borders : (s : ℕ) → MayStart hay s → (g : Span) → span_at r hay s ≡ Some g → HasBorders hay g
-    span_borders s may g h = span_of s may (run_at r hay s) refl g h
+    -- the slots of a run whose groups have borders
+    slots_of : (o : Option Run) → ((x : Run) → o ≡ Some x → HaveBorders hay (slots r.program x)) → (l : List (Option ℕ)) → option_map (slots r.program) o ≡ Some l → HaveBorders hay l
+    slots_of None borders l h = none_some l h
+    slots_of (Some x) borders l h = subst (HaveBorders hay) (same_Some (slots r.program x) l h) (borders x refl)
 
-    slots_of : (s : ℕ) → MayStart hay s → (o : Option Run) → run_at r hay s ≡ o → (l : List (Option ℕ)) → option_map (slots r.program) o ≡ Some l → HaveBorders hay l
-    slots_of s may None e l h = none_some l h
-    slots_of s may (Some x) e l h = subst (HaveBorders hay) (same_Some (slots r.program x) l h) (run_borders s may x e).1
-
-    pub captured_of : (o : Option (List (Option ℕ))) → ((l : List (Option ℕ)) → o ≡ Some l → HaveBorders hay l) → (c : Captured) →
+    captured_of : (o : Option (List (Option ℕ))) → ((l : List (Option ℕ)) → o ≡ Some l → HaveBorders hay l) → (c : Captured) →
         Some c ≡ option_map (captured r hay) o → AreGroupsOf hay c
     captured_of None borders c e = none_some c (sym e)
     captured_of (Some l) borders c e = subst (AreGroupsOf hay) (sym (same_Some c (captured r hay l) e)) (refl, (borders l refl).groups)
 
     -- the groups that a search returns are those of a match in the text
-    pub found_groups : (s : ℕ) → MayStart hay s → (c : Captured) → Some c ≡ option_map (captured r hay) (slots_at r hay s) → AreGroupsOf hay c
-    found_groups s may c e = captured_of (slots_at r hay s) (slots_of s may (run_at r hay s) refl) c e
+    pub found_groups : (s : ℕ) (ps : List ℕ) → AreStarts hay s ps → MayStart hay s → (c : Captured) → Some c ≡ option_map (captured r hay) (slots_at r hay ps) → AreGroupsOf hay c
+    found_groups s ps are may c e = captured_of (slots_at r hay ps) (slots_of (run_at r hay ps) (λ x h. (run_borders s ps are may x h).1)) c e
+
+    -- and so are those of a match of the whole text
+    full_borders : (x : Run) → full_run r hay ≡ Some x → HaveBorders hay (slots r.program x)
+    full_borders x e =
+        let found = subst (λ o. FoundFull r.tree hay (option_map (answer_of r.program) o)) e (full_run_is_found r is hay).0 in
+        let a = answer_of r.program x in
+        record { groups = (found_borders r.tree hay 0 (places hay 0) (all_are_starts hay 0) a utf8 (may_start (omega arith)) (full_is_found r.tree hay a found)).1 }
+
+    pub full_groups : (c : Captured) → Some c ≡ option_map (captured r hay) (full_slots r hay) → AreGroupsOf hay c
+    full_groups c e = captured_of (full_slots r hay) (slots_of (full_run r hay) full_borders) c e
 
     -- slots into which a search has written
-    written_by : {M : Type 0} (f : M → Excerpt) (s : ℕ) → MayStart hay s → (x : Option Run) → run_at r hay s ≡ x → (o : Option M) →
+    written_by : {M : Type 0} (f : M → Excerpt) (x : Option Run) → ((y : Run) → x ≡ Some y → HaveBorders hay (slots r.program y)) → (o : Option M) →
         option_map f o ≡ option_map (excerpt hay) (option_map span_of_run x) → (old new : List (Option ℕ)) →
         new ≡ unwrap_or (option_map (slots r.program) x) old → IfSome o (λ m. HaveBorders hay new)
-    written_by f s may x e None same old new is = tt
-    written_by f s may None e (Some m) same old new is = none_some (f m) (sym same)
-    written_by f s may (Some x) e (Some m) same old new is = subst (HaveBorders hay) (sym is) (run_borders s may x e).1
+    written_by f x borders None same old new is = tt
+    written_by f None borders (Some m) same old new is = none_some (f m) (sym same)
+    written_by f (Some y) borders (Some m) same old new is = subst (HaveBorders hay) (sym is) (borders y refl)
 
-    pub written_borders : {M : Type 0} (f : M → Excerpt) (s : ℕ) → MayStart hay s → (o : Option M) →
-        option_map f o ≡ option_map (excerpt hay) (span_at r hay s) → (old new : List (Option ℕ)) →
-        new ≡ unwrap_or (slots_at r hay s) old → IfSome o (λ m. HaveBorders hay new)
-    written_borders f s may o same old new is = written_by f s may (run_at r hay s) refl o same old new is
+    pub written_borders : {M : Type 0} (f : M → Excerpt) (s : ℕ) (ps : List ℕ) → AreStarts hay s ps → MayStart hay s → (o : Option M) →
+        option_map f o ≡ option_map (excerpt hay) (span_at r hay ps) → (old new : List (Option ℕ)) →
+        new ≡ unwrap_or (slots_at r hay ps) old → IfSome o (λ m. HaveBorders hay new)
+    written_borders f s ps are may o same old new is = written_by f (run_at r hay ps) (λ y h. (run_borders s ps are may y h).1) o same old new is
 
-    pub part_at : {M : Type 0} (f : M → Excerpt) (o : Option M) (q : Option Span) → ((g : Span) → q ≡ Some g → HasBorders hay g) →
+    part_at : {M : Type 0} (f : M → Excerpt) (o : Option M) (q : Option Span) → ((g : Span) → q ≡ Some g → HasBorders hay g) →
         option_map f o ≡ option_map (excerpt hay) q → (m : M) → o ≡ Some m → IsPart hay (f m)
     part_at f None q borders e m is = none_some m is
     part_at f (Some n) None borders e m is = none_some (f n) (sym e)
@@ -137,9 +149,9 @@ module _ (hay : List ℕ) (utf8 : IsUtf8 hay) where
         (subst (IsPart hay) (sym (same_Some (f n) (excerpt hay g) e)) (refl, borders g refl))
 
     -- and so it is a part of the text
-    pub found_part : {M : Type 0} (f : M → Excerpt) (s : ℕ) → MayStart hay s → (o : Option M) →
-        option_map f o ≡ option_map (excerpt hay) (span_at r hay s) → (m : M) → o ≡ Some m → IsPart hay (f m)
-    found_part f s may o e m is = part_at f o (span_at r hay s) (span_borders s may) e m is
+    pub found_part : {M : Type 0} (f : M → Excerpt) (s : ℕ) (ps : List ℕ) → AreStarts hay s ps → MayStart hay s → (o : Option M) →
+        option_map f o ≡ option_map (excerpt hay) (span_at r hay ps) → (m : M) → o ≡ Some m → IsPart hay (f m)
+    found_part f s ps are may o e m is = part_at f o (span_at r hay ps) (span_borders s ps are may) e m is
 
     parts : (ss : List Span) → AllByRecursion (HasBorders hay) ss → AllByRecursion (IsPart hay) (map (excerpt hay) ss)
     parts [] h = tt
@@ -149,7 +161,7 @@ module _ (hay : List ℕ) (utf8 : IsUtf8 hay) where
     pub spans_parts : AllByRecursion (IsPart hay) (map (excerpt hay) (spans_in r hay))
     spans_parts =
         parts (spans_in r hay)
-        (each_successive (λ s. s) (span_at r hay) (HasBorders hay) (λ s may g e. let b = span_borders s may g e in (b, b.1)))
+        (each_successive (λ s. s) (λ s. span_at r hay (places hay s)) (HasBorders hay) (λ s may g e. let b = span_borders s _ (all_are_starts hay s) may g e in (b, b.1)))
 
     groups_of_all : (xs : List Run) → AllByRecursion (λ x. HaveBorders hay (slots r.program x)) xs → AllByRecursion (AreGroupsOf hay) (map (captured_by r hay) xs)
     groups_of_all [] h = tt
@@ -158,9 +170,9 @@ module _ (hay : List ℕ) (utf8 : IsUtf8 hay) where
     -- the groups of all matches are those of matches in the text
     pub captures_groups : AllByRecursion (AreGroupsOf hay) (captures_in r hay)
     captures_groups =
-        groups_of_all (successive span_of_run hay (run_at r hay))
-        (each_successive span_of_run (run_at r hay) (λ x. HaveBorders hay (slots r.program x))
-        (λ s may x e. let b = run_borders s may x e in (b.1, b.0.1)))
+        groups_of_all (successive span_of_run hay (λ s. run_at r hay (places hay s)))
+        (each_successive span_of_run (λ s. run_at r hay (places hay s)) (λ x. HaveBorders hay (slots r.program x))
+        (λ s may x e. let b = run_borders s _ (all_are_starts hay s) may x e in (b.1, b.0.1)))
 
     begin_from : (len e : ℕ) (ss : List Span) → AreInOrder len e (map (λ s. s) ss) → BeginFrom e (map (λ e. e.span) (map (excerpt hay) ss))
     begin_from len e [] h = tt
@@ -169,9 +181,10 @@ module _ (hay : List ℕ) (utf8 : IsUtf8 hay) where
     -- all matches stand in order
     pub spans_ordered : BeginFrom 0 (map (λ e. e.span) (map (excerpt hay) (spans_in r hay)))
     spans_ordered =
-        let lie = λ (s : ℕ) (x : Span) (e : span_at r hay s ≡ Some x). span_at-lies r is hay s x e in
+        let from = λ (s : ℕ). span_at r hay (places hay s) in
+        let lie = λ (s : ℕ) (x : Span) (e : from s ≡ Some x). span_at-lies r is hay s _ (all_are_starts hay s) x e in
         begin_from (length hay) 0 (spans_in r hay)
-        (Successive-in_order (λ s. s) hay (λ s o. span_at r hay s ≡ o) lie (spans_in r hay) (successive_follow (λ s. s) hay (span_at r hay) lie))
+        (Successive-in_order (λ s. s) hay (λ s o. from s ≡ o) lie (spans_in r hay) (successive_follow (λ s. s) hay from lie))
 
 -- the groups of a match in a text are parts of it
 module _ (hay : List ℕ) (c : Captured) (of : AreGroupsOf hay c) where

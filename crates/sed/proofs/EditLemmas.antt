@@ -7,11 +7,12 @@ use Rattle.bites_filter.specs.Substituted.{Substitutes}
 use Rattle.bites_filter.proofs.Written.{line_is}
 use Rattle.bites_spec.specs.Found.{NoMatch}
 use Rattle.bites_spec.specs.Regex.{Regex}
+use Rattle.bites_spec.specs.Utf8.{places}
 use Rattle.sed.specs.declared.editor.Editor.{Editor}
 use Rattle.sed.specs.Edited.{IsEdited}
 
 pub is_edited : (r : Regex) (template : List ℕ) (n : ℕ) (line new : List ℕ) → Substitutes r template n (strip_last 10 line) new →
-    (NoMatch r.tree (strip_last 10 line) 0 → new ≡ strip_last 10 line) → IsEdited r template n line (new ++ line_feed_of line)
+    (NoMatch r.tree (strip_last 10 line) (places (strip_last 10 line) 0) → new ≡ strip_last 10 line) → IsEdited r template n line (new ++ line_feed_of line)
 is_edited r template n line new substitutes same = record {
   new = new;
   substitutes = substitutes;

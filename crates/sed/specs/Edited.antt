@@ -4,6 +4,7 @@ use Rattle.std.specs.Io.BufRead.{strip_last}
 use Rattle.bites_filter.specs.Lines.{line_feed_of, AreWritten}
 use Rattle.bites_spec.specs.Found.{NoMatch}
 use Rattle.bites_spec.specs.Regex.{Regex}
+use Rattle.bites_spec.specs.Utf8.{places}
 use Rattle.bites_filter.specs.Substituted.{Substitutes}
 
 -- The line is written with the matches in its text replaced, and with its line feed. If nothing matches, it is unchanged.
@@ -11,7 +12,7 @@ pub record IsEdited (r : Regex) (template : List ℕ) (n : ℕ) (line written : 
   pub new : List ℕ
   pub substitutes : Substitutes r template n (strip_last 10 line) new
   pub written_is : written ≡ new ++ line_feed_of line
-  pub unchanged : NoMatch r.tree (strip_last 10 line) 0 → written ≡ line
+  pub unchanged : NoMatch r.tree (strip_last 10 line) (places (strip_last 10 line) 0) → written ≡ line
 
 -- each line is edited, and what is written for them stands in their order
 abbrev pub AreEdited : Regex → List ℕ → ℕ → List (List ℕ) → List ℕ → Type 0

@@ -1,9 +1,12 @@
 //! Searches for a match that begins at one offset, and for matches of the whole haystack.
 
 ghost use Rattle.std.specs.Prelude.{◌≡◌, ◌↔◌, length, option_map, is_some, unwrap_or, MatchOption, OnOk, IsTrue, IfOk, IfSome};
-ghost use Rattle.bites_spec.specs.Counts.{fit_of, IsBounded};
-ghost use Rattle.bites_spec.specs.Captured.{captured, excerpt};
-ghost use Rattle.bites_spec.specs.Anchored.{HasMatchFrom, IsFullMatch, IsWalkedFrom, anchored_span_at, anchored_slots_at, full_slots, FindsMatchFrom, FindsGroupsFrom, FindsGroupsFull, AreGroupsAt};
+ghost use Rattle.bites_spec.specs.Counts.{fit_of, IsBounded, IsWalked};
+ghost use Rattle.bites_spec.specs.Captured.{captured, excerpt, AreGroupsFrom, FindsGroups, FindsMatch};
+ghost use Rattle.bites_spec.specs.Full.{IsFullMatch, full_slots, FindsGroupsFull};
+ghost use Rattle.bites_spec.specs.Found.{HasMatch, NoMatch};
+ghost use Rattle.bites_spec.specs.Regex.{slots_at, span_at};
+ghost use Rattle.bites_spec.specs.Utf8.{start_alone};
 ghost use Rattle.bites_bytes.specs.Matched.{excerpt_of};
 
 use crate::bytes::{Cache, CaptureLocations, Captures, Match, Regex};
@@ -30,7 +33,7 @@ impl Regex {
         start: usize,
     ) -> Result<Option<Match<'h>>, AllocError>
         ensures { IfOk result
-            (λ m. FindsMatchFrom self.now haystack.now start (option_map excerpt_of m)) }
+            (λ m. FindsMatch self.now haystack.now (start_alone haystack.now start) (option_map excerpt_of m)) }
     {
         let mut cache = self.cache()?;
         Ok(self.find_anchored_at_with(&mut cache, haystack, start))
@@ -46,9 +49,11 @@ impl Regex {
         start: usize,
     ) -> Option<Match<'h>>
         requires { cache.old.fits ≡ fit_of self.now.program }
-        ensures found { FindsMatchFrom self.now haystack.now start (option_map excerpt_of result) }
+        ensures found { FindsMatch self.now haystack.now (start_alone haystack.now start)
+            (option_map excerpt_of result) }
         ensures fits { cache.new.fits ≡ cache.old.fits }
-        ensures walked { IsWalkedFrom self.now.program haystack.now start (is_some result) cache.new.walked }
+        ensures walked { IsWalked self.now.program haystack.now start (start_alone haystack.now start)
+            (is_some result) cache.new.walked }
     {
         let ends = cache.find_anchored(self.compiled(), haystack, start);
         Match::at(haystack, ends)
@@ -59,7 +64,8 @@ impl Regex {
     ///
     /// The search stops at the first end of such a match.
     pub fn is_match_anchored_at(&self, haystack: &[u8], start: usize) -> Result<bool, AllocError>
-        ensures { IfOk result (λ found. IsTrue found ↔ HasMatchFrom self.now.tree haystack.now start) }
+        ensures { IfOk result (λ found. IsTrue found ↔ HasMatch self.now.tree haystack.now
+            (start_alone haystack.now start)) }
     {
         let mut cache = self.cache()?;
         Ok(self.is_match_anchored_at_with(&mut cache, haystack, start))
@@ -75,9 +81,10 @@ impl Regex {
         start: usize,
     ) -> bool
         requires { cache.old.fits ≡ fit_of self.now.program }
-        ensures found { IsTrue result ↔ HasMatchFrom self.now.tree haystack.now start }
+        ensures found { IsTrue result ↔ HasMatch self.now.tree haystack.now (start_alone haystack.now start) }
         ensures fits { cache.new.fits ≡ cache.old.fits }
-        ensures walked { IsWalkedFrom self.now.program haystack.now start result cache.new.walked }
+        ensures walked { IsWalked self.now.program haystack.now start (start_alone haystack.now start)
+            result cache.new.walked }
     {
         cache.is_match_anchored(self.compiled(), haystack, start)
     }
@@ -92,8 +99,8 @@ impl Regex {
         start: usize,
     ) -> Result<Option<Captures<'h>>, AllocError>
         ensures found { IfOk result (λ c. c ≡ option_map (captured self.now haystack.now)
-            (anchored_slots_at self.now haystack.now start)) }
-        ensures on_tree { IfOk result (λ c. FindsGroupsFrom self.now haystack.now start
+            (slots_at self.now haystack.now (start_alone haystack.now start))) }
+        ensures on_tree { IfOk result (λ c. FindsGroups self.now haystack.now (start_alone haystack.now start)
             (option_map (λ x. x.slots) c)) }
         ensures regex { IfOk result (λ c. IfSome c (λ x. x.regex ≡ self.now)) }
         ensures haystack { IfOk result (λ c. IfSome c (λ x. x.haystack ≡ haystack.now)) }
@@ -111,13 +118,14 @@ impl Regex {
     ) -> Result<Option<Captures<'h>>, AllocError>
         requires { cache.old.fits ≡ fit_of self.now.program }
         ensures found { IfOk result (λ c. c ≡ option_map (captured self.now haystack.now)
-            (anchored_slots_at self.now haystack.now start)) }
-        ensures on_tree { IfOk result (λ c. FindsGroupsFrom self.now haystack.now start
+            (slots_at self.now haystack.now (start_alone haystack.now start))) }
+        ensures on_tree { IfOk result (λ c. FindsGroups self.now haystack.now (start_alone haystack.now start)
             (option_map (λ x. x.slots) c)) }
         ensures regex { IfOk result (λ c. IfSome c (λ x. x.regex ≡ self.now)) }
         ensures haystack { IfOk result (λ c. IfSome c (λ x. x.haystack ≡ haystack.now)) }
         ensures fits { cache.new.fits ≡ cache.old.fits }
-        ensures walked { IfOk result (λ c. IsWalkedFrom self.now.program haystack.now start (is_some c) cache.new.walked) }
+        ensures walked { IfOk result (λ c. IsWalked self.now.program haystack.now start
+            (start_alone haystack.now start) (is_some c) cache.new.walked) }
     {
         // For proofs: the contract of `as_str` says that the regex is compiled, so its tree finds what its program
         // finds.
@@ -140,13 +148,14 @@ impl Regex {
         requires cache { cache.old.fits ≡ fit_of self.now.program }
         requires locations { length locations.old ≡ self.now.program.slots }
         ensures found { option_map excerpt_of result
-            ≡ option_map (excerpt haystack.now) (anchored_span_at self.now haystack.now start) }
-        ensures on_tree { MatchOption result (HasMatchFrom self.now.tree haystack.now start → ⊥)
-            (λ _. AreGroupsAt self.now haystack.now start locations.new) }
+            ≡ option_map (excerpt haystack.now) (span_at self.now haystack.now (start_alone haystack.now start)) }
+        ensures on_tree { MatchOption result (NoMatch self.now.tree haystack.now (start_alone haystack.now start))
+            (λ _. AreGroupsFrom self.now haystack.now (start_alone haystack.now start) locations.new) }
         ensures groups { locations.new
-            ≡ unwrap_or (anchored_slots_at self.now haystack.now start) locations.old }
+            ≡ unwrap_or (slots_at self.now haystack.now (start_alone haystack.now start)) locations.old }
         ensures fits { cache.new.fits ≡ cache.old.fits }
-        ensures walked { IsWalkedFrom self.now.program haystack.now start (is_some result) cache.new.walked }
+        ensures walked { IsWalked self.now.program haystack.now start (start_alone haystack.now start)
+            (is_some result) cache.new.walked }
     {
         let ends = locations.read_anchored(self.compiled(), cache, haystack, start);
         Match::at(haystack, ends)

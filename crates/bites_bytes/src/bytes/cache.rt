@@ -8,8 +8,8 @@ ghost use Rattle.bites_spec.specs.Slots.{slot_in, group_in};
 ghost use Rattle.bites_spec.specs.Run.{Answered};
 ghost use Rattle.bites_spec.specs.Regex.{IsCompiled, run_at, span_at};
 ghost use Rattle.bites_spec.specs.Found.{HasMatch, IsLeastEnd};
-ghost use Rattle.bites_spec.specs.Anchored.{HasMatchFrom, IsFullMatch, IsWalkedFrom, anchored_run_at, anchored_span_at, full_run};
-ghost use Rattle.bites_spec.specs.Utf8.{step_len};
+ghost use Rattle.bites_spec.specs.Full.{IsFullMatch, full_run};
+ghost use Rattle.bites_spec.specs.Utf8.{step_len, places, start_alone};
 ghost use Rattle.bites_spec.specs.Spans.{is_empty_at};
 ghost use Rattle.bites_bytes.specs.NextMatch.{next_run, LeavesRun};
 
@@ -66,11 +66,13 @@ impl Cache {
     ) -> bool
         requires fits { self.old.fits ≡ fit_of compiled.now.program }
         requires slots { IsSlotCount compiled.now.program (length slots.old) }
-        ensures answered { Answered compiled.now.program (run_at compiled.now haystack.now start)
+        ensures answered { Answered compiled.now.program (run_at compiled.now haystack.now
+            (places haystack.now start))
             result slots.old slots.new }
         ensures compiled { IsCompiled compiled.now }
         ensures fits { self.new.fits ≡ self.old.fits }
-        ensures walked { IsWalked compiled.now.program haystack.now start result self.new.walked }
+        ensures walked { IsWalked compiled.now.program haystack.now start (places haystack.now start)
+            result self.new.walked }
     {
         let program = compiled.program();
         if compiled.leftmost_longest() {
@@ -88,11 +90,13 @@ impl Cache {
         start: usize,
     ) -> Option<(usize, usize)>
         requires { self.old.fits ≡ fit_of compiled.now.program }
-        ensures found { option_map (λ s. span s.0 s.1) result ≡ span_at compiled.now haystack.now start }
+        ensures found { option_map (λ s. span s.0 s.1) result ≡ span_at compiled.now haystack.now
+            (places haystack.now start) }
         ensures lies { IfSome result (λ s. (s.0 ≤ s.1) × (s.1 ≤ length haystack.now)) }
         ensures compiled { IsCompiled compiled.now }
         ensures fits { self.new.fits ≡ self.old.fits }
-        ensures walked { IsWalked compiled.now.program haystack.now start (is_some result) self.new.walked }
+        ensures walked { IsWalked compiled.now.program haystack.now start (places haystack.now start)
+            (is_some result) self.new.walked }
     {
         let mut slots = [None; 2];
         if !self.search(compiled, haystack, start, &mut slots) {
@@ -105,9 +109,10 @@ impl Cache {
     // match.
     pub(super) fn is_match(&mut self, compiled: &Compiled, haystack: &[u8], start: usize) -> bool
         requires { self.old.fits ≡ fit_of compiled.now.program }
-        ensures found { IsTrue result ↔ HasMatch compiled.now.tree haystack.now start }
+        ensures found { IsTrue result ↔ HasMatch compiled.now.tree haystack.now (places haystack.now start) }
         ensures fits { self.new.fits ≡ self.old.fits }
-        ensures walked { IsWalked compiled.now.program haystack.now start result self.new.walked }
+        ensures walked { IsWalked compiled.now.program haystack.now start (places haystack.now start)
+            result self.new.walked }
     {
         vm::search(
             compiled.program(),
@@ -127,9 +132,10 @@ impl Cache {
         start: usize,
     ) -> Option<usize>
         requires { self.old.fits ≡ fit_of compiled.now.program }
-        ensures least { IsLeastEnd compiled.now.tree haystack.now start result }
+        ensures least { IsLeastEnd compiled.now.tree haystack.now (places haystack.now start) result }
         ensures fits { self.new.fits ≡ self.old.fits }
-        ensures walked { IsWalked compiled.now.program haystack.now start (is_some result) self.new.walked }
+        ensures walked { IsWalked compiled.now.program haystack.now start (places haystack.now start)
+            (is_some result) self.new.walked }
     {
         let program = compiled.program();
         let mut slots = [None; 2];
@@ -181,10 +187,11 @@ impl Cache {
         requires fits { self.old.fits ≡ fit_of compiled.now.program }
         requires slots { IsSlotCount compiled.now.program (length slots.old) }
         ensures answered { Answered compiled.now.program
-            (anchored_run_at compiled.now haystack.now start) result slots.old slots.new }
+            (run_at compiled.now haystack.now (start_alone haystack.now start)) result slots.old slots.new }
         ensures compiled { IsCompiled compiled.now }
         ensures fits { self.new.fits ≡ self.old.fits }
-        ensures walked { IsWalkedFrom compiled.now.program haystack.now start result self.new.walked }
+        ensures walked { IsWalked compiled.now.program haystack.now start
+            (start_alone haystack.now start) result self.new.walked }
     {
         let program = compiled.program();
         let room = &mut self.room;
@@ -204,11 +211,12 @@ impl Cache {
     ) -> Option<(usize, usize)>
         requires { self.old.fits ≡ fit_of compiled.now.program }
         ensures found { option_map (λ s. span s.0 s.1) result
-            ≡ anchored_span_at compiled.now haystack.now start }
+            ≡ span_at compiled.now haystack.now (start_alone haystack.now start) }
         ensures lies { IfSome result (λ s. (s.0 ≤ s.1) × (s.1 ≤ length haystack.now)) }
         ensures compiled { IsCompiled compiled.now }
         ensures fits { self.new.fits ≡ self.old.fits }
-        ensures walked { IsWalkedFrom compiled.now.program haystack.now start (is_some result) self.new.walked }
+        ensures walked { IsWalked compiled.now.program haystack.now start (start_alone haystack.now start)
+            (is_some result) self.new.walked }
     {
         let mut slots = [None; 2];
         if !self.search_anchored(compiled, haystack, start, &mut slots) {
@@ -225,9 +233,10 @@ impl Cache {
         start: usize,
     ) -> bool
         requires { self.old.fits ≡ fit_of compiled.now.program }
-        ensures found { IsTrue result ↔ HasMatchFrom compiled.now.tree haystack.now start }
+        ensures found { IsTrue result ↔ HasMatch compiled.now.tree haystack.now (start_alone haystack.now start) }
         ensures fits { self.new.fits ≡ self.old.fits }
-        ensures walked { IsWalkedFrom compiled.now.program haystack.now start result self.new.walked }
+        ensures walked { IsWalked compiled.now.program haystack.now start
+            (start_alone haystack.now start) result self.new.walked }
     {
         vm::search_anchored(
             compiled.program(),

@@ -6,8 +6,9 @@ ghost use Rattle.bites_spec.specs.Slots.{group_in, participating};
 ghost use Rattle.bites_spec.specs.Counts.{fit_of, IsBounded, IsWalked};
 ghost use Rattle.bites_spec.specs.Pieces.{text_at};
 ghost use Rattle.bites_spec.specs.Regex.{slots_at};
-ghost use Rattle.bites_spec.specs.Anchored.{IsWalkedFrom, anchored_slots_at, full_slots};
+ghost use Rattle.bites_spec.specs.Full.{full_slots};
 ghost use Rattle.bites_spec.specs.Captured.{AreGroups, captured, excerpt, FindsGroups};
+ghost use Rattle.bites_spec.specs.Utf8.{places, start_alone};
 
 use crate::bytes::regex::Compiled;
 use crate::bytes::{Cache, CaptureLocations, CaptureNames, Match, Regex, SubCaptureMatches};
@@ -69,9 +70,10 @@ impl<'h> Captures<'h> {
     ) -> Result<Option<Captures<'h>>, AllocError>
         requires { cache.old.fits ≡ fit_of regex.now.program }
         ensures found { IfOk result (λ c. c
-            ≡ option_map (captured regex.now haystack.now) (slots_at regex.now haystack.now start)) }
+            ≡ option_map (captured regex.now haystack.now) (slots_at regex.now haystack.now (places haystack.now start))) }
         ensures fits { cache.new.fits ≡ cache.old.fits }
-        ensures walked { IfOk result (λ c. IsWalked regex.now.program haystack.now start (is_some c) cache.new.walked) }
+        ensures walked { IfOk result (λ c. IsWalked regex.now.program haystack.now start
+            (places haystack.now start) (is_some c) cache.new.walked) }
     {
         let mut locations = regex.capture_locations()?;
         let compiled = regex.compiled().clone()?;
@@ -94,9 +96,10 @@ impl<'h> Captures<'h> {
     ) -> Result<Option<Captures<'h>>, AllocError>
         requires { cache.old.fits ≡ fit_of regex.now.program }
         ensures found { IfOk result (λ c. c ≡ option_map (captured regex.now haystack.now)
-            (anchored_slots_at regex.now haystack.now start)) }
+            (slots_at regex.now haystack.now (start_alone haystack.now start))) }
         ensures fits { cache.new.fits ≡ cache.old.fits }
-        ensures walked { IfOk result (λ c. IsWalkedFrom regex.now.program haystack.now start (is_some c) cache.new.walked) }
+        ensures walked { IfOk result (λ c. IsWalked regex.now.program haystack.now start
+            (start_alone haystack.now start) (is_some c) cache.new.walked) }
     {
         let mut locations = regex.capture_locations()?;
         let compiled = regex.compiled().clone()?;
@@ -318,8 +321,9 @@ impl Regex {
     /// ```
     pub fn captures<'h>(&self, haystack: &'h [u8]) -> Result<Option<Captures<'h>>, AllocError>
         ensures found { IfOk result (λ c. c
-            ≡ option_map (captured self.now haystack.now) (slots_at self.now haystack.now 0)) }
-        ensures on_tree { IfOk result (λ c. FindsGroups self.now haystack.now 0 (option_map (λ x. x.slots) c)) }
+            ≡ option_map (captured self.now haystack.now) (slots_at self.now haystack.now (places haystack.now 0))) }
+        ensures on_tree { IfOk result (λ c. FindsGroups self.now haystack.now (places haystack.now 0)
+            (option_map (λ x. x.slots) c)) }
         ensures regex { IfOk result (λ c. IfSome c (λ x. x.regex ≡ self.now)) }
         ensures haystack { IfOk result (λ c. IfSome c (λ x. x.haystack ≡ haystack.now)) }
     {
@@ -336,8 +340,9 @@ impl Regex {
         start: usize,
     ) -> Result<Option<Captures<'h>>, AllocError>
         ensures found { IfOk result (λ c. c
-            ≡ option_map (captured self.now haystack.now) (slots_at self.now haystack.now start)) }
-        ensures on_tree { IfOk result (λ c. FindsGroups self.now haystack.now start (option_map (λ x. x.slots) c)) }
+            ≡ option_map (captured self.now haystack.now) (slots_at self.now haystack.now (places haystack.now start))) }
+        ensures on_tree { IfOk result (λ c. FindsGroups self.now haystack.now (places haystack.now start)
+            (option_map (λ x. x.slots) c)) }
         ensures regex { IfOk result (λ c. IfSome c (λ x. x.regex ≡ self.now)) }
         ensures haystack { IfOk result (λ c. IfSome c (λ x. x.haystack ≡ haystack.now)) }
     {
@@ -355,12 +360,14 @@ impl Regex {
     ) -> Result<Option<Captures<'h>>, AllocError>
         requires { cache.old.fits ≡ fit_of self.now.program }
         ensures found { IfOk result (λ c. c
-            ≡ option_map (captured self.now haystack.now) (slots_at self.now haystack.now 0)) }
-        ensures on_tree { IfOk result (λ c. FindsGroups self.now haystack.now 0 (option_map (λ x. x.slots) c)) }
+            ≡ option_map (captured self.now haystack.now) (slots_at self.now haystack.now (places haystack.now 0))) }
+        ensures on_tree { IfOk result (λ c. FindsGroups self.now haystack.now (places haystack.now 0)
+            (option_map (λ x. x.slots) c)) }
         ensures regex { IfOk result (λ c. IfSome c (λ x. x.regex ≡ self.now)) }
         ensures haystack { IfOk result (λ c. IfSome c (λ x. x.haystack ≡ haystack.now)) }
         ensures fits { cache.new.fits ≡ cache.old.fits }
-        ensures walked { IfOk result (λ c. IsWalked self.now.program haystack.now 0 (is_some c) cache.new.walked) }
+        ensures walked { IfOk result (λ c. IsWalked self.now.program haystack.now 0 (places haystack.now 0)
+            (is_some c) cache.new.walked) }
     {
         self.captures_at_with(cache, haystack, 0)
     }
@@ -374,12 +381,14 @@ impl Regex {
     ) -> Result<Option<Captures<'h>>, AllocError>
         requires { cache.old.fits ≡ fit_of self.now.program }
         ensures found { IfOk result (λ c. c
-            ≡ option_map (captured self.now haystack.now) (slots_at self.now haystack.now start)) }
-        ensures on_tree { IfOk result (λ c. FindsGroups self.now haystack.now start (option_map (λ x. x.slots) c)) }
+            ≡ option_map (captured self.now haystack.now) (slots_at self.now haystack.now (places haystack.now start))) }
+        ensures on_tree { IfOk result (λ c. FindsGroups self.now haystack.now (places haystack.now start)
+            (option_map (λ x. x.slots) c)) }
         ensures regex { IfOk result (λ c. IfSome c (λ x. x.regex ≡ self.now)) }
         ensures haystack { IfOk result (λ c. IfSome c (λ x. x.haystack ≡ haystack.now)) }
         ensures fits { cache.new.fits ≡ cache.old.fits }
-        ensures walked { IfOk result (λ c. IsWalked self.now.program haystack.now start (is_some c) cache.new.walked) }
+        ensures walked { IfOk result (λ c. IsWalked self.now.program haystack.now start
+            (places haystack.now start) (is_some c) cache.new.walked) }
     {
         // For proofs: the contract of `as_str` says that the regex is compiled, so its tree finds what its program
         // finds.

@@ -3,6 +3,7 @@
 ghost use Rattle.std.specs.Prelude.{◌≡◌, ◌↔◌, IsTrue, IfOk};
 ghost use Rattle.bites_spec.specs.Found.{HasMatch};
 ghost use Rattle.bites_spec.specs.Counts.{fit_of, IsWalked};
+ghost use Rattle.bites_spec.specs.Utf8.{places};
 
 use crate::bytes::{Cache, Regex};
 use std::alloc::AllocError;
@@ -19,7 +20,7 @@ impl Regex {
     /// assert!(rt; !regex.is_match(b"food")?);
     /// ```
     pub fn is_match(&self, haystack: &[u8]) -> Result<bool, AllocError>
-        ensures { IfOk result (λ found. IsTrue found ↔ HasMatch self.now.tree haystack.now 0) }
+        ensures { IfOk result (λ found. IsTrue found ↔ HasMatch self.now.tree haystack.now (places haystack.now 0)) }
     {
         self.is_match_at(haystack, 0)
     }
@@ -29,7 +30,8 @@ impl Regex {
     ///
     /// Assertions look at the bytes before `start` too, so this differs from a search of the slice that begins there.
     pub fn is_match_at(&self, haystack: &[u8], start: usize) -> Result<bool, AllocError>
-        ensures { IfOk result (λ found. IsTrue found ↔ HasMatch self.now.tree haystack.now start) }
+        ensures { IfOk result (λ found. IsTrue found ↔ HasMatch self.now.tree haystack.now
+            (places haystack.now start)) }
     {
         let mut cache = self.cache()?;
         Ok(self.is_match_at_with(&mut cache, haystack, start))
@@ -38,9 +40,9 @@ impl Regex {
     /// Like [`Regex::is_match`], but with a cache that fits. It allocates nothing and cannot fail.
     pub fn is_match_with(&self, cache: &mut Cache, haystack: &[u8]) -> bool
         requires { cache.old.fits ≡ fit_of self.now.program }
-        ensures found { IsTrue result ↔ HasMatch self.now.tree haystack.now 0 }
+        ensures found { IsTrue result ↔ HasMatch self.now.tree haystack.now (places haystack.now 0) }
         ensures fits { cache.new.fits ≡ cache.old.fits }
-        ensures walked { IsWalked self.now.program haystack.now 0 result cache.new.walked }
+        ensures walked { IsWalked self.now.program haystack.now 0 (places haystack.now 0) result cache.new.walked }
     {
         self.is_match_at_with(cache, haystack, 0)
     }
@@ -50,9 +52,10 @@ impl Regex {
     /// The search visits each state of the program at most once at each offset.
     pub fn is_match_at_with(&self, cache: &mut Cache, haystack: &[u8], start: usize) -> bool
         requires { cache.old.fits ≡ fit_of self.now.program }
-        ensures found { IsTrue result ↔ HasMatch self.now.tree haystack.now start }
+        ensures found { IsTrue result ↔ HasMatch self.now.tree haystack.now (places haystack.now start) }
         ensures fits { cache.new.fits ≡ cache.old.fits }
-        ensures walked { IsWalked self.now.program haystack.now start result cache.new.walked }
+        ensures walked { IsWalked self.now.program haystack.now start (places haystack.now start)
+            result cache.new.walked }
     {
         cache.is_match(self.compiled(), haystack, start)
     }

@@ -5,7 +5,8 @@ ghost use Rattle.bites_spec.specs.Match.{span};
 ghost use Rattle.bites_spec.specs.Slots.{group_in};
 ghost use Rattle.bites_spec.specs.Counts.{fit_of, IsBounded, IsWalked};
 ghost use Rattle.bites_spec.specs.Regex.{IsCompiled, run_at, span_at, slots_at};
-ghost use Rattle.bites_spec.specs.Anchored.{IsWalkedFrom, anchored_run_at, anchored_span_at, anchored_slots_at, full_slots};
+ghost use Rattle.bites_spec.specs.Full.{full_slots};
+ghost use Rattle.bites_spec.specs.Utf8.{places, start_alone};
 
 use crate::bytes::matches::Cursor;
 use crate::bytes::regex::Compiled;
@@ -78,11 +79,13 @@ impl CaptureLocations {
     ) -> bool
         requires cache { cache.old.fits ≡ fit_of compiled.now.program }
         requires fits { length self.old ≡ compiled.now.program.slots }
-        ensures found { result ≡ is_some (run_at compiled.now haystack.now start) }
-        ensures slots { self.new ≡ unwrap_or (slots_at compiled.now haystack.now start) self.old }
+        ensures found { result ≡ is_some (run_at compiled.now haystack.now (places haystack.now start)) }
+        ensures slots { self.new ≡ unwrap_or (slots_at compiled.now haystack.now
+            (places haystack.now start)) self.old }
         ensures compiled { IsCompiled compiled.now }
         ensures cache { cache.new.fits ≡ cache.old.fits }
-        ensures walked { IsWalked compiled.now.program haystack.now start result cache.new.walked }
+        ensures walked { IsWalked compiled.now.program haystack.now start (places haystack.now start)
+            result cache.new.walked }
     {
         cache.search(compiled, haystack, start, &mut self.slots)
     }
@@ -97,12 +100,15 @@ impl CaptureLocations {
     ) -> Option<(usize, usize)>
         requires cache { cache.old.fits ≡ fit_of compiled.now.program }
         requires fits { length self.old ≡ compiled.now.program.slots }
-        ensures found { option_map (λ s. span s.0 s.1) result ≡ span_at compiled.now haystack.now start }
+        ensures found { option_map (λ s. span s.0 s.1) result ≡ span_at compiled.now haystack.now
+            (places haystack.now start) }
         ensures lies { IfSome result (λ s. (s.0 ≤ s.1) × (s.1 ≤ length haystack.now)) }
-        ensures slots { self.new ≡ unwrap_or (slots_at compiled.now haystack.now start) self.old }
+        ensures slots { self.new ≡ unwrap_or (slots_at compiled.now haystack.now
+            (places haystack.now start)) self.old }
         ensures compiled { IsCompiled compiled.now }
         ensures cache { cache.new.fits ≡ cache.old.fits }
-        ensures walked { IsWalked compiled.now.program haystack.now start (is_some result) cache.new.walked }
+        ensures walked { IsWalked compiled.now.program haystack.now start (places haystack.now start)
+            (is_some result) cache.new.walked }
     {
         if !self.search(compiled, cache, haystack, start) {
             return None;
@@ -123,12 +129,13 @@ impl CaptureLocations {
     ) -> bool
         requires cache { cache.old.fits ≡ fit_of compiled.now.program }
         requires fits { length self.old ≡ compiled.now.program.slots }
-        ensures found { result ≡ is_some (anchored_run_at compiled.now haystack.now start) }
+        ensures found { result ≡ is_some (run_at compiled.now haystack.now (start_alone haystack.now start)) }
         ensures slots { self.new
-            ≡ unwrap_or (anchored_slots_at compiled.now haystack.now start) self.old }
+            ≡ unwrap_or (slots_at compiled.now haystack.now (start_alone haystack.now start)) self.old }
         ensures compiled { IsCompiled compiled.now }
         ensures cache { cache.new.fits ≡ cache.old.fits }
-        ensures walked { IsWalkedFrom compiled.now.program haystack.now start result cache.new.walked }
+        ensures walked { IsWalked compiled.now.program haystack.now start
+            (start_alone haystack.now start) result cache.new.walked }
     {
         cache.search_anchored(compiled, haystack, start, &mut self.slots)
     }
@@ -144,13 +151,14 @@ impl CaptureLocations {
         requires cache { cache.old.fits ≡ fit_of compiled.now.program }
         requires fits { length self.old ≡ compiled.now.program.slots }
         ensures found { option_map (λ s. span s.0 s.1) result
-            ≡ anchored_span_at compiled.now haystack.now start }
+            ≡ span_at compiled.now haystack.now (start_alone haystack.now start) }
         ensures lies { IfSome result (λ s. (s.0 ≤ s.1) × (s.1 ≤ length haystack.now)) }
         ensures slots { self.new
-            ≡ unwrap_or (anchored_slots_at compiled.now haystack.now start) self.old }
+            ≡ unwrap_or (slots_at compiled.now haystack.now (start_alone haystack.now start)) self.old }
         ensures compiled { IsCompiled compiled.now }
         ensures cache { cache.new.fits ≡ cache.old.fits }
-        ensures walked { IsWalkedFrom compiled.now.program haystack.now start (is_some result) cache.new.walked }
+        ensures walked { IsWalked compiled.now.program haystack.now start (start_alone haystack.now start)
+            (is_some result) cache.new.walked }
     {
         if !self.search_anchored(compiled, cache, haystack, start) {
             return None;

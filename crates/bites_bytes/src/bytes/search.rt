@@ -5,6 +5,7 @@ ghost use Rattle.bites_spec.specs.Counts.{fit_of, IsWalked};
 ghost use Rattle.bites_spec.specs.Regex.{span_at, slots_at};
 ghost use Rattle.bites_spec.specs.Found.{NoMatch};
 ghost use Rattle.bites_spec.specs.Captured.{excerpt, FindsMatch, AreGroupsFrom};
+ghost use Rattle.bites_spec.specs.Utf8.{places};
 ghost use Rattle.bites_bytes.specs.Matched.{excerpt_of};
 
 use crate::bytes::{Cache, CaptureLocations, Match, Regex};
@@ -41,7 +42,8 @@ impl Regex {
     /// assert_eq!(rt; found.as_bytes(), b"aa".as_slice());
     /// ```
     pub fn find<'h>(&self, haystack: &'h [u8]) -> Result<Option<Match<'h>>, AllocError>
-        ensures { IfOk result (λ m. FindsMatch self.now haystack.now 0 (option_map excerpt_of m)) }
+        ensures { IfOk result (λ m. FindsMatch self.now haystack.now (places haystack.now 0)
+            (option_map excerpt_of m)) }
     {
         self.find_at(haystack, 0)
     }
@@ -61,7 +63,8 @@ impl Regex {
         haystack: &'h [u8],
         start: usize,
     ) -> Result<Option<Match<'h>>, AllocError>
-        ensures { IfOk result (λ m. FindsMatch self.now haystack.now start (option_map excerpt_of m)) }
+        ensures { IfOk result (λ m. FindsMatch self.now haystack.now (places haystack.now start)
+            (option_map excerpt_of m)) }
     {
         let mut cache = self.cache()?;
         Ok(self.find_at_with(&mut cache, haystack, start))
@@ -80,9 +83,10 @@ impl Regex {
     /// ```
     pub fn find_with<'h>(&self, cache: &mut Cache, haystack: &'h [u8]) -> Option<Match<'h>>
         requires { cache.old.fits ≡ fit_of self.now.program }
-        ensures found { FindsMatch self.now haystack.now 0 (option_map excerpt_of result) }
+        ensures found { FindsMatch self.now haystack.now (places haystack.now 0) (option_map excerpt_of result) }
         ensures fits { cache.new.fits ≡ cache.old.fits }
-        ensures walked { IsWalked self.now.program haystack.now 0 (is_some result) cache.new.walked }
+        ensures walked { IsWalked self.now.program haystack.now 0 (places haystack.now 0)
+            (is_some result) cache.new.walked }
     {
         self.find_at_with(cache, haystack, 0)
     }
@@ -97,9 +101,10 @@ impl Regex {
         start: usize,
     ) -> Option<Match<'h>>
         requires { cache.old.fits ≡ fit_of self.now.program }
-        ensures found { FindsMatch self.now haystack.now start (option_map excerpt_of result) }
+        ensures found { FindsMatch self.now haystack.now (places haystack.now start) (option_map excerpt_of result) }
         ensures fits { cache.new.fits ≡ cache.old.fits }
-        ensures walked { IsWalked self.now.program haystack.now start (is_some result) cache.new.walked }
+        ensures walked { IsWalked self.now.program haystack.now start (places haystack.now start)
+            (is_some result) cache.new.walked }
     {
         let ends = cache.find(self.compiled(), haystack, start);
         Match::at(haystack, ends)
@@ -125,11 +130,11 @@ impl Regex {
     ) -> Result<Option<Match<'h>>, AllocError>
         requires { length locations.old ≡ self.now.program.slots }
         ensures found { IfOk result (λ m. option_map excerpt_of m
-            ≡ option_map (excerpt haystack.now) (span_at self.now haystack.now 0)) }
-        ensures on_tree { IfOk result (λ m. MatchOption m (NoMatch self.now.tree haystack.now 0)
-            (λ _. AreGroupsFrom self.now haystack.now 0 locations.new)) }
+            ≡ option_map (excerpt haystack.now) (span_at self.now haystack.now (places haystack.now 0))) }
+        ensures on_tree { IfOk result (λ m. MatchOption m (NoMatch self.now.tree haystack.now (places haystack.now 0))
+            (λ _. AreGroupsFrom self.now haystack.now (places haystack.now 0) locations.new)) }
         ensures groups { OnOk result (locations.new
-            ≡ unwrap_or (slots_at self.now haystack.now 0) locations.old) }
+            ≡ unwrap_or (slots_at self.now haystack.now (places haystack.now 0)) locations.old) }
         ensures refused { OnErr result (locations.new ≡ locations.old) }
     {
         self.captures_read_at(locations, haystack, 0)
@@ -147,11 +152,12 @@ impl Regex {
     ) -> Result<Option<Match<'h>>, AllocError>
         requires { length locations.old ≡ self.now.program.slots }
         ensures found { IfOk result (λ m. option_map excerpt_of m
-            ≡ option_map (excerpt haystack.now) (span_at self.now haystack.now start)) }
-        ensures on_tree { IfOk result (λ m. MatchOption m (NoMatch self.now.tree haystack.now start)
-            (λ _. AreGroupsFrom self.now haystack.now start locations.new)) }
+            ≡ option_map (excerpt haystack.now) (span_at self.now haystack.now (places haystack.now start))) }
+        ensures on_tree { IfOk result (λ m. MatchOption m (NoMatch self.now.tree haystack.now
+            (places haystack.now start))
+            (λ _. AreGroupsFrom self.now haystack.now (places haystack.now start) locations.new)) }
         ensures groups { OnOk result (locations.new
-            ≡ unwrap_or (slots_at self.now haystack.now start) locations.old) }
+            ≡ unwrap_or (slots_at self.now haystack.now (places haystack.now start)) locations.old) }
         ensures refused { OnErr result (locations.new ≡ locations.old) }
     {
         let mut cache = self.cache()?;
@@ -168,12 +174,14 @@ impl Regex {
         requires cache { cache.old.fits ≡ fit_of self.now.program }
         requires locations { length locations.old ≡ self.now.program.slots }
         ensures found { option_map excerpt_of result
-            ≡ option_map (excerpt haystack.now) (span_at self.now haystack.now 0) }
-        ensures on_tree { MatchOption result (NoMatch self.now.tree haystack.now 0)
-            (λ _. AreGroupsFrom self.now haystack.now 0 locations.new) }
-        ensures groups { locations.new ≡ unwrap_or (slots_at self.now haystack.now 0) locations.old }
+            ≡ option_map (excerpt haystack.now) (span_at self.now haystack.now (places haystack.now 0)) }
+        ensures on_tree { MatchOption result (NoMatch self.now.tree haystack.now (places haystack.now 0))
+            (λ _. AreGroupsFrom self.now haystack.now (places haystack.now 0) locations.new) }
+        ensures groups { locations.new ≡ unwrap_or (slots_at self.now haystack.now
+            (places haystack.now 0)) locations.old }
         ensures fits { cache.new.fits ≡ cache.old.fits }
-        ensures walked { IsWalked self.now.program haystack.now 0 (is_some result) cache.new.walked }
+        ensures walked { IsWalked self.now.program haystack.now 0 (places haystack.now 0)
+            (is_some result) cache.new.walked }
     {
         self.captures_read_at_with(cache, locations, haystack, 0)
     }
@@ -191,13 +199,14 @@ impl Regex {
         requires cache { cache.old.fits ≡ fit_of self.now.program }
         requires locations { length locations.old ≡ self.now.program.slots }
         ensures found { option_map excerpt_of result
-            ≡ option_map (excerpt haystack.now) (span_at self.now haystack.now start) }
-        ensures on_tree { MatchOption result (NoMatch self.now.tree haystack.now start)
-            (λ _. AreGroupsFrom self.now haystack.now start locations.new) }
+            ≡ option_map (excerpt haystack.now) (span_at self.now haystack.now (places haystack.now start)) }
+        ensures on_tree { MatchOption result (NoMatch self.now.tree haystack.now (places haystack.now start))
+            (λ _. AreGroupsFrom self.now haystack.now (places haystack.now start) locations.new) }
         ensures groups { locations.new
-            ≡ unwrap_or (slots_at self.now haystack.now start) locations.old }
+            ≡ unwrap_or (slots_at self.now haystack.now (places haystack.now start)) locations.old }
         ensures fits { cache.new.fits ≡ cache.old.fits }
-        ensures walked { IsWalked self.now.program haystack.now start (is_some result) cache.new.walked }
+        ensures walked { IsWalked self.now.program haystack.now start (places haystack.now start)
+            (is_some result) cache.new.walked }
     {
         let ends = locations.read(self.compiled(), cache, haystack, start);
         Match::at(haystack, ends)

@@ -3,6 +3,7 @@
 ghost use Rattle.std.specs.Prelude.{◌≡◌, is_some, IfOk};
 ghost use Rattle.bites_spec.specs.Found.{IsLeastEnd};
 ghost use Rattle.bites_spec.specs.Counts.{fit_of, IsWalked};
+ghost use Rattle.bites_spec.specs.Utf8.{places};
 
 use crate::bytes::{Cache, Regex};
 use std::alloc::AllocError;
@@ -17,7 +18,7 @@ impl Regex {
     /// assert_eq!(rt; regex.shortest_match(b"xaaa")?, Some(2));
     /// ```
     pub fn shortest_match(&self, haystack: &[u8]) -> Result<Option<usize>, AllocError>
-        ensures { IfOk result (λ end. IsLeastEnd self.now.tree haystack.now 0 end) }
+        ensures { IfOk result (λ end. IsLeastEnd self.now.tree haystack.now (places haystack.now 0) end) }
     {
         self.shortest_match_at(haystack, 0)
     }
@@ -31,7 +32,7 @@ impl Regex {
         haystack: &[u8],
         start: usize,
     ) -> Result<Option<usize>, AllocError>
-        ensures { IfOk result (λ end. IsLeastEnd self.now.tree haystack.now start end) }
+        ensures { IfOk result (λ end. IsLeastEnd self.now.tree haystack.now (places haystack.now start) end) }
     {
         let mut cache = self.cache()?;
         Ok(self.shortest_match_at_with(&mut cache, haystack, start))
@@ -40,9 +41,10 @@ impl Regex {
     /// Like [`Regex::shortest_match`], but with a cache that fits. It allocates nothing and cannot fail.
     pub fn shortest_match_with(&self, cache: &mut Cache, haystack: &[u8]) -> Option<usize>
         requires { cache.old.fits ≡ fit_of self.now.program }
-        ensures least { IsLeastEnd self.now.tree haystack.now 0 result }
+        ensures least { IsLeastEnd self.now.tree haystack.now (places haystack.now 0) result }
         ensures fits { cache.new.fits ≡ cache.old.fits }
-        ensures walked { IsWalked self.now.program haystack.now 0 (is_some result) cache.new.walked }
+        ensures walked { IsWalked self.now.program haystack.now 0 (places haystack.now 0)
+            (is_some result) cache.new.walked }
     {
         self.shortest_match_at_with(cache, haystack, 0)
     }
@@ -57,9 +59,10 @@ impl Regex {
         start: usize,
     ) -> Option<usize>
         requires { cache.old.fits ≡ fit_of self.now.program }
-        ensures least { IsLeastEnd self.now.tree haystack.now start result }
+        ensures least { IsLeastEnd self.now.tree haystack.now (places haystack.now start) result }
         ensures fits { cache.new.fits ≡ cache.old.fits }
-        ensures walked { IsWalked self.now.program haystack.now start (is_some result) cache.new.walked }
+        ensures walked { IsWalked self.now.program haystack.now start (places haystack.now start)
+            (is_some result) cache.new.walked }
     {
         cache.shortest(self.compiled(), haystack, start)
     }

@@ -2,12 +2,12 @@
 use Rattle.std.proofs.Common.{◌≡◌, ℕ, suc, ◌<◌, ◌≤◌, Bool, true, false, ◌&&◌, List, [], ◌∷◌, map, take, length, Option, Some, None, refl, sym, ap, ◌∙◌, subst, inl, inr, ⊎_elim, ◌⊎◌, true≢false, arith}
 use Rattle.std.specs.Prelude.{is_some}
 use Rattle.std.specs.Option.{option_or}
-use Rattle.bites_spec.specs.Utf8.{places}
+use Rattle.bites_spec.specs.Utf8.{places, start_alone}
 use Rattle.bites_spec.specs.Walks.{Among}
 use Rattle.bites_spec.specs.Program.{Program, Configuration, at, state_at}
-use Rattle.bites_spec.specs.Run.{Run, leads, Runs, IsRun, slots}
-use Rattle.bites_spec.specs.Counts.{Record}
-use Rattle.bites_spec.specs.Anchored.{NoRunFrom, LeastEndFrom, VisitedAllFrom, VisitedRunFrom}
+use Rattle.bites_spec.specs.Run.{Run, leads, Runs, IsRun, NoRun, LeastEnd, slots}
+use Rattle.bites_spec.specs.Counts.{Record, VisitedAll, VisitedSome}
+use Rattle.bites_spec.proofs.utf8.StartLemmas.{start_is_alone}
 use Rattle.bites_spec.proofs.programs.SlotLemmas.{Among-left, Among-right}
 use Rattle.bites_machine.specs.Machine.{Thread, Walking, Searching, moved, dropped}
 use Rattle.bites_machine.specs.Anchored.{resumed, Steps, at_place, SteppedTo, Stepped}
@@ -151,22 +151,26 @@ module _ (p : Program) (hay : List ℕ) (longest : Bool) (width : ℕ) (start : 
       led_visited none u h v edge =
           ⊎_elim (λ a. a) (λ waits. absurd (subst (λ (l : List Thread). Among l waits.0) (no_threads none) waits.1)) ((shut none).0.closed u h v edge)
 
+      begun : t.best ≡ None → (i : ℕ) → Among (start_alone hay start) i → Among t.visits (at p.start i)
+      begun none i h = subst (λ (k : ℕ). Among t.visits (at p.start k)) (sym ((start_is_alone hay start i).0 h).0) (shut none).1
+
       -- a search that found nothing has visited all that is reached
-      pub all_visited_from : t.best ≡ None → VisitedAllFrom p hay start (record_of t)
-      all_visited_from none le u reaches = closed_walk p hay t.visits (led_visited none) root reaches.0 u (shut none).1 reaches.1
+      pub all_visited_from : t.best ≡ None → VisitedAll p hay (start_alone hay start) (record_of t)
+      all_visited_from none i h u reaches = closed_walk p hay t.visits (led_visited none) (at p.start i) reaches.0 u (begun none i h) reaches.1
 
       -- and there is no run
-      pub no_run_from : t.best ≡ None → NoRunFrom p hay start
-      no_run_from none le r j runs = goes root r (shut none).1 runs
+      pub no_run_from : t.best ≡ None → NoRun p hay (start_alone hay start)
+      no_run_from none i h r j runs = goes (at p.start i) r (begun none i h) runs
         where
           goes : (s : Configuration) (r : List Configuration) → Among t.visits s → Runs p hay s r j → ⊥
           goes s [] a runs = true≢false (sym runs.0 ∙ (shut none).0.no_match s a)
           goes s (v ∷ r) a runs = goes v r (led_visited none s a v runs.0) runs.1
 
       -- what a search found is a run, and each of its configurations was visited
-      pub some_visited_from : (b : Thread) → t.best ≡ Some b → VisitedRunFrom p hay start (record_of t)
+      pub some_visited_from : (b : Thread) → t.best ≡ Some b → VisitedSome p hay (start_alone hay start) (record_of t)
       some_visited_from b is =
-          let f = ((end_rooted p hay longest width start fits earliest within t end).best b is).1 in (f.0.run, f.1, f.0.runs, f.0.was)
+          let f = ((end_rooted p hay longest width start fits earliest within t end).best b is).1 in
+          (f.0.run, f.0.runs, (start_is_alone hay start f.0.run.start).1 (f.1, within), f.0.was)
 
   module _ (within : start ≤ length hay) where
     none_yet : (n : ℕ) (s : Searching) → SteppedTo hay longest p width true start n s → s.best ≡ None
@@ -180,10 +184,11 @@ module _ (p : Program) (hay : List ℕ) (longest : Bool) (width : ℕ) (start : 
 
     -- Stopped at the first match, a search ends with a run that ends before or with every other from its start.
     pub least_end_from : (fits : width ≤ p.slots) (t : Searching) → Stepped hay longest p width true start t → (b : Thread) → t.best ≡ Some b →
-        (r : Run) × LeastEndFrom p hay start (Some r) × (b.slots ≡ take width (slots p r))
+        (r : Run) × LeastEnd p hay (start_alone hay start) (Some r) × (b.slots ≡ take width (slots p r))
     least_end_from fits t end b is = (
       found.0.run,
-      (within, found.1, found.0.runs, λ o j runs. not_below (λ lt. none_before end.before.visits end.before.threads end.before.place shut o j runs (below j lt))),
+      (found.0.runs, (start_is_alone hay start found.0.run.start).1 (found.1, within), λ i h o j runs. not_below (λ lt.
+      none_before end.before.visits end.before.threads end.before.place shut o j (subst (λ (k : ℕ). IsRun p hay k o j) ((start_is_alone hay start i).0 h).0 runs) (below j lt))),
       found.0.slots,
     )
       where

@@ -22,7 +22,7 @@ use Rattle.bites_spec.proofs.programs.SlotLemmas.{or_none}
 use Rattle.bites_spec.proofs.runs.PlaceLemmas.{places-here}
 
 module _ (p : Program) (hay : List ℕ) (well : IsWellFormed p) (width : ℕ) (fits : width ≤ p.slots) (start : ℕ) (within : start ≤ length hay) where
-  module _ (r : Run) (at_start : r.start ≡ start) (longest : LongestRun p hay start (Some r)) where
+  module _ (r : Run) (at_start : r.start ≡ start) (longest : LongestRun p hay (places hay start) (Some r)) where
     abbrev waits : (Configuration → Bool) → List (Configuration × (List Configuration → Outcome)) → Option Outcome
     waits seen ws = pended p hay well width fits start within r longest seen ws
 
@@ -192,7 +192,7 @@ module _ (p : Program) (hay : List ℕ) (well : IsWellFormed p) (width : ℕ) (f
         (done_cases p hay true width start fits false within end.before t before.rooted end.last end.over)
 
   -- the longest run from the start is the longest from the first place that has one
-  is_longest : (r : Run) → IsLongestBelow p hay (suc (length hay)) start r → LongestRun p hay start (Some r)
+  is_longest : (r : Run) → IsLongestBelow p hay (suc (length hay)) start r → LongestRun p hay (places hay start) (Some r)
   is_longest r x = (
     record {
       runs = x.runs;

@@ -2,6 +2,7 @@
 use Rattle.std.proofs.Common.{◌≡◌, ℕ, ◌<◌, ◌≤◌, Bool, true, false, List, [], length, take, Option, Some, None, option_map, refl, sym, ap, ◌∙◌, subst, arith}
 use Rattle.std.proofs.lemmas.Option.{same_Some, none-some}
 use Rattle.std.specs.Prelude.{is_some}
+use Rattle.bites_spec.specs.Utf8.{places}
 use Rattle.bites_spec.specs.Walks.{Among, first_among}
 use Rattle.bites_spec.specs.Program.{Program, IsWellFormed}
 use Rattle.bites_spec.specs.Run.{Run, Answered, LeastEnd, slots, first_run, first_run_from, longest_run, longest_run_below}
@@ -31,18 +32,18 @@ answered p width (Some r) (Some b) old len e = (
 module _ (p : Program) (hay : List ℕ) (well : IsWellFormed p) (width : ℕ) (fits : width ≤ p.slots) (start : ℕ) where
   module _ (within : start ≤ length hay) (t : Searching) (old : List (Option ℕ)) (len : length old ≡ width) where
     -- the first run
-    pub first_answered : Searched hay false p width false start t → Answered p (first_run p hay start) (is_some t.best) old (left_in t.best old)
-    first_answered end = answered p width (first_run p hay start) t.best old len (first_answer p hay well width fits start within t end)
+    pub first_answered : Searched hay false p width false start t → Answered p (first_run p hay (places hay start)) (is_some t.best) old (left_in t.best old)
+    first_answered end = answered p width (first_run p hay (places hay start)) t.best old len (first_answer p hay well width fits start within t end)
 
     -- the longest run
-    pub longest_answered : Searched hay true p width false start t → Answered p (longest_run p hay start) (is_some t.best) old (left_in t.best old)
-    longest_answered end = answered p width (longest_run p hay start) t.best old len (longest_answer p hay well width fits start within t end)
+    pub longest_answered : Searched hay true p width false start t → Answered p (longest_run p hay (places hay start)) (is_some t.best) old (left_in t.best old)
+    longest_answered end = answered p width (longest_run p hay (places hay start)) t.best old len (longest_answer p hay well width fits start within t end)
 
     -- a run that ends before or with every other
-    pub least_answered : Searched hay false p width true start t → (o : Option Run) × LeastEnd p hay start o × Answered p o (is_some t.best) old (left_in t.best old)
+    pub least_answered : Searched hay false p width true start t → (o : Option Run) × LeastEnd p hay (places hay start) o × Answered p o (is_some t.best) old (left_in t.best old)
     least_answered end = by_best t.best refl
       where
-        by_best : (best : Option Thread) → t.best ≡ best → (o : Option Run) × LeastEnd p hay start o × Answered p o (is_some best) old (left_in best old)
+        by_best : (best : Option Thread) → t.best ≡ best → (o : Option Run) × LeastEnd p hay (places hay start) o × Answered p o (is_some best) old (left_in best old)
         by_best None none = (None, no_run p hay false width start true within fits t end none, (refl, refl))
         by_best (Some b) some =
             let least = least_end p hay false width start within fits t end b some in
@@ -50,10 +51,10 @@ module _ (p : Program) (hay : List ℕ) (well : IsWellFormed p) (width : ℕ) (f
 
   module _ (longest earliest : Bool) (within : start ≤ length hay) (t : Searching) (end : Searched hay longest p width earliest start t) where
     -- what a search has visited
-    pub search_visited : VisitedBy p hay start (is_some t.best) (record_of t)
+    pub search_visited : VisitedBy p hay (places hay start) (is_some t.best) (record_of t)
     search_visited = by_best t.best refl
       where
-        by_best : (best : Option Thread) → t.best ≡ best → VisitedBy p hay start (is_some best) (record_of t)
+        by_best : (best : Option Thread) → t.best ≡ best → VisitedBy p hay (places hay start) (is_some best) (record_of t)
         by_best None none = all_visited p hay longest width start earliest within fits t end none
         by_best (Some b) some = some_visited p hay longest width start earliest within fits t end b some
 
@@ -63,18 +64,18 @@ module _ (p : Program) (hay : List ℕ) (well : IsWellFormed p) (width : ℕ) (f
 
 -- a start past the end of the haystack
 module _ (p : Program) (hay : List ℕ) (start : ℕ) (past : length hay < start) where
-  pub past_first : first_run p hay start ≡ None
+  pub past_first : first_run p hay (places hay start) ≡ None
   unfolding first_run
   past_first = ap (first_among (first_run_from p hay)) (places-past hay start past)
 
-  pub past_longest : longest_run p hay start ≡ None
+  pub past_longest : longest_run p hay (places hay start) ≡ None
   unfolding longest_run
   past_longest = ap (first_among (longest_run_below p hay _)) (places-past hay start past)
 
-  pub past_least : LeastEnd p hay start None
+  pub past_least : LeastEnd p hay (places hay start) None
   past_least i among r j runs = subst (λ (l : List ℕ). Among l i) (places-past hay start past) among
 
-  pub past_visited : VisitedBy p hay start false (record { visits = []; looks = 0 })
+  pub past_visited : VisitedBy p hay (places hay start) false (record { visits = []; looks = 0 })
   past_visited i among t reaches = absurd (subst (λ (l : List ℕ). Among l i) (places-past hay start past) among)
 
   pub past_counted : IsBounded p hay start (record { visits = []; looks = 0 })

@@ -251,12 +251,12 @@ module _ (p : Program) (hay : List ℕ) (longest : Bool) (width : ℕ) (start : 
           ((behind none).starts k h)
 
       -- a search that found nothing has visited all that is reached
-      pub all_visited : t.best ≡ None → VisitedAll p hay start (record_of t)
+      pub all_visited : t.best ≡ None → VisitedAll p hay (places hay start) (record_of t)
       all_visited none i among u reaches =
           closed_walk p hay t.visits (led_visited none) (at p.start i) reaches.0 u (start_visited none i among) reaches.1
 
       -- and there is no run
-      pub no_run : t.best ≡ None → NoRun p hay start
+      pub no_run : t.best ≡ None → NoRun p hay (places hay start)
       no_run none i among r j runs = goes (at p.start i) r (start_visited none i among) runs
         where
           goes : (s : Configuration) (r : List Configuration) → Among t.visits s → Runs p hay s r j → ⊥
@@ -267,7 +267,7 @@ module _ (p : Program) (hay : List ℕ) (longest : Bool) (width : ℕ) (start : 
       pub best_found : (b : Thread) → t.best ≡ Some b → (e : ℕ) × Found p hay longest width start t.visits e b
       best_found = (traced_on p hay longest width start fits end.before t place_among before_traced end.last).best
 
-      pub some_visited : (b : Thread) → t.best ≡ Some b → VisitedSome p hay start (record_of t)
+      pub some_visited : (b : Thread) → t.best ≡ Some b → VisitedSome p hay (places hay start) (record_of t)
       some_visited b is = let f = (best_found b is).1 in (f.run, f.runs, f.among, f.was)
 
   module _ (within : start ≤ length hay) where
@@ -282,7 +282,7 @@ module _ (p : Program) (hay : List ℕ) (longest : Bool) (width : ℕ) (start : 
 
     -- Stopped at the first match, a search ends with a run that ends before or with every other.
     pub least_end : (fits : width ≤ p.slots) (t : Searching) → Searched hay longest p width true start t → (b : Thread) → t.best ≡ Some b →
-        (r : Run) × LeastEnd p hay start (Some r) × (b.slots ≡ take width (slots p r))
+        (r : Run) × LeastEnd p hay (places hay start) (Some r) × (b.slots ≡ take width (slots p r))
     least_end fits t end b is = (
       found.run,
       (found.runs, found.among, λ k among o j runs. not_below (λ lt. none_before end.before.visits end.before.threads end.before.place closed k among o j runs (below j lt))),

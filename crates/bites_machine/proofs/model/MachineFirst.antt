@@ -311,14 +311,14 @@ module _ (p : Program) (hay : List ℕ) (well : IsWellFormed p) (width : ℕ) (f
   map_first f g [] = refl
   map_first f g (k ∷ ks) = ap (option_or (option_map f (g k))) (map_first f g ks) ∙ sym (or_map f (g k) (first_among g ks))
 
-  total_is : option_map (λ (x : Outcome). x.slots) total ≡ option_map front_of (first_run p hay start)
+  total_is : option_map (λ (x : Outcome). x.slots) total ≡ option_map front_of (first_run p hay (places hay start))
   unfolding first_run
   total_is =
       map_among (λ (x : Outcome). x.slots) answer_from (λ k. option_map front_of (first_run_from p hay k)) (places hay start) answer_is
       ∙ map_first front_of (first_run_from p hay) (places hay start)
 
   -- A search that is not stopped early ends with the first slots of the first run, or with nothing if there is none.
-  pub first_answer : (t : Searching) → Searched hay false p width false start t → option_map (λ b. b.slots) t.best ≡ option_map front_of (first_run p hay start)
+  pub first_answer : (t : Searching) → Searched hay false p width false start t → option_map (λ b. b.slots) t.best ≡ option_map front_of (first_run p hay (places hay start))
   first_answer t end =
       slots_of t.best ∙ ap (option_map (λ (x : Outcome). x.slots)) (best_is_total t end) ∙ total_is
     where

@@ -10,6 +10,7 @@ use Rattle.bites_spec.specs.Utf8.{piece, places, step_len}
 use Rattle.bites_spec.specs.Walks.{Among, Walk, first_among, last_of}
 use Rattle.bites_spec.specs.Program.{Program, Configuration, at, state_at, is_match, IsWellFormed}
 use Rattle.bites_spec.specs.Run.{Run, StartsFirst, Runs, IsRun, LongestRun, is_end_at, is_same_configuration, leads, matches, enough, slots, longest_run}
+use Rattle.bites_spec.proofs.utf8.StartLemmas.{all_are_starts, starts_rise}
 use Rattle.bites_spec.proofs.utf8.PieceLemmas.{Among-places}
 use Rattle.bites_spec.proofs.runs.FirstLemmas.{sound}
 use Rattle.bites_spec.proofs.runs.RunLemmas.{same_is, same_refl, match_ends, first_place, no_place}
@@ -44,8 +45,8 @@ module _ (p : Program) (hay : List ℕ) (well : IsWellFormed p) (width : ℕ) (f
   abbrev base : List (Option ℕ)
   base = replicate width None
 
-  module _ (r : Run) (longest : LongestRun p hay start (Some r)) where
-    abbrev first : StartsFirst p hay start r
+  module _ (r : Run) (longest : LongestRun p hay (places hay start) (Some r)) where
+    abbrev first : StartsFirst p hay (places hay start) r
     first = longest.0
 
     start_within : r.start ≤ length hay
@@ -93,7 +94,7 @@ module _ (p : Program) (hay : List ℕ) (well : IsWellFormed p) (width : ℕ) (f
             let other : Run = record { start = r.start; configurations = f.0; end = r.end } in
             let below = below_some p hay well (suc r.end) r.start other
             (below_found p hay r.start r.end other (walk_makes_run p hay r.start r.end f.0 (e ∙ ap (λ (x : List Configuration). Some x) f.1))) start_within in
-            let same = one_longest_answer p hay start (Some r) (Some other) longest (
+            let same = one_longest_answer p hay (places hay start) (Some r) (Some other) longest (
               record { runs = below.runs; from = first.from; none_before = first.none_before },
               longest.1,
               below.first_of,
@@ -127,13 +128,12 @@ module _ (p : Program) (hay : List ℕ) (well : IsWellFormed p) (width : ℕ) (f
         by_answer (Some l) e = sym (ap (λ (x : Outcome). x.start) (same_Some (worth p hay k base l) y e))
 
     answer_first : first_among answer_from (places hay start) ≡ Some the_outcome
-    unfolding places
     answer_first = by_answer (first_among answer_from (places hay start)) refl
       where
         by_answer : (o : Option Outcome) → first_among answer_from (places hay start) ≡ o → o ≡ Some the_outcome
         by_answer None e = absurd (none-some the_outcome (sym (no_place answer_from (places hay start) e r.start first.from) ∙ answer_here))
         by_answer (Some y) e =
-            let at_first = first_place answer_from (suc (length hay)) hay start y e in
+            let at_first = first_place answer_from (places hay start) y (starts_rise hay start _ (all_are_starts hay start)) e in
             ⊎_elim
             (λ (lt : at_first.place < r.start). absurd (none-some y (sym (answer_before at_first.place at_first.among lt) ∙ at_first.is)))
             (λ (le : r.start ≤ at_first.place).
@@ -592,10 +592,10 @@ module _ (p : Program) (hay : List ℕ) (well : IsWellFormed p) (width : ℕ) (f
   runs_to_match s (t ∷ o) j runs = runs_to_match t o j runs.1
 
   -- A search for the longest run ends with the first slots of that run, or with nothing if there is none.
-  pub longest_answer : (t : Searching) → Searched hay true p width false start t → option_map (λ b. b.slots) t.best ≡ option_map front_of (longest_run p hay start)
-  longest_answer t end = by_run (longest_run p hay start) (longest_run-LongestRun p hay well start)
+  pub longest_answer : (t : Searching) → Searched hay true p width false start t → option_map (λ b. b.slots) t.best ≡ option_map front_of (longest_run p hay (places hay start))
+  longest_answer t end = by_run (longest_run p hay (places hay start)) (longest_run-LongestRun p hay well start (places hay start) (all_are_starts hay start))
     where
-      by_run : (o : Option Run) → LongestRun p hay start o → option_map (λ b. b.slots) t.best ≡ option_map front_of o
+      by_run : (o : Option Run) → LongestRun p hay (places hay start) o → option_map (λ b. b.slots) t.best ≡ option_map front_of o
       by_run (Some r) longest =
           let best = best_is_longest r longest t end in
           ap (option_map (λ (b : Thread). b.slots)) best.1

@@ -2,6 +2,7 @@
 use Rattle.std.proofs.Common.{◌≡◌, ℕ, ◌<◌, ◌≤◌, ◌⊎◌, ⊎_elim, Bool, true, false, List, [], length, Option, None, refl, sym, ap₂, subst, arith}
 use Rattle.std.proofs.lemmas.Bool.{cases_lt}
 use Rattle.std.specs.Prelude.{is_some}
+use Rattle.bites_spec.specs.Utf8.{places}
 use Rattle.bites_spec.specs.Program.{Program, Configuration, IsWellFormed}
 use Rattle.bites_spec.specs.Run.{Run, Answered, LeastEnd, first_run, longest_run}
 use Rattle.bites_spec.specs.Counts.{Record, IsBounded, VisitedBy}
@@ -34,27 +35,27 @@ module _ (p : Program) (hay : List ℕ) (well : IsWellFormed p) (start : ℕ) (a
   to_record longest earliest s = ap₂ recorded s.visits s.looks
 
   -- the first run
-  pub did_first : Did false false → Answered p (first_run p hay start) answer old new
+  pub did_first : Did false false → Answered p (first_run p hay (places hay start)) answer old new
   did_first did =
       ⊎_elim
-      (λ (past : length hay < start). nothing_answered (first_run p hay start) (past_first p hay start past) (did.1 past))
+      (λ (past : length hay < start). nothing_answered (first_run p hay (places hay start)) (past_first p hay start past) (did.1 past))
       (λ (within : start ≤ length hay).
       let s = did.0 within in
-      to_answer (first_run p hay start) false false s (first_answered p hay well (length old) fits start within s.last old refl s.searched))
+      to_answer (first_run p hay (places hay start)) false false s (first_answered p hay well (length old) fits start within s.last old refl s.searched))
       (cases_lt (length hay) start)
 
   -- the longest run
-  pub did_longest : Did true false → Answered p (longest_run p hay start) answer old new
+  pub did_longest : Did true false → Answered p (longest_run p hay (places hay start)) answer old new
   did_longest did =
       ⊎_elim
-      (λ (past : length hay < start). nothing_answered (longest_run p hay start) (past_longest p hay start past) (did.1 past))
+      (λ (past : length hay < start). nothing_answered (longest_run p hay (places hay start)) (past_longest p hay start past) (did.1 past))
       (λ (within : start ≤ length hay).
       let s = did.0 within in
-      to_answer (longest_run p hay start) true false s (longest_answered p hay well (length old) fits start within s.last old refl s.searched))
+      to_answer (longest_run p hay (places hay start)) true false s (longest_answered p hay well (length old) fits start within s.last old refl s.searched))
       (cases_lt (length hay) start)
 
   -- a run that ends before or with every other
-  pub did_least : Did false true → (o : Option Run) × LeastEnd p hay start o × Answered p o answer old new
+  pub did_least : Did false true → (o : Option Run) × LeastEnd p hay (places hay start) o × Answered p o answer old new
   did_least did =
       ⊎_elim
       (λ (past : length hay < start). (None, past_least p hay start past, nothing_answered None refl (did.1 past)))
@@ -65,17 +66,17 @@ module _ (p : Program) (hay : List ℕ) (well : IsWellFormed p) (start : ℕ) (a
       (cases_lt (length hay) start)
 
   -- what was visited
-  pub did_visit : (longest earliest : Bool) → Did longest earliest → VisitedBy p hay start answer walked
+  pub did_visit : (longest earliest : Bool) → Did longest earliest → VisitedBy p hay (places hay start) answer walked
   did_visit longest earliest did =
       ⊎_elim
       (λ (past : length hay < start).
       let rests = did.1 past in
-      subst (λ b. VisitedBy p hay start b walked) (sym rests.0)
-      (subst (λ (r : Record). VisitedBy p hay start false r) (sym (ap₂ recorded rests.2 rests.3)) (past_visited p hay start past)))
+      subst (λ b. VisitedBy p hay (places hay start) b walked) (sym rests.0)
+      (subst (λ (r : Record). VisitedBy p hay (places hay start) false r) (sym (ap₂ recorded rests.2 rests.3)) (past_visited p hay start past)))
       (λ (within : start ≤ length hay).
       let s = did.0 within in
-      subst (λ b. VisitedBy p hay start b walked) s.found
-      (subst (λ (r : Record). VisitedBy p hay start (is_some s.last.best) r) (to_record longest earliest s)
+      subst (λ b. VisitedBy p hay (places hay start) b walked) s.found
+      (subst (λ (r : Record). VisitedBy p hay (places hay start) (is_some s.last.best) r) (to_record longest earliest s)
       (search_visited p hay well (length old) fits start longest earliest within s.last s.searched)))
       (cases_lt (length hay) start)
 

@@ -66,7 +66,7 @@ module _ (hay : List ℕ) where
   no_run i j (q ∷ configurations) (inr none, more) = none
 
   module _ (s : ℕ) (c : Record) where
-    visited_all : (found : Bool) → VisitedBy dead_end hay s found c → VisitedAll dead_end hay s c
+    visited_all : (found : Bool) → VisitedBy dead_end hay (places hay s) found c → VisitedAll dead_end hay (places hay s) c
     visited_all true (x, runs, from, visited) = absurd (no_run x.start x.end x.configurations runs)
     visited_all false all = all
 
@@ -74,7 +74,7 @@ module _ (hay : List ℕ) where
     among_map [] t h = absurd h
     among_map (u ∷ ts) t h = ⊎_elim (λ (e : u ≡ t). inl (ap number e)) (λ later. inr (among_map ts t later)) h
 
-    all_numbers : VisitedAll dead_end hay s c → (k : ℕ) → Among (numbers (places hay s)) k → Among (map number c.visits) k
+    all_numbers : VisitedAll dead_end hay (places hay s) c → (k : ℕ) → Among (numbers (places hay s)) k → Among (map number c.visits) k
     all_numbers all k h =
         let at_place = numbered (places hay s) k h in let i = at_place.0 in
         ⊎_elim
@@ -89,7 +89,7 @@ module _ (hay : List ℕ) where
     unfolding places
     place_numbers_apart = numbers_apart (suc (length hay)) s
 
-    enough : (found : Bool) → VisitedBy dead_end hay s found c → 2 * length (places hay s) ≤ length c.visits
+    enough : (found : Bool) → VisitedBy dead_end hay (places hay s) found c → 2 * length (places hay s) ≤ length c.visits
     enough found visited =
         let le = apart_length (numbers (places hay s)) (map number c.visits) place_numbers_apart (all_numbers (visited_all found visited)) in
         let size = length-numbers (places hay s) in let same = length-map c.visits number in omega (arith, le, size, same)

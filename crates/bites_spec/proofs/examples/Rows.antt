@@ -158,7 +158,7 @@ plain_ones = (refl, refl, refl)
 cycle : Program
 cycle = record { states = program.splits (0 ∷ 1 ∷ []) false ∷ program.goto 0 None ∷ []; start = 0; slots = 2 }
 
-cycle_none : first_run cycle (codes "ab") 0 ≡ None
+cycle_none : first_run cycle (codes "ab") (places (codes "ab") 0) ≡ None
 unfolding cycle first_run first_run_from walks.first_walk piece front_piece places
 cycle_none = refl
 
@@ -170,7 +170,7 @@ self_loop = record {
   slots = 2;
 }
 
-self_loop_slots : option_map (slots self_loop) (first_run self_loop (codes "aab") 0) ≡ Some (Some 0 ∷ Some 2 ∷ [])
+self_loop_slots : option_map (slots self_loop) (first_run self_loop (codes "aab") (places (codes "aab") 0)) ≡ Some (Some 0 ∷ Some 2 ∷ [])
 unfolding self_loop first_run first_run_from walks.first_walk piece front_piece places
 self_loop_slots = refl
 
@@ -185,7 +185,7 @@ empty_first = record {
   slots = 2;
 }
 
-empty_first_run : option_map (slots empty_first) (first_run empty_first (codes "a") 0) ≡ Some (Some 0 ∷ Some 0 ∷ [])
+empty_first_run : option_map (slots empty_first) (first_run empty_first (codes "a") (places (codes "a") 0)) ≡ Some (Some 0 ∷ Some 0 ∷ [])
 unfolding empty_first first_run first_run_from walks.first_walk piece front_piece places
 empty_first_run = refl
 
@@ -200,7 +200,7 @@ star_of_star = record {
   slots = 4;
 }
 
-star_of_star_run : option_map (slots star_of_star) (first_run star_of_star (codes "b") 0)
+star_of_star_run : option_map (slots star_of_star) (first_run star_of_star (codes "b") (places (codes "b") 0))
     ≡ Some (Some 0 ∷ Some 0 ∷ Some 0 ∷ Some 0 ∷ [])
 unfolding star_of_star first_run first_run_from walks.first_walk piece front_piece places
 star_of_star_run = refl

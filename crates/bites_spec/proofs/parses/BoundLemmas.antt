@@ -7,7 +7,8 @@ use Rattle.bites_spec.specs.Tree.{Tree, Trees, empty, char, class, look, repetit
 use Rattle.bites_spec.specs.Match.{Span, span, Mark, mark, Takes, Turns, Parse, ParseAll, ParseOne, last_mark, groups}
 use Rattle.bites_spec.specs.Spans.{LiesFrom}
 use Rattle.bites_spec.specs.FoundLaws.{FoundLies}
-use Rattle.bites_spec.proofs.utf8.PieceLemmas.{piece_within, Among-places}
+use Rattle.bites_spec.proofs.utf8.PieceLemmas.{piece_within}
+use Rattle.bites_spec.proofs.utf8.StartLemmas.{start_lies}
 use Rattle.bites_spec.proofs.runs.FirstLemmas.{or_cases}
 
 -- all marks lie between two places
@@ -100,8 +101,8 @@ module _ (hay : List ℕ) where
 
 -- what is found lies in the haystack, and its groups lie in the match
 pub found_lies : FoundLies
-found_lies t hay s a found =
-    let from = Among-places hay s a.start found.first.place in
+found_lies t hay s ps are a found =
+    let from = start_lies hay s ps are a.start found.first.place in
     let lies = parse_lies hay t a.start a.end found.marks from.1 found.parse in (
       (from.0, lies.forward, lies.within),
       λ k g is. group_lies k g lies.forward lies.marks (sym (found.groups k) ∙ is),

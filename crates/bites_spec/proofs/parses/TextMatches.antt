@@ -1,11 +1,12 @@
 -- In UTF-8, what a tree matches begins and ends at borders, and so do its groups.
 use Rattle.std.proofs.Common.{◌≡◌, ℕ, zero, suc, ◌+◌, Bool, true, false, cond, List, [], ◌∷◌, ◌++◌, Some, None, sym, ◌∙◌, subst, ⊎_elim, IsUtf8, IsCharBoundary}
 use Rattle.std.specs.Prelude.{◌==◌}
-use Rattle.bites_spec.specs.Utf8.{piece}
+use Rattle.bites_spec.specs.Utf8.{piece, AreStarts}
 use Rattle.bites_spec.specs.Tree.{Tree, Trees, empty, char, class, look, repetition, group, sequence, alternation, no_tree, tree_and}
 use Rattle.bites_spec.specs.Match.{Mark, Span, span, mark, Turns, Matches, Parse, ParseAll, ParseOne, last_mark, groups}
 use Rattle.bites_spec.specs.Found.{Answer, FoundSome, IsLeastEnd}
 use Rattle.bites_spec.specs.TextLaws.{HasBorders}
+use Rattle.bites_spec.proofs.utf8.StartLemmas.{start_among}
 use Rattle.bites_spec.proofs.parses.EventLemmas.{Matches-Parse}
 use Rattle.bites_spec.proofs.parses.MarkPlaces.{or_cases}
 use Rattle.bites_spec.proofs.parses.TextPlaces.{border_behind, places_are_borders}
@@ -92,16 +93,18 @@ group_borders hay t i j ms utf8 border parse k g e =
     let step = λ (k : ℕ) (b : IsCharBoundary hay k). border_behind hay k utf8 b in
     group_holds hay (IsCharBoundary hay) step i j ms k g border (parse_keeps hay (IsCharBoundary hay) step t i j ms parse border) e
 
-pub found_borders : (t : Tree) (hay : List ℕ) (s : ℕ) (a : Answer) → IsUtf8 hay → IsCharBoundary hay s → FoundSome t hay s (Some a) →
+pub found_borders : (t : Tree) (hay : List ℕ) (s : ℕ) (ps : List ℕ) → AreStarts hay s ps → (a : Answer) → IsUtf8 hay → IsCharBoundary hay s →
+    FoundSome t hay ps (Some a) →
     HasBorders hay (span a.start a.end) × ((k : ℕ) (g : Span) → a.group k ≡ Some g → HasBorders hay g)
-found_borders t hay s a utf8 border found =
-    let start = ((places_are_borders hay s utf8 border a.start).0 found.first.place).1 in
+found_borders t hay s ps are a utf8 border found =
+    let start = ((places_are_borders hay s utf8 border a.start).0 (start_among hay s ps are a.start found.first.place)).1 in
     let step = λ (k : ℕ) (b : IsCharBoundary hay k). border_behind hay k utf8 b in (
       (start, (parse_keeps hay (IsCharBoundary hay) step t a.start a.end found.marks found.parse start).0),
       λ k g e. group_borders hay t a.start a.end found.marks utf8 start found.parse k g (sym (found.groups k) ∙ e),
     )
 
-pub least_end_border : (t : Tree) (hay : List ℕ) (s j : ℕ) → IsUtf8 hay → IsCharBoundary hay s → IsLeastEnd t hay s (Some j) → IsCharBoundary hay j
-least_end_border t hay s j utf8 border least =
+pub least_end_border : (t : Tree) (hay : List ℕ) (s : ℕ) (ps : List ℕ) → AreStarts hay s ps → (j : ℕ) → IsUtf8 hay → IsCharBoundary hay s →
+    IsLeastEnd t hay ps (Some j) → IsCharBoundary hay j
+least_end_border t hay s ps are j utf8 border least =
     let m = least.0 in
-    match_border hay t m.0 j utf8 ((places_are_borders hay s utf8 border m.0).0 m.1).1 m.2
+    match_border hay t m.0 j utf8 ((places_are_borders hay s utf8 border m.0).0 (start_among hay s ps are m.0 m.1)).1 m.2

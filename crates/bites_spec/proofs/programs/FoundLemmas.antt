@@ -3,6 +3,7 @@ use Rattle.std.specs.Prelude.{◌==◌, if◌then◌else◌}
 use Rattle.std.proofs.Common.{cond, eq-eqb, eqb-true, ◌≡◌, ℕ, ◌≤◌, Bool, true, false, List, [], ◌∷◌, ◌++◌, map, Option, Some, None, option_map, refl, sym, ap, ap₂, ◌∙◌, subst, ⊎_elim, true≢false, ◌⊎◌}
 use Rattle.std.proofs.lemmas.Option.{none-some, same_Some}
 use Rattle.std.proofs.lemmas.Bool.{cases_Bool}
+use Rattle.bites_spec.specs.Utf8.{AreStarts}
 use Rattle.bites_spec.specs.Walks.{Before}
 use Rattle.bites_spec.specs.Tree.{Tree, is_plain}
 use Rattle.bites_spec.specs.Match.{Span, Mark, Matches, Parse, groups}
@@ -72,12 +73,12 @@ unfolding whole
 unfold_whole t p hay fit built i j inner ws e = e
 
 module _ (t : Tree) (p : Program) (hay : List ℕ) (fit : IsCompilable t) (built : Built t p) where
-  -- if the program has no run from a place at or after s, the tree does not match from there
-  no_match : (s : ℕ) → NoRun p hay s → NoMatch t hay s
-  no_match s none i among j matches = let x = match_is_run t p hay fit built i j matches in none i among x.0 j x.1
+  -- if the program has no run from a start, the tree does not match from one
+  no_match : (ps : List ℕ) → NoRun p hay ps → NoMatch t hay ps
+  no_match ps none i among j matches = let x = match_is_run t p hay fit built i j matches in none i among x.0 j x.1
 
-  first_place : (s : ℕ) (r : Run) → StartsFirst p hay s r → IsFirstPlace t hay s r.start
-  first_place s r starts = record {
+  first_place : (ps : List ℕ) (r : Run) → StartsFirst p hay ps r → IsFirstPlace t hay ps r.start
+  first_place ps r starts = record {
     place = starts.from;
     matches = (r.end, run_is_match t p hay fit built r.start r.end r.configurations starts.runs);
     none_before = λ k among lt j matches. let x = match_is_run t p hay fit built k j matches in starts.none_before k among lt x.0 j x.1;
@@ -115,13 +116,13 @@ module _ (t : Tree) (p : Program) (hay : List ℕ) (fit : IsCompilable t) (built
           }
 
   -- What `FirstRun` specifies for the program, `Found` specifies for the tree.
-  pub FirstRun-Found : (s : ℕ) (o : Option Run) → FirstRun p hay s o → Found t hay s (option_map (answer_of p) o)
-  FirstRun-Found s None none = no_match s none
-  FirstRun-Found s (Some r) (starts, first) =
+  pub FirstRun-Found : (ps : List ℕ) (o : Option Run) → FirstRun p hay ps o → Found t hay ps (option_map (answer_of p) o)
+  FirstRun-Found ps None none = no_match ps none
+  FirstRun-Found ps (Some r) (starts, first) =
       ⊎_elim
       (λ (plain : is_plain t ≡ true).
       let x = preferred (λ j. true) r plain starts.runs refl (λ o k runs simple u. first.first o k runs simple tt) in record {
-        first = first_place s r starts;
+        first = first_place ps r starts;
         marks = x.marks;
         parse = x.parse;
         groups = same_groups r x.marks x.has;
@@ -129,7 +130,7 @@ module _ (t : Tree) (p : Program) (hay : List ℕ) (fit : IsCompilable t) (built
       })
       (λ (other : is_plain t ≡ false).
       let x = run_is_parse t p hay fit built r.start r.end r.configurations starts.runs in record {
-        first = first_place s r starts;
+        first = first_place ps r starts;
         marks = x.0;
         parse = x.1;
         groups = same_groups r x.0 x.2;
@@ -138,14 +139,14 @@ module _ (t : Tree) (p : Program) (hay : List ℕ) (fit : IsCompilable t) (built
       (cases_Bool (is_plain t))
 
   -- What `LongestRun` specifies for the program, `FoundLongest` specifies for the tree.
-  pub LongestRun-FoundLongest : (s : ℕ) (o : Option Run) → LongestRun p hay s o → FoundLongest t hay s (option_map (answer_of p) o)
-  LongestRun-FoundLongest s None none = no_match s none
-  LongestRun-FoundLongest s (Some r) (starts, longest, first) =
+  pub LongestRun-FoundLongest : (ps : List ℕ) (o : Option Run) → LongestRun p hay ps o → FoundLongest t hay ps (option_map (answer_of p) o)
+  LongestRun-FoundLongest ps None none = no_match ps none
+  LongestRun-FoundLongest ps (Some r) (starts, longest, first) =
       ⊎_elim
       (λ (plain : is_plain t ≡ true).
       let x = preferred (λ k. k == r.end) r plain starts.runs (eq-eqb r.end r.end refl)
       (λ o k runs simple counts. first.first o k runs simple (eqb-true k r.end counts)) in record {
-        first = first_place s r starts;
+        first = first_place ps r starts;
         marks = x.marks;
         parse = x.parse;
         groups = same_groups r x.marks x.has;
@@ -153,7 +154,7 @@ module _ (t : Tree) (p : Program) (hay : List ℕ) (fit : IsCompilable t) (built
       })
       (λ (other : is_plain t ≡ false).
       let x = run_is_parse t p hay fit built r.start r.end r.configurations starts.runs in record {
-        first = first_place s r starts;
+        first = first_place ps r starts;
         marks = x.0;
         parse = x.1;
         groups = same_groups r x.0 x.2;
@@ -164,11 +165,11 @@ module _ (t : Tree) (p : Program) (hay : List ℕ) (fit : IsCompilable t) (built
       greatest : (r : Run) → ((o : List Configuration) (j : ℕ) → IsRun p hay r.start o j → j ≤ r.end) → (l : ℕ) → Matches hay t r.start l → l ≤ r.end
       greatest r longest l matches = let m = match_is_run t p hay fit built r.start l matches in longest m.0 l m.1
 
-  -- a run from the first place that has one is some parse there
-  pub StartsFirst-FoundSome : (s : ℕ) (r : Run) → StartsFirst p hay s r → FoundSome t hay s (Some (answer_of p r))
-  StartsFirst-FoundSome s r starts =
+  -- a run from the first start that has one is some parse there
+  pub StartsFirst-FoundSome : (ps : List ℕ) (r : Run) → StartsFirst p hay ps r → FoundSome t hay ps (Some (answer_of p r))
+  StartsFirst-FoundSome ps r starts =
       let x = run_is_parse t p hay fit built r.start r.end r.configurations starts.runs in record {
-        first = first_place s r starts;
+        first = first_place ps r starts;
         marks = x.0;
         parse = x.1;
         groups = same_groups r x.0 x.2;
@@ -176,9 +177,9 @@ module _ (t : Tree) (p : Program) (hay : List ℕ) (fit : IsCompilable t) (built
       }
 
   -- the least end of a run is the least end of a match
-  pub LeastEnd-IsLeastEnd : (s : ℕ) (o : Option Run) → LeastEnd p hay s o → IsLeastEnd t hay s (option_map (λ r. r.end) o)
-  LeastEnd-IsLeastEnd s None none = no_match s none
-  LeastEnd-IsLeastEnd s (Some r) (runs, among, least) = (
+  pub LeastEnd-IsLeastEnd : (ps : List ℕ) (o : Option Run) → LeastEnd p hay ps o → IsLeastEnd t hay ps (option_map (λ r. r.end) o)
+  LeastEnd-IsLeastEnd ps None none = no_match ps none
+  LeastEnd-IsLeastEnd ps (Some r) (runs, among, least) = (
     (r.start, among, run_is_match t p hay fit built r.start r.end r.configurations runs),
     λ i among l matches. let x = match_is_run t p hay fit built i l matches in least i among x.0 l x.1,
   )
@@ -189,8 +190,8 @@ module _ (t : Tree) (p : Program) (hay : List ℕ) (fit : IsCompilable t) (built
       let are = all_runs p hay t fit.reduced plain built i in simple p hay (at p.start i) are.bound are.short r j runs
 
   -- The first run of a tree's program is what a search of the tree finds, even if the program has cycles.
-  pub first_run-Found : IsWellFormed p → (s : ℕ) → Found t hay s (option_map (answer_of p) (first_run p hay s))
-  first_run-Found well s = FirstRun-Found s (first_run p hay s) (first_run-FirstRun p hay well s)
+  pub first_run-Found : IsWellFormed p → (s : ℕ) (ps : List ℕ) → AreStarts hay s ps → Found t hay ps (option_map (answer_of p) (first_run p hay ps))
+  first_run-Found well s ps are = FirstRun-Found ps (first_run p hay ps) (first_run-FirstRun p hay well s ps are)
 
 -- in the slots of a run of a tree's program, group 0 is the run's span
 pub group_0_is_span : Group0IsSpan

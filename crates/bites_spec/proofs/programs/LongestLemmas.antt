@@ -4,17 +4,17 @@ use Rattle.std.specs.Prelude.{◌==◌, IsTrue, option_and_then}
 use Rattle.std.specs.Option.{option_or}
 use Rattle.std.proofs.lemmas.Option.{none-some, same_Some}
 use Rattle.std.proofs.lemmas.Bool.{cases_Bool, and_parts}
-use Rattle.bites_spec.specs.Utf8.{places}
+use Rattle.bites_spec.specs.Utf8.{AreStarts}
 use Rattle.bites_spec.specs.Walks.{Among, AllApart, Walk, Before, last_of}
 use Rattle.bites_spec.specs.Walks as walks
 use Rattle.bites_spec.specs.Program.{Program, Configuration, at, IsWellFormed}
-use Rattle.bites_spec.specs.Run.{Run, run, Runs, IsRun, IsSimple, IsFirstOf, FirstRun, LongestRun, is_same_configuration, leads, matches, is_end_at, enough, run_of, first_run, first_run_to, longest_run_below, longest_run}
-use Rattle.bites_spec.proofs.utf8.PieceLemmas.{Among-places}
+use Rattle.bites_spec.specs.Run.{Run, run, Runs, IsRun, IsSimple, IsFirstOf, LongestRun, is_same_configuration, leads, matches, is_end_at, enough, run_of, first_run_to, longest_run_below, longest_run}
+use Rattle.bites_spec.proofs.utf8.StartLemmas.{starts_rise, start_lies}
 use Rattle.bites_spec.proofs.runs.FirstLemmas.{or_cases, or_none, sound, first, none_at_all, Apart-simple, Apart-of}
-use Rattle.bites_spec.proofs.runs.RunLemmas.{Inside, unseen, fewer, enough_for_all, inside_on, same_is, same_refl, match_ends, first_place, no_place, first_run-FirstRun}
+use Rattle.bites_spec.proofs.runs.RunLemmas.{Inside, unseen, fewer, enough_for_all, inside_on, same_is, same_refl, match_ends, first_place, no_place}
 use Rattle.bites_spec.proofs.programs.PlainLemmas.{Before-asym, ends_at}
 use Rattle.bites_spec.proofs.programs.OneLemmas.{same_run, same_start}
-use Rattle.bites_spec.proofs.runs.PlaceLemmas.{runs_within, runs_forward}
+use Rattle.bites_spec.proofs.runs.PlaceLemmas.{runs_within}
 
 module _ (p : Program) (hay : List ℕ) where
   end_place : (j : ℕ) (s : Configuration) → is_end_at p j s ≡ true → s.place ≡ j
@@ -157,33 +157,36 @@ module _ (p : Program) (hay : List ℕ) where
     pub ends_below : (i : ℕ) (o : List Configuration) (j : ℕ) → i ≤ length hay → IsRun p hay i o j → j < suc (length hay)
     ends_below i o j le runs = let within = runs_within p hay well (at p.start i) o j (well.start, le) runs in omega (arith, within)
 
-    longest_run_is : (s : ℕ) (o : Option Run) → longest_run p hay s ≡ o → LongestRun p hay s o
-    unfolding longest_run places
-    longest_run_is s None e =
-        λ i h r j runs. let le = (Among-places hay s i h).1 in
-        below_none (suc (length hay)) i (no_place (longest_run_below p hay (suc (length hay))) _ e i h) le j (ends_below i r j le runs) r runs
-    longest_run_is s (Some r) e =
-        let at_first = first_place (longest_run_below p hay (suc (length hay))) (suc (length hay)) hay s r e in
-        let le = (Among-places hay s at_first.place at_first.among).1 in
-        let from = below_some (suc (length hay)) at_first.place r at_first.is le in (
-          record {
-            runs = from.runs;
-            from = subst (λ i. Among (places hay s) i) (sym from.start) at_first.among;
-            none_before = λ i h lt o j runs.
-                let within = (Among-places hay s i h).1 in
-                below_none (suc (length hay)) i (at_first.none_before i h (omega (arith, lt, from.start))) within j (ends_below i o j within runs) o runs;
-          },
-          λ o j runs. from.greatest o j runs (ends_below r.start o j (omega (arith, le, from.start)) runs),
-          from.first_of,
-        )
+    module _ (s : ℕ) (ps : List ℕ) (are : AreStarts hay s ps) where
+      within : (i : ℕ) → Among ps i → i ≤ length hay
+      within i h = (start_lies hay s ps are i h).1
 
-    -- `longest_run` is None where no place has a run; else it is the longest from the first place that has one
-    pub longest_run-LongestRun : (s : ℕ) → LongestRun p hay s (longest_run p hay s)
-    longest_run-LongestRun s = longest_run_is s (longest_run p hay s) refl
+      longest_run_is : (o : Option Run) → longest_run p hay ps ≡ o → LongestRun p hay ps o
+      unfolding longest_run
+      longest_run_is None e =
+          λ i h r j runs.
+          below_none (suc (length hay)) i (no_place (longest_run_below p hay (suc (length hay))) _ e i h) (within i h) j (ends_below i r j (within i h) runs) r runs
+      longest_run_is (Some r) e =
+          let at_first = first_place (longest_run_below p hay (suc (length hay))) ps r (starts_rise hay s ps are) e in
+          let le = within at_first.place at_first.among in
+          let from = below_some (suc (length hay)) at_first.place r at_first.is le in (
+            record {
+              runs = from.runs;
+              from = subst (λ i. Among ps i) (sym from.start) at_first.among;
+              none_before = λ i h lt o j runs.
+                  below_none (suc (length hay)) i (at_first.none_before i h (omega (arith, lt, from.start))) (within i h) j (ends_below i o j (within i h) runs) o runs;
+            },
+            λ o j runs. from.greatest o j runs (ends_below r.start o j (omega (arith, le, from.start)) runs),
+            from.first_of,
+          )
 
-  one_longest : (s : ℕ) (a b : Run) → LongestRun p hay s (Some a) → LongestRun p hay s (Some b) → a ≡ b
-  one_longest s a b (x, longest_a, f) (y, longest_b, g) =
-      let start = same_start p hay s a b x y in
+      -- `longest_run` is None where no start has a run; else it is the longest from the first start that has one
+      pub longest_run-LongestRun : LongestRun p hay ps (longest_run p hay ps)
+      longest_run-LongestRun = longest_run_is (longest_run p hay ps) refl
+
+  one_longest : (ps : List ℕ) (a b : Run) → LongestRun p hay ps (Some a) → LongestRun p hay ps (Some b) → a ≡ b
+  one_longest ps a b (x, longest_a, f) (y, longest_b, g) =
+      let start = same_start p hay ps a b x y in
       let theirs : IsRun p hay a.start b.configurations b.end = subst (λ i. IsRun p hay i b.configurations b.end) (sym start) y.runs in
       let mine : IsRun p hay b.start a.configurations a.end = subst (λ i. IsRun p hay i a.configurations a.end) start x.runs in
       let one = longest_a b.configurations b.end theirs in
@@ -199,54 +202,14 @@ module _ (p : Program) (hay : List ℕ) where
       same_run a.start b.start a.end b.end a.configurations b.configurations start configurations end
 
   -- at most one result is the longest run
-  pub one_longest_answer : (s : ℕ) (o q : Option Run) → LongestRun p hay s o → LongestRun p hay s q → o ≡ q
-  one_longest_answer s None None x y = refl
-  one_longest_answer s None (Some b) x y = absurd (x b.start y.0.from b.configurations b.end y.0.runs)
-  one_longest_answer s (Some a) None x y = absurd (y a.start x.0.from a.configurations a.end x.0.runs)
-  one_longest_answer s (Some a) (Some b) x y = ap Some (one_longest s a b x y)
+  pub one_longest_answer : (ps : List ℕ) (o q : Option Run) → LongestRun p hay ps o → LongestRun p hay ps q → o ≡ q
+  one_longest_answer ps None None x y = refl
+  one_longest_answer ps None (Some b) x y = absurd (x b.start y.0.from b.configurations b.end y.0.runs)
+  one_longest_answer ps (Some a) None x y = absurd (y a.start x.0.from a.configurations a.end x.0.runs)
+  one_longest_answer ps (Some a) (Some b) x y = ap Some (one_longest ps a b x y)
 
-  pub LongestRun-longest_run : IsWellFormed p → (s : ℕ) (o : Option Run) → LongestRun p hay s o → o ≡ longest_run p hay s
-  LongestRun-longest_run well s o x = one_longest_answer s o (longest_run p hay s) x (longest_run-LongestRun well s)
-
-  module _ (well : IsWellFormed p) where
-    -- no run ends before it begins
-    pub below_start : (n i : ℕ) → n ≤ i → i ≤ length hay → longest_run_below p hay n i ≡ None
-    below_start n i le within = by_answer (longest_run_below p hay n i) refl
-      where
-        by_answer : (o : Option Run) → longest_run_below p hay n i ≡ o → o ≡ None
-        by_answer None is = refl
-        by_answer (Some r) is =
-            let x = below_some well n i r is within in
-            let forward = runs_forward p hay (at p.start r.start) r.configurations r.end x.runs in
-            absurd (omega (arith, le, forward, x.start, x.below))
-
-    -- the longest run from where the first run begins is the longest of all
-    pub longest_at_first : (s : ℕ) (f : Run) → first_run p hay s ≡ Some f → longest_run_below p hay (suc (length hay)) f.start ≡ longest_run p hay s
-    longest_at_first s f is = LongestRun-longest_run well s _ (by_answer (longest_run_below p hay (suc (length hay)) f.start) refl)
-      where
-        starts : FirstRun p hay s (Some f)
-        starts = subst (FirstRun p hay s) is (first_run-FirstRun p hay well s)
-
-        within : f.start ≤ length hay
-        within = (Among-places hay s f.start starts.0.from).1
-
-        by_answer : (o : Option Run) → longest_run_below p hay (suc (length hay)) f.start ≡ o → LongestRun p hay s o
-        by_answer None none =
-            absurd (below_none well (suc (length hay)) f.start none within f.end (ends_below well f.start f.configurations f.end within starts.0.runs) f.configurations starts.0.runs)
-        by_answer (Some r) found =
-            let x = below_some well (suc (length hay)) f.start r found within in (
-              record {
-                runs = x.runs;
-                from = subst (λ i. Among (places hay s) i) (sym x.start) starts.0.from;
-                none_before = λ i among lt. starts.0.none_before i among (omega (arith, lt, x.start));
-              },
-              λ o j runs. x.greatest o j runs (ends_below well r.start o j (omega (arith, within, x.start)) runs),
-              x.first_of,
-            )
-
-    -- where there is no first run, there is no longest
-    pub longest_at_none : (s : ℕ) → first_run p hay s ≡ None → None ≡ longest_run p hay s
-    longest_at_none s is = LongestRun-longest_run well s None (subst (FirstRun p hay s) is (first_run-FirstRun p hay well s))
+  pub LongestRun-longest_run : IsWellFormed p → (s : ℕ) (ps : List ℕ) → AreStarts hay s ps → (o : Option Run) → LongestRun p hay ps o → o ≡ longest_run p hay ps
+  LongestRun-longest_run well s ps are o x = one_longest_answer ps o (longest_run p hay ps) x (longest_run-LongestRun well s ps are)
 
   -- the bound may be one above the end that is found
   pub below_found : (i j : ℕ) (r : Run) → first_run_to p hay i j ≡ Some r → longest_run_below p hay (suc j) i ≡ Some r

@@ -2,6 +2,7 @@
 use Rattle.std.proofs.Common.{◌≡◌, ℕ, true, false, List, Option, Some, None, refl, sym, ap, ◌∙◌, subst, ⊎_elim, arith, ltb-true, ltb-false}
 use Rattle.std.specs.Prelude.{nat_lt}
 use Rattle.std.proofs.lemmas.Bool.{cases_Bool}
+use Rattle.bites_spec.specs.Utf8.{AreStarts}
 use Rattle.bites_spec.specs.Walks.{Before}
 use Rattle.bites_spec.specs.Program.{Program, Configuration, at, IsWellFormed}
 use Rattle.bites_spec.specs.Run.{Run, leads, IsRun, StartsFirst, IsSimple, FirstRun, first_run}
@@ -13,8 +14,8 @@ same_run i j k l a b e f g = λ x. record { start = e x; configurations = f x; e
 
 module _ (p : Program) (hay : List ℕ) where
   -- two runs that start first start at the same place
-  pub same_start : (s : ℕ) (a b : Run) → StartsFirst p hay s a → StartsFirst p hay s b → a.start ≡ b.start
-  same_start s a b x y =
+  pub same_start : (ps : List ℕ) (a b : Run) → StartsFirst p hay ps a → StartsFirst p hay ps b → a.start ≡ b.start
+  same_start ps a b x y =
       ⊎_elim (λ (lt : nat_lt a.start b.start ≡ true). absurd (y.none_before a.start x.from (ltb-true a.start b.start lt) a.configurations a.end x.runs))
       (λ (ge : nat_lt a.start b.start ≡ false).
       ⊎_elim (λ (lt : nat_lt b.start a.start ≡ true). absurd (x.none_before b.start y.from (ltb-true b.start a.start lt) b.configurations b.end y.runs))
@@ -23,9 +24,9 @@ module _ (p : Program) (hay : List ℕ) where
       (cases_Bool (nat_lt b.start a.start)))
       (cases_Bool (nat_lt a.start b.start))
 
-  pub one_first : (s : ℕ) (a b : Run) → FirstRun p hay s (Some a) → FirstRun p hay s (Some b) → a ≡ b
-  one_first s a b (x, f) (y, g) =
-      let start = same_start s a b x y in
+  pub one_first : (ps : List ℕ) (a b : Run) → FirstRun p hay ps (Some a) → FirstRun p hay ps (Some b) → a ≡ b
+  one_first ps a b (x, f) (y, g) =
+      let start = same_start ps a b x y in
       let theirs : IsRun p hay a.start b.configurations b.end = subst (λ i. IsRun p hay i b.configurations b.end) (sym start) y.runs in
       let mine : IsRun p hay b.start a.configurations a.end = subst (λ i. IsRun p hay i a.configurations a.end) start x.runs in
       let configurations : a.configurations ≡ b.configurations =
@@ -39,11 +40,11 @@ module _ (p : Program) (hay : List ℕ) where
       (sym (ends_at p hay (at p.start a.start) a.configurations a.end x.runs)
       ∙ ends_at p hay (at p.start a.start) a.configurations b.end (subst (λ r. IsRun p hay a.start r b.end) (sym configurations) theirs))
 
-  one_answer : (s : ℕ) (o q : Option Run) → FirstRun p hay s o → FirstRun p hay s q → o ≡ q
-  one_answer s None None x y = refl
-  one_answer s None (Some b) x y = absurd (x b.start y.0.from b.configurations b.end y.0.runs)
-  one_answer s (Some a) None x y = absurd (y a.start x.0.from a.configurations a.end x.0.runs)
-  one_answer s (Some a) (Some b) x y = ap Some (one_first s a b x y)
+  one_answer : (ps : List ℕ) (o q : Option Run) → FirstRun p hay ps o → FirstRun p hay ps q → o ≡ q
+  one_answer ps None None x y = refl
+  one_answer ps None (Some b) x y = absurd (x b.start y.0.from b.configurations b.end y.0.runs)
+  one_answer ps (Some a) None x y = absurd (y a.start x.0.from a.configurations a.end x.0.runs)
+  one_answer ps (Some a) (Some b) x y = ap Some (one_first ps a b x y)
 
-  pub FirstRun-first_run : IsWellFormed p → (s : ℕ) (o : Option Run) → FirstRun p hay s o → o ≡ first_run p hay s
-  FirstRun-first_run well s o x = one_answer s o (first_run p hay s) x (first_run-FirstRun p hay well s)
+  pub FirstRun-first_run : IsWellFormed p → (s : ℕ) (ps : List ℕ) → AreStarts hay s ps → (o : Option Run) → FirstRun p hay ps o → o ≡ first_run p hay ps
+  FirstRun-first_run well s ps are o x = one_answer ps o (first_run p hay ps) x (first_run-FirstRun p hay well s ps are)

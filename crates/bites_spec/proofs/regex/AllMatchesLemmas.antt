@@ -24,6 +24,7 @@ use Rattle.bites_spec.proofs.iteration.SuccessiveLemmas.{successive_follow, mapp
 use Rattle.bites_spec.specs.TextLaws.{HasBorders}
 use Rattle.bites_spec.proofs.regex.CallerLemmas.{start_is_place}
 use Rattle.bites_spec.proofs.utf8.PieceLemmas.{piece_some}
+use Rattle.bites_spec.proofs.utf8.StartLemmas.{all_are_starts}
 use Rattle.bites_spec.proofs.parses.TextPlaces.{border_behind}
 use Rattle.bites_spec.proofs.parses.TextMatches.{found_borders}
 use Rattle.bites_spec.proofs.regex.RegexRuns as runs
@@ -58,28 +59,35 @@ module _ {B C : Type 0} (f : B → C) (span_of : B → Span) (span_of_image : C 
   successive_read : (xs : List B) → Successive span_of hay A xs → Successive span_of_image hay D (map f xs)
   successive_read = follow_read (A 0) (D 0) (to 0) (same 0)
 
+-- what the tree finds from a place on
+abbrev FindsFrom : Regex → List ℕ → ℕ → Option Span → Type 0
+FindsFrom r hay s = FindsSpan r hay (places hay s)
+
 module _ (r : Regex) (is : IsCompiled r) (hay : List ℕ) where
+  abbrev run_from : ℕ → Option Run
+  run_from s = run_at r hay (places hay s)
+
   -- the runs that `successive` lists are the successive answers of the program's runs
-  runs_follow : Successive span_of_run hay (λ s o. run_at r hay s ≡ o) (successive span_of_run hay (run_at r hay))
-  runs_follow = successive_follow span_of_run hay (run_at r hay) (runs.run_at-lies r is hay)
+  runs_follow : Successive span_of_run hay (λ s o. run_from s ≡ o) (successive span_of_run hay run_from)
+  runs_follow = successive_follow span_of_run hay run_from (λ s x e. runs.run_at-lies r is hay s (places hay s) (all_are_starts hay s) x e)
 
   spans_found : AreMatches r hay (spans_in r hay)
   spans_found =
-      subst (AreMatches r hay) (mapped_successive span_of_run span_of_run (λ s. s) (λ x. refl) hay (run_at r hay))
-      (successive_read span_of_run span_of_run (λ s. s) hay (λ s o. run_at r hay s ≡ o) (FindsSpan r hay) (λ s x e. refl)
-      (λ s o e. subst (λ (p : Option Run). FindsSpan r hay s (option_map span_of_run p)) e (found_span r is hay s))
-      (successive span_of_run hay (run_at r hay)) runs_follow)
+      subst (AreMatches r hay) (mapped_successive span_of_run span_of_run (λ s. s) (λ x. refl) hay run_from)
+      (successive_read span_of_run span_of_run (λ s. s) hay (λ s o. run_from s ≡ o) (FindsFrom r hay) (λ s x e. refl)
+      (λ s o e. subst (λ (p : Option Run). FindsFrom r hay s (option_map span_of_run p)) e (found_span r is hay s (places hay s) (all_are_starts hay s)))
+      (successive span_of_run hay run_from) runs_follow)
 
-  run_finds : (s : ℕ) (o : Option Run) → run_at r hay s ≡ o → FindsCaptures r hay s (option_map (captured_by r hay) o)
-  run_finds s None e = subst (λ (p : Option Run). FindsGroups r hay s (option_map (slots r.program) p)) e (found_groups r is hay s)
+  run_finds : (s : ℕ) (o : Option Run) → run_from s ≡ o → FindsCaptures r hay s (option_map (captured_by r hay) o)
+  run_finds s None e = subst (λ (p : Option Run). FindsGroups r hay (places hay s) (option_map (slots r.program) p)) e (found_groups r is hay s (places hay s) (all_are_starts hay s))
   run_finds s (Some x) e =
-      (refl, refl, subst (λ (p : Option Run). FindsGroups r hay s (option_map (slots r.program) p)) e (found_groups r is hay s))
+      (refl, refl, subst (λ (p : Option Run). FindsGroups r hay (places hay s) (option_map (slots r.program) p)) e (found_groups r is hay s (places hay s) (all_are_starts hay s)))
 
   groups_found : AreCaptures r hay (captures_in r hay)
   groups_found =
-      successive_read (captured_by r hay) span_of_run span_in hay (λ s o. run_at r hay s ≡ o) (FindsCaptures r hay)
-      (λ s x e. ap (λ o. unwrap_or o (span 0 0)) (run_at-whole r is hay s x e)) run_finds
-      (successive span_of_run hay (run_at r hay)) runs_follow
+      successive_read (captured_by r hay) span_of_run span_in hay (λ s o. run_from s ≡ o) (FindsCaptures r hay)
+      (λ s x e. ap (λ o. unwrap_or o (span 0 0)) (run_at-whole r is hay s (places hay s) (all_are_starts hay s) x e)) run_finds
+      (successive span_of_run hay run_from) runs_follow
 
 pub finds_are_successive : FindsAreSuccessive
 finds_are_successive = spans_found
@@ -88,7 +96,7 @@ pub groups_are_successive : GroupsAreSuccessive
 groups_are_successive = groups_found
 
 module _ (r : Regex) (hay : List ℕ) where
-  captures_span : (s : ℕ) (o : Option Captured) → FindsCaptures r hay s o → FindsSpan r hay s (option_map span_in o)
+  captures_span : (s : ℕ) (o : Option Captured) → FindsCaptures r hay s o → FindsFrom r hay s (option_map span_in o)
   captures_span s None none = none
   captures_span s (Some c) (regex, haystack, groups) = record {
     answer = groups.answer;
@@ -98,7 +106,7 @@ module _ (r : Regex) (hay : List ℕ) where
 
 pub captures_are_matches : CapturesAreMatches
 captures_are_matches r hay cs =
-    successive_read span_in span_in (λ s. s) hay (FindsCaptures r hay) (FindsSpan r hay) (λ s c h. refl) (captures_span r hay) cs
+    successive_read span_in span_in (λ s. s) hay (FindsCaptures r hay) (FindsFrom r hay) (λ s c h. refl) (captures_span r hay) cs
 
 -- more fuel lists no fewer places
 more_places : (n : ℕ) (hay : List ℕ) (s i : ℕ) → Among (places_within n hay s) i → Among (places_within (suc n) hay s) i
@@ -125,24 +133,24 @@ later_place hay e k h above = by (nat_le e (length hay)) h
 
 module _ (r : Regex) (hay : List ℕ) where
   -- a found span begins at the first place with a match, matches, and lies in the haystack
-  first_of : (s : ℕ) (x : Span) → FindsSpan r hay s (Some x) →
-      IsFirstPlace r.tree hay s x.start × Matches hay r.tree x.start x.end × LiesFrom (length hay) s x
+  first_of : (s : ℕ) (x : Span) → FindsFrom r hay s (Some x) →
+      IsFirstPlace r.tree hay (places hay s) x.start × Matches hay r.tree x.start x.end × LiesFrom (length hay) s x
   first_of s x m =
       let a = m.answer in
-      let f = finds_some r.leftmost_longest r.tree hay s (Some a) m.found in
-      subst (λ (g : Span). IsFirstPlace r.tree hay s g.start × Matches hay r.tree g.start g.end × LiesFrom (length hay) s g) (sym m.is_span)
-      (f.first, Parse-Matches hay r.tree a.start a.end f.marks f.parse, (found_lies r.tree hay s a f).0)
+      let f = finds_some r.leftmost_longest r.tree hay (places hay s) (Some a) m.found in
+      subst (λ (g : Span). IsFirstPlace r.tree hay (places hay s) g.start × Matches hay r.tree g.start g.end × LiesFrom (length hay) s g) (sym m.is_span)
+      (f.first, Parse-Matches hay r.tree a.start a.end f.marks f.parse, (found_lies r.tree hay s (places hay s) (all_are_starts hay s) a f).0)
 
-  spans_lie : (s : ℕ) (x : Span) → FindsSpan r hay s (Some x) → LiesFrom (length hay) s x
+  spans_lie : (s : ℕ) (x : Span) → FindsFrom r hay s (Some x) → LiesFrom (length hay) s x
   spans_lie s x f = (first_of s x f).2
 
   -- if the found span is empty at e, the empty text matches there
-  empty_matches : (e : ℕ) (x : Span) → FindsSpan r hay e (Some x) → (x.start ≡ e) × (x.end ≡ e) → Matches hay r.tree e e
+  empty_matches : (e : ℕ) (x : Span) → FindsFrom r hay e (Some x) → (x.start ≡ e) × (x.end ≡ e) → Matches hay r.tree e e
   empty_matches e x f empty =
       subst (λ j. Matches hay r.tree e j) empty.1
       (subst (λ i. Matches hay r.tree i x.end) empty.0 (first_of e x f).1)
 
-  between_some : (e : ℕ) → e ≤ length hay → (x : Span) → IsNextAfter (λ s. s) hay (FindsSpan r hay) e (Some x) → NoMatchBetween r.tree hay e (λ k. k < x.start)
+  between_some : (e : ℕ) → e ≤ length hay → (x : Span) → IsNextAfter (λ s. s) hay (FindsFrom r hay) e (Some x) → NoMatchBetween r.tree hay e (λ k. k < x.start)
   between_some e le x (inl (a, some)) =
       let first = (first_of e x a).0 in
       record {
@@ -156,7 +164,7 @@ module _ (r : Regex) (hay : List ℕ) where
         empty = λ before j m. empty_matches e y a empty;
       }
 
-  between_end : (e : ℕ) → e ≤ length hay → IsNextAfter (λ s. s) hay (FindsSpan r hay) e None → NoMatchBetween r.tree hay e (λ k. Unit {0})
+  between_end : (e : ℕ) → e ≤ length hay → IsNextAfter (λ s. s) hay (FindsFrom r hay) e None → NoMatchBetween r.tree hay e (λ k. Unit {0})
   between_end e le (inl (a, some)) = record {
     none = λ k among above before. a k among;
     empty = λ before j m. absurd (a e (start_is_place hay e le) j m);
@@ -166,15 +174,15 @@ module _ (r : Regex) (hay : List ℕ) where
     empty = λ before j m. empty_matches e y a empty;
   }
 
-  next_matches : (e : ℕ) (x : Span) → IsNextAfter (λ s. s) hay (FindsSpan r hay) e (Some x) → Matches hay r.tree x.start x.end
+  next_matches : (e : ℕ) (x : Span) → IsNextAfter (λ s. s) hay (FindsFrom r hay) e (Some x) → Matches hay r.tree x.start x.end
   next_matches e x (inl (a, some)) = (first_of e x a).1
   next_matches e x (inr (y, a, empty, b)) = (first_of (e + step_len hay e) x b).1
 
-  follow_closely : (e : ℕ) → e ≤ length hay → (xs : List Span) → Follow (λ s. s) hay (FindsSpan r hay) (IsNextAfter (λ s. s) hay (FindsSpan r hay) e) xs →
+  follow_closely : (e : ℕ) → e ≤ length hay → (xs : List Span) → Follow (λ s. s) hay (FindsFrom r hay) (IsNextAfter (λ s. s) hay (FindsFrom r hay) e) xs →
       FollowClosely r.tree hay e xs
   follow_closely e le [] is_next = between_end e le is_next
   follow_closely e le (x ∷ xs) is_next =
-      let next = next_lies (λ s. s) hay (FindsSpan r hay) spans_lie e x is_next.0 in (
+      let next = next_lies (λ s. s) hay (FindsFrom r hay) spans_lie e x is_next.0 in (
         between_some e le x is_next.0,
         next_matches e x is_next.0,
         next.1,
@@ -191,19 +199,19 @@ none_is_left_out = leave_none_out
 
 pub matches_stand_apart : MatchesStandApart
 matches_stand_apart r hay ss all = (
-  subst (AreInOrder (length hay) 0) (map-id ss) (Successive-in_order (λ s. s) hay (FindsSpan r hay) (spans_lie r hay) ss all),
+  subst (AreInOrder (length hay) 0) (map-id ss) (Successive-in_order (λ s. s) hay (FindsFrom r hay) (spans_lie r hay) ss all),
   λ x xs e. subst (EndsGrow x.end) (map-id xs)
-      (Successive-ends_grow (λ s. s) hay (FindsSpan r hay) (spans_lie r hay) x xs (subst (AreMatches r hay) e all)),
+      (Successive-ends_grow (λ s. s) hay (FindsFrom r hay) (spans_lie r hay) x xs (subst (AreMatches r hay) e all)),
 )
 
 -- in UTF-8
 module _ (r : Regex) (hay : List ℕ) (utf8 : IsUtf8 hay) where
-  span_borders : (s : ℕ) (x : Span) → (s ≤ length hay → IsCharBoundary hay s) → FindsSpan r hay s (Some x) → HasBorders hay x
+  span_borders : (s : ℕ) (x : Span) → (s ≤ length hay → IsCharBoundary hay s) → FindsFrom r hay s (Some x) → HasBorders hay x
   span_borders s x border m =
       let a = m.answer in
-      let f = finds_some r.leftmost_longest r.tree hay s (Some a) m.found in
-      let lies = (found_lies r.tree hay s a f).0 in let one = lies.0 in let two = lies.1 in let three = lies.2 in
-      subst (HasBorders hay) (sym m.is_span) (found_borders r.tree hay s a utf8 (border (omega arith)) f).0
+      let f = finds_some r.leftmost_longest r.tree hay (places hay s) (Some a) m.found in
+      let lies = (found_lies r.tree hay s (places hay s) (all_are_starts hay s) a f).0 in let one = lies.0 in let two = lies.1 in let three = lies.2 in
+      subst (HasBorders hay) (sym m.is_span) (found_borders r.tree hay s (places hay s) (all_are_starts hay s) a utf8 (border (omega arith)) f).0
 
   step_border : (e : ℕ) → IsCharBoundary hay e → e + step_len hay e ≤ length hay → IsCharBoundary hay (e + step_len hay e)
   step_border e border within =
@@ -211,11 +219,11 @@ module _ (r : Regex) (hay : List ℕ) (utf8 : IsUtf8 hay) where
       let same : (piece hay e).len ≡ step_len hay e = omega arith in
       subst (λ n. IsCharBoundary hay (e + n)) same (border_behind hay e utf8 border)
 
-  next_borders : (e : ℕ) (x : Span) → IsCharBoundary hay e → IsNextAfter (λ s. s) hay (FindsSpan r hay) e (Some x) → HasBorders hay x
+  next_borders : (e : ℕ) (x : Span) → IsCharBoundary hay e → IsNextAfter (λ s. s) hay (FindsFrom r hay) e (Some x) → HasBorders hay x
   next_borders e x border (inl (a, some)) = span_borders e x (λ within. border) a
   next_borders e x border (inr (y, a, empty, b)) = span_borders (e + step_len hay e) x (step_border e border) b
 
-  follow_borders : (e : ℕ) (xs : List Span) → IsCharBoundary hay e → Follow (λ s. s) hay (FindsSpan r hay) (IsNextAfter (λ s. s) hay (FindsSpan r hay) e) xs →
+  follow_borders : (e : ℕ) (xs : List Span) → IsCharBoundary hay e → Follow (λ s. s) hay (FindsFrom r hay) (IsNextAfter (λ s. s) hay (FindsFrom r hay) e) xs →
       HaveBorders hay xs
   follow_borders e [] border is_next = tt
   follow_borders e (x ∷ xs) border is_next =

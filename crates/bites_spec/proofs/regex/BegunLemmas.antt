@@ -1,15 +1,15 @@
 -- An anchored search for p from the start of the haystack finds what a search for `\A(?:p)` finds.
 use Rattle.std.proofs.Common.{◌≡◌, ◌↔◌, ℕ, ◌≤◌, Bool, true, false, ◌&&◌, List, [], ◌∷◌, ◌++◌, map, Option, Some, None, refl, sym, ap, ap₂, ◌∙◌, subst, arith}
 use Rattle.std.proofs.lemmas.List.{append-nil}
-use Rattle.bites_spec.specs.Utf8.{places}
+use Rattle.bites_spec.specs.Utf8.{places, start_alone}
 use Rattle.bites_spec.specs.Walks.{Among}
 use Rattle.bites_spec.specs.Look.{holds}
 use Rattle.bites_spec.specs.Tree.{Tree, IsPlain, is_plain}
-use Rattle.bites_spec.specs.Match.{Mark, Matches, Parse, groups}
+use Rattle.bites_spec.specs.Match.{Mark, Matches, Parse}
 use Rattle.bites_spec.specs.Preference.{ParseTo, here, joined, then_each, parses}
 use Rattle.bites_spec.specs.Found.{Answer, IsFoundBy, Finds, NoMatch, head_of, first_ending, parse_to}
-use Rattle.bites_spec.specs.Anchored.{HasMatchFrom, IsFoundFromBy, FindsFrom}
 use Rattle.bites_spec.specs.CallerLaws.{begun, AnchoredIsBegun}
+use Rattle.bites_spec.proofs.utf8.StartLemmas.{start_is_alone}
 use Rattle.bites_spec.proofs.regex.CallerLemmas.{start_is_place, at_start, holds_start}
 use Rattle.bites_spec.proofs.parses.EventLemmas.{Parse-Matches}
 
@@ -59,76 +59,79 @@ module _ (hay : List ℕ) (t : Tree) where
 
   -- ## What is found
 
-  none_to : (HasMatchFrom t hay 0 → ⊥) → NoMatch (begun t) hay 0
-  none_to none i place j m = none (omega arith, j, (matches_to i j m).1)
+  none_to : NoMatch t hay (start_alone hay 0) → NoMatch (begun t) hay (places hay 0)
+  none_to none i place j m = none 0 ((start_is_alone hay 0 0).1 (refl, omega arith)) j (matches_to i j m).1
 
-  none_of : NoMatch (begun t) hay 0 → HasMatchFrom t hay 0 → ⊥
-  none_of none (within, j, m) = none 0 (start_is_place hay 0 (omega arith)) j (matches_of j m)
+  none_of : NoMatch (begun t) hay (places hay 0) → NoMatch t hay (start_alone hay 0)
+  none_of none i place j m =
+      let alone = (start_is_alone hay 0 i).0 place in
+      none 0 (start_is_place hay 0 (omega arith)) j (matches_of j (subst (λ (k : ℕ). Matches hay t k j) alone.0 m))
 
-  some_to : (Q : ℕ → List Mark → Type 0) (R : (i j : ℕ) → List Mark → Type 0) → ((j : ℕ) (ms : List Mark) → Q j ms → R 0 j ms) → (a : Answer) →
-      IsFoundFromBy t hay Q 0 a → IsFoundBy (begun t) hay R 0 a
-  some_to Q R each a f = record {
-    first = record {
-      place = subst (λ (i : ℕ). Among (places hay 0) i) (sym f.start) (start_is_place hay 0 (omega arith));
-      matches = (a.end, subst (λ (i : ℕ). Matches hay (begun t) i a.end) (sym f.start) (matches_of a.end (Parse-Matches hay t 0 a.end f.marks f.parse)));
-      none_before = λ k among lt. let e = f.start in absurd (omega arith);
-    };
-    marks = f.marks;
-    parse = subst (λ (i : ℕ). Parse hay (begun t) i a.end f.marks) (sym f.start) (parse_of a.end f.marks f.parse);
-    groups = λ k. f.groups k ∙ sym (ap (λ (i : ℕ). groups i a.end f.marks k) f.start);
-    chosen = subst (λ (i : ℕ). R i a.end f.marks) (sym f.start) (each a.end f.marks f.chosen);
-  }
-
-  some_of : (Q : ℕ → List Mark → Type 0) (R : (i j : ℕ) → List Mark → Type 0) → ((j : ℕ) (ms : List Mark) → R 0 j ms → Q j ms) → (a : Answer) →
-      IsFoundBy (begun t) hay R 0 a → IsFoundFromBy t hay Q 0 a
-  some_of Q R each a f =
-      let e : a.start ≡ 0 = (matches_to a.start f.first.matches.0 f.first.matches.1).0 in
-      let first = f.first in
+  -- the answer begins at 0 if it is that of either tree
+  some_to : (Q R : (i j : ℕ) → List Mark → Type 0) → ((j : ℕ) (ms : List Mark) → Q 0 j ms → R 0 j ms) → (a : Answer) →
+      IsFoundBy t hay Q (start_alone hay 0) a → IsFoundBy (begun t) hay R (places hay 0) a
+  some_to Q R each a f =
+      let e : a.start ≡ 0 = ((start_is_alone hay 0 a.start).0 f.first.place).0 in
+      let parse = parse_of a.end f.marks (subst (λ (i : ℕ). Parse hay t i a.end f.marks) e f.parse) in
       record {
-        within = omega arith;
-        start = e;
+        first = record {
+          place = subst (λ (i : ℕ). Among (places hay 0) i) (sym e) (start_is_place hay 0 (omega arith));
+          matches = (a.end, subst (λ (i : ℕ). Matches hay (begun t) i a.end) (sym e) (Parse-Matches hay (begun t) 0 a.end f.marks parse));
+          none_before = λ k among lt. absurd (omega arith);
+        };
         marks = f.marks;
-        parse = parse_inside a.end f.marks (subst (λ (i : ℕ). Parse hay (begun t) i a.end f.marks) e f.parse);
-        groups = λ k. f.groups k ∙ ap (λ (i : ℕ). groups i a.end f.marks k) e;
-        chosen = each a.end f.marks (subst (λ (i : ℕ). R i a.end f.marks) e f.chosen);
+        parse = subst (λ (i : ℕ). Parse hay (begun t) i a.end f.marks) (sym e) parse;
+        groups = f.groups;
+        chosen = subst (λ (i : ℕ). R i a.end f.marks) (sym e) (each a.end f.marks (subst (λ (i : ℕ). Q i a.end f.marks) e f.chosen));
       }
 
-  abbrev First : (i j : ℕ) → List Mark → Type 0
-  First i j ms = IsPlain (begun t) → head_of (parses hay (begun t) i) ≡ Some (parse_to j ms)
+  some_of : (Q R : (i j : ℕ) → List Mark → Type 0) → ((j : ℕ) (ms : List Mark) → R 0 j ms → Q 0 j ms) → (a : Answer) →
+      IsFoundBy (begun t) hay R (places hay 0) a → IsFoundBy t hay Q (start_alone hay 0) a
+  some_of Q R each a f =
+      let e : a.start ≡ 0 = (matches_to a.start f.first.matches.0 f.first.matches.1).0 in
+      let parse = parse_inside a.end f.marks (subst (λ (i : ℕ). Parse hay (begun t) i a.end f.marks) e f.parse) in
+      record {
+        first = record {
+          place = (start_is_alone hay 0 a.start).1 (e, omega arith);
+          matches = (a.end, subst (λ (i : ℕ). Matches hay t i a.end) (sym e) (Parse-Matches hay t 0 a.end f.marks parse));
+          none_before = λ k among lt. absurd (omega arith);
+        };
+        marks = f.marks;
+        parse = subst (λ (i : ℕ). Parse hay t i a.end f.marks) (sym e) parse;
+        groups = f.groups;
+        chosen = subst (λ (i : ℕ). Q i a.end f.marks) (sym e) (each a.end f.marks (subst (λ (i : ℕ). R i a.end f.marks) e f.chosen));
+      }
 
-  abbrev FirstFrom : (j : ℕ) → List Mark → Type 0
-  FirstFrom j ms = IsPlain t → head_of (parses hay t 0) ≡ Some (parse_to j ms)
+  -- the preferred parse, and the first of the longest, by either tree
+  abbrev First : Tree → (i j : ℕ) → List Mark → Type 0
+  First u i j ms = IsPlain u → head_of (parses hay u i) ≡ Some (parse_to j ms)
 
-  abbrev Last : (i j : ℕ) → List Mark → Type 0
-  Last i j ms =
-      ((l : ℕ) → Matches hay (begun t) i l → l ≤ j) × (IsPlain (begun t) → first_ending j (parses hay (begun t) i) ≡ Some (parse_to j ms))
+  abbrev Last : Tree → (i j : ℕ) → List Mark → Type 0
+  Last u i j ms = ((l : ℕ) → Matches hay u i l → l ≤ j) × (IsPlain u → first_ending j (parses hay u i) ≡ Some (parse_to j ms))
 
-  abbrev LastFrom : (j : ℕ) → List Mark → Type 0
-  LastFrom j ms = ((l : ℕ) → Matches hay t 0 l → l ≤ j) × (IsPlain t → first_ending j (parses hay t 0) ≡ Some (parse_to j ms))
-
-  first_to : (j : ℕ) (ms : List Mark) → FirstFrom j ms → First 0 j ms
+  first_to : (j : ℕ) (ms : List Mark) → First t 0 j ms → First (begun t) 0 j ms
   first_to j ms chosen plain = ap head_of same_parses ∙ chosen (plain_to plain)
 
-  first_of : (j : ℕ) (ms : List Mark) → First 0 j ms → FirstFrom j ms
+  first_of : (j : ℕ) (ms : List Mark) → First (begun t) 0 j ms → First t 0 j ms
   first_of j ms chosen plain = ap head_of (sym same_parses) ∙ chosen (plain_of plain)
 
-  last_to : (j : ℕ) (ms : List Mark) → LastFrom j ms → Last 0 j ms
+  last_to : (j : ℕ) (ms : List Mark) → Last t 0 j ms → Last (begun t) 0 j ms
   last_to j ms chosen = (
     λ l m. chosen.0 l (matches_to 0 l m).1,
     λ plain. ap (first_ending j) same_parses ∙ chosen.1 (plain_to plain),
   )
 
-  last_of : (j : ℕ) (ms : List Mark) → Last 0 j ms → LastFrom j ms
+  last_of : (j : ℕ) (ms : List Mark) → Last (begun t) 0 j ms → Last t 0 j ms
   last_of j ms chosen = (
     λ l m. chosen.0 l (matches_of l m),
     λ plain. ap (first_ending j) (sym same_parses) ∙ chosen.1 (plain_of plain),
   )
 
-  both : (longest : Bool) (o : Option Answer) → FindsFrom longest t hay 0 o ↔ Finds longest (begun t) hay 0 o
+  both : (longest : Bool) (o : Option Answer) → Finds longest t hay (start_alone hay 0) o ↔ Finds longest (begun t) hay (places hay 0) o
   both true None = (none_to, none_of)
   both false None = (none_to, none_of)
-  both true (Some a) = (some_to LastFrom Last last_to a, some_of LastFrom Last last_of a)
-  both false (Some a) = (some_to FirstFrom First first_to a, some_of FirstFrom First first_of a)
+  both true (Some a) = (some_to (Last t) (Last (begun t)) last_to a, some_of (Last t) (Last (begun t)) last_of a)
+  both false (Some a) = (some_to (First t) (First (begun t)) first_to a, some_of (First t) (First (begun t)) first_of a)
 
 pub anchored_is_begun : AnchoredIsBegun
 anchored_is_begun longest t hay o = both hay t longest o

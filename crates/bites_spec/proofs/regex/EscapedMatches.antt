@@ -133,7 +133,7 @@ matches_by hay (b ∷ text) s i utf8 is_text border le stands =
     )
 
 pub escaped_finds : (hay text : List ℕ) (s : ℕ) → IsUtf8 hay → IsUtf8 text → IsCharBoundary hay s →
-    (o : Option Answer) → FoundSome (text_tree (chars text)) hay s o → IsLeftmost hay text s (option_map (λ a. span a.start a.end) o)
+    (o : Option Answer) → FoundSome (text_tree (chars text)) hay (places hay s) o → IsLeftmost hay text s (option_map (λ a. span a.start a.end) o)
 escaped_finds hay text s utf8 is_text border None none =
     λ i le stands. let m = matches_by hay text s i utf8 is_text border le stands in none m.0 m.2 m.3.0 m.3.1
 escaped_finds hay text s utf8 is_text border (Some a) found =

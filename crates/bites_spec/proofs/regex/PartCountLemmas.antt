@@ -59,7 +59,7 @@ same_part : (n : ℕ) (f g : ℕ → Option Span) → ((k : ℕ) → f k ≡ g k
 same_part n f g same (ks, many, apart, all) = (ks, many, apart, λ k h. subst (λ (o : Option Span). IsSome o) (sym (same k)) (all k h))
 
 pub static_len_is_least : StaticLenIsLeast
-static_len_is_least t fit n e hay s a found =
+static_len_is_least t fit n e hay ps a found =
     same_part n a.group (groups a.start a.end found.marks) found.groups
     (parse_participates t fit n e hay a.start a.end found.marks found.parse)
 

@@ -1,8 +1,8 @@
 -- Searches of two programs that hold the same tree find runs with the same spans and writes.
 use Rattle.std.proofs.Common.{◌≡◌, ℕ, zero, suc, ◌+◌, ◌*◌, ◌<◌, Bool, true, false, cond, ◌&&◌, List, [], ◌∷◌, ◌++◌, reverse, length, map, Option, Some, None, option_map, refl, sym, ap, ap₂, ◌∙◌, subst, inl, inr, ⊎_elim, ◌⊎◌, true≢false, arith, eq-eqb, ne_eqb, eqb-true, ltb-true, lt-ltb}
-use Rattle.std.specs.Prelude.{◌==◌, ◌||◌, nat_lt, nat_le, option_and_then, chars}
+use Rattle.std.specs.Prelude.{◌==◌, ◌||◌, nat_lt, option_and_then, chars}
 use Rattle.std.specs.Option.{option_or}
-use Rattle.bites_spec.specs.Utf8.{piece, character, places}
+use Rattle.bites_spec.specs.Utf8.{piece, character}
 use Rattle.bites_spec.specs.Range.{in_ranges}
 use Rattle.bites_spec.specs.Look.{Look, holds}
 use Rattle.bites_spec.specs.Walks.{Among, AllApart, first_among, with_configuration, first_walk, last_of}
@@ -14,7 +14,7 @@ use Rattle.bites_spec.specs.Run.{Run, is_same_configuration, write_of, last_writ
 use Rattle.bites_spec.specs.Slots.{slot_in, span_between, span_of_run}
 use Rattle.bites_spec.specs.Built.{Built, IsCompilable}
 use Rattle.bites_spec.specs.Regex.{Regex, IsCompiled, span_at, slots_at}
-use Rattle.bites_spec.specs.Anchored.{anchored_run, anchored_span_at, anchored_slots_at, full_slots}
+use Rattle.bites_spec.specs.Full.{full_slots}
 use Rattle.bites_spec.specs.Pattern.{Flags}
 use Rattle.bites_spec.specs.Grammar.{Reads}
 use Rattle.bites_spec.specs.GroupLaws.{HaveSameGroups, AnswerAlike, KeptAnswerAlike}
@@ -224,10 +224,10 @@ module _ (R : ℕ → ℕ → Type 0) (to_one : (a b c : ℕ) → R a b → R a 
   at_places f g each [] = tt
   at_places f g each (i ∷ is) = or_alike (f i) (g i) (first_among f is) (first_among g is) (each i) (at_places f g each is)
 
-  pub chosen_alike : (longest : Bool) (s : ℕ) → Both Runs (chosen_run longest p hay s) (chosen_run longest q hay s)
+  pub chosen_alike : (longest : Bool) (ps : List ℕ) → Both Runs (chosen_run longest p hay ps) (chosen_run longest q hay ps)
   unfolding first_run longest_run
-  chosen_alike true s = at_places _ _ (longest_below_alike (suc (length hay))) (places hay s)
-  chosen_alike false s = at_places _ _ first_from_alike (places hay s)
+  chosen_alike true ps = at_places _ _ (longest_below_alike (suc (length hay))) ps
+  chosen_alike false ps = at_places _ _ first_from_alike ps
 
   -- ## What the runs write
 
@@ -411,21 +411,8 @@ module _ (t : Tree) (p q : Program) (hay : List ℕ) (fit : IsCompilable t) (one
   both_alike (Some r) (Some o) h =
       (ap₂ (λ (i j : ℕ). span i j) h.0 h.2, written_alike R to_one from_one p q alike inner.0 sizes hay r o h)
 
-  chosen : (longest : Bool) (s : ℕ) → Both Alikes (chosen_run longest p hay s) (chosen_run longest q hay s)
-  chosen longest s = both_alike _ _ (chosen_alike R to_one from_one p q alike inner.0 sizes hay longest s)
-
-  abbrev These : Option Run → Option Run → Type 0
-  These = Both (Runs R to_one from_one p q alike inner.0 sizes hay)
-
-  anchored : (longest : Bool) (s : ℕ) → Both Alikes (anchored_run p hay longest s) (anchored_run q hay longest s)
-  anchored longest s = both_alike _ _ (by (nat_le s (length hay)) longest)
-    where
-      by : (b longest : Bool) →
-          These (cond b (cond longest (longest_run_below p hay (suc (length hay)) s) (first_run_from p hay s)) None)
-          (cond b (cond longest (longest_run_below q hay (suc (length hay)) s) (first_run_from q hay s)) None)
-      by true true = longest_below_alike R to_one from_one p q alike inner.0 sizes hay (suc (length hay)) s
-      by true false = first_from_alike R to_one from_one p q alike inner.0 sizes hay s
-      by false longest = tt
+  chosen : (longest : Bool) (ps : List ℕ) → Both Alikes (chosen_run longest p hay ps) (chosen_run longest q hay ps)
+  chosen longest ps = both_alike _ _ (chosen_alike R to_one from_one p q alike inner.0 sizes hay longest ps)
 
   full : Both Alikes (first_run_to p hay 0 (length hay)) (first_run_to q hay 0 (length hay))
   full = both_alike _ _ (first_to_alike R to_one from_one p q alike inner.0 sizes hay 0 (length hay))
@@ -459,20 +446,11 @@ module _ (r k : Regex) (is : IsCompiled r) (are : IsCompiled k) (trees : r.tree 
   other : Built r.tree k.program
   other = subst (λ (t : Tree). Built t k.program) (sym trees) are.built
 
-  answers : (s : ℕ) → AnswerAlike (span_at r hay s) (slots_at r hay s) (span_at k hay s) (slots_at k hay s)
-  answers s =
-      subst (λ (b : Bool). AnswerAlike (span_at r hay s) (slots_at r hay s) (option_map span_of_run (chosen_run b k.program hay s))
-      (option_map (slots k.program) (chosen_run b k.program hay s))) longest
-      (let both = chosen r.tree r.program k.program hay is.compilable is.built other r.leftmost_longest s in (
-        same_spans r.tree r.program k.program hay is.compilable is.built other is.well_formed are.well_formed _ _ both,
-        same_groups r.tree r.program k.program hay is.compilable is.built other is.well_formed are.well_formed _ _ both,
-      ))
-
-  answers_from : (s : ℕ) → AnswerAlike (anchored_span_at r hay s) (anchored_slots_at r hay s) (anchored_span_at k hay s) (anchored_slots_at k hay s)
-  answers_from s =
-      subst (λ (b : Bool). AnswerAlike (anchored_span_at r hay s) (anchored_slots_at r hay s)
-      (option_map span_of_run (anchored_run k.program hay b s)) (option_map (slots k.program) (anchored_run k.program hay b s))) longest
-      (let both = anchored r.tree r.program k.program hay is.compilable is.built other r.leftmost_longest s in (
+  answers : (ps : List ℕ) → AnswerAlike (span_at r hay ps) (slots_at r hay ps) (span_at k hay ps) (slots_at k hay ps)
+  answers ps =
+      subst (λ (b : Bool). AnswerAlike (span_at r hay ps) (slots_at r hay ps) (option_map span_of_run (chosen_run b k.program hay ps))
+      (option_map (slots k.program) (chosen_run b k.program hay ps))) longest
+      (let both = chosen r.tree r.program k.program hay is.compilable is.built other r.leftmost_longest ps in (
         same_spans r.tree r.program k.program hay is.compilable is.built other is.well_formed are.well_formed _ _ both,
         same_groups r.tree r.program k.program hay is.compilable is.built other is.well_formed are.well_formed _ _ both,
       ))
@@ -486,7 +464,6 @@ pub kept_answer_alike : KeptAnswerAlike
 kept_answer_alike r k is are pattern flags longest =
     let trees = same_tree r k is are pattern flags in (
       trees,
-      λ hay s. answers r k is are trees longest hay s,
-      λ hay s. answers_from r k is are trees longest hay s,
+      λ hay ps. answers r k is are trees longest hay ps,
       λ hay. answers_full r k is are trees longest hay,
     )

@@ -1,17 +1,18 @@
 -- On every well-formed program, cycles included, `first_run` returns what `FirstRun` specifies.
 use Rattle.std.proofs.Common.{◌≡◌, ◌≢◌, ℕ, zero, suc, ◌+◌, ◌*◌, ◌<◌, ◌≤◌, Bool, true, false, cond, ◌&&◌, ◌||◌, List, [], ◌∷◌, length, map, Option, Some, None, refl, sym, ap, ap₂, ◌∙◌, subst, inl, inr, ⊎_elim, true≢false, arith, eqb-true, eq-eqb}
-use Rattle.std.specs.Prelude.{nat_le, nat_lt, ◌==◌, option_and_then}
+use Rattle.std.specs.Prelude.{nat_lt, ◌==◌, option_and_then}
 use Rattle.std.proofs.lemmas.Option.{none-some, same_Some}
 use Rattle.std.proofs.lemmas.Bool.{cases_Bool, and_parts}
-use Rattle.bites_spec.specs.Utf8.{piece, places, places_within, step_len, character}
+use Rattle.bites_spec.specs.Utf8.{piece, character, AreStarts}
 use Rattle.bites_spec.specs.Look.{Look, holds}
 use Rattle.bites_spec.specs.Range.{in_ranges}
-use Rattle.bites_spec.specs.Walks.{Among, AllApart, Walk, Before, first_among, with_configuration, last_of}
+use Rattle.bites_spec.specs.Walks.{Among, AllApart, AreOrdered, Walk, Before, first_among, with_configuration, last_of}
 use Rattle.bites_spec.specs.Walks as walks
 use Rattle.bites_spec.specs.Program.{State, Program, Configuration, at, state_at, edges, is_match, targets_of, taking, looking, IsWellFormed, AreStates}
 use Rattle.bites_spec.specs.Program as program
 use Rattle.bites_spec.specs.Run.{Run, is_same_configuration, leads, matches, Runs, IsRun, IsFirstOf, FirstRun, enough, run_of, first_run_from, first_run}
-use Rattle.bites_spec.proofs.utf8.PieceLemmas.{piece_within, Among-places, places_within_above}
+use Rattle.bites_spec.proofs.utf8.PieceLemmas.{piece_within}
+use Rattle.bites_spec.proofs.utf8.StartLemmas.{starts_rise, start_lies}
 use Rattle.bites_spec.proofs.runs.FirstLemmas.{or_cases, or_none, Apart-of, sound, first, none_at_all, Apart-simple}
 
 pub same_is : (s t : Configuration) → is_same_configuration s t ≡ true → s ≡ t
@@ -173,35 +174,23 @@ pub record FirstPlace {B : Type 0} (f : ℕ → Option B) (ps : List ℕ) (r : B
   pub is : f place ≡ Some r
   pub none_before : (k : ℕ) → Among ps k → k < place → f k ≡ None
 
-pub first_place : {B : Type 0} (f : ℕ → Option B) (n : ℕ) (hay : List ℕ) (s : ℕ) (r : B) → first_among f (places_within n hay s) ≡ Some r →
-    FirstPlace f (places_within n hay s) r
-first_place f zero hay s r e = absurd (none-some r e)
-first_place {B} f (suc n) hay s r e =
+pub first_place : {B : Type 0} (f : ℕ → Option B) (ps : List ℕ) (r : B) → AreOrdered (λ i j. i < j) ps → first_among f ps ≡ Some r → FirstPlace f ps r
+first_place f [] r rise e = absurd (none-some r e)
+first_place f (s ∷ ps) r rise e =
     ⊎_elim
-    (λ (is : nat_le s (length hay) ≡ true).
-    let here : first_among f (s ∷ rest) ≡ Some r = subst (λ b. first_among f (cond b (s ∷ rest) []) ≡ Some r) is e in
-    subst (λ b. FirstPlace f (cond b (s ∷ rest) []) r) (sym is)
-    (⊎_elim
     (λ (now : f s ≡ Some r). record {
       place = s;
       among = inl refl;
       is = now;
-      none_before = λ k h lt. ⊎_elim (λ (e : s ≡ k). absurd (omega (arith, e)))
-          (λ later. absurd (omega (arith, places_within_above n hay s k later))) h;
+      none_before = λ k h lt. ⊎_elim (λ (e : s ≡ k). absurd (omega (arith, e))) (λ later. let above = rise.0 k later in absurd (omega (arith, above))) h;
     })
-    (λ later. let more = first_place f n hay (s + step_len hay s) r later.1 in record {
+    (λ later. let more = first_place f ps r rise.1 later.1 in record {
       place = more.place;
       among = inr more.among;
       is = more.is;
       none_before = λ k h lt. ⊎_elim (λ (e : s ≡ k). subst (λ x. f x ≡ None) e later.0) (λ h. more.none_before k h lt) h;
     })
-    (or_cases (f s) (first_among f rest) r here)))
-    (λ (is : nat_le s (length hay) ≡ false).
-    absurd (none-some r (subst (λ b. first_among f (cond b (s ∷ rest) []) ≡ Some r) is e)))
-    (cases_Bool (nat_le s (length hay)))
-  where
-    rest : List ℕ
-    rest = places_within n hay (s + step_len hay s)
+    (or_cases (f s) (first_among f ps) r e)
 
 pub no_place : {B : Type 0} (f : ℕ → Option B) (ps : List ℕ) → first_among f ps ≡ None → (k : ℕ) → Among ps k → f k ≡ None
 no_place f [] e k h = absurd h
@@ -260,20 +249,24 @@ module _ (p : Program) (hay : List ℕ) (well : IsWellFormed p) where
   unfolding first_run_from
   found_from_none i e le = none_is i (found_from i) refl e le
 
-  first_run_is : (s : ℕ) (o : Option Run) → first_run p hay s ≡ o → FirstRun p hay s o
-  unfolding first_run places
-  first_run_is s None e = λ i h. found_from_none i (no_place (first_run_from p hay) _ e i h) (Among-places hay s i h).1
-  first_run_is s (Some r) e =
-      let at_first = first_place (first_run_from p hay) (suc (length hay)) hay s r e in
-      let from = found_from_some at_first.place r at_first.is (Among-places hay s at_first.place at_first.among).1 in (
-        record {
-          runs = from.runs;
-          from = subst (λ i. Among (places hay s) i) (sym from.start) at_first.among;
-          none_before = λ i h lt. found_from_none i (at_first.none_before i h (omega (arith, lt, from.start))) (Among-places hay s i h).1;
-        },
-        from.first_of,
-      )
+  module _ (s : ℕ) (ps : List ℕ) (are : AreStarts hay s ps) where
+    within : (i : ℕ) → Among ps i → i ≤ length hay
+    within i h = (start_lies hay s ps are i h).1
 
-  -- `first_run` is None where no place has a run; else it is the first simple run from the first place that has one
-  pub first_run-FirstRun : (s : ℕ) → FirstRun p hay s (first_run p hay s)
-  first_run-FirstRun s = first_run_is s (first_run p hay s) refl
+    first_run_is : (o : Option Run) → first_run p hay ps ≡ o → FirstRun p hay ps o
+    unfolding first_run
+    first_run_is None e = λ i h. found_from_none i (no_place (first_run_from p hay) _ e i h) (within i h)
+    first_run_is (Some r) e =
+        let at_first = first_place (first_run_from p hay) ps r (starts_rise hay s ps are) e in
+        let from = found_from_some at_first.place r at_first.is (within at_first.place at_first.among) in (
+          record {
+            runs = from.runs;
+            from = subst (λ i. Among ps i) (sym from.start) at_first.among;
+            none_before = λ i h lt. found_from_none i (at_first.none_before i h (omega (arith, lt, from.start))) (within i h);
+          },
+          from.first_of,
+        )
+
+    -- `first_run` is None where no start has a run; else it is the first simple run from the first start that has one
+    pub first_run-FirstRun : FirstRun p hay ps (first_run p hay ps)
+    first_run-FirstRun = first_run_is (first_run p hay ps) refl

@@ -4,14 +4,15 @@ ghost use Rattle.std.specs.Prelude.{◌≡◌, ◌≢◌, ◌↔◌, false, leng
 ghost use Rattle.std.specs.Cow.{cow_slice_items};
 ghost use Rattle.bites_spec.specs.Tree.{Tree};
 ghost use Rattle.bites_spec.specs.Found.{HasMatch, IsLeastEnd};
-ghost use Rattle.bites_spec.specs.Anchored.{HasMatchFrom, IsFullMatch, IsWalkedFrom};
+ghost use Rattle.bites_spec.specs.Full.{IsFullMatch};
 ghost use Rattle.bites_spec.specs.Slots.{group_in};
-ghost use Rattle.bites_spec.specs.Counts.{fit_of, IsBounded, VisitedBy};
+ghost use Rattle.bites_spec.specs.Counts.{fit_of, IsBounded, VisitedBy, IsWalked};
 ghost use Rattle.bites_spec.specs.Settings.{Accepts, by_default, no_flags};
 ghost use Rattle.bites_spec.specs.AllMatches.{AreCaptures};
+ghost use Rattle.bites_spec.specs.Utf8.{places, start_alone};
 ghost use Rattle.bites_bytes.specs.Settings.{Refuses};
 ghost use Rattle.bites_bytes.specs.Matched.{excerpt_of};
-ghost use Rattle.bites_theorems.specs.Headline.{MatchHeadline, Headline, AnchoredMatchHeadline, AnchoredHeadline, AreGroupsHere, FullHeadline};
+ghost use Rattle.bites_theorems.specs.Headline.{MatchHeadline, Headline, AreFirstGroups, FullHeadline};
 ghost use Rattle.bites_theorems.specs.OnTree.{ArePieces, ArePiecesUpTo, IsReplaced, ReplacesMatches};
 
 use regex_bites::bytes::{
@@ -35,7 +36,7 @@ pub fn new(alloc: Global, pattern: &str) -> Result<Regex, Error>
 
 /// Returns whether something matches: exactly if the tree matches at a place from the start on.
 pub fn is_match(regex: &Regex, haystack: &[u8], start: usize) -> Result<bool, AllocError>
-    ensures { IfOk result (λ found. IsTrue found ↔ HasMatch regex.now.tree haystack.now start) }
+    ensures { IfOk result (λ found. IsTrue found ↔ HasMatch regex.now.tree haystack.now (places haystack.now start)) }
 {
     regex.is_match_at(haystack, start)
 }
@@ -48,7 +49,7 @@ pub fn find<'h>(
     haystack: &'h [u8],
     start: usize,
 ) -> Result<Option<Match<'h>>, AllocError>
-    ensures { IfOk result (λ m. MatchHeadline regex.now haystack.now start
+    ensures { IfOk result (λ m. MatchHeadline regex.now haystack.now (places haystack.now start)
         (option_map (λ x. (excerpt_of x).span) m)) }
 {
     regex.find_at(haystack, start)
@@ -62,7 +63,7 @@ pub fn captures<'h>(
     haystack: &'h [u8],
     start: usize,
 ) -> Result<Option<Captures<'h>>, AllocError>
-    ensures { IfOk result (Headline regex.now haystack.now start) }
+    ensures { IfOk result (Headline regex.now haystack.now (places haystack.now start)) }
 {
     let found = regex.captures_at(haystack, start)?;
     Ok(found)
@@ -74,7 +75,7 @@ pub fn shortest_match(
     haystack: &[u8],
     start: usize,
 ) -> Result<Option<usize>, AllocError>
-    ensures { IfOk result (λ end. IsLeastEnd regex.now.tree haystack.now start end) }
+    ensures { IfOk result (λ end. IsLeastEnd regex.now.tree haystack.now (places haystack.now start) end) }
 {
     regex.shortest_match_at(haystack, start)
 }
@@ -84,7 +85,7 @@ pub fn shortest_match(
 pub fn is_match_visits(regex: &Regex, cache: &mut Cache, haystack: &[u8], start: usize) -> bool
     requires { cache.old.fits ≡ fit_of regex.now.program }
     ensures once { IsBounded regex.now.program haystack.now start cache.new.walked }
-    ensures reached { VisitedBy regex.now.program haystack.now start result cache.new.walked }
+    ensures reached { VisitedBy regex.now.program haystack.now (places haystack.now start) result cache.new.walked }
 {
     regex.is_match_at_with(cache, haystack, start)
 }
@@ -98,7 +99,8 @@ pub fn shortest_match_visits(
 ) -> Option<usize>
     requires { cache.old.fits ≡ fit_of regex.now.program }
     ensures once { IsBounded regex.now.program haystack.now start cache.new.walked }
-    ensures reached { VisitedBy regex.now.program haystack.now start (is_some result) cache.new.walked }
+    ensures reached { VisitedBy regex.now.program haystack.now (places haystack.now start)
+        (is_some result) cache.new.walked }
 {
     regex.shortest_match_at_with(cache, haystack, start)
 }
@@ -112,14 +114,16 @@ pub fn find_visits<'h>(
 ) -> Option<Match<'h>>
     requires { cache.old.fits ≡ fit_of regex.now.program }
     ensures once { IsBounded regex.now.program haystack.now start cache.new.walked }
-    ensures reached { VisitedBy regex.now.program haystack.now start (is_some result) cache.new.walked }
+    ensures reached { VisitedBy regex.now.program haystack.now (places haystack.now start)
+        (is_some result) cache.new.walked }
 {
     regex.find_at_with(cache, haystack, start)
 }
 
 /// Returns whether something matches from the start itself.
 pub fn is_match_anchored(regex: &Regex, haystack: &[u8], start: usize) -> Result<bool, AllocError>
-    ensures { IfOk result (λ found. IsTrue found ↔ HasMatchFrom regex.now.tree haystack.now start) }
+    ensures { IfOk result (λ found. IsTrue found ↔ HasMatch regex.now.tree haystack.now
+        (start_alone haystack.now start)) }
 {
     regex.is_match_anchored_at(haystack, start)
 }
@@ -132,7 +136,7 @@ pub fn find_anchored<'h>(
     haystack: &'h [u8],
     start: usize,
 ) -> Result<Option<Match<'h>>, AllocError>
-    ensures { IfOk result (λ m. AnchoredMatchHeadline regex.now haystack.now start
+    ensures { IfOk result (λ m. MatchHeadline regex.now haystack.now (start_alone haystack.now start)
         (option_map (λ x. (excerpt_of x).span) m)) }
 {
     regex.find_anchored_at(haystack, start)
@@ -146,7 +150,7 @@ pub fn captures_anchored<'h>(
     haystack: &'h [u8],
     start: usize,
 ) -> Result<Option<Captures<'h>>, AllocError>
-    ensures { IfOk result (AnchoredHeadline regex.now haystack.now start) }
+    ensures { IfOk result (Headline regex.now haystack.now (start_alone haystack.now start)) }
 {
     // For proofs: the contract of `as_str` says that the regex is compiled, here and below.
     regex.as_str();
@@ -168,10 +172,12 @@ pub fn search_anchored<'h>(
 ) -> Option<Match<'h>>
     requires cache { cache.old.fits ≡ fit_of regex.now.program }
     requires locations { length locations.old ≡ regex.now.program.slots }
-    ensures exactly { IsSome result ↔ HasMatchFrom regex.now.tree haystack.now start }
+    ensures exactly { IsSome result ↔ HasMatch regex.now.tree haystack.now (start_alone haystack.now start) }
     ensures whole { IfSome result (λ x. group_in locations.new 0 ≡ Some (excerpt_of x).span) }
-    ensures headline { IfSome result (λ x. AreGroupsHere regex.now haystack.now start locations.new) }
-    ensures walked { IsWalkedFrom regex.now.program haystack.now start (is_some result) cache.new.walked }
+    ensures headline { IfSome result (λ x. AreFirstGroups regex.now haystack.now
+        (start_alone haystack.now start) locations.new) }
+    ensures walked { IsWalked regex.now.program haystack.now start (start_alone haystack.now start)
+        (is_some result) cache.new.walked }
 {
     regex.as_str();
     regex.captures_read_anchored_at_with(cache, locations, haystack, start)

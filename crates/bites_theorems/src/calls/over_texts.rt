@@ -4,16 +4,17 @@ ghost use Rattle.std.specs.Prelude.{◌≡◌, ◌≢◌, ◌↔◌, false, leng
 ghost use Rattle.std.specs.Cow.{cow_str_bytes};
 ghost use Rattle.bites_spec.specs.Tree.{Tree};
 ghost use Rattle.bites_spec.specs.Found.{HasMatch, IsLeastEnd};
-ghost use Rattle.bites_spec.specs.Anchored.{HasMatchFrom, IsFullMatch, IsWalkedFrom};
+ghost use Rattle.bites_spec.specs.Full.{IsFullMatch};
 ghost use Rattle.bites_spec.specs.Slots.{group_in};
-ghost use Rattle.bites_spec.specs.Counts.{fit_of, IsBounded, VisitedBy};
+ghost use Rattle.bites_spec.specs.Counts.{fit_of, IsBounded, VisitedBy, IsWalked};
 ghost use Rattle.bites_spec.specs.Settings.{Accepts, by_default, no_flags};
 ghost use Rattle.bites_spec.specs.AllMatches.{AreCaptures};
 ghost use Rattle.bites_bytes.specs.Settings.{Refuses};
 ghost use Rattle.bites_spec.specs.TextLaws.{HasBorders};
+ghost use Rattle.bites_spec.specs.Utf8.{places, start_alone};
 ghost use Rattle.regex_bites.specs.Matched.{excerpt_of};
 ghost use Rattle.regex_bites.specs.Borders.{GroupsAtBorders};
-ghost use Rattle.bites_theorems.specs.Headline.{MatchHeadline, Headline, AnchoredMatchHeadline, AnchoredHeadline, AreGroupsHere, FullHeadline};
+ghost use Rattle.bites_theorems.specs.Headline.{MatchHeadline, Headline, AreFirstGroups, FullHeadline};
 ghost use Rattle.bites_theorems.specs.OnTree.{ArePieces, ArePiecesUpTo, IsReplaced, ReplacesMatches};
 
 use regex_bites::{Cache, CaptureLocations, Captures, Error, Match, NoExpand, Regex, Replacer};
@@ -36,7 +37,7 @@ pub fn new(alloc: Global, pattern: &str) -> Result<Regex, Error>
 /// Returns whether something matches: exactly if the tree matches at a place from the start on.
 pub fn is_match(regex: &Regex, haystack: &str, start: usize) -> Result<bool, AllocError>
     requires { start ≤ length haystack.now → IsCharBoundary haystack.now start }
-    ensures { IfOk result (λ found. IsTrue found ↔ HasMatch regex.now.tree haystack.now start) }
+    ensures { IfOk result (λ found. IsTrue found ↔ HasMatch regex.now.tree haystack.now (places haystack.now start)) }
 {
     regex.is_match_at(haystack, start)
 }
@@ -50,7 +51,7 @@ pub fn find<'h>(
     start: usize,
 ) -> Result<Option<Match<'h>>, AllocError>
     requires { start ≤ length haystack.now → IsCharBoundary haystack.now start }
-    ensures headline { IfOk result (λ m. MatchHeadline regex.now haystack.now start
+    ensures headline { IfOk result (λ m. MatchHeadline regex.now haystack.now (places haystack.now start)
         (option_map (λ x. (excerpt_of x).span) m)) }
     ensures borders { IfOk result (λ m. IfSome m (λ x. HasBorders haystack.now (excerpt_of x).span)) }
 {
@@ -67,7 +68,7 @@ pub fn captures<'h>(
     start: usize,
 ) -> Result<Option<Captures<'h>>, AllocError>
     requires { start ≤ length haystack.now → IsCharBoundary haystack.now start }
-    ensures headline { IfOk result (Headline regex.now haystack.now start) }
+    ensures headline { IfOk result (Headline regex.now haystack.now (places haystack.now start)) }
     ensures borders { IfOk result (λ c. IfSome c (λ x. GroupsAtBorders haystack.now x.slots)) }
 {
     let found = regex.captures_at(haystack, start)?;
@@ -81,7 +82,7 @@ pub fn shortest_match(
     start: usize,
 ) -> Result<Option<usize>, AllocError>
     requires { start ≤ length haystack.now → IsCharBoundary haystack.now start }
-    ensures least { IfOk result (λ end. IsLeastEnd regex.now.tree haystack.now start end) }
+    ensures least { IfOk result (λ end. IsLeastEnd regex.now.tree haystack.now (places haystack.now start) end) }
     ensures border { IfOk result (λ end. IfSome end (IsCharBoundary haystack.now)) }
 {
     regex.shortest_match_at(haystack, start)
@@ -93,7 +94,7 @@ pub fn is_match_visits(regex: &Regex, cache: &mut Cache, haystack: &str, start: 
     requires border { start ≤ length haystack.now → IsCharBoundary haystack.now start }
     requires cache { cache.old.fits ≡ fit_of regex.now.program }
     ensures once { IsBounded regex.now.program haystack.now start cache.new.walked }
-    ensures reached { VisitedBy regex.now.program haystack.now start result cache.new.walked }
+    ensures reached { VisitedBy regex.now.program haystack.now (places haystack.now start) result cache.new.walked }
 {
     regex.is_match_at_with(cache, haystack, start)
 }
@@ -108,7 +109,8 @@ pub fn shortest_match_visits(
     requires border { start ≤ length haystack.now → IsCharBoundary haystack.now start }
     requires cache { cache.old.fits ≡ fit_of regex.now.program }
     ensures once { IsBounded regex.now.program haystack.now start cache.new.walked }
-    ensures reached { VisitedBy regex.now.program haystack.now start (is_some result) cache.new.walked }
+    ensures reached { VisitedBy regex.now.program haystack.now (places haystack.now start)
+        (is_some result) cache.new.walked }
 {
     regex.shortest_match_at_with(cache, haystack, start)
 }
@@ -123,7 +125,8 @@ pub fn find_visits<'h>(
     requires border { start ≤ length haystack.now → IsCharBoundary haystack.now start }
     requires cache { cache.old.fits ≡ fit_of regex.now.program }
     ensures once { IsBounded regex.now.program haystack.now start cache.new.walked }
-    ensures reached { VisitedBy regex.now.program haystack.now start (is_some result) cache.new.walked }
+    ensures reached { VisitedBy regex.now.program haystack.now (places haystack.now start)
+        (is_some result) cache.new.walked }
 {
     regex.find_at_with(cache, haystack, start)
 }
@@ -131,7 +134,8 @@ pub fn find_visits<'h>(
 /// Returns whether something matches from the start itself.
 pub fn is_match_anchored(regex: &Regex, haystack: &str, start: usize) -> Result<bool, AllocError>
     requires { start ≤ length haystack.now → IsCharBoundary haystack.now start }
-    ensures { IfOk result (λ found. IsTrue found ↔ HasMatchFrom regex.now.tree haystack.now start) }
+    ensures { IfOk result (λ found. IsTrue found ↔ HasMatch regex.now.tree haystack.now
+        (start_alone haystack.now start)) }
 {
     regex.is_match_anchored_at(haystack, start)
 }
@@ -145,7 +149,7 @@ pub fn find_anchored<'h>(
     start: usize,
 ) -> Result<Option<Match<'h>>, AllocError>
     requires { start ≤ length haystack.now → IsCharBoundary haystack.now start }
-    ensures headline { IfOk result (λ m. AnchoredMatchHeadline regex.now haystack.now start
+    ensures headline { IfOk result (λ m. MatchHeadline regex.now haystack.now (start_alone haystack.now start)
         (option_map (λ x. (excerpt_of x).span) m)) }
     ensures borders { IfOk result (λ m. IfSome m (λ x. HasBorders haystack.now (excerpt_of x).span)) }
 {
@@ -162,7 +166,7 @@ pub fn captures_anchored<'h>(
     start: usize,
 ) -> Result<Option<Captures<'h>>, AllocError>
     requires { start ≤ length haystack.now → IsCharBoundary haystack.now start }
-    ensures headline { IfOk result (AnchoredHeadline regex.now haystack.now start) }
+    ensures headline { IfOk result (Headline regex.now haystack.now (start_alone haystack.now start)) }
     ensures borders { IfOk result (λ c. IfSome c (λ x. GroupsAtBorders haystack.now x.slots)) }
 {
     // For proofs: the contract of `as_str` says that the regex is compiled, here and below.
@@ -186,11 +190,13 @@ pub fn search_anchored<'h>(
     requires border { start ≤ length haystack.now → IsCharBoundary haystack.now start }
     requires cache { cache.old.fits ≡ fit_of regex.now.program }
     requires locations { length locations.old ≡ regex.now.program.slots }
-    ensures exactly { IsSome result ↔ HasMatchFrom regex.now.tree haystack.now start }
+    ensures exactly { IsSome result ↔ HasMatch regex.now.tree haystack.now (start_alone haystack.now start) }
     ensures whole { IfSome result (λ x. group_in locations.new 0 ≡ Some (excerpt_of x).span) }
-    ensures headline { IfSome result (λ x. AreGroupsHere regex.now haystack.now start locations.new) }
+    ensures headline { IfSome result (λ x. AreFirstGroups regex.now haystack.now
+        (start_alone haystack.now start) locations.new) }
     ensures borders { IfSome result (λ x. GroupsAtBorders haystack.now locations.new) }
-    ensures walked { IsWalkedFrom regex.now.program haystack.now start (is_some result) cache.new.walked }
+    ensures walked { IsWalked regex.now.program haystack.now start (start_alone haystack.now start)
+        (is_some result) cache.new.walked }
 {
     regex.as_str();
     regex.captures_read_anchored_at_with(cache, locations, haystack, start)

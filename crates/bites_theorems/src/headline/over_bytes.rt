@@ -7,6 +7,7 @@ ghost use Rattle.bites_spec.specs.Slots.{group_in};
 ghost use Rattle.bites_spec.specs.Counts.{fit_of, IsBounded, VisitedBy};
 ghost use Rattle.bites_spec.specs.Settings.{Accepts};
 ghost use Rattle.bites_spec.specs.AllMatches.{AreMatches, LeaveNoneOut};
+ghost use Rattle.bites_spec.specs.Utf8.{places};
 ghost use Rattle.bites_bytes.specs.Settings.{Refuses};
 ghost use Rattle.bites_bytes.specs.Matched.{excerpt_of};
 ghost use Rattle.bites_theorems.specs.Headline.{AreFirstGroups};
@@ -44,11 +45,13 @@ pub fn search<'h>(
 ) -> Option<Match<'h>>
     requires cache { cache.old.fits ≡ fit_of regex.now.program }
     requires locations { length locations.old ≡ regex.now.program.slots }
-    ensures exactly { IsSome result ↔ HasMatch regex.now.tree haystack.now start }
+    ensures exactly { IsSome result ↔ HasMatch regex.now.tree haystack.now (places haystack.now start) }
     ensures whole { IfSome result (λ x. group_in locations.new 0 ≡ Some (excerpt_of x).span) }
-    ensures headline { IfSome result (λ x. AreFirstGroups regex.now haystack.now start locations.new) }
+    ensures headline { IfSome result (λ x. AreFirstGroups regex.now haystack.now
+        (places haystack.now start) locations.new) }
     ensures once { IsBounded regex.now.program haystack.now start cache.new.walked }
-    ensures reached { VisitedBy regex.now.program haystack.now start (is_some result) cache.new.walked }
+    ensures reached { VisitedBy regex.now.program haystack.now (places haystack.now start)
+        (is_some result) cache.new.walked }
 {
     // For proofs: the contract of `as_str` says that the regex is compiled.
     regex.as_str();

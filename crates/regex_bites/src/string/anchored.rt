@@ -1,9 +1,12 @@
 //! Searches of texts for a match that begins at one offset, and for matches of the whole text.
 
 ghost use Rattle.std.specs.Prelude.{◌≡◌, ◌↔◌, ◌≤◌, length, option_map, is_some, unwrap_or, MatchOption, OnOk, IsTrue, IfOk, IfSome, IsCharBoundary};
-ghost use Rattle.bites_spec.specs.Counts.{fit_of, IsBounded};
-ghost use Rattle.bites_spec.specs.Captured.{captured, excerpt};
-ghost use Rattle.bites_spec.specs.Anchored.{HasMatchFrom, IsFullMatch, IsWalkedFrom, anchored_span_at, anchored_slots_at, full_slots, FindsMatchFrom, FindsGroupsFrom, FindsGroupsFull, AreGroupsAt};
+ghost use Rattle.bites_spec.specs.Counts.{fit_of, IsBounded, IsWalked};
+ghost use Rattle.bites_spec.specs.Captured.{captured, excerpt, AreGroupsFrom, FindsGroups, FindsMatch};
+ghost use Rattle.bites_spec.specs.Full.{IsFullMatch, full_slots, FindsGroupsFull};
+ghost use Rattle.bites_spec.specs.Found.{HasMatch, NoMatch};
+ghost use Rattle.bites_spec.specs.Regex.{slots_at, span_at};
+ghost use Rattle.bites_spec.specs.Utf8.{start_alone};
 ghost use Rattle.regex_bites.specs.Matched.{excerpt_of};
 ghost use Rattle.regex_bites.specs.Borders.{HaveBorders};
 
@@ -32,7 +35,7 @@ impl Regex {
     ) -> Result<Option<Match<'h>>, AllocError>
         requires { start ≤ length haystack.now → IsCharBoundary haystack.now start }
         ensures { IfOk result
-            (λ m. FindsMatchFrom self.now haystack.now start (option_map excerpt_of m)) }
+            (λ m. FindsMatch self.now haystack.now (start_alone haystack.now start) (option_map excerpt_of m)) }
     {
         let mut cache = self.cache()?;
         Ok(self.find_anchored_at_with(&mut cache, haystack, start))
@@ -49,9 +52,11 @@ impl Regex {
     ) -> Option<Match<'h>>
         requires border { start ≤ length haystack.now → IsCharBoundary haystack.now start }
         requires fits { cache.old.fits ≡ fit_of self.now.program }
-        ensures found { FindsMatchFrom self.now haystack.now start (option_map excerpt_of result) }
+        ensures found { FindsMatch self.now haystack.now (start_alone haystack.now start)
+            (option_map excerpt_of result) }
         ensures fits { cache.new.fits ≡ cache.old.fits }
-        ensures walked { IsWalkedFrom self.now.program haystack.now start (is_some result) cache.new.walked }
+        ensures walked { IsWalked self.now.program haystack.now start (start_alone haystack.now start)
+            (is_some result) cache.new.walked }
     {
         let found = self
             .over_bytes()
@@ -66,7 +71,8 @@ impl Regex {
     /// The search stops at the first end of such a match.
     pub fn is_match_anchored_at(&self, haystack: &str, start: usize) -> Result<bool, AllocError>
         requires { start ≤ length haystack.now → IsCharBoundary haystack.now start }
-        ensures { IfOk result (λ found. IsTrue found ↔ HasMatchFrom self.now.tree haystack.now start) }
+        ensures { IfOk result (λ found. IsTrue found ↔ HasMatch self.now.tree haystack.now
+            (start_alone haystack.now start)) }
     {
         let mut cache = self.cache()?;
         Ok(self.is_match_anchored_at_with(&mut cache, haystack, start))
@@ -78,9 +84,10 @@ impl Regex {
     pub fn is_match_anchored_at_with(&self, cache: &mut Cache, haystack: &str, start: usize) -> bool
         requires border { start ≤ length haystack.now → IsCharBoundary haystack.now start }
         requires fits { cache.old.fits ≡ fit_of self.now.program }
-        ensures found { IsTrue result ↔ HasMatchFrom self.now.tree haystack.now start }
+        ensures found { IsTrue result ↔ HasMatch self.now.tree haystack.now (start_alone haystack.now start) }
         ensures fits { cache.new.fits ≡ cache.old.fits }
-        ensures walked { IsWalkedFrom self.now.program haystack.now start result cache.new.walked }
+        ensures walked { IsWalked self.now.program haystack.now start (start_alone haystack.now start)
+            result cache.new.walked }
     {
         self.over_bytes()
             .is_match_anchored_at_with(&mut cache.cache, haystack.as_bytes(), start)
@@ -98,8 +105,8 @@ impl Regex {
     ) -> Result<Option<Captures<'h>>, AllocError>
         requires { start ≤ length haystack.now → IsCharBoundary haystack.now start }
         ensures found { IfOk result (λ c. c ≡ option_map (captured self.now haystack.now)
-            (anchored_slots_at self.now haystack.now start)) }
-        ensures on_tree { IfOk result (λ c. FindsGroupsFrom self.now haystack.now start
+            (slots_at self.now haystack.now (start_alone haystack.now start))) }
+        ensures on_tree { IfOk result (λ c. FindsGroups self.now haystack.now (start_alone haystack.now start)
             (option_map (λ x. x.slots) c)) }
         ensures regex { IfOk result (λ c. IfSome c (λ x. x.regex ≡ self.now)) }
         ensures haystack { IfOk result (λ c. IfSome c (λ x. x.haystack ≡ haystack.now)) }
@@ -118,13 +125,14 @@ impl Regex {
         requires border { start ≤ length haystack.now → IsCharBoundary haystack.now start }
         requires fits { cache.old.fits ≡ fit_of self.now.program }
         ensures found { IfOk result (λ c. c ≡ option_map (captured self.now haystack.now)
-            (anchored_slots_at self.now haystack.now start)) }
-        ensures on_tree { IfOk result (λ c. FindsGroupsFrom self.now haystack.now start
+            (slots_at self.now haystack.now (start_alone haystack.now start))) }
+        ensures on_tree { IfOk result (λ c. FindsGroups self.now haystack.now (start_alone haystack.now start)
             (option_map (λ x. x.slots) c)) }
         ensures regex { IfOk result (λ c. IfSome c (λ x. x.regex ≡ self.now)) }
         ensures haystack { IfOk result (λ c. IfSome c (λ x. x.haystack ≡ haystack.now)) }
         ensures fits { cache.new.fits ≡ cache.old.fits }
-        ensures walked { IfOk result (λ c. IsWalkedFrom self.now.program haystack.now start (is_some c) cache.new.walked) }
+        ensures walked { IfOk result (λ c. IsWalked self.now.program haystack.now start
+            (start_alone haystack.now start) (is_some c) cache.new.walked) }
     {
         match self
             .over_bytes()
@@ -151,14 +159,15 @@ impl Regex {
         requires cache { cache.old.fits ≡ fit_of self.now.program }
         requires locations { length locations.old ≡ self.now.program.slots }
         ensures found { option_map excerpt_of result
-            ≡ option_map (excerpt haystack.now) (anchored_span_at self.now haystack.now start) }
-        ensures on_tree { MatchOption result (HasMatchFrom self.now.tree haystack.now start → ⊥)
-            (λ _. AreGroupsAt self.now haystack.now start locations.new) }
+            ≡ option_map (excerpt haystack.now) (span_at self.now haystack.now (start_alone haystack.now start)) }
+        ensures on_tree { MatchOption result (NoMatch self.now.tree haystack.now (start_alone haystack.now start))
+            (λ _. AreGroupsFrom self.now haystack.now (start_alone haystack.now start) locations.new) }
         ensures groups { locations.new
-            ≡ unwrap_or (anchored_slots_at self.now haystack.now start) locations.old }
+            ≡ unwrap_or (slots_at self.now haystack.now (start_alone haystack.now start)) locations.old }
         ensures borders { IfSome result (λ _. HaveBorders haystack.now locations.new) }
         ensures fits { cache.new.fits ≡ cache.old.fits }
-        ensures walked { IsWalkedFrom self.now.program haystack.now start (is_some result) cache.new.walked }
+        ensures walked { IsWalked self.now.program haystack.now start (start_alone haystack.now start)
+            (is_some result) cache.new.walked }
     {
         let found = self.over_bytes().captures_read_anchored_at_with(
             &mut cache.cache,

@@ -8,6 +8,7 @@ ghost use Rattle.bites_spec.specs.Counts.{fit_of, IsWalked};
 ghost use Rattle.bites_spec.specs.Regex.{slots_at};
 ghost use Rattle.bites_spec.specs.Captured.{AreGroups, captured, excerpt, FindsGroups};
 ghost use Rattle.bites_spec.specs.Expansion.{index_in};
+ghost use Rattle.bites_spec.specs.Utf8.{places};
 
 use crate::string::{Cache, Match, Regex};
 use bites_bytes::bytes;
@@ -238,8 +239,9 @@ impl Regex {
     /// ```
     pub fn captures<'h>(&self, haystack: &'h str) -> Result<Option<Captures<'h>>, AllocError>
         ensures found { IfOk result (λ c. c
-            ≡ option_map (captured self.now haystack.now) (slots_at self.now haystack.now 0)) }
-        ensures on_tree { IfOk result (λ c. FindsGroups self.now haystack.now 0 (option_map (λ x. x.slots) c)) }
+            ≡ option_map (captured self.now haystack.now) (slots_at self.now haystack.now (places haystack.now 0))) }
+        ensures on_tree { IfOk result (λ c. FindsGroups self.now haystack.now (places haystack.now 0)
+            (option_map (λ x. x.slots) c)) }
         ensures regex { IfOk result (λ c. IfSome c (λ x. x.regex ≡ self.now)) }
         ensures haystack { IfOk result (λ c. IfSome c (λ x. x.haystack ≡ haystack.now)) }
     {
@@ -258,8 +260,9 @@ impl Regex {
     ) -> Result<Option<Captures<'h>>, AllocError>
         requires { start ≤ length haystack.now → IsCharBoundary haystack.now start }
         ensures found { IfOk result (λ c. c
-            ≡ option_map (captured self.now haystack.now) (slots_at self.now haystack.now start)) }
-        ensures on_tree { IfOk result (λ c. FindsGroups self.now haystack.now start (option_map (λ x. x.slots) c)) }
+            ≡ option_map (captured self.now haystack.now) (slots_at self.now haystack.now (places haystack.now start))) }
+        ensures on_tree { IfOk result (λ c. FindsGroups self.now haystack.now (places haystack.now start)
+            (option_map (λ x. x.slots) c)) }
         ensures regex { IfOk result (λ c. IfSome c (λ x. x.regex ≡ self.now)) }
         ensures haystack { IfOk result (λ c. IfSome c (λ x. x.haystack ≡ haystack.now)) }
     {
@@ -277,12 +280,14 @@ impl Regex {
     ) -> Result<Option<Captures<'h>>, AllocError>
         requires { cache.old.fits ≡ fit_of self.now.program }
         ensures found { IfOk result (λ c. c
-            ≡ option_map (captured self.now haystack.now) (slots_at self.now haystack.now 0)) }
-        ensures on_tree { IfOk result (λ c. FindsGroups self.now haystack.now 0 (option_map (λ x. x.slots) c)) }
+            ≡ option_map (captured self.now haystack.now) (slots_at self.now haystack.now (places haystack.now 0))) }
+        ensures on_tree { IfOk result (λ c. FindsGroups self.now haystack.now (places haystack.now 0)
+            (option_map (λ x. x.slots) c)) }
         ensures regex { IfOk result (λ c. IfSome c (λ x. x.regex ≡ self.now)) }
         ensures haystack { IfOk result (λ c. IfSome c (λ x. x.haystack ≡ haystack.now)) }
         ensures fits { cache.new.fits ≡ cache.old.fits }
-        ensures walked { IfOk result (λ c. IsWalked self.now.program haystack.now 0 (is_some c) cache.new.walked) }
+        ensures walked { IfOk result (λ c. IsWalked self.now.program haystack.now 0 (places haystack.now 0)
+            (is_some c) cache.new.walked) }
     {
         self.captures_at_with(cache, haystack, 0)
     }
@@ -297,12 +302,14 @@ impl Regex {
         requires border { start ≤ length haystack.now → IsCharBoundary haystack.now start }
         requires fits { cache.old.fits ≡ fit_of self.now.program }
         ensures found { IfOk result (λ c. c
-            ≡ option_map (captured self.now haystack.now) (slots_at self.now haystack.now start)) }
-        ensures on_tree { IfOk result (λ c. FindsGroups self.now haystack.now start (option_map (λ x. x.slots) c)) }
+            ≡ option_map (captured self.now haystack.now) (slots_at self.now haystack.now (places haystack.now start))) }
+        ensures on_tree { IfOk result (λ c. FindsGroups self.now haystack.now (places haystack.now start)
+            (option_map (λ x. x.slots) c)) }
         ensures regex { IfOk result (λ c. IfSome c (λ x. x.regex ≡ self.now)) }
         ensures haystack { IfOk result (λ c. IfSome c (λ x. x.haystack ≡ haystack.now)) }
         ensures fits { cache.new.fits ≡ cache.old.fits }
-        ensures walked { IfOk result (λ c. IsWalked self.now.program haystack.now start (is_some c) cache.new.walked) }
+        ensures walked { IfOk result (λ c. IsWalked self.now.program haystack.now start
+            (places haystack.now start) (is_some c) cache.new.walked) }
     {
         match self
             .over_bytes()

@@ -4,6 +4,7 @@ ghost use Rattle.std.specs.Prelude.{◌≡◌, ◌↔◌, ◌≤◌, length, IsT
 ghost use Rattle.bites_spec.specs.Found.{HasMatch};
 ghost use Rattle.bites_spec.specs.Counts.{fit_of};
 ghost use Rattle.bites_spec.specs.Counts.{IsWalked};
+ghost use Rattle.bites_spec.specs.Utf8.{places};
 
 use crate::string::{Cache, Regex};
 use std::alloc::AllocError;
@@ -20,7 +21,7 @@ impl Regex {
     /// assert!(rt; !regex.is_match("in 2010")?);
     /// ```
     pub fn is_match(&self, haystack: &str) -> Result<bool, AllocError>
-        ensures { IfOk result (λ found. IsTrue found ↔ HasMatch self.now.tree haystack.now 0) }
+        ensures { IfOk result (λ found. IsTrue found ↔ HasMatch self.now.tree haystack.now (places haystack.now 0)) }
     {
         self.is_match_at(haystack, 0)
     }
@@ -32,7 +33,8 @@ impl Regex {
     /// Assertions look at the bytes before `start` too, so this differs from a search of the slice that begins there.
     pub fn is_match_at(&self, haystack: &str, start: usize) -> Result<bool, AllocError>
         requires { start ≤ length haystack.now → IsCharBoundary haystack.now start }
-        ensures { IfOk result (λ found. IsTrue found ↔ HasMatch self.now.tree haystack.now start) }
+        ensures { IfOk result (λ found. IsTrue found ↔ HasMatch self.now.tree haystack.now
+            (places haystack.now start)) }
     {
         let mut cache = self.cache()?;
         Ok(self.is_match_at_with(&mut cache, haystack, start))
@@ -41,9 +43,9 @@ impl Regex {
     /// Like [`Regex::is_match`], but with a cache that fits. It allocates nothing and cannot fail.
     pub fn is_match_with(&self, cache: &mut Cache, haystack: &str) -> bool
         requires { cache.old.fits ≡ fit_of self.now.program }
-        ensures found { IsTrue result ↔ HasMatch self.now.tree haystack.now 0 }
+        ensures found { IsTrue result ↔ HasMatch self.now.tree haystack.now (places haystack.now 0) }
         ensures fits { cache.new.fits ≡ cache.old.fits }
-        ensures walked { IsWalked self.now.program haystack.now 0 result cache.new.walked }
+        ensures walked { IsWalked self.now.program haystack.now 0 (places haystack.now 0) result cache.new.walked }
     {
         self.is_match_at_with(cache, haystack, 0)
     }
@@ -54,9 +56,10 @@ impl Regex {
     pub fn is_match_at_with(&self, cache: &mut Cache, haystack: &str, start: usize) -> bool
         requires fits { cache.old.fits ≡ fit_of self.now.program }
         requires border { start ≤ length haystack.now → IsCharBoundary haystack.now start }
-        ensures found { IsTrue result ↔ HasMatch self.now.tree haystack.now start }
+        ensures found { IsTrue result ↔ HasMatch self.now.tree haystack.now (places haystack.now start) }
         ensures fits { cache.new.fits ≡ cache.old.fits }
-        ensures walked { IsWalked self.now.program haystack.now start result cache.new.walked }
+        ensures walked { IsWalked self.now.program haystack.now start (places haystack.now start)
+            result cache.new.walked }
     {
         self.over_bytes()
             .is_match_at_with(&mut cache.cache, haystack.as_bytes(), start)

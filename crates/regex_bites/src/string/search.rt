@@ -6,6 +6,7 @@ ghost use Rattle.bites_spec.specs.Regex.{span_at, slots_at};
 ghost use Rattle.bites_spec.specs.Found.{NoMatch};
 ghost use Rattle.bites_spec.specs.Captured.{excerpt, FindsMatch, AreGroupsFrom};
 ghost use Rattle.bites_spec.specs.Counts.{IsWalked};
+ghost use Rattle.bites_spec.specs.Utf8.{places};
 ghost use Rattle.regex_bites.specs.Matched.{excerpt_of};
 ghost use Rattle.regex_bites.specs.Borders.{HaveBorders};
 
@@ -25,7 +26,8 @@ impl Regex {
     /// assert_eq!(rt; found.as_str(), "12");
     /// ```
     pub fn find<'h>(&self, haystack: &'h str) -> Result<Option<Match<'h>>, AllocError>
-        ensures { IfOk result (λ m. FindsMatch self.now haystack.now 0 (option_map excerpt_of m)) }
+        ensures { IfOk result (λ m. FindsMatch self.now haystack.now (places haystack.now 0)
+            (option_map excerpt_of m)) }
     {
         self.find_at(haystack, 0)
     }
@@ -47,7 +49,8 @@ impl Regex {
         start: usize,
     ) -> Result<Option<Match<'h>>, AllocError>
         requires { start ≤ length haystack.now → IsCharBoundary haystack.now start }
-        ensures { IfOk result (λ m. FindsMatch self.now haystack.now start (option_map excerpt_of m)) }
+        ensures { IfOk result (λ m. FindsMatch self.now haystack.now (places haystack.now start)
+            (option_map excerpt_of m)) }
     {
         let mut cache = self.cache()?;
         Ok(self.find_at_with(&mut cache, haystack, start))
@@ -66,9 +69,10 @@ impl Regex {
     /// ```
     pub fn find_with<'h>(&self, cache: &mut Cache, haystack: &'h str) -> Option<Match<'h>>
         requires { cache.old.fits ≡ fit_of self.now.program }
-        ensures found { FindsMatch self.now haystack.now 0 (option_map excerpt_of result) }
+        ensures found { FindsMatch self.now haystack.now (places haystack.now 0) (option_map excerpt_of result) }
         ensures fits { cache.new.fits ≡ cache.old.fits }
-        ensures walked { IsWalked self.now.program haystack.now 0 (is_some result) cache.new.walked }
+        ensures walked { IsWalked self.now.program haystack.now 0 (places haystack.now 0)
+            (is_some result) cache.new.walked }
     {
         self.find_at_with(cache, haystack, 0)
     }
@@ -84,9 +88,10 @@ impl Regex {
     ) -> Option<Match<'h>>
         requires border { start ≤ length haystack.now → IsCharBoundary haystack.now start }
         requires fits { cache.old.fits ≡ fit_of self.now.program }
-        ensures found { FindsMatch self.now haystack.now start (option_map excerpt_of result) }
+        ensures found { FindsMatch self.now haystack.now (places haystack.now start) (option_map excerpt_of result) }
         ensures fits { cache.new.fits ≡ cache.old.fits }
-        ensures walked { IsWalked self.now.program haystack.now start (is_some result) cache.new.walked }
+        ensures walked { IsWalked self.now.program haystack.now start (places haystack.now start)
+            (is_some result) cache.new.walked }
     {
         let found = self
             .over_bytes()
@@ -114,11 +119,11 @@ impl Regex {
     ) -> Result<Option<Match<'h>>, AllocError>
         requires { length locations.old ≡ self.now.program.slots }
         ensures found { IfOk result (λ m. option_map excerpt_of m
-            ≡ option_map (excerpt haystack.now) (span_at self.now haystack.now 0)) }
-        ensures on_tree { IfOk result (λ m. MatchOption m (NoMatch self.now.tree haystack.now 0)
-            (λ _. AreGroupsFrom self.now haystack.now 0 locations.new)) }
+            ≡ option_map (excerpt haystack.now) (span_at self.now haystack.now (places haystack.now 0))) }
+        ensures on_tree { IfOk result (λ m. MatchOption m (NoMatch self.now.tree haystack.now (places haystack.now 0))
+            (λ _. AreGroupsFrom self.now haystack.now (places haystack.now 0) locations.new)) }
         ensures groups { OnOk result (locations.new
-            ≡ unwrap_or (slots_at self.now haystack.now 0) locations.old) }
+            ≡ unwrap_or (slots_at self.now haystack.now (places haystack.now 0)) locations.old) }
         ensures borders { IfOk result (λ m. IfSome m (λ _. HaveBorders haystack.now locations.new)) }
         ensures refused { OnErr result (locations.new ≡ locations.old) }
     {
@@ -139,11 +144,12 @@ impl Regex {
         requires border { start ≤ length haystack.now → IsCharBoundary haystack.now start }
         requires locations { length locations.old ≡ self.now.program.slots }
         ensures found { IfOk result (λ m. option_map excerpt_of m
-            ≡ option_map (excerpt haystack.now) (span_at self.now haystack.now start)) }
-        ensures on_tree { IfOk result (λ m. MatchOption m (NoMatch self.now.tree haystack.now start)
-            (λ _. AreGroupsFrom self.now haystack.now start locations.new)) }
+            ≡ option_map (excerpt haystack.now) (span_at self.now haystack.now (places haystack.now start))) }
+        ensures on_tree { IfOk result (λ m. MatchOption m (NoMatch self.now.tree haystack.now
+            (places haystack.now start))
+            (λ _. AreGroupsFrom self.now haystack.now (places haystack.now start) locations.new)) }
         ensures groups { OnOk result (locations.new
-            ≡ unwrap_or (slots_at self.now haystack.now start) locations.old) }
+            ≡ unwrap_or (slots_at self.now haystack.now (places haystack.now start)) locations.old) }
         ensures borders { IfOk result (λ m. IfSome m (λ _. HaveBorders haystack.now locations.new)) }
         ensures refused { OnErr result (locations.new ≡ locations.old) }
     {
@@ -161,13 +167,15 @@ impl Regex {
         requires cache { cache.old.fits ≡ fit_of self.now.program }
         requires locations { length locations.old ≡ self.now.program.slots }
         ensures found { option_map excerpt_of result
-            ≡ option_map (excerpt haystack.now) (span_at self.now haystack.now 0) }
-        ensures on_tree { MatchOption result (NoMatch self.now.tree haystack.now 0)
-            (λ _. AreGroupsFrom self.now haystack.now 0 locations.new) }
-        ensures groups { locations.new ≡ unwrap_or (slots_at self.now haystack.now 0) locations.old }
+            ≡ option_map (excerpt haystack.now) (span_at self.now haystack.now (places haystack.now 0)) }
+        ensures on_tree { MatchOption result (NoMatch self.now.tree haystack.now (places haystack.now 0))
+            (λ _. AreGroupsFrom self.now haystack.now (places haystack.now 0) locations.new) }
+        ensures groups { locations.new ≡ unwrap_or (slots_at self.now haystack.now
+            (places haystack.now 0)) locations.old }
         ensures borders { IfSome result (λ _. HaveBorders haystack.now locations.new) }
         ensures fits { cache.new.fits ≡ cache.old.fits }
-        ensures walked { IsWalked self.now.program haystack.now 0 (is_some result) cache.new.walked }
+        ensures walked { IsWalked self.now.program haystack.now 0 (places haystack.now 0)
+            (is_some result) cache.new.walked }
     {
         self.captures_read_at_with(cache, locations, haystack, 0)
     }
@@ -186,14 +194,15 @@ impl Regex {
         requires cache { cache.old.fits ≡ fit_of self.now.program }
         requires locations { length locations.old ≡ self.now.program.slots }
         ensures found { option_map excerpt_of result
-            ≡ option_map (excerpt haystack.now) (span_at self.now haystack.now start) }
-        ensures on_tree { MatchOption result (NoMatch self.now.tree haystack.now start)
-            (λ _. AreGroupsFrom self.now haystack.now start locations.new) }
+            ≡ option_map (excerpt haystack.now) (span_at self.now haystack.now (places haystack.now start)) }
+        ensures on_tree { MatchOption result (NoMatch self.now.tree haystack.now (places haystack.now start))
+            (λ _. AreGroupsFrom self.now haystack.now (places haystack.now start) locations.new) }
         ensures groups { locations.new
-            ≡ unwrap_or (slots_at self.now haystack.now start) locations.old }
+            ≡ unwrap_or (slots_at self.now haystack.now (places haystack.now start)) locations.old }
         ensures borders { IfSome result (λ _. HaveBorders haystack.now locations.new) }
         ensures fits { cache.new.fits ≡ cache.old.fits }
-        ensures walked { IsWalked self.now.program haystack.now start (is_some result) cache.new.walked }
+        ensures walked { IsWalked self.now.program haystack.now start (places haystack.now start)
+            (is_some result) cache.new.walked }
     {
         let found = self.over_bytes().captures_read_at_with(
             &mut cache.cache,

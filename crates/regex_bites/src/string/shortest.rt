@@ -4,6 +4,7 @@ ghost use Rattle.std.specs.Prelude.{◌≡◌, ◌≤◌, length, is_some, IfOk,
 ghost use Rattle.bites_spec.specs.Found.{IsLeastEnd};
 ghost use Rattle.bites_spec.specs.Counts.{fit_of};
 ghost use Rattle.bites_spec.specs.Counts.{IsWalked};
+ghost use Rattle.bites_spec.specs.Utf8.{places};
 
 use crate::string::{Cache, Regex};
 use std::alloc::AllocError;
@@ -18,7 +19,7 @@ impl Regex {
     /// assert_eq!(rt; regex.shortest_match("xaaa")?, Some(2));
     /// ```
     pub fn shortest_match(&self, haystack: &str) -> Result<Option<usize>, AllocError>
-        ensures least { IfOk result (λ end. IsLeastEnd self.now.tree haystack.now 0 end) }
+        ensures least { IfOk result (λ end. IsLeastEnd self.now.tree haystack.now (places haystack.now 0) end) }
         ensures border { IfOk result (λ end. IfSome end (IsCharBoundary haystack.now)) }
     {
         self.shortest_match_at(haystack, 0)
@@ -35,7 +36,7 @@ impl Regex {
         start: usize,
     ) -> Result<Option<usize>, AllocError>
         requires { start ≤ length haystack.now → IsCharBoundary haystack.now start }
-        ensures least { IfOk result (λ end. IsLeastEnd self.now.tree haystack.now start end) }
+        ensures least { IfOk result (λ end. IsLeastEnd self.now.tree haystack.now (places haystack.now start) end) }
         ensures border { IfOk result (λ end. IfSome end (IsCharBoundary haystack.now)) }
     {
         let mut cache = self.cache()?;
@@ -45,10 +46,11 @@ impl Regex {
     /// Like [`Regex::shortest_match`], but with a cache that fits. It allocates nothing and cannot fail.
     pub fn shortest_match_with(&self, cache: &mut Cache, haystack: &str) -> Option<usize>
         requires { cache.old.fits ≡ fit_of self.now.program }
-        ensures least { IsLeastEnd self.now.tree haystack.now 0 result }
+        ensures least { IsLeastEnd self.now.tree haystack.now (places haystack.now 0) result }
         ensures border { IfSome result (IsCharBoundary haystack.now) }
         ensures fits { cache.new.fits ≡ cache.old.fits }
-        ensures walked { IsWalked self.now.program haystack.now 0 (is_some result) cache.new.walked }
+        ensures walked { IsWalked self.now.program haystack.now 0 (places haystack.now 0)
+            (is_some result) cache.new.walked }
     {
         self.shortest_match_at_with(cache, haystack, 0)
     }
@@ -64,10 +66,11 @@ impl Regex {
     ) -> Option<usize>
         requires fits { cache.old.fits ≡ fit_of self.now.program }
         requires border { start ≤ length haystack.now → IsCharBoundary haystack.now start }
-        ensures least { IsLeastEnd self.now.tree haystack.now start result }
+        ensures least { IsLeastEnd self.now.tree haystack.now (places haystack.now start) result }
         ensures border { IfSome result (IsCharBoundary haystack.now) }
         ensures fits { cache.new.fits ≡ cache.old.fits }
-        ensures walked { IsWalked self.now.program haystack.now start (is_some result) cache.new.walked }
+        ensures walked { IsWalked self.now.program haystack.now start (places haystack.now start)
+            (is_some result) cache.new.walked }
     {
         self.over_bytes()
             .shortest_match_at_with(&mut cache.cache, haystack.as_bytes(), start)

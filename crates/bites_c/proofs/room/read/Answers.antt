@@ -1,4 +1,6 @@
 use Rattle.std.proofs.Common.{sym, ◌∙◌}
+use Rattle.bites_spec.specs.Utf8.{places}
+use Rattle.bites_spec.proofs.utf8.StartLemmas.{all_are_starts}
 use Rattle.bites_spec.specs.Captured.{excerpt}
 use Rattle.bites_spec.specs.Regex.{run_at}
 use Rattle.bites_spec.specs.Run.{slots}
@@ -10,8 +12,8 @@ use Rattle.bites_c.proofs.room.read.Goals as goal
 
 pub returns-in-Some-clause-len : goal.returns-in-Some-clause-len
 returns-in-Some-clause-len c =
-    read_len c.args.regex.now c.as_str-pattern.ensures.compiled c.slots_are_groups.ensures c.args.haystack.now c.args.start
-    c.args.locations.now c.captures_read_at_with.new.locations c.requires.locations c.captures_read_at_with.ensures.groups
+    read_len c.args.regex.now c.as_str-pattern.ensures.compiled c.slots_are_groups.ensures c.args.haystack.now c.args.start _
+    (all_are_starts c.args.haystack.now c.args.start) c.args.locations.now c.captures_read_at_with.new.locations c.requires.locations c.captures_read_at_with.ensures.groups
     ∙ sym c.requires.locations
 
 pub returns-in-Some-clause-lies : goal.returns-in-Some-clause-lies
@@ -24,7 +26,8 @@ returns-in-Some-clause-lies c =
 pub returns-in-Some-clause-are : goal.returns-in-Some-clause-are
 returns-in-Some-clause-are c found =
     let r = c.args.regex.now in let read = c.captures_read_at_with in
-    read_are r c.as_str-pattern.ensures.compiled c.slots_are_groups.ensures c.args.haystack.now c.args.start c.args.locations.now read.new.locations
-    (some_slots c.in-Some.found excerpt_of (excerpt c.args.haystack.now) span_of_run (slots r.program) read.result (run_at r c.args.haystack.now c.args.start)
+    read_are r c.as_str-pattern.ensures.compiled c.slots_are_groups.ensures c.args.haystack.now c.args.start _
+    (all_are_starts c.args.haystack.now c.args.start) c.args.locations.now read.new.locations
+    (some_slots c.in-Some.found excerpt_of (excerpt c.args.haystack.now) span_of_run (slots r.program) read.result (run_at r c.args.haystack.now (places c.args.haystack.now c.args.start))
     c.in-Some.is read.ensures.found)
     read.ensures.groups

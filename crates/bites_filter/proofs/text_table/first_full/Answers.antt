@@ -1,5 +1,5 @@
 use Rattle.std.proofs.Common.{◌≡◌, None, Some, get_or, sym, subst, option_map}
-use Rattle.bites_spec.specs.Anchored.{FindsGroupsFull}
+use Rattle.bites_spec.specs.Full.{FindsGroupsFull}
 use Rattle.bites_filter.specs.Table.{NamedRegex}
 use Rattle.bites_filter.proofs.TableLemmas.{none_more, none_matches, put_back}
 use Rattle.bites_filter.proofs.text_table.first_full.Goals as goal

@@ -1,4 +1,5 @@
 use Rattle.std.proofs.Common.{◌≡◌, ◌/◌, length, sym, ap, ◌∙◌, arith}
+use Rattle.bites_spec.proofs.utf8.StartLemmas.{all_are_starts}
 use Rattle.bites_spec.specs.Regex.{slots_at}
 use Rattle.bites_spec.specs.Slots.{span_of_run}
 use Rattle.bites_spec.specs.Captured.{excerpt}
@@ -6,12 +7,14 @@ use Rattle.bites_spec.specs.Run.{slots}
 use Rattle.bites_spec.specs.Regex.{run_at}
 use Rattle.bites_bytes.specs.Matched.{excerpt_of}
 use Rattle.bites_spec.specs.Counts.{Room, Fit, fit_of}
+use Rattle.bites_spec.specs.Utf8.{places}
 use Rattle.bites_c.proofs.SlotsLemmas.{read_len, some_slots, found_put}
 use Rattle.bites_c.proofs.room.Room.captures.Goals as goal
 
 pub returns-in_default-clause-on_tree : goal.returns-in_default-clause-on_tree
 returns-in_default-clause-on_tree c =
-    (c.slots_are_found.ensures c.args.regex.now c.as_str-pattern.ensures.compiled c.args.haystack.now c.args.start).0
+    (c.slots_are_found.ensures c.args.regex.now c.as_str-pattern.ensures.compiled c.args.haystack.now c.args.start _
+    (all_are_starts c.args.haystack.now c.args.start)).0
 
 pub put_groups-requires : goal.put_groups-requires
 put_groups-requires c =
@@ -19,7 +22,8 @@ put_groups-requires c =
     let fits : c.self.inside.cache.fits ≡ fit_of c.args.regex.now.program = ap (λ (v : Room). v.fits) c.self.view_is ∙ c.requires.fits in
     let len : length c.self.inside.locations ≡ c.args.regex.now.program.slots = c.self.invariant ∙ ap (λ (f : Fit). f.slots) fits in
     let kept : length c.captures_read_at_with.new.locations ≡ c.args.regex.now.program.slots =
-    read_len r c.as_str-pattern.ensures.compiled c.slots_are_groups.ensures c.args.haystack.now c.args.start c.self.inside.locations read.new.locations len read.ensures.groups in
+    read_len r c.as_str-pattern.ensures.compiled c.slots_are_groups.ensures c.args.haystack.now c.args.start _
+    (all_are_starts c.args.haystack.now c.args.start) c.self.inside.locations read.new.locations len read.ensures.groups in
     omega (arith, kept, c.as_str-pattern.ensures.compiled.slots, c.requires.wide)
 
 pub invariant_of-self-2 : goal.invariant_of-self-2
@@ -28,7 +32,8 @@ invariant_of-self-2 c =
     let fits : c.self.inside.cache.fits ≡ fit_of c.args.regex.now.program = ap (λ (v : Room). v.fits) c.self.view_is ∙ c.requires.fits in
     let len : length c.self.inside.locations ≡ c.args.regex.now.program.slots = c.self.invariant ∙ ap (λ (f : Fit). f.slots) fits in
     let kept : length c.captures_read_at_with.new.locations ≡ c.args.regex.now.program.slots =
-    read_len r c.as_str-pattern.ensures.compiled c.slots_are_groups.ensures c.args.haystack.now c.args.start c.self.inside.locations read.new.locations len read.ensures.groups in
+    read_len r c.as_str-pattern.ensures.compiled c.slots_are_groups.ensures c.args.haystack.now c.args.start _
+    (all_are_starts c.args.haystack.now c.args.start) c.self.inside.locations read.new.locations len read.ensures.groups in
     kept ∙ sym (ap (λ (f : Fit). f.slots) (read.ensures.fits ∙ fits))
 
 pub returns-clause-put : goal.returns-clause-put
@@ -37,11 +42,13 @@ returns-clause-put c =
     let fits : c.self.inside.cache.fits ≡ fit_of c.args.regex.now.program = ap (λ (v : Room). v.fits) c.self.view_is ∙ c.requires.fits in
     let len : length c.self.inside.locations ≡ c.args.regex.now.program.slots = c.self.invariant ∙ ap (λ (f : Fit). f.slots) fits in
     let kept : length c.captures_read_at_with.new.locations ≡ c.args.regex.now.program.slots =
-    read_len r c.as_str-pattern.ensures.compiled c.slots_are_groups.ensures c.args.haystack.now c.args.start c.self.inside.locations read.new.locations len read.ensures.groups in
+    read_len r c.as_str-pattern.ensures.compiled c.slots_are_groups.ensures c.args.haystack.now c.args.start _
+    (all_are_starts c.args.haystack.now c.args.start) c.self.inside.locations read.new.locations len read.ensures.groups in
     let half : length c.captures_read_at_with.new.locations / 2 ≡ length c.args.regex.now.names = omega (arith, kept, c.as_str-pattern.ensures.compiled.slots) in
-    let some = some_slots c.in-Some.field-0 excerpt_of (excerpt c.args.haystack.now) span_of_run (slots r.program) read.result (run_at r c.args.haystack.now c.args.start) c.in-Some.is read.ensures.found in
-    found_put (slots_at r c.args.haystack.now c.args.start) read.new.locations c.self.inside.locations (length r.names) c.args.groups.now c.put_groups.new.groups some read.ensures.groups half c.put_groups.ensures.put
+    let some = some_slots c.in-Some.field-0 excerpt_of (excerpt c.args.haystack.now) span_of_run (slots r.program) read.result (run_at r c.args.haystack.now (places c.args.haystack.now c.args.start)) c.in-Some.is read.ensures.found in
+    found_put (slots_at r c.args.haystack.now (places c.args.haystack.now c.args.start)) read.new.locations c.self.inside.locations (length r.names) c.args.groups.now c.put_groups.new.groups some read.ensures.groups half c.put_groups.ensures.put
 
 pub returns-clause-on_tree : goal.returns-clause-on_tree
 returns-clause-on_tree c =
-    (c.slots_are_found.ensures c.args.regex.now c.as_str-pattern.ensures.compiled c.args.haystack.now c.args.start).0
+    (c.slots_are_found.ensures c.args.regex.now c.as_str-pattern.ensures.compiled c.args.haystack.now c.args.start _
+    (all_are_starts c.args.haystack.now c.args.start)).0

@@ -1,6 +1,7 @@
 use Rattle.std.proofs.Common.{◌≡◌, subst}
 use Rattle.std.specs.Cow.{cow_slice_items}
 use Rattle.bites_spec.specs.Found.{NoMatch}
+use Rattle.bites_spec.specs.Utf8.{places}
 use Rattle.bites_filter.specs.Substituted.{Substitutes}
 use Rattle.bites_filter.proofs.SubstitutedLemmas.{substituted, unchanged}
 use Rattle.bites_filter.proofs.searcher.Searcher.replacen.Goals as goal
@@ -15,7 +16,7 @@ returns-clause-substitutes c =
 pub returns-clause-unchanged : goal.returns-clause-unchanged
 returns-clause-unchanged c =
     let gave = c.in_ok-replaced.ensures.replaces in let new = cow_slice_items c.in_ok-replaced.replaced in let text = c.args.haystack.now in
-    subst (λ r. NoMatch r.tree text 0 → new ≡ text) c.self.view_is
+    subst (λ r. NoMatch r.tree text (places text 0) → new ≡ text) c.self.view_is
     (unchanged c.captures_are_matches.ensures c.none_is_left_out.ensures c.self.inside.regex c.args.template.now text new c.args.limit
     (substituted (λ s. s.now) c.templates_have_one_text.ensures c.groups_are_successive.ensures c.self.inside.regex c.as_str.ensures.compiled
     text new c.args.limit c.args.template gave.0 gave.1))

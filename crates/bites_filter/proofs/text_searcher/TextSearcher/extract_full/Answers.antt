@@ -1,5 +1,5 @@
 use Rattle.std.proofs.Common.{◌≡◌, sym, ◌∙◌, ◌+◌, length, map, subst, option_map, IfSome, arith}
-use Rattle.bites_spec.specs.Anchored.{FindsGroupsFull}
+use Rattle.bites_spec.specs.Full.{FindsGroupsFull}
 use Rattle.bites_filter.specs.Parts.{HasGroups, AreParts}
 use Rattle.bites_filter.proofs.PartLemmas.{each_is_there, parts_found}
 use Rattle.bites_filter.proofs.text_searcher.TextSearcher.extract_full.Goals as goal

@@ -1,4 +1,4 @@
-use Rattle.bites_theorems.proofs.AnchoredLemmas.{full_headline}
+use Rattle.bites_theorems.proofs.FullLemmas.{full_headline}
 use Rattle.bites_theorems.proofs.calls.over_bytes.captures_full.Goals as goal
 
 pub returns : goal.returns

@@ -1,4 +1,4 @@
-use Rattle.bites_theorems.proofs.AnchoredLemmas.{full_headline, full_at_borders}
+use Rattle.bites_theorems.proofs.FullLemmas.{full_headline, full_at_borders}
 use Rattle.bites_theorems.proofs.calls.over_texts.captures_full.Goals as goal
 
 pub returns-clause-headline : goal.returns-clause-headline

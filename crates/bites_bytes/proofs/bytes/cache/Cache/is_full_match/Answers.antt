@@ -1,4 +1,4 @@
-use Rattle.bites_bytes.proofs.AnchoredLemmas.{full_matches}
+use Rattle.bites_bytes.proofs.FullLemmas.{full_matches}
 use Rattle.bites_bytes.proofs.bytes.cache.Cache.is_full_match.Goals as goal
 
 pub returns-clause-found : goal.returns-clause-found

@@ -1,5 +1,5 @@
 use Rattle.std.proofs.Common.{sym}
-use Rattle.bites_bytes.proofs.AnchoredLemmas.{full_written, full_unknown}
+use Rattle.bites_bytes.proofs.FullLemmas.{full_written, full_unknown}
 use Rattle.bites_bytes.proofs.bytes.locations.CaptureLocations.search_full.Goals as goal
 
 pub returns-clause-found : goal.returns-clause-found

@@ -2,6 +2,8 @@ use Rattle.std.proofs.Common.{◌∙◌, ap, subst, option_map}
 use Rattle.std.specs.Prelude.{MatchOption}
 use Rattle.bites_spec.specs.Found.{NoMatch}
 use Rattle.bites_spec.specs.Captured.{excerpt, AreGroupsFrom}
+use Rattle.bites_spec.specs.Utf8.{places}
+use Rattle.bites_spec.proofs.utf8.StartLemmas.{all_are_starts}
 use Rattle.bites_bytes.specs.Matched.{excerpt_of}
 use Rattle.bites_bytes.proofs.SlotLemmas.{read_on_tree}
 use Rattle.bites_bytes.proofs.bytes.regex.Regex.captures_read_at_with.Goals as goal
@@ -9,6 +11,6 @@ use Rattle.bites_bytes.proofs.bytes.regex.Regex.captures_read_at_with.Goals as g
 pub returns-clause-on_tree : goal.returns-clause-on_tree
 returns-clause-on_tree c =
     let hay = c.args.haystack.now in let s = c.args.start in
-    subst (λ r. MatchOption c.at.result (NoMatch r.tree hay s) (λ x. AreGroupsFrom r hay s c.read-ends.new.self)) (c.deref.ensures ∙ c.compiled.ensures)
-    (read_on_tree c.deref.result.now c.read-ends.ensures.compiled hay s excerpt_of c.at.result
+    subst (λ r. MatchOption c.at.result (NoMatch r.tree hay (places hay s)) (λ x. AreGroupsFrom r hay (places hay s) c.read-ends.new.self)) (c.deref.ensures ∙ c.compiled.ensures)
+    (read_on_tree c.deref.result.now c.read-ends.ensures.compiled hay s _ (all_are_starts hay s) excerpt_of c.at.result
     (c.at.ensures.found ∙ ap (option_map (excerpt hay)) c.read-ends.ensures.found) _ _ c.read-ends.ensures.slots)

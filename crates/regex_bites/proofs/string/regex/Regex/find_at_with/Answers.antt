@@ -1,4 +1,6 @@
 use Rattle.std.proofs.Common.{◌∙◌, ap, option_map}
+use Rattle.bites_spec.proofs.utf8.StartLemmas.{all_are_starts}
+use Rattle.bites_spec.specs.Utf8.{places}
 use Rattle.bites_spec.specs.Regex.{span_at}
 use Rattle.bites_spec.specs.Captured.{excerpt}
 use Rattle.bites_bytes.specs.Matched.{excerpt_of}
@@ -7,8 +9,9 @@ use Rattle.regex_bites.proofs.string.regex.Regex.find_at_with.Goals as goal
 
 pub of_found-requires : goal.of_found-requires
 of_found-requires c =
-    found_part c.args.haystack.now c.utf8.haystack c.args.self.now c.over_bytes.ensures.compiled excerpt_of c.args.start c.requires.border
+    found_part c.args.haystack.now c.utf8.haystack c.args.self.now c.over_bytes.ensures.compiled excerpt_of c.args.start _
+    (all_are_starts c.args.haystack.now c.args.start) c.requires.border
     c.find_at_with-found.result
     (c.find_at_with-found.ensures.found.span
-    ∙ ap (λ hay. option_map (excerpt hay) (span_at c.over_bytes.result.now hay c.args.start)) c.as_bytes.ensures.value
-    ∙ ap (λ r. option_map (excerpt c.args.haystack.now) (span_at r c.args.haystack.now c.args.start)) c.over_bytes.ensures.same)
+    ∙ ap (λ hay. option_map (excerpt hay) (span_at c.over_bytes.result.now hay (places hay c.args.start))) c.as_bytes.ensures.value
+    ∙ ap (λ r. option_map (excerpt c.args.haystack.now) (span_at r c.args.haystack.now (places c.args.haystack.now c.args.start))) c.over_bytes.ensures.same)

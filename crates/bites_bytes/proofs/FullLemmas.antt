@@ -1,0 +1,114 @@
+-- What a search for a match of the whole haystack leaves in slots, and says of a regex's tree.
+use Rattle.std.proofs.Common.{◌≡◌, ℕ, ◌≤◌, Bool, true, false, List, ◌++◌, length, take, drop, Option, Some, None, option_map, refl, sym, ap, ◌∙◌, subst, ⊎_elim, ◌⊎◌, true≢false, arith}
+use Rattle.std.proofs.lemmas.Option.{same_Some}
+use Rattle.std.specs.Prelude.{◌↔◌, IsTrue, is_some, IfSome, Result, Ok, Err, IfOk}
+use Rattle.std.proofs.lemmas.List.{take_all}
+use Rattle.bites_spec.specs.Utf8.{start_alone}
+use Rattle.bites_spec.specs.Run.{Run, Answered, longest_run, slots}
+use Rattle.bites_spec.specs.Slots.{slot_in, group_in, span_of_run, answer_of}
+use Rattle.bites_spec.specs.Regex.{Regex, IsCompiled}
+use Rattle.bites_spec.specs.Captured.{Captured, captured}
+use Rattle.bites_spec.specs.Full.{IsFullMatch, full_run, full_slots, FindsGroupsFull}
+use Rattle.bites_spec.proofs.utf8.StartLemmas.{alone_is_start}
+use Rattle.bites_spec.proofs.programs.FoundLemmas.{group_0_is_span}
+use Rattle.bites_spec.proofs.regex.AlikeLemmas.{chosen_run_lies}
+use Rattle.bites_spec.proofs.regex.FullLemmas.{longest_full, longest_not_full, full_run_is_found, full_finds_some}
+use Rattle.bites_bytes.specs.NextMatch.{LeavesRun}
+use Rattle.bites_bytes.proofs.NextLemmas.{front_group}
+use Rattle.bites_bytes.proofs.SearchLemmas.{known_end}
+use Rattle.bites_bytes.proofs.SlotLemmas.{length-slots, captures_are, slots_of, written_over}
+
+-- a slice of two slots, or of all, has two
+pub two_at_least : (r : Regex) → IsCompiled r → (n : ℕ) → (n ≡ 2) ⊎ (n ≡ r.program.slots) → 2 ≤ n
+two_at_least r is n h = ⊎_elim (λ (e : n ≡ 2). omega arith) (λ (e : n ≡ r.program.slots). let two = is.well_formed.slots in omega arith) h
+
+module _ (r : Regex) (is : IsCompiled r) (hay : List ℕ) where
+  -- the captures of a match of the whole haystack
+  pub groups_on_tree_full : {E : Type 0} (x : Result (Option Captured) E) → IfOk x (λ c. c ≡ option_map (captured r hay) (full_slots r hay)) →
+      IfOk x (λ c. FindsGroupsFull r hay (option_map (λ y. y.slots) c))
+  groups_on_tree_full (Err e) h = tt
+  groups_on_tree_full (Ok c) h =
+      subst (FindsGroupsFull r hay) (slots_of r hay (full_slots r hay) ∙ ap (option_map (λ y. y.slots)) (sym h)) (full_run_is_found r is hay).1
+
+  -- where nothing begins at 0, nothing matches the whole haystack
+  pub full_missing : (found : Bool) (n : ℕ) (old new : List (Option ℕ)) → found ≡ false → Answered r.program (longest_run r.program hay (start_alone hay 0)) found old new →
+      LeavesRun r.program (full_run r hay) false n new
+  full_missing found n old new missing h = by_run (longest_run r.program hay (start_alone hay 0)) refl h
+    where
+      by_run : (q : Option Run) → longest_run r.program hay (start_alone hay 0) ≡ q → Answered r.program q found old new → LeavesRun r.program (full_run r hay) false n new
+      by_run None e h =
+          subst (λ (o : Option Run). LeavesRun r.program o false n new)
+          (sym (longest_not_full r.program hay is.well_formed None e (λ x some end. let never : None ≡ Some x = some in cc))) refl
+      by_run (Some x) e h = absurd (true≢false (sym h.0 ∙ missing))
+
+  -- the longest run from 0 matches the whole haystack where it ends at its end
+  pub full_there : (found result : Bool) (old new : List (Option ℕ)) → found ≡ true → 2 ≤ length old → Answered r.program (longest_run r.program hay (start_alone hay 0)) found old new →
+      IsTrue result ↔ (slot_in new 1 ≡ Some (length hay)) → LeavesRun r.program (full_run r hay) result (length old) new
+  full_there found result old new holds two h ends = by_run (longest_run r.program hay (start_alone hay 0)) refl h
+    where
+      end_of : (x : Run) → longest_run r.program hay (start_alone hay 0) ≡ Some x → new ≡ take (length old) (slots r.program x) → slot_in new 1 ≡ Some x.end
+      end_of x e is_new =
+          let b = chosen_run_lies r.program hay is.well_formed true 0 _ (alone_is_start hay 0) x e in
+          known_end (slot_in new 0) (slot_in new 1) (span_of_run x)
+          (ap (λ l. group_in l 0) is_new ∙ front_group (length old) (slots r.program x) two
+          ∙ group_0_is_span r.tree r.program hay is.compilable is.built x b.1)
+
+      by_result : (x : Run) → longest_run r.program hay (start_alone hay 0) ≡ Some x → new ≡ take (length old) (slots r.program x) → (b : Bool) → result ≡ b →
+          LeavesRun r.program (full_run r hay) b (length old) new
+      by_result x e is_new true holds =
+          let end : x.end ≡ length hay = same_Some x.end (length hay) (sym (end_of x e is_new) ∙ ends.0 holds) in
+          subst (λ (o : Option Run). LeavesRun r.program o true (length old) new) (sym (longest_full r.program hay is.well_formed x e end)) (refl, is_new)
+      by_result x e is_new false missing =
+          subst (λ (o : Option Run). LeavesRun r.program o false (length old) new)
+          (sym (longest_not_full r.program hay is.well_formed (Some x) e
+          (λ y same end.
+          true≢false (sym (ends.1 (end_of x e is_new ∙ ap Some (ap (λ (z : Run). z.end) (same_Some x y same) ∙ end))) ∙ missing)))) refl
+
+      by_run : (q : Option Run) → longest_run r.program hay (start_alone hay 0) ≡ q → Answered r.program q found old new → LeavesRun r.program (full_run r hay) result (length old) new
+      by_run None e h = absurd (true≢false (sym holds ∙ h.0))
+      by_run (Some x) e h = by_result x e h.1 result refl
+
+  -- whether the whole haystack is matched
+  pub full_matches : (found : Bool) (n : ℕ) (new : List (Option ℕ)) → LeavesRun r.program (full_run r hay) found n new → IsTrue found ↔ IsFullMatch r.tree hay
+  full_matches found n new h =
+      let all = full_finds_some r.tree hay (option_map (answer_of r.program) (full_run r hay)) (full_run_is_found r is hay).0 in
+      let same : found ≡ is_some (full_run r hay) = by_run (full_run r hay) h in
+      (λ holds. all.0 (mapped _ (full_run r hay) ∙ sym same ∙ holds), λ matches. same ∙ sym (mapped _ (full_run r hay)) ∙ all.1 matches)
+    where
+      by_run : (q : Option Run) → LeavesRun r.program q found n new → found ≡ is_some q
+      by_run None h = h
+      by_run (Some x) h = h.0
+
+      mapped : {B : Type 0} (f : Run → B) (q : Option Run) → is_some (option_map f q) ≡ is_some q
+      mapped f None = refl
+      mapped f (Some x) = refl
+
+  -- all slots of the run over the whole haystack
+  pub full_known : (found : Bool) (n : ℕ) (new : List (Option ℕ)) → r.program.slots ≤ n → LeavesRun r.program (full_run r hay) found n new → found ≡ true →
+      full_slots r hay ≡ Some new
+  full_known found n new all h holds = by_run (full_run r hay) h
+    where
+      by_run : (q : Option Run) → LeavesRun r.program q found n new → option_map (slots r.program) q ≡ Some new
+      by_run None h = absurd (true≢false (sym holds ∙ h))
+      by_run (Some x) h =
+          ap (λ l. Some l) (sym (h.1 ∙ take_all n (slots r.program x) (let len = length-slots r.program x in omega arith)))
+
+  -- and so they are in a list that is written over its whole length
+  pub full_written : (found : Bool) (old items now new : List (Option ℕ)) (n : ℕ) → old ≡ items → now ≡ items → length old ≡ r.program.slots → n ≡ length now →
+      LeavesRun r.program (full_run r hay) found (length now) new → found ≡ true → full_slots r hay ≡ Some (take n (new ++ drop (length new) items))
+  full_written found old items now new n view same fits len h holds =
+      let size : length now ≡ r.program.slots = ap length same ∙ ap length (sym view) ∙ fits in
+      full_known found (length now) new (omega arith) h holds
+      ∙ ap (λ l. Some l) (sym (written_over n new items (length_of (full_run r hay) size h ∙ sym size ∙ ap length same) (len ∙ ap length same)))
+    where
+      length_of : (q : Option Run) → length now ≡ r.program.slots → LeavesRun r.program q found (length now) new → length new ≡ r.program.slots
+      length_of None size h = absurd (true≢false (sym holds ∙ h))
+      length_of (Some x) size h =
+          ap length (h.1 ∙ take_all (length now) (slots r.program x) (let all = length-slots r.program x in omega arith)) ∙ length-slots r.program x
+
+  pub full_unknown : (found : Bool) (n : ℕ) (new : List (Option ℕ)) → LeavesRun r.program (full_run r hay) found n new → found ≡ false → full_slots r hay ≡ None
+  full_unknown found n new h missing = by_run (full_run r hay) h
+    where
+      by_run : (q : Option Run) → LeavesRun r.program q found n new → option_map (slots r.program) q ≡ None
+      by_run None h = refl
+      by_run (Some x) h = absurd (true≢false (sym h.0 ∙ missing))

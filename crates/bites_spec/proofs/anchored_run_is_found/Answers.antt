@@ -1,5 +1,0 @@
-use Rattle.bites_spec.proofs.Laws as laws
-use Rattle.bites_spec.proofs.anchored_run_is_found.Goals as goal
-
-pub returns : goal.returns
-returns c = laws.anchored_run_is_found

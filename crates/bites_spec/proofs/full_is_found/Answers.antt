@@ -1,0 +1,5 @@
+use Rattle.bites_spec.proofs.Laws as laws
+use Rattle.bites_spec.proofs.full_is_found.Goals as goal
+
+pub returns : goal.returns
+returns c = laws.full_is_found
