@@ -4,6 +4,7 @@ pub mod PathLemmas
 pub mod MachineCases
 pub mod MachineSlots
 pub mod MachineWaiting
+pub mod MachineStarts
 pub mod MachineTrace
 pub mod MachineSearch
 pub mod MachineFirst
@@ -14,9 +15,3 @@ pub mod MachineLongest
 pub mod MachineWalks
 pub mod MachineRoom
 pub mod MachineAnswers
-pub mod AnchoredRoots
-pub mod AnchoredFirst
-pub mod AnchoredCounts
-pub mod AnchoredClosed
-pub mod AnchoredLongest
-pub mod AnchoredAnswers

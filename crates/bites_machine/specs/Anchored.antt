@@ -6,7 +6,7 @@ use Rattle.bites_spec.specs.Program.{Program}
 use Rattle.bites_spec.specs.Counts.{Record}
 use Rattle.bites_machine.specs.Machine.{Walking, Searching, WalksTo, started, after, is_empty}
 use Rattle.bites_machine.specs.SlotTable.{Pool}
-use Rattle.bites_machine.specs.Sweep.{Represents, left_in}
+use Rattle.bites_machine.specs.Sweep.{Represents}
 use Rattle.bites_machine.specs.declared.vm.threads.Thread.{Thread}
 use Rattle.bites_machine.specs.declared.vm.closure.Scratch.{Scratch}
 
@@ -67,12 +67,3 @@ module _ (p : Program) (hay : List ℕ) (longest earliest : Bool) (start : ℕ) 
     pub place_is : before.place ≡ place
     pub last : Steps hay longest p (length old) before now
     pub stands : Represents now (place + (piece hay place).len) pool threads walked old slots is_found
-
--- The machine on lists searched from the start alone, with this result and record.
-pub record AnchoredResult (p : Program) (hay : List ℕ) (longest earliest : Bool) (start : ℕ) (answer : Bool) (old new : List (Option ℕ)) (walked : Record) : Type 0 where
-  pub last : Searching
-  pub stepped : Stepped hay longest p (length old) earliest start last
-  pub found : is_some last.best ≡ answer
-  pub slots : left_in last.best old ≡ new
-  pub visits : last.visits ≡ walked.visits
-  pub looks : last.looks ≡ walked.looks

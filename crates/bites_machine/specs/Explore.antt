@@ -5,8 +5,8 @@ use Rattle.bites_spec.specs.Walks.{Among}
 use Rattle.bites_spec.specs.Program as program
 use Rattle.bites_spec.specs.Program.{Configuration, targets_of, state_at, HasRanges}
 use Rattle.bites_spec.specs.Counts.{Record}
-use Rattle.bites_machine.specs.Machine as machine
-use Rattle.bites_machine.specs.Machine.{kept, step}
+use Rattle.bites_spec.specs.PikeVm as machine
+use Rattle.bites_spec.specs.PikeVm.{kept, step}
 use Rattle.bites_machine.specs.Used.{IsUsed, KeepsRows}
 use Rattle.bites_machine.specs.Scratch.{first_match_of, walking_of, users_of}
 use Rattle.bites_machine.specs.Visits.{ArePending, IsStarted, Stays}

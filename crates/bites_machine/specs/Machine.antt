@@ -3,7 +3,7 @@ use Rattle.std.specs.Prelude.{◌≡◌, ℕ, zero, suc, ◌+◌, Bool, true, fa
 use Rattle.std.specs.Option.{option_or}
 use Rattle.bites_spec.specs.Utf8.{piece}
 use Rattle.bites_spec.specs.Program.{Program, Configuration, at}
-pub use Rattle.bites_spec.specs.PikeVm.{Thread, Walking, with_write, thread_on, is_empty, kept, moved, visited, dropped, stepped, step, WalksTo, started}
+pub use Rattle.bites_spec.specs.PikeVm.{Thread, Walking, with_write, thread_on, is_empty, kept, moved, visited, stepped, step, WalksTo, started}
 
 -- a search between two places
 pub record Searching : Type 0 where

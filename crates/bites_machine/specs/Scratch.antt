@@ -1,7 +1,7 @@
 -- What the code of the machine works with, as the machine on lists has it.
 use Rattle.std.specs.Prelude.{◌≡◌, ℕ, ◌+◌, ◌≤◌, List, [], ◌∷◌, ◌++◌, map, take, length, Option, option_map, sum}
 use Rattle.bites_spec.specs.Walks.{Among}
-use Rattle.bites_machine.specs.Machine as machine
+use Rattle.bites_spec.specs.PikeVm as machine
 use Rattle.bites_machine.specs.SlotTable.{Pool, with_pending}
 use Rattle.bites_machine.specs.Used.{IsUsed, KeepsRows, slots_at}
 use Rattle.bites_machine.specs.declared.vm.threads.Thread.{Thread}

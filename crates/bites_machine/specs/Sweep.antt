@@ -5,9 +5,10 @@ use Rattle.bites_spec.specs.Walks.{Among}
 use Rattle.bites_spec.specs.Program as program
 use Rattle.bites_spec.specs.Program.{Configuration, Program, targets_of, IsWellFormed}
 use Rattle.bites_spec.specs.Counts.{Record, Fit}
+use Rattle.bites_spec.specs.PikeVm as pikevm
 use Rattle.bites_machine.specs.Machine as machine
 use Rattle.bites_spec.specs.Utf8.{piece}
-use Rattle.bites_machine.specs.Machine.{kept, WalksTo, Searching, Searches, SearchedTo, Searched}
+use Rattle.bites_machine.specs.Machine.{kept, WalksTo, Searching, Searches, SearchedTo}
 use Rattle.bites_machine.specs.SlotTable.{Pool}
 use Rattle.bites_machine.specs.Threads.{Listed}
 use Rattle.bites_machine.specs.Used.{IsUsed, KeepsRows}
@@ -201,9 +202,9 @@ pub record IsProgramOf (p : Program) (all : List program.State) (first : ℕ) : 
   pub well : IsWellFormed p
 
 -- The machine on lists searched from the start on, with this result and record.
-pub record SearchResult (p : Program) (hay : List ℕ) (longest earliest : Bool) (start : ℕ) (answer : Bool) (old new : List (Option ℕ)) (walked : Record) : Type 0 where
-  pub last : Searching
-  pub searched : Searched hay longest p (length old) earliest start last
+pub record SearchResult (p : Program) (hay : List ℕ) (longest anchored earliest : Bool) (start : ℕ) (answer : Bool) (old new : List (Option ℕ)) (walked : Record) : Type 0 where
+  pub last : pikevm.Searching
+  pub searched : pikevm.Searched hay longest p (length old) anchored earliest start last
   pub found : is_some last.best ≡ answer
   pub slots : left_in last.best old ≡ new
   pub visits : last.visits ≡ walked.visits

@@ -66,10 +66,6 @@ module _ (hay : List ℕ) (longest : Bool) where
   abbrev pub visited : ℕ → State → Thread → List Thread → Walking → Walking
   visited i = closure.visited (threads_at i)
 
-  -- the first thread of the stack is at a state that was visited here
-  abbrev pub dropped : List Thread → Walking → Walking
-  dropped = closure.dropped
-
   module _ (p : Program) where
     -- a walk continues with the first thread of the stack, and those after it
     abbrev pub stepped : ℕ → List Thread → Walking → Walking

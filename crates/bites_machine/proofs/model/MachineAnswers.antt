@@ -2,18 +2,17 @@
 use Rattle.std.proofs.Common.{◌≡◌, ℕ, ◌<◌, ◌≤◌, Bool, true, false, List, [], length, take, Option, Some, None, option_map, refl, sym, ap, ◌∙◌, subst, arith}
 use Rattle.std.proofs.lemmas.Option.{same_Some, none-some}
 use Rattle.std.specs.Prelude.{is_some}
-use Rattle.bites_spec.specs.Utf8.{places}
 use Rattle.bites_spec.specs.Walks.{Among, first_among}
 use Rattle.bites_spec.specs.Program.{Program, IsWellFormed}
 use Rattle.bites_spec.specs.Run.{Run, Answered, LeastEnd, slots, first_run, first_run_from, longest_run, longest_run_below}
 use Rattle.bites_spec.specs.Counts.{Record, IsBounded, VisitedBy}
-use Rattle.bites_machine.specs.Machine.{Thread, Searching, Searched}
+use Rattle.bites_spec.specs.PikeVm.{Thread, Searching, Searched}
 use Rattle.bites_machine.specs.Sweep.{left_in}
+use Rattle.bites_machine.proofs.model.MachineStarts.{starts_of, starts-past}
 use Rattle.bites_machine.proofs.model.MachineFirst.{first_answer}
 use Rattle.bites_machine.proofs.model.MachineLongest.{longest_answer}
 use Rattle.bites_machine.proofs.model.MachineCounts.{search_bounded}
 use Rattle.bites_machine.proofs.model.MachineClosed.{all_visited, some_visited, no_run, least_end}
-use Rattle.bites_spec.proofs.runs.PlaceLemmas.{places-past}
 
 -- what was visited, and how often was looked
 abbrev pub record_of : Searching → Record
@@ -29,54 +28,57 @@ answered p width (Some r) (Some b) old len e = (
   same_Some b.slots (take width (slots p r)) e ∙ ap (λ (n : ℕ). take n (slots p r)) (sym len),
 )
 
-module _ (p : Program) (hay : List ℕ) (well : IsWellFormed p) (width : ℕ) (fits : width ≤ p.slots) (start : ℕ) where
-  module _ (within : start ≤ length hay) (t : Searching) (old : List (Option ℕ)) (len : length old ≡ width) where
+module _ (p : Program) (hay : List ℕ) (well : IsWellFormed p) (width : ℕ) (fits : width ≤ p.slots) (anchored : Bool) (start : ℕ) (within : start ≤ length hay) where
+  abbrev starts : List ℕ
+  starts = starts_of hay anchored start
+
+  module _ (t : Searching) (old : List (Option ℕ)) (len : length old ≡ width) where
     -- the first run
-    pub first_answered : Searched hay false p width false start t → Answered p (first_run p hay (places hay start)) (is_some t.best) old (left_in t.best old)
-    first_answered end = answered p width (first_run p hay (places hay start)) t.best old len (first_answer p hay well width fits start within t end)
+    pub first_answered : Searched hay false p width anchored false start t → Answered p (first_run p hay starts) (is_some t.best) old (left_in t.best old)
+    first_answered end = answered p width (first_run p hay starts) t.best old len (first_answer p hay well width fits anchored start within t end)
 
     -- the longest run
-    pub longest_answered : Searched hay true p width false start t → Answered p (longest_run p hay (places hay start)) (is_some t.best) old (left_in t.best old)
-    longest_answered end = answered p width (longest_run p hay (places hay start)) t.best old len (longest_answer p hay well width fits start within t end)
+    pub longest_answered : Searched hay true p width anchored false start t → Answered p (longest_run p hay starts) (is_some t.best) old (left_in t.best old)
+    longest_answered end = answered p width (longest_run p hay starts) t.best old len (longest_answer p hay well width fits anchored start within t end)
 
     -- a run that ends before or with every other
-    pub least_answered : Searched hay false p width true start t → (o : Option Run) × LeastEnd p hay (places hay start) o × Answered p o (is_some t.best) old (left_in t.best old)
+    pub least_answered : Searched hay false p width anchored true start t → (o : Option Run) × LeastEnd p hay starts o × Answered p o (is_some t.best) old (left_in t.best old)
     least_answered end = by_best t.best refl
       where
-        by_best : (best : Option Thread) → t.best ≡ best → (o : Option Run) × LeastEnd p hay (places hay start) o × Answered p o (is_some best) old (left_in best old)
-        by_best None none = (None, no_run p hay false width start true within fits t end none, (refl, refl))
+        by_best : (best : Option Thread) → t.best ≡ best → (o : Option Run) × LeastEnd p hay starts o × Answered p o (is_some best) old (left_in best old)
+        by_best None none = (None, no_run p hay false width fits anchored start within true t end none, (refl, refl))
         by_best (Some b) some =
-            let least = least_end p hay false width start within fits t end b some in
+            let least = least_end p hay false width fits anchored start within t end b some in
             (Some least.0, least.1, answered p width (Some least.0) (Some b) old len (ap (λ (l : List (Option ℕ)). Some l) least.2))
 
-  module _ (longest earliest : Bool) (within : start ≤ length hay) (t : Searching) (end : Searched hay longest p width earliest start t) where
+  module _ (longest earliest : Bool) (t : Searching) (end : Searched hay longest p width anchored earliest start t) where
     -- what a search has visited
-    pub search_visited : VisitedBy p hay (places hay start) (is_some t.best) (record_of t)
+    pub search_visited : VisitedBy p hay starts (is_some t.best) (record_of t)
     search_visited = by_best t.best refl
       where
-        by_best : (best : Option Thread) → t.best ≡ best → VisitedBy p hay (places hay start) (is_some best) (record_of t)
-        by_best None none = all_visited p hay longest width start earliest within fits t end none
-        by_best (Some b) some = some_visited p hay longest width start earliest within fits t end b some
+        by_best : (best : Option Thread) → t.best ≡ best → VisitedBy p hay starts (is_some best) (record_of t)
+        by_best None none = all_visited p hay longest width fits anchored start within earliest t end none
+        by_best (Some b) some = some_visited p hay longest width fits anchored start within earliest t end b some
 
     -- and within which bounds
     pub search_counted : IsBounded p hay start (record_of t)
-    search_counted = search_bounded p hay well longest width fits start earliest within t end
+    search_counted = search_bounded p hay well longest width fits anchored earliest start within t end
 
 -- a start past the end of the haystack
-module _ (p : Program) (hay : List ℕ) (start : ℕ) (past : length hay < start) where
-  pub past_first : first_run p hay (places hay start) ≡ None
+module _ (p : Program) (hay : List ℕ) (anchored : Bool) (start : ℕ) (past : length hay < start) where
+  pub past_first : first_run p hay (starts_of hay anchored start) ≡ None
   unfolding first_run
-  past_first = ap (first_among (first_run_from p hay)) (places-past hay start past)
+  past_first = ap (first_among (first_run_from p hay)) (starts-past hay anchored start past)
 
-  pub past_longest : longest_run p hay (places hay start) ≡ None
+  pub past_longest : longest_run p hay (starts_of hay anchored start) ≡ None
   unfolding longest_run
-  past_longest = ap (first_among (longest_run_below p hay _)) (places-past hay start past)
+  past_longest = ap (first_among (longest_run_below p hay _)) (starts-past hay anchored start past)
 
-  pub past_least : LeastEnd p hay (places hay start) None
-  past_least i among r j runs = subst (λ (l : List ℕ). Among l i) (places-past hay start past) among
+  pub past_least : LeastEnd p hay (starts_of hay anchored start) None
+  past_least i among r j runs = subst (λ (l : List ℕ). Among l i) (starts-past hay anchored start past) among
 
-  pub past_visited : VisitedBy p hay (places hay start) false (record { visits = []; looks = 0 })
-  past_visited i among t reaches = absurd (subst (λ (l : List ℕ). Among l i) (places-past hay start past) among)
+  pub past_visited : VisitedBy p hay (starts_of hay anchored start) false (record { visits = []; looks = 0 })
+  past_visited i among t reaches = absurd (subst (λ (l : List ℕ). Among l i) (starts-past hay anchored start past) among)
 
   pub past_counted : IsBounded p hay start (record { visits = []; looks = 0 })
   past_counted = record {

@@ -10,7 +10,8 @@ use Rattle.bites_spec.specs.Walks.{Among}
 use Rattle.bites_spec.specs.Program.{State, Program, Configuration, state_at, edges, is_match, char, ranges, splits, goto, capture, fail, match}
 use Rattle.bites_machine.specs.Ends.{next_character, targets_over}
 use Rattle.bites_spec.specs.Closure as closure
-use Rattle.bites_machine.specs.Machine.{Thread, Walking, kept, moved, visited, dropped, stepped, step, WalksTo}
+use Rattle.bites_spec.specs.Closure.{dropped}
+use Rattle.bites_spec.specs.PikeVm.{Thread, Walking, kept, moved, visited, stepped, step, WalksTo}
 use Rattle.bites_machine.proofs.compile.EdgeLemmas.{edges_apart}
 
 -- the state takes a character
@@ -79,12 +80,12 @@ module _ (hay : List ℕ) (longest : Bool) (i : ℕ) where
 
   -- what a visit makes of a walk, by the kind of the state
   pub visited_cases : (Q : Walking → Type 0) (st : State) (t : Thread) (rest : List Thread) (w : Walking) →
-      (is_match st ≡ true → Q (at_match t rest w)) → (is_match st ≡ false → LeadsOver st → Q (taken st t rest w)) →
+      (is_match st ≡ true → Q (at_match t rest w)) → (is_match st ≡ false → takes st ≡ true → LeadsOver st → Q (taken st t rest w)) →
       (is_match st ≡ false → LeadsBeside st → Q (gone st t rest w)) → Q (visited hay longest i st t rest w)
   unfolding closure.visited
   visited_cases Q match t rest w on_match on_taken on_gone = on_match refl
-  visited_cases Q (char q c) t rest w on_match on_taken on_gone = on_taken refl (char_over q c)
-  visited_cases Q (ranges q rs) t rest w on_match on_taken on_gone = on_taken refl (ranges_over q rs)
+  visited_cases Q (char q c) t rest w on_match on_taken on_gone = on_taken refl refl (char_over q c)
+  visited_cases Q (ranges q rs) t rest w on_match on_taken on_gone = on_taken refl refl (ranges_over q rs)
   visited_cases Q (splits qs b) t rest w on_match on_taken on_gone = on_gone refl (stays (splits qs b) refl)
   visited_cases Q (goto q look) t rest w on_match on_taken on_gone = on_gone refl (stays (goto q look) refl)
   visited_cases Q (capture q k) t rest w on_match on_taken on_gone = on_gone refl (stays (capture q k) refl)
@@ -100,11 +101,11 @@ module _ (hay : List ℕ) (longest : Bool) (i : ℕ) where
 
     -- What a step keeps, by the kind of the step: P of the walk before it, Q of the walk after it.
     pub record Keeps (P : Walking → Type 0) : Type 0 where
-      pub on_seen : (t : Thread) (rest : List Thread) (w : Walking) → w.stack ≡ t ∷ rest → was_seen w.seen t.state ≡ true → P w → P (dropped hay longest rest w)
+      pub on_seen : (t : Thread) (rest : List Thread) (w : Walking) → w.stack ≡ t ∷ rest → was_seen w.seen t.state ≡ true → P w → P (dropped rest w)
       pub on_match : (t : Thread) (rest : List Thread) (w : Walking) → w.stack ≡ t ∷ rest → was_seen w.seen t.state ≡ false →
           is_match (state_of_thread t) ≡ true → P w → P (at_match t rest w)
       pub on_taken : (t : Thread) (rest : List Thread) (w : Walking) → w.stack ≡ t ∷ rest → was_seen w.seen t.state ≡ false →
-          is_match (state_of_thread t) ≡ false → LeadsOver (state_of_thread t) → P w → P (taken (state_of_thread t) t rest w)
+          is_match (state_of_thread t) ≡ false → takes (state_of_thread t) ≡ true → LeadsOver (state_of_thread t) → P w → P (taken (state_of_thread t) t rest w)
       pub on_gone : (t : Thread) (rest : List Thread) (w : Walking) → w.stack ≡ t ∷ rest → was_seen w.seen t.state ≡ false →
           is_match (state_of_thread t) ≡ false → LeadsBeside (state_of_thread t) → P w → P (gone (state_of_thread t) t rest w)
 
@@ -115,13 +116,13 @@ module _ (hay : List ℕ) (longest : Bool) (i : ℕ) where
       stepped_keeps w (t ∷ rest) is now =
           ⊎_elim
           (λ (seen : was_seen w.seen t.state ≡ true).
-          subst (λ b. P (cond b (dropped hay longest rest w) (visited hay longest i (state_of_thread t) t rest w))) (sym seen)
+          subst (λ b. P (cond b (dropped rest w) (visited hay longest i (state_of_thread t) t rest w))) (sym seen)
           (keeps.on_seen t rest w is seen now))
           (λ (new : was_seen w.seen t.state ≡ false).
-          subst (λ b. P (cond b (dropped hay longest rest w) (visited hay longest i (state_of_thread t) t rest w))) (sym new)
+          subst (λ b. P (cond b (dropped rest w) (visited hay longest i (state_of_thread t) t rest w))) (sym new)
           (visited_cases P (state_of_thread t) t rest w
           (λ found. keeps.on_match t rest w is new found now)
-          (λ no over. keeps.on_taken t rest w is new no over now)
+          (λ no takes over. keeps.on_taken t rest w is new no takes over now)
           (λ no beside. keeps.on_gone t rest w is new no beside now)))
           (cases_Bool (was_seen w.seen t.state))
 

@@ -3,29 +3,28 @@ use Rattle.std.proofs.Common.{◌≡◌, ℕ, ◌+◌, ◌<◌, ◌≤◌, Bool,
 use Rattle.std.specs.Prelude.{◌==◌, is_some}
 use Rattle.std.specs.Option.{option_or}
 use Rattle.std.proofs.lemmas.Bool.{cases_Bool}
-use Rattle.bites_spec.specs.Utf8.{piece, places, step_len}
+use Rattle.bites_spec.specs.Utf8.{piece}
 use Rattle.bites_spec.specs.Walks.{Among}
 use Rattle.bites_spec.specs.Program.{Program, Configuration, at, state_at, is_match}
 use Rattle.bites_spec.specs.Run.{Run, leads, matches, Runs, IsRun, NoRun, LeastEnd, slots}
 use Rattle.bites_spec.specs.Counts.{Record, VisitedAll, VisitedSome}
-use Rattle.bites_spec.proofs.utf8.PieceLemmas.{Among-places}
 use Rattle.bites_spec.proofs.programs.SlotLemmas.{Among-left, Among-right}
 use Rattle.bites_spec.proofs.programs.ListedLemmas.{Among-under}
-use Rattle.bites_machine.specs.Machine.{Thread, Walking, Searching, with_write, thread_on, moved, dropped, started, begun, Searches, at_start, SearchedTo, Searched, is_empty}
+use Rattle.bites_spec.specs.Closure.{dropped}
+use Rattle.bites_spec.specs.PikeVm.{Thread, Walking, Searching, with_write, thread_on, moved, started, begun, Searches, SearchedTo, Searched}
 use Rattle.bites_machine.proofs.model.SweepLemmas.{Runs-forward}
 use Rattle.bites_machine.proofs.model.PathLemmas.{closed_walk}
 use Rattle.bites_machine.proofs.model.MachineCases.{was_seen, taken, gone, Keeps, walk_keeps}
-use Rattle.bites_machine.proofs.model.MachineFirst.{nothing_among, places_end}
 use Rattle.bites_machine.proofs.model.MachineTrace.{Found}
-use Rattle.bites_machine.proofs.model.MachineSearch.{AreTraced, place_traced, traced_on, searched_place, searched_keeps, searched_traced, goes_on, still_open, configurations_of, option_or_cases}
+use Rattle.bites_machine.proofs.model.MachineStarts.{starts_of, later_starts, starts-here, left_after, to_come, to_come_later, to_come_on, come_here}
+use Rattle.bites_machine.proofs.model.MachineSearch.{AreTraced, place_traced, traced_on, over_cases, IsPlaced, place_within, searched_placed, searched_keeps, searched_traced, goes_on, still_open, configurations_of, option_or_cases}
 use Rattle.std.proofs.lemmas.Option.{none-some}
-use Rattle.bites_spec.proofs.runs.PlaceLemmas.{places-here}
 
 -- a thread of the list is at the configuration
-abbrev pub Waits : List Thread → ℕ → Configuration → Type 0
+abbrev Waits : List Thread → ℕ → Configuration → Type 0
 Waits ts i v = (u : Thread) × Among ts u × (at u.state i ≡ v)
 
-pub seen_among : (hay : List ℕ) (longest : Bool) (p : Program) (i : ℕ) (seen : List ℕ) (q : ℕ) → was_seen hay longest i p seen q ≡ true →
+seen_among : (hay : List ℕ) (longest : Bool) (p : Program) (i : ℕ) (seen : List ℕ) (q : ℕ) → was_seen hay longest i p seen q ≡ true →
     Among (map (λ x. at x i) seen) (at q i)
 seen_among hay longest p i [] q was = absurd (true≢false (sym was))
 seen_among hay longest p i (x ∷ seen) q was =
@@ -33,35 +32,35 @@ seen_among hay longest p i (x ∷ seen) q was =
     (λ (e : (x == q) ≡ false). inr (seen_among hay longest p i seen q (ap (λ b. b || was_seen hay longest i p seen q) (sym e) ∙ was)))
     (cases_Bool (x == q))
 
-module _ (p : Program) (hay : List ℕ) (longest : Bool) (width : ℕ) (start : ℕ) where
+module _ (p : Program) (hay : List ℕ) (longest : Bool) (width : ℕ) (starts : List ℕ) where
   -- No match was visited. What leads on from visited configurations, or is a start before the later ones, was visited or waits.
-  pub record IsClosed (visits : List Configuration) (threads : List Thread) (i later : ℕ) : Type 0 where
-    pub closed : (u : Configuration) → Among visits u → (v : Configuration) → Among (leads p hay u) v → Among visits v ⊎ Waits threads i v
-    pub starts : (k : ℕ) → Among (places hay start) k → Among visits (at p.start k) ⊎ Among (places hay later) k
-    pub no_match : (u : Configuration) → Among visits u → matches p u ≡ false
+  record IsClosed (visits : List Configuration) (threads : List Thread) (i : ℕ) (later : List ℕ) : Type 0 where
+    closed : (u : Configuration) → Among visits u → (v : Configuration) → Among (leads p hay u) v → Among visits v ⊎ Waits threads i v
+    begun : (k : ℕ) → Among starts k → Among visits (at p.start k) ⊎ Among later k
+    no_match : (u : Configuration) → Among visits u → matches p u ≡ false
 
-  module _ (i : ℕ) (old : List Configuration) where
+  module _ (i : ℕ) (old : List Configuration) (later : List ℕ) where
     abbrev there : ℕ
     there = i + (piece hay i).len
 
     -- visited, or waiting at the place
-    abbrev pub IsHere : Walking → Configuration → Type 0
+    abbrev IsHere : Walking → Configuration → Type 0
     IsHere w v = Among (configurations_of i old w.seen) v ⊎ Waits w.stack i v
 
     -- visited, or waiting in a walk
-    abbrev pub IsMet : Walking → Configuration → Type 0
+    abbrev IsMet : Walking → Configuration → Type 0
     IsMet w v = IsHere w v ⊎ Waits w.next (i + (piece hay i).len) v
 
-    pub record IsClosing (w : Walking) : Type 0 where
-      pub closed : (u : Configuration) → Among (configurations_of i old w.seen) u → (v : Configuration) → Among (leads p hay u) v → IsMet w v
-      pub starts : (k : ℕ) → Among (places hay start) k → IsHere w (at p.start k) ⊎ Among (places hay (i + step_len hay i)) k
-      pub no_match : (u : Configuration) → Among (configurations_of i old w.seen) u → matches p u ≡ false
+    record IsClosing (w : Walking) : Type 0 where
+      closed : (u : Configuration) → Among (configurations_of i old w.seen) u → (v : Configuration) → Among (leads p hay u) v → IsMet w v
+      begun : (k : ℕ) → Among starts k → IsHere w (at p.start k) ⊎ Among later k
+      no_match : (u : Configuration) → Among (configurations_of i old w.seen) u → matches p u ≡ false
 
     -- what was met is met, once the first thread of the stack was visited
     module _ (t : Thread) (rest : List Thread) (w x : Walking) (is : w.stack ≡ t ∷ rest) (here : Among (configurations_of i old x.seen) (at t.state i))
         (visits : (u : Configuration) → Among (configurations_of i old w.seen) u → Among (configurations_of i old x.seen) u) (stack : (u : Thread) → Among rest u → Among x.stack u)
         (next : (u : Thread) → Among w.next u → Among x.next u) where
-      pub here_on : (v : Configuration) → IsHere w v → IsHere x v
+      here_on : (v : Configuration) → IsHere w v → IsHere x v
       here_on v met =
           ⊎_elim (λ a. inl (visits v a))
           (λ on_stack. ⊎_elim
@@ -79,7 +78,7 @@ module _ (p : Program) (hay : List ℕ) (longest : Bool) (width : ℕ) (start : 
       closing_on new led none before = record {
         closed = λ u h v edge.
             ⊎_elim (λ (e : at t.state i ≡ u). led v (subst (λ (y : Configuration). Among (leads p hay y) v) (sym e) edge)) (λ a. met_on v (before.closed u a v edge)) (new u h);
-        starts = λ k h. ⊎_elim (λ a. inl (here_on (at p.start k) a)) inr (before.starts k h);
+        begun = λ k h. ⊎_elim (λ a. inl (here_on (at p.start k) a)) inr (before.begun k h);
         no_match = λ u h. ⊎_elim (λ (e : at t.state i ≡ u). subst (λ (y : Configuration). matches p y ≡ false) e none) (before.no_match u) (new u h);
       }
 
@@ -90,26 +89,26 @@ module _ (p : Program) (hay : List ℕ) (longest : Bool) (width : ℕ) (start : 
       ap (λ (n : ℕ). at v.state n) (sym is),
     )
 
-    pub never : (o : Option Thread) (t : Thread) → option_or o (Some t) ≡ None → ⊥
+    never : (o : Option Thread) (t : Thread) → option_or o (Some t) ≡ None → ⊥
     never None t e = none-some t (sym e)
     never (Some u) t e = none-some u (sym e)
 
-    abbrev pub IsClosingYet : Walking → Type 0
+    abbrev IsClosingYet : Walking → Type 0
     IsClosingYet w = w.first_match ≡ None → IsClosing w
 
     on_dropped : (t : Thread) (rest : List Thread) (w : Walking) → w.stack ≡ t ∷ rest → was_seen hay longest i p w.seen t.state ≡ true →
-        IsClosing w → IsClosing (dropped hay longest rest w)
+        IsClosing w → IsClosing (dropped rest w)
     on_dropped t rest w is was before =
         let here = Among-left (map (λ x. at x i) w.seen) old (at t.state i) (seen_among hay longest p i w.seen t.state was) in
-        closing_on t rest w (dropped hay longest rest w) is here (λ u h. h) (λ u h. h) (λ u h. h) (λ u h. inr h)
-        (λ v edge. met_on t rest w (dropped hay longest rest w) is here (λ u h. h) (λ u h. h) (λ u h. h) v (before.closed (at t.state i) here v edge))
+        closing_on t rest w (dropped rest w) is here (λ u h. h) (λ u h. h) (λ u h. h) (λ u h. inr h)
+        (λ v edge. met_on t rest w (dropped rest w) is here (λ u h. h) (λ u h. h) (λ u h. h) v (before.closed (at t.state i) here v edge))
         (before.no_match (at t.state i) here) before
 
-    pub closing_keeps : Keeps hay longest i p IsClosingYet
+    closing_keeps : Keeps hay longest i p IsClosingYet
     closing_keeps = record {
       on_seen = λ t rest w is was now none. on_dropped t rest w is was (now none);
       on_match = λ t rest w is new found now none. absurd (never w.first_match t none);
-      on_taken = λ t rest w is new none over now no_hit.
+      on_taken = λ t rest w is new none one over now no_hit.
           let later = moved hay longest i (state_at p.states t.state) t in
           closing_on t rest w (taken hay longest i (state_at p.states t.state) t rest w) is (inl refl) (λ u h. inr h) (λ u h. h)
           (λ u h. Among-left w.next later u h) (λ u h. h)
@@ -123,68 +122,71 @@ module _ (p : Program) (hay : List ℕ) (longest : Bool) (width : ℕ) (start : 
           none (now no_hit);
     }
 
-  -- one place more
-  module _ (s t : Searching) (le : s.place ≤ length hay) (place : Searches hay longest p width s t) (now : s.best ≡ None → IsClosed s.visits s.threads s.place s.place) where
-    abbrev start_thread : Thread
-    start_thread = started hay longest p width s.place
+  -- what leads on is known as long as nothing was found
+  module _ (anchored : Bool) where
+    abbrev IsClosedYet : Searching → Type 0
+    IsClosedYet s = s.best ≡ None → IsClosed s.visits s.threads s.place (to_come hay anchored s)
 
-    begun_closing : (best : Option Thread) → s.best ≡ best → best ≡ None → IsClosing s.place s.visits
-        (record { stack = s.threads ++ cond (is_some best) [] (start_thread ∷ []); seen = []; next = []; first_match = None; looks = s.looks })
-    begun_closing (Some b) is none = absurd (none-some b (sym none))
-    begun_closing None is none =
-        let before = now is in record {
-          closed = λ u h v edge. ⊎_elim (λ a. inl (inl a)) (λ waits. inl (inr (waits.0, Among-left s.threads (start_thread ∷ []) waits.0 waits.1, waits.2))) (before.closed u h v edge);
-          starts = λ k h. ⊎_elim (λ a. inl (inl a))
-              (λ later. ⊎_elim
-              (λ (e : s.place ≡ k).
-              inl (inr (start_thread, Among-right s.threads (start_thread ∷ []) start_thread (inl refl), ap (λ (n : ℕ). at p.start n) e)))
-              inr (subst (λ (l : List ℕ). Among l k) (places-here hay s.place le) later))
-              (before.starts k h);
-          no_match = before.no_match;
-        }
+    -- one place more
+    module _ (s t : Searching) (le : s.place ≤ length hay) (place : Searches hay longest p width anchored s t) (now : IsClosedYet s) where
+      abbrev start_thread : Thread
+      start_thread = started hay longest p width s.place
 
-    last_closing : s.best ≡ None → place.last.first_match ≡ None → IsClosing s.place s.visits place.last
-    last_closing no_best =
-        walk_keeps hay longest s.place p (λ w. w.first_match ≡ None → IsClosing s.place s.visits w) (closing_keeps s.place s.visits)
-        (begun hay longest p width s) place.last place.walks (λ none. begun_closing s.best refl no_best)
+      abbrev later : List ℕ
+      later = to_come_later hay anchored s
 
-    both_none : (o q : Option Thread) → option_or o q ≡ None → (o ≡ None) × (q ≡ None)
-    both_none None q e = (refl, e)
-    both_none (Some u) q e = absurd (none-some u (sym e))
+      begun_closing : (b : Bool) → IsClosed s.visits s.threads s.place (cond b (starts_of hay anchored s.place) []) →
+          IsClosing s.place s.visits (cond b (later_starts hay anchored s.place) [])
+          (record { stack = s.threads ++ cond b (start_thread ∷ []) []; seen = []; next = []; first_match = None; looks = s.looks })
+      begun_closing b before = record {
+        closed = λ u h v edge. ⊎_elim (λ a. inl (inl a)) (λ waits. inl (inr (waits.0, Among-left s.threads (cond b (start_thread ∷ []) []) waits.0 waits.1, waits.2))) (before.closed u h v edge);
+        begun = λ k h. ⊎_elim (λ a. inl (inl a)) (start_waits b k) (before.begun k h);
+        no_match = before.no_match;
+      }
+        where
+          start_waits : (b : Bool) (k : ℕ) → Among (cond b (starts_of hay anchored s.place) []) k →
+              (Among s.visits (at p.start k) ⊎ Waits (s.threads ++ cond b (start_thread ∷ []) []) s.place (at p.start k)) ⊎ Among (cond b (later_starts hay anchored s.place) []) k
+          start_waits false k h = absurd h
+          start_waits true k h =
+              ⊎_elim
+              (λ (e : s.place ≡ k). inl (inr (start_thread, Among-right s.threads (start_thread ∷ []) start_thread (inl refl), ap (λ (n : ℕ). at p.start n) e)))
+              inr (subst (λ (l : List ℕ). Among l k) (starts-here hay anchored s.place le) h)
 
-    no_stack : (v : Configuration) → Waits place.last.stack s.place v → ⊥
-    no_stack v waits = subst (λ (l : List Thread). Among l waits.0) place.over waits.1
+      both_none : (o q : Option Thread) → option_or o q ≡ None → (o ≡ None) × (q ≡ None)
+      both_none None q e = (refl, e)
+      both_none (Some u) q e = absurd (none-some u (sym e))
 
-    closed_behind : t.best ≡ None → IsClosed t.visits t.threads (s.place + (piece hay s.place).len) (s.place + step_len hay s.place)
-    closed_behind none =
-        let both = both_none place.last.first_match s.best (ap (λ (x : Searching). x.best) place.is ∙ none) in
-        let last = last_closing both.1 both.0 in
-        subst (λ (x : Searching). IsClosed x.visits x.threads (s.place + (piece hay s.place).len) (s.place + step_len hay s.place)) place.is record {
-          closed = λ u h v edge. ⊎_elim (λ here. inl (visited_here v here)) inr (last.closed u h v edge);
-          starts = λ k h. ⊎_elim (λ here. inl (visited_here (at p.start k) here)) inr (last.starts k h);
-          no_match = last.no_match;
-        }
-      where
-        visited_here : (v : Configuration) → IsHere s.place s.visits place.last v → Among (configurations_of s.place s.visits place.last.seen) v
-        visited_here v here = ⊎_elim (λ a. a) (λ waits. absurd (no_stack v waits)) here
+      no_stack : (v : Configuration) → Waits place.last.stack s.place v → ⊥
+      no_stack v waits = subst (λ (l : List Thread). Among l waits.0) place.over waits.1
 
-  abbrev IsClosedYet : Searching → Type 0
-  IsClosedYet s = s.best ≡ None → IsClosed s.visits s.threads s.place s.place
+      visited_here : (v : Configuration) → IsHere s.place s.visits later place.last v → Among (configurations_of s.place s.visits place.last.seen) v
+      visited_here v here = ⊎_elim (λ a. a) (λ waits. absurd (no_stack v waits)) here
 
-  closed_start : IsClosedYet (at_start hay longest p width start)
-  closed_start none = record {
-    closed = λ u h. absurd h;
-    starts = λ k h. inr h;
-    no_match = λ u h. absurd h;
-  }
+      -- with the starts that are left after the place
+      closed_behind : t.best ≡ None → IsClosed t.visits t.threads (s.place + (piece hay s.place).len) (left_after place.last.first_match later)
+      closed_behind none =
+          let both = both_none place.last.first_match s.best (ap (λ (x : Searching). x.best) place.is ∙ none) in
+          let last = walk_keeps hay longest s.place p (IsClosingYet s.place s.visits later) (closing_keeps s.place s.visits later)
+          (begun hay longest p width s) place.last place.walks (λ e. begun_closing s.starts (now both.1)) both.0 in
+          subst (λ (o : Option Thread). IsClosed t.visits t.threads (s.place + (piece hay s.place).len) (left_after o later)) (sym both.0)
+          (subst (λ (x : Searching). IsClosed x.visits x.threads (s.place + (piece hay s.place).len) later) place.is record {
+            closed = λ u h v edge. ⊎_elim (λ here. inl (visited_here v here)) inr (last.closed u h v edge);
+            begun = λ k h. ⊎_elim (λ here. inl (visited_here (at p.start k) here)) inr (last.begun k h);
+            no_match = last.no_match;
+          })
 
-  -- no run that begins at a place from the start on ends before the place of a search without a match
-  none_before : (visits : List Configuration) (threads : List Thread) (i : ℕ) → IsClosed visits threads i i → (k : ℕ) → Among (places hay start) k →
-      (o : List Configuration) (j : ℕ) → IsRun p hay k o j → j < i → ⊥
-  none_before visits threads i closed k among o j runs lt =
+      closed_on : 0 < (piece hay s.place).len → IsClosedYet t
+      closed_on some none =
+          subst (λ (l : List ℕ). IsClosed t.visits t.threads t.place l) (sym (to_come_on hay anchored longest p width s t place some))
+          (subst (λ (k : ℕ). IsClosed t.visits t.threads k (left_after place.last.first_match later)) (ap (λ (x : Searching). x.place) place.is) (closed_behind none))
+
+  -- no run from a start ends before the place of a search without a match
+  none_before : (visits : List Configuration) (threads : List Thread) (i : ℕ) (later : List ℕ) → ((k : ℕ) → Among later k → i ≤ k) → IsClosed visits threads i later →
+      (k : ℕ) → Among starts k → (o : List Configuration) (j : ℕ) → IsRun p hay k o j → j < i → ⊥
+  none_before visits threads i later above closed k among o j runs lt =
       ⊎_elim (λ a. goes (at p.start k) o a runs)
-      (λ later. let above = (Among-places hay i k later).0 in let forward = Runs-forward p hay (at p.start k) o j runs in omega arith)
-      (closed.starts k among)
+      (λ later. let le = above k later in let forward = Runs-forward p hay (at p.start k) o j runs in omega arith)
+      (closed.begun k among)
     where
       goes : (s : Configuration) (r : List Configuration) → Among visits s → Runs p hay s r j → ⊥
       goes s [] a runs = true≢false (sym runs.0 ∙ closed.no_match s a)
@@ -193,70 +195,64 @@ module _ (p : Program) (hay : List ℕ) (longest : Bool) (width : ℕ) (start : 
           (λ waits. let forward = Runs-forward p hay v r j runs.1 in let here = ap (λ (x : Configuration). x.place) waits.2 in omega arith)
           (closed.closed s a v runs.0)
 
-  module _ (earliest : Bool) (within : start ≤ length hay) where
-    searched_closed : (n : ℕ) (s : Searching) → SearchedTo hay longest p width earliest start n s → IsClosedYet s
+module _ (p : Program) (hay : List ℕ) (longest : Bool) (width : ℕ) (fits : width ≤ p.slots) (anchored : Bool) (start : ℕ) (within : start ≤ length hay) where
+  abbrev starts_here : List ℕ
+  starts_here = starts_of hay anchored start
+
+  module _ (earliest : Bool) where
+    searched_closed : (n : ℕ) (s : Searching) → SearchedTo hay longest p width anchored earliest start n s → IsClosedYet p hay longest width starts_here anchored s
     searched_closed n s to =
-        searched_keeps p hay longest width earliest start within IsClosedYet closed_start
-        (λ s t among now place on none.
-        let some = goes_on p hay longest width earliest start within s.place t on in
-        let at_place = ap (λ (x : Searching). x.place) place.is in
-        let later : s.place + step_len hay s.place ≡ t.place = omega arith in
-        subst (λ (k : ℕ). IsClosed t.visits t.threads k t.place) at_place
-        (subst (λ (k : ℕ). IsClosed t.visits t.threads (s.place + (piece hay s.place).len) k) later
-        (closed_behind s t (Among-places hay start s.place among).1 place now none))) n s to
+        searched_keeps p hay longest width anchored earliest start within (IsClosedYet p hay longest width starts_here anchored)
+        (λ none. record { closed = λ u h. absurd h; begun = λ k h. inr h; no_match = λ u h. absurd h })
+        (λ s t placed now place on. closed_on p hay longest width starts_here anchored s t (place_within p hay longest width anchored earliest start within s placed) place now
+        (goes_on p hay longest width anchored earliest start within s.place t on)) n s to
 
     abbrev record_of : Searching → Record
     record_of t = record { visits = t.visits; looks = t.looks }
 
-    module _ (fits : width ≤ p.slots) (t : Searching) (end : Searched hay longest p width earliest start t) where
-      place_among : Among (places hay start) end.before.place
-      place_among = searched_place p hay longest width earliest start within end.places end.before end.searched
+    module _ (t : Searching) (end : Searched hay longest p width anchored earliest start t) where
+      abbrev before : Searching
+      before = end.before
 
-      place_within : end.before.place ≤ length hay
-      place_within = (Among-places hay start end.before.place place_among).1
+      placed : IsPlaced p hay longest width anchored earliest start within before
+      placed = searched_placed p hay longest width anchored earliest start within end.places before end.searched
 
-      before_traced : AreTraced p hay longest width start fits end.before
-      before_traced = searched_traced p hay longest width start fits earliest within end.places end.before end.searched
+      before_within : before.place ≤ length hay
+      before_within = place_within p hay longest width anchored earliest start within before placed
 
-      -- a search that found nothing came to the end of the haystack
-      no_piece : t.best ≡ None → (piece hay end.before.place).len ≡ 0
-      no_piece none =
-          eqb-true (piece hay end.before.place).len 0
-          (is_left ((piece hay end.before.place).len == 0) (earliest || is_empty t.threads)
-          (subst (λ (o : Option Thread). (((piece hay end.before.place).len == 0) || (is_some o && (earliest || is_empty t.threads))) ≡ true) none end.over))
+      before_traced : AreTraced p hay longest width starts_here fits before
+      before_traced = searched_traced p hay longest width fits anchored earliest start within end.places before end.searched
+
+      behind : t.best ≡ None → IsClosed p hay longest width starts_here t.visits t.threads (before.place + (piece hay before.place).len)
+          (left_after end.last.last.first_match (to_come_later hay anchored before))
+      behind = closed_behind p hay longest width starts_here anchored before t before_within end.last (searched_closed end.places before end.searched)
+
+      -- a search that found nothing has no thread left, and no start to come
+      nothing_left : t.best ≡ None → (t.threads ≡ []) × (left_after end.last.last.first_match (to_come_later hay anchored before) ≡ [])
+      nothing_left none =
+          ⊎_elim (λ nothing. nothing) (λ early. absurd (not_early earliest t.best none early))
+          (over_cases p hay longest width starts_here fits anchored before t placed.starts before_traced end.last earliest before_within end.over)
         where
-          is_left : (a b : Bool) → (a || (false && b)) ≡ true → a ≡ true
-          is_left true b e = refl
-          is_left false b e = e
-
-      behind : t.best ≡ None →
-          IsClosed t.visits t.threads (end.before.place + (piece hay end.before.place).len) (end.before.place + step_len hay end.before.place)
-      behind = closed_behind end.before t place_within end.last (searched_closed end.places end.before end.searched)
-
-      no_threads : t.best ≡ None → t.threads ≡ []
-      no_threads none =
-          sym (ap (λ (x : Searching). x.threads) end.last.is)
-          ∙ nothing_among end.last.last.next
-          (λ u h.
-          let some = ((place_traced p hay longest width start fits end.before t place_among before_traced end.last).next u h).0 in
-          let no_len = no_piece none in omega arith)
+          not_early : (a : Bool) (o : Option Thread) → o ≡ None → (a && is_some o) ≡ true → ⊥
+          not_early true None e is = true≢false (sym is)
+          not_early false None e is = true≢false (sym is)
+          not_early a (Some u) e is = none-some u (sym e)
 
       led_visited : t.best ≡ None → (u : Configuration) → Among t.visits u → (v : Configuration) → Among (leads p hay u) v → Among t.visits v
       led_visited none u h v edge =
-          ⊎_elim (λ a. a) (λ waits. absurd (subst (λ (l : List Thread). Among l waits.0) (no_threads none) waits.1)) ((behind none).closed u h v edge)
+          ⊎_elim (λ a. a) (λ waits. absurd (subst (λ (l : List Thread). Among l waits.0) (nothing_left none).0 waits.1)) ((behind none).closed u h v edge)
 
-      start_visited : t.best ≡ None → (k : ℕ) → Among (places hay start) k → Among t.visits (at p.start k)
+      start_visited : t.best ≡ None → (k : ℕ) → Among starts_here k → Among t.visits (at p.start k)
       start_visited none k h =
-          ⊎_elim (λ a. a) (λ later. absurd (subst (λ (l : List ℕ). Among l k) (places_end hay end.before.place place_within (no_piece none)) later))
-          ((behind none).starts k h)
+          ⊎_elim (λ a. a) (λ later. absurd (subst (λ (l : List ℕ). Among l k) (nothing_left none).1 later)) ((behind none).begun k h)
 
       -- a search that found nothing has visited all that is reached
-      pub all_visited : t.best ≡ None → VisitedAll p hay (places hay start) (record_of t)
+      pub all_visited : t.best ≡ None → VisitedAll p hay starts_here (record_of t)
       all_visited none i among u reaches =
           closed_walk p hay t.visits (led_visited none) (at p.start i) reaches.0 u (start_visited none i among) reaches.1
 
       -- and there is no run
-      pub no_run : t.best ≡ None → NoRun p hay (places hay start)
+      pub no_run : t.best ≡ None → NoRun p hay starts_here
       no_run none i among r j runs = goes (at p.start i) r (start_visited none i among) runs
         where
           goes : (s : Configuration) (r : List Configuration) → Among t.visits s → Runs p hay s r j → ⊥
@@ -264,49 +260,56 @@ module _ (p : Program) (hay : List ℕ) (longest : Bool) (width : ℕ) (start : 
           goes s (v ∷ r) a runs = goes v r (led_visited none s a v runs.0) runs.1
 
       -- what a search found is a run, and each of its configurations was visited
-      pub best_found : (b : Thread) → t.best ≡ Some b → (e : ℕ) × Found p hay longest width start t.visits e b
-      best_found = (traced_on p hay longest width start fits end.before t place_among before_traced end.last).best
+      pub best_found : (b : Thread) → t.best ≡ Some b → (e : ℕ) × Found p hay longest width starts_here t.visits e b
+      best_found = (traced_on p hay longest width starts_here fits anchored before t placed.starts before_traced end.last).best
 
-      pub some_visited : (b : Thread) → t.best ≡ Some b → VisitedSome p hay (places hay start) (record_of t)
+      pub some_visited : (b : Thread) → t.best ≡ Some b → VisitedSome p hay starts_here (record_of t)
       some_visited b is = let f = (best_found b is).1 in (f.run, f.runs, f.among, f.was)
 
-  module _ (within : start ≤ length hay) where
-    none_yet : (n : ℕ) (s : Searching) → SearchedTo hay longest p width true start n s → s.best ≡ None
-    none_yet n s to =
-        searched_keeps p hay longest width true start within (λ s. s.best ≡ None) refl
-        (λ s t among now place on. no_best t.best (is_empty t.threads) (still_open p hay longest width true start within s.place t on)) n s to
-      where
-        no_best : (o : Option Thread) (b : Bool) → (is_some o && (true || b)) ≡ false → o ≡ None
-        no_best None b e = refl
-        no_best (Some u) b e = absurd (true≢false e)
+  none_yet : (n : ℕ) (s : Searching) → SearchedTo hay longest p width anchored true start n s → s.best ≡ None
+  none_yet n s to =
+      searched_keeps p hay longest width anchored true start within (λ s. s.best ≡ None) refl
+      (λ s t placed now place on. no_best t.best (still_open p hay longest width anchored true start within s.place t on)) n s to
+    where
+      no_best : (o : Option Thread) → (true && is_some o) ≡ false → o ≡ None
+      no_best None e = refl
+      no_best (Some u) e = absurd (true≢false e)
 
-    -- Stopped at the first match, a search ends with a run that ends before or with every other.
-    pub least_end : (fits : width ≤ p.slots) (t : Searching) → Searched hay longest p width true start t → (b : Thread) → t.best ≡ Some b →
-        (r : Run) × LeastEnd p hay (places hay start) (Some r) × (b.slots ≡ take width (slots p r))
-    least_end fits t end b is = (
-      found.run,
-      (found.runs, found.among, λ k among o j runs. not_below (λ lt. none_before end.before.visits end.before.threads end.before.place closed k among o j runs (below j lt))),
-      found.slots,
-    )
-      where
-        none : end.before.best ≡ None
-        none = none_yet end.places end.before end.searched
+  -- Stopped at the first match, a search ends with a run that ends before or with every other.
+  pub least_end : (t : Searching) → Searched hay longest p width anchored true start t → (b : Thread) → t.best ≡ Some b →
+      (r : Run) × LeastEnd p hay starts_here (Some r) × (b.slots ≡ take width (slots p r))
+  least_end t end b is = (
+    found.run,
+    (
+      found.runs,
+      found.among,
+      λ k among o j runs. not_below (λ lt. none_before p hay longest width starts_here end.before.visits end.before.threads end.before.place (to_come hay anchored end.before)
+          (come_here hay anchored end.before) closed k among o j runs (below j lt)),
+    ),
+    found.slots,
+  )
+    where
+      none : end.before.best ≡ None
+      none = none_yet end.places end.before end.searched
 
-        closed : IsClosed end.before.visits end.before.threads end.before.place end.before.place
-        closed = searched_closed true within end.places end.before end.searched none
+      placed : IsPlaced p hay longest width anchored true start within end.before
+      placed = searched_placed p hay longest width anchored true start within end.places end.before end.searched
 
-        first_match : end.last.last.first_match ≡ Some b
-        first_match =
-            ⊎_elim (λ here. here) (λ before. absurd (none-some b (sym none ∙ before.1)))
-            (option_or_cases end.last.last.first_match end.before.best b (ap (λ (x : Searching). x.best) end.last.is ∙ is))
+      closed : IsClosed p hay longest width starts_here end.before.visits end.before.threads end.before.place (to_come hay anchored end.before)
+      closed = searched_closed true end.places end.before end.searched none
 
-        found : Found p hay longest width start (configurations_of end.before.place end.before.visits end.last.last.seen) end.before.place b
-        found =
-            (place_traced p hay longest width start fits end.before t (searched_place p hay longest width true start within end.places end.before end.searched)
-            (searched_traced p hay longest width start fits true within end.places end.before end.searched) end.last).first_match b first_match
+      first_match : end.last.last.first_match ≡ Some b
+      first_match =
+          ⊎_elim (λ here. here) (λ before. absurd (none-some b (sym none ∙ before.1)))
+          (option_or_cases end.last.last.first_match end.before.best b (ap (λ (x : Searching). x.best) end.last.is ∙ is))
 
-        below : (j : ℕ) → j < found.run.end → j < end.before.place
-        below j lt = let e = found.end_is in omega arith
+      found : Found p hay longest width starts_here (configurations_of end.before.place end.before.visits end.last.last.seen) end.before.place b
+      found =
+          (place_traced p hay longest width starts_here fits anchored end.before t placed.starts
+          (searched_traced p hay longest width fits anchored true start within end.places end.before end.searched) end.last).first_match b first_match
 
-        not_below : {m n : ℕ} → (n < m → ⊥) → m ≤ n
-        not_below never = omega (arith, never)
+      below : (j : ℕ) → j < found.run.end → j < end.before.place
+      below j lt = let e = found.end_is in omega arith
+
+      not_below : {m n : ℕ} → (n < m → ⊥) → m ≤ n
+      not_below never = omega (arith, never)

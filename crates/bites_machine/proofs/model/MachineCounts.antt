@@ -1,25 +1,24 @@
 -- The machine visits no configuration twice, and looks no more often than there are edges, and once more at each place.
 use Rattle.std.proofs.Common.{◌≡◌, ℕ, suc, ◌+◌, ◌*◌, ◌<◌, ◌≤◌, Bool, true, false, ◌||◌, cond, List, [], ◌∷◌, ◌++◌, map, length, Option, Some, None, refl, sym, ap, ◌∙◌, subst, inl, ⊎_elim, true≢false, arith, length-append, eq-eqb}
-use Rattle.std.specs.Prelude.{◌==◌, is_some, nat_le, sum_by}
+use Rattle.std.specs.Prelude.{◌==◌, nat_le, sum_by}
 use Rattle.std.specs.List.{filter}
 use Rattle.std.specs.Option.{option_or}
 use Rattle.std.proofs.lemmas.List.{length-map}
 use Rattle.std.proofs.lemmas.List.Sums.{sum_by-cons}
 use Rattle.std.proofs.lemmas.Bool.{cases_Bool}
-use Rattle.bites_spec.specs.Utf8.{piece, places, step_len}
+use Rattle.bites_spec.specs.Utf8.{piece, places}
 use Rattle.bites_spec.specs.Walks.{Among, IsNew, AllApart}
 use Rattle.bites_spec.specs.Program.{State, Program, Configuration, at, state_at, targets, targets_of, IsWellFormed}
 use Rattle.bites_spec.specs.Run.{leads}
 use Rattle.bites_spec.specs.Counts.{IsBounded}
-use Rattle.bites_spec.proofs.utf8.PieceLemmas.{Among-places}
-use Rattle.bites_machine.specs.Machine.{Thread, Walking, Searching, with_write, thread_on, kept, moved, started, begun, Searches, at_start, SearchedTo, Searched}
+use Rattle.bites_spec.specs.PikeVm.{Thread, Walking, Searching, with_write, thread_on, kept, moved, started, begun, Searches, at_start, SearchedTo, Searched}
 use Rattle.bites_machine.proofs.compile.SumLemmas.{sum_of_ones, sum_of_configurations}
 use Rattle.bites_machine.proofs.model.PathLemmas.{edges_within}
 use Rattle.bites_machine.proofs.model.MachineCases.{was_seen, Keeps, walk_keeps}
 use Rattle.bites_machine.proofs.model.MachineTrace.{trace_inside}
-use Rattle.bites_machine.proofs.model.MachineSearch.{IsTraced, traced_keeps, begun_traced, AreTraced, traced_start, traced_on, searched_place, searched_keeps, goes_on, configurations_of}
+use Rattle.bites_machine.proofs.model.MachineStarts.{starts_of, later_starts, starts-here, starts_lie, starts_few, to_come, to_come_later, to_come_on, left_after}
+use Rattle.bites_machine.proofs.model.MachineSearch.{IsTraced, traced_keeps, begun_traced, AreTraced, traced_start, traced_on, IsPlaced, place_within, searched_placed, searched_keeps, goes_on, configurations_of}
 use Rattle.bites_spec.proofs.programs.BuiltLemmas.{Among-append}
-use Rattle.bites_spec.proofs.runs.PlaceLemmas.{places-here}
 use Rattle.bites_spec.proofs.programs.ListedRunLemmas.{Among-map}
 
 length-filter : {A : Type 0} (test : A → Bool) (xs : List A) → length (filter test xs) ≤ length xs
@@ -46,18 +45,21 @@ unseen_here hay longest p i (x ∷ seen) q new h =
     both true b e = absurd (true≢false e)
     both false b e = (refl, e)
 
-module _ (p : Program) (hay : List ℕ) (well : IsWellFormed p) (longest : Bool) (width : ℕ) (fits : width ≤ p.slots) (start : ℕ) where
-  abbrev pub led : List Configuration → ℕ
+module _ (p : Program) (hay : List ℕ) (well : IsWellFormed p) (longest : Bool) (width : ℕ) (fits : width ≤ p.slots) (anchored earliest : Bool) (start : ℕ) (within : start ≤ length hay) where
+  abbrev starts : List ℕ
+  starts = starts_of hay anchored start
+
+  abbrev led : List Configuration → ℕ
   led visits = sum_by (λ u. length (leads p hay u)) visits
 
   module _ (i : ℕ) (among : Among (places hay start) i) (old : List Configuration) (before : (u : Configuration) → Among old u → u.place < i) (to_come : ℕ) where
-    -- what was visited, and the looks of the walk that are done and left, with this number of places to come
-    pub record IsCounted (w : Walking) : Type 0 where
-      pub traced : IsTraced p hay longest width start fits i old w
-      pub apart : AllApart (configurations_of i old w.seen)
-      pub inside : (u : Configuration) → Among (configurations_of i old w.seen) u → (u.state < length p.states) × Among (places hay start) u.place
-      pub looks : w.looks + length w.stack + length w.next + to_come ≤ length (places hay start) + sum_by (λ u. length (leads p hay u)) (configurations_of i old w.seen)
-      pub looked : length (configurations_of i old w.seen) ≤ w.looks
+    -- what was visited, and the looks of the walk that are done and left, with this number of starts to come
+    record IsCounted (w : Walking) : Type 0 where
+      traced : IsTraced p hay longest width starts fits i old w
+      apart : AllApart (configurations_of i old w.seen)
+      inside : (u : Configuration) → Among (configurations_of i old w.seen) u → (u.state < length p.states) × Among (places hay start) u.place
+      looks : w.looks + length w.stack + length w.next + to_come ≤ length (places hay start) + sum_by (λ u. length (leads p hay u)) (configurations_of i old w.seen)
+      looked : length (configurations_of i old w.seen) ≤ w.looks
 
     module _ (t : Thread) (rest : List Thread) (w : Walking) (is : w.stack ≡ t ∷ rest) (now : IsCounted w) where
       one_less : length w.stack ≡ suc (length rest)
@@ -80,15 +82,15 @@ module _ (p : Program) (hay : List ℕ) (well : IsWellFormed p) (longest : Bool)
       now_inside u h =
           ⊎_elim
           (λ (e : at t.state i ≡ u). subst (λ (x : Configuration). (x.state < length p.states) × Among (places hay start) x.place) e (
-            (trace_inside p hay longest width start well (configurations_of i old w.seen) i t
+            (trace_inside p hay longest width starts well (λ k h. (starts_lie hay anchored start k h).1) (configurations_of i old w.seen) i t
                 (now.traced.stack t (subst (λ (l : List Thread). Among l t) (sym is) (inl refl)))).0,
             among,
           ))
           (now.inside u) h
 
-    pub counted_keeps : Keeps hay longest i p IsCounted
+    counted_keeps : Keeps hay longest i p IsCounted
     counted_keeps =
-        let traces = traced_keeps p hay longest width start fits i old in record {
+        let traces = traced_keeps p hay longest width starts fits i old in record {
           on_seen = λ t rest w is was now. record {
             traced = traces.on_seen t rest w is was now.traced;
             apart = now.apart;
@@ -104,8 +106,8 @@ module _ (p : Program) (hay : List ℕ) (well : IsWellFormed p) (longest : Bool)
                 let d = length-kept hay longest (option_or w.first_match (Some t)) rest in omega arith;
             looked = let b = now.looked in omega arith;
           };
-          on_taken = λ t rest w is new none over now. record {
-            traced = traces.on_taken t rest w is new none over now.traced;
+          on_taken = λ t rest w is new none one over now. record {
+            traced = traces.on_taken t rest w is new none one over now.traced;
             apart = now_apart t rest w is now new;
             inside = now_inside t rest w is now;
             looks = let a = one_less t rest w is now in let b = now.looks in let c = led_more t rest w is now in let d = moved_count t rest w is now in
@@ -122,74 +124,89 @@ module _ (p : Program) (hay : List ℕ) (well : IsWellFormed p) (longest : Bool)
           };
         }
 
-  -- what a search has visited and looked at so far, with this number of places to come
-  pub record HasCounted (s : Searching) (to_come : ℕ) : Type 0 where
-    pub traced : AreTraced p hay longest width start fits s
-    pub apart : AllApart s.visits
-    pub inside : (u : Configuration) → Among s.visits u → (u.state < length p.states) × Among (places hay start) u.place
-    pub looks : s.looks + length s.threads + to_come ≤ length (places hay start) + sum_by (λ u. length (leads p hay u)) s.visits
-    pub looked : length s.visits ≤ s.looks
-
-  -- one place more
-  module _ (s t : Searching) (among : Among (places hay start) s.place) (place : Searches hay longest p width s t) (to_come : ℕ) (now : HasCounted s (suc to_come))
-      (before : (u : Configuration) → Among s.visits u → u.place < s.place) where
-    begin_count : (best : Option Thread) → length (s.threads ++ cond (is_some best) [] (started hay longest p width s.place ∷ [])) ≤ suc (length s.threads)
-    begin_count (Some b) = omega (arith, length-append s.threads [])
-    begin_count None = omega (arith, length-append s.threads (started hay longest p width s.place ∷ []))
-
-    last_counted : IsCounted s.place among s.visits before to_come place.last
-    last_counted =
-        walk_keeps hay longest s.place p _ (counted_keeps s.place among s.visits before to_come) (begun hay longest p width s) place.last place.walks record {
-          traced = begun_traced p hay longest width start fits s among now.traced;
-          apart = now.apart;
-          inside = now.inside;
-          looks = let a = begin_count s.best in let b = now.looks in omega arith;
-          looked = now.looked;
-        }
-
-    counted_behind : HasCounted t to_come
-    counted_behind =
-        let traced = traced_on p hay longest width start fits s t among now.traced place in
-        let threads = ap (λ (x : Searching). x.threads) place.is in
-        let visits = ap (λ (x : Searching). x.visits) place.is in
-        let looks = ap (λ (x : Searching). x.looks) place.is in record {
-          traced = traced;
-          apart = subst AllApart visits last_counted.apart;
-          inside = subst (λ (l : List Configuration). (u : Configuration) → Among l u → (u.state < length p.states) × Among (places hay start) u.place) visits last_counted.inside;
-          looks = subst (λ (x : Searching). x.looks + length x.threads + to_come ≤ length (places hay start) + led x.visits) place.is
-              (let a = last_counted.looks in omega arith);
-          looked = subst (λ (x : Searching). length x.visits ≤ x.looks) place.is last_counted.looked;
-        }
-
-    before_behind : 0 < (piece hay s.place).len → (u : Configuration) → Among t.visits u → u.place < t.place
-    before_behind some =
-        subst (λ (x : Searching). (u : Configuration) → Among x.visits u → u.place < x.place) place.is
-        (λ u h. ⊎_elim (λ a. let m = Among-map (λ q. at q s.place) place.last.seen u a in let e = ap (λ (x : Configuration). x.place) m.2 in omega arith)
-        (λ a. let lt = before u a in omega arith) (Among-append (map (λ q. at q s.place) place.last.seen) s.visits u h))
+  -- what a search has visited and looked at so far, with this number of starts to come
+  record HasCounted (s : Searching) (more : ℕ) : Type 0 where
+    traced : AreTraced p hay longest width starts fits s
+    apart : AllApart s.visits
+    inside : (u : Configuration) → Among s.visits u → (u.state < length p.states) × Among (places hay start) u.place
+    looks : s.looks + length s.threads + more ≤ length (places hay start) + sum_by (λ u. length (leads p hay u)) s.visits
+    looked : length s.visits ≤ s.looks
 
   record IsCounting (s : Searching) : Type 0 where
-    counted : HasCounted s (length (places hay s.place))
+    counted : HasCounted s (length (to_come hay anchored s))
     before : (u : Configuration) → Among s.visits u → u.place < s.place
 
-  counting_start : IsCounting (at_start hay longest p width start)
+  counting_start : IsCounting (at_start start)
   counting_start = record {
     counted = record {
-      traced = traced_start p hay longest width start fits;
+      traced = traced_start p hay longest width starts fits start;
       apart = tt;
       inside = λ u h. absurd h;
-      looks = omega arith;
+      looks = let few = starts_few hay anchored start within in omega arith;
       looked = omega arith;
     };
     before = λ u h. absurd h;
   }
 
-  here_and_on : (s : Searching) → Among (places hay start) s.place → IsCounting s → HasCounted s (suc (length (places hay (s.place + step_len hay s.place))))
-  here_and_on s among now =
-      subst (λ (n : ℕ). HasCounted s n) (ap length (places-here hay s.place (Among-places hay start s.place among).1)) now.counted
+  -- one place more
+  module _ (s t : Searching) (placed : IsPlaced p hay longest width anchored earliest start within s) (place : Searches hay longest p width anchored s t) (now : IsCounting s) where
+    abbrev later : ℕ
+    later = length (to_come_later hay anchored s)
+
+    -- the start is walked at this place or at none
+    begin_count : (b : Bool) → length (s.threads ++ cond b (started hay longest p width s.place ∷ []) []) + length (cond b (later_starts hay anchored s.place) [])
+        ≤ length s.threads + length (cond b (starts_of hay anchored s.place) [])
+    begin_count false = omega (arith, length-append s.threads [])
+    begin_count true =
+        omega (
+          arith,
+          length-append s.threads (started hay longest p width s.place ∷ []),
+          ap length (starts-here hay anchored s.place (place_within p hay longest width anchored earliest start within s placed)),
+        )
+
+    last_counted : IsCounted s.place placed.place s.visits now.before later place.last
+    last_counted =
+        walk_keeps hay longest s.place p _ (counted_keeps s.place placed.place s.visits now.before later) (begun hay longest p width s) place.last place.walks record {
+          traced = begun_traced p hay longest width starts fits s placed.starts now.counted.traced;
+          apart = now.counted.apart;
+          inside = now.counted.inside;
+          looks = let a = begin_count s.starts in let b = now.counted.looks in omega arith;
+          looked = now.counted.looked;
+        }
+
+    counted_behind : HasCounted t later
+    counted_behind =
+        let visits = ap (λ (x : Searching). x.visits) place.is in record {
+          traced = traced_on p hay longest width starts fits anchored s t placed.starts now.counted.traced place;
+          apart = subst AllApart visits last_counted.apart;
+          inside = subst (λ (l : List Configuration). (u : Configuration) → Among l u → (u.state < length p.states) × Among (places hay start) u.place) visits last_counted.inside;
+          looks = subst (λ (x : Searching). x.looks + length x.threads + later ≤ length (places hay start) + led x.visits) place.is
+              (let a = last_counted.looks in omega arith);
+          looked = subst (λ (x : Searching). length x.visits ≤ x.looks) place.is last_counted.looked;
+        }
+
+    counting_on : 0 < (piece hay s.place).len → IsCounting t
+    counting_on some = record {
+      counted = record {
+        traced = counted_behind.traced;
+        apart = counted_behind.apart;
+        inside = counted_behind.inside;
+        looks = let a = counted_behind.looks in let b = ap length (to_come_on hay anchored longest p width s t place some) in
+            let c = left_few place.last.first_match (to_come_later hay anchored s) in omega arith;
+        looked = counted_behind.looked;
+      };
+      before = subst (λ (x : Searching). (u : Configuration) → Among x.visits u → u.place < x.place) place.is
+          (λ u h. ⊎_elim (λ a. let m = Among-map (λ q. at q s.place) place.last.seen u a in let e = ap (λ (x : Configuration). x.place) m.2 in omega arith)
+          (λ a. let lt = now.before u a in omega arith) (Among-append (map (λ q. at q s.place) place.last.seen) s.visits u h));
+    }
+      where
+        left_few : (o : Option Thread) (rest : List ℕ) → length (left_after o rest) ≤ length rest
+        left_few None rest = omega arith
+        left_few (Some u) rest = omega arith
 
   -- what was counted keeps to the bounds
-  pub counted_bounded : (t : Searching) (to_come : ℕ) → HasCounted t to_come → IsBounded p hay start (record { visits = t.visits; looks = t.looks })
-  counted_bounded t to_come done =
+  counted_bounded : (t : Searching) (more : ℕ) → HasCounted t more → IsBounded p hay start (record { visits = t.visits; looks = t.looks })
+  counted_bounded t more done =
       let ones = sum_of_configurations (λ (u : Configuration). 1) (λ (st : State). 1) p.states (places hay start) t.visits (λ q i. omega arith) done.apart done.inside in
       let edges = sum_of_configurations (λ (u : Configuration). length (leads p hay u)) (λ (st : State). length (targets_of st)) p.states (places hay start) t.visits
       (λ q i. edges_within hay (state_at p.states q) i) done.apart done.inside in record {
@@ -204,22 +221,14 @@ module _ (p : Program) (hay : List ℕ) (well : IsWellFormed p) (longest : Bool)
       one_more : (m n : ℕ) → (m + 1) * n ≡ m * n + n
       one_more m n = grind arith
 
-  module _ (earliest : Bool) (within : start ≤ length hay) where
-    counting : (n : ℕ) (s : Searching) → SearchedTo hay longest p width earliest start n s → IsCounting s
-    counting n s to =
-        searched_keeps p hay longest width earliest start within IsCounting counting_start
-        (λ s t among now place on.
-        let some = goes_on p hay longest width earliest start within s.place t on in
-        let next_is : s.place + step_len hay s.place ≡ t.place = (let e = ap (λ (x : Searching). x.place) place.is in omega arith) in record {
-          counted = subst (λ (k : ℕ). HasCounted t (length (places hay k))) next_is
-              (counted_behind s t among place (length (places hay (s.place + step_len hay s.place))) (here_and_on s among now) now.before);
-          before = before_behind s t among place (length (places hay (s.place + step_len hay s.place))) (here_and_on s among now) now.before some;
-        }) n s to
+  counting : (n : ℕ) (s : Searching) → SearchedTo hay longest p width anchored earliest start n s → IsCounting s
+  counting n s to =
+      searched_keeps p hay longest width anchored earliest start within IsCounting counting_start
+      (λ s t placed now place on. counting_on s t placed place now (goes_on p hay longest width anchored earliest start within s.place t on)) n s to
 
-    -- the bounds on what a search visits and on how often it looks
-    pub search_bounded : (t : Searching) → Searched hay longest p width earliest start t → IsBounded p hay start (record { visits = t.visits; looks = t.looks })
-    search_bounded t end =
-        let now = counting end.places end.before end.searched in
-        let among = searched_place p hay longest width earliest start within end.places end.before end.searched in
-        counted_bounded t (length (places hay (end.before.place + step_len hay end.before.place)))
-        (counted_behind end.before t among end.last (length (places hay (end.before.place + step_len hay end.before.place))) (here_and_on end.before among now) now.before)
+  -- the bounds on what a search visits and on how often it looks
+  pub search_bounded : (t : Searching) → Searched hay longest p width anchored earliest start t → IsBounded p hay start (record { visits = t.visits; looks = t.looks })
+  search_bounded t end =
+      let placed = searched_placed p hay longest width anchored earliest start within end.places end.before end.searched in
+      counted_bounded t (length (to_come_later hay anchored end.before))
+      (counted_behind end.before t placed end.last (counting end.places end.before end.searched))

@@ -1,37 +1,27 @@
 -- The machine finds the first run.
-use Rattle.std.proofs.Common.{◌≡◌, ℕ, ◌+◌, ◌<◌, ◌≤◌, Bool, true, false, ◌&&◌, cond, List, [], ◌∷◌, ◌++◌, take, length, Option, Some, None, option_map, refl, sym, ap, ap₂, ◌∙◌, subst, inl, inr, ⊎_elim, ◌⊎◌, true≢false, arith, eqb-true, leb-true, le-leb}
-use Rattle.std.specs.Prelude.{◌==◌, nat_le, is_some, replicate, option_and_then}
+use Rattle.std.proofs.Common.{◌≡◌, ℕ, ◌+◌, ◌<◌, ◌≤◌, Bool, true, false, cond, List, [], ◌∷◌, ◌++◌, take, length, Option, Some, None, option_map, refl, sym, ap, ap₂, ◌∙◌, subst, inl, inr, ⊎_elim, ◌⊎◌, true≢false, arith}
+use Rattle.std.specs.Prelude.{replicate, option_and_then}
 use Rattle.std.specs.Option.{option_or}
 use Rattle.std.proofs.lemmas.List.{append-nil, map-append}
-use Rattle.std.proofs.lemmas.Bool.{cases_Bool, and_parts, or_cases}
-use Rattle.bites_spec.specs.Utf8.{piece, places, step_len}
+use Rattle.bites_spec.specs.Utf8.{piece}
 use Rattle.bites_spec.specs.Walks.{Among, Walk, first_among, last_of}
 use Rattle.bites_spec.specs.Program.{Program, Configuration, at, state_at, is_match, IsWellFormed}
 use Rattle.bites_spec.specs.Run.{Run, is_same_configuration, leads, matches, enough, slots, run_of, first_run_from, first_run}
-use Rattle.bites_spec.proofs.utf8.PieceLemmas.{piece_some, Among-places}
 use Rattle.bites_spec.proofs.runs.RunLemmas.{same_is, same_refl, match_ends}
 use Rattle.bites_spec.proofs.runs.FirstLemmas.{sound}
 use Rattle.bites_spec.proofs.runs.WalkLemmas.{pending, or_assoc}
-use Rattle.bites_machine.specs.Machine.{Thread, Walking, Searching, kept, moved, started, begun, Searches, at_start, is_over, SearchedTo, Searched, is_empty}
+use Rattle.bites_spec.specs.PikeVm.{Thread, Walking, Searching, kept, moved, started, begun, Searches, at_start, is_over, SearchedTo, Searched}
 use Rattle.bites_machine.proofs.model.MachineCases.{was_seen, Keeps, walk_keeps}
 use Rattle.bites_machine.proofs.model.MachineSlots.{run_writes}
 use Rattle.bites_machine.proofs.model.MachineWaiting.{Outcome, outcome, worth, wait, wait_all, marks, run, pend, pend-append, pend_later, pend_seen, pend_gone, pend_taken, pend_hit}
 use Rattle.bites_machine.proofs.model.MachineTrace.{trace_inside}
-use Rattle.bites_machine.proofs.model.MachineSearch.{IsTraced, traced_keeps, begun_traced, AreTraced, traced_start, traced_on, searched_place, searched_keeps, goes_on, configurations_of}
+use Rattle.bites_machine.proofs.model.MachineStarts.{starts_of, later_starts, starts-here, starts_lie, to_come, to_come_later, left_after, to_come_on}
+use Rattle.bites_machine.proofs.model.MachineSearch.{IsTraced, traced_keeps, begun_traced, AreTraced, traced_start, traced_on, over_cases, IsPlaced, place_within, searched_placed, searched_keeps, goes_on, configurations_of}
 use Rattle.bites_spec.proofs.programs.SlotLemmas.{or_none}
-use Rattle.bites_spec.proofs.runs.PlaceLemmas.{places-here, places-past}
 
 pub or_map : {A B : Type 0} (f : A → B) (o q : Option A) → option_map f (option_or o q) ≡ option_or (option_map f o) (option_map f q)
 or_map f None q = refl
 or_map f (Some x) q = refl
-
-pub nothing_among : {A : Type 0} (xs : List A) → ((x : A) → Among xs x → ⊥) → xs ≡ []
-nothing_among [] none = refl
-nothing_among (x ∷ xs) none = absurd (none x (inl refl))
-
-pub empty_is : (ts : List Thread) → is_empty ts ≡ true → ts ≡ []
-empty_is [] e = refl
-empty_is (t ∷ ts) e = absurd (true≢false (sym e))
 
 cons_not_empty : (t : Thread) (ts : List Thread) → t ∷ ts ≡ [] → ⊥
 cons_not_empty t ts e = cc
@@ -40,31 +30,25 @@ none_or_some : (o : Option Thread) → (o ≡ None) ⊎ ((t : Thread) × (o ≡ 
 none_or_some None = inl refl
 none_or_some (Some t) = inr (t, refl)
 
--- after the last place there is none
-pub places_end : (hay : List ℕ) (i : ℕ) → i ≤ length hay → (piece hay i).len ≡ 0 → places hay (i + step_len hay i) ≡ []
-places_end hay i le none =
-    ⊎_elim (λ (e : nat_le (length hay) i ≡ true). let end = leb-true (length hay) i e in places-past hay (i + step_len hay i) (omega arith))
-    (λ (e : nat_le (length hay) i ≡ false).
-    let before : length hay ≤ i → ⊥ = (λ le. true≢false (sym (le-leb (length hay) i le) ∙ e)) in
-    let some = piece_some hay i (omega (arith, before)) in absurd (omega arith))
-    (cases_Bool (nat_le (length hay) i))
+module _ (p : Program) (hay : List ℕ) (well : IsWellFormed p) (width : ℕ) (fits : width ≤ p.slots) (anchored : Bool) (start : ℕ) (within : start ≤ length hay) where
+  abbrev starts : List ℕ
+  starts = starts_of hay anchored start
 
-module _ (p : Program) (hay : List ℕ) (well : IsWellFormed p) (width : ℕ) (fits : width ≤ p.slots) (start : ℕ) (within : start ≤ length hay) where
   abbrev pub pended : (Configuration → Bool) → List (Configuration × (List Configuration → Outcome)) → Option Outcome
   pended seen ws = pend p hay (matches p) (λ s e. e) seen ws
 
   abbrev TracedAt : ℕ → List Configuration → Walking → Type 0
-  TracedAt i old w = IsTraced p hay false width start fits i old w
+  TracedAt i old w = IsTraced p hay false width starts fits i old w
 
   abbrev AllTraced : Searching → Type 0
-  AllTraced s = AreTraced p hay false width start fits s
+  AllTraced s = AreTraced p hay false width starts fits s
 
   -- the outcome of the first run from a place
   abbrev pub answer_from : ℕ → Option Outcome
   answer_from k = option_map (worth p hay 0 (replicate width None)) (run p hay (matches p) (λ s e. e) (λ q. false) (at p.start k))
 
   abbrev pub total : Option Outcome
-  total = first_among answer_from (places hay start)
+  total = first_among answer_from starts
 
   module _ (i : ℕ) (here : i ≤ length hay) (old : List Configuration) (rest : Option Outcome) where
     abbrev there : ℕ
@@ -76,7 +60,7 @@ module _ (p : Program) (hay : List ℕ) (well : IsWellFormed p) (width : ℕ) (f
 
     -- the first success of all that wait, else the first match, else what was there before, is the result
     pub record IsWorth (w : Walking) : Type 0 where
-      pub traced : IsTraced p hay false width start fits i old w
+      pub traced : IsTraced p hay false width starts fits i old w
       pub worth_is : value w.seen w.next w.stack w.first_match ≡ total
       pub done : (t : Thread) → w.first_match ≡ Some t → w.stack ≡ []
 
@@ -89,7 +73,7 @@ module _ (p : Program) (hay : List ℕ) (well : IsWellFormed p) (width : ℕ) (f
 
       inside : t.state < length p.states
       inside =
-          (trace_inside p hay false width start well (configurations_of i old w.seen) i t
+          (trace_inside p hay false width starts well (λ k h. (starts_lie hay anchored start k h).1) (configurations_of i old w.seen) i t
           (now.traced.stack t (subst (λ (l : List Thread). Among l t) (sym is) (inl refl)))).0
 
       -- the value changes as what waits does
@@ -124,7 +108,7 @@ module _ (p : Program) (hay : List ℕ) (well : IsWellFormed p) (width : ℕ) (f
 
     pub worth_keeps : Keeps hay false i p IsWorth
     worth_keeps =
-        let traces = traced_keeps p hay false width start fits i old in record {
+        let traces = traced_keeps p hay false width starts fits i old in record {
           on_seen = λ t others w is was now. record {
             traced = traces.on_seen t others w is was now.traced;
             worth_is = changed t others w is now w.seen w.next others
@@ -136,8 +120,8 @@ module _ (p : Program) (hay : List ℕ) (well : IsWellFormed p) (width : ℕ) (f
             worth_is = hit_value t others w is now new found w.first_match refl;
             done = λ u e. kept_none t others w is now w.first_match;
           };
-          on_taken = λ t others w is new none over now. record {
-            traced = traces.on_taken t others w is new none over now.traced;
+          on_taken = λ t others w is new none one over now. record {
+            traced = traces.on_taken t others w is new none one over now.traced;
             worth_is = changed t others w is now (t.state ∷ w.seen) (w.next ++ moved hay false i (state_at p.states t.state) t) others
                 (pend_taken p hay (matches p) (λ s e. e) well false i there here w.seen w.next t others (behind t others w is now) new (inside t others w is now)
                 none (λ v e. (over v e).1));
@@ -152,47 +136,59 @@ module _ (p : Program) (hay : List ℕ) (well : IsWellFormed p) (width : ℕ) (f
           };
         }
 
-  -- what the best so far is worth, and else the later starts
-  abbrev rest_of : Option Thread → ℕ → Option Outcome
-  rest_of best k = option_or (option_map outcome best) (first_among answer_from (places hay k))
+  -- what the best so far is worth, and else the starts to come
+  abbrev rest_of : Option Thread → List ℕ → Option Outcome
+  rest_of best later = option_or (option_map outcome best) (first_among answer_from later)
 
-  abbrev value_at : ℕ → List Thread → Option Thread → ℕ → Option Outcome
-  value_at i threads best k = option_or (pended (λ q. false) (wait_all p hay i threads)) (rest_of best k)
+  abbrev value_at : ℕ → List Thread → Option Thread → List ℕ → Option Outcome
+  value_at i threads best later = option_or (pended (λ q. false) (wait_all p hay i threads)) (rest_of best later)
 
-  pub pend_none : pended (λ q. false) [] ≡ None
+  pend_none : pended (λ q. false) [] ≡ None
   unfolding pending
   pend_none = refl
 
-  pub pend_one : (i : ℕ) (t : Thread) → pended (λ q. false) (wait_all p hay i (t ∷ []))
+  pend_one : (i : ℕ) (t : Thread) → pended (λ q. false) (wait_all p hay i (t ∷ []))
       ≡ option_map (worth p hay t.start t.slots) (run p hay (matches p) (λ s e. e) (λ q. false) (at t.state i))
   unfolding pending
   pend_one i t = or_none (option_map (worth p hay t.start t.slots) (run p hay (matches p) (λ s e. e) (λ q. false) (at t.state i)))
 
-  begun_value : (s : Searching) (le : s.place ≤ length hay) (best : Option Thread) → value_at s.place s.threads best s.place ≡ total →
-      value s.place le s.visits (rest_of best (s.place + step_len hay s.place)) [] []
-      (s.threads ++ cond (is_some best) [] (started hay false p width s.place ∷ [])) None ≡ total
-  begun_value s le (Some b) e =
-      ap (λ (l : List Thread). option_or (pended (λ q. false) (wait_all p hay s.place l)) (Some (outcome b))) (append-nil s.threads) ∙ e
-  begun_value s le None e =
-      ap (λ (o : Option Outcome). option_or o (first_among answer_from (places hay (s.place + step_len hay s.place))))
+  begun_value : (s : Searching) (le : s.place ≤ length hay) (b : Bool) → (b ≡ true → s.best ≡ None) →
+      value_at s.place s.threads s.best (cond b (starts_of hay anchored s.place) []) ≡ total →
+      value s.place le s.visits (rest_of s.best (cond b (later_starts hay anchored s.place) [])) [] [] (s.threads ++ cond b (started hay false p width s.place ∷ []) []) None ≡ total
+  begun_value s le false none e =
+      ap (λ (l : List Thread). option_or (pended (λ q. false) (wait_all p hay s.place l)) (rest_of s.best [])) (append-nil s.threads) ∙ e
+  begun_value s le true none e =
+      ap₂ option_or
       (ap (pended (λ q. false)) (map-append (wait p hay s.place) s.threads (started hay false p width s.place ∷ []))
       ∙ pend-append p hay (matches p) (λ s e. e) (λ q. false) (wait_all p hay s.place s.threads) (wait_all p hay s.place (started hay false p width s.place ∷ []))
       ∙ ap (option_or (pended (λ q. false) (wait_all p hay s.place s.threads))) (pend_one s.place (started hay false p width s.place)))
-      ∙ or_assoc (pended (λ q. false) (wait_all p hay s.place s.threads)) (answer_from s.place) (first_among answer_from (places hay (s.place + step_len hay s.place)))
-      ∙ ap (λ (l : List ℕ). option_or (pended (λ q. false) (wait_all p hay s.place s.threads)) (first_among answer_from l)) (sym (places-here hay s.place le))
+      (ap (λ (o : Option Thread). rest_of o (later_starts hay anchored s.place)) (none refl))
+      ∙ or_assoc (pended (λ q. false) (wait_all p hay s.place s.threads)) (answer_from s.place) (first_among answer_from (later_starts hay anchored s.place))
+      ∙ ap₂ (λ (l : List ℕ) (o : Option Thread). option_or (pended (λ q. false) (wait_all p hay s.place s.threads)) (rest_of o l)) (sym (starts-here hay anchored s.place le)) (sym (none refl))
       ∙ e
 
-  module _ (s t : Searching) (among : Among (places hay start) s.place) (traced : AllTraced s) (place : Searches hay false p width s t)
-      (is : value_at s.place s.threads s.best s.place ≡ total) where
-    place_within : s.place ≤ length hay
-    place_within = (Among-places hay start s.place among).1
+  -- once there is a match, later starts don't count
+  left_worth : (o best : Option Thread) (later : List ℕ) → rest_of (option_or o best) (left_after o later) ≡ rest_of (option_or o best) later
+  left_worth None best later = refl
+  left_worth (Some t) best later = refl
 
-    last_worth : IsWorth s.place place_within s.visits (rest_of s.best (s.place + step_len hay s.place)) place.last
+  abbrev IsPlacedHere : Searching → Type 0
+  IsPlacedHere s = IsPlaced p hay false width anchored false start within s
+
+  -- one place more
+  module _ (s t : Searching) (placed : IsPlacedHere s) (traced : AllTraced s) (place : Searches hay false p width anchored s t)
+      (is : value_at s.place s.threads s.best (to_come hay anchored s) ≡ total) where
+    here : s.place ≤ length hay
+    here = place_within p hay false width anchored false start within s placed
+
+    abbrev later : List ℕ
+    later = to_come_later hay anchored s
+
+    last_worth : IsWorth s.place here s.visits (rest_of s.best later) place.last
     last_worth =
-        walk_keeps hay false s.place p _ (worth_keeps s.place place_within s.visits (rest_of s.best (s.place + step_len hay s.place)))
-        (begun hay false p width s) place.last place.walks record {
-          traced = begun_traced p hay false width start fits s among traced;
-          worth_is = begun_value s place_within s.best is;
+        walk_keeps hay false s.place p _ (worth_keeps s.place here s.visits (rest_of s.best later)) (begun hay false p width s) place.last place.walks record {
+          traced = begun_traced p hay false width starts fits s placed.starts traced;
+          worth_is = begun_value s here s.starts placed.none is;
           done = λ u e. absurd (none_some u e);
         }
       where
@@ -203,82 +199,64 @@ module _ (p : Program) (hay : List ℕ) (well : IsWellFormed p) (width : ℕ) (f
     abbrev next_place : ℕ
     next_place = s.place + (piece hay s.place).len
 
-    last_value : option_or (pended (λ q. false) (wait_all p hay next_place place.last.next))
-        (rest_of (option_or place.last.first_match s.best) (s.place + step_len hay s.place)) ≡ total
+    last_value : option_or (pended (λ q. false) (wait_all p hay next_place place.last.next)) (rest_of (option_or place.last.first_match s.best) later) ≡ total
     last_value =
         ap₂ option_or
         (sym (pend_later p hay (matches p) (λ s e. e) s.place next_place place.last.seen place.last.next (λ u h. let some = (last_worth.traced.next u h).0 in omega arith))
         ∙ ap (pended (marks p hay s.place place.last.seen)) (sym (append-nil (wait_all p hay next_place place.last.next))
         ∙ ap (λ (l : List Thread). wait_all p hay next_place place.last.next ++ wait_all p hay s.place l) (sym place.over)))
-        (ap (λ (o : Option Outcome). option_or o (first_among answer_from (places hay (s.place + step_len hay s.place)))) (or_map outcome place.last.first_match s.best)
-        ∙ or_assoc (option_map outcome place.last.first_match) (option_map outcome s.best) (first_among answer_from (places hay (s.place + step_len hay s.place))))
+        (ap (λ (o : Option Outcome). option_or o (first_among answer_from later)) (or_map outcome place.last.first_match s.best)
+        ∙ or_assoc (option_map outcome place.last.first_match) (option_map outcome s.best) (first_among answer_from later))
         ∙ last_worth.worth_is
 
-    pub value_behind : value_at next_place t.threads t.best (s.place + step_len hay s.place) ≡ total
-    value_behind = subst (λ (x : Searching). value_at next_place x.threads x.best (s.place + step_len hay s.place) ≡ total) place.is last_value
+    -- with the starts that are left after the place
+    value_behind : value_at next_place t.threads t.best (left_after place.last.first_match later) ≡ total
+    value_behind =
+        subst (λ (x : Searching). value_at next_place x.threads x.best (left_after place.last.first_match later) ≡ total) place.is
+        (ap (option_or (pended (λ q. false) (wait_all p hay next_place place.last.next))) (left_worth place.last.first_match s.best later) ∙ last_value)
 
     -- with a piece, the search continues at the place after it
-    pub value_on : 0 < (piece hay s.place).len → value_at t.place t.threads t.best t.place ≡ total
+    value_on : 0 < (piece hay s.place).len → value_at t.place t.threads t.best (to_come hay anchored t) ≡ total
     value_on some =
-        subst (λ (k : ℕ). value_at k t.threads t.best k ≡ total) (ap (λ (x : Searching). x.place) place.is)
-        (subst (λ (k : ℕ). value_at next_place t.threads t.best k ≡ total) one_step value_behind)
-      where
-        one_step : s.place + step_len hay s.place ≡ next_place
-        one_step = omega arith
-
-    last_threads : (piece hay s.place).len ≡ 0 → t.threads ≡ []
-    last_threads none =
-        sym (ap (λ (x : Searching). x.threads) place.is)
-        ∙ nothing_among place.last.next (λ u h. let some = (last_worth.traced.next u h).0 in omega arith)
+        ap₂ (λ (k : ℕ) (l : List ℕ). value_at k t.threads t.best l) (sym (ap (λ (x : Searching). x.place) place.is)) (to_come_on hay anchored false p width s t place some)
+        ∙ value_behind
 
     -- at the end nothing is left but the best
-    pub value_end : is_over hay false p width false s.place t ≡ true → option_map outcome t.best ≡ total
+    value_end : is_over hay false p width anchored false s.place t ≡ true → option_map outcome t.best ≡ total
     value_end over =
         ⊎_elim
-        (λ (e : ((piece hay s.place).len == 0) ≡ true).
-        let none = eqb-true (piece hay s.place).len 0 e in
+        (λ nothing.
         sym (or_none (option_map outcome t.best))
-        ∙ ap (λ (l : List ℕ). option_or (option_map outcome t.best) (first_among answer_from l)) (sym (places_end hay s.place place_within none))
-        ∙ nothing_waits (last_threads none))
-        (λ (e : (is_some t.best && is_empty t.threads) ≡ true).
-        let both = and_parts (is_some t.best) (is_empty t.threads) e in
-        best_stays t.best both.0 ∙ nothing_waits (empty_is t.threads both.1))
-        (or_cases ((piece hay s.place).len == 0) (is_some t.best && is_empty t.threads) over)
-      where
-        nothing_waits : t.threads ≡ [] → rest_of t.best (s.place + step_len hay s.place) ≡ total
-        nothing_waits none =
-            ap (λ (o : Option Outcome). option_or o (rest_of t.best (s.place + step_len hay s.place))) (sym pend_none)
-            ∙ ap (λ (l : List Thread). value_at next_place l t.best (s.place + step_len hay s.place)) (sym none)
-            ∙ value_behind
-
-        best_stays : (o : Option Thread) → is_some o ≡ true → option_map outcome o ≡ rest_of o (s.place + step_len hay s.place)
-        best_stays (Some b) e = refl
-        best_stays None e = absurd (true≢false (sym e))
+        ∙ ap (λ (o : Option Outcome). option_or o (rest_of t.best [])) (sym pend_none)
+        ∙ ap₂ (λ (ts : List Thread) (l : List ℕ). value_at next_place ts t.best l) (sym nothing.0) (sym nothing.1)
+        ∙ value_behind)
+        (λ never. absurd (true≢false (sym never)))
+        (over_cases p hay false width starts fits anchored s t placed.starts traced place false here over)
 
   -- what is known of a search at a place
   record IsAnswering (s : Searching) : Type 0 where
-    traced : AreTraced p hay false width start fits s
-    value_is : value_at s.place s.threads s.best s.place ≡ total
+    traced : AllTraced s
+    value_is : value_at s.place s.threads s.best (to_come hay anchored s) ≡ total
 
-  answering_start : IsAnswering (at_start hay false p width start)
+  answering_start : IsAnswering (at_start start)
   answering_start = record {
-    traced = traced_start p hay false width start fits;
+    traced = traced_start p hay false width starts fits start;
     value_is = ap (λ (o : Option Outcome). option_or o total) pend_none;
   }
 
-  answering : (n : ℕ) (s : Searching) → SearchedTo hay false p width false start n s → IsAnswering s
+  answering : (n : ℕ) (s : Searching) → SearchedTo hay false p width anchored false start n s → IsAnswering s
   answering n s to =
-      searched_keeps p hay false width false start within IsAnswering answering_start
-      (λ s t among now place on. record {
-        traced = traced_on p hay false width start fits s t among now.traced place;
-        value_is = value_on s t among now.traced place now.value_is (goes_on p hay false width false start within s.place t on);
+      searched_keeps p hay false width anchored false start within IsAnswering answering_start
+      (λ s t placed now place on. record {
+        traced = traced_on p hay false width starts fits anchored s t placed.starts now.traced place;
+        value_is = value_on s t placed now.traced place now.value_is (goes_on p hay false width anchored false start within s.place t on);
       }) n s to
 
   -- the best at the end is the first success
-  best_is_total : (t : Searching) → Searched hay false p width false start t → option_map outcome t.best ≡ total
+  best_is_total : (t : Searching) → Searched hay false p width anchored false start t → option_map outcome t.best ≡ total
   best_is_total t end =
       let now = answering end.places end.before end.searched in
-      value_end end.before t (searched_place p hay false width false start within end.places end.before end.searched) now.traced end.last now.value_is end.over
+      value_end end.before t (searched_placed p hay false width anchored false start within end.places end.before end.searched) now.traced end.last now.value_is end.over
 
   -- the first `width` slots of a run
   abbrev pub front_of : Run → List (Option ℕ)
@@ -311,14 +289,15 @@ module _ (p : Program) (hay : List ℕ) (well : IsWellFormed p) (width : ℕ) (f
   map_first f g [] = refl
   map_first f g (k ∷ ks) = ap (option_or (option_map f (g k))) (map_first f g ks) ∙ sym (or_map f (g k) (first_among g ks))
 
-  total_is : option_map (λ (x : Outcome). x.slots) total ≡ option_map front_of (first_run p hay (places hay start))
+  total_is : option_map (λ (x : Outcome). x.slots) total ≡ option_map front_of (first_run p hay starts)
   unfolding first_run
   total_is =
-      map_among (λ (x : Outcome). x.slots) answer_from (λ k. option_map front_of (first_run_from p hay k)) (places hay start) answer_is
-      ∙ map_first front_of (first_run_from p hay) (places hay start)
+      map_among (λ (x : Outcome). x.slots) answer_from (λ k. option_map front_of (first_run_from p hay k)) starts answer_is
+      ∙ map_first front_of (first_run_from p hay) starts
 
   -- A search that is not stopped early ends with the first slots of the first run, or with nothing if there is none.
-  pub first_answer : (t : Searching) → Searched hay false p width false start t → option_map (λ b. b.slots) t.best ≡ option_map front_of (first_run p hay (places hay start))
+  pub first_answer : (t : Searching) → Searched hay false p width anchored false start t →
+      option_map (λ b. b.slots) t.best ≡ option_map front_of (first_run p hay starts)
   first_answer t end =
       slots_of t.best ∙ ap (option_map (λ (x : Outcome). x.slots)) (best_is_total t end) ∙ total_is
     where

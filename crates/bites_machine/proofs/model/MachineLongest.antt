@@ -1,38 +1,37 @@
 -- The machine finds the longest run.
 use Rattle.std.proofs.Common.{◌≡◌, ℕ, suc, ◌+◌, ◌<◌, ◌≤◌, Bool, true, false, ◌&&◌, cond, List, [], ◌∷◌, ◌++◌, take, length, Option, Some, None, option_map, refl, sym, ap, ap₂, ◌∙◌, subst, inl, inr, ⊎_elim, ◌⊎◌, true≢false, arith, eqb-true, eq-eqb, le-leb, leb-true}
 use Rattle.std.proofs.lemmas.Option.{same_Some, none-some}
-use Rattle.std.specs.Prelude.{◌==◌, nat_le, is_some, replicate}
+use Rattle.std.specs.Prelude.{◌==◌, nat_le, replicate}
 use Rattle.std.specs.List.{filter}
 use Rattle.std.specs.Option.{option_or}
 use Rattle.std.proofs.lemmas.List.{append-nil, map-append}
-use Rattle.std.proofs.lemmas.Bool.{cases_Bool, and_parts, or_cases}
-use Rattle.bites_spec.specs.Utf8.{piece, places, step_len}
+use Rattle.std.proofs.lemmas.Bool.{cases_Bool, and_parts}
+use Rattle.bites_spec.specs.Utf8.{piece}
 use Rattle.bites_spec.specs.Walks.{Among, Walk, first_among, last_of}
 use Rattle.bites_spec.specs.Program.{Program, Configuration, at, state_at, is_match, IsWellFormed}
 use Rattle.bites_spec.specs.Run.{Run, StartsFirst, Runs, IsRun, LongestRun, is_end_at, is_same_configuration, leads, matches, enough, slots, longest_run}
-use Rattle.bites_spec.proofs.utf8.StartLemmas.{all_are_starts, starts_rise}
-use Rattle.bites_spec.proofs.utf8.PieceLemmas.{Among-places}
+use Rattle.bites_spec.proofs.utf8.StartLemmas.{starts_rise}
 use Rattle.bites_spec.proofs.runs.FirstLemmas.{sound}
 use Rattle.bites_spec.proofs.runs.RunLemmas.{same_is, same_refl, match_ends, first_place, no_place}
 use Rattle.bites_spec.proofs.programs.LongestLemmas.{no_run_to, no_walk_no_run, walk_makes_run, below_found, below_some, one_longest_answer, longest_run-LongestRun}
-use Rattle.bites_spec.proofs.runs.WalkLemmas.{pending}
-use Rattle.bites_machine.specs.Machine.{Thread, Walking, Searching, kept, moved, started, begun, Searches, at_start, is_over, SearchedTo, Searched, is_empty}
+use Rattle.bites_spec.proofs.runs.WalkLemmas.{pending, or_assoc}
+use Rattle.bites_spec.proofs.programs.SlotLemmas.{or_none}
+use Rattle.bites_spec.specs.PikeVm.{Thread, Walking, Searching, kept, moved, started, begun, Searches, at_start, is_over, SearchedTo, Searched}
 use Rattle.bites_machine.proofs.model.SweepLemmas.{Runs-forward}
 use Rattle.bites_machine.proofs.model.MachineCases.{was_seen, Keeps, walk_keeps}
 use Rattle.bites_machine.proofs.model.MachineSlots.{run_writes}
 use Rattle.bites_machine.proofs.model.MachineWaiting.{Outcome, outcome, worth, wait, wait_all, marks, run, pend, pend-append, pend_later, pend_seen, pend_gone, pend_taken, pend_dead, pend_hit}
 use Rattle.bites_machine.proofs.model.MachineTrace.{Found, trace_inside}
-use Rattle.bites_machine.proofs.model.MachineSearch.{IsTraced, traced_keeps, begun_traced, AreTraced, traced_start, traced_on, place_traced, searched_place, searched_keeps, goes_on, configurations_of, option_or_cases}
+use Rattle.bites_machine.proofs.model.MachineStarts.{starts_of, later_starts, starts_are, starts-here, starts_lie, to_come, to_come_later, come_here, later_behind, left_after, to_come_on}
+use Rattle.bites_machine.proofs.model.MachineSearch.{IsTraced, traced_keeps, begun_traced, AreTraced, traced_start, traced_on, place_traced, over_cases, IsPlaced, place_within, searched_placed, searched_keeps, goes_on, configurations_of, option_or_cases}
 use Rattle.bites_machine.proofs.model.MachineClosed.{best_found}
-use Rattle.bites_machine.proofs.model.MachineFirst.{nothing_among, places_end, empty_is}
 use Rattle.bites_machine.proofs.model.MachineOrder.{AreOrdered, ordered_start, ordered_on, place_ordered}
-use Rattle.bites_spec.proofs.runs.PlaceLemmas.{places-here}
 
 none_or_some : {A : Type 0} (o : Option A) → (o ≡ None) ⊎ ((x : A) × (o ≡ Some x))
 none_or_some None = inl refl
 none_or_some (Some x) = inr (x, refl)
 
-pub below_or_not : (a b : ℕ) → (a < b) ⊎ (b ≤ a)
+below_or_not : (a b : ℕ) → (a < b) ⊎ (b ≤ a)
 below_or_not a b =
     ⊎_elim (λ (e : nat_le b a ≡ true). inr (leb-true b a e))
     (λ (e : nat_le b a ≡ false). let never : b ≤ a → ⊥ = (λ le. true≢false (sym (le-leb b a le) ∙ e)) in inl (less never))
@@ -41,24 +40,27 @@ below_or_not a b =
     less : (b ≤ a → ⊥) → a < b
     less never = omega (arith, never)
 
-module _ (p : Program) (hay : List ℕ) (well : IsWellFormed p) (width : ℕ) (fits : width ≤ p.slots) (start : ℕ) (within : start ≤ length hay) where
+module _ (p : Program) (hay : List ℕ) (well : IsWellFormed p) (width : ℕ) (fits : width ≤ p.slots) (anchored : Bool) (start : ℕ) (within : start ≤ length hay) where
+  abbrev starts : List ℕ
+  starts = starts_of hay anchored start
+
   abbrev base : List (Option ℕ)
   base = replicate width None
 
-  module _ (r : Run) (longest : LongestRun p hay (places hay start) (Some r)) where
-    abbrev first : StartsFirst p hay (places hay start) r
+  module _ (r : Run) (longest : LongestRun p hay starts (Some r)) where
+    abbrev first : StartsFirst p hay starts r
     first = longest.0
 
     start_within : r.start ≤ length hay
-    start_within = (Among-places hay start r.start first.from).1
+    start_within = (starts_lie hay anchored start r.start first.from).1
 
     forward : r.start ≤ r.end
     forward = Runs-forward p hay (at p.start r.start) r.configurations r.end first.runs
 
-    abbrev pub is_end : Configuration → Bool
+    abbrev is_end : Configuration → Bool
     is_end = is_end_at p r.end
 
-    pub end_matches : (s : Configuration) → is_end s ≡ true → matches p s ≡ true
+    end_matches : (s : Configuration) → is_end s ≡ true → matches p s ≡ true
     end_matches s e = (and_parts (matches p s) (s.place == r.end) e).0
 
     end_place : (s : Configuration) → is_end s ≡ true → s.place ≡ r.end
@@ -71,10 +73,10 @@ module _ (p : Program) (hay : List ℕ) (well : IsWellFormed p) (width : ℕ) (f
     to_runs s [] walk = (end_matches s walk, end_place s walk)
     to_runs s (t ∷ o) walk = (walk.0, to_runs t o walk.1)
 
-    abbrev pub run_to_end : Configuration → Option (List Configuration)
+    abbrev run_to_end : Configuration → Option (List Configuration)
     run_to_end s = run p hay is_end end_matches (λ q. false) s
 
-    abbrev pub pended : (Configuration → Bool) → List (Configuration × (List Configuration → Outcome)) → Option Outcome
+    abbrev pended : (Configuration → Bool) → List (Configuration × (List Configuration → Outcome)) → Option Outcome
     pended seen ws = pend p hay is_end end_matches seen ws
 
     -- what is found is a run to the end
@@ -83,7 +85,7 @@ module _ (p : Program) (hay : List ℕ) (well : IsWellFormed p) (width : ℕ) (f
         let h = sound is_same_configuration (leads p hay) is_end same_is same_refl ends_nowhere (enough p hay) seen s l e in (h.0, h.1, to_runs s h.0 h.2)
 
     -- the longest run is what is found
-    pub longest_found : run_to_end (at p.start r.start) ≡ Some (at p.start r.start ∷ r.configurations)
+    longest_found : run_to_end (at p.start r.start) ≡ Some (at p.start r.start ∷ r.configurations)
     longest_found = by_answer (run_to_end (at p.start r.start)) refl
       where
         by_answer : (o : Option (List Configuration)) → run_to_end (at p.start r.start) ≡ o → o ≡ Some (at p.start r.start ∷ r.configurations)
@@ -94,7 +96,7 @@ module _ (p : Program) (hay : List ℕ) (well : IsWellFormed p) (width : ℕ) (f
             let other : Run = record { start = r.start; configurations = f.0; end = r.end } in
             let below = below_some p hay well (suc r.end) r.start other
             (below_found p hay r.start r.end other (walk_makes_run p hay r.start r.end f.0 (e ∙ ap (λ (x : List Configuration). Some x) f.1))) start_within in
-            let same = one_longest_answer p hay (places hay start) (Some r) (Some other) longest (
+            let same = one_longest_answer p hay starts (Some r) (Some other) longest (
               record { runs = below.runs; from = first.from; none_before = first.none_before },
               longest.1,
               below.first_of,
@@ -102,7 +104,7 @@ module _ (p : Program) (hay : List ℕ) (well : IsWellFormed p) (width : ℕ) (f
             ap (λ (x : List Configuration). Some x) (f.1 ∙ ap (λ (x : Run). at p.start r.start ∷ x.configurations) (sym (same_Some r other same)))
 
     -- what the longest run leaves
-    abbrev pub the_outcome : Outcome
+    abbrev the_outcome : Outcome
     the_outcome = worth p hay r.start base (at p.start r.start ∷ r.configurations)
 
     -- the outcome of the first run from a place to the end
@@ -113,7 +115,7 @@ module _ (p : Program) (hay : List ℕ) (well : IsWellFormed p) (width : ℕ) (f
     answer_here = ap (option_map (worth p hay r.start base)) longest_found
 
     -- no run begins before
-    answer_before : (k : ℕ) → Among (places hay start) k → k < r.start → answer_from k ≡ None
+    answer_before : (k : ℕ) → Among starts k → k < r.start → answer_from k ≡ None
     answer_before k among lt = by_answer (run_to_end (at p.start k)) refl
       where
         by_answer : (o : Option (List Configuration)) → run_to_end (at p.start k) ≡ o → option_map (worth p hay k base) o ≡ None
@@ -127,13 +129,13 @@ module _ (p : Program) (hay : List ℕ) (well : IsWellFormed p) (width : ℕ) (f
         by_answer None e = absurd (none-some y e)
         by_answer (Some l) e = sym (ap (λ (x : Outcome). x.start) (same_Some (worth p hay k base l) y e))
 
-    answer_first : first_among answer_from (places hay start) ≡ Some the_outcome
-    answer_first = by_answer (first_among answer_from (places hay start)) refl
+    answer_first : first_among answer_from starts ≡ Some the_outcome
+    answer_first = by_answer (first_among answer_from starts) refl
       where
-        by_answer : (o : Option Outcome) → first_among answer_from (places hay start) ≡ o → o ≡ Some the_outcome
-        by_answer None e = absurd (none-some the_outcome (sym (no_place answer_from (places hay start) e r.start first.from) ∙ answer_here))
+        by_answer : (o : Option Outcome) → first_among answer_from starts ≡ o → o ≡ Some the_outcome
+        by_answer None e = absurd (none-some the_outcome (sym (no_place answer_from starts e r.start first.from) ∙ answer_here))
         by_answer (Some y) e =
-            let at_first = first_place answer_from (places hay start) y (starts_rise hay start _ (all_are_starts hay start)) e in
+            let at_first = first_place answer_from starts y (starts_rise hay start starts (starts_are hay anchored start)) e in
             ⊎_elim
             (λ (lt : at_first.place < r.start). absurd (none-some y (sym (answer_before at_first.place at_first.among lt) ∙ at_first.is)))
             (λ (le : r.start ≤ at_first.place).
@@ -145,18 +147,15 @@ module _ (p : Program) (hay : List ℕ) (well : IsWellFormed p) (width : ℕ) (f
             (below_or_not r.start at_first.place))
             (below_or_not at_first.place r.start)
 
-    -- a result from these places on is from one of them
-    answer_behind : (m : ℕ) → first_among answer_from (places hay m) ≡ Some the_outcome → m ≤ r.start
-    answer_behind m e = let x = from_one (places hay m) e in let a = (Among-places hay m x.0 x.1).0 in let b = answer_start x.0 the_outcome x.2 in omega arith
-      where
-        from_one : (ks : List ℕ) → first_among answer_from ks ≡ Some the_outcome → (k : ℕ) × Among ks k × (answer_from k ≡ Some the_outcome)
-        from_one [] e = absurd (none-some the_outcome e)
-        from_one (k ∷ ks) e =
-            ⊎_elim (λ here. (k, inl refl, here)) (λ later. let x = from_one ks later.1 in (x.0, inr x.1, x.2))
-            (option_or_cases (answer_from k) (first_among answer_from ks) the_outcome e)
+    -- if the result is from these places, it is from one of them
+    answer_among : (ks : List ℕ) → first_among answer_from ks ≡ Some the_outcome → Among ks r.start
+    answer_among [] e = absurd (none-some the_outcome e)
+    answer_among (k ∷ ks) e =
+        ⊎_elim (λ here. inl (sym (answer_start k the_outcome here))) (λ later. inr (answer_among ks later.1))
+        (option_or_cases (answer_from k) (first_among answer_from ks) the_outcome e)
 
     -- from past the end there is no run to it
-    pub pend_past : (seen : Configuration → Bool) (j : ℕ) (ts : List Thread) → r.end < j → pended seen (wait_all p hay j ts) ≡ None
+    pend_past : (seen : Configuration → Bool) (j : ℕ) (ts : List Thread) → r.end < j → pended seen (wait_all p hay j ts) ≡ None
     unfolding pending
     pend_past seen j [] lt = refl
     pend_past seen j (t ∷ ts) lt =
@@ -167,7 +166,7 @@ module _ (p : Program) (hay : List ℕ) (well : IsWellFormed p) (width : ℕ) (f
         by_answer (Some l) e =
             let f = found_run seen (at t.state j) l e in let on = Runs-forward p hay (at t.state j) f.0 r.end f.2 in absurd (omega arith)
 
-    pub pend_after : (seen : Configuration → Bool) (j : ℕ) (ts : List Thread) → ((t : Thread) → Among ts t → r.end < j) → pended seen (wait_all p hay j ts) ≡ None
+    pend_after : (seen : Configuration → Bool) (j : ℕ) (ts : List Thread) → ((t : Thread) → Among ts t → r.end < j) → pended seen (wait_all p hay j ts) ≡ None
     unfolding pending
     pend_after seen j [] behind = refl
     pend_after seen j (t ∷ ts) behind = pend_past seen j (t ∷ ts) (behind t (inl refl))
@@ -197,30 +196,23 @@ module _ (p : Program) (hay : List ℕ) (well : IsWellFormed p) (width : ℕ) (f
         kept_or_not true none some = ap₂ option_or none some
         kept_or_not false none some = some
 
-    -- what the later starts are worth, while nothing was found
-    abbrev pub later_at : Option Thread → ℕ → Option Outcome
-    later_at None k = first_among answer_from (places hay k)
-    later_at (Some b) k = None
-
-    module _ (i : ℕ) (here : i ≤ length hay) (old : List Configuration) (best : Option Thread) where
-      abbrev pub there : ℕ
+    module _ (i : ℕ) (here : i ≤ length hay) (old : List Configuration) (after_here : List ℕ) (above : (k : ℕ) → Among after_here k → i < k) where
+      abbrev there : ℕ
       there = i + (piece hay i).len
 
-      abbrev next_step : ℕ
-      next_step = i + step_len hay i
+      -- what the later starts are worth, while nothing is found
+      abbrev later : Option Thread → Option Outcome
+      later o = first_among answer_from (left_after o after_here)
 
-      abbrev pub later : Option Thread → Option Outcome
-      later o = later_at o (i + step_len hay i)
-
-      abbrev pub waiting : List ℕ → List Thread → List Thread → Option Outcome
+      abbrev waiting : List ℕ → List Thread → List Thread → Option Outcome
       waiting seen next stack = pended (marks p hay i seen) (wait_all p hay there next ++ wait_all p hay i stack)
 
       not_later : (o : Option Thread) → r.start ≤ i → later o ≡ Some the_outcome → ⊥
-      not_later None le e = let a = answer_behind next_step e in omega arith
+      not_later None le e = let lt = above r.start (answer_among after_here e) in omega arith
       not_later (Some b) le e = none-some the_outcome e
 
       -- a first match has found a run, which begins no earlier than the longest
-      hit_start : (visits : List Configuration) (h : Thread) → Found p hay true width start visits i h → (r.start ≤ h.start) × (h.start ≤ i)
+      hit_start : (visits : List Configuration) (h : Thread) → Found p hay true width starts visits i h → (r.start ≤ h.start) × (h.start ≤ i)
       hit_start visits h f =
           let forward = Runs-forward p hay (at p.start f.run.start) f.run.configurations f.run.end f.runs in
           let is = f.started in
@@ -230,13 +222,13 @@ module _ (p : Program) (hay : List ℕ) (well : IsWellFormed p) (width : ℕ) (f
             omega arith,
           )
 
-      module _ (t : Thread) (rest : List Thread) (w : Walking) (is : w.stack ≡ t ∷ rest) (traced : IsTraced p hay true width start fits i old w) where
+      module _ (t : Thread) (rest : List Thread) (w : Walking) (is : w.stack ≡ t ∷ rest) (traced : IsTraced p hay true width starts fits i old w) where
         behind : (u : Thread) → Among w.next u → i < there
         behind u h = let some = (traced.next u h).0 in omega arith
 
         inside : t.state < length p.states
         inside =
-            (trace_inside p hay true width start well (configurations_of i old w.seen) i t
+            (trace_inside p hay true width starts well (λ k h. (starts_lie hay anchored start k h).1) (configurations_of i old w.seen) i t
             (traced.stack t (subst (λ (l : List Thread). Among l t) (sym is) (inl refl)))).0
 
         now_waiting : waiting w.seen w.next (t ∷ rest) ≡ waiting w.seen w.next w.stack
@@ -258,9 +250,9 @@ module _ (p : Program) (hay : List ℕ) (well : IsWellFormed p) (width : ℕ) (f
             sym (pend_gone p hay is_end end_matches well true i there here w.seen w.next t rest behind new inside none beside) ∙ now_waiting
 
       -- before the end: what waits has the success
-      pub record IsAhead (w : Walking) : Type 0 where
-        pub traced : IsTraced p hay true width start fits i old w
-        pub ahead : option_or (waiting w.seen w.next w.stack) (later (option_or w.first_match best)) ≡ Some the_outcome
+      record IsAhead (w : Walking) : Type 0 where
+        traced : IsTraced p hay true width starts fits i old w
+        ahead : option_or (waiting w.seen w.next w.stack) (later w.first_match) ≡ Some the_outcome
 
       module _ (early : i < r.end) (t : Thread) (rest : List Thread) (w : Walking) (is : w.stack ≡ t ∷ rest) (now : IsAhead w)
           (new : was_seen hay true i p w.seen t.state ≡ false) (found : is_match (state_at p.states t.state) ≡ true) where
@@ -282,30 +274,30 @@ module _ (p : Program) (hay : List ℕ) (well : IsWellFormed p) (width : ℕ) (f
             (λ two. ap₂ option_or two.0 (pend_filter seen i c rest le two.1))
             (option_or_cases (pended seen (wait_all p hay there w.next)) (pended seen (wait_all p hay i rest)) the_outcome
             (sym (pend-append p hay is_end end_matches seen (wait_all p hay there w.next) (wait_all p hay i rest)) ∙ waits)))
-            (λ none. absurd (not_later (option_or w.first_match best) before none.1))
-            (option_or_cases (waiting (t.state ∷ w.seen) w.next rest) (later (option_or w.first_match best)) the_outcome
-            (ap (λ (o : Option Outcome). option_or o (later (option_or w.first_match best))) dead_waiting ∙ now.ahead))
+            (λ none. absurd (not_later w.first_match before none.1))
+            (option_or_cases (waiting (t.state ∷ w.seen) w.next rest) (later w.first_match) the_outcome
+            (ap (λ (o : Option Outcome). option_or o (later w.first_match)) dead_waiting ∙ now.ahead))
           where
             seen : Configuration → Bool
             seen = marks p hay i (t.state ∷ w.seen)
 
-        cut_ahead : (visits : List Configuration) (o : Option Thread) → ((h : Thread) → o ≡ Some h → Found p hay true width start visits i h) → ((o ≡ None) → ⊥) →
-            option_or (waiting (t.state ∷ w.seen) w.next (kept hay true o rest)) (later (option_or o best)) ≡ Some the_outcome
+        cut_ahead : (visits : List Configuration) (o : Option Thread) → ((h : Thread) → o ≡ Some h → Found p hay true width starts visits i h) → ((o ≡ None) → ⊥) →
+            option_or (waiting (t.state ∷ w.seen) w.next (kept hay true o rest)) (later o) ≡ Some the_outcome
         cut_ahead visits None f some = absurd (some refl)
         cut_ahead visits (Some h) f some =
             let x = hit_start visits h (f h refl) in
             ap (λ (o : Option Outcome). option_or o None) (cut_waiting h.start x.0 (omega arith))
 
-      changed : (w : Walking) → IsAhead w → (o : Option Outcome) → o ≡ waiting w.seen w.next w.stack → option_or o (later (option_or w.first_match best)) ≡ Some the_outcome
-      changed w now o e = ap (λ (x : Option Outcome). option_or x (later (option_or w.first_match best))) e ∙ now.ahead
+      changed : (w : Walking) → IsAhead w → (o : Option Outcome) → o ≡ waiting w.seen w.next w.stack → option_or o (later w.first_match) ≡ Some the_outcome
+      changed w now o e = ap (λ (x : Option Outcome). option_or x (later w.first_match)) e ∙ now.ahead
 
       never_none : (o : Option Thread) (t : Thread) → option_or o (Some t) ≡ None → ⊥
       never_none None t e = none-some t (sym e)
       never_none (Some u) t e = none-some u (sym e)
 
-      pub ahead_keeps : i < r.end → Keeps hay true i p IsAhead
+      ahead_keeps : i < r.end → Keeps hay true i p IsAhead
       ahead_keeps early =
-          let traces = traced_keeps p hay true width start fits i old in record {
+          let traces = traced_keeps p hay true width starts fits i old in record {
             on_seen = λ t rest w is was now. record {
               traced = traces.on_seen t rest w is was now.traced;
               ahead = changed w now (waiting w.seen w.next rest) (seen_waiting t rest w is now.traced was);
@@ -315,8 +307,8 @@ module _ (p : Program) (hay : List ℕ) (well : IsWellFormed p) (width : ℕ) (f
                   traced = traced;
                   ahead = cut_ahead early t rest w is now new found (configurations_of i old (t.state ∷ w.seen)) (option_or w.first_match (Some t)) traced.first_match (never_none w.first_match t);
                 };
-            on_taken = λ t rest w is new none over now. record {
-              traced = traces.on_taken t rest w is new none over now.traced;
+            on_taken = λ t rest w is new none one over now. record {
+              traced = traces.on_taken t rest w is new none one over now.traced;
               ahead = changed w now (waiting (t.state ∷ w.seen) (w.next ++ moved hay true i (state_at p.states t.state) t) rest)
                   (taken_waiting t rest w is now.traced new none (λ v e. (over v e).1));
             };
@@ -328,25 +320,25 @@ module _ (p : Program) (hay : List ℕ) (well : IsWellFormed p) (width : ℕ) (f
           }
 
       -- at the end: the first thread that comes to a match is the success
-      abbrev pub AtEnd : Option Thread → Option Outcome → Type 0
-      AtEnd None o = option_or o (later best) ≡ Some the_outcome
+      abbrev AtEnd : Option Thread → Option Outcome → Type 0
+      AtEnd None o = option_or o (later None) ≡ Some the_outcome
       AtEnd (Some h) o = outcome h ≡ the_outcome
 
-      pub record IsAtEnd (w : Walking) : Type 0 where
-        pub traced : IsTraced p hay true width start fits i old w
-        pub at_end : AtEnd w.first_match (waiting w.seen w.next w.stack)
+      record IsAtEnd (w : Walking) : Type 0 where
+        traced : IsTraced p hay true width starts fits i old w
+        at_end : AtEnd w.first_match (waiting w.seen w.next w.stack)
 
       same_end : (w : Walking) → IsAtEnd w → (o : Option Outcome) → o ≡ waiting w.seen w.next w.stack → AtEnd w.first_match o
       same_end w now o e = subst (λ (x : Option Outcome). AtEnd w.first_match x) (sym e) now.at_end
 
       hit_at_end : i ≡ r.end → (t : Thread) (rest : List Thread) (w : Walking) → w.stack ≡ t ∷ rest → was_seen hay true i p w.seen t.state ≡ false →
-          is_match (state_at p.states t.state) ≡ true → (traced : IsTraced p hay true width start fits i old w) →
+          is_match (state_at p.states t.state) ≡ true → (traced : IsTraced p hay true width starts fits i old w) →
           (o : Option Thread) (x : Option Outcome) → AtEnd o (waiting w.seen w.next w.stack) → AtEnd (option_or o (Some t)) x
       hit_at_end late t rest w is new found traced (Some h) x now = now
       hit_at_end late t rest w is new found traced None x now =
           same_Some (outcome t) the_outcome
-          (ap (λ (o : Option Outcome). option_or (option_or o (Some (outcome t))) (later best)) (sym (pend_after (marks p hay i (t.state ∷ w.seen)) there w.next late_next))
-          ∙ ap (λ (o : Option Outcome). option_or o (later best))
+          (ap (λ (o : Option Outcome). option_or (option_or o (Some (outcome t))) (later None)) (sym (pend_after (marks p hay i (t.state ∷ w.seen)) there w.next late_next))
+          ∙ ap (λ (o : Option Outcome). option_or o (later None))
           (sym (pend_hit p hay is_end end_matches well true i there here w.seen w.next t rest (behind t rest w is traced) new (inside t rest w is traced)
           (ap₂ ◌&&◌ found (eq-eqb i r.end late))) ∙ now_waiting t rest w is traced)
           ∙ now)
@@ -354,9 +346,9 @@ module _ (p : Program) (hay : List ℕ) (well : IsWellFormed p) (width : ℕ) (f
           late_next : (u : Thread) → Among w.next u → r.end < there
           late_next u h = let some = (traced.next u h).0 in omega arith
 
-      pub at_end_keeps : i ≡ r.end → Keeps hay true i p IsAtEnd
+      at_end_keeps : i ≡ r.end → Keeps hay true i p IsAtEnd
       at_end_keeps late =
-          let traces = traced_keeps p hay true width start fits i old in record {
+          let traces = traced_keeps p hay true width starts fits i old in record {
             on_seen = λ t rest w is was now. record {
               traced = traces.on_seen t rest w is was now.traced;
               at_end = same_end w now (waiting w.seen w.next rest) (seen_waiting t rest w is now.traced was);
@@ -366,8 +358,8 @@ module _ (p : Program) (hay : List ℕ) (well : IsWellFormed p) (width : ℕ) (f
               at_end = hit_at_end late t rest w is new found now.traced w.first_match
                   (waiting (t.state ∷ w.seen) w.next (kept hay true (option_or w.first_match (Some t)) rest)) now.at_end;
             };
-            on_taken = λ t rest w is new none over now. record {
-              traced = traces.on_taken t rest w is new none over now.traced;
+            on_taken = λ t rest w is new none one over now. record {
+              traced = traces.on_taken t rest w is new none one over now.traced;
               at_end = same_end w now (waiting (t.state ∷ w.seen) (w.next ++ moved hay true i (state_at p.states t.state) t) rest)
                   (taken_waiting t rest w is now.traced new none (λ v e. (over v e).1));
             };
@@ -378,69 +370,57 @@ module _ (p : Program) (hay : List ℕ) (well : IsWellFormed p) (width : ℕ) (f
             };
           }
 
-    -- what waits, or a later start, has the success
-    abbrev IsAheadAt : ℕ → List Thread → Option Thread → ℕ → Type 0
-    IsAheadAt i threads best k = option_or (pended (λ q. false) (wait_all p hay i threads)) (later_at best k) ≡ Some the_outcome
+    -- what waits, or one of these starts, has the success
+    abbrev IsAheadAt : ℕ → List Thread → List ℕ → Type 0
+    IsAheadAt i threads later = option_or (pended (λ q. false) (wait_all p hay i threads)) (first_among answer_from later) ≡ Some the_outcome
 
     -- the best is the success
     abbrev HasBest : Searching → Type 0
     HasBest s = (b : Thread) × (s.best ≡ Some b) × (outcome b ≡ the_outcome)
 
     record Stands (s : Searching) : Type 0 where
-      traced : AreTraced p hay true width start fits s
-      ordered : AreOrdered p hay width fits start s
-      stands : IsAheadAt s.place s.threads s.best s.place ⊎ (HasBest s × (r.end < s.place))
+      traced : AreTraced p hay true width starts fits s
+      ordered : AreOrdered p hay width fits starts s
+      stands : IsAheadAt s.place s.threads (to_come hay anchored s) ⊎ (HasBest s × (r.end < s.place))
 
-    stands_start : Stands (at_start hay true p width start)
+    stands_start : Stands (at_start start)
     stands_start = record {
-      traced = traced_start p hay true width start fits;
-      ordered = ordered_start p hay width fits start;
-      stands = inl (ap (λ (o : Option Outcome). option_or o (first_among answer_from (places hay start))) (pend_after (λ q. false) 0 [] (λ t h. absurd h)) ∙ answer_first);
+      traced = traced_start p hay true width starts fits start;
+      ordered = ordered_start p hay width fits starts start;
+      stands = inl (ap (λ (o : Option Outcome). option_or o (first_among answer_from starts)) (pend_after (λ q. false) 0 [] (λ t h. absurd h)) ∙ answer_first);
     }
 
     -- a search that has the success ahead is not past the end
-    not_behind : (s : Searching) → IsAheadAt s.place s.threads s.best s.place → s.place ≤ r.end
+    not_behind : (s : Searching) → IsAheadAt s.place s.threads (to_come hay anchored s) → s.place ≤ r.end
     not_behind s ahead =
         ⊎_elim
         (λ (lt : r.end < s.place).
-        absurd (no_later s.best lt (ap (λ (o : Option Outcome). option_or o (later_at s.best s.place)) (sym (pend_past (λ q. false) s.place s.threads lt)) ∙ ahead)))
+        let le = come_here hay anchored s r.start (answer_among (to_come hay anchored s)
+        (ap (λ (o : Option Outcome). option_or o (first_among answer_from (to_come hay anchored s))) (sym (pend_past (λ q. false) s.place s.threads lt)) ∙ ahead)) in
+        absurd (omega (arith, forward)))
         (λ (le : s.place ≤ r.end). le)
         (below_or_not r.end s.place)
-      where
-        no_later : (o : Option Thread) → r.end < s.place → later_at o s.place ≡ Some the_outcome → ⊥
-        no_later None lt e = let a = answer_behind s.place e in omega (arith, forward)
-        no_later (Some b) lt e = none-some the_outcome e
 
-    pub pend_one : (i : ℕ) (t : Thread) → pended (λ q. false) (wait_all p hay i (t ∷ [])) ≡ option_map (worth p hay t.start t.slots) (run_to_end (at t.state i))
+    pend_one : (i : ℕ) (t : Thread) → pended (λ q. false) (wait_all p hay i (t ∷ [])) ≡ option_map (worth p hay t.start t.slots) (run_to_end (at t.state i))
     unfolding pending
     pend_one i t = or_none (option_map (worth p hay t.start t.slots) (run_to_end (at t.state i)))
-      where
-        or_none : (o : Option Outcome) → option_or o None ≡ o
-        or_none None = refl
-        or_none (Some x) = refl
 
-    begun_ahead : (s : Searching) (le : s.place ≤ length hay) (best : Option Thread) → IsAheadAt s.place s.threads best s.place →
-        option_or (waiting s.place le s.visits best [] [] (s.threads ++ cond (is_some best) [] (started hay true p width s.place ∷ []))) (later_at best (s.place + step_len hay s.place))
-        ≡ Some the_outcome
-    begun_ahead s le (Some b) e =
-        ap (λ (l : List Thread). option_or (pended (λ q. false) (wait_all p hay s.place l)) None) (append-nil s.threads) ∙ e
-    begun_ahead s le None e =
-        ap (λ (o : Option Outcome). option_or o (first_among answer_from (places hay (s.place + step_len hay s.place))))
+    begun_ahead : (s : Searching) (le : s.place ≤ length hay) (b : Bool) → IsAheadAt s.place s.threads (cond b (starts_of hay anchored s.place) []) →
+        IsAheadAt s.place (s.threads ++ cond b (started hay true p width s.place ∷ []) []) (cond b (later_starts hay anchored s.place) [])
+    begun_ahead s le false e = ap (λ (l : List Thread). option_or (pended (λ q. false) (wait_all p hay s.place l)) None) (append-nil s.threads) ∙ e
+    begun_ahead s le true e =
+        ap (λ (o : Option Outcome). option_or o (first_among answer_from (later_starts hay anchored s.place)))
         (ap (pended (λ q. false)) (map-append (wait p hay s.place) s.threads (started hay true p width s.place ∷ []))
         ∙ pend-append p hay is_end end_matches (λ q. false) (wait_all p hay s.place s.threads) (wait_all p hay s.place (started hay true p width s.place ∷ []))
         ∙ ap (option_or (pended (λ q. false) (wait_all p hay s.place s.threads))) (pend_one s.place (started hay true p width s.place)))
-        ∙ or_assoc (pended (λ q. false) (wait_all p hay s.place s.threads)) (answer_from s.place) (first_among answer_from (places hay (s.place + step_len hay s.place)))
-        ∙ ap (λ (l : List ℕ). option_or (pended (λ q. false) (wait_all p hay s.place s.threads)) (first_among answer_from l)) (sym (places-here hay s.place le))
+        ∙ or_assoc (pended (λ q. false) (wait_all p hay s.place s.threads)) (answer_from s.place) (first_among answer_from (later_starts hay anchored s.place))
+        ∙ ap (λ (l : List ℕ). option_or (pended (λ q. false) (wait_all p hay s.place s.threads)) (first_among answer_from l)) (sym (starts-here hay anchored s.place le))
         ∙ e
-      where
-        or_assoc : (o x y : Option Outcome) → option_or (option_or o x) y ≡ option_or o (option_or x y)
-        or_assoc None x y = refl
-        or_assoc (Some z) x y = refl
 
     -- one place more
-    module _ (s t : Searching) (among : Among (places hay start) s.place) (now : Stands s) (place : Searches hay true p width s t) where
-      place_within : s.place ≤ length hay
-      place_within = (Among-places hay start s.place among).1
+    module _ (s t : Searching) (placed : IsPlaced p hay true width anchored false start within s) (now : Stands s) (place : Searches hay true p width anchored s t) where
+      here_within : s.place ≤ length hay
+      here_within = place_within p hay true width anchored false start within s placed
 
       abbrev next_place : ℕ
       next_place = s.place + (piece hay s.place).len
@@ -448,8 +428,11 @@ module _ (p : Program) (hay : List ℕ) (well : IsWellFormed p) (width : ℕ) (f
       abbrev last : Walking
       last = place.last
 
-      last_traced : IsTraced p hay true width start fits s.place s.visits last
-      last_traced = place_traced p hay true width start fits s t among now.traced place
+      abbrev to_begin : List ℕ
+      to_begin = to_come_later hay anchored s
+
+      last_traced : IsTraced p hay true width starts fits s.place s.visits last
+      last_traced = place_traced p hay true width starts fits anchored s t placed.starts now.traced place
 
       best_is : option_or last.first_match s.best ≡ t.best
       best_is = ap (λ (x : Searching). x.best) place.is
@@ -457,10 +440,13 @@ module _ (p : Program) (hay : List ℕ) (well : IsWellFormed p) (width : ℕ) (f
       threads_are : last.next ≡ t.threads
       threads_are = ap (λ (x : Searching). x.threads) place.is
 
-      begun_traces : IsTraced p hay true width start fits s.place s.visits (begun hay true p width s)
-      begun_traces = begun_traced p hay true width start fits s among now.traced
+      begun_traces : IsTraced p hay true width starts fits s.place s.visits (begun hay true p width s)
+      begun_traces = begun_traced p hay true width starts fits s placed.starts now.traced
 
-      last_waiting : waiting s.place place_within s.visits s.best last.seen last.next last.stack ≡ pended (λ q. false) (wait_all p hay next_place t.threads)
+      abbrev waits_here : List ℕ → List Thread → List Thread → Option Outcome
+      waits_here = waiting s.place here_within s.visits to_begin (later_behind hay anchored s)
+
+      last_waiting : waits_here last.seen last.next last.stack ≡ pended (λ q. false) (wait_all p hay next_place t.threads)
       last_waiting =
           ap (λ (l : List Thread). pended (marks p hay s.place last.seen) (wait_all p hay next_place last.next ++ wait_all p hay s.place l)) place.over
           ∙ ap (pended (marks p hay s.place last.seen)) (append-nil (wait_all p hay next_place last.next))
@@ -468,33 +454,31 @@ module _ (p : Program) (hay : List ℕ) (well : IsWellFormed p) (width : ℕ) (f
           ∙ ap (λ (l : List Thread). pended (λ q. false) (wait_all p hay next_place l)) threads_are
 
       -- before the end the success stays ahead
-      stays_ahead : IsAheadAt s.place s.threads s.best s.place → s.place < r.end → IsAheadAt next_place t.threads t.best (s.place + step_len hay s.place)
+      stays_ahead : IsAheadAt s.place s.threads (to_come hay anchored s) → s.place < r.end → IsAheadAt next_place t.threads (left_after last.first_match to_begin)
       stays_ahead ahead early =
-          ap₂ (λ (o : Option Outcome) (b : Option Thread). option_or o (later_at b (s.place + step_len hay s.place))) (sym last_waiting) (sym best_is)
-          ∙ walked.ahead
+          ap (λ (o : Option Outcome). option_or o (first_among answer_from (left_after last.first_match to_begin))) (sym last_waiting) ∙ walked.ahead
         where
-          walked : IsAhead s.place place_within s.visits s.best last
+          walked : IsAhead s.place here_within s.visits to_begin (later_behind hay anchored s) last
           walked =
-              walk_keeps hay true s.place p _ (ahead_keeps s.place place_within s.visits s.best early) (begun hay true p width s) last place.walks
-              record { traced = begun_traces; ahead = begun_ahead s place_within s.best ahead }
+              walk_keeps hay true s.place p _ (ahead_keeps s.place here_within s.visits to_begin (later_behind hay anchored s) early) (begun hay true p width s) last place.walks
+              record { traced = begun_traces; ahead = begun_ahead s here_within s.starts ahead }
 
       -- at the end it becomes the best
-      becomes_best : IsAheadAt s.place s.threads s.best s.place → s.place ≡ r.end → HasBest t
+      becomes_best : IsAheadAt s.place s.threads (to_come hay anchored s) → s.place ≡ r.end → HasBest t
       becomes_best ahead late = by_hit last.first_match refl walked.at_end
         where
-          walked : IsAtEnd s.place place_within s.visits s.best last
+          walked : IsAtEnd s.place here_within s.visits to_begin (later_behind hay anchored s) last
           walked =
-              walk_keeps hay true s.place p _ (at_end_keeps s.place place_within s.visits s.best late) (begun hay true p width s) last place.walks
-              record { traced = begun_traces; at_end = begun_ahead s place_within s.best ahead }
+              walk_keeps hay true s.place p _ (at_end_keeps s.place here_within s.visits to_begin (later_behind hay anchored s) late) (begun hay true p width s) last place.walks
+              record { traced = begun_traces; at_end = begun_ahead s here_within s.starts ahead }
 
-          by_hit : (o : Option Thread) → last.first_match ≡ o → AtEnd s.place place_within s.visits s.best o (waiting s.place place_within s.visits s.best last.seen last.next last.stack) →
-              HasBest t
+          by_hit : (o : Option Thread) → last.first_match ≡ o →
+              AtEnd s.place here_within s.visits to_begin (later_behind hay anchored s) o (waits_here last.seen last.next last.stack) → HasBest t
           by_hit (Some h) is now = (h, sym best_is ∙ ap (λ (o : Option Thread). option_or o s.best) is, now)
           by_hit None is now =
               absurd
-              (not_later s.place place_within s.visits s.best s.best (omega (arith, forward))
-              (ap (λ (o : Option Outcome). option_or o (later_at s.best (s.place + step_len hay s.place)))
-              (sym (last_waiting ∙ pend_after (λ q. false) next_place t.threads late_threads))
+              (not_later s.place here_within s.visits to_begin (later_behind hay anchored s) None (omega (arith, forward))
+              (ap (λ (o : Option Outcome). option_or o (first_among answer_from to_begin)) (sym (last_waiting ∙ pend_after (λ q. false) next_place t.threads late_threads))
               ∙ now))
             where
               late_threads : (u : Thread) → Among t.threads u → r.end < next_place
@@ -507,20 +491,20 @@ module _ (p : Program) (hay : List ℕ) (well : IsWellFormed p) (width : ℕ) (f
           no_hit : (h : Thread) → last.first_match ≡ Some h → ⊥
           no_hit h e =
               let f = last_traced.first_match h e in
-              let x = hit_start s.place place_within s.visits s.best (configurations_of s.place s.visits last.seen) h f in
-              let upto = (place_ordered p hay width fits start s t now.traced now.ordered place).hit_by_best b is h e in
+              let x = hit_start s.place here_within s.visits to_begin (later_behind hay anchored s) (configurations_of s.place s.visits last.seen) h f in
+              let upto = (place_ordered p hay width fits starts anchored s t placed.none now.traced now.ordered place).hit_by_best b is h e in
               let b_start = ap (λ (y : Outcome). y.start) same in
               let f_start = f.started in
               let f_end = f.end_is in
-              let at_start : f.run.start ≡ r.start = omega arith in
-              let most = longest.1 f.run.configurations f.run.end (subst (λ (k : ℕ). IsRun p hay k f.run.configurations f.run.end) at_start f.runs) in omega arith
+              let same_start : f.run.start ≡ r.start = omega arith in
+              let most = longest.1 f.run.configurations f.run.end (subst (λ (k : ℕ). IsRun p hay k f.run.configurations f.run.end) same_start f.runs) in omega arith
 
           by_hit : (o : Option Thread) → last.first_match ≡ o → HasBest t
           by_hit None none = (b, sym best_is ∙ ap (λ (o : Option Thread). option_or o s.best) none ∙ is, same)
           by_hit (Some h) some = absurd (no_hit h some)
 
       -- after the place
-      behind_place : IsAheadAt next_place t.threads t.best (s.place + step_len hay s.place) ⊎ (HasBest t × (r.end ≤ s.place))
+      behind_place : IsAheadAt next_place t.threads (left_after last.first_match to_begin) ⊎ (HasBest t × (r.end ≤ s.place))
       behind_place =
           ⊎_elim
           (λ ahead. ⊎_elim (λ (early : s.place < r.end). inl (stays_ahead ahead early))
@@ -530,11 +514,11 @@ module _ (p : Program) (hay : List ℕ) (well : IsWellFormed p) (width : ℕ) (f
 
       stands_on : 0 < (piece hay s.place).len → Stands t
       stands_on some = record {
-        traced = traced_on p hay true width start fits s t among now.traced place;
-        ordered = ordered_on p hay width fits start s t now.traced now.ordered place;
+        traced = traced_on p hay true width starts fits anchored s t placed.starts now.traced place;
+        ordered = ordered_on p hay width fits starts anchored s t placed.none now.traced now.ordered place;
         stands = ⊎_elim
-            (λ ahead. inl (subst (λ (k : ℕ). IsAheadAt t.place t.threads t.best k) one_step
-            (subst (λ (k : ℕ). IsAheadAt k t.threads t.best (s.place + step_len hay s.place)) at_next ahead)))
+            (λ ahead. inl (ap₂ (λ (k : ℕ) (l : List ℕ). option_or (pended (λ q. false) (wait_all p hay k t.threads)) (first_among answer_from l)) (sym at_next)
+            (to_come_on hay anchored true p width s t place some) ∙ ahead))
             (λ done. let late = done.1 in let is = at_next in inr (done.0, omega arith))
             behind_place;
       }
@@ -542,60 +526,43 @@ module _ (p : Program) (hay : List ℕ) (well : IsWellFormed p) (width : ℕ) (f
           at_next : next_place ≡ t.place
           at_next = ap (λ (x : Searching). x.place) place.is
 
-          one_step : s.place + step_len hay s.place ≡ t.place
-          one_step = let is = at_next in omega arith
-
-      stands_end : is_over hay true p width false s.place t ≡ true → HasBest t
+      stands_end : is_over hay true p width anchored false s.place t ≡ true → HasBest t
       stands_end over = ⊎_elim (λ ahead. absurd (not_ahead ahead)) (λ done. done.0) behind_place
         where
-          not_ahead : IsAheadAt next_place t.threads t.best (s.place + step_len hay s.place) → ⊥
+          not_ahead : IsAheadAt next_place t.threads (left_after last.first_match to_begin) → ⊥
           not_ahead ahead =
               ⊎_elim
-              (λ (e : ((piece hay s.place).len == 0) ≡ true).
-              let none = eqb-true (piece hay s.place).len 0 e in
-              nothing_left (sym threads_are ∙ nothing_among last.next (λ u h. let some = (last_traced.next u h).0 in omega arith)) (no_places t.best none))
-              (λ (e : (is_some t.best && is_empty t.threads) ≡ true).
-              let both = and_parts (is_some t.best) (is_empty t.threads) e in nothing_left (empty_is t.threads both.1) (has_best t.best both.0))
-              (or_cases ((piece hay s.place).len == 0) (is_some t.best && is_empty t.threads) over)
-            where
-              nothing_left : t.threads ≡ [] → later_at t.best (s.place + step_len hay s.place) ≡ None → ⊥
-              nothing_left none last =
-                  none-some the_outcome
-                  (sym (ap (λ (l : List Thread). option_or (pended (λ q. false) (wait_all p hay next_place l)) (later_at t.best (s.place + step_len hay s.place))) none
-                  ∙ ap₂ option_or (pend_after (λ q. false) next_place [] (λ u h. absurd h)) last)
-                  ∙ ahead)
+              (λ nothing.
+              none-some the_outcome
+              (ap (λ (o : Option Outcome). option_or o None) (sym (pend_after (λ q. false) next_place [] (λ u h. absurd h)))
+              ∙ ap₂ (λ (ts : List Thread) (l : List ℕ). option_or (pended (λ q. false) (wait_all p hay next_place ts)) (first_among answer_from l)) (sym nothing.0) (sym nothing.1)
+              ∙ ahead))
+              (λ never. true≢false (sym never))
+              (over_cases p hay true width starts fits anchored s t placed.starts now.traced place false here_within over)
 
-              no_places : (o : Option Thread) → (piece hay s.place).len ≡ 0 → later_at o (s.place + step_len hay s.place) ≡ None
-              no_places None none = ap (first_among answer_from) (places_end hay s.place place_within none)
-              no_places (Some b) none = refl
-
-              has_best : (o : Option Thread) → is_some o ≡ true → later_at o (s.place + step_len hay s.place) ≡ None
-              has_best None e = absurd (true≢false (sym e))
-              has_best (Some b) e = refl
-
-    standing : (n : ℕ) (s : Searching) → SearchedTo hay true p width false start n s → Stands s
+    standing : (n : ℕ) (s : Searching) → SearchedTo hay true p width anchored false start n s → Stands s
     standing n s to =
-        searched_keeps p hay true width false start within Stands stands_start
-        (λ s t among now place on. stands_on s t among now place (goes_on p hay true width false start within s.place t on)) n s to
+        searched_keeps p hay true width anchored false start within Stands stands_start
+        (λ s t placed now place on. stands_on s t placed now place (goes_on p hay true width anchored false start within s.place t on)) n s to
 
     -- the best at the end is the longest run
-    best_is_longest : (t : Searching) → Searched hay true p width false start t → HasBest t
+    best_is_longest : (t : Searching) → Searched hay true p width anchored false start t → HasBest t
     best_is_longest t end =
-        stands_end end.before t (searched_place p hay true width false start within end.places end.before end.searched) (standing end.places end.before end.searched) end.last end.over
+        stands_end end.before t (searched_placed p hay true width anchored false start within end.places end.before end.searched) (standing end.places end.before end.searched) end.last end.over
 
   -- the first `width` slots of a run
-  abbrev pub front_of : Run → List (Option ℕ)
+  abbrev front_of : Run → List (Option ℕ)
   front_of r = take width (slots p r)
 
-  pub runs_to_match : (s : Configuration) (o : List Configuration) (j : ℕ) → Runs p hay s o j → matches p (last_of s o) ≡ true
+  runs_to_match : (s : Configuration) (o : List Configuration) (j : ℕ) → Runs p hay s o j → matches p (last_of s o) ≡ true
   runs_to_match s [] j runs = runs.0
   runs_to_match s (t ∷ o) j runs = runs_to_match t o j runs.1
 
   -- A search for the longest run ends with the first slots of that run, or with nothing if there is none.
-  pub longest_answer : (t : Searching) → Searched hay true p width false start t → option_map (λ b. b.slots) t.best ≡ option_map front_of (longest_run p hay (places hay start))
-  longest_answer t end = by_run (longest_run p hay (places hay start)) (longest_run-LongestRun p hay well start (places hay start) (all_are_starts hay start))
+  pub longest_answer : (t : Searching) → Searched hay true p width anchored false start t → option_map (λ b. b.slots) t.best ≡ option_map front_of (longest_run p hay starts)
+  longest_answer t end = by_run (longest_run p hay starts) (longest_run-LongestRun p hay well start starts (starts_are hay anchored start))
     where
-      by_run : (o : Option Run) → LongestRun p hay (places hay start) o → option_map (λ b. b.slots) t.best ≡ option_map front_of o
+      by_run : (o : Option Run) → LongestRun p hay starts o → option_map (λ b. b.slots) t.best ≡ option_map front_of o
       by_run (Some r) longest =
           let best = best_is_longest r longest t end in
           ap (option_map (λ (b : Thread). b.slots)) best.1
@@ -604,4 +571,4 @@ module _ (p : Program) (hay : List ℕ) (well : IsWellFormed p) (width : ℕ) (f
       by_run None none = ap (option_map (λ (b : Thread). b.slots)) (⊎_elim (λ (e : t.best ≡ None). e) (λ some. absurd (no_best some.0 some.1)) (none_or_some t.best))
         where
           no_best : (b : Thread) → t.best ≡ Some b → ⊥
-          no_best b is = let f = (best_found p hay true width start false within fits t end b is).1 in none f.run.start f.among f.run.configurations f.run.end f.runs
+          no_best b is = let f = (best_found p hay true width fits anchored start within false t end b is).1 in none f.run.start f.among f.run.configurations f.run.end f.runs

@@ -1,6 +1,6 @@
 -- In a search for the longest run the threads are in the order of their starts, and none started after the best.
 use Rattle.std.proofs.Common.{◌≡◌, ℕ, ◌+◌, ◌≤◌, Bool, true, false, cond, List, [], ◌∷◌, ◌++◌, Option, Some, None, refl, sym, ap, ◌∙◌, subst, inl, inr, ⊎_elim, arith, leb-true}
-use Rattle.std.specs.Prelude.{is_some, nat_le}
+use Rattle.std.specs.Prelude.{nat_le}
 use Rattle.std.specs.List.{filter}
 use Rattle.std.specs.Option.{option_or}
 use Rattle.std.proofs.lemmas.Bool.{cases_Bool}
@@ -8,7 +8,7 @@ use Rattle.bites_spec.specs.Utf8.{piece}
 use Rattle.bites_spec.specs.Walks.{Among, Walk}
 use Rattle.bites_spec.specs.Program.{Program, Configuration, at, state_at}
 use Rattle.bites_spec.specs.Run.{leads}
-use Rattle.bites_machine.specs.Machine.{Thread, Walking, Searching, with_write, thread_on, kept, moved, started, begun, Searches, at_start}
+use Rattle.bites_spec.specs.PikeVm.{Thread, Walking, Searching, with_write, thread_on, kept, moved, started, begun, Searches, at_start}
 use Rattle.bites_machine.proofs.compile.EdgeLemmas.{edges_apart}
 use Rattle.bites_machine.proofs.model.MachineCases.{Keeps, walk_keeps}
 use Rattle.bites_machine.proofs.model.MachineTrace.{Trace, Among-filter, Among-kept}
@@ -83,12 +83,12 @@ walk_forward p hay s (t ∷ r) u walk =
     (edges_apart hay s.place (state_at p.states s.state) t walk.0)
 
 -- a thread was started at its place or before
-trace_before : (p : Program) (hay : List ℕ) (width start : ℕ) (visits : List Configuration) (i : ℕ) (t : Thread) → Trace p hay true width start visits i t → t.start ≤ i
-trace_before p hay width start visits i t tr =
+trace_before : (p : Program) (hay : List ℕ) (width : ℕ) (starts : List ℕ) (visits : List Configuration) (i : ℕ) (t : Thread) → Trace p hay true width starts visits i t → t.start ≤ i
+trace_before p hay width starts visits i t tr =
     let forward = walk_forward p hay (at p.start tr.from) tr.configurations (at t.state i) tr.walk in
     let is = tr.started in omega arith
 
-module _ (p : Program) (hay : List ℕ) (width : ℕ) (fits : width ≤ p.slots) (start : ℕ) where
+module _ (p : Program) (hay : List ℕ) (width : ℕ) (fits : width ≤ p.slots) (starts : List ℕ) where
   module _ (i : ℕ) (best : Option Thread) where
     pub record IsOrdered (w : Walking) : Type 0 where
       pub next : AreSorted w.next
@@ -173,7 +173,7 @@ module _ (p : Program) (hay : List ℕ) (width : ℕ) (fits : width ≤ p.slots)
             by_best = λ b e. ((now.by_best b e).0, some_upto t rest w is now some sorted among b.start (now.by_best b e).1);
             hit_by_best = λ b e h x. new_hit_by_best t rest w is now b e w.first_match refl h x;
           };
-      on_taken = λ t rest w is new none over now.
+      on_taken = λ t rest w is new none one over now.
           let sorted = (stack_is t rest w is now).1 in
           let later = moved hay true i (state_at p.states t.state) t in record {
             next = sorted_append w.next later now.next (sorted_same t.start later (on_start t rest w is now))
@@ -209,45 +209,41 @@ module _ (p : Program) (hay : List ℕ) (width : ℕ) (fits : width ≤ p.slots)
     pub sorted : AreSorted s.threads
     pub by_best : (b : Thread) → s.best ≡ Some b → AreUpTo b.start s.threads
 
-  pub ordered_start : AreOrdered (at_start hay true p width start)
-  ordered_start = record { sorted = tt; by_best = λ b e t h. absurd h }
+  pub ordered_start : (start : ℕ) → AreOrdered (at_start start)
+  ordered_start start = record { sorted = tt; by_best = λ b e t h. absurd h }
 
-  pub begun_ordered : (s : Searching) → AreTraced p hay true width start fits s → AreOrdered s → IsOrdered s.place s.best (begun hay true p width s)
-  begun_ordered s traced now = record {
+  begun_ordered : (s : Searching) → (s.starts ≡ true → s.best ≡ None) → AreTraced p hay true width starts fits s → AreOrdered s → IsOrdered s.place s.best (begun hay true p width s)
+  begun_ordered s none traced now = record {
     next = tt;
-    stack = with_start s.best;
+    stack = with_start s.starts;
     below = λ y h u a. absurd a;
     by_hit = λ h e. absurd (none-some h e);
-    by_best = λ b e. (λ u a. absurd a, λ u a. now.by_best b e u (of_threads s.best u b e a));
+    by_best = λ b e. (λ u a. absurd a, λ u a. now.by_best b e u (of_threads s.starts none u b e a));
     hit_by_best = λ b e h x. absurd (none-some h x);
   }
     where
-      starting : Thread
-      starting = started hay true p width s.place
-
-      with_start : (best : Option Thread) → AreSorted (s.threads ++ cond (is_some best) [] (started hay true p width s.place ∷ []))
-      with_start (Some b) = sorted_append s.threads [] now.sorted tt (λ y h. absurd h)
-      with_start None =
+      with_start : (b : Bool) → AreSorted (s.threads ++ cond b (started hay true p width s.place ∷ []) [])
+      with_start false = sorted_append s.threads [] now.sorted tt (λ y h. absurd h)
+      with_start true =
           sorted_append s.threads (started hay true p width s.place ∷ []) now.sorted ((λ y h. absurd h), tt)
-          (λ y h u a. let before = trace_before p hay width start s.visits s.place u (traced.threads u a) in
+          (λ y h u a. let before = trace_before p hay width starts s.visits s.place u (traced.threads u a) in
           ⊎_elim (λ (e : started hay true p width s.place ≡ y). let x = ap (λ (v : Thread). v.start) e in omega arith) (λ (no : ⊥). absurd no) h)
 
-      of_threads : (best : Option Thread) (u b : Thread) → best ≡ Some b →
-          Among (s.threads ++ cond (is_some best) [] (started hay true p width s.place ∷ [])) u → Among s.threads u
-      of_threads None u b e a = absurd (none-some b e)
-      of_threads (Some c) u b e a = ⊎_elim (λ x. x) (λ (no : ⊥). absurd no) (Among-append s.threads [] u a)
+      of_threads : (a : Bool) → (a ≡ true → s.best ≡ None) → (u b : Thread) → s.best ≡ Some b →
+          Among (s.threads ++ cond a (started hay true p width s.place ∷ []) []) u → Among s.threads u
+      of_threads true none u b e a = absurd (none-some b (sym (none refl) ∙ e))
+      of_threads false none u b e a = ⊎_elim (λ x. x) (λ (no : ⊥). absurd no) (Among-append s.threads [] u a)
 
   -- one place more
-  pub place_ordered : (s t : Searching) → AreTraced p hay true width start fits s → AreOrdered s → (place : Searches hay true p width s t) →
-      IsOrdered s.place s.best place.last
-  place_ordered s t traced now place =
-      walk_keeps hay true s.place p (IsOrdered s.place s.best) (ordered_keeps s.place s.best) (begun hay true p width s) place.last place.walks
-      (begun_ordered s traced now)
+  module _ (anchored : Bool) (s t : Searching) (none : s.starts ≡ true → s.best ≡ None) (traced : AreTraced p hay true width starts fits s) (now : AreOrdered s)
+      (place : Searches hay true p width anchored s t) where
+    pub place_ordered : IsOrdered s.place s.best place.last
+    place_ordered =
+        walk_keeps hay true s.place p (IsOrdered s.place s.best) (ordered_keeps s.place s.best) (begun hay true p width s) place.last place.walks
+        (begun_ordered s none traced now)
 
-  pub ordered_on : (s t : Searching) → AreTraced p hay true width start fits s → AreOrdered s → Searches hay true p width s t → AreOrdered t
-  ordered_on s t traced now place =
-      let last = place_ordered s t traced now place in
-      subst AreOrdered place.is record {
-        sorted = last.next;
-        by_best = λ b e. ⊎_elim (λ here. (last.by_hit b here).0) (λ before. (last.by_best b before.1).0) (option_or_cases place.last.first_match s.best b e);
-      }
+    pub ordered_on : AreOrdered t
+    ordered_on = subst AreOrdered place.is record {
+      sorted = place_ordered.next;
+      by_best = λ b e. ⊎_elim (λ here. (place_ordered.by_hit b here).0) (λ before. (place_ordered.by_best b before.1).0) (option_or_cases place.last.first_match s.best b e);
+    }

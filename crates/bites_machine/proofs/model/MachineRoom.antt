@@ -1,22 +1,20 @@
 -- How much room a walk takes: for its stack, for the states that it has seen, and for the threads that took the piece.
-use Rattle.std.proofs.Common.{◌≡◌, ℕ, zero, suc, ◌+◌, ◌*◌, ◌<◌, ◌≤◌, Bool, true, false, List, [], ◌∷◌, map, length, Some, refl, sym, ap, ◌∙◌, subst, inl, inr, ⊎_elim, true≢false, arith, length-append}
+use Rattle.std.proofs.Common.{◌≡◌, ℕ, suc, ◌+◌, ◌*◌, ◌<◌, ◌≤◌, Bool, true, false, List, [], ◌∷◌, map, length, Some, refl, sym, ap, ◌∙◌, subst, inl, inr, ⊎_elim, true≢false, arith, length-append}
 use Rattle.std.specs.Prelude.{sum_by}
-use Rattle.std.specs.Fn.{iterate}
 use Rattle.std.specs.Option.{option_or}
 use Rattle.std.proofs.lemmas.List.{length-map}
 use Rattle.std.proofs.lemmas.List.Sums.{sum_by-cons}
-use Rattle.std.proofs.lemmas.Bool.{cases_Bool}
 use Rattle.bites_spec.specs.Walks.{Among, AllApart}
-use Rattle.bites_spec.specs.Program.{State, Program, Configuration, at, state_at, edges, is_match, targets, targets_of, char, ranges, splits, goto, capture, fail, match, IsWellFormed}
+use Rattle.bites_spec.specs.Program.{State, Program, Configuration, at, state_at, edges, targets, targets_of, char, ranges, splits, goto, capture, fail, match, IsWellFormed}
 use Rattle.bites_spec.specs.Run.{leads}
 use Rattle.bites_spec.proofs.runs.RunLemmas.{inside_on}
-use Rattle.bites_machine.specs.Machine.{Thread, Walking, with_write, thread_on, moved, visited, dropped, step, WalksTo}
+use Rattle.bites_spec.specs.Closure.{dropped}
+use Rattle.bites_spec.specs.PikeVm.{Thread, Walking, with_write, thread_on, moved, WalksTo}
 use Rattle.bites_machine.proofs.compile.SumLemmas.{sum_of_ones, sum_of_configurations}
 use Rattle.bites_machine.proofs.model.PathLemmas.{edges_within}
-use Rattle.bites_machine.proofs.model.MachineCases.{takes, was_seen, at_match, taken, gone}
+use Rattle.bites_machine.proofs.model.MachineCases.{takes, was_seen, at_match, taken, gone, Keeps, walk_keeps}
 use Rattle.bites_machine.proofs.model.MachineCounts.{length-kept, unseen_here}
 use Rattle.bites_machine.proofs.model.MachineTrace.{Among-kept}
-use Rattle.bites_machine.proofs.model.MachineWalks.{stack_cases, step_done, step_seen, step_new, visited_match, visited_taken, visited_gone}
 use Rattle.bites_spec.proofs.programs.BuiltLemmas.{Among-append}
 use Rattle.bites_spec.proofs.programs.ListedRunLemmas.{Among-map}
 
@@ -120,7 +118,7 @@ module _ (p : Program) where
       now_inside : AreStatesOf (t.state ∷ w.seen)
       now_inside q h = ⊎_elim (λ (e : t.state ≡ q). subst (λ (x : ℕ). x < length p.states) e top_inside) (now.inside q) h
 
-      room_seen : HasRoom (dropped hay longest rest w)
+      room_seen : HasRoom (dropped rest w)
       room_seen = record {
         apart = now.apart;
         inside = now.inside;
@@ -166,31 +164,14 @@ module _ (p : Program) where
           next_inside = now.next_inside;
         }
 
-        room_new : HasRoom (visited hay longest i (st_of t) t rest w)
-        room_new =
-            ⊎_elim (λ (e : is_match (st_of t) ≡ true). subst HasRoom (sym (visited_match hay longest p i (st_of t) e t rest w)) room_match)
-            (λ (e : is_match (st_of t) ≡ false).
-            ⊎_elim (λ (f : takes (st_of t) ≡ true). subst HasRoom (sym (visited_taken hay longest p i (st_of t) f t rest w)) (room_taken f))
-            (λ (f : takes (st_of t) ≡ false). subst HasRoom (sym (visited_gone hay longest p i (st_of t) e f t rest w)) room_gone)
-            (cases_Bool (takes (st_of t))))
-            (cases_Bool (is_match (st_of t)))
+    room_keeps : Keeps hay longest i p HasRoom
+    room_keeps = record {
+      on_seen = λ t rest w is was now. room_seen t rest w is now;
+      on_match = λ t rest w is new found now. room_match t rest w is now new;
+      on_taken = λ t rest w is new none one over now. room_taken t rest w is now new one;
+      on_gone = λ t rest w is new none beside now. room_gone t rest w is now new;
+    }
 
-    -- a step keeps the room
-    pub room_on : (w : Walking) → HasRoom w → HasRoom (step hay longest p i w)
-    room_on w now =
-        ⊎_elim (λ (done : w.stack ≡ []). subst HasRoom (sym (step_done hay longest p i w done)) now)
-        (λ some. ⊎_elim
-        (λ (was : was_seen hay longest i p w.seen some.0.state ≡ true).
-        subst HasRoom (sym (step_seen hay longest p i some.0 some.1 w some.2 was)) (room_seen some.0 some.1 w some.2 now))
-        (λ (new : was_seen hay longest i p w.seen some.0.state ≡ false).
-        subst HasRoom (sym (step_new hay longest p i some.0 some.1 w some.2 new)) (room_new some.0 some.1 w some.2 now new))
-        (cases_Bool (was_seen hay longest i p w.seen some.0.state)))
-        (stack_cases hay longest p i w.stack)
-
-    iterate_room : (k : ℕ) (w : Walking) → HasRoom w → HasRoom (iterate (step hay longest p i) k w)
-    iterate_room zero w now = now
-    iterate_room (suc k) w now = iterate_room k (step hay longest p i w) (room_on w now)
-
-    -- and so does a walk
+    -- a walk keeps the room
     pub walk_room : (w v : Walking) → WalksTo hay longest p i w v → HasRoom w → HasRoom v
-    walk_room w v (k, is) now = subst HasRoom is (iterate_room k w now)
+    walk_room = walk_keeps hay longest i p HasRoom room_keeps

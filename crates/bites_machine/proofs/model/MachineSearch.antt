@@ -1,15 +1,17 @@
 -- What every place of a search keeps; the places of a search are those from its start on.
-use Rattle.std.proofs.Common.{◌≡◌, ℕ, zero, suc, ◌+◌, ◌<◌, ◌≤◌, Bool, false, ◌||◌, ◌&&◌, cond, List, [], ◌∷◌, ◌++◌, map, length, Option, Some, None, refl, sym, ◌∙◌, subst, inl, inr, ⊎_elim, ◌⊎◌, true≢false, arith, eq-eqb}
-use Rattle.std.specs.Prelude.{◌==◌, is_some}
+use Rattle.std.proofs.Common.{◌≡◌, ℕ, zero, suc, ◌+◌, ◌<◌, ◌≤◌, Bool, true, false, ◌||◌, ◌&&◌, cond, List, [], ◌∷◌, ◌++◌, map, length, Option, Some, None, refl, sym, ap, ◌∙◌, subst, inl, inr, ⊎_elim, ◌⊎◌, true≢false, arith, eq-eqb, eqb-true}
+use Rattle.std.specs.Prelude.{◌==◌, is_some, not}
 use Rattle.std.specs.Option.{option_or}
-use Rattle.std.proofs.lemmas.Bool.{or_parts}
-use Rattle.bites_spec.specs.Utf8.{piece, places}
+use Rattle.std.proofs.lemmas.Bool.{or_parts, or_cases, and_parts}
+use Rattle.bites_spec.specs.Utf8.{piece, places, start_alone}
 use Rattle.bites_spec.specs.Walks.{Among}
 use Rattle.bites_spec.specs.Program.{Program, Configuration, at, state_at}
 use Rattle.bites_spec.specs.Run.{leads}
-use Rattle.bites_machine.specs.Machine.{Thread, Walking, Searching, with_write, thread_on, moved, started, begun, Searches, at_start, is_over, SearchedTo, is_empty}
+use Rattle.bites_spec.specs.PikeVm.{Thread, Walking, Searching, with_write, thread_on, moved, started, begun, Searches, at_start, is_over, SearchedTo, is_empty}
+use Rattle.bites_machine.proofs.model.MachineStarts.{starts_of, starts_among, starts_again, left_after, to_come_later, to_come_end, to_come_over}
 use Rattle.bites_machine.proofs.model.MachineCases.{Keeps, walk_keeps}
 use Rattle.bites_machine.proofs.model.MachineTrace.{Trace, Found, trace_more, found_more, trace_start, trace_on, found_here, Among-kept}
+use Rattle.bites_spec.proofs.utf8.PieceLemmas.{Among-places}
 use Rattle.bites_spec.proofs.programs.SlotLemmas.{Among-right}
 use Rattle.bites_spec.proofs.programs.BuiltLemmas.{Among-append}
 use Rattle.bites_spec.proofs.runs.PlaceLemmas.{place_on, places-here}
@@ -19,32 +21,61 @@ pub some_len : (n : ℕ) → (n == 0) ≡ false → 0 < n
 some_len zero e = absurd (true≢false (sym (eq-eqb 0 0 refl) ∙ e))
 some_len (suc n) e = omega arith
 
-module _ (p : Program) (hay : List ℕ) (longest : Bool) (width : ℕ) (earliest : Bool) (start : ℕ) (within : start ≤ length hay) where
+pub nothing_among : {A : Type 0} (xs : List A) → ((x : A) → Among xs x → ⊥) → xs ≡ []
+nothing_among [] none = refl
+nothing_among (x ∷ xs) none = absurd (none x (inl refl))
+
+empty_is : (ts : List Thread) → is_empty ts ≡ true → ts ≡ []
+empty_is [] e = refl
+empty_is (t ∷ ts) e = absurd (true≢false (sym e))
+
+module _ (p : Program) (hay : List ℕ) (longest : Bool) (width : ℕ) (anchored earliest : Bool) (start : ℕ) (within : start ≤ length hay) where
+  -- where a search is: at a place reached from its start, and if the start is walked there, at one where a match may begin, with nothing found
+  pub record IsPlaced (s : Searching) : Type 0 where
+    pub place : Among (places hay start) s.place
+    pub starts : s.starts ≡ true → Among (starts_of hay anchored start) s.place
+    pub none : s.starts ≡ true → s.best ≡ None
+
+  pub place_within : (s : Searching) → IsPlaced s → s.place ≤ length hay
+  place_within s placed = (Among-places hay start s.place placed.place).1
+
   -- a search that is not over goes on to a next place
-  pub goes_on : (i : ℕ) (t : Searching) → is_over hay longest p width earliest i t ≡ false → 0 < (piece hay i).len
-  goes_on i t on = some_len (piece hay i).len (or_parts ((piece hay i).len == 0) (is_some t.best && (earliest || is_empty t.threads)) on).0
+  pub goes_on : (i : ℕ) (t : Searching) → is_over hay longest p width anchored earliest i t ≡ false → 0 < (piece hay i).len
+  goes_on i t on = some_len (piece hay i).len (or_parts ((piece hay i).len == 0) ((earliest && is_some t.best) || (not t.starts && is_empty t.threads)) on).0
 
-  -- and there is something to be found there
-  pub still_open : (i : ℕ) (t : Searching) → is_over hay longest p width earliest i t ≡ false → (is_some t.best && (earliest || is_empty t.threads)) ≡ false
-  still_open i t on = (or_parts ((piece hay i).len == 0) (is_some t.best && (earliest || is_empty t.threads)) on).1
+  -- and no match was enough
+  pub still_open : (i : ℕ) (t : Searching) → is_over hay longest p width anchored earliest i t ≡ false → (earliest && is_some t.best) ≡ false
+  still_open i t on =
+      (or_parts (earliest && is_some t.best) (not t.starts && is_empty t.threads)
+      (or_parts ((piece hay i).len == 0) ((earliest && is_some t.best) || (not t.starts && is_empty t.threads)) on).1).0
 
-  pub start_among : Among (places hay start) start
-  start_among = subst (λ l. Among l start) (sym (places-here hay start within)) (inl refl)
-
-  -- a search is at a place reached from its start
-  pub searched_place : (n : ℕ) (s : Searching) → SearchedTo hay longest p width earliest start n s → Among (places hay start) s.place
-  searched_place zero s is = subst (λ (x : Searching). Among (places hay start) x.place) is start_among
-  searched_place (suc n) t (s, before, place, on) =
+  placed_on : (s t : Searching) → IsPlaced s → Searches hay longest p width anchored s t → is_over hay longest p width anchored earliest s.place t ≡ false → IsPlaced t
+  placed_on s t placed place on =
+      let next : Among (places hay start) t.place =
       subst (λ (x : Searching). Among (places hay start) x.place) place.is
-      (place_on (suc (length hay)) hay start s.place (omega arith) (searched_place n s before) (goes_on s.place t on))
+      (place_on (suc (length hay)) hay start s.place (omega arith) placed.place (goes_on s.place t on)) in record {
+        place = next;
+        starts = λ e. let again = starts_again hay anchored longest p width s t place e in
+            subst (λ (b : Bool). Among (cond b (start_alone hay start) (places hay start)) t.place) (sym again.1) next;
+        none = λ e. let again = starts_again hay anchored longest p width s t place e in
+            sym (ap (λ (x : Searching). x.best) place.is) ∙ ap (λ (o : Option Thread). option_or o s.best) again.2 ∙ placed.none again.0;
+      }
+
+  pub searched_placed : (n : ℕ) (s : Searching) → SearchedTo hay longest p width anchored earliest start n s → IsPlaced s
+  searched_placed zero s is = subst IsPlaced is record {
+    place = subst (λ l. Among l start) (sym (places-here hay start within)) (inl refl);
+    starts = λ e. starts_among hay anchored start within;
+    none = λ e. refl;
+  }
+  searched_placed (suc n) t (s, before, place, on) = placed_on s t (searched_placed n s before) place on
 
   -- what every place keeps, a search keeps
-  pub searched_keeps : (P : Searching → Type 0) → P (at_start hay longest p width start) →
-      ((s t : Searching) → Among (places hay start) s.place → P s → Searches hay longest p width s t → is_over hay longest p width earliest s.place t ≡ false → P t) →
-      (n : ℕ) (s : Searching) → SearchedTo hay longest p width earliest start n s → P s
+  pub searched_keeps : (P : Searching → Type 0) → P (at_start start) →
+      ((s t : Searching) → IsPlaced s → P s → Searches hay longest p width anchored s t → is_over hay longest p width anchored earliest s.place t ≡ false → P t) →
+      (n : ℕ) (s : Searching) → SearchedTo hay longest p width anchored earliest start n s → P s
   searched_keeps P first on zero s is = subst P is first
   searched_keeps P first on (suc n) t (s, before, place, open_) =
-      on s t (searched_place n s before) (searched_keeps P first on n s before) place open_
+      on s t (searched_placed n s before) (searched_keeps P first on n s before) place open_
 
 -- the configurations that were visited, with those of a place
 abbrev pub configurations_of : ℕ → List Configuration → List ℕ → List Configuration
@@ -61,12 +92,12 @@ pub option_or_cases : {A : Type 0} (o q : Option A) (u : A) → option_or o q �
 option_or_cases None q u e = inr (refl, e)
 option_or_cases (Some v) q u e = inl e
 
-module _ (p : Program) (hay : List ℕ) (longest : Bool) (width : ℕ) (start : ℕ) (fits : width ≤ p.slots) where
+module _ (p : Program) (hay : List ℕ) (longest : Bool) (width : ℕ) (starts : List ℕ) (fits : width ≤ p.slots) where
   abbrev TraceAt : List Configuration → ℕ → Thread → Type 0
-  TraceAt visits i t = Trace p hay longest width start visits i t
+  TraceAt visits i t = Trace p hay longest width starts visits i t
 
   abbrev FoundAt : List Configuration → ℕ → Thread → Type 0
-  FoundAt visits end t = Found p hay longest width start visits end t
+  FoundAt visits end t = Found p hay longest width starts visits end t
 
   -- where a thread goes from its state
   traced_moved : (visits : List Configuration) (i k : ℕ) (t : Thread) → ((v : Configuration) → Among (leads p hay (at t.state i)) v → v.place ≡ k) → Among visits (at t.state i) →
@@ -75,7 +106,7 @@ module _ (p : Program) (hay : List ℕ) (longest : Bool) (width : ℕ) (start : 
       let m = Among-map (thread_on t.start (with_write (state_at p.states t.state) i t.slots)) (leads p hay (at t.state i)) u h in
       subst (λ (x : Thread). TraceAt visits k x) m.2
       (subst (λ (j : ℕ). TraceAt visits j (thread_on t.start (with_write (state_at p.states t.state) i t.slots) m.0)) (there m.0 m.1)
-      (trace_on p hay longest width start visits i t m.0 here m.1 tr))
+      (trace_on p hay longest width starts visits i t m.0 here m.1 tr))
 
   module _ (i : ℕ) (old : List Configuration) where
     abbrev there : ℕ
@@ -83,9 +114,9 @@ module _ (p : Program) (hay : List ℕ) (longest : Bool) (width : ℕ) (start : 
 
     -- the threads of a walk have come by walks, and its first match has found a run
     pub record IsTraced (w : Walking) : Type 0 where
-      pub stack : (t : Thread) → Among w.stack t → Trace p hay longest width start (configurations_of i old w.seen) i t
-      pub next : (t : Thread) → Among w.next t → (0 < (piece hay i).len) × Trace p hay longest width start (configurations_of i old w.seen) (i + (piece hay i).len) t
-      pub first_match : (t : Thread) → w.first_match ≡ Some t → Found p hay longest width start (configurations_of i old w.seen) i t
+      pub stack : (t : Thread) → Among w.stack t → Trace p hay longest width starts (configurations_of i old w.seen) i t
+      pub next : (t : Thread) → Among w.next t → (0 < (piece hay i).len) × Trace p hay longest width starts (configurations_of i old w.seen) (i + (piece hay i).len) t
+      pub first_match : (t : Thread) → w.first_match ≡ Some t → Found p hay longest width starts (configurations_of i old w.seen) i t
 
     top : (w : Walking) (t : Thread) (rest : List Thread) → w.stack ≡ t ∷ rest → IsTraced w → TraceAt (configurations_of i old w.seen) i t
     top w t rest is now = now.stack t (subst (λ (l : List Thread). Among l t) (sym is) (inl refl))
@@ -101,17 +132,17 @@ module _ (p : Program) (hay : List ℕ) (longest : Bool) (width : ℕ) (start : 
       visits_now = configurations_of i old (t.state ∷ w.seen)
 
       top_now : TraceAt visits_now i t
-      top_now = trace_more p hay longest width start (configurations_of i old w.seen) visits_now i t (more t.state w.seen) (top w t rest is now)
+      top_now = trace_more p hay longest width starts (configurations_of i old w.seen) visits_now i t (more t.state w.seen) (top w t rest is now)
 
       rest_now : (u : Thread) → Among rest u → TraceAt visits_now i u
-      rest_now u h = trace_more p hay longest width start (configurations_of i old w.seen) visits_now i u (more t.state w.seen) (below w t rest is now u h)
+      rest_now u h = trace_more p hay longest width starts (configurations_of i old w.seen) visits_now i u (more t.state w.seen) (below w t rest is now u h)
 
       next_now : (u : Thread) → Among w.next u → (0 < (piece hay i).len) × TraceAt visits_now there u
       next_now u h =
-          let r = now.next u h in (r.0, trace_more p hay longest width start (configurations_of i old w.seen) visits_now there u (more t.state w.seen) r.1)
+          let r = now.next u h in (r.0, trace_more p hay longest width starts (configurations_of i old w.seen) visits_now there u (more t.state w.seen) r.1)
 
       hit_now : (u : Thread) → w.first_match ≡ Some u → FoundAt visits_now i u
-      hit_now u h = found_more p hay longest width start (configurations_of i old w.seen) visits_now i u (more t.state w.seen) (now.first_match u h)
+      hit_now u h = found_more p hay longest width starts (configurations_of i old w.seen) visits_now i u (more t.state w.seen) (now.first_match u h)
 
     pub traced_keeps : Keeps hay longest i p IsTraced
     traced_keeps = record {
@@ -121,10 +152,10 @@ module _ (p : Program) (hay : List ℕ) (longest : Bool) (width : ℕ) (start : 
         next = next_now w t rest is now;
         first_match = λ u h. ⊎_elim (hit_now w t rest is now u)
             (λ (e : t ≡ u). subst (λ (x : Thread). FoundAt (configurations_of i old (t.state ∷ w.seen)) i x) e
-            (found_here p hay longest width start fits (configurations_of i old (t.state ∷ w.seen)) i t found (inl refl) (top_now w t rest is now)))
+            (found_here p hay longest width starts fits (configurations_of i old (t.state ∷ w.seen)) i t found (inl refl) (top_now w t rest is now)))
             (option_or_some w.first_match t u h);
       };
-      on_taken = λ t rest w is new none over now. record {
+      on_taken = λ t rest w is new none one over now. record {
         stack = rest_now w t rest is now;
         next = λ u h. ⊎_elim (next_now w t rest is now u)
             (λ a. (
@@ -148,12 +179,16 @@ module _ (p : Program) (hay : List ℕ) (longest : Bool) (width : ℕ) (start : 
 
   -- the threads of a search have come by walks, and the best has found a run
   pub record AreTraced (s : Searching) : Type 0 where
-    pub threads : (t : Thread) → Among s.threads t → Trace p hay longest width start s.visits s.place t
-    pub best : (t : Thread) → s.best ≡ Some t → (end : ℕ) × Found p hay longest width start s.visits end t
+    pub threads : (t : Thread) → Among s.threads t → Trace p hay longest width starts s.visits s.place t
+    pub best : (t : Thread) → s.best ≡ Some t → (end : ℕ) × Found p hay longest width starts s.visits end t
 
-  pub begun_traced : (s : Searching) → Among (places hay start) s.place → AreTraced s → IsTraced s.place s.visits (begun hay longest p width s)
-  begun_traced s among now = record {
-    stack = λ t h. ⊎_elim (now.threads t) (at_begin s.best t) (Among-append s.threads (cond (is_some s.best) [] (started hay longest p width s.place ∷ [])) t h);
+  -- where the start is walked, a match may begin
+  abbrev pub MayBegin : Searching → Type 0
+  MayBegin s = s.starts ≡ true → Among starts s.place
+
+  pub begun_traced : (s : Searching) → MayBegin s → AreTraced s → IsTraced s.place s.visits (begun hay longest p width s)
+  begun_traced s begins now = record {
+    stack = λ t h. ⊎_elim (now.threads t) (at_begin s.starts begins t) (Among-append s.threads (cond s.starts (started hay longest p width s.place ∷ []) []) t h);
     next = λ t h. absurd h;
     first_match = λ t h. absurd (none_some t h);
   }
@@ -161,35 +196,15 @@ module _ (p : Program) (hay : List ℕ) (longest : Bool) (width : ℕ) (start : 
       none_some : (t : Thread) → None ≡ Some t → ⊥
       none_some t e = cc
 
-      at_begin : (o : Option Thread) (t : Thread) → Among (cond (is_some o) [] (started hay longest p width s.place ∷ [])) t → TraceAt s.visits s.place t
-      at_begin (Some b) t h = absurd h
-      at_begin None t h =
+      at_begin : (b : Bool) → (b ≡ true → Among starts s.place) → (t : Thread) → Among (cond b (started hay longest p width s.place ∷ []) []) t → TraceAt s.visits s.place t
+      at_begin false begins t h = absurd h
+      at_begin true begins t h =
           ⊎_elim
-          (λ (e : started hay longest p width s.place ≡ t). subst (λ (x : Thread). TraceAt s.visits s.place x) e (trace_start p hay longest width start s.visits s.place among))
+          (λ (e : started hay longest p width s.place ≡ t). subst (λ (x : Thread). TraceAt s.visits s.place x) e (trace_start p hay longest width starts s.visits s.place (begins refl)))
           (λ (no : ⊥). absurd no) h
 
-  -- the walk of a place is traced when it is over
-  pub place_traced : (s t : Searching) → Among (places hay start) s.place → AreTraced s → (place : Searches hay longest p width s t) → IsTraced s.place s.visits place.last
-  place_traced s t among now place =
-      walk_keeps hay longest s.place p (IsTraced s.place s.visits) (traced_keeps s.place s.visits) (begun hay longest p width s) place.last place.walks
-      (begun_traced s among now)
-
-  pub traced_on : (s t : Searching) → Among (places hay start) s.place → AreTraced s → Searches hay longest p width s t → AreTraced t
-  traced_on s t among now place =
-      let walk = place_traced s t among now place in
-      subst AreTraced place.is record {
-        threads = λ u h. (walk.next u h).1;
-        best = λ u h. ⊎_elim (λ here. (s.place, walk.first_match u here))
-            (λ before. let f = now.best u before.1 in (
-              f.0,
-              found_more p hay longest width start s.visits (configurations_of s.place s.visits place.last.seen) f.0 u
-                  (λ x a. Among-right (map (λ q. at q s.place) place.last.seen) s.visits x a) f.1,
-            ))
-            (option_or_cases place.last.first_match s.best u h);
-      }
-
-  pub traced_start : AreTraced (at_start hay longest p width start)
-  traced_start = record {
+  pub traced_start : (start : ℕ) → AreTraced (at_start start)
+  traced_start start = record {
     threads = λ t h. absurd h;
     best = λ t h. absurd (none_some t h);
   }
@@ -197,8 +212,53 @@ module _ (p : Program) (hay : List ℕ) (longest : Bool) (width : ℕ) (start : 
       none_some : (t : Thread) → None ≡ Some t → ⊥
       none_some t e = cc
 
-  module _ (earliest : Bool) (within : start ≤ length hay) where
-    -- all threads of a search have come by walks
-    pub searched_traced : (n : ℕ) (s : Searching) → SearchedTo hay longest p width earliest start n s → AreTraced s
-    searched_traced n s to =
-        searched_keeps p hay longest width earliest start within AreTraced traced_start (λ s t among now place on. traced_on s t among now place) n s to
+  module _ (anchored : Bool) (s t : Searching) (begins : MayBegin s) (now : AreTraced s) (place : Searches hay longest p width anchored s t) where
+    -- the walk of a place is traced when it is over
+    pub place_traced : IsTraced s.place s.visits place.last
+    place_traced =
+        walk_keeps hay longest s.place p (IsTraced s.place s.visits) (traced_keeps s.place s.visits) (begun hay longest p width s) place.last place.walks
+        (begun_traced s begins now)
+
+    pub traced_on : AreTraced t
+    traced_on = subst AreTraced place.is record {
+      threads = λ u h. (place_traced.next u h).1;
+      best = λ u h. ⊎_elim (λ here. (s.place, place_traced.first_match u here))
+          (λ before. let f = now.best u before.1 in (
+            f.0,
+            found_more p hay longest width starts s.visits (configurations_of s.place s.visits place.last.seen) f.0 u
+                (λ x a. Among-right (map (λ q. at q s.place) place.last.seen) s.visits x a) f.1,
+          ))
+          (option_or_cases place.last.first_match s.best u h);
+    }
+
+    -- Where a search is over, no thread is left and no start is to come, or the first match was enough.
+    pub over_cases : (earliest : Bool) → s.place ≤ length hay → is_over hay longest p width anchored earliest s.place t ≡ true →
+        ((t.threads ≡ []) × (left_after place.last.first_match (to_come_later hay anchored s) ≡ [])) ⊎ ((earliest && is_some t.best) ≡ true)
+    over_cases earliest within over =
+        ⊎_elim
+        (λ (e : ((piece hay s.place).len == 0) ≡ true).
+        let none = eqb-true (piece hay s.place).len 0 e in
+        inl (
+          sym (ap (λ (x : Searching). x.threads) place.is)
+              ∙ nothing_among place.last.next (λ u h. let some = (place_traced.next u h).0 in omega arith),
+          to_come_end hay anchored longest p width s t place within none,
+        ))
+        (λ rest.
+        ⊎_elim inr
+        (λ (e : (not t.starts && is_empty t.threads) ≡ true).
+        let both = and_parts (not t.starts) (is_empty t.threads) e in
+        inl (empty_is t.threads both.1, to_come_over hay anchored longest p width s t place (not_false t.starts both.0)))
+        (or_cases (earliest && is_some t.best) (not t.starts && is_empty t.threads) rest))
+        (or_cases ((piece hay s.place).len == 0) ((earliest && is_some t.best) || (not t.starts && is_empty t.threads)) over)
+      where
+        not_false : (b : Bool) → not b ≡ true → b ≡ false
+        not_false false e = refl
+        not_false true e = absurd (true≢false (sym e))
+
+-- all threads of a search have come by walks
+module _ (p : Program) (hay : List ℕ) (longest : Bool) (width : ℕ) (fits : width ≤ p.slots) (anchored earliest : Bool) (start : ℕ) (within : start ≤ length hay) where
+  pub searched_traced : (n : ℕ) (s : Searching) → SearchedTo hay longest p width anchored earliest start n s → AreTraced p hay longest width (starts_of hay anchored start) fits s
+  searched_traced n s to =
+      searched_keeps p hay longest width anchored earliest start within (AreTraced p hay longest width (starts_of hay anchored start) fits)
+      (traced_start p hay longest width (starts_of hay anchored start) fits start)
+      (λ s t placed now place on. traced_on p hay longest width (starts_of hay anchored start) fits anchored s t placed.starts now place) n s to

@@ -9,7 +9,7 @@ use Rattle.bites_spec.specs.Walks.{last_of}
 use Rattle.bites_spec.specs.Program.{State, Program, Configuration, at, state_at, is_match, char, ranges, splits, goto, capture, fail, match}
 use Rattle.bites_spec.specs.Run.{Run, write_of, last_write, writes, matches, slots}
 use Rattle.bites_spec.proofs.programs.SlotLemmas.{last_write-append}
-use Rattle.bites_machine.specs.Machine.{with_write}
+use Rattle.bites_spec.specs.PikeVm.{with_write}
 
 -- the slots from a on, after these writes
 abbrev pub row : List (ℕ × ℕ) → ℕ → ℕ → List (Option ℕ)

@@ -1,15 +1,13 @@
 -- Each thread of the machine has come by a walk through configurations that were visited, and has the slots of that walk.
-use Rattle.std.proofs.Common.{◌≡◌, ℕ, ◌≤◌, Bool, true, false, cond, List, [], ◌∷◌, ◌++◌, take, Option, Some, None, refl, sym, ap, ◌∙◌, subst, inl, inr, ⊎_elim, ◌⊎◌}
+use Rattle.std.proofs.Common.{◌≡◌, ℕ, ◌≤◌, Bool, true, false, cond, List, [], ◌∷◌, ◌++◌, take, length, Option, Some, None, refl, sym, ap, ◌∙◌, subst, inl, inr, ⊎_elim, ◌⊎◌}
 use Rattle.std.specs.Prelude.{replicate, if◌then◌else◌, nat_le}
 use Rattle.std.specs.List.{filter}
 use Rattle.std.proofs.lemmas.Bool.{cases_Bool}
-use Rattle.bites_spec.specs.Utf8.{places}
 use Rattle.bites_spec.specs.Walks.{Among, Walk, last_of}
 use Rattle.bites_spec.specs.Program.{Program, Configuration, at, state_at, is_match, IsWellFormed}
 use Rattle.bites_spec.specs.Run.{Run, leads, matches, Runs, IsRun, slots}
 use Rattle.bites_spec.proofs.runs.RunLemmas.{Inside, inside_on}
-use Rattle.bites_spec.proofs.utf8.PieceLemmas.{Among-places}
-use Rattle.bites_machine.specs.Machine.{Thread, with_write, thread_on, kept, started}
+use Rattle.bites_spec.specs.PikeVm.{Thread, with_write, thread_on, kept, started}
 use Rattle.bites_machine.proofs.model.PathLemmas.{walk_on}
 use Rattle.bites_machine.proofs.model.MachineSlots.{all_written, run_writes}
 use Rattle.bites_machine.proofs.model.MachineWaiting.{match_keeps}
@@ -29,7 +27,8 @@ Among-kept hay longest None ts t h = h
 Among-kept hay true (Some first_match) ts t h = Among-filter (λ u. nat_le u.start first_match.start) ts t h
 Among-kept hay false (Some first_match) ts t h = absurd h
 
-module _ (p : Program) (hay : List ℕ) (longest : Bool) (width : ℕ) (start : ℕ) where
+-- the places where the search may begin
+module _ (p : Program) (hay : List ℕ) (longest : Bool) (width : ℕ) (starts : List ℕ) where
   abbrev base : List (Option ℕ)
   base = replicate width None
 
@@ -40,7 +39,7 @@ module _ (p : Program) (hay : List ℕ) (longest : Bool) (width : ℕ) (start : 
   -- the walk by which a thread has come to its state at a place
   pub record Trace (visits : List Configuration) (i : ℕ) (t : Thread) : Type 0 where
     pub from : ℕ
-    pub among : Among (places hay start) from
+    pub among : Among starts from
     pub configurations : List Configuration
     pub walk : Walk (leads p hay) (λ u. u ≡ at t.state i) (at p.start from) configurations
     pub was : (u : Configuration) → Among (at p.start from ∷ configurations) u → Among visits u ⊎ (at t.state i ≡ u)
@@ -51,7 +50,7 @@ module _ (p : Program) (hay : List ℕ) (longest : Bool) (width : ℕ) (start : 
   pub record Found (visits : List Configuration) (end : ℕ) (t : Thread) : Type 0 where
     pub run : Run
     pub runs : IsRun p hay run.start run.configurations run.end
-    pub among : Among (places hay start) run.start
+    pub among : Among starts run.start
     pub was : (u : Configuration) → Among (at p.start run.start ∷ run.configurations) u → Among visits u
     pub slots : t.slots ≡ take width (slots p run)
     pub started : t.start ≡ start_of run.start
@@ -80,7 +79,7 @@ module _ (p : Program) (hay : List ℕ) (longest : Bool) (width : ℕ) (start : 
   }
 
   -- a thread at the start
-  unfoldable pub trace_start : (visits : List Configuration) (i : ℕ) → Among (places hay start) i → Trace visits i (started hay longest p width i)
+  unfoldable pub trace_start : (visits : List Configuration) (i : ℕ) → Among starts i → Trace visits i (started hay longest p width i)
   trace_start visits i among = record {
     from = i;
     among = among;
@@ -143,6 +142,6 @@ module _ (p : Program) (hay : List ℕ) (longest : Bool) (width : ℕ) (start : 
   walk_inside well s (t ∷ r) u inside walk = walk_inside well t r u (inside_on p hay well s t inside walk.0) walk.1
 
   -- the state of a thread is one of the program
-  pub trace_inside : IsWellFormed p → (visits : List Configuration) (i : ℕ) (t : Thread) → Trace visits i t → Inside p hay (at t.state i)
-  trace_inside well visits i t tr =
-      walk_inside well (at p.start tr.from) tr.configurations (at t.state i) (well.start, (Among-places hay start tr.from tr.among).1) tr.walk
+  pub trace_inside : IsWellFormed p → ((k : ℕ) → Among starts k → k ≤ length hay) → (visits : List Configuration) (i : ℕ) (t : Thread) → Trace visits i t → Inside p hay (at t.state i)
+  trace_inside well lie visits i t tr =
+      walk_inside well (at p.start tr.from) tr.configurations (at t.state i) (well.start, lie tr.from tr.among) tr.walk

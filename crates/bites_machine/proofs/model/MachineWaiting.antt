@@ -11,7 +11,7 @@ use Rattle.bites_spec.specs.Program.{State, Program, Configuration, at, state_at
 use Rattle.bites_spec.specs.Run.{is_same_configuration, leads, matches, enough}
 use Rattle.bites_spec.proofs.runs.RunLemmas.{Inside, unseen, fewer, enough_for_all, inside_on, same_is, same_refl, match_ends}
 use Rattle.bites_spec.proofs.runs.WalkLemmas.{waiting, pending, pending-append, pending_seen, pending_visit_behind, run_away, run_match, first_among_cong_in}
-use Rattle.bites_machine.specs.Machine.{Thread, with_write, thread_on, moved}
+use Rattle.bites_spec.specs.PikeVm.{Thread, with_write, thread_on, moved}
 use Rattle.bites_machine.proofs.compile.EdgeLemmas.{edges_apart}
 use Rattle.bites_machine.proofs.model.MachineCases.{was_seen, LeadsBeside}
 use Rattle.bites_machine.proofs.model.MachineSlots.{all_written}

@@ -1,15 +1,16 @@
 -- Steps of the machine on lists that are made one by one, and a walk of some threads with others below them.
-use Rattle.std.proofs.Common.{◌≡◌, ℕ, zero, suc, ◌+◌, Bool, true, false, cond, List, [], ◌∷◌, ◌++◌, Option, Some, None, refl, sym, ap, ◌∙◌, subst, inl, inr, ⊎_elim, ◌⊎◌, true≢false, arith, append_assoc}
+use Rattle.std.proofs.Common.{◌≡◌, ℕ, zero, suc, ◌+◌, Bool, true, false, cond, List, [], ◌∷◌, ◌++◌, Option, Some, None, refl, sym, ap, ◌∙◌, subst, inl, inr, ⊎_elim, ◌⊎◌, arith, append_assoc}
 use Rattle.std.specs.Prelude.{nat_le}
 use Rattle.std.specs.List.{filter}
 use Rattle.std.specs.Fn.{iterate}
 use Rattle.std.specs.Option.{option_or}
 use Rattle.std.proofs.lemmas.List.Elements.{filter-append}
 use Rattle.std.proofs.lemmas.Bool.{cases_Bool}
-use Rattle.bites_spec.specs.Program.{State, Program, state_at, is_match, char, ranges, splits, goto, capture, fail, match}
+use Rattle.bites_spec.specs.Program.{State, Program, state_at, char, ranges, splits, goto, capture, fail, match}
 use Rattle.bites_spec.specs.Closure as closure
-use Rattle.bites_machine.specs.Machine.{Thread, Walking, kept, moved, visited, dropped, stepped, step, WalksTo}
-use Rattle.bites_machine.proofs.model.MachineCases.{takes, was_seen, at_match, taken, gone, state_of_thread}
+use Rattle.bites_spec.specs.Closure.{dropped}
+use Rattle.bites_spec.specs.PikeVm.{Thread, Walking, kept, moved, visited, stepped, step, WalksTo}
+use Rattle.bites_machine.proofs.model.MachineCases.{was_seen, at_match, gone, state_of_thread}
 
 module _ (hay : List ℕ) (longest : Bool) (p : Program) (i : ℕ) where
   -- no step
@@ -32,57 +33,23 @@ module _ (hay : List ℕ) (longest : Bool) (p : Program) (i : ℕ) where
   walks_through w v u (k, is) (m, more) = (k + m, iterate_through k m w v is ∙ more)
 
   -- what a step makes of a walk
-  pub step_done : (w : Walking) → w.stack ≡ [] → step hay longest p i w ≡ w
+  step_done : (w : Walking) → w.stack ≡ [] → step hay longest p i w ≡ w
   unfolding closure.stepped
   step_done w is = ap (λ (l : List Thread). stepped hay longest p i l w) is
 
-  pub step_seen : (t : Thread) (rest : List Thread) (w : Walking) → w.stack ≡ t ∷ rest → was_seen hay longest i p w.seen t.state ≡ true →
-      step hay longest p i w ≡ dropped hay longest rest w
+  step_seen : (t : Thread) (rest : List Thread) (w : Walking) → w.stack ≡ t ∷ rest → was_seen hay longest i p w.seen t.state ≡ true →
+      step hay longest p i w ≡ dropped rest w
   unfolding closure.stepped
   step_seen t rest w is was =
       ap (λ (l : List Thread). stepped hay longest p i l w) is
-      ∙ ap (λ (b : Bool). cond b (dropped hay longest rest w) (visited hay longest i (state_of_thread hay longest i p t) t rest w)) was
+      ∙ ap (λ (b : Bool). cond b (dropped rest w) (visited hay longest i (state_of_thread hay longest i p t) t rest w)) was
 
-  pub step_new : (t : Thread) (rest : List Thread) (w : Walking) → w.stack ≡ t ∷ rest → was_seen hay longest i p w.seen t.state ≡ false →
+  step_new : (t : Thread) (rest : List Thread) (w : Walking) → w.stack ≡ t ∷ rest → was_seen hay longest i p w.seen t.state ≡ false →
       step hay longest p i w ≡ visited hay longest i (state_at p.states t.state) t rest w
   unfolding closure.stepped
   step_new t rest w is new =
       ap (λ (l : List Thread). stepped hay longest p i l w) is
-      ∙ ap (λ (b : Bool). cond b (dropped hay longest rest w) (visited hay longest i (state_of_thread hay longest i p t) t rest w)) new
-
-  -- what a visit makes of it, by the kind of the state
-  pub visited_match : (st : State) → is_match st ≡ true → (t : Thread) (rest : List Thread) (w : Walking) →
-      visited hay longest i st t rest w ≡ at_match hay longest i t rest w
-  unfolding closure.visited
-  visited_match match e t rest w = refl
-  visited_match (char q c) e t rest w = absurd (true≢false (sym e))
-  visited_match (ranges q rs) e t rest w = absurd (true≢false (sym e))
-  visited_match (splits qs b) e t rest w = absurd (true≢false (sym e))
-  visited_match (goto q look) e t rest w = absurd (true≢false (sym e))
-  visited_match (capture q k) e t rest w = absurd (true≢false (sym e))
-  visited_match fail e t rest w = absurd (true≢false (sym e))
-
-  pub visited_taken : (st : State) → takes st ≡ true → (t : Thread) (rest : List Thread) (w : Walking) →
-      visited hay longest i st t rest w ≡ taken hay longest i st t rest w
-  unfolding closure.visited
-  visited_taken (char q c) e t rest w = refl
-  visited_taken (ranges q rs) e t rest w = refl
-  visited_taken match e t rest w = absurd (true≢false (sym e))
-  visited_taken (splits qs b) e t rest w = absurd (true≢false (sym e))
-  visited_taken (goto q look) e t rest w = absurd (true≢false (sym e))
-  visited_taken (capture q k) e t rest w = absurd (true≢false (sym e))
-  visited_taken fail e t rest w = absurd (true≢false (sym e))
-
-  pub visited_gone : (st : State) → is_match st ≡ false → takes st ≡ false → (t : Thread) (rest : List Thread) (w : Walking) →
-      visited hay longest i st t rest w ≡ gone hay longest i st t rest w
-  unfolding closure.visited
-  visited_gone (splits qs b) e f t rest w = refl
-  visited_gone (goto q look) e f t rest w = refl
-  visited_gone (capture q k) e f t rest w = refl
-  visited_gone fail e f t rest w = refl
-  visited_gone match e f t rest w = absurd (true≢false e)
-  visited_gone (char q c) e f t rest w = absurd (true≢false f)
-  visited_gone (ranges q rs) e f t rest w = absurd (true≢false f)
+      ∙ ap (λ (b : Bool). cond b (dropped rest w) (visited hay longest i (state_of_thread hay longest i p t) t rest w)) new
 
   -- the walk with other threads below its own, except those that its first match cuts off
   abbrev pub above : List Thread → Walking → Walking
@@ -139,7 +106,7 @@ module _ (hay : List ℕ) (longest : Bool) (p : Program) (i : ℕ) where
       ∙ ap (above below) (sym (step_new t rest w is new)))
       (cases_Bool (was_seen hay longest i p w.seen t.state))
 
-  pub stack_cases : (ts : List Thread) → (ts ≡ []) ⊎ ((t : Thread) × (rest : List Thread) × (ts ≡ t ∷ rest))
+  stack_cases : (ts : List Thread) → (ts ≡ []) ⊎ ((t : Thread) × (rest : List Thread) × (ts ≡ t ∷ rest))
   stack_cases [] = inl refl
   stack_cases (t ∷ ts) = inr (t, ts, refl)
 

@@ -8,14 +8,15 @@ use Rattle.bites_spec.specs.Program.{Program, Configuration, at, targets}
 use Rattle.bites_spec.specs.Counts.{Record, fit_of}
 use Rattle.bites_machine.specs.Machine as machine
 use Rattle.bites_machine.specs.Machine.{WalksTo, Searching, after, is_empty}
-use Rattle.bites_machine.specs.Anchored.{Steps, at_place, is_done, HasSteppedTo, HasSteppedOver, ThreadsSearched, AnchoredResult}
+use Rattle.bites_machine.specs.Anchored.{Steps, at_place, is_done, HasSteppedTo, HasSteppedOver, ThreadsSearched}
 use Rattle.bites_machine.specs.SlotTable.{Pool}
 use Rattle.bites_machine.specs.Threads.{Listed}
 use Rattle.bites_machine.specs.Used.{IsUsed, slots_at}
 use Rattle.bites_machine.specs.Scratch.{thread_of, row_of}
-use Rattle.bites_machine.specs.Sweep.{ClosesAll, InvariantBetweenSteps, HasRoom, IsIdle, Represents, walking_at, left_in}
+use Rattle.bites_machine.specs.Sweep.{SearchResult, ClosesAll, InvariantBetweenSteps, HasRoom, IsIdle, Represents, walking_at, left_in}
 use Rattle.bites_machine.specs.declared.vm.threads.Thread.{Thread}
 use Rattle.bites_machine.specs.declared.vm.closure.Scratch.{Scratch}
+use Rattle.bites_machine.proofs.refine.SearchesAlike.{search_of, stepped_of}
 use Rattle.bites_machine.proofs.refine.IdleLemmas.{used_by_none}
 use Rattle.bites_machine.proofs.refine.BetweenStepsLemmas.{used_zero}
 use Rattle.bites_machine.proofs.refine.PlaceSteps.{empty_by}
@@ -171,10 +172,10 @@ module _ (p : Program) (hay : List ℕ) (longest earliest : Bool) (start : ℕ) 
   -- a search that is over was this one
   pub anchored_result_by : (place len : ℕ) (is_found : Bool) (walked : Record) (pool : Pool) (threads : List Thread) (slots : List (Option ℕ)) (left : ℕ) →
       HasSteppedOver p hay longest earliest start old place is_found walked pool threads slots → len ≡ (piece hay place).len → left ≡ length threads → ends_after earliest len is_found left ≡ true →
-      AnchoredResult p hay longest earliest start is_found old slots walked
+      SearchResult p hay longest true earliest start is_found old slots walked
   anchored_result_by place len is_found walked pool threads slots left h lens lefts over = record {
-    last = h.now;
-    stepped = record {
+    last = search_of hay longest p (length old) false h.now;
+    searched = stepped_of hay longest p (length old) earliest start h.now record {
       places = h.places;
       before = h.before;
       stepped = h.stepped;

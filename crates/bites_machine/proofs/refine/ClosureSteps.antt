@@ -5,8 +5,8 @@ use Rattle.bites_spec.specs.Walks.{Among}
 use Rattle.bites_spec.proofs.programs.SlotLemmas.{Among-left, Among-right}
 use Rattle.bites_spec.specs.Program as program
 use Rattle.bites_spec.specs.Counts.{Record}
-use Rattle.bites_machine.specs.Machine as machine
-use Rattle.bites_machine.specs.Machine.{kept, step, WalksTo}
+use Rattle.bites_spec.specs.PikeVm as machine
+use Rattle.bites_spec.specs.PikeVm.{kept, step, WalksTo}
 use Rattle.bites_machine.specs.SlotTable.{Pool, one_less}
 use Rattle.bites_machine.specs.Used.{IsUsed, KeepsRows}
 use Rattle.bites_machine.specs.Framed.{frame_at}

@@ -13,6 +13,7 @@ use Rattle.bites_machine.specs.Threads.{Listed}
 use Rattle.bites_machine.specs.Used.{IsUsed, slots_at}
 use Rattle.bites_machine.specs.Scratch.{thread_of, row_of}
 use Rattle.bites_machine.specs.Sweep.{SearchResult, InvariantBetweenSteps, HasRoom, IsIdle, IsProgramOf, Represents, PlaceSearched, HasReached, HasSearched}
+use Rattle.bites_machine.proofs.refine.SearchesAlike.{waiting, searched_of}
 use Rattle.bites_machine.proofs.refine.IdleLemmas.{used_by_none}
 use Rattle.bites_machine.specs.declared.vm.threads.Thread.{Thread}
 use Rattle.bites_machine.specs.declared.vm.closure.Scratch.{Scratch}
@@ -164,10 +165,10 @@ module _ (p : Program) (hay : List ℕ) (longest earliest : Bool) (start : ℕ) 
   -- a search that is over was this one
   pub result_by : (place len : ℕ) (is_found : Bool) (walked : Record) (pool : Pool) (threads : List Thread) (slots : List (Option ℕ)) (left : ℕ) →
       HasSearched p hay longest earliest start old place is_found walked pool threads slots → len ≡ (piece hay place).len → left ≡ length threads → ends_by earliest len is_found left ≡ true →
-      SearchResult p hay longest earliest start is_found old slots walked
+      SearchResult p hay longest false earliest start is_found old slots walked
   result_by place len is_found walked pool threads slots left h lens lefts over = record {
-    last = h.now;
-    searched = record {
+    last = waiting hay longest p (length old) h.now;
+    searched = searched_of hay longest p (length old) earliest start h.now record {
       places = h.places;
       before = h.before;
       searched = h.searched;

@@ -2,96 +2,80 @@
 use Rattle.std.proofs.Common.{◌≡◌, ℕ, ◌<◌, ◌≤◌, ◌⊎◌, ⊎_elim, Bool, true, false, List, [], length, Option, None, refl, sym, ap₂, subst, arith}
 use Rattle.std.proofs.lemmas.Bool.{cases_lt}
 use Rattle.std.specs.Prelude.{is_some}
-use Rattle.bites_spec.specs.Utf8.{places}
 use Rattle.bites_spec.specs.Program.{Program, Configuration, IsWellFormed}
 use Rattle.bites_spec.specs.Run.{Run, Answered, LeastEnd, first_run, longest_run}
 use Rattle.bites_spec.specs.Counts.{Record, IsBounded, VisitedBy}
+use Rattle.bites_spec.specs.PikeVm.{Searching, Searched}
 use Rattle.bites_machine.specs.Sweep.{left_in, SearchResult}
+use Rattle.bites_machine.proofs.model.MachineStarts.{starts_of}
 use Rattle.bites_machine.proofs.model.MachineAnswers.{record_of, first_answered, longest_answered, least_answered, search_visited, search_counted, past_first, past_longest, past_least, past_visited, past_counted}
 
 abbrev recorded : List Configuration → ℕ → Record
 recorded visits looks = record { visits = visits; looks = looks }
 
-module _ (p : Program) (hay : List ℕ) (well : IsWellFormed p) (start : ℕ) (answer : Bool) (old new : List (Option ℕ)) (walked : Record) (fits : length old ≤ p.slots) where
+module _ (p : Program) (hay : List ℕ) (well : IsWellFormed p) (anchored : Bool) (start : ℕ) (answer : Bool) (old new : List (Option ℕ)) (walked : Record) (fits : length old ≤ p.slots) where
+  abbrev starts : List ℕ
+  starts = starts_of hay anchored start
+
   -- nothing was found, and nothing was done
   abbrev pub Rests : Type 0
   Rests = (answer ≡ false) × (new ≡ old) × (walked.visits ≡ []) × (walked.looks ≡ 0)
 
   -- what a search did, if it began within the haystack, and else
   abbrev pub Did : Bool → Bool → Type 0
-  Did longest earliest = (start ≤ length hay → SearchResult p hay longest earliest start answer old new walked) × (length hay < start → Rests)
+  Did longest earliest = (start ≤ length hay → SearchResult p hay longest anchored earliest start answer old new walked) × (length hay < start → Rests)
 
-  nothing_answered : (o : Option Run) → o ≡ None → Rests → Answered p o answer old new
-  nothing_answered o none rests =
-      subst (λ x. Answered p x answer old new) (sym none)
-      (subst (λ b. Answered p None b old new) (sym rests.0) (subst (λ (l : List (Option ℕ)). Answered p None false old l) (sym rests.1) (refl, refl)))
-
-  to_answer : (o : Option Run) (longest earliest : Bool) (s : SearchResult p hay longest earliest start answer old new walked) →
-      Answered p o (is_some s.last.best) old (left_in s.last.best old) → Answered p o answer old new
-  to_answer o longest earliest s base =
-      subst (λ b. Answered p o b old new) s.found (subst (λ (l : List (Option ℕ)). Answered p o (is_some s.last.best) old l) s.slots base)
-
-  to_record : (longest earliest : Bool) (s : SearchResult p hay longest earliest start answer old new walked) → record_of s.last ≡ walked
-  to_record longest earliest s = ap₂ recorded s.visits s.looks
-
-  -- the first run
-  pub did_first : Did false false → Answered p (first_run p hay (places hay start)) answer old new
-  did_first did =
-      ⊎_elim
-      (λ (past : length hay < start). nothing_answered (first_run p hay (places hay start)) (past_first p hay start past) (did.1 past))
-      (λ (within : start ≤ length hay).
-      let s = did.0 within in
-      to_answer (first_run p hay (places hay start)) false false s (first_answered p hay well (length old) fits start within s.last old refl s.searched))
-      (cases_lt (length hay) start)
-
-  -- the longest run
-  pub did_longest : Did true false → Answered p (longest_run p hay (places hay start)) answer old new
-  did_longest did =
-      ⊎_elim
-      (λ (past : length hay < start). nothing_answered (longest_run p hay (places hay start)) (past_longest p hay start past) (did.1 past))
-      (λ (within : start ≤ length hay).
-      let s = did.0 within in
-      to_answer (longest_run p hay (places hay start)) true false s (longest_answered p hay well (length old) fits start within s.last old refl s.searched))
-      (cases_lt (length hay) start)
-
-  -- a run that ends before or with every other
-  pub did_least : Did false true → (o : Option Run) × LeastEnd p hay (places hay start) o × Answered p o answer old new
-  did_least did =
-      ⊎_elim
-      (λ (past : length hay < start). (None, past_least p hay start past, nothing_answered None refl (did.1 past)))
-      (λ (within : start ≤ length hay).
-      let s = did.0 within in
-      let least = least_answered p hay well (length old) fits start within s.last old refl s.searched in
-      (least.0, least.1, to_answer least.0 false true s least.2))
-      (cases_lt (length hay) start)
-
-  -- what was visited
-  pub did_visit : (longest earliest : Bool) → Did longest earliest → VisitedBy p hay (places hay start) answer walked
-  did_visit longest earliest did =
+  -- what holds of the end of a search, and past the end of the haystack of nothing, holds of what the search did
+  of_end : (Q : Bool → List (Option ℕ) → Record → Type 0) (longest earliest : Bool) →
+      ((within : start ≤ length hay) (t : Searching) → Searched hay longest p (length old) anchored earliest start t → Q (is_some t.best) (left_in t.best old) (record_of t)) →
+      (length hay < start → Q false old (recorded [] 0)) → Did longest earliest → Q answer new walked
+  of_end Q longest earliest at_end nothing did =
       ⊎_elim
       (λ (past : length hay < start).
       let rests = did.1 past in
-      subst (λ b. VisitedBy p hay (places hay start) b walked) (sym rests.0)
-      (subst (λ (r : Record). VisitedBy p hay (places hay start) false r) (sym (ap₂ recorded rests.2 rests.3)) (past_visited p hay start past)))
+      moved false answer old new (recorded [] 0) walked (sym rests.0) (sym rests.1) (sym (ap₂ recorded rests.2 rests.3)) (nothing past))
       (λ (within : start ≤ length hay).
       let s = did.0 within in
-      subst (λ b. VisitedBy p hay (places hay start) b walked) s.found
-      (subst (λ (r : Record). VisitedBy p hay (places hay start) (is_some s.last.best) r) (to_record longest earliest s)
-      (search_visited p hay well (length old) fits start longest earliest within s.last s.searched)))
+      moved (is_some s.last.best) answer (left_in s.last.best old) new (record_of s.last) walked s.found s.slots (ap₂ recorded s.visits s.looks) (at_end within s.last s.searched))
       (cases_lt (length hay) start)
+    where
+      moved : (a b : Bool) (l m : List (Option ℕ)) (v w : Record) → a ≡ b → l ≡ m → v ≡ w → Q a l v → Q b m w
+      moved a b l m v w ab lm vw q = subst (λ x. Q x m w) ab (subst (λ (x : List (Option ℕ)). Q a x w) lm (subst (λ (x : Record). Q a l x) vw q))
+
+  -- the first run
+  pub did_first : Did false false → Answered p (first_run p hay starts) answer old new
+  did_first =
+      of_end (λ a l w. Answered p (first_run p hay starts) a old l) false false
+      (λ within t end. first_answered p hay well (length old) fits anchored start within t old refl end)
+      (λ past. subst (λ o. Answered p o false old old) (sym (past_first p hay anchored start past)) (refl, refl))
+
+  -- the longest run
+  pub did_longest : Did true false → Answered p (longest_run p hay starts) answer old new
+  did_longest =
+      of_end (λ a l w. Answered p (longest_run p hay starts) a old l) true false
+      (λ within t end. longest_answered p hay well (length old) fits anchored start within t old refl end)
+      (λ past. subst (λ o. Answered p o false old old) (sym (past_longest p hay anchored start past)) (refl, refl))
+
+  -- a run that ends before or with every other
+  pub did_least : Did false true → (o : Option Run) × LeastEnd p hay starts o × Answered p o answer old new
+  did_least =
+      of_end (λ a l w. (o : Option Run) × LeastEnd p hay starts o × Answered p o a old l) false true
+      (λ within t end. least_answered p hay well (length old) fits anchored start within t old refl end)
+      (λ past. (None, past_least p hay anchored start past, (refl, refl)))
+
+  -- what was visited
+  pub did_visit : (longest earliest : Bool) → Did longest earliest → VisitedBy p hay starts answer walked
+  did_visit longest earliest =
+      of_end (λ a l w. VisitedBy p hay starts a w) longest earliest
+      (λ within t end. search_visited p hay well (length old) fits anchored start within longest earliest t end)
+      (past_visited p hay anchored start)
 
   -- and within which bounds
   pub did_bounded : (longest earliest : Bool) → Did longest earliest → IsBounded p hay start walked
-  did_bounded longest earliest did =
-      ⊎_elim
-      (λ (past : length hay < start).
-      let rests = did.1 past in
-      subst (λ (r : Record). IsBounded p hay start r) (sym (ap₂ recorded rests.2 rests.3)) (past_counted p hay start past))
-      (λ (within : start ≤ length hay).
-      let s = did.0 within in
-      subst (λ (r : Record). IsBounded p hay start r) (to_record longest earliest s)
-      (search_counted p hay well (length old) fits start longest earliest within s.last s.searched))
-      (cases_lt (length hay) start)
+  did_bounded longest earliest =
+      of_end (λ a l w. IsBounded p hay start w) longest earliest
+      (λ within t end. search_counted p hay well (length old) fits anchored start within longest earliest t end)
+      (past_counted p hay anchored start)
 
 -- a slice that a search may fill
 pub slots_fit : (n most : ℕ) → 2 ≤ most → (n ≡ 0) ⊎ (n ≡ 2) ⊎ (n ≡ most) → n ≤ most

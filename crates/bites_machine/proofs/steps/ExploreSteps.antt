@@ -8,8 +8,9 @@ use Rattle.bites_spec.specs.Program as program
 use Rattle.bites_spec.specs.Program.{Configuration, at, targets_of, state_at, is_match}
 use Rattle.bites_spec.specs.Counts.{Record}
 use Rattle.bites_spec.specs.Closure as closure
-use Rattle.bites_machine.specs.Machine as machine
-use Rattle.bites_machine.specs.Machine.{Walking, kept, visited, dropped, stepped}
+use Rattle.bites_spec.specs.PikeVm as machine
+use Rattle.bites_spec.specs.Closure.{dropped}
+use Rattle.bites_spec.specs.PikeVm.{Walking, kept, visited, stepped}
 use Rattle.bites_machine.specs.Stack.{Frames}
 use Rattle.bites_machine.specs.Scratch.{frame_of, first_match_of, walking_of, next_of}
 use Rattle.bites_machine.specs.Visits.{ArePending, VisitsTo, behind}
@@ -23,15 +24,15 @@ use Rattle.bites_machine.proofs.steps.ExploreLemmas.{member_more, edges_of_membe
 module _ (hay : List ℕ) (longest : Bool) (place : ℕ) where
   -- a step at a state that was visited here
   stepped_seen : (p : program.Program) (u : machine.Thread) (rest : List machine.Thread) (w : Walking) → list_any (λ q. q == u.state) w.seen ≡ true →
-      stepped hay longest p place (u ∷ rest) w ≡ dropped hay longest rest w
+      stepped hay longest p place (u ∷ rest) w ≡ dropped rest w
   unfolding closure.stepped
-  stepped_seen p u rest w e = ap (λ (b : Bool). cond b (dropped hay longest rest w) (visited hay longest place (state_at p.states u.state) u rest w)) e
+  stepped_seen p u rest w e = ap (λ (b : Bool). cond b (dropped rest w) (visited hay longest place (state_at p.states u.state) u rest w)) e
 
   -- a step at another state
   stepped_new : (p : program.Program) (u : machine.Thread) (rest : List machine.Thread) (w : Walking) → list_any (λ q. q == u.state) w.seen ≡ false →
       stepped hay longest p place (u ∷ rest) w ≡ visited hay longest place (state_at p.states u.state) u rest w
   unfolding closure.stepped
-  stepped_new p u rest w e = ap (λ (b : Bool). cond b (dropped hay longest rest w) (visited hay longest place (state_at p.states u.state) u rest w)) e
+  stepped_new p u rest w e = ap (λ (b : Bool). cond b (dropped rest w) (visited hay longest place (state_at p.states u.state) u rest w)) e
 
   -- a state that was visited here is explored
   pub explores_again : (states : List program.State) (t : Thread) (f : Frame) (was now : Record) (old : Scratch) (m : List Bool) (s : Frames) (slots : List (Option ℕ)) (on : Option Frame) →

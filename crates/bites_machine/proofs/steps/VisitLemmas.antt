@@ -9,8 +9,8 @@ use Rattle.bites_spec.specs.Program as program
 use Rattle.bites_spec.specs.Program.{Configuration, at, targets_of, is_match, taking, looking, edges}
 use Rattle.bites_machine.specs.Ends.{next_character, takes_by}
 use Rattle.bites_spec.specs.Closure as closure
-use Rattle.bites_machine.specs.Machine as machine
-use Rattle.bites_machine.specs.Machine.{Walking, kept, moved, visited, thread_on, with_write}
+use Rattle.bites_spec.specs.PikeVm as machine
+use Rattle.bites_spec.specs.PikeVm.{Walking, kept, moved, visited, thread_on, with_write}
 use Rattle.bites_machine.specs.SlotTable.{Pool, with_pending}
 use Rattle.bites_machine.specs.Used.{slots_at}
 use Rattle.bites_machine.specs.Stack.{Frames}

@@ -5,8 +5,7 @@ ghost use Rattle.bites_spec.specs.Program as program;
 ghost use Rattle.bites_spec.specs.Counts.{fit_of};
 ghost use Rattle.bites_machine.specs.States.{states_of};
 ghost use Rattle.bites_machine.specs.Used.{slots_at};
-ghost use Rattle.bites_machine.specs.Sweep.{IsProgramOf, HasRoom, IsIdle};
-ghost use Rattle.bites_machine.specs.Anchored.{AnchoredResult};
+ghost use Rattle.bites_machine.specs.Sweep.{IsProgramOf, HasRoom, IsIdle, SearchResult};
 ghost use Rattle.bites_machine.specs.declared.vm.MatchKind.TheVariants.{First, Earliest, Longest};
 
 use super::MatchKind;
@@ -62,7 +61,7 @@ pub(super) fn search(
     requires even { length scratch.old.rows.rows ≡ length scratch.old.rows.ref_counts }
     ensures search_result { (p : program.Program) →
         IsProgramOf p (states_of counted.old.states.now) request.now.first →
-        AnchoredResult p request.now.haystack.now request.now.longest request.now.earliest
+        SearchResult p request.now.haystack.now request.now.longest true request.now.earliest
         request.now.start result slots.old slots.new counted.new.walked }
     ensures room { (p : program.Program) →
         IsProgramOf p (states_of counted.old.states.now) request.now.first →

@@ -1,11 +1,10 @@
 //! The working memory of searches, allocated once.
 
-ghost use Rattle.std.specs.Prelude.{◌≡◌, ◌<◌, ◌≤◌, ◌↔◌, [], IfOk, IsTrue, None, length, replicate, false};
+ghost use Rattle.std.specs.Prelude.{◌≡◌, ◌<◌, ◌≤◌, ◌↔◌, [], IfOk, IsTrue, None, length, replicate, false, true};
 ghost use Rattle.bites_spec.specs.Program as program;
 ghost use Rattle.bites_spec.specs.Counts.{fit_of};
 ghost use Rattle.bites_machine.specs.States.{states_of};
 ghost use Rattle.bites_machine.specs.Sweep.{HasRoom, IsIdle, IsProgramOf, SearchResult, frames_for, rows_for};
-ghost use Rattle.bites_machine.specs.Anchored.{AnchoredResult};
 ghost use Rattle.bites_machine.specs.Used.{slots_at};
 
 use super::closure::Scratch;
@@ -126,7 +125,7 @@ impl Cache {
             (p : program.Program) →
             IsProgramOf p (states_of counted.entry.states.now) request.now.first →
             self.old.fits ≡ fit_of p →
-            SearchResult p request.now.haystack.now request.now.longest
+            SearchResult p request.now.haystack.now request.now.longest false
             request.now.earliest request.now.start result slots.old slots.new
             self.new.walked }
         ensures past { length request.now.haystack.now < request.now.start →
@@ -170,7 +169,7 @@ impl Cache {
             (p : program.Program) →
             IsProgramOf p (states_of counted.entry.states.now) request.now.first →
             self.old.fits ≡ fit_of p →
-            AnchoredResult p request.now.haystack.now request.now.longest
+            SearchResult p request.now.haystack.now request.now.longest true
             request.now.earliest request.now.start result slots.old slots.new
             self.new.walked }
         ensures past { length request.now.haystack.now < request.now.start →
@@ -218,7 +217,7 @@ fn search_width<const WIDTH: usize, const LONGEST: bool>(
     requires even { length scratch.old.rows.rows ≡ length scratch.old.rows.ref_counts }
     ensures search_result { (p : program.Program) →
         IsProgramOf p (states_of counted.old.states.now) request.now.first →
-        SearchResult p request.now.haystack.now request.now.longest request.now.earliest
+        SearchResult p request.now.haystack.now request.now.longest false request.now.earliest
         request.now.start result slots.old slots.new counted.new.walked }
     ensures room { (p : program.Program) →
         IsProgramOf p (states_of counted.old.states.now) request.now.first →

@@ -245,7 +245,7 @@ pub(super) fn search(
     requires even { length scratch.old.rows.rows ≡ length scratch.old.rows.ref_counts }
     ensures search_result { (p : program.Program) →
         IsProgramOf p (states_of counted.old.states.now) request.now.first →
-        SearchResult p request.now.haystack.now request.now.longest request.now.earliest
+        SearchResult p request.now.haystack.now request.now.longest false request.now.earliest
         request.now.start result slots.old slots.new counted.new.walked }
     ensures room { (p : program.Program) →
         IsProgramOf p (states_of counted.old.states.now) request.now.first →

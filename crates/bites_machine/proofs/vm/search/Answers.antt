@@ -16,8 +16,8 @@ returns-clause-first c asked =
     let fits = slots_fit (length old) p.slots well.slots c.requires.slots in
     let is : IsProgramOf p (states_of c.new-counted.result.states.now) c.start.result =
     record { states = sym c.states.ensures ∙ ap (λ s. states_of s.now) (sym c.new-counted.ensures.states); start = sym c.start.ensures.start; well = well } in
-    did_first p hay well start c.search.result old new walked fits
-    (λ within. subst (λ e. SearchResult p hay false e start c.search.result old new walked) asked (c.search.ensures.search_result within p is c.requires.fits), c.search.ensures.past)
+    did_first p hay well false start c.search.result old new walked fits
+    (λ within. subst (λ e. SearchResult p hay false false e start c.search.result old new walked) asked (c.search.ensures.search_result within p is c.requires.fits), c.search.ensures.past)
 
 pub returns-clause-least : goal.returns-clause-least
 returns-clause-least c asked =
@@ -31,8 +31,8 @@ returns-clause-least c asked =
     let fits = slots_fit (length old) p.slots well.slots c.requires.slots in
     let is : IsProgramOf p (states_of c.new-counted.result.states.now) c.start.result =
     record { states = sym c.states.ensures ∙ ap (λ s. states_of s.now) (sym c.new-counted.ensures.states); start = sym c.start.ensures.start; well = well } in
-    did_least p hay well start c.search.result old new walked fits
-    (λ within. subst (λ e. SearchResult p hay false e start c.search.result old new walked) asked (c.search.ensures.search_result within p is c.requires.fits), c.search.ensures.past)
+    did_least p hay well false start c.search.result old new walked fits
+    (λ within. subst (λ e. SearchResult p hay false false e start c.search.result old new walked) asked (c.search.ensures.search_result within p is c.requires.fits), c.search.ensures.past)
 
 pub returns-clause-bounded : goal.returns-clause-bounded
 returns-clause-bounded c =
@@ -46,7 +46,7 @@ returns-clause-bounded c =
     let fits = slots_fit (length old) p.slots well.slots c.requires.slots in
     let is : IsProgramOf p (states_of c.new-counted.result.states.now) c.start.result =
     record { states = sym c.states.ensures ∙ ap (λ s. states_of s.now) (sym c.new-counted.ensures.states); start = sym c.start.ensures.start; well = well } in
-    did_bounded p hay well start c.search.result old new walked fits false c.args.earliest
+    did_bounded p hay well false start c.search.result old new walked fits false c.args.earliest
     (λ within. c.search.ensures.search_result within p is c.requires.fits, c.search.ensures.past)
 
 pub returns-clause-visited : goal.returns-clause-visited
@@ -61,5 +61,5 @@ returns-clause-visited c =
     let fits = slots_fit (length old) p.slots well.slots c.requires.slots in
     let is : IsProgramOf p (states_of c.new-counted.result.states.now) c.start.result =
     record { states = sym c.states.ensures ∙ ap (λ s. states_of s.now) (sym c.new-counted.ensures.states); start = sym c.start.ensures.start; well = well } in
-    did_visit p hay well start c.search.result old new walked fits false c.args.earliest
+    did_visit p hay well false start c.search.result old new walked fits false c.args.earliest
     (λ within. c.search.ensures.search_result within p is c.requires.fits, c.search.ensures.past)

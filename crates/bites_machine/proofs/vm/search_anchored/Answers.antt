@@ -1,9 +1,7 @@
 use Rattle.std.proofs.Common.{Bool, true, false, length, sym, ap, ◌∙◌, subst}
 use Rattle.bites_machine.specs.States.{states_of}
-use Rattle.bites_machine.specs.Sweep.{IsProgramOf}
-use Rattle.bites_machine.specs.Anchored.{AnchoredResult}
-use Rattle.bites_machine.proofs.refine.SearchResultLemmas.{slots_fit}
-use Rattle.bites_machine.proofs.model.AnchoredAnswers.{did_first_from, did_longest_from, did_least_from, did_visit_from, did_bounded_from}
+use Rattle.bites_machine.specs.Sweep.{IsProgramOf, SearchResult}
+use Rattle.bites_machine.proofs.refine.SearchResultLemmas.{slots_fit, did_first, did_longest, did_least, did_visit, did_bounded}
 use Rattle.bites_machine.proofs.vm.search_anchored.Goals as goal
 
 pub returns-clause-first : goal.returns-clause-first
@@ -18,9 +16,9 @@ returns-clause-first c kind =
     let fits = slots_fit (length old) p.slots well.slots c.requires.slots in
     let is : IsProgramOf p (states_of c.new-counted.result.states.now) c.start.result =
     record { states = sym c.states.ensures ∙ ap (λ s. states_of s.now) (sym c.new-counted.ensures.states); start = sym c.start.ensures.start; well = well } in
-    did_first_from p hay well start c.search_anchored.result old new walked fits (
-      λ within. subst (λ (e : Bool). AnchoredResult p hay false e start c.search_anchored.result old new walked) (c.is_earliest.ensures.first kind)
-          (subst (λ (l : Bool). AnchoredResult p hay l c.is_earliest.result start c.search_anchored.result old new walked) (c.is_longest.ensures.first kind) (c.search_anchored.ensures.search_result within p is c.requires.fits)),
+    did_first p hay well true start c.search_anchored.result old new walked fits (
+      λ within. subst (λ (e : Bool). SearchResult p hay false true e start c.search_anchored.result old new walked) (c.is_earliest.ensures.first kind)
+          (subst (λ (l : Bool). SearchResult p hay l true c.is_earliest.result start c.search_anchored.result old new walked) (c.is_longest.ensures.first kind) (c.search_anchored.ensures.search_result within p is c.requires.fits)),
       c.search_anchored.ensures.past,
     )
 
@@ -36,9 +34,9 @@ returns-clause-least c kind =
     let fits = slots_fit (length old) p.slots well.slots c.requires.slots in
     let is : IsProgramOf p (states_of c.new-counted.result.states.now) c.start.result =
     record { states = sym c.states.ensures ∙ ap (λ s. states_of s.now) (sym c.new-counted.ensures.states); start = sym c.start.ensures.start; well = well } in
-    did_least_from p hay well start c.search_anchored.result old new walked fits (
-      λ within. subst (λ (e : Bool). AnchoredResult p hay false e start c.search_anchored.result old new walked) (c.is_earliest.ensures.least kind)
-          (subst (λ (l : Bool). AnchoredResult p hay l c.is_earliest.result start c.search_anchored.result old new walked) (c.is_longest.ensures.least kind) (c.search_anchored.ensures.search_result within p is c.requires.fits)),
+    did_least p hay well true start c.search_anchored.result old new walked fits (
+      λ within. subst (λ (e : Bool). SearchResult p hay false true e start c.search_anchored.result old new walked) (c.is_earliest.ensures.least kind)
+          (subst (λ (l : Bool). SearchResult p hay l true c.is_earliest.result start c.search_anchored.result old new walked) (c.is_longest.ensures.least kind) (c.search_anchored.ensures.search_result within p is c.requires.fits)),
       c.search_anchored.ensures.past,
     )
 
@@ -54,9 +52,9 @@ returns-clause-longest c kind =
     let fits = slots_fit (length old) p.slots well.slots c.requires.slots in
     let is : IsProgramOf p (states_of c.new-counted.result.states.now) c.start.result =
     record { states = sym c.states.ensures ∙ ap (λ s. states_of s.now) (sym c.new-counted.ensures.states); start = sym c.start.ensures.start; well = well } in
-    did_longest_from p hay well start c.search_anchored.result old new walked fits (
-      λ within. subst (λ (e : Bool). AnchoredResult p hay true e start c.search_anchored.result old new walked) (c.is_earliest.ensures.longest kind)
-          (subst (λ (l : Bool). AnchoredResult p hay l c.is_earliest.result start c.search_anchored.result old new walked) (c.is_longest.ensures.longest kind) (c.search_anchored.ensures.search_result within p is c.requires.fits)),
+    did_longest p hay well true start c.search_anchored.result old new walked fits (
+      λ within. subst (λ (e : Bool). SearchResult p hay true true e start c.search_anchored.result old new walked) (c.is_earliest.ensures.longest kind)
+          (subst (λ (l : Bool). SearchResult p hay l true c.is_earliest.result start c.search_anchored.result old new walked) (c.is_longest.ensures.longest kind) (c.search_anchored.ensures.search_result within p is c.requires.fits)),
       c.search_anchored.ensures.past,
     )
 
@@ -72,7 +70,7 @@ returns-clause-bounded c =
     let fits = slots_fit (length old) p.slots well.slots c.requires.slots in
     let is : IsProgramOf p (states_of c.new-counted.result.states.now) c.start.result =
     record { states = sym c.states.ensures ∙ ap (λ s. states_of s.now) (sym c.new-counted.ensures.states); start = sym c.start.ensures.start; well = well } in
-    did_bounded_from p hay well start c.search_anchored.result old new walked fits c.is_longest.result c.is_earliest.result
+    did_bounded p hay well true start c.search_anchored.result old new walked fits c.is_longest.result c.is_earliest.result
     (λ within. c.search_anchored.ensures.search_result within p is c.requires.fits, c.search_anchored.ensures.past)
 
 pub returns-clause-visited : goal.returns-clause-visited
@@ -87,5 +85,5 @@ returns-clause-visited c =
     let fits = slots_fit (length old) p.slots well.slots c.requires.slots in
     let is : IsProgramOf p (states_of c.new-counted.result.states.now) c.start.result =
     record { states = sym c.states.ensures ∙ ap (λ s. states_of s.now) (sym c.new-counted.ensures.states); start = sym c.start.ensures.start; well = well } in
-    did_visit_from p hay well start c.search_anchored.result old new walked fits c.is_longest.result c.is_earliest.result
+    did_visit p hay well true start c.search_anchored.result old new walked fits c.is_longest.result c.is_earliest.result
     (λ within. c.search_anchored.ensures.search_result within p is c.requires.fits, c.search_anchored.ensures.past)

@@ -16,7 +16,7 @@ returns-clause-longest c =
     let fits = slots_fit (length old) p.slots well.slots c.requires.slots in
     let is : IsProgramOf p (states_of c.new-counted.result.states.now) c.start.result =
     record { states = sym c.states.ensures ∙ ap (λ s. states_of s.now) (sym c.new-counted.ensures.states); start = sym c.start.ensures.start; well = well } in
-    did_longest p hay well start c.search.result old new walked fits
+    did_longest p hay well false start c.search.result old new walked fits
     (λ within. c.search.ensures.search_result within p is c.requires.fits, c.search.ensures.past)
 
 pub returns-clause-bounded : goal.returns-clause-bounded
@@ -31,7 +31,7 @@ returns-clause-bounded c =
     let fits = slots_fit (length old) p.slots well.slots c.requires.slots in
     let is : IsProgramOf p (states_of c.new-counted.result.states.now) c.start.result =
     record { states = sym c.states.ensures ∙ ap (λ s. states_of s.now) (sym c.new-counted.ensures.states); start = sym c.start.ensures.start; well = well } in
-    did_bounded p hay well start c.search.result old new walked fits true false
+    did_bounded p hay well false start c.search.result old new walked fits true false
     (λ within. c.search.ensures.search_result within p is c.requires.fits, c.search.ensures.past)
 
 pub returns-clause-visited : goal.returns-clause-visited
@@ -46,5 +46,5 @@ returns-clause-visited c =
     let fits = slots_fit (length old) p.slots well.slots c.requires.slots in
     let is : IsProgramOf p (states_of c.new-counted.result.states.now) c.start.result =
     record { states = sym c.states.ensures ∙ ap (λ s. states_of s.now) (sym c.new-counted.ensures.states); start = sym c.start.ensures.start; well = well } in
-    did_visit p hay well start c.search.result old new walked fits true false
+    did_visit p hay well false start c.search.result old new walked fits true false
     (λ within. c.search.ensures.search_result within p is c.requires.fits, c.search.ensures.past)
