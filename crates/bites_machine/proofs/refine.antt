@@ -3,9 +3,7 @@ pub mod SearchResultLemmas
 pub mod IdleLemmas
 pub mod ClosesThreadLemmas
 pub mod ClosureSteps
-pub mod SearchesAlike
 pub mod PlaceSteps
 pub mod PlaceLemmas
 pub mod BetweenStepsLemmas
 pub mod PlaceSearches
-pub mod AnchoredSteps

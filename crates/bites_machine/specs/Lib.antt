@@ -16,12 +16,11 @@ pub mod StateSet
 pub mod Stack
 pub mod Threads
 pub mod Interpolate
-pub mod Machine
 pub mod Used
 pub mod Scratch
 pub mod Framed
 pub mod Visits
 pub mod Explore
+pub mod Inputs
 pub mod Sweep
-pub mod Anchored
 pub mod Cuts

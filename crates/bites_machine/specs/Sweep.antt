@@ -1,14 +1,13 @@
 -- What the closure of a thread leaves, and a search that goes from place to place.
-use Rattle.std.specs.Prelude.{◌≡◌, ◌≢◌, ℕ, ◌+◌, ◌*◌, ◌<◌, ◌≤◌, Bool, false, ◌||◌, if◌then◌else◌, List, [], ◌∷◌, ◌++◌, map, length, replicate, Option, None, Some, is_some, ◌==◌, slice_index, slice_index_or, sum, sum_by, IfSome}
+use Rattle.std.specs.Prelude.{◌≡◌, ◌≢◌, ℕ, ◌+◌, ◌*◌, ◌<◌, ◌≤◌, Bool, false, not, ◌||◌, ◌&&◌, if◌then◌else◌, List, [], ◌∷◌, ◌++◌, map, length, replicate, Option, None, Some, is_some, ◌==◌, slice_index, slice_index_or, sum, sum_by, IfSome}
 use Rattle.std.specs.List.{list_any}
 use Rattle.bites_spec.specs.Walks.{Among}
 use Rattle.bites_spec.specs.Program as program
 use Rattle.bites_spec.specs.Program.{Configuration, Program, targets_of, IsWellFormed}
 use Rattle.bites_spec.specs.Counts.{Record, Fit}
-use Rattle.bites_spec.specs.PikeVm as pikevm
-use Rattle.bites_machine.specs.Machine as machine
+use Rattle.bites_spec.specs.PikeVm as machine
+use Rattle.bites_spec.specs.PikeVm.{kept, WalksTo, Searching, Searches, SearchedTo, Searched}
 use Rattle.bites_spec.specs.Utf8.{piece}
-use Rattle.bites_machine.specs.Machine.{kept, WalksTo, Searching, Searches, SearchedTo}
 use Rattle.bites_machine.specs.SlotTable.{Pool}
 use Rattle.bites_machine.specs.Threads.{Listed}
 use Rattle.bites_machine.specs.Used.{IsUsed, KeepsRows}
@@ -98,9 +97,9 @@ pub record ClosesThreads (hay : List ℕ) (longest : Bool) (place : ℕ) (states
       (walking_at place new left (machine.kept hay longest (first_match_of new.first_match left) (map (thread_of new.rows) rest ++ tail)) now)
 
 -- the start as a thread, if it is one
-abbrev pub starts_of : Bool → ℕ → ℕ → Option ℕ → List machine.Thread
-starts_of longest place slots_per_row None = []
-starts_of longest place slots_per_row (Some q) = record { state = q; start = if longest then place else 0; slots = replicate slots_per_row None } ∷ []
+abbrev pub start_threads : Bool → ℕ → ℕ → Option ℕ → List machine.Thread
+start_threads longest place slots_per_row None = []
+start_threads longest place slots_per_row (Some q) = record { state = q; start = if longest then place else 0; slots = replicate slots_per_row None } ∷ []
 
 -- What holds when all closures of a place were explored.
 pub record HasWalked (states : List program.State) (place : ℕ) (walked : Record) (scratch : Scratch) (slots_per_row : ℕ) : Type 0 where
@@ -124,7 +123,7 @@ pub record ClosesAll (hay : List ℕ) (longest : Bool) (place : ℕ) (states : L
   pub none : new.first_match ≡ None → (old.first_match ≡ None) × (left ≡ slots)
   pub walks : (p : Program) → p.states ≡ states →
       WalksTo hay longest p place
-      (walking_at place old slots (machine.kept hay longest (first_match_of old.first_match slots) (map (thread_of old.rows) threads ++ starts_of longest place (length slots) begins)) was)
+      (walking_at place old slots (machine.kept hay longest (first_match_of old.first_match slots) (map (thread_of old.rows) threads ++ start_threads longest place (length slots) begins)) was)
       (walking_at place new left [] now)
 
 -- What holds between two places: neither this one nor a later one was searched yet.
@@ -142,38 +141,44 @@ pub record InvariantBetweenSteps (states : List program.State) (place : ℕ) (wa
   pub rows : length scratch.rows.ref_counts ≡ rows_for (fit_in states)
   pub wide : slots_per_row ≡ scratch.rows.slots_per_row
 
--- A search of the machine on lists is at this place, with these threads, this result and this record.
-pub record Represents (s : Searching) (i : ℕ) (pool : Pool) (list : List Thread) (walked : Record) (first left : List (Option ℕ)) (is_found : Bool) : Type 0 where
+-- A search of the machine on lists is at this place, with these threads, this result and this record; the start is walked here or not.
+pub record Represents (s : Searching) (i : ℕ) (pool : Pool) (list : List Thread) (walked : Record) (first left : List (Option ℕ)) (on is_found : Bool) : Type 0 where
   pub place : s.place ≡ i
   pub threads : s.threads ≡ map (thread_of pool) list
+  pub starts : s.starts ≡ on
   pub found : is_some s.best ≡ is_found
   pub slots : left_in s.best first ≡ left
   pub visits : s.visits ≡ walked.visits
   pub looks : s.looks ≡ walked.looks
 
--- A place was searched, with the start after the threads if nothing was found before.
-pub record PlaceSearched (hay : List ℕ) (longest : Bool) (place len : ℕ) (states : List program.State) (begins : Option ℕ) (was now : Record) (old new : Scratch) (threads later : List Thread) (slots left : List (Option ℕ)) : Type 0 where
-  pub searches : (p : Program) → p.states ≡ states → (s : Searching) (first : List (Option ℕ)) (found : Bool) →
-      begins ≡ (if found then None else Some p.start) → Represents s place old.rows threads was first slots found →
-      (t : Searching) × Searches hay longest p (length slots) s t × Represents t (place + len) new.rows later now first left (found || is_some new.first_match)
+-- whether the start is walked at the next place too, by the first match of this one
+abbrev pub starts_on : Bool → Bool → Scratch → Bool
+starts_on anchored starts new = starts && not (anchored || is_some new.first_match)
 
-module _ (p : Program) (hay : List ℕ) (longest earliest : Bool) (start : ℕ) (old : List (Option ℕ)) where
+-- A place was searched, with the start after the threads if it is walked there.
+pub record PlaceSearched (hay : List ℕ) (longest : Bool) (place len : ℕ) (states : List program.State) (begins : Option ℕ) (was now : Record) (old new : Scratch) (threads later : List Thread) (slots left : List (Option ℕ)) : Type 0 where
+  pub searches : (p : Program) → p.states ≡ states → (anchored : Bool) (s : Searching) (first : List (Option ℕ)) (starts found : Bool) →
+      begins ≡ (if starts then Some p.start else None) → Represents s place old.rows threads was first slots starts found →
+      (t : Searching) × Searches hay longest p (length slots) anchored s t
+      × Represents t (place + len) new.rows later now first left (starts_on anchored starts new) (found || is_some new.first_match)
+
+module _ (p : Program) (hay : List ℕ) (longest anchored earliest : Bool) (start : ℕ) (old : List (Option ℕ)) where
   -- the machine on lists has reached this place
-  pub record HasReached (place : ℕ) (is_found : Bool) (walked : Record) (pool : Pool) (threads : List Thread) (slots : List (Option ℕ)) : Type 0 where
+  pub record HasReached (place : ℕ) (starts is_found : Bool) (walked : Record) (pool : Pool) (threads : List Thread) (slots : List (Option ℕ)) : Type 0 where
     pub places : ℕ
     pub now : Searching
-    pub searched : SearchedTo hay longest p (length old) earliest start places now
-    pub stands : Represents now place pool threads walked old slots is_found
+    pub searched : SearchedTo hay longest p (length old) anchored earliest start places now
+    pub stands : Represents now place pool threads walked old slots starts is_found
 
   -- the place was searched, and whether the search is over is not known yet
-  pub record HasSearched (place : ℕ) (is_found : Bool) (walked : Record) (pool : Pool) (threads : List Thread) (slots : List (Option ℕ)) : Type 0 where
+  pub record HasSearched (place : ℕ) (starts is_found : Bool) (walked : Record) (pool : Pool) (threads : List Thread) (slots : List (Option ℕ)) : Type 0 where
     pub places : ℕ
     pub before : Searching
     pub now : Searching
-    pub searched : SearchedTo hay longest p (length old) earliest start places before
+    pub searched : SearchedTo hay longest p (length old) anchored earliest start places before
     pub place_is : before.place ≡ place
-    pub last : Searches hay longest p (length old) before now
-    pub stands : Represents now (place + (piece hay place).len) pool threads walked old slots is_found
+    pub last : Searches hay longest p (length old) anchored before now
+    pub stands : Represents now (place + (piece hay place).len) pool threads walked old slots starts is_found
 
 -- there is a program with these states, and with that start if one is given
 abbrev pub IsOfProgram : List program.State → Option ℕ → Type 0
@@ -201,10 +206,10 @@ pub record IsProgramOf (p : Program) (all : List program.State) (first : ℕ) : 
   pub start : p.start ≡ first
   pub well : IsWellFormed p
 
--- The machine on lists searched from the start on, with this result and record.
+-- The machine on lists searched from the start on, or from the start alone, with this result and record.
 pub record SearchResult (p : Program) (hay : List ℕ) (longest anchored earliest : Bool) (start : ℕ) (answer : Bool) (old new : List (Option ℕ)) (walked : Record) : Type 0 where
-  pub last : pikevm.Searching
-  pub searched : pikevm.Searched hay longest p (length old) anchored earliest start last
+  pub last : Searching
+  pub searched : Searched hay longest p (length old) anchored earliest start last
   pub found : is_some last.best ≡ answer
   pub slots : left_in last.best old ≡ new
   pub visits : last.visits ≡ walked.visits

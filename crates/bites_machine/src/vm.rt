@@ -3,10 +3,10 @@
 ghost use Rattle.bites_spec.specs.Counts.{fit_of, IsBounded, VisitedBy};
 ghost use Rattle.bites_spec.specs.Run.{Run, Answered, LeastEnd, first_run, longest_run};
 ghost use Rattle.bites_spec.specs.Utf8.{places, start_alone};
+ghost use Rattle.bites_machine.specs.Inputs.{starts_of};
 ghost use Rattle.bites_machine.specs.declared.vm.MatchKind.TheVariants.{First, Earliest, Longest};
 ghost use Rattle.std.specs.Prelude.{◌⊎◌, Option, true, false, ◌≡◌, length};
 
-mod anchored;
 mod cache;
 mod closure;
 mod counted;
@@ -19,6 +19,82 @@ mod threads;
 
 use crate::program::Program;
 pub use cache::Cache;
+use counted::Counted;
+
+/// Which match a search looks for.
+#[derive(Clone, Copy, Drop)]
+pub enum MatchKind {
+    /// The preferred one of those that begin leftmost.
+    First,
+    /// One with the least end of all. The search stops there.
+    Earliest,
+    /// The longest of those that begin leftmost; of several, the preferred one.
+    Longest,
+}
+
+impl MatchKind {
+    ghost use Rattle.bites_machine.specs.Inputs.{is_longest, is_earliest};
+
+    // Returns whether a match with the least end is asked for.
+    fn is_earliest(self) -> bool
+        ensures { result ≡ is_earliest self }
+    {
+        matches!(self, MatchKind::Earliest)
+    }
+
+    // Returns whether the longest match is asked for.
+    fn is_longest(self) -> bool
+        ensures { result ≡ is_longest self }
+    {
+        matches!(self, MatchKind::Longest)
+    }
+}
+
+/// What to search for: a match in the haystack that begins at or after `start`, or at `start` alone if `anchored` is set.
+#[derive(Clone, Copy, Drop)]
+pub struct Input<'h> {
+    pub haystack: &'h [u8],
+    pub start: usize,
+    pub anchored: bool,
+    pub kind: MatchKind,
+}
+
+/// Finds the match that the input asks for, and writes its first `slots.len()` slots. Returns whether there is one;
+/// `slots` is unchanged if not. A start past the end of the haystack finds nothing.
+///
+/// Visits each state of the program at most once at each offset, and allocates nothing. An anchored search stops when no
+/// thread is left.
+pub fn search_input(
+    program: &Program,
+    cache: &mut Cache,
+    input: &Input<'_>,
+    slots: &mut [Option<usize>],
+) -> bool
+    requires fits { cache.old.fits ≡ fit_of program.now.program }
+    requires slots { (length slots.old ≡ 0) ⊎ (length slots.old ≡ 2)
+        ⊎ (length slots.old ≡ program.now.program.slots) }
+    ensures first { input.now.kind ≡ First → Answered program.now.program
+        (first_run program.now.program input.now.haystack.now
+        (starts_of input.now.haystack.now input.now.anchored input.now.start))
+        result slots.old slots.new }
+    ensures least { input.now.kind ≡ Earliest → (o : Option Run)
+        × LeastEnd program.now.program input.now.haystack.now
+        (starts_of input.now.haystack.now input.now.anchored input.now.start) o
+        × Answered program.now.program o result slots.old slots.new }
+    ensures longest { input.now.kind ≡ Longest → Answered program.now.program
+        (longest_run program.now.program input.now.haystack.now
+        (starts_of input.now.haystack.now input.now.anchored input.now.start))
+        result slots.old slots.new }
+    ensures fits { cache.new.fits ≡ cache.old.fits }
+    ensures bounded { IsBounded program.now.program input.now.haystack.now input.now.start
+        cache.new.walked }
+    ensures visited { VisitedBy program.now.program input.now.haystack.now
+        (starts_of input.now.haystack.now input.now.anchored input.now.start)
+        result cache.new.walked }
+{
+    let counted = Counted::new(program.states());
+    cache.search(counted, program.start(), input, slots)
+}
 
 /// Finds the leftmost match at or after `start`, the preferred one there, and writes its first `slots.len()` slots.
 /// With `earliest`, finds a match with the least end of all instead, and stops there. Returns whether there was a
@@ -45,15 +121,18 @@ pub fn search(
     ensures bounded { IsBounded program.now.program haystack.now start cache.new.walked }
     ensures visited { VisitedBy program.now.program haystack.now (places haystack.now start) result cache.new.walked }
 {
-    let counted = counted::Counted::new(program.states());
-    let request = pikevm::Request {
+    let kind = if earliest {
+        MatchKind::Earliest
+    } else {
+        MatchKind::First
+    };
+    let input = Input {
         haystack,
         start,
-        first: program.start(),
-        earliest,
-        longest: false,
+        anchored: false,
+        kind,
     };
-    cache.search(counted, &request, slots)
+    search_input(program, cache, &input, slots)
 }
 
 /// Like [`search`], but finds the longest match at the leftmost place where one begins; of several, the preferred one.
@@ -73,26 +152,13 @@ pub fn search_longest(
     ensures bounded { IsBounded program.now.program haystack.now start cache.new.walked }
     ensures visited { VisitedBy program.now.program haystack.now (places haystack.now start) result cache.new.walked }
 {
-    let counted = counted::Counted::new(program.states());
-    let request = pikevm::Request {
+    let input = Input {
         haystack,
         start,
-        first: program.start(),
-        earliest: false,
-        longest: true,
+        anchored: false,
+        kind: MatchKind::Longest,
     };
-    cache.search(counted, &request, slots)
-}
-
-/// Which of the matches that begin at one place [`search_anchored`] looks for.
-#[derive(Clone, Copy, Drop)]
-pub enum MatchKind {
-    /// The preferred one.
-    First,
-    /// One with the least end. The search stops there.
-    Earliest,
-    /// The preferred one of those with the greatest end.
-    Longest,
+    search_input(program, cache, &input, slots)
 }
 
 /// Finds a match that begins at `start` and writes its first `slots.len()` slots. Returns whether there is one;
@@ -122,13 +188,11 @@ pub fn search_anchored(
     ensures visited { VisitedBy program.now.program haystack.now (start_alone haystack.now start)
         result cache.new.walked }
 {
-    let counted = counted::Counted::new(program.states());
-    let request = pikevm::Request {
+    let input = Input {
         haystack,
         start,
-        first: program.start(),
-        earliest: anchored::is_earliest(kind),
-        longest: anchored::is_longest(kind),
+        anchored: true,
+        kind,
     };
-    cache.search_anchored(counted, &request, slots)
+    search_input(program, cache, &input, slots)
 }

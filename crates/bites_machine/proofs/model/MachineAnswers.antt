@@ -8,7 +8,8 @@ use Rattle.bites_spec.specs.Run.{Run, Answered, LeastEnd, slots, first_run, firs
 use Rattle.bites_spec.specs.Counts.{Record, IsBounded, VisitedBy}
 use Rattle.bites_spec.specs.PikeVm.{Thread, Searching, Searched}
 use Rattle.bites_machine.specs.Sweep.{left_in}
-use Rattle.bites_machine.proofs.model.MachineStarts.{starts_of, starts-past}
+use Rattle.bites_machine.specs.Inputs.{starts_of}
+use Rattle.bites_machine.proofs.model.MachineStarts.{starts-past}
 use Rattle.bites_machine.proofs.model.MachineFirst.{first_answer}
 use Rattle.bites_machine.proofs.model.MachineLongest.{longest_answer}
 use Rattle.bites_machine.proofs.model.MachineCounts.{search_bounded}

@@ -16,7 +16,8 @@ use Rattle.bites_machine.proofs.model.SweepLemmas.{Runs-forward}
 use Rattle.bites_machine.proofs.model.PathLemmas.{closed_walk}
 use Rattle.bites_machine.proofs.model.MachineCases.{was_seen, taken, gone, Keeps, walk_keeps}
 use Rattle.bites_machine.proofs.model.MachineTrace.{Found}
-use Rattle.bites_machine.proofs.model.MachineStarts.{starts_of, later_starts, starts-here, left_after, to_come, to_come_later, to_come_on, come_here}
+use Rattle.bites_machine.specs.Inputs.{starts_of}
+use Rattle.bites_machine.proofs.model.MachineStarts.{later_starts, starts-here, left_after, to_come, to_come_later, to_come_on, come_here}
 use Rattle.bites_machine.proofs.model.MachineSearch.{AreTraced, place_traced, traced_on, over_cases, IsPlaced, place_within, searched_placed, searched_keeps, searched_traced, goes_on, still_open, configurations_of, option_or_cases}
 use Rattle.std.proofs.lemmas.Option.{none-some}
 

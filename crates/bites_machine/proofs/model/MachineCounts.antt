@@ -16,7 +16,8 @@ use Rattle.bites_machine.proofs.compile.SumLemmas.{sum_of_ones, sum_of_configura
 use Rattle.bites_machine.proofs.model.PathLemmas.{edges_within}
 use Rattle.bites_machine.proofs.model.MachineCases.{was_seen, Keeps, walk_keeps}
 use Rattle.bites_machine.proofs.model.MachineTrace.{trace_inside}
-use Rattle.bites_machine.proofs.model.MachineStarts.{starts_of, later_starts, starts-here, starts_lie, starts_few, to_come, to_come_later, to_come_on, left_after}
+use Rattle.bites_machine.specs.Inputs.{starts_of}
+use Rattle.bites_machine.proofs.model.MachineStarts.{later_starts, starts-here, starts_lie, starts_few, to_come, to_come_later, to_come_on, left_after}
 use Rattle.bites_machine.proofs.model.MachineSearch.{IsTraced, traced_keeps, begun_traced, AreTraced, traced_start, traced_on, IsPlaced, place_within, searched_placed, searched_keeps, goes_on, configurations_of}
 use Rattle.bites_spec.proofs.programs.BuiltLemmas.{Among-append}
 use Rattle.bites_spec.proofs.programs.ListedRunLemmas.{Among-map}

@@ -22,7 +22,8 @@ use Rattle.bites_machine.proofs.model.MachineCases.{was_seen, Keeps, walk_keeps}
 use Rattle.bites_machine.proofs.model.MachineSlots.{run_writes}
 use Rattle.bites_machine.proofs.model.MachineWaiting.{Outcome, outcome, worth, wait, wait_all, marks, run, pend, pend-append, pend_later, pend_seen, pend_gone, pend_taken, pend_dead, pend_hit}
 use Rattle.bites_machine.proofs.model.MachineTrace.{Found, trace_inside}
-use Rattle.bites_machine.proofs.model.MachineStarts.{starts_of, later_starts, starts_are, starts-here, starts_lie, to_come, to_come_later, come_here, later_behind, left_after, to_come_on}
+use Rattle.bites_machine.specs.Inputs.{starts_of}
+use Rattle.bites_machine.proofs.model.MachineStarts.{later_starts, starts_are, starts-here, starts_lie, to_come, to_come_later, come_here, later_behind, left_after, to_come_on}
 use Rattle.bites_machine.proofs.model.MachineSearch.{IsTraced, traced_keeps, begun_traced, AreTraced, traced_start, traced_on, place_traced, over_cases, IsPlaced, place_within, searched_placed, searched_keeps, goes_on, configurations_of, option_or_cases}
 use Rattle.bites_machine.proofs.model.MachineClosed.{best_found}
 use Rattle.bites_machine.proofs.model.MachineOrder.{AreOrdered, ordered_start, ordered_on, place_ordered}

@@ -8,7 +8,8 @@ use Rattle.bites_spec.specs.Walks.{Among}
 use Rattle.bites_spec.specs.Program.{Program, Configuration, at, state_at}
 use Rattle.bites_spec.specs.Run.{leads}
 use Rattle.bites_spec.specs.PikeVm.{Thread, Walking, Searching, with_write, thread_on, moved, started, begun, Searches, at_start, is_over, SearchedTo, is_empty}
-use Rattle.bites_machine.proofs.model.MachineStarts.{starts_of, starts_among, starts_again, left_after, to_come_later, to_come_end, to_come_over}
+use Rattle.bites_machine.specs.Inputs.{starts_of}
+use Rattle.bites_machine.proofs.model.MachineStarts.{starts_among, starts_again, left_after, to_come_later, to_come_end, to_come_over}
 use Rattle.bites_machine.proofs.model.MachineCases.{Keeps, walk_keeps}
 use Rattle.bites_machine.proofs.model.MachineTrace.{Trace, Found, trace_more, found_more, trace_start, trace_on, found_here, Among-kept}
 use Rattle.bites_spec.proofs.utf8.PieceLemmas.{Among-places}

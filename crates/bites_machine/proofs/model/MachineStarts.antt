@@ -6,6 +6,7 @@ use Rattle.bites_spec.specs.Utf8.{piece, places, start_alone, AreStarts, step_le
 use Rattle.bites_spec.specs.Walks.{Among}
 use Rattle.bites_spec.specs.Program.{Program}
 use Rattle.bites_spec.specs.PikeVm.{Thread, Searching, Searches}
+use Rattle.bites_machine.specs.Inputs.{starts_of}
 use Rattle.bites_spec.proofs.utf8.PieceLemmas.{piece_some, Among-places}
 use Rattle.bites_spec.proofs.utf8.StartLemmas.{all_are_starts, alone_is_start, alone_within, alone_past, start_lies}
 use Rattle.bites_spec.proofs.runs.PlaceLemmas.{places-here, places-past}
@@ -29,10 +30,6 @@ left_none None = refl
 left_none (Some t) = refl
 
 module _ (hay : List ℕ) (anchored : Bool) where
-  -- a search may begin at all places from its start on, or at the start alone
-  abbrev pub starts_of : ℕ → List ℕ
-  starts_of start = if anchored then start_alone hay start else places hay start
-
   -- those after the first
   abbrev pub later_starts : ℕ → List ℕ
   later_starts start = if anchored then [] else places hay (start + step_len hay start)
@@ -41,32 +38,32 @@ module _ (hay : List ℕ) (anchored : Bool) where
   are_starts true start = alone_is_start hay start
   are_starts false start = all_are_starts hay start
 
-  pub starts_are : (start : ℕ) → AreStarts hay start (starts_of start)
+  pub starts_are : (start : ℕ) → AreStarts hay start (starts_of hay anchored start)
   starts_are start = are_starts anchored start
 
   -- they lie at the start or after it, and in the haystack
-  pub starts_lie : (start k : ℕ) → Among (starts_of start) k → (start ≤ k) × (k ≤ length hay)
-  starts_lie start = start_lies hay start (starts_of start) (starts_are start)
+  pub starts_lie : (start k : ℕ) → Among (starts_of hay anchored start) k → (start ≤ k) × (k ≤ length hay)
+  starts_lie start = start_lies hay start (starts_of hay anchored start) (starts_are start)
 
-  pub starts-here : (start : ℕ) → start ≤ length hay → starts_of start ≡ start ∷ later_starts start
+  pub starts-here : (start : ℕ) → start ≤ length hay → starts_of hay anchored start ≡ start ∷ later_starts start
   starts-here start within = by anchored
     where
       by : (b : Bool) → cond b (start_alone hay start) (places hay start) ≡ start ∷ cond b [] (places hay (start + step_len hay start))
       by true = alone_within hay start within
       by false = places-here hay start within
 
-  pub starts-past : (start : ℕ) → length hay < start → starts_of start ≡ []
+  pub starts-past : (start : ℕ) → length hay < start → starts_of hay anchored start ≡ []
   starts-past start past = by anchored
     where
       by : (b : Bool) → cond b (start_alone hay start) (places hay start) ≡ []
       by true = alone_past hay start past
       by false = places-past hay start past
 
-  pub starts_among : (start : ℕ) → start ≤ length hay → Among (starts_of start) start
+  pub starts_among : (start : ℕ) → start ≤ length hay → Among (starts_of hay anchored start) start
   starts_among start within = subst (λ (l : List ℕ). Among l start) (sym (starts-here start within)) (inl refl)
 
   -- there are no more of them than places
-  pub starts_few : (start : ℕ) → start ≤ length hay → length (starts_of start) ≤ length (places hay start)
+  pub starts_few : (start : ℕ) → start ≤ length hay → length (starts_of hay anchored start) ≤ length (places hay start)
   starts_few start within =
       let here = ap length (starts-here start within) in
       let all = ap length (places-here hay start within) in
@@ -78,7 +75,7 @@ module _ (hay : List ℕ) (anchored : Bool) where
 
   -- the places from this one on where the start is still to be walked, if nothing is found
   abbrev pub to_come : Searching → List ℕ
-  to_come s = if s.starts then starts_of s.place else []
+  to_come s = if s.starts then starts_of hay anchored s.place else []
 
   -- and those after this one
   abbrev pub to_come_later : Searching → List ℕ
@@ -87,7 +84,7 @@ module _ (hay : List ℕ) (anchored : Bool) where
   pub come_here : (s : Searching) (k : ℕ) → Among (to_come s) k → s.place ≤ k
   come_here s k h = by s.starts h
     where
-      by : (b : Bool) → Among (cond b (starts_of s.place) []) k → s.place ≤ k
+      by : (b : Bool) → Among (cond b (starts_of hay anchored s.place) []) k → s.place ≤ k
       by false h = absurd h
       by true h = (starts_lie s.place k h).0
 

@@ -8,8 +8,8 @@ use Rattle.bites_spec.specs.Walks.{Among}
 use Rattle.bites_spec.specs.Program as program
 use Rattle.bites_spec.specs.Program.{Program, Configuration, State, at, state_at, targets_of, HasRanges, AreStates, IsWellFormed}
 use Rattle.bites_spec.specs.Counts.{Record}
-use Rattle.bites_machine.specs.Machine as machine
-use Rattle.bites_machine.specs.Machine.{kept, WalksTo, Searching, Searches}
+use Rattle.bites_spec.specs.PikeVm as machine
+use Rattle.bites_spec.specs.PikeVm.{kept, WalksTo, Searching, Searches}
 use Rattle.bites_machine.specs.SlotTable.{Pool, one_less}
 use Rattle.bites_machine.specs.Stack.{Frames}
 use Rattle.bites_machine.specs.Threads.{Listed}

@@ -1,40 +1,39 @@
 -- A search from place to place, and its result where it ends.
 use Rattle.std.proofs.Common.{◌≡◌, ℕ, zero, suc, ◌+◌, ◌<◌, ◌≤◌, Bool, true, false, ◌||◌, ◌&&◌, cond, List, [], ◌∷◌, map, length, Option, Some, None, replicate, refl, sym, ap, ap₂, ◌∙◌, subst, arith, true≢false}
-use Rattle.std.specs.Prelude.{◌==◌, is_some, IfSome}
+use Rattle.std.specs.Prelude.{◌==◌, is_some, not, IfSome}
 use Rattle.bites_spec.specs.Utf8.{piece}
 use Rattle.bites_spec.specs.Walks.{Among}
 use Rattle.bites_spec.specs.Program as program
 use Rattle.bites_spec.specs.Program.{Program, Configuration}
 use Rattle.bites_spec.specs.Counts.{Record, fit_of}
-use Rattle.bites_machine.specs.Machine as machine
-use Rattle.bites_machine.specs.Machine.{Searching, Searches, SearchedTo, at_start, is_over, is_empty}
+use Rattle.bites_spec.specs.PikeVm as machine
+use Rattle.bites_spec.specs.PikeVm.{Searching, Searches, SearchedTo, at_start, is_over, is_empty}
 use Rattle.bites_machine.specs.SlotTable.{Pool}
 use Rattle.bites_machine.specs.Threads.{Listed}
 use Rattle.bites_machine.specs.Used.{IsUsed, slots_at}
 use Rattle.bites_machine.specs.Scratch.{thread_of, row_of}
-use Rattle.bites_machine.specs.Sweep.{SearchResult, InvariantBetweenSteps, HasRoom, IsIdle, IsProgramOf, Represents, PlaceSearched, HasReached, HasSearched}
-use Rattle.bites_machine.proofs.refine.SearchesAlike.{waiting, searched_of}
+use Rattle.bites_machine.specs.Sweep.{SearchResult, InvariantBetweenSteps, HasRoom, IsIdle, IsProgramOf, Represents, PlaceSearched, HasReached, HasSearched, starts_on}
 use Rattle.bites_machine.proofs.refine.IdleLemmas.{used_by_none}
 use Rattle.bites_machine.specs.declared.vm.threads.Thread.{Thread}
 use Rattle.bites_machine.specs.declared.vm.closure.Scratch.{Scratch}
 
 -- whether a search is over after a place, as the code tests it
-abbrev pub ends_by : Bool → ℕ → Bool → ℕ → Bool
-ends_by earliest len is_found threads = (len == 0) || (is_found && (earliest || (threads == 0)))
+abbrev pub ends_by : Bool → ℕ → Bool → Bool → ℕ → Bool
+ends_by earliest len is_found starts threads = (len == 0) || ((earliest && is_found) || (not starts && (threads == 0)))
 
 -- a search that is not over has a piece before it
-pub some_piece : (earliest : Bool) (len : ℕ) (is_found : Bool) (threads : ℕ) → ends_by earliest len is_found threads ≡ false → 0 < len
-some_piece earliest zero is_found threads on = absurd (true≢false on)
-some_piece earliest (suc n) is_found threads on = omega arith
+pub some_piece : (earliest : Bool) (len : ℕ) (is_found starts : Bool) (threads : ℕ) → ends_by earliest len is_found starts threads ≡ false → 0 < len
+some_piece earliest zero is_found starts threads on = absurd (true≢false on)
+some_piece earliest (suc n) is_found starts threads on = omega arith
 
 -- what holds of the state where runs start holds of the one that is explored, if one is
-pub of_first : (P : ℕ → Type 0) (is_found : Bool) (begins : Option ℕ) (first : ℕ) → begins ≡ cond is_found None (Some first) → P first →
+pub of_first : (P : ℕ → Type 0) (starts : Bool) (begins : Option ℕ) (first : ℕ) → begins ≡ cond starts (Some first) None → P first →
     IfSome begins P
-of_first P is_found begins first is holds = subst (λ (o : Option ℕ). IfSome o P) (sym is) (by_found is_found)
+of_first P starts begins first is holds = subst (λ (o : Option ℕ). IfSome o P) (sym is) (by_test starts)
   where
-    by_found : (b : Bool) → IfSome (cond b None (Some first)) P
-    by_found true = tt
-    by_found false = holds
+    by_test : (b : Bool) → IfSome (cond b (Some first) None) P
+    by_test true = holds
+    by_test false = tt
 
 -- a program with room for its searches leaves a scratch between two places
 pub between_first : (p : Program) (states : List program.State) (place : ℕ) (walked : Record) (scratch : Scratch) (list : Listed) (slots_per_row : ℕ) →
@@ -93,17 +92,18 @@ room_between p states place walked scratch list slots_per_row rows empty same be
       max_slots = max_slots;
     }
 
-module _ (p : Program) (hay : List ℕ) (longest earliest : Bool) (start : ℕ) (old : List (Option ℕ)) where
+module _ (p : Program) (hay : List ℕ) (longest anchored earliest : Bool) (start : ℕ) (old : List (Option ℕ)) where
   -- a search begins at its start
   pub reached_first : (walked : Record) (pool : Pool) (threads : List Thread) → walked.visits ≡ [] → walked.looks ≡ 0 → threads ≡ [] →
-      HasReached p hay longest earliest start old start false walked pool threads old
+      HasReached p hay longest anchored earliest start old start true false walked pool threads old
   reached_first walked pool threads visits looks none = record {
     places = 0;
-    now = at_start hay longest p (length old) start;
+    now = at_start start;
     searched = refl;
     stands = record {
       place = refl;
       threads = sym (ap (λ (ts : List Thread). map (thread_of pool) ts) none);
+      starts = refl;
       found = refl;
       slots = refl;
       visits = sym visits;
@@ -112,68 +112,71 @@ module _ (p : Program) (hay : List ℕ) (longest earliest : Bool) (start : ℕ) 
   }
 
   -- one place more is searched
-  pub has_searched : (place here len first : ℕ) (text : List ℕ) (long : Bool) (states : List program.State) (begins : Option ℕ) (is_found found : Bool) (was now : Record) (scratch new : Scratch) (threads later : List Thread) (slots left : List (Option ℕ)) →
+  pub has_searched : (place here len first : ℕ) (text : List ℕ) (long : Bool) (states : List program.State) (begins : Option ℕ) (starts on is_found found : Bool) (was now : Record) (scratch new : Scratch) (threads later : List Thread) (slots left : List (Option ℕ)) →
       text ≡ hay → long ≡ longest → here ≡ place → len ≡ (piece hay place).len → length slots ≡ length old → IsProgramOf p states first →
-      begins ≡ cond is_found None (Some first) → found ≡ (is_found || is_some new.first_match) →
-      HasReached p hay longest earliest start old place is_found was scratch.rows threads slots → PlaceSearched text long here len states begins was now scratch new threads later slots left →
-      HasSearched p hay longest earliest start old place found now new.rows later left
-  has_searched place here len first text long states begins is_found found was now scratch new threads later slots left texts longs heres lens same is begun founds gone one =
+      begins ≡ cond starts (Some first) None → on ≡ starts_on anchored starts new → found ≡ (is_found || is_some new.first_match) →
+      HasReached p hay longest anchored earliest start old place starts is_found was scratch.rows threads slots → PlaceSearched text long here len states begins was now scratch new threads later slots left →
+      HasSearched p hay longest anchored earliest start old place on found now new.rows later left
+  has_searched place here len first text long states begins starts on is_found found was now scratch new threads later slots left texts longs heres lens same is begun ons founds gone one =
       let there : PlaceSearched hay longest place (piece hay place).len states begins was now scratch new threads later slots left =
       subst (λ (b : Bool). PlaceSearched hay b place (piece hay place).len states begins was now scratch new threads later slots left) longs
       (subst (λ (h : List ℕ). PlaceSearched h long place (piece hay place).len states begins was now scratch new threads later slots left) texts
       (subst (λ i. PlaceSearched text long i (piece hay place).len states begins was now scratch new threads later slots left) heres
       (subst (λ n. PlaceSearched text long here n states begins was now scratch new threads later slots left) lens one))) in
-      let on = there.searches p is.states gone.now old is_found (begun ∙ ap (λ q. cond is_found None (Some q)) (sym is.start)) gone.stands in
+      let next = there.searches p is.states anchored gone.now old starts is_found (begun ∙ ap (λ q. cond starts (Some q) None) (sym is.start)) gone.stands in
       record {
         places = gone.places;
         before = gone.now;
-        now = on.0;
+        now = next.0;
         searched = gone.searched;
         place_is = gone.stands.place;
-        last = subst (λ n. Searches hay longest p n gone.now on.0) same on.1;
-        stands = subst (λ b. Represents on.0 (place + (piece hay place).len) new.rows later now old left b) (sym founds) on.2;
+        last = subst (λ n. Searches hay longest p n anchored gone.now next.0) same next.1;
+        stands = subst (λ b. Represents next.0 (place + (piece hay place).len) new.rows later now old left b found) (sym ons)
+            (subst (λ b. Represents next.0 (place + (piece hay place).len) new.rows later now old left (starts_on anchored starts new) b) (sym founds) next.2);
       }
 
-  pub empty_by : (pool : Pool) (ts : List Thread) → is_empty (map (thread_of pool) ts) ≡ (length ts == 0)
+  empty_by : (pool : Pool) (ts : List Thread) → is_empty (map (thread_of pool) ts) ≡ (length ts == 0)
   empty_by pool [] = refl
   empty_by pool (t ∷ ts) = grind arith
 
-  over_by : (place : ℕ) (is_found : Bool) (walked : Record) (pool : Pool) (threads : List Thread) (slots : List (Option ℕ)) →
-      (h : HasSearched p hay longest earliest start old place is_found walked pool threads slots) →
-      is_over hay longest p (length old) earliest h.before.place h.now ≡ ends_by earliest (piece hay place).len is_found (length threads)
-  over_by place is_found walked pool threads slots h =
-      ap (λ (i : ℕ). ((piece hay i).len == 0) || (is_some h.now.best && (earliest || is_empty h.now.threads))) h.place_is
-      ∙ ap₂ (λ (b e : Bool). ((piece hay place).len == 0) || (b && (earliest || e))) h.stands.found
+  over_by : (place : ℕ) (starts is_found : Bool) (walked : Record) (pool : Pool) (threads : List Thread) (slots : List (Option ℕ)) →
+      (h : HasSearched p hay longest anchored earliest start old place starts is_found walked pool threads slots) →
+      is_over hay longest p (length old) anchored earliest h.before.place h.now ≡ ends_by earliest (piece hay place).len is_found starts (length threads)
+  over_by place starts is_found walked pool threads slots h =
+      ap (λ (i : ℕ). ((piece hay i).len == 0) || ((earliest && is_some h.now.best) || (not h.now.starts && is_empty h.now.threads))) h.place_is
+      ∙ ap₂ (λ (b c : Bool). ((piece hay place).len == 0) || ((earliest && b) || (not c && is_empty h.now.threads))) h.stands.found h.stands.starts
+      ∙ ap (λ (e : Bool). ((piece hay place).len == 0) || ((earliest && is_found) || (not starts && e)))
       (ap (λ (ts : List machine.Thread). is_empty ts) h.stands.threads ∙ empty_by pool threads)
 
+  over_as : (place len left : ℕ) (starts is_found over : Bool) (walked : Record) (pool : Pool) (threads : List Thread) (slots : List (Option ℕ)) →
+      (h : HasSearched p hay longest anchored earliest start old place starts is_found walked pool threads slots) → len ≡ (piece hay place).len → left ≡ length threads →
+      ends_by earliest len is_found starts left ≡ over → is_over hay longest p (length old) anchored earliest h.before.place h.now ≡ over
+  over_as place len left starts is_found over walked pool threads slots h lens lefts is =
+      over_by place starts is_found walked pool threads slots h ∙ sym (ap₂ (λ n k. ends_by earliest n is_found starts k) lens lefts) ∙ is
+
   -- a search that is not over has gone on to the next place
-  pub reached_next : (place len : ℕ) (is_found : Bool) (walked : Record) (pool : Pool) (threads : List Thread) (slots : List (Option ℕ)) (left : ℕ) →
-      HasSearched p hay longest earliest start old place is_found walked pool threads slots → len ≡ (piece hay place).len → left ≡ length threads → ends_by earliest len is_found left ≡ false →
-      HasReached p hay longest earliest start old (place + len) is_found walked pool threads slots
-  reached_next place len is_found walked pool threads slots left h lens lefts on = record {
+  pub reached_next : (place len left : ℕ) (starts is_found : Bool) (walked : Record) (pool : Pool) (threads : List Thread) (slots : List (Option ℕ)) →
+      HasSearched p hay longest anchored earliest start old place starts is_found walked pool threads slots → len ≡ (piece hay place).len → left ≡ length threads →
+      ends_by earliest len is_found starts left ≡ false → HasReached p hay longest anchored earliest start old (place + len) starts is_found walked pool threads slots
+  reached_next place len left starts is_found walked pool threads slots h lens lefts on = record {
     places = suc h.places;
     now = h.now;
-    searched = (
-      h.before,
-      h.searched,
-      h.last,
-      over_by place is_found walked pool threads slots h ∙ sym (ap₂ (λ n k. ends_by earliest n is_found k) lens lefts) ∙ on,
-    );
-    stands = subst (λ n. Represents h.now (place + n) pool threads walked old slots is_found) (sym lens) h.stands;
+    searched = (h.before, h.searched, h.last, over_as place len left starts is_found false walked pool threads slots h lens lefts on);
+    stands = subst (λ n. Represents h.now (place + n) pool threads walked old slots starts is_found) (sym lens) h.stands;
   }
 
   -- a search that is over was this one
-  pub result_by : (place len : ℕ) (is_found : Bool) (walked : Record) (pool : Pool) (threads : List Thread) (slots : List (Option ℕ)) (left : ℕ) →
-      HasSearched p hay longest earliest start old place is_found walked pool threads slots → len ≡ (piece hay place).len → left ≡ length threads → ends_by earliest len is_found left ≡ true →
-      SearchResult p hay longest false earliest start is_found old slots walked
-  result_by place len is_found walked pool threads slots left h lens lefts over = record {
-    last = waiting hay longest p (length old) h.now;
-    searched = searched_of hay longest p (length old) earliest start h.now record {
+  pub result_by : (place len left : ℕ) (starts is_found : Bool) (walked : Record) (pool : Pool) (threads : List Thread) (slots : List (Option ℕ)) →
+      HasSearched p hay longest anchored earliest start old place starts is_found walked pool threads slots → len ≡ (piece hay place).len → left ≡ length threads →
+      ends_by earliest len is_found starts left ≡ true → SearchResult p hay longest anchored earliest start is_found old slots walked
+  result_by place len left starts is_found walked pool threads slots h lens lefts over = record {
+    last = h.now;
+    searched = record {
       places = h.places;
       before = h.before;
       searched = h.searched;
       last = h.last;
-      over = over_by place is_found walked pool threads slots h ∙ sym (ap₂ (λ n k. ends_by earliest n is_found k) lens lefts) ∙ over;
+      over = over_as place len left starts is_found true walked pool threads slots h lens lefts over;
     };
     found = h.stands.found;
     slots = h.stands.slots;

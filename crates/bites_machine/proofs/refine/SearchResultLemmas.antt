@@ -7,7 +7,7 @@ use Rattle.bites_spec.specs.Run.{Run, Answered, LeastEnd, first_run, longest_run
 use Rattle.bites_spec.specs.Counts.{Record, IsBounded, VisitedBy}
 use Rattle.bites_spec.specs.PikeVm.{Searching, Searched}
 use Rattle.bites_machine.specs.Sweep.{left_in, SearchResult}
-use Rattle.bites_machine.proofs.model.MachineStarts.{starts_of}
+use Rattle.bites_machine.specs.Inputs.{starts_of}
 use Rattle.bites_machine.proofs.model.MachineAnswers.{record_of, first_answered, longest_answered, least_answered, search_visited, search_counted, past_first, past_longest, past_least, past_visited, past_counted}
 
 abbrev recorded : List Configuration → ℕ → Record

@@ -1,26 +1,23 @@
 //! The working memory of searches, allocated once.
 
-ghost use Rattle.std.specs.Prelude.{◌≡◌, ◌<◌, ◌≤◌, ◌↔◌, [], IfOk, IsTrue, None, length, replicate, false, true};
+ghost use Rattle.std.specs.Prelude.{◌≡◌, ◌<◌, ◌≤◌, ◌↔◌, [], IfOk, IsTrue, None, length, replicate, false};
 ghost use Rattle.bites_spec.specs.Program as program;
 ghost use Rattle.bites_spec.specs.Counts.{fit_of};
 ghost use Rattle.bites_machine.specs.States.{states_of};
 ghost use Rattle.bites_machine.specs.Sweep.{HasRoom, IsIdle, IsProgramOf, SearchResult, frames_for, rows_for};
+ghost use Rattle.bites_machine.specs.Inputs.{is_longest, is_earliest};
 ghost use Rattle.bites_machine.specs.Used.{slots_at};
 
 use super::closure::Scratch;
 use super::counted::{Counted, Trace};
-use super::pikevm::Request;
 use super::slot_table::SlotTable;
 use super::stack::Stack;
 use super::state_set::StateSet;
 use super::threads::Threads;
-use super::{anchored, pikevm};
+use super::{Input, pikevm};
 use crate::program::Program;
 use std::alloc::AllocError;
 use std::marker::Model;
-
-// The width that stands for slices of any length.
-const ANY: usize = 3;
 
 /// The working memory for searches of a program, or of others with as many states, slots and targets: the threads of
 /// two places, a stack, a visited set, and rows of slots. No search allocates more.
@@ -108,129 +105,43 @@ impl Cache {
             && self.targets == program.targets()
     }
 
-    // Runs the search on the states in `counted`. A start past the end of the haystack finds nothing.
+    // Searches as the input asks, in a program of the states in `counted` that starts in the state `first`. A start past
+    // the end of the haystack finds nothing.
     pub(super) fn search(
         &mut self,
         mut counted: Counted<'_>,
-        request: &Request<'_>,
+        first: u32,
+        input: &Input<'_>,
         slots: &mut [Option<usize>],
     ) -> bool
         requires visits { counted.walked.visits ≡ [] }
         requires looks { counted.walked.looks ≡ 0 }
         requires fits { (p : program.Program)
-            × IsProgramOf p (states_of counted.states.now) request.now.first
+            × IsProgramOf p (states_of counted.states.now) first
             × (self.old.fits ≡ fit_of p) }
         requires slots_per_row { length slots.old ≤ self.old.fits.slots }
-        ensures search_result { request.now.start ≤ length request.now.haystack.now →
+        ensures search_result { input.now.start ≤ length input.now.haystack.now →
             (p : program.Program) →
-            IsProgramOf p (states_of counted.entry.states.now) request.now.first →
+            IsProgramOf p (states_of counted.entry.states.now) first →
             self.old.fits ≡ fit_of p →
-            SearchResult p request.now.haystack.now request.now.longest false
-            request.now.earliest request.now.start result slots.old slots.new
+            SearchResult p input.now.haystack.now (is_longest input.now.kind) input.now.anchored
+            (is_earliest input.now.kind) input.now.start result slots.old slots.new
             self.new.walked }
-        ensures past { length request.now.haystack.now < request.now.start →
+        ensures past { length input.now.haystack.now < input.now.start →
             (result ≡ false) × (slots.new ≡ slots.old)
             × (self.new.walked.visits ≡ []) × (self.new.walked.looks ≡ 0) }
         ensures fits { self.new.fits ≡ self.old.fits }
     {
-        let found = if request.start <= request.haystack.len() {
+        let found = if input.start <= input.haystack.len() {
             self.scratch.rows.setup_search(slots.len());
             let (scratch, threads) = (&mut self.scratch, &mut self.threads);
-            // One body for each width, with loops over that number of slots.
-            match slots.len() {
-                _ if request.longest => {
-                    search_width::<ANY, true>(&mut counted, scratch, threads, request, slots)
-                }
-                0 => search_width::<0, false>(&mut counted, scratch, threads, request, slots),
-                2 => search_width::<2, false>(&mut counted, scratch, threads, request, slots),
-                _ => search_width::<ANY, false>(&mut counted, scratch, threads, request, slots),
-            }
+            pikevm::search(&mut counted, scratch, threads, first, input, slots)
         } else {
             false
         };
         self.walked = counted.into_trace();
         found
     }
-
-    // Like `search`, but a match begins at the start of the request.
-    pub(super) fn search_anchored(
-        &mut self,
-        mut counted: Counted<'_>,
-        request: &Request<'_>,
-        slots: &mut [Option<usize>],
-    ) -> bool
-        requires visits { counted.walked.visits ≡ [] }
-        requires looks { counted.walked.looks ≡ 0 }
-        requires fits { (p : program.Program)
-            × IsProgramOf p (states_of counted.states.now) request.now.first
-            × (self.old.fits ≡ fit_of p) }
-        requires slots_per_row { length slots.old ≤ self.old.fits.slots }
-        ensures search_result { request.now.start ≤ length request.now.haystack.now →
-            (p : program.Program) →
-            IsProgramOf p (states_of counted.entry.states.now) request.now.first →
-            self.old.fits ≡ fit_of p →
-            SearchResult p request.now.haystack.now request.now.longest true
-            request.now.earliest request.now.start result slots.old slots.new
-            self.new.walked }
-        ensures past { length request.now.haystack.now < request.now.start →
-            (result ≡ false) × (slots.new ≡ slots.old)
-            × (self.new.walked.visits ≡ []) × (self.new.walked.looks ≡ 0) }
-        ensures fits { self.new.fits ≡ self.old.fits }
-    {
-        let found = if request.start <= request.haystack.len() {
-            self.scratch.rows.setup_search(slots.len());
-            anchored::search(
-                &mut counted,
-                &mut self.scratch,
-                &mut self.threads,
-                request,
-                slots,
-            )
-        } else {
-            false
-        };
-        self.walked = counted.into_trace();
-        found
-    }
-}
-
-// Searches with a slice of `WIDTH` slots, or of any length for `ANY`, and for the longest match if `LONGEST` is set. It
-// is not inlined, so that each of these has a body of its own.
-#[inline(never)]
-fn search_width<const WIDTH: usize, const LONGEST: bool>(
-    counted: &mut Counted<'_>,
-    scratch: &mut Scratch,
-    threads: &mut Threads,
-    request: &Request<'_>,
-    slots: &mut [Option<usize>],
-) -> bool
-    requires start { request.now.start ≤ length request.now.haystack.now }
-    requires visits { counted.old.walked.visits ≡ [] }
-    requires looks { counted.old.walked.looks ≡ 0 }
-    requires program { (p : program.Program) × IsProgramOf p (states_of counted.old.states.now)
-        request.now.first × HasRoom (fit_of p) scratch.old threads.old }
-    requires idle { IsIdle scratch.old threads.old }
-    requires slots_per_row { length slots.old ≡ scratch.old.rows.slots_per_row }
-    requires one { WIDTH < 3 → length slots.old ≡ WIDTH }
-    requires kind { request.now.longest ≡ LONGEST }
-    requires nothing { slots_at scratch.old.rows 0 ≡ replicate scratch.old.rows.slots_per_row None }
-    requires even { length scratch.old.rows.rows ≡ length scratch.old.rows.ref_counts }
-    ensures search_result { (p : program.Program) →
-        IsProgramOf p (states_of counted.old.states.now) request.now.first →
-        SearchResult p request.now.haystack.now request.now.longest false request.now.earliest
-        request.now.start result slots.old slots.new counted.new.walked }
-    ensures room { (p : program.Program) →
-        IsProgramOf p (states_of counted.old.states.now) request.now.first →
-        HasRoom (fit_of p) scratch.old threads.old → HasRoom (fit_of p) scratch.new threads.new }
-    ensures idle { IsIdle scratch.new threads.new }
-{
-    if WIDTH < ANY && slots.len() != WIDTH {
-        unreachable!()
-    }
-    if request.longest != LONGEST {
-        unreachable!()
-    }
-    pikevm::search(counted, scratch, threads, request, slots)
 }
 
 #[cfg(test)]

@@ -1,6 +1,6 @@
-//! The unanchored search: one step at each place, with its threads in order of preference.
+//! One step at each place, with its threads in order of preference.
 
-ghost use Rattle.std.specs.Prelude.{◌≡◌, ◌≢◌, ℕ, ◌+◌, ◌++◌, ◌∷◌, ◌<◌, ◌≤◌, ◌==◌, ◌||◌, ◌&&◌, if◌then◌else◌, Bool, List, [], IfSome, drop, length, None, Some, false, is_some, map, replicate, slice_index, sum};
+ghost use Rattle.std.specs.Prelude.{◌≡◌, ◌≢◌, ℕ, ◌+◌, ◌++◌, ◌∷◌, ◌<◌, ◌≤◌, ◌==◌, ◌||◌, ◌&&◌, if◌then◌else◌, List, [], IfSome, drop, length, None, Some, false, is_some, map, not, replicate, slice_index, sum};
 ghost use Rattle.bites_spec.specs.Utf8.{piece};
 ghost use Rattle.bites_spec.specs.Walks.{Among};
 ghost use Rattle.bites_spec.specs.Program as program;
@@ -13,9 +13,10 @@ ghost use Rattle.bites_machine.specs.Scratch.{users_of, row_of};
 ghost use Rattle.bites_machine.specs.declared.vm.threads.Thread as thread;
 ghost use Rattle.bites_machine.specs.Explore.{AreSound};
 ghost use Rattle.bites_machine.specs.Cuts.{cuts};
-ghost use Rattle.bites_machine.specs.Anchored.{ThreadsSearched};
+ghost use Rattle.bites_machine.specs.Inputs.{is_longest, is_earliest};
 ghost use Rattle.bites_machine.specs.Sweep.{InvariantWithinStep, ClosesThread, ClosesThreads, ClosesAll, InvariantBetweenSteps, PlaceSearched, IsOfProgram, HasRoom, IsIdle, IsProgramOf, SearchResult};
 
+use super::Input;
 use super::closure::{FirstMatch, Scratch, epsilon_closure};
 use super::counted::Counted;
 use super::position::{Position, code};
@@ -23,21 +24,10 @@ use super::slot_table::SlotTable;
 use super::threads::{Thread, Threads};
 use bites_text::utf8::decode_lossy;
 
-/// What to search for: matches of runs from the state `first`, in the haystack from `start` on. `earliest` asks for one
-/// with the least end, `longest` for the longest at the leftmost place, and neither for the preferred one there.
-#[derive(Clone, Copy, Drop)]
-pub struct Request<'h> {
-    pub haystack: &'h [u8],
-    pub start: usize,
-    pub first: u32,
-    pub earliest: bool,
-    pub longest: bool,
-}
-
 // Decodes the character at a place.
 #[inline(always)]
 #[tactic(auto, unfolding(bites_spec::specs::Utf8::piece))]
-pub(super) fn piece_at(haystack: &[u8], place: usize, longest: bool) -> Position<'_>
+fn piece_at(haystack: &[u8], place: usize, longest: bool) -> Position<'_>
     requires { place ≤ length haystack.now }
     ensures haystack { result.haystack.now ≡ haystack.now }
     ensures place { result.place ≡ place }
@@ -58,7 +48,7 @@ pub(super) fn piece_at(haystack: &[u8], place: usize, longest: bool) -> Position
 // Returns the thread that starts at `place` in the given state. Only the longest search needs the place where a thread
 // was started.
 #[inline(always)]
-pub(super) fn started(state: u32, place: usize, longest: bool) -> Thread
+fn started(state: u32, place: usize, longest: bool) -> Thread
     ensures { result ≡ record { state = state; row = 0; start = if longest then place else 0 } }
 {
     let start = if longest { place } else { 0 };
@@ -167,7 +157,7 @@ fn close_all(
 // Steps over one place: explores its threads, and after them the start state, if it is given. Then `threads` are those
 // of the next place.
 #[inline(always)]
-pub(super) fn step_threads(
+fn step_threads(
     counted: &mut Counted<'_>,
     scratch: &mut Scratch,
     threads: &mut Threads,
@@ -183,10 +173,6 @@ pub(super) fn step_threads(
         here.now.ch_len (states_of counted.old.states.now) first counted.old.walked
         counted.new.walked scratch.old scratch.new threads.old.threads threads.new.threads
         slots.old slots.new }
-    ensures alone { first ≡ None → ThreadsSearched here.now.haystack.now here.now.longest
-        here.now.place here.now.ch_len (states_of counted.old.states.now) counted.old.walked
-        counted.new.walked scratch.old scratch.new threads.old.threads threads.new.threads
-        slots.old slots.new }
     ensures between { InvariantBetweenSteps (states_of counted.old.states.now) (here.now.place + 1)
         counted.new.walked scratch.new threads.new (length slots.new) }
     ensures max_slots { scratch.new.rows.max_slots ≡ scratch.old.rows.max_slots }
@@ -200,73 +186,82 @@ pub(super) fn step_threads(
     threads.swap(&mut scratch.next);
 }
 
-// Returns the state where runs start, as long as no match was found.
+// Returns the state where runs start, if it is explored at this place.
 #[inline(always)]
-fn first_of(is_found: bool, first: u32) -> Option<u32>
-    ensures { result ≡ (if is_found then None else Some first) }
+fn first_of(starts: bool, first: u32) -> Option<u32>
+    ensures { result ≡ (if starts then Some first else None) }
 {
-    if is_found { None } else { Some(first) }
+    if starts { Some(first) } else { None }
+}
+
+// Returns whether the start is explored at the next place too: until a match is found, and not in an anchored search.
+#[inline(always)]
+fn starts_on(starts: bool, anchored: bool, first_match: &Option<FirstMatch>) -> bool
+    ensures { result ≡ (starts && not (anchored || is_some first_match.now)) }
+{
+    starts && !(anchored || first_match.is_some())
 }
 
 // Returns whether a match was found, at this place or before.
 #[inline(always)]
-pub(super) fn is_found_with(is_found: bool, first_match: &Option<FirstMatch>) -> bool
+fn is_found_with(is_found: bool, first_match: &Option<FirstMatch>) -> bool
     ensures { result ≡ (is_found || is_some first_match.now) }
 {
     is_found || first_match.is_some()
 }
 
-// Returns whether the search is over after a place: at the end of the haystack, where `len` is 0, or if a match was
-// found and `earliest` is set or no thread is left.
+// Returns whether the search is over after a place: at the end of the haystack, where `len` is 0, if an earliest match
+// was found, or if no thread is left and the start is not explored any more.
 #[inline(always)]
-fn is_over(len: usize, is_found: bool, earliest: bool, threads: usize) -> bool
-    ensures { result ≡ ((len == 0) || (is_found && (earliest || (threads == 0)))) }
+fn is_over(len: usize, earliest: bool, is_found: bool, starts: bool, threads: usize) -> bool
+    ensures { result ≡ ((len == 0) || ((earliest && is_found) || (not starts && (threads == 0)))) }
 {
-    len == 0 || (is_found && (earliest || threads == 0))
+    len == 0 || (earliest && is_found) || (!starts && threads == 0)
 }
 
-/// Searches from the start of the request on, place by place. Returns whether a match was found, and writes its slots.
-#[inline(always)]
+/// Searches as the input asks, place by place, in a program that starts in the state `first`. Returns whether a match was
+/// found, and writes its slots.
+///
+/// The start is explored at each place until a match is found, or at the first place alone if the search is anchored.
 pub(super) fn search(
     counted: &mut Counted<'_>,
     scratch: &mut Scratch,
     threads: &mut Threads,
-    request: &Request<'_>,
+    first: u32,
+    input: &Input<'_>,
     slots: &mut [Option<usize>],
 ) -> bool
-    requires start { request.now.start ≤ length request.now.haystack.now }
+    requires start { input.now.start ≤ length input.now.haystack.now }
     requires visits { counted.old.walked.visits ≡ [] }
     requires looks { counted.old.walked.looks ≡ 0 }
     requires program { (p : program.Program) × IsProgramOf p (states_of counted.old.states.now)
-        request.now.first × HasRoom (fit_of p) scratch.old threads.old }
+        first × HasRoom (fit_of p) scratch.old threads.old }
     requires idle { IsIdle scratch.old threads.old }
     requires slots_per_row { length slots.old ≡ scratch.old.rows.slots_per_row }
     requires nothing { slots_at scratch.old.rows 0 ≡ replicate scratch.old.rows.slots_per_row None }
     requires even { length scratch.old.rows.rows ≡ length scratch.old.rows.ref_counts }
     ensures search_result { (p : program.Program) →
-        IsProgramOf p (states_of counted.old.states.now) request.now.first →
-        SearchResult p request.now.haystack.now request.now.longest false request.now.earliest
-        request.now.start result slots.old slots.new counted.new.walked }
+        IsProgramOf p (states_of counted.old.states.now) first →
+        SearchResult p input.now.haystack.now (is_longest input.now.kind) input.now.anchored
+        (is_earliest input.now.kind) input.now.start result slots.old slots.new
+        counted.new.walked }
     ensures room { (p : program.Program) →
-        IsProgramOf p (states_of counted.old.states.now) request.now.first →
+        IsProgramOf p (states_of counted.old.states.now) first →
         HasRoom (fit_of p) scratch.old threads.old → HasRoom (fit_of p) scratch.new threads.new }
     ensures idle { IsIdle scratch.new threads.new }
 {
-    let Request {
-        haystack,
-        start,
-        first,
-        earliest,
-        longest,
-    } = *request;
+    let earliest = input.kind.is_earliest();
+    let longest = input.kind.is_longest();
+    let mut place = input.start;
+    let mut starts = true;
     let mut is_found = false;
-    let mut place = start;
     'places: loop {
-        let here = piece_at(haystack, place, longest);
-        let begins = first_of(is_found, first);
+        let here = piece_at(input.haystack, place, longest);
+        let begins = first_of(starts, first);
         step_threads(counted, scratch, threads, &here, begins, slots);
+        starts = starts_on(starts, input.anchored, &scratch.first_match);
         is_found = is_found_with(is_found, &scratch.first_match);
-        if is_over(here.ch_len, is_found, earliest, threads.len()) {
+        if is_over(here.ch_len, earliest, is_found, starts, threads.len()) {
             break;
         }
         place += here.ch_len;
@@ -276,7 +271,7 @@ pub(super) fn search(
 }
 
 // Removes the threads that are left, and releases their rows.
-pub(super) fn release_all(rows: &mut SlotTable, threads: &mut Threads)
+fn release_all(rows: &mut SlotTable, threads: &mut Threads)
     requires { IsUsed rows.old (map row_of threads.old.threads) }
     ensures threads { threads.new.threads ≡ [] }
     ensures room { threads.new.room ≡ threads.old.room }

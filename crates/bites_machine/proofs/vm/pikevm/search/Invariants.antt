@@ -1,20 +1,21 @@
 use Rattle.std.proofs.Common.{◌≡◌, ◌≤◌, ◌-◌, length}
 use Rattle.bites_spec.specs.Program as program
+use Rattle.bites_machine.specs.Inputs.{is_longest, is_earliest}
 use Rattle.bites_machine.specs.States.{states_of}
-use Rattle.bites_machine.specs.Sweep.{InvariantBetweenSteps, IsProgramOf}
-use Rattle.bites_machine.specs.Sweep.{HasReached}
+use Rattle.bites_machine.specs.Sweep.{InvariantBetweenSteps, IsProgramOf, HasReached}
 use Rattle.bites_machine.proofs.vm.pikevm.search.Given as goal
 
 abbrev pub invariant-places : goal.invariant-places
 invariant-places l = record {
-  within : l.place ≤ length l.request.haystack.now;
+  within : l.place ≤ length l.input.haystack.now;
   len : length l.slots ≡ length l.fn.slots;
   states : l.counted.states ≡ l.fn.counted.states;
   max_slots : l.scratch.rows.max_slots ≡ l.fn.scratch.rows.max_slots;
   between : InvariantBetweenSteps (states_of l.fn.counted.states.now) l.place l.counted.walked l.scratch l.threads (length l.slots);
-  gone : (p : program.Program) → IsProgramOf p (states_of l.fn.counted.states.now) l.request.first →
-      HasReached p l.request.haystack.now l.request.longest l.request.earliest l.request.start l.fn.slots l.place l.is_found l.counted.walked l.scratch.rows l.threads.threads l.slots;
+  gone : (p : program.Program) → IsProgramOf p (states_of l.fn.counted.states.now) l.first →
+      HasReached p l.input.haystack.now (is_longest l.input.kind) l.input.anchored (is_earliest l.input.kind) l.input.start l.fn.slots l.place l.starts l.is_found
+      l.counted.walked l.scratch.rows l.threads.threads l.slots;
 }
 
 abbrev pub decreases-places : goal.decreases-places
-decreases-places l = length l.request.haystack.now - l.place
+decreases-places l = length l.input.haystack.now - l.place

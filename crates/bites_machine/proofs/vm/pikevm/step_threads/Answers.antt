@@ -1,14 +1,12 @@
-use Rattle.std.proofs.Common.{ℕ, ◌+◌, List, Option, None, length, refl, sym, subst, arith}
+use Rattle.std.proofs.Common.{◌+◌, List, None, length, refl, sym, subst, arith}
 use Rattle.bites_spec.specs.Program as program
 use Rattle.bites_machine.specs.Threads.{Listed}
 use Rattle.bites_machine.specs.States.{states_of}
 use Rattle.bites_machine.specs.Explore.{AreSound}
-use Rattle.bites_machine.specs.Sweep.{InvariantBetweenSteps, PlaceSearched, ClosesAll}
-use Rattle.bites_machine.specs.Anchored.{ThreadsSearched}
+use Rattle.bites_machine.specs.Sweep.{InvariantBetweenSteps, PlaceSearched}
 use Rattle.bites_machine.specs.declared.vm.closure.Scratch.{Scratch}
 use Rattle.bites_machine.proofs.refine.BetweenStepsLemmas.{within_step_cleared, sound_states}
 use Rattle.bites_machine.proofs.refine.PlaceSearches.{between_again, place_searches}
-use Rattle.bites_machine.proofs.refine.AnchoredSteps.{threads_steps}
 use Rattle.bites_machine.proofs.vm.pikevm.step_threads.Goals as goal
 
 pub close_all-requires-clause-sound : goal.close_all-requires-clause-sound
@@ -47,24 +45,3 @@ returns-clause-between c =
     (subst (λ (x : Listed). InvariantBetweenSteps (states_of c.args.counted.now.states.now) (c.args.here.now.place + 1) c.close_all.new.counted.walked
     (record { visited_set = c.close_all.new.scratch.visited_set; stack = c.close_all.new.scratch.stack; rows = c.close_all.new.scratch.rows; next = c.args.threads.now; first_match = c.close_all.new.scratch.first_match })
     x (length c.close_all.new.slots)) (sym c.swap.ensures.this) again)
-
-pub returns-clause-alone : goal.returns-clause-alone
-returns-clause-alone c alone =
-    let hay = c.args.here.now.haystack.now in
-    let longest = c.args.here.now.longest in
-    let place = c.args.here.now.place in
-    let states = states_of c.args.counted.now.states.now in
-    let was = c.args.counted.now.walked in
-    let now = c.close_all.new.counted.walked in
-    let threads = c.args.threads.now.threads in
-    let slots = c.args.slots.now in
-    let left = c.close_all.new.slots in
-    let cleared : Scratch = record { visited_set = c.clear.new.self; stack = c.args.scratch.now.stack; rows = c.args.scratch.now.rows; next = c.clear-2.new.self; first_match = None } in
-    let new : Scratch = record { visited_set = c.close_all.new.scratch.visited_set; stack = c.close_all.new.scratch.stack; rows = c.close_all.new.scratch.rows; next = c.swap.new.other; first_match = c.close_all.new.scratch.first_match } in
-    let walks : ClosesAll hay longest place states None threads was now cleared c.close_all.new.scratch slots left =
-    subst (λ (o : Option ℕ). ClosesAll hay longest place states o threads was now cleared c.close_all.new.scratch slots left) alone c.close_all.ensures.walks in
-    let searched : ThreadsSearched hay longest place c.args.here.now.ch_len states was now c.args.scratch.now new threads c.close_all.new.scratch.next.threads slots left =
-    record {
-      steps = threads_steps hay longest place states threads was now cleared c.close_all.new.scratch slots left walks refl c.clear-2.ensures.threads c.requires.between.visits c.args.here.now.ch_len c.args.here.now.len_is;
-    } in
-    subst (λ (x : Listed). ThreadsSearched hay longest place c.args.here.now.ch_len states was now c.args.scratch.now new threads x.threads slots left) (sym c.swap.ensures.this) searched

@@ -1,14 +1,15 @@
-use Rattle.std.proofs.Common.{false, length, sym, ap, ◌∙◌, subst}
+use Rattle.std.proofs.Common.{length, sym, ap, ◌∙◌, subst}
+use Rattle.bites_machine.specs.Inputs.{is_longest, is_earliest}
 use Rattle.bites_machine.specs.States.{states_of}
 use Rattle.bites_machine.specs.Sweep.{IsProgramOf, SearchResult}
-use Rattle.bites_machine.proofs.refine.SearchResultLemmas.{slots_fit, did_first, did_least, did_visit, did_bounded}
-use Rattle.bites_machine.proofs.vm.search.Goals as goal
+use Rattle.bites_machine.specs.declared.vm.MatchKind.{MatchKind}
+use Rattle.bites_machine.proofs.refine.SearchResultLemmas.{slots_fit, did_first, did_longest, did_least, did_visit, did_bounded}
+use Rattle.bites_machine.proofs.vm.search_input.Goals as goal
 
 pub returns-clause-first : goal.returns-clause-first
 returns-clause-first c asked =
     let p = c.args.program.now.program in
-    let hay = c.args.haystack.now in
-    let start = c.args.start in
+    let input = c.args.input.now in
     let well = c.start.ensures.well_formed in
     let old = c.args.slots.now in
     let new = c.search.new.slots in
@@ -16,14 +17,16 @@ returns-clause-first c asked =
     let fits = slots_fit (length old) p.slots well.slots c.requires.slots in
     let is : IsProgramOf p (states_of c.new-counted.result.states.now) c.start.result =
     record { states = sym c.states.ensures ∙ ap (λ s. states_of s.now) (sym c.new-counted.ensures.states); start = sym c.start.ensures.start; well = well } in
-    did_first p hay well false start c.search.result old new walked fits
-    (λ within. subst (λ e. SearchResult p hay false false e start c.search.result old new walked) asked (c.search.ensures.search_result within p is c.requires.fits), c.search.ensures.past)
+    did_first p input.haystack.now well input.anchored input.start c.search.result old new walked fits (
+      λ within. subst (λ (k : MatchKind). SearchResult p input.haystack.now (is_longest k) input.anchored (is_earliest k) input.start c.search.result old new walked) asked
+          (c.search.ensures.search_result within p is c.requires.fits),
+      c.search.ensures.past,
+    )
 
 pub returns-clause-least : goal.returns-clause-least
 returns-clause-least c asked =
     let p = c.args.program.now.program in
-    let hay = c.args.haystack.now in
-    let start = c.args.start in
+    let input = c.args.input.now in
     let well = c.start.ensures.well_formed in
     let old = c.args.slots.now in
     let new = c.search.new.slots in
@@ -31,14 +34,33 @@ returns-clause-least c asked =
     let fits = slots_fit (length old) p.slots well.slots c.requires.slots in
     let is : IsProgramOf p (states_of c.new-counted.result.states.now) c.start.result =
     record { states = sym c.states.ensures ∙ ap (λ s. states_of s.now) (sym c.new-counted.ensures.states); start = sym c.start.ensures.start; well = well } in
-    did_least p hay well false start c.search.result old new walked fits
-    (λ within. subst (λ e. SearchResult p hay false false e start c.search.result old new walked) asked (c.search.ensures.search_result within p is c.requires.fits), c.search.ensures.past)
+    did_least p input.haystack.now well input.anchored input.start c.search.result old new walked fits (
+      λ within. subst (λ (k : MatchKind). SearchResult p input.haystack.now (is_longest k) input.anchored (is_earliest k) input.start c.search.result old new walked) asked
+          (c.search.ensures.search_result within p is c.requires.fits),
+      c.search.ensures.past,
+    )
+
+pub returns-clause-longest : goal.returns-clause-longest
+returns-clause-longest c asked =
+    let p = c.args.program.now.program in
+    let input = c.args.input.now in
+    let well = c.start.ensures.well_formed in
+    let old = c.args.slots.now in
+    let new = c.search.new.slots in
+    let walked = c.search.new.self.walked in
+    let fits = slots_fit (length old) p.slots well.slots c.requires.slots in
+    let is : IsProgramOf p (states_of c.new-counted.result.states.now) c.start.result =
+    record { states = sym c.states.ensures ∙ ap (λ s. states_of s.now) (sym c.new-counted.ensures.states); start = sym c.start.ensures.start; well = well } in
+    did_longest p input.haystack.now well input.anchored input.start c.search.result old new walked fits (
+      λ within. subst (λ (k : MatchKind). SearchResult p input.haystack.now (is_longest k) input.anchored (is_earliest k) input.start c.search.result old new walked) asked
+          (c.search.ensures.search_result within p is c.requires.fits),
+      c.search.ensures.past,
+    )
 
 pub returns-clause-bounded : goal.returns-clause-bounded
 returns-clause-bounded c =
     let p = c.args.program.now.program in
-    let hay = c.args.haystack.now in
-    let start = c.args.start in
+    let input = c.args.input.now in
     let well = c.start.ensures.well_formed in
     let old = c.args.slots.now in
     let new = c.search.new.slots in
@@ -46,14 +68,13 @@ returns-clause-bounded c =
     let fits = slots_fit (length old) p.slots well.slots c.requires.slots in
     let is : IsProgramOf p (states_of c.new-counted.result.states.now) c.start.result =
     record { states = sym c.states.ensures ∙ ap (λ s. states_of s.now) (sym c.new-counted.ensures.states); start = sym c.start.ensures.start; well = well } in
-    did_bounded p hay well false start c.search.result old new walked fits false c.args.earliest
+    did_bounded p input.haystack.now well input.anchored input.start c.search.result old new walked fits (is_longest input.kind) (is_earliest input.kind)
     (λ within. c.search.ensures.search_result within p is c.requires.fits, c.search.ensures.past)
 
 pub returns-clause-visited : goal.returns-clause-visited
 returns-clause-visited c =
     let p = c.args.program.now.program in
-    let hay = c.args.haystack.now in
-    let start = c.args.start in
+    let input = c.args.input.now in
     let well = c.start.ensures.well_formed in
     let old = c.args.slots.now in
     let new = c.search.new.slots in
@@ -61,5 +82,5 @@ returns-clause-visited c =
     let fits = slots_fit (length old) p.slots well.slots c.requires.slots in
     let is : IsProgramOf p (states_of c.new-counted.result.states.now) c.start.result =
     record { states = sym c.states.ensures ∙ ap (λ s. states_of s.now) (sym c.new-counted.ensures.states); start = sym c.start.ensures.start; well = well } in
-    did_visit p hay well false start c.search.result old new walked fits false c.args.earliest
+    did_visit p input.haystack.now well input.anchored input.start c.search.result old new walked fits (is_longest input.kind) (is_earliest input.kind)
     (λ within. c.search.ensures.search_result within p is c.requires.fits, c.search.ensures.past)
