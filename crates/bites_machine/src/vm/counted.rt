@@ -24,7 +24,7 @@ enum History {
     },
 }
 
-/// The visits and the number of steps of a search.
+/// The visits and the number of steps of a search. No visit stands there twice.
 ///
 /// For proofs: contracts alone see it. Its size is 0.
 #[derive(Drop)]
@@ -40,6 +40,10 @@ impl Model for Trace {
     ghost use Rattle.bites_machine.specs.Trace.{record_of};
 
     ghost view = { λ a. record_of a.history.value };
+
+    ghost use Rattle.bites_spec.specs.Walks.{AllApart};
+
+    ghost invariant = { λ a. AllApart (record_of a.history.value).visits };
 }
 
 const _: () = prove!(size_of::<Trace>() == 0);
@@ -55,7 +59,9 @@ impl Trace {
         }
     }
 
+    // Records a visit that was not made before.
     fn visit(&mut self, state: u32, place: usize)
+        requires { IsNew (at state place) self.old.visits }
         ensures visits { self.new.visits ≡ at state place ∷ self.old.visits }
         ensures looks { self.new.looks ≡ self.old.looks }
     {
@@ -68,6 +74,7 @@ impl Trace {
         self.history = Snapshot::of(&visit);
     }
 
+    // Records a step.
     fn step(&mut self)
         ensures visits { self.new.visits ≡ self.old.visits }
         ensures looks { self.new.looks ≡ self.old.looks + 1 }
