@@ -101,21 +101,9 @@ abbrev pub start_threads : Bool → ℕ → ℕ → Option ℕ → List machine.
 start_threads longest place slots_per_row None = []
 start_threads longest place slots_per_row (Some q) = record { state = q; start = if longest then place else 0; slots = replicate slots_per_row None } ∷ []
 
--- What holds when all closures of a place were explored.
-pub record HasWalked (states : List program.State) (place : ℕ) (walked : Record) (scratch : Scratch) (slots_per_row : ℕ) : Type 0 where
-  pub visited_set : length scratch.visited_set ≡ length states
-  pub before : (v : Configuration) → Among (visited_before place walked.visits) v → v.place < place
-  pub pending_len : length scratch.rows.pending ≡ length states
-  pub stack : scratch.stack.room ≡ frames_for (fit_in states)
-  pub empty : scratch.stack.frames ≡ []
-  pub next : length scratch.next.threads ≤ member_count scratch.visited_set
-  pub more : scratch.next.room ≡ length states
-  pub rows : length scratch.rows.ref_counts ≡ rows_for (fit_in states)
-  pub wide : slots_per_row ≡ scratch.rows.slots_per_row
-
 -- The closures of all threads of a place were explored, or cut off, and after them that of the start, if one is given.
 pub record ClosesAll (hay : List ℕ) (longest : Bool) (place : ℕ) (states : List program.State) (begins : Option ℕ) (threads : List Thread) (was now : Record) (old new : Scratch) (slots left : List (Option ℕ)) : Type 0 where
-  pub within_step : HasWalked states place now new (length left)
+  pub within_step : InvariantWithinStep states place now new (length left)
   pub users : IsUsed new.rows (map row_of new.next.threads ++ [])
   pub before : visited_before place now.visits ≡ visited_before place was.visits
   pub max_slots : new.rows.max_slots ≡ old.rows.max_slots

@@ -16,7 +16,7 @@ use Rattle.bites_machine.specs.Threads.{Listed}
 use Rattle.bites_machine.specs.Used.{IsUsed, slots_at}
 use Rattle.bites_machine.specs.Scratch.{thread_of, first_match_of, row_of}
 use Rattle.bites_machine.specs.Explore.{AreSound, seen_here, visited_before}
-use Rattle.bites_machine.specs.Sweep.{InvariantWithinStep, HasWalked, ClosesThread, ClosesThreads, ClosesAll, InvariantBetweenSteps, walking_at}
+use Rattle.bites_machine.specs.Sweep.{InvariantWithinStep, ClosesThread, ClosesThreads, ClosesAll, InvariantBetweenSteps, walking_at}
 use Rattle.bites_machine.specs.declared.vm.threads.Thread.{Thread}
 use Rattle.bites_machine.specs.declared.vm.closure.Scratch.{Scratch}
 use Rattle.bites_machine.proofs.tables.UsedLemmas.{same_or_not, users_same, user_counted}
@@ -131,44 +131,12 @@ within_step_cleared states place walked scratch list slots_per_row cleared b vis
   wide = b.wide ∙ ap (λ (r : Pool). r.slots_per_row) (sym rows);
 }
 
--- later places are between too
-pub between_on : (states : List program.State) (place later : ℕ) (walked : Record) (scratch : Scratch) (list : Listed) (slots_per_row : ℕ) → place ≤ later →
-    InvariantBetweenSteps states place walked scratch list slots_per_row → InvariantBetweenSteps states later walked scratch list slots_per_row
-between_on states place later walked scratch list slots_per_row le b = record {
-  visited_set = b.visited_set;
-  visits = λ v h. omega (arith, b.visits v h);
-  pending_len = b.pending_len;
-  stack = b.stack;
-  empty = b.empty;
-  more = b.more;
-  room = b.room;
-  few = b.few;
-  known = b.known;
-  used = b.used;
-  rows = b.rows;
-  wide = b.wide;
-}
-
--- what held between the closures of a place holds after them
-all_walked : (states : List program.State) (place : ℕ) (walked : Record) (scratch : Scratch) (slots_per_row : ℕ) → InvariantWithinStep states place walked scratch slots_per_row → HasWalked states place walked scratch slots_per_row
-all_walked states place walked scratch slots_per_row within_step = record {
-  visited_set = within_step.visited_set;
-  before = within_step.before;
-  pending_len = within_step.pending_len;
-  stack = within_step.stack;
-  empty = within_step.empty;
-  next = within_step.next;
-  more = within_step.more;
-  rows = within_step.rows;
-  wide = within_step.wide;
-}
-
 module _ (hay : List ℕ) (longest : Bool) (place : ℕ) (states : List program.State) (threads : List Thread) where
   -- the threads alone
   pub all_without : (was now : Record) (old new : Scratch) (slots left : List (Option ℕ)) →
       ClosesThreads hay longest place states threads [] was now old new slots left → ClosesAll hay longest place states None threads was now old new slots left
   all_without was now old new slots left w = record {
-    within_step = all_walked states place now new (length left) w.within_step;
+    within_step = w.within_step;
     users = w.users;
     before = w.before;
     max_slots = w.max_slots;
@@ -193,7 +161,7 @@ module _ (hay : List ℕ) (longest : Bool) (place : ℕ) (states : List program.
   all_with q start was mid now old new last slots left more begins w past =
       let used = start_used was mid old new slots left w in
       record {
-        within_step = all_walked states place now last (length more) past.within_step;
+        within_step = past.within_step;
         users = past.users [] used;
         before = past.before ∙ w.before;
         max_slots = past.max_slots ∙ w.max_slots;
