@@ -1,19 +1,19 @@
 -- What is replaced in the end.
 use Rattle.std.proofs.Common.{◌≡◌, ◌↔◌, ℕ, zero, suc, List, [], ◌∷◌, ◌++◌, map, take, drop, Option, Some, None, refl, sym, ap, ap₂, ◌∙◌, subst, true≢false}
-use Rattle.std.specs.Prelude.{unwrap_or, Result, Ok, Err, IfOk}
+use Rattle.std.specs.Prelude.{unwrap_or, Result, Ok, Err, IfOk, OnErr}
 use Rattle.bites_spec.specs.Match.{Span, span}
 use Rattle.bites_spec.specs.Slots.{group_in}
 use Rattle.bites_spec.specs.Pieces.{replaced_from, replaced, limited}
 use Rattle.bites_spec.specs.Regex.{Regex, IsCompiled}
 use Rattle.bites_spec.specs.Captured.{Captured}
 use Rattle.bites_spec.specs.Iteration.{captures_in, captures_after, spans_in, spans_after}
-use Rattle.bites_spec.specs.Replace.{Gave}
+use Rattle.bites_spec.specs.Replace.{Gave, GaveSome}
 use Rattle.bites_spec.proofs.regex.RegexRuns.{captures_have_spans}
-use Rattle.bites_spec.specs.Replaced.{span_in, ReplacesIn}
+use Rattle.bites_spec.specs.Replaced.{span_in, ReplacesIn, IsRefusedIn}
 use Rattle.bites_bytes.specs.ReplaceLimit.{taken, bound}
 use Rattle.bites_bytes.specs.Replacing.{spans_to_replace, captures_to_replace, is_nil, replaces_none, with_texts, EndsByText, EndsBy}
 use Rattle.bites_bytes.specs.declared.bytes.replace.Replacing.{Replacing}
-use Rattle.bites_bytes.proofs.ReplacingLemmas.{taken_limited, limited_map}
+use Rattle.bites_bytes.proofs.ReplacingLemmas.{taken_limited, limited_map, some_all}
 
 abbrev known : Option Span → Span
 known o = unwrap_or o (span 0 0)
@@ -38,6 +38,16 @@ same_texts f text (x ∷ xs) = ap (λ ts. text ∷ ts) (same_texts f text xs)
 pub if_ok : {A E : Type 0} (r : Result A E) (P Q : A → Type 0) → IfOk r P → ((x : A) → P x → Q x) → IfOk r Q
 if_ok (Ok x) P Q p f = f x p
 if_ok (Err e) P Q p f = tt
+
+-- what holds, holds of a refusal
+pub on_err : {A E : Type 0} (r : Result A E) (P : Type 0) → P → OnErr r P
+on_err (Ok x) P p = tt
+on_err (Err e) P p = p
+
+-- what follows from what holds of a refusal, holds of it
+pub if_refused : {A E : Type 0} (r : Result A E) (P Q : Type 0) → OnErr r P → (P → Q) → OnErr r Q
+if_refused (Ok x) P Q p f = tt
+if_refused (Err e) P Q p f = f p
 
 -- where nothing is left, a match was replaced exactly if there was one
 pub nothing_iff : {B : Type 0} (l : Option ℕ) (xs ys : List B) → xs ≡ [] → replaces_none l xs ≡ is_nil ys → (l ≡ None) ↔ (ys ≡ [])
@@ -94,6 +104,16 @@ module _ (s : Replacing) (r : Regex) (hay : List ℕ) (n : ℕ) (regex_is : s.cu
       ap (λ l. l ++ replaced_from s.cursor.haystack.now (unwrap_or s.cursor.last 0) ss texts) out_is
       ∙ ap (λ h. replaced_from h (unwrap_or s.cursor.last 0) ss texts) hay_is
       ∙ ap (λ (l : Option ℕ). replaced_from hay (unwrap_or l 0) ss texts) last_is
+
+  module _ {S : Type 0} (gives : S → Captured → List ℕ → S → Type 0) (answers : S → Option (List ℕ) → S → Type 0)
+      (refuses : S → Captured → List ℕ → S → Type 0) (old asked end : S) (answered : answers old None asked) where
+    pub some_refused : GaveSome gives answers refuses asked (captures_to_replace s) end → IsRefusedIn gives answers refuses r hay n old end
+    some_refused some = (None, asked, answered, subst (λ l. GaveSome gives answers refuses asked l end) captures_start some)
+
+    pub all_refused : (t : Replacing) → EndsBy gives answers s asked t end → IsRefusedIn gives answers refuses r hay n old end
+    all_refused t ends =
+        let on = ends.0.out [] end (subst (λ l. Gave gives answers end l [] end) (sym ends.1) refl) in
+        some_refused (some_all gives answers refuses asked (captures_to_replace s) on.0 end on.1)
 
   module _ (is : IsCompiled r) (t : Replacing) (bytes : List ℕ)
       (written : bytes ≡ t.out.items ++ drop (unwrap_or t.cursor.last 0) t.cursor.haystack.now) where

@@ -1,10 +1,10 @@
 -- Replacing matches, step by step.
-use Rattle.std.proofs.Common.{◌≡◌, ℕ, zero, suc, Bool, true, false, List, [], ◌∷◌, ◌++◌, map, take, Option, Some, None, refl, sym, ap, ap₂, ◌∙◌, subst, true≢false, append_assoc, inr}
+use Rattle.std.proofs.Common.{◌≡◌, ℕ, zero, suc, Bool, true, false, List, [], ◌∷◌, ◌++◌, map, take, Option, Some, None, refl, sym, ap, ap₂, ◌∙◌, subst, true≢false, append_assoc, inl, inr}
 use Rattle.std.specs.Prelude.{unwrap_or, slice_range}
 use Rattle.bites_spec.specs.Match.{Span}
 use Rattle.bites_spec.specs.Pieces.{replaced_from, limited}
 use Rattle.bites_spec.specs.Captured.{Captured, Excerpt}
-use Rattle.bites_spec.specs.Replace.{Gave}
+use Rattle.bites_spec.specs.Replace.{Gave, Stops, GaveSome}
 use Rattle.bites_bytes.specs.Matched.{excerpt_of}
 use Rattle.bites_bytes.specs.Matches.{IsSameSearch, left_from, spans_left}
 use Rattle.bites_spec.specs.Replaced.{span_in}
@@ -141,3 +141,34 @@ module _ {S : Type 0} (gives : S → Captured → List ℕ → S → Type 0) (an
     nothing = g.nothing ∙ f.nothing;
     same = same_still s.cursor t.cursor u.cursor f.same g.same;
   }
+
+-- what a replacer has given for some captures when memory is refused
+module _ {S C : Type 0} (gives : S → C → List ℕ → S → Type 0) (answers : S → Option (List ℕ) → S → Type 0)
+    (refuses : S → C → List ℕ → S → Type 0) where
+  -- none was given
+  pub some_none : (s : S) (cs : List C) (end : S) → Stops gives answers refuses s cs end → GaveSome gives answers refuses s cs end
+  some_none s cs end stops = ([], cs, refl, [], s, refl, stops)
+
+  -- one more, before some of the others
+  pub some_more : (s : S) (c : C) (cs : List C) (text : List ℕ) (m end : S) → gives s c text m → GaveSome gives answers refuses m cs end →
+      GaveSome gives answers refuses s (c ∷ cs) end
+  some_more s c cs text m end given some =
+      (c ∷ some.0, some.1, ap (λ l. c ∷ l) some.2, text ∷ some.3, some.4, (m, given, some.5), some.6)
+
+  -- one for each
+  pub some_all : (s : S) (cs : List C) (texts : List (List ℕ)) (end : S) → Gave gives answers s cs texts end →
+      GaveSome gives answers refuses s cs end
+  some_all s cs texts end gave = (cs, [], nothing_after cs, texts, end, gave, inl refl)
+    where
+      nothing_after : (xs : List C) → xs ≡ xs ++ []
+      nothing_after [] = refl
+      nothing_after (x ∷ xs) = ap (λ l. x ∷ l) (nothing_after xs)
+
+  -- what is given for some of the rest, with what was given so far is given for some of all
+  abbrev pub ServesOn : List C → S → List C → S → Type 0
+  ServesOn all r rest q = (end : S) → GaveSome gives answers refuses q rest end → GaveSome gives answers refuses r all end
+
+  pub serves_on : (all : List C) (r : S) (cs : List C) (q : S) → ServesOn all r cs q →
+      (c : C) (rest : List C) → cs ≡ c ∷ rest → (text : List ℕ) (p : S) → gives q c text p → ServesOn all r rest p
+  serves_on all r cs q on c rest e text p given end some =
+      on end (subst (λ l. GaveSome gives answers refuses q l end) (sym e) (some_more q c rest text p end given some))

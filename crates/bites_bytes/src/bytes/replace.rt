@@ -1,11 +1,12 @@
 //! Haystacks with their matches replaced.
 
-ghost use Rattle.std.specs.Prelude.{◌≡◌, ◌↔◌, ◌++◌, [], List, ℕ, ◌≤◌, None, IfOk, OnOk, drop, length};
+ghost use Rattle.std.specs.Prelude.{◌≡◌, ◌↔◌, ◌⊎◌, ◌++◌, [], List, ℕ, ◌≤◌, None, IfOk, OnOk, OnErr, drop, length};
 ghost use Rattle.std.specs.Cow.{cow_slice_items, IsBorrowedSlice};
 ghost use Rattle.bites_spec.specs.Counts.{fit_of};
 ghost use Rattle.bites_spec.specs.Iteration.{captures_in};
 ghost use Rattle.bites_bytes.specs.Matches.{regex_of, last_of};
-ghost use Rattle.bites_spec.specs.Replaced.{ReplacesIn};
+ghost use Rattle.bites_spec.specs.Replace.{Stops, GaveSome};
+ghost use Rattle.bites_spec.specs.Replaced.{ReplacesIn, IsRefusedIn};
 ghost use Rattle.bites_bytes.specs.ReplaceLimit.{bound};
 
 use crate::bytes::matches::Cursor;
@@ -27,7 +28,7 @@ struct Replacing<'r, 'h> {
 
 impl<'r, 'h> Replacing<'r, 'h> {
     ghost use Rattle.bites_bytes.specs.Matches.{haystack_of};
-    ghost use Rattle.bites_bytes.specs.Replacing.{hay_of, begin_of, StepsByText, EndsByText, StepsBy, EndsBy};
+    ghost use Rattle.bites_bytes.specs.Replacing.{hay_of, begin_of, captures_to_replace, StepsByText, EndsByText, StepsBy, EndsBy};
 
     // Returns a haystack in which nothing is replaced yet. At most `limit` matches may be, or all if it is 0.
     fn new(regex: &'r Regex, haystack: &'h [u8], limit: usize) -> Replacing<'r, 'h>
@@ -86,6 +87,8 @@ impl<'r, 'h> Replacing<'r, 'h> {
         requires whole { 2 ≤ length locations.old }
         ensures steps { IfOk result (λ there.
             StepsBy R.replaces R.answers self.old replacer.old there self.new replacer.new) }
+        ensures stops { OnErr result (Stops R.replaces R.answers R.refuses
+            replacer.old (captures_to_replace self.old) replacer.new) }
         ensures len { length locations.new ≡ length locations.old }
         ensures fits { cache.new.fits ≡ cache.old.fits }
     {
@@ -115,6 +118,8 @@ impl<'r, 'h> Replacing<'r, 'h> {
         requires fits { length locations.old ≡ (regex_of self.old.cursor).program.slots }
         requires whole { 2 ≤ length locations.old }
         ensures ends { OnOk result (EndsBy R.replaces R.answers self.old replacer.old self.new replacer.new) }
+        ensures served { OnErr result (GaveSome R.replaces R.answers R.refuses
+            replacer.old (captures_to_replace self.old) replacer.new) }
         ensures fits { cache.new.fits ≡ cache.old.fits }
     {
         while self.step_by(cache, locations, replacer)? {}
@@ -150,6 +155,8 @@ impl Regex {
         requires fits { cache.old.fits ≡ fit_of self.now.program }
         ensures replaces { IfOk result (λ bytes. ReplacesIn R.replaces R.answers
             self.now haystack.now limit replacer.old (cow_slice_items bytes) replacer.new) }
+        ensures refused { OnErr result (IsRefusedIn R.replaces R.answers R.refuses
+            self.now haystack.now limit replacer.old replacer.new) }
         ensures borrowed { IfOk result (λ bytes. IsBorrowedSlice bytes ↔ captures_in self.now haystack.now ≡ []) }
         ensures fits { cache.new.fits ≡ cache.old.fits }
     {
@@ -218,15 +225,35 @@ impl Regex {
         &self,
         haystack: &'h [u8],
         limit: usize,
-        replacer: R,
+        mut replacer: R,
     ) -> Result<CowSlice<'h, u8>, AllocError>
         requires { (state : R) → R.can_replace state }
         ensures replaces { IfOk result (λ bytes. (end : R) × ReplacesIn R.replaces R.answers
             self.now haystack.now limit replacer (cow_slice_items bytes) end) }
         ensures borrowed { IfOk result (λ bytes. IsBorrowedSlice bytes ↔ captures_in self.now haystack.now ≡ []) }
     {
+        self.replacen_mut(haystack, limit, &mut replacer)
+    }
+
+    /// Like [`Regex::replacen`], but with a replacer that is lent. The error is out of memory.
+    ///
+    /// After an error the replacer has served the first matches in turn, perhaps none of them. At most one more call
+    /// was refused, after which no other is made.
+    pub fn replacen_mut<'h, R: Replacer>(
+        &self,
+        haystack: &'h [u8],
+        limit: usize,
+        replacer: &mut R,
+    ) -> Result<CowSlice<'h, u8>, AllocError>
+        requires { (state : R) → R.can_replace state }
+        ensures replaces { IfOk result (λ bytes. ReplacesIn R.replaces R.answers
+            self.now haystack.now limit replacer.old (cow_slice_items bytes) replacer.new) }
+        ensures refused { OnErr result ((replacer.new ≡ replacer.old) ⊎ IsRefusedIn R.replaces R.answers R.refuses
+            self.now haystack.now limit replacer.old replacer.new) }
+        ensures borrowed { IfOk result (λ bytes. IsBorrowedSlice bytes ↔ captures_in self.now haystack.now ≡ []) }
+    {
         let mut cache = self.cache()?;
-        self.replacen_with(&mut cache, haystack, limit, replacer)
+        self.replace_by(&mut cache, haystack, limit, replacer)
     }
 
     /// Like [`Regex::replace_all`], but with a cache that fits.

@@ -1,10 +1,12 @@
 //! Texts with their matches replaced.
 
-ghost use Rattle.std.specs.Prelude.{◌≡◌, ◌↔◌, ◌≤◌, ◌++◌, [], None, IfOk, OnOk, drop, map, string_bytes, unwrap_or, IsCharBoundary};
+ghost use Rattle.std.specs.Prelude.{◌≡◌, ◌↔◌, ◌≤◌, ◌++◌, [], ◌∷◌, None, List, IfOk, OnOk, OnErr, drop, map, string_bytes, unwrap_or, IsCharBoundary};
 ghost use Rattle.std.specs.Cow.{cow_str_bytes, IsBorrowedStr};
 ghost use Rattle.bites_spec.specs.Pieces.{limited, replaced};
 ghost use Rattle.bites_spec.specs.Iteration.{captures_in};
-ghost use Rattle.bites_spec.specs.Replaced.{span_in, ReplacesIn};
+ghost use Rattle.bites_spec.specs.Captured.{Captured};
+ghost use Rattle.bites_spec.specs.Replace.{Stops, GaveSome};
+ghost use Rattle.bites_spec.specs.Replaced.{span_in, ReplacesIn, IsRefusedIn};
 ghost use Rattle.regex_bites.specs.Replaced.{ReplacesEach};
 
 use crate::string::{CaptureMatches, Captures, Match, Matches, Regex, Replacer};
@@ -75,6 +77,8 @@ impl<'h> ReplacedText<'h> {
         requires order { unwrap_or self.old.last 0 ≤ (span_in captures.now).start }
         ensures gives { OnOk result (WritesBy R.replaces captures.now
             self.old replacer.old self.new replacer.new) }
+        ensures stops { OnErr result ((rest : List Captured) → Stops R.replaces R.answers R.refuses
+            replacer.old (captures.now ∷ rest) replacer.new) }
     {
         self.keep_up_to(captures.whole())?;
         replacer.replace_append(captures, &mut self.out)
@@ -127,6 +131,8 @@ impl Regex {
         requires { (state : R) → R.can_replace state }
         ensures replaces { IfOk result (λ r. ReplacesEach R.replaces R.answers
             self.now haystack.now limit replacer.old (cow_str_bytes r) replacer.new) }
+        ensures served { OnErr result (GaveSome R.replaces R.answers R.refuses
+            replacer.old (limited limit (captures_in self.now haystack.now)) replacer.new) }
         ensures borrowed { IfOk result (λ r. IsBorrowedStr r ↔ captures_in self.now haystack.now ≡ []) }
     {
         let mut matches = CaptureMatches::new(self, haystack)?;
@@ -136,24 +142,6 @@ impl Regex {
             out.by(&captures?, replacer)?;
         }
         out.finish()
-    }
-
-    // Returns the haystack with its first `limit` matches replaced, or all of them if `limit` is 0.
-    fn replace_by<'h, R: Replacer>(
-        &self,
-        haystack: &'h str,
-        limit: usize,
-        replacer: &mut R,
-    ) -> Result<CowStr<'h>, AllocError>
-        requires { (state : R) → R.can_replace state }
-        ensures replaces { IfOk result (λ r. ReplacesIn R.replaces R.answers
-            self.now haystack.now limit replacer.old (cow_str_bytes r) replacer.new) }
-        ensures borrowed { IfOk result (λ r. IsBorrowedStr r ↔ captures_in self.now haystack.now ≡ []) }
-    {
-        if let Some(text) = replacer.no_expansion() {
-            return self.replace_by_text(haystack, limit, text);
-        }
-        self.replace_each(haystack, limit, replacer)
     }
 
     /// Returns the haystack with its first match replaced. The error is out of memory.
@@ -224,6 +212,29 @@ impl Regex {
             self.now haystack.now limit replacer (cow_str_bytes r) end) }
         ensures borrowed { IfOk result (λ r. IsBorrowedStr r ↔ captures_in self.now haystack.now ≡ []) }
     {
-        self.replace_by(haystack, limit, &mut replacer)
+        self.replacen_mut(haystack, limit, &mut replacer)
+    }
+
+    /// Like [`Regex::replacen`], but with a replacer that is lent. The error is out of memory.
+    ///
+    /// After an error the replacer has served the first matches in turn, perhaps none of them. At most one more call
+    /// was refused, after which no other is made.
+    pub fn replacen_mut<'h, R: Replacer>(
+        &self,
+        haystack: &'h str,
+        limit: usize,
+        replacer: &mut R,
+    ) -> Result<CowStr<'h>, AllocError>
+        requires { (state : R) → R.can_replace state }
+        ensures replaces { IfOk result (λ r. ReplacesIn R.replaces R.answers
+            self.now haystack.now limit replacer.old (cow_str_bytes r) replacer.new) }
+        ensures refused { OnErr result (IsRefusedIn R.replaces R.answers R.refuses
+            self.now haystack.now limit replacer.old replacer.new) }
+        ensures borrowed { IfOk result (λ r. IsBorrowedStr r ↔ captures_in self.now haystack.now ≡ []) }
+    {
+        if let Some(text) = replacer.no_expansion() {
+            return self.replace_by_text(haystack, limit, text);
+        }
+        self.replace_each(haystack, limit, replacer)
     }
 }

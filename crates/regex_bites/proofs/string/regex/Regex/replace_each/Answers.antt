@@ -1,11 +1,12 @@
-use Rattle.std.proofs.Common.{◌≡◌, ◌<◌, ◌∷◌, ◌++◌, ◌∙◌, map, length, drop, refl, sym, ap, subst, string_bytes}
+use Rattle.std.proofs.Common.{◌≡◌, ◌<◌, ◌∷◌, ◌++◌, ◌∙◌, map, length, drop, refl, sym, ap, subst, inl, string_bytes}
 use Rattle.std.specs.Prelude.{slice_range, unwrap_or, MatchResult}
 use Rattle.bites_spec.specs.Pieces.{limited, replaced_from}
 use Rattle.bites_spec.specs.Iteration.{captures_in}
+use Rattle.bites_spec.specs.Replace.{GaveSome, Stops}
 use Rattle.bites_spec.specs.Replaced.{span_in}
 use Rattle.bites_bytes.specs.ReplaceLimit.{taken}
-use Rattle.bites_bytes.proofs.ReplacingLemmas.{taken_limited, limited_map}
-use Rattle.bites_bytes.proofs.ReplacedLemmas.{if_ok, limited_none}
+use Rattle.bites_bytes.proofs.ReplacingLemmas.{taken_limited, limited_map, some_none, some_all, serves_on}
+use Rattle.bites_bytes.proofs.ReplacedLemmas.{if_ok, on_err, limited_none}
 use Rattle.regex_bites.specs.CapturesLeft.{captures_left}
 use Rattle.regex_bites.specs.Order.{BeginFrom}
 use Rattle.regex_bites.proofs.ReplacingLemmas.{IsOn, on_start, on_step, on_end, on_borrows, begin_limited}
@@ -19,6 +20,7 @@ loop-captures-init g c =
     let rest : taken c.bound-left.result (captures_left m) ≡ limited n cs =
     ap (λ o. taken o (captures_left m)) c.bound-left.ensures ∙ taken_limited n (captures_left m) ∙ ap (limited n) e.left in
     record {
+      served = λ end some. subst (λ l. GaveSome R.replaces R.answers R.refuses r l end) rest some;
       on =
           subst (λ l. IsOn R.replaces R.answers span_in hay (limited n cs) r (string_bytes s.out) s.last l r) (sym rest)
           (on_start R.replaces R.answers span_in hay (limited n cs) r (string_bytes s.out) s.last begun.out begun.last
@@ -37,6 +39,7 @@ loop-captures-preserved g c =
     subst (λ x. MatchResult x (λ y. cs ≡ y ∷ rest) (λ e. 0 < length cs)) c.in_ok-captures.was c.in-Some.ensures.steps in
     let gave = c.in_ok-by.ensures.gives in let e = gave.2 in
     record {
+      served = serves_on R.replaces R.answers R.refuses all r cs l.replacer on.served d rest steps gave.0 c.by.new.replacer gave.1;
       on =
           on_step R.replaces R.answers span_in hay all r (string_bytes s.out) s.last d rest l.replacer
           (subst (λ ds. IsOn R.replaces R.answers span_in hay all r (string_bytes s.out) s.last ds l.replacer) steps on.on)
@@ -68,3 +71,33 @@ returns-clause-borrowed g c =
     c.in_default.ensures.steps in
     let none = limited_none n cs in
     if_ok c.finish.result _ _ c.finish.ensures.borrowed (λ x same. (λ b. none.0 (is.0 (same.0 b)), λ bare. same.1 (is.1 (none.1 bare))))
+
+pub returns-in_err-matches-clause-served : goal.returns-in_err-matches-clause-served
+returns-in_err-matches-clause-served g c =
+    let R = g.R.Replacer in let r = c.args.replacer.now in
+    on_err c.from_residual.result _
+    (some_none R.replaces R.answers R.refuses r (limited c.args.limit (captures_in c.args.self.now c.args.haystack.now)) r (inl refl))
+
+pub returns-in_err-captures-clause-served : goal.returns-in_err-captures-clause-served
+returns-in_err-captures-clause-served g c =
+    let R = g.R.Replacer in let l = c.loop-captures in
+    on_err c.from_residual-in_err-captures.result _
+    (l.invariant.served l.replacer (some_none R.replaces R.answers R.refuses l.replacer (taken l.left (captures_left l.matches)) l.replacer (inl refl)))
+
+pub returns-in_err-by-clause-served : goal.returns-in_err-by-clause-served
+returns-in_err-by-clause-served g c =
+    let R = g.R.Replacer in let l = c.loop-captures in let q = c.by.new.replacer in
+    let d = c.in_ok-captures.field-0 in
+    let cs = taken l.left (captures_left l.matches) in let rest = taken c.step_of.new.left (captures_left c.step_of.new.self) in
+    let steps : cs ≡ d ∷ rest =
+    subst (λ x. MatchResult x (λ y. cs ≡ y ∷ rest) (λ e. 0 < length cs)) c.in_ok-captures.was c.in-Some.ensures.steps in
+    on_err c.from_residual-in_err-by.result _
+    (l.invariant.served q (some_none R.replaces R.answers R.refuses l.replacer cs q
+    (subst (λ ds. Stops R.replaces R.answers R.refuses l.replacer ds q) (sym steps) (c.in_err-by.ensures.stops rest))))
+
+pub returns-clause-served : goal.returns-clause-served
+returns-clause-served g c =
+    let R = g.R.Replacer in let hay = c.args.haystack.now in let cs = limited c.args.limit (captures_in c.args.self.now hay) in
+    let l = c.loop-captures in let s = l.out in
+    let end = on_end R.replaces R.answers span_in hay cs c.args.replacer.now (string_bytes s.out) s.last _ l.replacer l.invariant.on c.in_default.ensures.steps in
+    on_err c.finish.result _ (some_all R.replaces R.answers R.refuses c.args.replacer.now cs end.0 l.replacer end.1)
