@@ -5,6 +5,9 @@
  * regex or a cache frees what `out` held and puts the new one into `out`. Never write `at`, and never copy a handle that holds
  * something: use bites_clone. Never pass one handle twice in one call, except that bites_clone(&r, &r) leaves `r` unchanged.
  *
+ * Sets. A `bites_set` holds several compiled patterns and the memory that its searches use, so it needs no cache. All that is
+ * said of a `bites` holds of it too.
+ *
  * Threads. A handle may move to another thread. A handle serves one call at a time, since a search takes the regex out of its
  * handle and puts it back. Clones share the compiled program. Several threads may search at once if each has its own clone and
  * its own cache. Clone in the thread that has the handle, and pass the clone on by the start of a thread, by a lock, or by a
@@ -47,7 +50,7 @@ enum {
     BITES_UNFIT_CACHE = 104,  /* the cache was made for a regex of another size */
     BITES_TOO_SMALL = 105,    /* the room that the caller passed is too small; it is unchanged */
     BITES_NO_NAME = 106,      /* no group has this number, or the group has no name; or no group has this name */
-    BITES_BAD_SPAN = 107,     /* a span does not lie in the haystack */
+    BITES_BAD_SPAN = 107,     /* a span does not lie in the haystack; or a pattern of a set ends before it begins, or too late */
     BITES_NOT_BORDER = 108    /* with BITES_TEXT: an offset to start from, or an end of a span, lies within a character */
 };
 
@@ -73,6 +76,7 @@ enum {
 
 typedef struct { void *at; } bites;
 typedef struct { void *at; } bites_cache;
+typedef struct { void *at; } bites_set;
 typedef struct { size_t start, end; } bites_span;
 typedef struct { uint32_t code; size_t size; } bites_size;
 
@@ -183,6 +187,32 @@ bites_size bites_replace_literal(bites *regex, bites_cache *cache, const uint8_t
  * if any other span does not lie in the haystack. With BITES_TEXT it is BITES_NOT_UTF8, checked before the spans, or
  * BITES_NOT_BORDER if a span begins or ends within a character, checked after them. */
 bites_size bites_expand(bites *regex, const uint8_t *haystack, size_t len, const bites_span *groups, size_t count, const uint8_t *template_text, size_t template_len, uint8_t *out, size_t room);
+
+/* Compiles `count` patterns into `out`. They stand one after another in the `len` bytes at `patterns`. Pattern k ends before the
+ * offset ends[k]; the next one begins there, and pattern 0 at offset 0. The flags and limits of bites_new are those of each
+ * pattern. If the code is BITES_DONE, `size` is `count`. Else `size` is the number of the first pattern that the code is about,
+ * and `out` holds nothing. The code is then the number 1 to 57 of the message that refuses the pattern, BITES_NO_MEMORY, BITES_NOT_UTF8,
+ * BITES_BAD_SPAN if ends[k] is below the end before it or above `len`, or BITES_EMPTY_HANDLE if `out` is NULL. The first pattern
+ * that is not UTF-8 or has a wrong end is named before any that a message refuses. */
+bites_size bites_set_new(const uint8_t *patterns, size_t len, const size_t *ends, size_t count, uint32_t flags, size_t size_limit, uint32_t nest_limit, bites_set *out);
+
+/* Puts a set that shares the programs of `set` into `out`. It has memory of its own for searches. Returns what bites_clone
+ * returns. */
+uint32_t bites_set_clone(bites_set *set, bites_set *out);
+
+void bites_set_free(bites_set *set);
+
+/* Returns the number of patterns as `size`, with the code BITES_DONE, or the code BITES_EMPTY_HANDLE. */
+bites_size bites_set_len(bites_set *set);
+
+/* Returns whether any pattern of the set matches at or after `start`. The number is that of a search. */
+uint32_t bites_set_is_match_at(bites_set *set, const uint8_t *haystack, size_t len, size_t start);
+
+/* Puts for each pattern of the set one byte into `matched`: 1 if it matches at or after `start`, and 0 if not. The code is
+ * BITES_MATCH if any matches and BITES_NO_MATCH if none does; both write all bytes. `size` is the number of patterns. If `room` is
+ * less, the code is BITES_TOO_SMALL and nothing is searched. For any other number `matched` is unchanged, and `size` is 0 if the
+ * handle or the haystack is refused. Bytes after the last pattern's are unchanged. */
+bites_size bites_set_matches_at(bites_set *set, const uint8_t *haystack, size_t len, size_t start, uint8_t *matched, size_t room);
 
 /* Puts the message of the number `code`, 1 to 58, into `text`, with no NUL: as many of its first bytes as fit into `len`.
  * Returns the length of the whole message in bytes, or 0 for any other number. */
@@ -334,6 +364,41 @@ static inline bites_size bites_checked_expand(bites *regex, const uint8_t *hayst
     return bites_expand(regex, bites_bytes(haystack, len), len, count ? groups : bites_spans(NULL, 0), count, bites_bytes(template_text, template_len), template_len, bites_room(out, room), room);
 }
 
+static inline const size_t *bites_ends(const size_t *ends, size_t count) {
+    static const size_t none = 0;
+    return count ? ends : &none;
+}
+
+static inline bites_size bites_checked_set_new(const uint8_t *patterns, size_t len, const size_t *ends, size_t count, uint32_t flags, size_t size_limit, uint32_t nest_limit, bites_set *out) {
+    if (!out) return bites_only(BITES_EMPTY_HANDLE);
+    return bites_set_new(bites_bytes(patterns, len), len, bites_ends(ends, count), count, flags, size_limit, nest_limit, out);
+}
+
+static inline uint32_t bites_checked_set_clone(bites_set *set, bites_set *out) {
+    if (!set || !out) return BITES_EMPTY_HANDLE;
+    if (set == out) return set->at ? BITES_DONE : BITES_EMPTY_HANDLE;
+    return bites_set_clone(set, out);
+}
+
+static inline void bites_checked_set_free(bites_set *set) {
+    if (set) bites_set_free(set);
+}
+
+static inline bites_size bites_checked_set_len(bites_set *set) {
+    if (!set) return bites_only(BITES_EMPTY_HANDLE);
+    return bites_set_len(set);
+}
+
+static inline uint32_t bites_checked_set_is_match_at(bites_set *set, const uint8_t *haystack, size_t len, size_t start) {
+    if (!set) return BITES_EMPTY_HANDLE;
+    return bites_set_is_match_at(set, bites_bytes(haystack, len), len, start);
+}
+
+static inline bites_size bites_checked_set_matches_at(bites_set *set, const uint8_t *haystack, size_t len, size_t start, uint8_t *matched, size_t room) {
+    if (!set) return bites_only(BITES_EMPTY_HANDLE);
+    return bites_set_matches_at(set, bites_bytes(haystack, len), len, start, bites_room(matched, room), room);
+}
+
 static inline size_t bites_checked_error_text(uint32_t code, uint8_t *text, size_t len) {
     return bites_error_text(code, bites_room(text, len), len);
 }
@@ -376,6 +441,12 @@ static inline uint32_t bites_compile(const char *pattern, bites *out) {
 #define bites_replace bites_checked_replace
 #define bites_replace_literal bites_checked_replace_literal
 #define bites_expand bites_checked_expand
+#define bites_set_new bites_checked_set_new
+#define bites_set_clone bites_checked_set_clone
+#define bites_set_free bites_checked_set_free
+#define bites_set_len bites_checked_set_len
+#define bites_set_is_match_at bites_checked_set_is_match_at
+#define bites_set_matches_at bites_checked_set_matches_at
 #define bites_error_text bites_checked_error_text
 #define bites_message bites_checked_message
 #endif

@@ -9,7 +9,7 @@
 #define CHECK(holds) ((holds) ? (void)0 : wrong(#holds, __LINE__))
 
 /* what the archive takes these types to be */
-_Static_assert(sizeof(bites) == sizeof(void *) && sizeof(bites_cache) == sizeof(void *), "a handle is a pointer");
+_Static_assert(sizeof(bites) == sizeof(void *) && sizeof(bites_cache) == sizeof(void *) && sizeof(bites_set) == sizeof(void *), "a handle is a pointer");
 _Static_assert(sizeof(bites_span) == 16 && offsetof(bites_span, end) == 8, "a span is two places");
 _Static_assert(sizeof(bites_size) == 16 && offsetof(bites_size, size) == 8, "a code, and a size behind it");
 
@@ -499,6 +499,65 @@ static void nulls(void) {
     bites_free(&regex);
 }
 
+/* which patterns of a set match; the patterns are `foo`, `^o+`, `d$`, the empty one, and a letter that is not ASCII */
+static void sets(void) {
+    static const size_t ends[] = {3, 6, 8, 8, 10};
+    bites_set set = {0}, copy = {0};
+    uint8_t m[6] = {7, 7, 7, 7, 7, 7};
+    CHECK(bites_set_len(&set).code == BITES_EMPTY_HANDLE && bites_set_is_match_at(&set, BYTES("a"), 0) == BITES_EMPTY_HANDLE);
+    CHECK(bites_set_matches_at(&set, BYTES("a"), 0, m, 6).code == BITES_EMPTY_HANDLE && bites_set_clone(&set, &copy) == BITES_EMPTY_HANDLE && m[0] == 7);
+    bites_size size = bites_set_new(BYTES("foo^o+d$\xC3\xA9"), ends, 5, 0, LIMITS, &set);
+    CHECK(size.code == BITES_DONE && size.size == 5 && bites_set_len(&set).code == BITES_DONE && bites_set_len(&set).size == 5);
+    size = bites_set_matches_at(&set, BYTES("a food"), 0, m, 6);
+    CHECK(size.code == BITES_MATCH && size.size == 5 && m[0] == 1 && m[1] == 0 && m[2] == 1 && m[3] == 1 && m[4] == 0 && m[5] == 7);
+    size = bites_set_matches_at(&set, BYTES("oo\xC3\xA9"), 0, m, 5);
+    CHECK(size.code == BITES_MATCH && m[0] == 0 && m[1] == 1 && m[2] == 0 && m[3] == 1 && m[4] == 1);
+    /* a start within the haystack is not its start, and nothing matches past the end */
+    size = bites_set_matches_at(&set, BYTES("ood"), 1, m, 5);
+    CHECK(size.code == BITES_MATCH && m[0] == 0 && m[1] == 0 && m[2] == 1 && m[3] == 1 && m[4] == 0);
+    size = bites_set_matches_at(&set, BYTES("ood"), 4, m, 5);
+    CHECK(size.code == BITES_NO_MATCH && size.size == 5 && m[2] == 0 && m[3] == 0);
+    CHECK(bites_set_is_match_at(&set, BYTES("x"), 1) == BITES_MATCH && bites_set_is_match_at(&set, BYTES("x"), 2) == BITES_NO_MATCH);
+    m[0] = 7;
+    size = bites_set_matches_at(&set, BYTES("a food"), 0, m, 4);
+    CHECK(size.code == BITES_TOO_SMALL && size.size == 5 && m[0] == 7);
+    /* a clone outlives the set, and a set without patterns matches nothing */
+    CHECK(bites_set_clone(&set, &copy) == BITES_DONE);
+    size = bites_set_new(NULL, 0, NULL, 0, 0, LIMITS, &set);
+    CHECK(size.code == BITES_DONE && size.size == 0 && bites_set_len(&set).size == 0 && bites_set_is_match_at(&set, BYTES(""), 0) == BITES_NO_MATCH);
+    CHECK(bites_set_matches_at(&set, BYTES("a"), 0, NULL, 0).code == BITES_NO_MATCH);
+    CHECK(bites_set_matches_at(&copy, BYTES("food"), 0, m, 5).code == BITES_MATCH && m[0] == 1 && m[2] == 1);
+    bites_set_free(&copy);
+    bites_set_free(&set);
+    CHECK(!copy.at && !set.at);
+}
+
+/* what refuses a set, and the number of its pattern; flags, and searches of texts */
+static void refused_sets(void) {
+    static const size_t ends[] = {1, 3, 5}, falling[] = {1, 3, 2}, late[] = {1, 3, 6};
+    bites_set set = {0};
+    uint8_t m[3] = {7, 7, 7};
+    bites_size size = bites_set_new(BYTES("a(b)c"), ends, 3, 0, LIMITS, &set);
+    CHECK(size.code == 4 && size.size == 1 && !set.at); /* `(b` is not closed */
+    size = bites_set_new(BYTES("ab\xFF" "cd"), ends, 3, 0, LIMITS, &set);
+    CHECK(size.code == BITES_NOT_UTF8 && size.size == 1 && !set.at);
+    size = bites_set_new(BYTES("abcde"), falling, 3, 0, LIMITS, &set);
+    CHECK(size.code == BITES_BAD_SPAN && size.size == 2 && !set.at);
+    size = bites_set_new(BYTES("abcde"), late, 3, 0, LIMITS, &set);
+    CHECK(size.code == BITES_BAD_SPAN && size.size == 2 && !set.at);
+    size = bites_set_new(BYTES("abcde"), ends, 3, BITES_CASE_INSENSITIVE | BITES_TEXT, LIMITS, &set);
+    CHECK(size.code == BITES_DONE && bites_set_matches_at(&set, BYTES("DEA"), 0, m, 3).code == BITES_MATCH && m[0] == 1 && m[1] == 0 && m[2] == 1);
+    m[0] = 7;
+    CHECK(bites_set_is_match_at(&set, BYTES("a\xFF"), 0) == BITES_NOT_UTF8 && bites_set_is_match_at(&set, BYTES("a\xC3\xA9"), 2) == BITES_NOT_BORDER);
+    size = bites_set_matches_at(&set, BYTES("a\xFF"), 0, m, 3);
+    CHECK(size.code == BITES_NOT_UTF8 && size.size == 0 && m[0] == 7);
+    CHECK(bites_set_new(BYTES("a"), ends, 1, 0, LIMITS, NULL).code == BITES_EMPTY_HANDLE && bites_set_clone(NULL, &set) == BITES_EMPTY_HANDLE);
+    CHECK(bites_set_clone(&set, NULL) == BITES_EMPTY_HANDLE && bites_set_clone(&set, &set) == BITES_DONE && bites_set_len(NULL).code == BITES_EMPTY_HANDLE);
+    CHECK(bites_set_is_match_at(NULL, BYTES("a"), 0) == BITES_EMPTY_HANDLE && bites_set_matches_at(NULL, BYTES("a"), 0, m, 3).code == BITES_EMPTY_HANDLE);
+    bites_set_free(NULL);
+    bites_set_free(&set);
+}
+
 static void no_handles(void) {
     bites regex = {0}, copy = {0};
     bites_cache cache = {0};
@@ -549,6 +608,8 @@ int main(void) {
     groups_in_texts();
     expanded_texts();
     replaced_texts();
+    sets();
+    refused_sets();
     nulls();
     no_handles();
     CHECK(bites_version() == 0x000106);

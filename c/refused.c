@@ -10,7 +10,11 @@
 #define PATTERN BYTES("(?<word>[a-z]+)(?: ([0-9]{2,3}))?")
 #define HAYSTACK BYTES("-- some 42 words, and 137 others")
 #define LONG_TEMPLATE BYTES("<$word: ${2}> $$ and a text that is longer than all that stands before it, twice: $word $word")
+#define SET BYTES("[a-z]+[0-9]{2,3}--$"), ends, 3
 #define ROOM 1024
+
+/* the ends of the patterns of SET: a word, a number, and a line that ends with two dashes */
+static const size_t ends[] = {6, 16, 19};
 
 /* The arguments of the calls, made with ample memory for each run. */
 struct given {
@@ -18,6 +22,8 @@ struct given {
     bites_cache cache;
     bites made;             /* what a call makes; it holds something before */
     bites_cache made_cache; /* the same */
+    bites_set set;
+    bites_set made_set; /* the same */
     bites_span groups[3];   /* of the first match */
     uint8_t out[ROOM];
 };
@@ -38,6 +44,10 @@ static bites_size clone(struct given *given) { return only(bites_clone(&given->r
 
 static bites_size cache_new(struct given *given) { return only(bites_cache_new(&given->regex, &given->made_cache)); }
 
+static bites_size new_set(struct given *given) { return bites_set_new(SET, BITES_TEXT, LIMITS, &given->made_set); }
+
+static bites_size clone_set(struct given *given) { return only(bites_set_clone(&given->set, &given->made_set)); }
+
 static bites_size escape(struct given *given) { return bites_escape(BYTES("a.b*c[d] and more, to grow: (((((((((())))))))))"), given->out, ROOM); }
 
 static bites_size replace(struct given *given) {
@@ -56,6 +66,8 @@ static const struct call calls[] = {
     {"bites_new", NULL, BITES_DONE, new},
     {"bites_clone", NULL, BITES_DONE, clone},
     {"bites_cache_new", NULL, BITES_DONE, cache_new},
+    {"bites_set_new", NULL, BITES_DONE, new_set},
+    {"bites_set_clone", NULL, BITES_DONE, clone_set},
     {"bites_escape", "a\\.b\\*c\\[d\\] and more, to grow: \\(\\(\\(\\(\\(\\(\\(\\(\\(\\(\\)\\)\\)\\)\\)\\)\\)\\)\\)\\)", BITES_DONE, escape},
     {"bites_replace", "-- <some42> <words>, and 137 others", BITES_MATCH, replace},
     {"bites_replace_literal", "-- $word $word, $word $word", BITES_MATCH, replace_literal},
@@ -90,6 +102,17 @@ static bool search_well(bites *regex, bites_cache *cache) {
     return right && count == 4 && bites_captures_len(regex) == 3 && requests == before;
 }
 
+/* The same for a set: a word and a number stand in the haystack, and the last pattern matches nowhere. */
+static bool set_searches_well(bites_set *set) {
+    uint8_t matched[3] = {7, 7, 7};
+    size_t before = requests;
+    bool right = bites_set_len(set).size == 3 && bites_set_is_match_at(set, HAYSTACK, 0) == BITES_MATCH;
+    right = right && bites_set_matches_at(set, HAYSTACK, 0, matched, 3).code == BITES_MATCH;
+    return right && matched[0] == 1 && matched[1] == 1 && matched[2] == 0 && requests == before;
+}
+
+static bool makes_set(const struct call *call) { return call->ask == new_set || call->ask == clone_set; }
+
 static bool set_up(struct given *given) {
     *given = (struct given){0};
     memset(given->out, '-', ROOM);
@@ -97,6 +120,8 @@ static bool set_up(struct given *given) {
         && bites_cache_new(&given->regex, &given->cache) == BITES_DONE
         && bites_new(BYTES("old"), 0, LIMITS, &given->made) == BITES_DONE
         && bites_cache_new(&given->made, &given->made_cache) == BITES_DONE
+        && bites_set_new(SET, BITES_TEXT, LIMITS, &given->set).code == BITES_DONE
+        && bites_set_new(BYTES("old"), ends, 0, 0, LIMITS, &given->made_set).code == BITES_DONE
         && bites_captures_at(&given->regex, &given->cache, HAYSTACK, 0, given->groups, 3).code == BITES_MATCH;
 }
 
@@ -112,16 +137,19 @@ static bool is_done(const struct call *call, struct given *given, bites_size ans
     if (call->text != NULL)
         return answer.size == strlen(call->text) && memcmp(given->out, call->text, answer.size) == 0 && given->out[answer.size] == '-';
     if (call->ask == cache_new) return search_well(&given->regex, &given->made_cache);
+    if (makes_set(call)) return set_searches_well(&given->made_set);
     return search_well(&given->made, &given->cache);
 }
 
 /* Returns whether a refused call returned BITES_NO_MEMORY and left its arguments unchanged, and is done when it is repeated. */
 static bool is_kept(const struct call *call, struct given *given, bites_size answer, size_t number) {
-    if (answer.code != BITES_NO_MEMORY || answer.size != 0) return complain(call->name, number, "another answer");
+    /* a set that is refused names a pattern */
+    size_t most = call->ask == new_set ? 2 : 0;
+    if (answer.code != BITES_NO_MEMORY || answer.size > most) return complain(call->name, number, "another answer");
     if (!is_untouched(given)) return complain(call->name, number, "something is written");
-    if (call->ask == cache_new ? given->made_cache.at != NULL : call->text == NULL && given->made.at != NULL)
-        return complain(call->name, number, "`out` holds something");
-    if (!search_well(&given->regex, &given->cache)) return complain(call->name, number, "the handles do not go on");
+    void *made = call->ask == cache_new ? given->made_cache.at : makes_set(call) ? given->made_set.at : given->made.at;
+    if (call->text == NULL && made != NULL) return complain(call->name, number, "`out` holds something");
+    if (!search_well(&given->regex, &given->cache) || !set_searches_well(&given->set)) return complain(call->name, number, "the handles do not go on");
     return is_done(call, given, call->ask(given)) || complain(call->name, number, "asked again, it answers otherwise");
 }
 
@@ -138,6 +166,8 @@ static bool run(const struct call *call, size_t number, bool rest, size_t *neede
     *needed = requests;
     bool right = refusals > 0 ? is_kept(call, &given, answer, number)
                               : is_done(call, &given, answer) || complain(call->name, number, "a wrong answer");
+    bites_set_free(&given.made_set);
+    bites_set_free(&given.set);
     bites_free(&given.made);
     bites_cache_free(&given.made_cache);
     bites_cache_free(&given.cache);

@@ -127,7 +127,7 @@ fn of_checkout(checkout: &Path) -> Result<Links, String> {
     let mut links = Links::default();
     let place = checkout.display();
     let remedy = format!(
-        "run `drive/archive bites_c` in {place}, or set BITES_C_DIR to the folder of an installed libbites.a"
+        "run `tools/archive bites_c` in {place}, or set BITES_C_DIR to the folder of an installed libbites.a"
     );
     let needed = Needed::read(checkout)?;
     let folder = checkout.join("crates/bites_c/out");
@@ -192,7 +192,7 @@ impl Needed {
         })
     }
 
-    /// Returns what changed after this time, when the archive was made. `drive/archive` records the lines of `crates.txt` that
+    /// Returns what changed after this time, when the archive was made. `tools/archive` records the lines of `crates.txt` that
     /// the archive was made by. Without a record that is as new as the archive the file's own time counts.
     fn newer_than(&self, made: SystemTime, record: &Path) -> Option<PathBuf> {
         let mut sources = self.sources.iter();

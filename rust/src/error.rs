@@ -12,6 +12,8 @@ use std::fmt;
 #[derive(Clone, Eq, PartialEq)]
 pub struct Error {
     reason: Reason,
+    /// The number of the pattern of a set.
+    pattern: Option<usize>,
 }
 
 #[derive(Clone, Eq, PartialEq)]
@@ -50,12 +52,41 @@ impl Switch {
 impl Error {
     pub(crate) fn new(code: u32) -> Error {
         let reason = Reason::Refused(code);
-        Error { reason }
+        Error {
+            reason,
+            pattern: None,
+        }
+    }
+
+    /// The error of the pattern of a set with this number.
+    pub(crate) fn of_pattern(code: u32, pattern: usize) -> Error {
+        Error::new(code).in_set(pattern)
+    }
+
+    pub(crate) fn in_set(self, pattern: usize) -> Error {
+        Error {
+            pattern: Some(pattern),
+            ..self
+        }
     }
 
     pub(crate) fn of_switch(switch: Switch) -> Error {
         let reason = Reason::Switch(switch);
-        Error { reason }
+        Error {
+            reason,
+            pattern: None,
+        }
+    }
+
+    /// Returns the number of the pattern that is refused, if it is one of a set. Patterns are numbered from 0 on. Neither Rust crate
+    /// has such a call.
+    ///
+    /// ```
+    /// let error = regex_bites::RegexSet::new(["a", "(b"]).unwrap_err();
+    /// assert_eq!(Some(1), error.pattern_index());
+    /// ```
+    pub fn pattern_index(&self) -> Option<usize> {
+        self.pattern
     }
 
     fn message(&self) -> &'static str {

@@ -12,6 +12,7 @@ mod pattern;
 mod pool;
 mod race;
 mod replacer;
+mod sets;
 mod string;
 mod sys;
 mod unicode;

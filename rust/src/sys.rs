@@ -58,6 +58,18 @@ impl BitesCache {
     };
 }
 
+/// `bites_set`: the compiled patterns of a set with the memory that their searches need, or nothing.
+#[repr(C)]
+pub(crate) struct BitesSet {
+    at: *mut c_void,
+}
+
+impl BitesSet {
+    pub(crate) const EMPTY: BitesSet = BitesSet {
+        at: ptr::null_mut(),
+    };
+}
+
 /// `bites_span`: the span of a match or of a group.
 #[repr(C)]
 #[derive(Clone, Copy, Debug)]
@@ -246,6 +258,41 @@ extern "C" {
         template: *const u8,
         template_len: usize,
         out: *mut u8,
+        room: usize,
+    ) -> BitesSize;
+
+    pub(crate) fn bites_set_new(
+        patterns: *const u8,
+        len: usize,
+        ends: *const usize,
+        count: usize,
+        flags: u32,
+        size_limit: usize,
+        nest_limit: u32,
+        out: *mut BitesSet,
+    ) -> BitesSize;
+
+    pub(crate) fn bites_set_clone(set: *mut BitesSet, out: *mut BitesSet) -> u32;
+
+    pub(crate) fn bites_set_free(set: *mut BitesSet);
+
+    /// A set of this crate has its patterns, so nothing calls this.
+    #[allow(dead_code)]
+    pub(crate) fn bites_set_len(set: *mut BitesSet) -> BitesSize;
+
+    pub(crate) fn bites_set_is_match_at(
+        set: *mut BitesSet,
+        haystack: *const u8,
+        len: usize,
+        start: usize,
+    ) -> u32;
+
+    pub(crate) fn bites_set_matches_at(
+        set: *mut BitesSet,
+        haystack: *const u8,
+        len: usize,
+        start: usize,
+        matched: *mut u8,
         room: usize,
     ) -> BitesSize;
 

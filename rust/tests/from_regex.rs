@@ -155,31 +155,6 @@ fn calls_return_what_the_page_says() {
     assert_eq!(rows.collect::<BTreeMap<_, _>>(), answers);
 }
 
-/// Types of Rust's `regex` that this crate doesn't have. One that it had would be ambiguous, which doesn't compile.
-macro_rules! missing_types {
-    ($($name:ident)*) => {
-        const MISSING_TYPES: &[&str] = &[$(stringify!($name)),*];
-
-        mod stand_ins {
-            $(pub struct $name;)*
-        }
-
-        mod of_texts {
-            #[allow(unused_imports)]
-            use {super::stand_ins::*, regex_bites::*};
-            $(const _: $name = $name;)*
-        }
-
-        mod of_bytes {
-            #[allow(unused_imports)]
-            use {super::stand_ins::*, regex_bites::bytes::*};
-            $(const _: $name = $name;)*
-        }
-    };
-}
-
-missing_types!(RegexSet RegexSetBuilder SetMatches SetMatchesIter SetMatchesIntoIter);
-
 /// Names within types that this crate doesn't have. One that it had would come before the one of this trait, and have another type.
 trait Missing {
     #[allow(non_upper_case_globals)]
@@ -240,7 +215,7 @@ fn the_names_that_the_page_lists_are_missing() {
     assert!(Asked::<&[u8]>::is_replacer());
     assert!(!Asked::<[u8; 1]>::is_replacer() && !Asked::<&[u8; 1]>::is_replacer());
     let within = MISSING_WITHIN.iter().chain(&["impl Replacer for [u8; N]"]);
-    let mut missing: Vec<&str> = MISSING_TYPES.iter().chain(within).copied().collect();
+    let mut missing: Vec<&str> = within.copied().collect();
     let [table] = &tables("Name")[..] else {
         panic!("more than one table");
     };

@@ -67,6 +67,7 @@ fn type_of_c(kind: &str, pointer: bool) -> String {
         "void" => "()",
         "bites" => "Bites",
         "bites_cache" => "BitesCache",
+        "bites_set" => "BitesSet",
         "bites_span" => "BitesSpan",
         "bites_size" => "BitesSize",
         other => panic!("no type {other}"),

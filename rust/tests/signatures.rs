@@ -140,3 +140,58 @@ fn the_rest_of_the_root() {
     is_error::<regex_bites::Error>();
     is_error::<regex_bites::bytes::Error>();
 }
+
+/// Each public name of sets in Rust's `regex`, with its type: it builds with that crate too.
+macro_rules! set_signatures {
+    ($name:ident = $($path:ident)::+, $text:ty) => {
+        #[test]
+        fn $name() {
+            use $($path)::+::*;
+            types! {
+                RegexSet::new::<Vec<String>, String> => fn(Vec<String>) -> Result<RegexSet, regex_bites::Error>;
+                RegexSet::new::<[&str; 2], &str> => fn([&'static str; 2]) -> Result<RegexSet, regex_bites::Error>;
+                RegexSet::empty => fn() -> RegexSet;
+                RegexSet::default => fn() -> RegexSet;
+                RegexSet::is_match => fn(&RegexSet, &$text) -> bool;
+                RegexSet::is_match_at => fn(&RegexSet, &$text, usize) -> bool;
+                RegexSet::matches => fn(&RegexSet, &$text) -> SetMatches;
+                RegexSet::matches_at => fn(&RegexSet, &$text, usize) -> SetMatches;
+                RegexSet::len => fn(&RegexSet) -> usize;
+                RegexSet::is_empty => fn(&RegexSet) -> bool;
+                RegexSet::patterns => fn(&RegexSet) -> &[String];
+                SetMatches::matched_any => fn(&SetMatches) -> bool;
+                SetMatches::matched_all => fn(&SetMatches) -> bool;
+                SetMatches::matched => fn(&SetMatches, usize) -> bool;
+                SetMatches::len => fn(&SetMatches) -> usize;
+                SetMatches::iter => for<'a> fn(&'a SetMatches) -> SetMatchesIter<'a>;
+                <SetMatches as IntoIterator>::into_iter => fn(SetMatches) -> SetMatchesIntoIter;
+                <&'static SetMatches as IntoIterator>::into_iter => fn(&'static SetMatches) -> SetMatchesIter<'static>;
+                RegexSetBuilder::new::<&[&str], &&str> => fn(&'static [&'static str]) -> RegexSetBuilder;
+                RegexSetBuilder::build => fn(&RegexSetBuilder) -> Result<RegexSet, regex_bites::Error>;
+                RegexSetBuilder::case_insensitive => fn(&mut RegexSetBuilder, bool) -> &mut RegexSetBuilder;
+                RegexSetBuilder::multi_line => fn(&mut RegexSetBuilder, bool) -> &mut RegexSetBuilder;
+                RegexSetBuilder::dot_matches_new_line => fn(&mut RegexSetBuilder, bool) -> &mut RegexSetBuilder;
+                RegexSetBuilder::crlf => fn(&mut RegexSetBuilder, bool) -> &mut RegexSetBuilder;
+                RegexSetBuilder::swap_greed => fn(&mut RegexSetBuilder, bool) -> &mut RegexSetBuilder;
+                RegexSetBuilder::ignore_whitespace => fn(&mut RegexSetBuilder, bool) -> &mut RegexSetBuilder;
+                RegexSetBuilder::size_limit => fn(&mut RegexSetBuilder, usize) -> &mut RegexSetBuilder;
+                RegexSetBuilder::dfa_size_limit => fn(&mut RegexSetBuilder, usize) -> &mut RegexSetBuilder;
+                RegexSetBuilder::nest_limit => fn(&mut RegexSetBuilder, u32) -> &mut RegexSetBuilder;
+                RegexSetBuilder::octal => fn(&mut RegexSetBuilder, bool) -> &mut RegexSetBuilder;
+                RegexSetBuilder::unicode => fn(&mut RegexSetBuilder, bool) -> &mut RegexSetBuilder;
+            }
+            fn goes_both_ways<T: DoubleEndedIterator<Item = usize> + FusedIterator + Debug>() {}
+            clones::<RegexSet>();
+            clones::<RegexSetBuilder>();
+            clones::<SetMatches>();
+            clones::<SetMatchesIter<'static>>();
+            goes_both_ways::<SetMatchesIter<'static>>();
+            goes_both_ways::<SetMatchesIntoIter>();
+            is_sent::<RegexSet>();
+            is_sent::<SetMatches>();
+        }
+    };
+}
+
+set_signatures!(sets_over_texts = regex_bites, str);
+set_signatures!(sets_over_bytes = regex_bites::bytes, [u8]);

@@ -1,34 +1,40 @@
 -- What a search for a match of the whole haystack leaves in slots, and says of a regex's tree.
-use Rattle.std.proofs.Common.{◌≡◌, ℕ, ◌≤◌, Bool, true, false, List, ◌++◌, length, take, drop, Option, Some, None, option_map, refl, sym, ap, ◌∙◌, subst, ⊎_elim, ◌⊎◌, true≢false, arith}
+use Rattle.std.proofs.Common.{◌≡◌, ℕ, ◌≤◌, Bool, true, false, List, ◌++◌, length, take, drop, Option, Some, None, option_map, refl, sym, ap, ◌∙◌, subst, true≢false, arith}
 use Rattle.std.proofs.lemmas.Option.{same_Some}
-use Rattle.std.specs.Prelude.{◌↔◌, IsTrue, is_some, IfSome, Result, Ok, Err, IfOk}
+use Rattle.std.specs.Prelude.{◌↔◌, IsTrue, is_some, IfSome}
 use Rattle.std.proofs.lemmas.List.{take_all}
 use Rattle.bites_spec.specs.Utf8.{start_alone}
 use Rattle.bites_spec.specs.Run.{Run, Answered, longest_run, slots}
 use Rattle.bites_spec.specs.Slots.{slot_in, group_in, span_of_run, answer_of}
 use Rattle.bites_spec.specs.Regex.{Regex, IsCompiled}
-use Rattle.bites_spec.specs.Captured.{Captured, captured}
+use Rattle.bites_spec.specs.Captured.{captured}
+use Rattle.bites_bytes.specs.Calls.{FindsCapturedFull}
 use Rattle.bites_spec.specs.Full.{IsFullMatch, full_run, full_slots, FindsGroupsFull}
 use Rattle.bites_spec.proofs.utf8.StartLemmas.{alone_is_start}
 use Rattle.bites_spec.proofs.programs.FoundLemmas.{group_0_is_span}
 use Rattle.bites_spec.proofs.regex.AlikeLemmas.{chosen_run_lies}
 use Rattle.bites_spec.proofs.regex.FullLemmas.{longest_full, longest_not_full, full_run_is_found, full_finds_some}
 use Rattle.bites_bytes.specs.NextMatch.{LeavesRun}
-use Rattle.bites_bytes.proofs.NextLemmas.{front_group}
 use Rattle.bites_bytes.proofs.SearchLemmas.{known_end}
-use Rattle.bites_bytes.proofs.SlotLemmas.{length-slots, captures_are, slots_of, written_over}
-
--- a slice of two slots, or of all, has two
-pub two_at_least : (r : Regex) → IsCompiled r → (n : ℕ) → (n ≡ 2) ⊎ (n ≡ r.program.slots) → 2 ≤ n
-two_at_least r is n h = ⊎_elim (λ (e : n ≡ 2). omega arith) (λ (e : n ≡ r.program.slots). let two = is.well_formed.slots in omega arith) h
+use Rattle.bites_bytes.proofs.SlotLemmas.{length-slots, front_group, slots_of, written_over}
 
 module _ (r : Regex) (is : IsCompiled r) (hay : List ℕ) where
-  -- the captures of a match of the whole haystack
-  pub groups_on_tree_full : {E : Type 0} (x : Result (Option Captured) E) → IfOk x (λ c. c ≡ option_map (captured r hay) (full_slots r hay)) →
-      IfOk x (λ c. FindsGroupsFull r hay (option_map (λ y. y.slots) c))
-  groups_on_tree_full (Err e) h = tt
-  groups_on_tree_full (Ok c) h =
-      subst (FindsGroupsFull r hay) (slots_of r hay (full_slots r hay) ∙ ap (option_map (λ y. y.slots)) (sym h)) (full_run_is_found r is hay).1
+  -- the captures of a match of the whole haystack, by what stands in the slots
+  pub captured_full : (o : Option (List (Option ℕ))) → full_slots r hay ≡ o → FindsCapturedFull r hay (option_map (captured r hay) o)
+  captured_full o e = record {
+    found = ap (option_map (captured r hay)) (sym e);
+    on_tree = subst (FindsGroupsFull r hay) (e ∙ slots_of r hay o) (full_run_is_found r is hay).1;
+    regex = same_regex o;
+    haystack = same_haystack o;
+  }
+    where
+      same_regex : (o : Option (List (Option ℕ))) → IfSome (option_map (captured r hay) o) (λ x. x.regex ≡ r)
+      same_regex None = tt
+      same_regex (Some l) = refl
+
+      same_haystack : (o : Option (List (Option ℕ))) → IfSome (option_map (captured r hay) o) (λ x. x.haystack ≡ hay)
+      same_haystack None = tt
+      same_haystack (Some l) = refl
 
   -- where nothing begins at 0, nothing matches the whole haystack
   pub full_missing : (found : Bool) (n : ℕ) (old new : List (Option ℕ)) → found ≡ false → Answered r.program (longest_run r.program hay (start_alone hay 0)) found old new →

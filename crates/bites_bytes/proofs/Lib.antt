@@ -1,6 +1,6 @@
-pub mod SearchLemmas
 pub mod SettingsLemmas
 pub mod SlotLemmas
+pub mod SearchLemmas
 pub mod NextLemmas
 pub mod FullLemmas
 pub mod MatchLemmas
@@ -10,3 +10,4 @@ pub mod ReplacingSteps
 pub mod ReplacedLemmas
 pub mod CountLemmas
 pub mod PartLemmas
+pub mod SetLemmas

@@ -1,28 +1,27 @@
 -- Iterators over matches, step by step.
-use Rattle.std.proofs.Common.{◌≡◌, ℕ, ◌≤◌, ◌+◌, Bool, true, false, cond, List, [], ◌∷◌, map, length, take, Option, Some, None, option_map, refl, sym, ap, ap₂, ◌∙◌, subst, true≢false, arith}
-use Rattle.std.proofs.lemmas.Option.{same_Some}
+use Rattle.std.proofs.Common.{◌≡◌, ℕ, ◌≤◌, ◌+◌, Bool, true, false, cond, List, [], ◌∷◌, ◌++◌, map, length, take, drop, Option, Some, None, option_map, refl, sym, ap, ap₂, ◌∙◌, subst, true≢false, arith}
 use Rattle.std.specs.Prelude.{unwrap_or, is_some}
 use Rattle.std.proofs.lemmas.List.{take_all}
 use Rattle.std.specs.Iterator.{YieldsFirstBy}
 use Rattle.bites_spec.specs.Utf8.{step_len, places}
-use Rattle.bites_spec.specs.Match.{Span, span}
+use Rattle.bites_spec.specs.Match.{Span}
 use Rattle.bites_spec.specs.Run.{Run, slots}
 use Rattle.bites_spec.specs.Slots.{group_in, span_of_run}
 use Rattle.bites_spec.specs.Spans.{IsNextAfter, is_empty_at, next_after, followed, successive_after, successive, LiesFrom}
 use Rattle.bites_spec.specs.Regex.{Regex, IsCompiled, run_at}
 use Rattle.bites_spec.specs.Captured.{Excerpt, excerpt, captured, AreGroups}
 use Rattle.bites_spec.specs.Iteration.{spans_after, captured_by, captures_after}
+use Rattle.bites_bytes.specs.Calls.{FindsNext, ReadsNext}
 use Rattle.bites_spec.proofs.utf8.StartLemmas.{all_are_starts}
 use Rattle.bites_spec.proofs.regex.RegexRuns.{run_at-whole, run_at-lies, run_at-AreGroups}
 use Rattle.bites_spec.proofs.iteration.SpanLemmas.{next_lies}
 use Rattle.bites_spec.proofs.iteration.SuccessiveLemmas.{next_after-IsNextAfter, goes_on, mapped_after, mapped_successive}
-use Rattle.bites_bytes.specs.NextMatch.{next_run, LeavesRun}
+use Rattle.bites_bytes.specs.NextMatch.{next_run, FindsNextRun}
 use Rattle.bites_bytes.specs.Matched.{excerpt_of}
-use Rattle.bites_bytes.specs.Matches.{Advances, IsSameSearch, Moves, left_from, captures_to_come, CapturesCome}
+use Rattle.bites_bytes.specs.Matches.{IsSameSearch, Moves, left_from, captures_to_come, CapturesCome}
 use Rattle.bites_bytes.specs.declared.bytes.matched.Match.{Match}
 use Rattle.bites_bytes.specs.declared.bytes.matches.Cursor.{Cursor}
-use Rattle.bites_bytes.proofs.SlotLemmas.{ends, length-slots}
-use Rattle.bites_bytes.proofs.NextLemmas.{front_group}
+use Rattle.bites_bytes.proofs.SlotLemmas.{length-slots, written_over}
 
 module _ (r : Regex) (is : IsCompiled r) (hay : List ℕ) where
   -- a search from some place returns the next run
@@ -78,42 +77,44 @@ module _ (r : Regex) (is : IsCompiled r) (hay : List ℕ) where
   pub captures_none : (last : Option ℕ) → next_run r hay last ≡ None → captures_after r hay last ≡ []
   captures_none last h = captures_runs last ∙ ap (map (captured_by r hay)) (runs_none last h)
 
-  -- the run whose slots were left
-  left_by : (last : Option ℕ) (o : Option Run) (found : Bool) (n : ℕ) (new : List (Option ℕ)) (e : Option (ℕ × ℕ)) → next_run r hay last ≡ o →
-      LeavesRun r.program o found n new → found ≡ true → 2 ≤ n → option_map ends e ≡ group_in new 0 →
-      (x : Run) × (next_run r hay last ≡ Some x) × (option_map ends e ≡ Some (span_of_run x)) × (new ≡ take n (slots r.program x))
-  left_by last None found n new e h leaves holds le is_ends = absurd (true≢false (sym holds ∙ leaves))
-  left_by last (Some x) found n new e h leaves holds le is_ends =
-      let place = next_place last x h in
-      (x, h, is_ends ∙ ap (λ l. group_in l 0) leaves.1 ∙ front_group n (slots r.program x) le ∙ run_at-whole r is hay place.0 _ (all_are_starts hay place.0) x place.1, leaves.1)
+  -- the next match is the first of those that are left
+  pub next_finds : (last : Option ℕ) (m : Option Excerpt) (n : ℕ) (new : List (Option ℕ)) → FindsNextRun r hay last m n new → FindsNext r hay last m
+  next_finds last None n new h = spans_none last h
+  next_finds last (Some m) n new h = record {
+    haystack = ap (λ (e : Excerpt). e.haystack) h.2;
+    lies = subst (λ (e : Excerpt). LiesFrom (length hay) (unwrap_or last 0) e.span) (sym h.2) (next_lies_there last h.0 h.1);
+    follow = spans_step last h.0 h.1 ∙ ap (λ (e : Excerpt). e.span ∷ spans_after r hay (Some e.span.end)) (sym h.2);
+  }
 
-  pub left : (last : Option ℕ) (found : Bool) (n : ℕ) (new : List (Option ℕ)) (e : Option (ℕ × ℕ)) →
-      LeavesRun r.program (next_run r hay last) found n new → found ≡ true → 2 ≤ n → option_map ends e ≡ group_in new 0 →
-      (x : Run) × (next_run r hay last ≡ Some x) × (option_map ends e ≡ Some (span_of_run x)) × (new ≡ take n (slots r.program x))
-  left last found n new e leaves holds le is_ends = left_by last (next_run r hay last) found n new e refl leaves holds le is_ends
+  -- and all slots hold its groups
+  pub next_reads : (last : Option ℕ) (m : Option Excerpt) (n : ℕ) (new : List (Option ℕ)) → FindsNextRun r hay last m n new → n ≡ r.program.slots →
+      ReadsNext r hay last m new
+  next_reads last None n new h all = (spans_none last h, captures_none last h)
+  next_reads last (Some m) n new h all =
+      let x = h.0 in
+      let is_new : new ≡ slots r.program x = h.3 ∙ take_all n (slots r.program x) (let len = length-slots r.program x in omega arith) in
+      let place = next_place last x h.1 in record {
+        next = next_finds last (Some m) n new h;
+        are = subst (AreGroups r hay) (sym is_new) (run_at-AreGroups r is hay place.0 _ (all_are_starts hay place.0) x place.1);
+        whole =
+            ap (λ l. group_in l 0) is_new ∙ run_at-whole r is hay place.0 _ (all_are_starts hay place.0) x place.1
+            ∙ ap (λ (e : Excerpt). Some e.span) (sym h.2);
+        follow =
+            captures_step last x h.1
+            ∙ ap₂ (λ l (e : Excerpt). captured r hay l ∷ captures_after r hay (Some e.span.end)) (sym is_new) (sym h.2);
+      }
 
-  -- the ends of the run, where they are known
-  pub left_at : (last : Option ℕ) (found : Bool) (n : ℕ) (new : List (Option ℕ)) (a b : ℕ) →
-      LeavesRun r.program (next_run r hay last) found n new → found ≡ true → 2 ≤ n → Some (span a b) ≡ group_in new 0 →
-      (x : Run) × (next_run r hay last ≡ Some x) × (span a b ≡ span_of_run x) × (new ≡ take n (slots r.program x))
-      × LiesFrom (length hay) (unwrap_or last 0) (span a b)
-  left_at last found n new a b leaves holds le is_ends =
-      let l = left last found n new (Some (a, b)) leaves holds le is_ends in
-      let same = same_Some (span a b) (span_of_run l.0) l.2 in
-      (l.0, l.1, same, l.3, subst (LiesFrom (length hay) (unwrap_or last 0)) (sym same) (next_lies_there last l.0 l.1))
-
-  -- and they are
-  pub left_known : (last : Option ℕ) (found : Bool) (n : ℕ) (new : List (Option ℕ)) →
-      LeavesRun r.program (next_run r hay last) found n new → found ≡ true → 2 ≤ n → None ≡ group_in new 0 → ⊥
-  left_known last found n new leaves holds le is_ends =
-      let l = left last found n new None leaves holds le is_ends in never (span_of_run l.0) l.2
-    where
-      never : (g : Span) → None ≡ Some g → ⊥
-      never g e = cc
-
-  pub nothing_next : (o : Option Run) (found : Bool) (n : ℕ) (new : List (Option ℕ)) → LeavesRun r.program o found n new → found ≡ false → o ≡ None
-  nothing_next None found n new leaves missing = refl
-  nothing_next (Some x) found n new leaves missing = absurd (true≢false (sym leaves.0 ∙ missing))
+  -- and so they do in a list that is written over its whole length
+  pub next_written : (last : Option ℕ) (m : Option Excerpt) (old items now new : List (Option ℕ)) (n : ℕ) → old ≡ items → now ≡ items →
+      length old ≡ r.program.slots → n ≡ length now → FindsNextRun r hay last m (length now) new →
+      ReadsNext r hay last m (take n (new ++ drop (length new) items))
+  next_written last None old items now new n view same fits len h = (spans_none last h, captures_none last h)
+  next_written last (Some m) old items now new n view same fits len h =
+      let all : length now ≡ r.program.slots = ap length same ∙ ap length (sym view) ∙ fits in
+      let is_new : new ≡ slots r.program h.0 = h.3 ∙ take_all (length now) (slots r.program h.0) (let l = length-slots r.program h.0 in omega arith) in
+      subst (λ l. ReadsNext r hay last (Some m) l)
+      (sym (written_over n new items (ap length is_new ∙ length-slots r.program h.0 ∙ sym all ∙ ap length same) (len ∙ ap length same)))
+      (next_reads last (Some m) (length now) new h all)
 
 -- what is left where the search goes on
 moved_left : (s t : Cursor) (last : Option ℕ) → IsSameSearch s t → t.last ≡ last →
@@ -123,27 +124,15 @@ moved_left s t last same is =
     ∙ ap (λ r. map (excerpt s.haystack.now) (spans_after r s.haystack.now t.last)) same.0
     ∙ ap (λ l. map (excerpt s.haystack.now) (spans_after s.regex.now s.haystack.now l)) is
 
--- a step is that of an iterator over the matches that are left
-pub advance_yields : (s : Cursor) (m : Option Match) (t : Cursor) (n : ℕ) (new : List (Option ℕ)) → IsCompiled s.regex.now →
-    Advances s m t n new → IsSameSearch s t → YieldsFirstBy excerpt_of left_from s m t
-advance_yields s None t n new is step same =
-    let hay = s.haystack.now in let r = s.regex.now in
-    let none = ap (map (excerpt hay)) (spans_none r is hay s.last step.0) in
-    (none, moved_left s t s.last same step.1 ∙ none)
-advance_yields s (Some m) t n new is step same =
-    let hay = s.haystack.now in let r = s.regex.now in let x = step.0 in
-    ap (map (excerpt hay)) (spans_step r is hay s.last x step.1)
-    ∙ ap₂ (λ a b. a ∷ b) (sym step.2.0) (sym (moved_left s t (Some x.end) same step.2.1))
-
--- the match begins where the one before ended or later, and the search goes on where it ends
-pub advance_moves : (s : Cursor) (m : Option Match) (t : Cursor) (n : ℕ) (new : List (Option ℕ)) → IsCompiled s.regex.now →
-    Advances s m t n new → Moves s m t
-advance_moves s None t n new is step = step.1
-advance_moves s (Some m) t n new is step =
-    let x = step.0 in let span_is = ap (λ (e : Excerpt). e.span) step.2.0 in (
-      subst (λ (g : Span). unwrap_or s.last 0 ≤ g.start) (sym span_is) (next_lies_there s.regex.now is s.haystack.now s.last x step.1).0,
-      step.2.1 ∙ ap (λ (g : Span). Some g.end) (sym span_is),
-    )
+-- a step to the next match is that of an iterator over the matches that are left
+pub step_yields : (s t : Cursor) (m : Option Match) → FindsNext s.regex.now s.haystack.now s.last (option_map excerpt_of m) → IsSameSearch s t →
+    Moves s m t → YieldsFirstBy excerpt_of left_from s m t
+step_yields s t None next same moves =
+    let none = ap (map (excerpt s.haystack.now)) next in (none, moved_left s t s.last same moves ∙ none)
+step_yields s t (Some m) next same moves =
+    let hay = s.haystack.now in
+    ap (map (excerpt hay)) next.follow
+    ∙ ap₂ (λ h xs. excerpt h (excerpt_of m).span ∷ xs) (sym next.haystack) (sym (moved_left s t (Some (excerpt_of m).span.end) same moves.1))
 
 moved_captures : (s t : Cursor) (last : Option ℕ) → IsSameSearch s t → t.last ≡ last → captures_to_come t ≡ captures_after s.regex.now s.haystack.now last
 moved_captures s t last same is =
@@ -151,19 +140,11 @@ moved_captures s t last same is =
     ∙ ap (λ r. captures_after r s.haystack.now t.last) same.0
     ∙ ap (λ l. captures_after s.regex.now s.haystack.now l) is
 
--- a step with all slots is one to the captures of the match
-pub captures_advance : (s : Cursor) (m : Option Match) (t : Cursor) (n : ℕ) (new : List (Option ℕ)) → IsCompiled s.regex.now →
-    n ≡ s.regex.now.program.slots → Advances s m t n new → IsSameSearch s t → CapturesCome s (is_some m) t new
-captures_advance s None t n new is all step same =
-    let none = captures_none s.regex.now is s.haystack.now s.last step.0 in (none, moved_captures s t s.last same step.1 ∙ none)
-captures_advance s (Some m) t n new is all step same =
-    let r = s.regex.now in let hay = s.haystack.now in let x = step.0 in
-    let e : new ≡ slots r.program x = step.3 ∙ take_all n (slots r.program x) (let len = length-slots r.program x in omega arith) in
-    let place = next_place r is hay s.last x step.1 in (
-      captures_step r is hay s.last x step.1
-          ∙ ap₂ (λ a b. a ∷ b) (ap (captured r hay) (sym e) ∙ ap₂ (λ a b. captured a b new) (sym same.0) (sym same.1))
-          (sym (moved_captures s t (Some x.end) same step.2.1)),
-      subst (λ l. AreGroups t.regex.now t.haystack.now l) (sym e)
-          (subst (λ h. AreGroups t.regex.now h (slots r.program x)) (sym same.1)
-          (subst (λ q. AreGroups q hay (slots r.program x)) (sym same.0) (run_at-AreGroups r is hay place.0 _ (all_are_starts hay place.0) x place.1))),
-    )
+-- and with all slots it is one to the captures of the match
+pub captures_come : (s t : Cursor) (m : Option Match) (new : List (Option ℕ)) → ReadsNext s.regex.now s.haystack.now s.last (option_map excerpt_of m) new →
+    IsSameSearch s t → Moves s m t → CapturesCome s (is_some m) t new
+captures_come s t None new next same moves = (next.1, moved_captures s t s.last same moves ∙ next.1)
+captures_come s t (Some m) new next same moves = (
+  next.follow ∙ ap₂ (λ a b. a ∷ b) (ap₂ (λ a b. captured a b new) (sym same.0) (sym same.1)) (sym (moved_captures s t (Some (excerpt_of m).span.end) same moves.1)),
+  subst (λ h. AreGroups t.regex.now h new) (sym same.1) (subst (λ q. AreGroups q s.haystack.now new) (sym same.0) next.are),
+)

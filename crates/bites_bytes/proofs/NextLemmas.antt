@@ -1,78 +1,88 @@
--- The run of the next match, and the slots that a search for it leaves.
-use Rattle.std.proofs.Common.{◌≡◌, ℕ, zero, suc, ◌≤◌, ◌+◌, Bool, true, false, cond, List, [], ◌∷◌, length, take, Option, Some, None, refl, sym, ap, ◌∙◌, subst, true≢false, arith}
+-- The run of the next match.
+use Rattle.std.proofs.Common.{◌≡◌, ℕ, ◌≤◌, ◌+◌, Bool, true, false, cond, List, take, length, Option, Some, None, option_map, refl, sym, ap, ◌∙◌, subst, true≢false, arith, eq-eqb, ne_eqb}
+use Rattle.std.specs.Prelude.{is_some, unwrap_or, ◌==◌}
+use Rattle.std.proofs.lemmas.Option.{same_Some}
+use Rattle.std.proofs.lemmas.Bool.{and_from, and_right}
 use Rattle.bites_spec.specs.Utf8.{step_len, places}
-use Rattle.bites_spec.specs.Program.{Program}
+use Rattle.bites_spec.specs.Match.{Span}
 use Rattle.bites_spec.specs.Run.{Run, Answered, slots}
-use Rattle.bites_spec.specs.Slots.{group_in, span_of_run}
-use Rattle.bites_spec.specs.Spans.{is_empty_at, next_after}
+use Rattle.bites_spec.specs.Slots.{span_of_run}
+use Rattle.bites_spec.specs.Spans.{is_empty_at, next_after, LiesFrom}
 use Rattle.bites_spec.specs.Regex.{Regex, IsCompiled, run_at}
+use Rattle.bites_spec.specs.Captured.{Excerpt, excerpt, FindsMatch}
 use Rattle.bites_spec.proofs.utf8.StartLemmas.{all_are_starts}
-use Rattle.bites_spec.proofs.regex.RegexRuns.{run_at-whole}
-use Rattle.bites_bytes.specs.NextMatch.{next_run, LeavesRun}
+use Rattle.bites_spec.proofs.regex.RegexRuns.{run_at-lies}
+use Rattle.bites_bytes.specs.NextMatch.{next_run, FindsNextRun}
 
--- what a search from the place leaves
-pub leaves_now : (p : Program) (o : Option Run) (found : Bool) (old new : List (Option ℕ)) → Answered p o found old new → LeavesRun p o found (length old) new
-leaves_now p None found old new h = h.0
-leaves_now p (Some x) found old new h = h
+module _ (r : Regex) (is : IsCompiled r) (hay : List ℕ) where
+  -- the run of what is found
+  pub run_of : (s : ℕ) (m : Excerpt) → FindsMatch r hay (places hay s) (Some m) →
+      (x : Run) × (run_at r hay (places hay s) ≡ Some x) × (m ≡ excerpt hay (span_of_run x))
+  run_of s m found = by (run_at r hay (places hay s)) refl found.span
+    where
+      by : (o : Option Run) → run_at r hay (places hay s) ≡ o → Some m ≡ option_map (excerpt hay) (option_map span_of_run o) →
+          (x : Run) × (run_at r hay (places hay s) ≡ Some x) × (m ≡ excerpt hay (span_of_run x))
+      by None e h = let never : Some m ≡ None = h in absurd (cc)
+      by (Some x) e h = (x, e, same_Some m (excerpt hay (span_of_run x)) h)
 
--- the first n slots have group 0, if n is 2 or more
-pub front_group : (n : ℕ) (xs : List (Option ℕ)) → 2 ≤ n → group_in (take n xs) 0 ≡ group_in xs 0
-front_group zero xs le = absurd (omega arith)
-front_group (suc zero) xs le = absurd (omega arith)
-front_group (suc (suc n)) [] le = refl
-front_group (suc (suc n)) (x ∷ []) le = refl
-front_group (suc (suc n)) (x ∷ y ∷ xs) le = refl
+  none_of : (s : ℕ) → FindsMatch r hay (places hay s) None → run_at r hay (places hay s) ≡ None
+  none_of s found = by (run_at r hay (places hay s)) found.span
+    where
+      by : (o : Option Run) → None ≡ option_map (excerpt hay) (option_map span_of_run o) → o ≡ None
+      by None h = refl
+      by (Some x) h = let never : None ≡ Some (excerpt hay (span_of_run x)) = h in absurd (cc)
 
-module _ (r : Regex) (is : IsCompiled r) (hay : List ℕ) (e : ℕ) where
-  next_by : (o : Option Run) → run_at r hay (places hay e) ≡ o →
-      next_after span_of_run hay (λ s. run_at r hay (places hay s)) e ≡ cond (is_empty_at span_of_run e o) (run_at r hay (places hay (e + step_len hay e))) o
+  next_by : (e : ℕ) (o : Option Run) → run_at r hay (places hay e) ≡ o → (b : Bool) → is_empty_at span_of_run e o ≡ b →
+      next_run r hay (Some e) ≡ cond b (run_at r hay (places hay (e + step_len hay e))) o
   unfolding next_after
-  next_by o h = ap (λ q. cond (is_empty_at span_of_run e q) (run_at r hay (places hay (e + step_len hay e))) q) h
+  next_by e o h b empty =
+      ap (λ q. cond (is_empty_at span_of_run e q) (run_at r hay (places hay (e + step_len hay e))) q) h
+      ∙ ap (λ t. cond t (run_at r hay (places hay (e + step_len hay e))) o) empty
 
-  none_by : (o : Option Run) (found : Bool) (old new : List (Option ℕ)) → run_at r hay (places hay e) ≡ o → Answered r.program o found old new → found ≡ false →
-      next_after span_of_run hay (λ s. run_at r hay (places hay s)) e ≡ None
-  none_by None found old new h a missing = next_by None h
-  none_by (Some x) found old new h a missing = absurd (true≢false (sym a.0 ∙ missing))
+  -- nothing is found
+  pub next_none : (last : Option ℕ) (n : ℕ) (new : List (Option ℕ)) → FindsMatch r hay (places hay (unwrap_or last 0)) None →
+      FindsNextRun r hay last None n new
+  next_none None n new found = none_of 0 found
+  next_none (Some e) n new found = next_by e None (none_of e found) false refl
 
-  -- nothing is found after the match
-  pub leaves_none : (found : Bool) (n : ℕ) (old new : List (Option ℕ)) → Answered r.program (run_at r hay (places hay e)) found old new → found ≡ false →
-      LeavesRun r.program (next_run r hay (Some e)) false n new
-  leaves_none found n old new a missing =
-      subst (λ o. LeavesRun r.program o false n new) (sym (none_by (run_at r hay (places hay e)) found old new refl a missing)) refl
+  found_slots : (s : ℕ) (old new : List (Option ℕ)) → Answered r.program (run_at r hay (places hay s)) true old new → (x : Run) →
+      run_at r hay (places hay s) ≡ Some x → new ≡ take (length old) (slots r.program x)
+  found_slots s old new h x e = (subst (λ o. Answered r.program o true old new) e h).1
 
-  whole_by : (x : Run) (n : ℕ) (new : List (Option ℕ)) → run_at r hay (places hay e) ≡ Some x → 2 ≤ n → new ≡ take n (slots r.program x) →
-      group_in new 0 ≡ Some (span_of_run x)
-  whole_by x n new h le is_new = ap (λ l. group_in l 0) is_new ∙ front_group n (slots r.program x) le ∙ run_at-whole r is hay e _ (all_are_starts hay e) x h
+  -- the first match
+  pub next_first : (m : Excerpt) (old new : List (Option ℕ)) → FindsMatch r hay (places hay 0) (Some m) →
+      Answered r.program (run_at r hay (places hay 0)) true old new → FindsNextRun r hay None (Some m) (length old) new
+  next_first m old new found h =
+      let x = run_of 0 m found in (x.0, x.1, x.2, found_slots 0 old new h x.0 x.1)
 
-  some_by : (o : Option Run) (found : Bool) (old new : List (Option ℕ)) → run_at r hay (places hay e) ≡ o → Answered r.program o found old new → found ≡ true →
-      2 ≤ length old → is_empty_at (λ s. s) e (group_in new 0) ≡ false → LeavesRun r.program (next_run r hay (Some e)) true (length old) new
-  some_by None found old new h a holds le apart = absurd (true≢false (sym holds ∙ a.0))
-  some_by (Some x) found old new h a holds le apart =
-      let test : is_empty_at span_of_run e (Some x) ≡ false =
-      ap (is_empty_at (λ s. s) e) (sym (whole_by x (length old) new h le a.1)) ∙ apart in
-      subst (λ o. LeavesRun r.program o true (length old) new)
-      (sym (next_by (Some x) h ∙ ap (λ b. cond b (run_at r hay (places hay (e + step_len hay e))) (Some x)) test)) (refl, a.1)
+  -- what is found from the end of the last match on, if it ends later
+  pub next_here : (e : ℕ) (m : Excerpt) (old new : List (Option ℕ)) → FindsMatch r hay (places hay e) (Some m) →
+      Answered r.program (run_at r hay (places hay e)) true old new → (m.span.end ≡ e → ⊥) → FindsNextRun r hay (Some e) (Some m) (length old) new
+  next_here e m old new found h apart =
+      let x = run_of e m found in
+      let end = ap (λ (y : Excerpt). y.span.end) x.2 in
+      let more : (x.0.end == e) ≡ false = ne_eqb x.0.end e (λ same. apart (end ∙ same)) in
+      (x.0, next_by e (Some x.0) x.1 false (and_right (x.0.start == e) (x.0.end == e) more), x.2, found_slots e old new h x.0 x.1)
 
-  -- what is found is not empty there
-  pub leaves_some : (found : Bool) (old new : List (Option ℕ)) → Answered r.program (run_at r hay (places hay e)) found old new → found ≡ true →
-      2 ≤ length old → is_empty_at (λ s. s) e (group_in new 0) ≡ false → LeavesRun r.program (next_run r hay (Some e)) true (length old) new
-  leaves_some found old new a holds le apart = some_by (run_at r hay (places hay e)) found old new refl a holds le apart
+  -- what is found there and ends there is empty, and the next match is found one character later
+  pub next_later : (e : ℕ) (m : Excerpt) → FindsMatch r hay (places hay e) (Some m) → m.span.end ≡ e →
+      next_run r hay (Some e) ≡ run_at r hay (places hay (e + step_len hay e))
+  next_later e m found ends =
+      let x = run_of e m found in
+      let lies = run_at-lies r is hay e _ (all_are_starts hay e) x.0 x.1 in
+      let end : x.0.end ≡ e = sym (ap (λ (y : Excerpt). y.span.end) x.2) ∙ ends in
+      let start : x.0.start ≡ e = omega (arith, lies.0, lies.1, end) in
+      next_by e (Some x.0) x.1 true (and_from (x.0.start == e) (x.0.end == e) (eq-eqb x.0.start e start) (eq-eqb x.0.end e end))
 
-  later_by : (o : Option Run) (found : Bool) (old new : List (Option ℕ)) → run_at r hay (places hay e) ≡ o → Answered r.program o found old new → found ≡ true →
-      2 ≤ length old → is_empty_at (λ s. s) e (group_in new 0) ≡ true →
-      next_after span_of_run hay (λ s. run_at r hay (places hay s)) e ≡ run_at r hay (places hay (e + step_len hay e))
-  later_by None found old new h a holds le empty = absurd (true≢false (sym holds ∙ a.0))
-  later_by (Some x) found old new h a holds le empty =
-      let test : is_empty_at span_of_run e (Some x) ≡ true =
-      ap (is_empty_at (λ s. s) e) (sym (whole_by x (length old) new h le a.1)) ∙ empty in
-      next_by (Some x) h ∙ ap (λ b. cond b (run_at r hay (places hay (e + step_len hay e))) (Some x)) test
-
-  -- what is found is empty there, and the search goes on
-  pub leaves_later : (step : ℕ) (found again : Bool) (old new newer : List (Option ℕ)) → Answered r.program (run_at r hay (places hay e)) found old new →
-      found ≡ true → 2 ≤ length old → is_empty_at (λ s. s) e (group_in new 0) ≡ true → step ≡ step_len hay e → length new ≡ length old →
-      Answered r.program (run_at r hay (places hay (e + step))) again new newer → LeavesRun r.program (next_run r hay (Some e)) again (length old) newer
-  leaves_later step found again old new newer a holds le empty is_step same next =
-      subst (λ n. LeavesRun r.program (next_run r hay (Some e)) again n newer) same
-      (subst (λ o. LeavesRun r.program o again (length new) newer)
-      (sym (later_by (run_at r hay (places hay e)) found old new refl a holds le empty ∙ ap (λ k. run_at r hay (places hay (e + k))) (sym is_step)))
-      (leaves_now r.program (run_at r hay (places hay (e + step))) again new newer next))
+  pub later_found : {M : Type 0} (f : M → Excerpt) (e step n : ℕ) (m : Excerpt) → FindsMatch r hay (places hay e) (Some m) → m.span.end ≡ e →
+      step ≡ step_len hay e → (o : Option M) (old new : List (Option ℕ)) → FindsMatch r hay (places hay (e + step)) (option_map f o) →
+      Answered r.program (run_at r hay (places hay (e + step))) (is_some o) old new → n ≡ length old → FindsNextRun r hay (Some e) (option_map f o) n new
+  later_found f e step n m found ends is_step None old new later h same =
+      next_later e m found ends ∙ ap (λ k. run_at r hay (places hay (e + k))) (sym is_step) ∙ none_of (e + step) later
+  later_found f e step n m found ends is_step (Some y) old new later h same =
+      let x = run_of (e + step) (f y) later in (
+        x.0,
+        next_later e m found ends ∙ ap (λ k. run_at r hay (places hay (e + k))) (sym is_step) ∙ x.1,
+        x.2,
+        found_slots (e + step) old new h x.0 x.1 ∙ ap (λ k. take k (slots r.program x.0)) (sym same),
+      )

@@ -2,22 +2,17 @@
 use Rattle.std.proofs.Common.{◌≡◌, ◌≤◌, ℕ, Bool, true, false, List, [], ◌∷◌, ◌++◌, Option, Some, None, refl, sym, ap, ◌∙◌, subst, inl, inr}
 use Rattle.std.specs.Prelude.{unwrap_or, slice_range, Result, Ok, Err, OnErr}
 use Rattle.bites_spec.specs.Match.{Span, span}
-use Rattle.bites_spec.specs.Run.{slots}
-use Rattle.bites_spec.specs.Slots.{group_in}
-use Rattle.bites_spec.specs.Regex.{IsCompiled}
+use Rattle.bites_bytes.specs.Calls.{ReadsNext}
 use Rattle.bites_spec.specs.Captured.{Captured, captured, Excerpt}
-use Rattle.bites_spec.proofs.utf8.StartLemmas.{all_are_starts}
-use Rattle.bites_spec.proofs.regex.RegexRuns.{run_at-whole}
 use Rattle.bites_bytes.specs.Matched.{excerpt_of}
-use Rattle.bites_bytes.specs.Matches.{IsSameSearch, Moves, Advances, left_from, captures_to_come}
+use Rattle.bites_bytes.specs.Matches.{IsSameSearch, Moves, left_from, captures_to_come}
 use Rattle.bites_spec.specs.Replaced.{span_in}
 use Rattle.bites_bytes.specs.ReplaceLimit.{taken, Spends}
 use Rattle.bites_bytes.specs.Replacing.{spans_to_replace, captures_to_replace, Rests, StepsByText, StepsBy}
 use Rattle.bites_bytes.specs.declared.bytes.matched.Match.{Match}
 use Rattle.bites_bytes.specs.declared.bytes.matches.Cursor.{Cursor}
 use Rattle.bites_bytes.specs.declared.bytes.replace.Replacing.{Replacing}
-use Rattle.bites_bytes.proofs.NextLemmas.{front_group}
-use Rattle.bites_bytes.proofs.MatchLemmas.{next_place, captures_advance, advance_moves}
+use Rattle.bites_bytes.proofs.MatchLemmas.{captures_come}
 use Rattle.bites_bytes.proofs.ReplacingLemmas.{taken_step, taken_spent, taken_after, taken_nil, spans_yield, spans_end}
 
 -- what is written for a match
@@ -62,50 +57,42 @@ module _ (s t : Replacing) (there : Bool) (spends : Spends s.left there t.left) 
     same = (ap (λ (m : Cursor). m.regex.now) still, ap (λ (m : Cursor). m.haystack.now) still);
   }
 
--- the slots that are left have the match in group 0
-pub advance_span : (s : Cursor) (m : Match) (t : Cursor) (n : ℕ) (new : List (Option ℕ)) → IsCompiled s.regex.now → 2 ≤ n →
-    Advances s (Some m) t n new → group_in new 0 ≡ Some (excerpt_of m).span
-advance_span s m t n new is le step =
-    let r = s.regex.now in let x = step.0 in let place = next_place r is s.haystack.now s.last x step.1 in
-    ap (λ l. group_in l 0) step.3 ∙ front_group n (slots r.program x) le ∙ run_at-whole r is s.haystack.now place.0 _ (all_are_starts s.haystack.now place.0) x place.1
-    ∙ ap (λ (e : Excerpt). Some e.span) (sym step.2.0)
-
 -- the captures of the match come first
-pub captures_go : (s : Replacing) (left : Option ℕ) (t : Cursor) (there : Bool) → Spends s.left there left → there ≡ true → IsCompiled s.cursor.regex.now →
-    (n : ℕ) (new : List (Option ℕ)) → n ≡ s.cursor.regex.now.program.slots → IsSameSearch s.cursor t → (m : Match) → Advances s.cursor (Some m) t n new →
-    (c : Captured) → c ≡ captured t.regex.now t.haystack.now new → captures_to_replace s ≡ c ∷ taken left (captures_to_come t)
-captures_go s left t there spends is compiled n new all same m advances c e =
-    ap (taken s.left) ((captures_advance s.cursor (Some m) t n new compiled all advances same).0 ∙ ap (λ d. d ∷ captures_to_come t) (sym e))
+pub captures_go : (s : Replacing) (left : Option ℕ) (t : Cursor) (there : Bool) → Spends s.left there left → there ≡ true → IsSameSearch s.cursor t →
+    (m : Match) (new : List (Option ℕ)) → ReadsNext s.cursor.regex.now s.cursor.haystack.now s.cursor.last (Some (excerpt_of m)) new →
+    Moves s.cursor (Some m) t → (c : Captured) → c ≡ captured t.regex.now t.haystack.now new → captures_to_replace s ≡ c ∷ taken left (captures_to_come t)
+captures_go s left t there spends is same m new next moves c e =
+    ap (taken s.left) ((captures_come s.cursor t (Some m) new next same moves).0 ∙ ap (λ d. d ∷ captures_to_come t) (sym e))
     ∙ taken_step s.left left there c (captures_to_come t) spends is
 
-module _ (s t : Replacing) (there : Bool) (spends : Spends s.left there t.left) (is : there ≡ true) (compiled : IsCompiled s.cursor.regex.now)
-    (n : ℕ) (new : List (Option ℕ)) (all : n ≡ s.cursor.regex.now.program.slots) (same : IsSameSearch s.cursor t.cursor) where
-  module _ (m : Match) (advances : Advances s.cursor (Some m) t.cursor n new) where
-    pub by_step : {S : Type 0} (gives : S → Captured → List ℕ → S → Type 0) (answers : S → Option (List ℕ) → S → Type 0) →
-        (r q : S) (c : Captured) (text : List ℕ) → c ≡ captured t.cursor.regex.now t.cursor.haystack.now new → 2 ≤ n →
-        gives r c text q → IsWritten s (excerpt_of m).span.start text t → StepsBy gives answers s r true t q
-    by_step gives answers r q c text e le given out =
-        let spans : span_in c ≡ (excerpt_of m).span =
-        ap span_in e ∙ ap (λ o. unwrap_or o (span 0 0)) (advance_span s.cursor m t.cursor n new compiled le advances) in
-        let moves = advance_moves s.cursor (Some m) t.cursor n new compiled advances in (
-          c,
-          text,
-          captures_go s t.left t.cursor there spends is compiled n new all same m advances c e,
-          given,
-          record {
-            out =
-                out ∙ ap (λ (x : Span). (s.out.items ++ slice_range s.cursor.haystack.now (unwrap_or s.cursor.last 0) x.start) ++ text) (sym spans);
-            last = moves.1 ∙ ap (λ (x : Span). Some x.end) (sym spans);
-            same = same;
-          },
-        )
+module _ (s t : Replacing) (there : Bool) (spends : Spends s.left there t.left) (is : there ≡ true) (same : IsSameSearch s.cursor t.cursor)
+    (new : List (Option ℕ)) where
+  pub by_step : {S : Type 0} (gives : S → Captured → List ℕ → S → Type 0) (answers : S → Option (List ℕ) → S → Type 0) →
+      (m : Match) → ReadsNext s.cursor.regex.now s.cursor.haystack.now s.cursor.last (Some (excerpt_of m)) new → Moves s.cursor (Some m) t.cursor →
+      (r q : S) (c : Captured) (text : List ℕ) → c ≡ captured t.cursor.regex.now t.cursor.haystack.now new →
+      gives r c text q → IsWritten s (excerpt_of m).span.start text t → StepsBy gives answers s r true t q
+  by_step gives answers m next moves r q c text e given out =
+      let spans : span_in c ≡ (excerpt_of m).span =
+      ap span_in e ∙ ap (λ o. unwrap_or o (span 0 0)) next.whole in (
+        c,
+        text,
+        captures_go s t.left t.cursor there spends is same m new next moves c e,
+        given,
+        record {
+          out =
+              out ∙ ap (λ (x : Span). (s.out.items ++ slice_range s.cursor.haystack.now (unwrap_or s.cursor.last 0) x.start) ++ text) (sym spans);
+          last = moves.1 ∙ ap (λ (x : Span). Some x.end) (sym spans);
+          same = same;
+        },
+      )
 
-  pub captures_rest : Advances s.cursor None t.cursor n new → t.out.items ≡ s.out.items → Rests captures_to_replace s t
-  captures_rest advances out =
-      let come = captures_advance s.cursor None t.cursor n new compiled all advances same in record {
+  pub captures_rest : ReadsNext s.cursor.regex.now s.cursor.haystack.now s.cursor.last None new → Moves s.cursor None t.cursor →
+      t.out.items ≡ s.out.items → Rests captures_to_replace s t
+  captures_rest next moves out =
+      let come = captures_come s.cursor t.cursor None new next same moves in record {
         none = taken_nil s.left _ come.0;
         still = taken_nil t.left _ come.1;
         out = out;
-        last = advances.1;
+        last = moves;
         same = same;
       }

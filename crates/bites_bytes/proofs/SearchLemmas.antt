@@ -8,7 +8,7 @@ use Rattle.bites_spec.specs.Slots.{slot_in, group_in, span_of_run, span_between}
 use Rattle.bites_spec.specs.Found.{HasMatch, IsLeastEnd}
 use Rattle.bites_spec.specs.Regex.{Regex, IsCompiled}
 use Rattle.bites_spec.proofs.programs.FoundLemmas.{LeastEnd-IsLeastEnd, group_0_is_span}
-use Rattle.bites_bytes.proofs.NextLemmas.{front_group}
+use Rattle.bites_bytes.proofs.SlotLemmas.{front_group}
 
 -- there is a match where there is a least end
 pub least_has : (t : Tree) (hay ps : List ℕ) (o : Option ℕ) (b : Bool) → IsLeastEnd t hay ps o → b ≡ is_some o → IsTrue b ↔ HasMatch t hay ps

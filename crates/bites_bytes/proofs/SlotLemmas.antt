@@ -1,6 +1,6 @@
 -- What a search leaves in slots.
-use Rattle.std.proofs.Common.{◌≡◌, ℕ, zero, suc, ◌≤◌, Bool, true, false, List, [], ◌∷◌, ◌++◌, length, take, drop, Option, Some, None, option_map, refl, sym, ap, ◌∙◌, subst, true≢false, arith}
-use Rattle.std.specs.Prelude.{unwrap_or, is_some, IfSome, MatchOption, Result, Ok, Err, IfOk}
+use Rattle.std.proofs.Common.{◌≡◌, ℕ, zero, suc, ◌≤◌, Bool, true, false, List, [], ◌∷◌, ◌++◌, length, take, drop, Option, Some, None, option_map, refl, sym, ap, ◌∙◌, subst, ⊎_elim, ◌⊎◌, true≢false, arith}
+use Rattle.std.specs.Prelude.{unwrap_or, is_some, IfSome, MatchOption, if◌then◌else◌}
 use Rattle.std.specs.List.{range_with_len}
 use Rattle.std.proofs.lemmas.Option.{same_Some}
 use Rattle.std.proofs.lemmas.List.{take_all, append-nil, length-map}
@@ -8,12 +8,19 @@ use Rattle.std.proofs.lemmas.List.FromFn.{length-range_with_len}
 use Rattle.bites_spec.specs.Utf8.{AreStarts}
 use Rattle.bites_spec.specs.Match.{Span, span}
 use Rattle.bites_spec.specs.Program.{Program}
-use Rattle.bites_spec.specs.Run.{Run, Answered, slots, written}
+use Rattle.bites_spec.specs.Run.{Run, Answered, chosen_run, slots, written}
 use Rattle.bites_spec.specs.Slots.{group_in, span_of_run}
+use Rattle.bites_spec.specs.Counts.{Room}
 use Rattle.bites_spec.specs.Regex.{Regex, IsCompiled, run_at, span_at, slots_at}
-use Rattle.bites_spec.specs.Captured.{Excerpt, excerpt, FindsSpan, FindsMatch, FindsGroups, AreGroupsFrom, Captured, captured}
+use Rattle.bites_spec.specs.Captured.{Excerpt, excerpt, FindsSpan, FindsMatch, FindsGroups, AreGroups, AreGroupsFrom, captured}
+use Rattle.bites_bytes.specs.Calls.{FindsCaptured, ReadsGroups}
 use Rattle.bites_spec.specs.Found.{NoMatch}
-use Rattle.bites_spec.proofs.regex.RegexRuns.{run_at-whole, span_at-lies, found_span, found_groups}
+use Rattle.bites_spec.proofs.utf8.StartLemmas.{all_are_starts, alone_is_start}
+use Rattle.bites_spec.proofs.regex.RegexRuns.{run_at-whole, span_at-lies, found_span, found_groups, slots_are_groups}
+use Rattle.bites_machine.specs.Inputs.{starts_of}
+use Rattle.bites_machine.specs.declared.vm.Input.{Input}
+use Rattle.bites_machine.specs.declared.vm.MatchKind.TheVariants.{First, Longest}
+use Rattle.bites_bytes.specs.NextMatch.{kind_of, starts_in, IsSearched}
 
 pub length-slots : (p : Program) (r : Run) → length (slots p r) ≡ p.slots
 length-slots p r = length-map (range_with_len 0 p.slots) (written p r) ∙ length-range_with_len 0 p.slots
@@ -50,85 +57,67 @@ slots_written p o found old items now new n view is fits len h =
 abbrev pub ends : ℕ × ℕ → Span
 ends e = span e.0 e.1
 
-module _ (r : Regex) (hay : List ℕ) where
-  pub slots_of : (o : Option (List (Option ℕ))) → o ≡ option_map (λ y. y.slots) (option_map (captured r hay) o)
-  slots_of None = refl
-  slots_of (Some l) = refl
+-- the starts of an input are places from its start on
+pub starts_are : (i : Input) → AreStarts i.haystack.now i.start (starts_in i)
+starts_are i = by i.anchored
+  where
+    by : (b : Bool) → AreStarts i.haystack.now i.start (starts_of i.haystack.now b i.start)
+    by true = alone_is_start i.haystack.now i.start
+    by false = all_are_starts i.haystack.now i.start
 
-  captured_is : (o : Option (List (Option ℕ))) (c : Option Captured) → c ≡ option_map (captured r hay) o →
-      IfSome c (λ x. x.regex ≡ r) × IfSome c (λ x. x.haystack ≡ hay)
-  captured_is o None e = (tt, tt)
-  captured_is None (Some c) e = let never : Some c ≡ None = e in absurd (cc)
-  captured_is (Some l) (Some c) e =
-      let same = same_Some c (captured r hay l) e in (ap (λ (x : Captured). x.regex) same, ap (λ (x : Captured). x.haystack) same)
+-- the run that the regex asks for is what the search found
+pub answered : (r : Regex) (i : Input) (found : Bool) (old new : List (Option ℕ)) (before after : Room) → IsSearched r i found old new before after →
+    i.kind ≡ kind_of r → Answered r.program (run_at r i.haystack.now (starts_in i)) found old new
+answered r i found old new before after s kind = by r.leftmost_longest kind
+  where
+    by : (b : Bool) → i.kind ≡ (if b then Longest else First) → Answered r.program (chosen_run b r.program i.haystack.now (starts_in i)) found old new
+    by true e = s.longest e
+    by false e = s.first e
 
-  -- captures are of the regex that found them, in the haystack that was searched
-  pub captures_are : {E : Type 0} (o : Option (List (Option ℕ))) (x : Result (Option Captured) E) → IfOk x (λ c. c ≡ option_map (captured r hay) o) →
-      IfOk x (λ c. IfSome c (λ y. y.regex ≡ r)) × IfOk x (λ c. IfSome c (λ y. y.haystack ≡ hay))
-  captures_are o (Err e) h = (tt, tt)
-  captures_are o (Ok c) h = captured_is o c h
+-- a slice of two slots, or of all, has two
+pub two_at_least : (r : Regex) → IsCompiled r → (n : ℕ) → (n ≡ 2) ⊎ (n ≡ r.program.slots) → 2 ≤ n
+two_at_least r is n h = ⊎_elim (λ (e : n ≡ 2). omega arith) (λ (e : n ≡ r.program.slots). let two = is.well_formed.slots in omega arith) h
+
+-- the first n slots have group 0, if n is 2 or more
+pub front_group : (n : ℕ) (xs : List (Option ℕ)) → 2 ≤ n → group_in (take n xs) 0 ≡ group_in xs 0
+front_group zero xs le = absurd (omega arith)
+front_group (suc zero) xs le = absurd (omega arith)
+front_group (suc (suc n)) [] le = refl
+front_group (suc (suc n)) (x ∷ []) le = refl
+front_group (suc (suc n)) (x ∷ y ∷ xs) le = refl
+
+-- what is mapped is there exactly if it was
+pub some_mapped : {A B : Type 0} (f : A → B) (o : Option A) → is_some (option_map f o) ≡ is_some o
+some_mapped f None = refl
+some_mapped f (Some x) = refl
+
+pub slots_of : (r : Regex) (hay : List ℕ) (o : Option (List (Option ℕ))) → o ≡ option_map (λ y. y.slots) (option_map (captured r hay) o)
+slots_of r hay None = refl
+slots_of r hay (Some l) = refl
 
 module _ (r : Regex) (is : IsCompiled r) (hay : List ℕ) (s : ℕ) (ps : List ℕ) (are : AreStarts hay s ps) where
-  take_two : (xs ys : List (Option ℕ)) → ys ≡ take 2 xs → group_in ys 0 ≡ group_in xs 0
-  take_two xs ys e = ap (λ l. group_in l 0) e ∙ front xs
+  -- two slots or more have the span of the run
+  pub front_slots : (found : Bool) (old new : List (Option ℕ)) → Answered r.program (run_at r hay ps) found old new → found ≡ true → 2 ≤ length old →
+      group_in new 0 ≡ span_at r hay ps
+  front_slots found old new h holds two = by (run_at r hay ps) refl h
     where
-      front : (xs : List (Option ℕ)) → group_in (take 2 xs) 0 ≡ group_in xs 0
-      front [] = refl
-      front (x ∷ []) = refl
-      front (x ∷ y ∷ xs) = refl
-
-  two_of : (o : Option Run) (found : Bool) (old new : List (Option ℕ)) → run_at r hay ps ≡ o → length old ≡ 2 → found ≡ true →
-      Answered r.program o found old new → group_in new 0 ≡ option_map span_of_run o
-  two_of None found old new e two holds h = absurd (true≢false (sym holds ∙ h.0))
-  two_of (Some x) found old new e two holds h =
-      take_two (slots r.program x) new (h.1 ∙ ap (λ n. take n (slots r.program x)) two) ∙ run_at-whole r is hay s ps are x e
-
-  -- two slots have the span of the run
-  pub two_slots : (found : Bool) (old new : List (Option ℕ)) → length old ≡ 2 → found ≡ true →
-      Answered r.program (run_at r hay ps) found old new → group_in new 0 ≡ span_at r hay ps
-  two_slots found old new two holds h = two_of (run_at r hay ps) found old new refl two holds h
-
-  all_of : (o : Option Run) (found : Bool) (old new : List (Option ℕ)) → run_at r hay ps ≡ o → found ≡ is_some o → found ≡ true →
-      new ≡ unwrap_or (option_map (slots r.program) o) old → group_in new 0 ≡ option_map span_of_run o
-  all_of None found old new e is_found holds h = absurd (true≢false (sym holds ∙ is_found))
-  all_of (Some x) found old new e is_found holds h = ap (λ l. group_in l 0) h ∙ run_at-whole r is hay s ps are x e
-
-  -- and so have all
-  pub all_slots : (found : Bool) (old new : List (Option ℕ)) → found ≡ is_some (run_at r hay ps) → found ≡ true →
-      new ≡ unwrap_or (slots_at r hay ps) old → group_in new 0 ≡ span_at r hay ps
-  all_slots found old new is_found holds h = all_of (run_at r hay ps) found old new refl is_found holds h
-
-  none_of : (o : Option Run) (found : Bool) → found ≡ is_some o → found ≡ false → None ≡ option_map span_of_run o
-  none_of None found is_found missing = refl
-  none_of (Some x) found is_found missing = absurd (true≢false (sym is_found ∙ missing))
+      by : (o : Option Run) → run_at r hay ps ≡ o → Answered r.program o found old new → group_in new 0 ≡ option_map span_of_run o
+      by None e h = absurd (true≢false (sym holds ∙ h.0))
+      by (Some x) e h = ap (λ l. group_in l 0) h.1 ∙ front_group (length old) (slots r.program x) two ∙ run_at-whole r is hay s ps are x e
 
   -- where nothing is found there is no span
-  pub none_there : (found : Bool) → found ≡ is_some (run_at r hay ps) → found ≡ false → None ≡ span_at r hay ps
-  none_there found is_found missing = none_of (run_at r hay ps) found is_found missing
-
-  answered_some : (o : Option Run) (found : Bool) (old new : List (Option ℕ)) → Answered r.program o found old new → found ≡ is_some o
-  answered_some None found old new h = h.0
-  answered_some (Some x) found old new h = h.0
-
-  pub answered_found : (found : Bool) (old new : List (Option ℕ)) → Answered r.program (run_at r hay ps) found old new → found ≡ is_some (run_at r hay ps)
-  answered_found found old new h = answered_some (run_at r hay ps) found old new h
+  pub none_there : (found : Bool) (old new : List (Option ℕ)) → Answered r.program (run_at r hay ps) found old new → found ≡ false →
+      None ≡ span_at r hay ps
+  none_there found old new h missing = by (run_at r hay ps) h
+    where
+      by : (o : Option Run) → Answered r.program o found old new → None ≡ option_map span_of_run o
+      by None h = refl
+      by (Some x) h = absurd (true≢false (sym h.0 ∙ missing))
 
   -- known ends lie in the haystack
   pub ends_lie : (o : Option (ℕ × ℕ)) → option_map ends o ≡ span_at r hay ps → IfSome o (λ e. (e.0 ≤ e.1) × (e.1 ≤ length hay))
   ends_lie None h = tt
   ends_lie (Some e) h = let lies = span_at-lies r is hay s ps are (ends e) (sym h) in (lies.1, lies.2)
-
-  some_span : (o : Option Run) → is_some (option_map span_of_run o) ≡ is_some o
-  some_span None = refl
-  some_span (Some x) = refl
-
-  some_ends : (o : Option (ℕ × ℕ)) → is_some (option_map ends o) ≡ is_some o
-  some_ends None = refl
-  some_ends (Some x) = refl
-
-  -- and they are known where something is found
-  pub ends_found : (o : Option (ℕ × ℕ)) (found : Bool) → option_map ends o ≡ span_at r hay ps → found ≡ is_some (run_at r hay ps) → found ≡ is_some o
-  ends_found o found h is_found = is_found ∙ sym (some_span (run_at r hay ps)) ∙ ap is_some (sym h) ∙ some_ends o
 
   -- the part of the haystack that a search finds
   pub found_match : (m : Option Excerpt) → m ≡ option_map (excerpt hay) (span_at r hay ps) → FindsMatch r hay ps m
@@ -141,32 +130,64 @@ module _ (r : Regex) (is : IsCompiled r) (hay : List ℕ) (s : ℕ) (ps : List �
       spans None = refl
       spans (Some g) = refl
 
-  known_of : (o : Option Run) (found : Bool) (old new : List (Option ℕ)) → found ≡ is_some o → found ≡ true →
-      new ≡ unwrap_or (option_map (slots r.program) o) old → option_map (slots r.program) o ≡ Some new
-  known_of None found old new is_found holds h = absurd (true≢false (sym holds ∙ is_found))
-  known_of (Some x) found old new is_found holds h = ap (λ l. Some l) (sym h)
+  -- a part is found exactly if there is a run
+  pub found_some : {M : Type 0} (f : M → Excerpt) (m : Option M) → option_map f m ≡ option_map (excerpt hay) (span_at r hay ps) →
+      (found : Bool) (old new : List (Option ℕ)) → Answered r.program (run_at r hay ps) found old new → found ≡ is_some m
+  found_some f m h found old new a = by (run_at r hay ps) a ∙ sym (parts (run_at r hay ps)) ∙ ap is_some (sym h) ∙ some_mapped f m
+    where
+      by : (o : Option Run) → Answered r.program o found old new → found ≡ is_some o
+      by None h = h.0
+      by (Some x) h = h.0
 
-  -- the slots that a search has found
-  pub slots_there : (found : Bool) (old new : List (Option ℕ)) → found ≡ is_some (run_at r hay ps) → found ≡ true →
-      new ≡ unwrap_or (slots_at r hay ps) old → slots_at r hay ps ≡ Some new
-  slots_there found old new is_found holds h = known_of (run_at r hay ps) found old new is_found holds h
+      parts : (o : Option Run) → is_some (option_map (excerpt hay) (option_map span_of_run o)) ≡ is_some o
+      parts None = refl
+      parts (Some x) = refl
 
-  -- what a search of the tree finds, for captures
-  pub groups_on_tree : {E : Type 0} (x : Result (Option Captured) E) → IfOk x (λ c. c ≡ option_map (captured r hay) (slots_at r hay ps)) →
-      IfOk x (λ c. FindsGroups r hay ps (option_map (λ y. y.slots) c))
-  groups_on_tree (Err e) h = tt
-  groups_on_tree (Ok c) h = subst (FindsGroups r hay ps) (slots_of r hay (slots_at r hay ps) ∙ ap (option_map (λ y. y.slots)) (sym h)) (found_groups r is hay s ps are)
+  -- what a search of the tree finds, for slots that it wrote
+  pub read_on_tree : (m : Option Excerpt) → m ≡ option_map (excerpt hay) (span_at r hay ps) → (old new : List (Option ℕ)) →
+      new ≡ unwrap_or (slots_at r hay ps) old → MatchOption m (NoMatch r.tree hay ps) (λ x. AreGroupsFrom r hay ps new)
+  read_on_tree m h old new w = by (run_at r hay ps) refl m h w
+    where
+      by : (x : Option Run) → run_at r hay ps ≡ x → (o : Option Excerpt) → o ≡ option_map (excerpt hay) (option_map span_of_run x) →
+          new ≡ unwrap_or (option_map (slots r.program) x) old → MatchOption o (NoMatch r.tree hay ps) (λ m. AreGroupsFrom r hay ps new)
+      by None e None same w = subst (λ q. FindsGroups r hay ps (option_map (slots r.program) q)) e (found_groups r is hay s ps are)
+      by None e (Some m) same w = let never : Some m ≡ None = same in absurd (cc)
+      by (Some x) e None same w = let never : None ≡ Some (excerpt hay (span_of_run x)) = same in absurd (cc)
+      by (Some x) e (Some m) same w =
+          subst (AreGroupsFrom r hay ps) (sym w) (subst (λ q. FindsGroups r hay ps (option_map (slots r.program) q)) e (found_groups r is hay s ps are))
 
-  read_by : {M : Type 0} (f : M → Excerpt) (x : Option Run) → run_at r hay ps ≡ x → (o : Option M) →
-      option_map f o ≡ option_map (excerpt hay) (option_map span_of_run x) →
-      (old new : List (Option ℕ)) → new ≡ unwrap_or (option_map (slots r.program) x) old → MatchOption o (NoMatch r.tree hay ps) (λ m. AreGroupsFrom r hay ps new)
-  read_by f None e None same old new w = subst (λ q. FindsGroups r hay ps (option_map (slots r.program) q)) e (found_groups r is hay s ps are)
-  read_by f None e (Some m) same old new w = let never : Some (f m) ≡ None = same in absurd (cc)
-  read_by f (Some x) e None same old new w = let never : None ≡ Some (excerpt hay (span_of_run x)) = same in absurd (cc)
-  read_by f (Some x) e (Some m) same old new w =
-      subst (AreGroupsFrom r hay ps) (sym w) (subst (λ q. FindsGroups r hay ps (option_map (slots r.program) q)) e (found_groups r is hay s ps are))
+  -- the groups of a search, by what stands in the slots
+  pub captured_by : (o : Option (List (Option ℕ))) → slots_at r hay ps ≡ o → FindsCaptured r hay ps (option_map (captured r hay) o)
+  captured_by o e = record {
+    found = ap (option_map (captured r hay)) (sym e);
+    on_tree = subst (FindsGroups r hay ps) (e ∙ slots_of r hay o) (found_groups r is hay s ps are);
+    regex = same_regex o;
+    haystack = same_haystack o;
+  }
+    where
+      same_regex : (o : Option (List (Option ℕ))) → IfSome (option_map (captured r hay) o) (λ x. x.regex ≡ r)
+      same_regex None = tt
+      same_regex (Some l) = refl
 
-  -- what a search of the tree finds, for locations that it wrote
-  pub read_on_tree : {M : Type 0} (f : M → Excerpt) (o : Option M) → option_map f o ≡ option_map (excerpt hay) (span_at r hay ps) →
-      (old new : List (Option ℕ)) → new ≡ unwrap_or (slots_at r hay ps) old → MatchOption o (NoMatch r.tree hay ps) (λ m. AreGroupsFrom r hay ps new)
-  read_on_tree f o = read_by f (run_at r hay ps) refl o
+      same_haystack : (o : Option (List (Option ℕ))) → IfSome (option_map (captured r hay) o) (λ x. x.haystack ≡ hay)
+      same_haystack None = tt
+      same_haystack (Some l) = refl
+
+  -- the slots that a search has read
+  pub read_slots : (m : Option Excerpt) (old new : List (Option ℕ)) → ReadsGroups r hay ps m old new → is_some m ≡ true → slots_at r hay ps ≡ Some new
+  read_slots m old new h some = by (run_at r hay ps) h.found.span h.groups
+    where
+      by : (x : Option Run) → m ≡ option_map (excerpt hay) (option_map span_of_run x) → new ≡ unwrap_or (option_map (slots r.program) x) old →
+          option_map (slots r.program) x ≡ Some new
+      by None e w = absurd (true≢false (sym some ∙ ap is_some e))
+      by (Some x) e w = ap (λ l. Some l) (sym w)
+
+  pub read_none : (m : Option Excerpt) (old new : List (Option ℕ)) → ReadsGroups r hay ps m old new → is_some m ≡ false → slots_at r hay ps ≡ None
+  read_none m old new h none = by (run_at r hay ps) h.found.span
+    where
+      by : (x : Option Run) → m ≡ option_map (excerpt hay) (option_map span_of_run x) → option_map (slots r.program) x ≡ None
+      by None e = refl
+      by (Some x) e = absurd (true≢false (sym (ap is_some e) ∙ none))
+
+  pub read_are_groups : (m : Option Excerpt) (old new : List (Option ℕ)) → ReadsGroups r hay ps m old new → is_some m ≡ true → AreGroups r hay new
+  read_are_groups m old new h some = slots_are_groups r is hay s ps are new (read_slots m old new h some)

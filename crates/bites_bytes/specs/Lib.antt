@@ -2,6 +2,7 @@ pub mod Parts
 pub mod Settings
 pub mod Names
 pub mod Matched
+pub mod Calls
 pub mod Groups
 pub mod NextMatch
 pub mod Matches
@@ -9,3 +10,4 @@ pub mod CapturesLeft
 pub mod Split
 pub mod ReplaceLimit
 pub mod Replacing
+pub mod Set

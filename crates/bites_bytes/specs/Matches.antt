@@ -1,12 +1,9 @@
 -- The matches that iterators have left.
-use Rattle.std.specs.Prelude.{◌≡◌, ◌≤◌, ℕ, Bool, true, false, List, [], ◌∷◌, map, take, Option, Some, None, unwrap_or, MatchOption}
+use Rattle.std.specs.Prelude.{◌≡◌, ◌≤◌, ℕ, Bool, true, false, List, [], ◌∷◌, map, Option, Some, None, unwrap_or, MatchOption}
 use Rattle.bites_spec.specs.Match.{Span}
-use Rattle.bites_spec.specs.Run.{Run, slots}
-use Rattle.bites_spec.specs.Slots.{span_of_run}
 use Rattle.bites_spec.specs.Regex.{Regex}
 use Rattle.bites_spec.specs.Captured.{Captured, Excerpt, excerpt, captured, AreGroups}
 use Rattle.bites_spec.specs.Iteration.{spans_after, captures_after}
-use Rattle.bites_bytes.specs.NextMatch.{next_run}
 use Rattle.bites_bytes.specs.Matched.{excerpt_of}
 use Rattle.bites_bytes.specs.declared.bytes.matched.Match.{Match}
 use Rattle.bites_bytes.specs.declared.bytes.matches.Cursor.{Cursor}
@@ -50,16 +47,6 @@ matches_left s = left_from s.cursor
 -- the haystack and the regex stay
 abbrev pub IsSameSearch : Cursor → Cursor → Type 0
 IsSameSearch s t = (t.regex.now ≡ s.regex.now) × (t.haystack.now ≡ s.haystack.now)
-
--- the match is that of the run, which ends where the next search goes on
-abbrev pub IsMatchOf : Cursor → Cursor → Run → Match → Type 0
-IsMatchOf s t x m = (excerpt_of m ≡ excerpt s.haystack.now (span_of_run x)) × (t.last ≡ Some x.end)
-
--- a step to the next run, whose first n slots are left
-abbrev pub Advances : Cursor → Option Match → Cursor → ℕ → List (Option ℕ) → Type 0
-Advances s r t n new =
-    MatchOption r ((next_run s.regex.now s.haystack.now s.last ≡ None) × (t.last ≡ s.last))
-    (λ m. (x : Run) × (next_run s.regex.now s.haystack.now s.last ≡ Some x) × IsMatchOf s t x m × (new ≡ take n (slots s.regex.now.program x)))
 
 -- the match begins where the one before ended or later, and the search goes on where it ends
 abbrev pub Moves : Cursor → Option Match → Cursor → Type 0

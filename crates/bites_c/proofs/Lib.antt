@@ -5,10 +5,11 @@ pub mod FrontLemmas
 pub mod Handles
 pub mod LetGo
 pub mod NameLemmas
-pub mod NextLemmas
 pub mod ReplacedLemmas
 pub mod ReplacingLemmas
 pub mod Sent
+pub mod SetHandles
+pub mod SetLemmas
 pub mod SlotsLemmas
 pub mod TextLemmas
 pub mod Values

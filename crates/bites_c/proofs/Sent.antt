@@ -9,12 +9,17 @@ use Rattle.bites_machine.proofs.vm.closure.Scratch.TheSendSync as scratch
 use Rattle.bites_machine.proofs.group_names.GroupNames.TheSendSync as group_names
 use Rattle.bites_machine.specs.contracts.program.Program as Program
 use Rattle.bites_machine.specs.contracts.vm.cache.Cache as MachineCache
+use Rattle.bites_machine.specs.contracts.vm.cache.Cache.TheInside as MachineFields
+use Rattle.bites_machine.specs.contracts.vm.counted.Searches as Searches
 use Rattle.bites_machine.specs.contracts.vm.counted.Trace as Trace
 use Rattle.bites_bytes.proofs.bytes.locations.CaptureLocations.TheSendSync as locations
 use Rattle.bites_bytes.specs.contracts.bytes.cache.Cache as Cache
 use Rattle.bites_bytes.specs.contracts.bytes.regex.Compiled as Compiled
 use Rattle.bites_bytes.specs.contracts.bytes.regex.Regex as Regex
+use Rattle.bites_bytes.specs.contracts.bytes.set.RegexSet as RegexSet
+use Rattle.bites_bytes.specs.contracts.bytes.set.SetCache as SetCache
 use Rattle.bites_c.specs.contracts.held.Held as Held
+use Rattle.bites_c.specs.contracts.held_set.HeldSet as HeldSet
 use Rattle.bites_c.specs.contracts.room.Room as Room
 
 program_send : IsSend Program.the_row
@@ -38,11 +43,27 @@ held_send = search (sendable, regex_send) depth 20
 trace_send : IsSend Trace.the_row
 trace_send = search (sendable, crosses) depth 20
 
+searches_send : IsSend Searches.the_row
+searches_send = search (sendable, crosses) depth 20
+
+-- the fields by themselves: with the view around them the search breaks off
+machine_fields_send : IsSend MachineFields.the_row
+machine_fields_send = search (sendable, threads.the_send, scratch.the_send, scratch.the_field_send, searches_send, trace_send) depth 20
+
 machine_send : IsSend MachineCache.the_row
-machine_send = search (sendable, threads.the_send, scratch.the_send, scratch.the_field_send, trace_send) depth 20
+machine_send = search (sendable, machine_fields_send) depth 20
 
 cache_send : IsSend Cache.the_row
 cache_send = search (sendable, machine_send) depth 20
 
 pub room_send : IsSend Room.the_row
 room_send = search (sendable, cache_send, locations.the_send) depth 20
+
+set_send : IsSend RegexSet.the_row
+set_send = search (sendable, crosses, regex_send) depth 20
+
+set_cache_send : IsSend SetCache.the_row
+set_cache_send = search (sendable, crosses, cache_send) depth 20
+
+pub held_set_send : IsSend HeldSet.the_row
+held_set_send = search (sendable, crosses, set_send, set_cache_send) depth 20

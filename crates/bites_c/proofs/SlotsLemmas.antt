@@ -2,7 +2,7 @@
 use Rattle.std.proofs.Common.{◌≡◌, ℕ, ◌/◌, List, length, Option, Some, None, is_some, true, option_map, unwrap_or, refl, sym, ap, subst, ◌∙◌, true≢false}
 use Rattle.bites_spec.specs.Utf8.{AreStarts}
 use Rattle.bites_spec.specs.Regex.{Regex, IsCompiled, slots_at}
-use Rattle.bites_spec.specs.Captured.{AreGroups, SlotsAreGroups}
+use Rattle.bites_spec.specs.Captured.{SlotsAreGroups}
 use Rattle.bites_c.specs.Codes.{matched}
 use Rattle.bites_c.specs.Put.{HasPrefix, PutsGroups}
 use Rattle.bites_c.specs.declared.span.BitesSpan.{BitesSpan}
@@ -31,13 +31,3 @@ pub found_put :
 found_put None read was n old new some is half h = absurd (true≢false (sym some))
 found_put (Some xs) read was n old new some is half h =
     (refl, subst (λ k. HasPrefix xs k old new) half (subst (λ ys. HasPrefix ys (length read / 2) old new) is h))
-
--- if something was found, the slots that were read are groups of the haystack
-pub read_are :
-    (r : Regex) → IsCompiled r → SlotsAreGroups → (hay : List ℕ) (s : ℕ) (ps : List ℕ) → AreStarts hay s ps → (old new : List (Option ℕ)) →
-    is_some (slots_at r hay ps) ≡ true → new ≡ unwrap_or (slots_at r hay ps) old → AreGroups r hay new
-read_are r compiled groups hay s ps are old new some is = by_answer (slots_at r hay ps) refl some is
-  where
-    by_answer : (o : Option (List (Option ℕ))) → slots_at r hay ps ≡ o → is_some o ≡ true → new ≡ unwrap_or o old → AreGroups r hay new
-    by_answer None e some is = absurd (true≢false (sym some))
-    by_answer (Some xs) e some is = subst (AreGroups r hay) (sym is) (groups r compiled hay s ps are xs e)

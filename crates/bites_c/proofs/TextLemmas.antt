@@ -16,7 +16,7 @@ pub of_held :
 of_held P was taken value here same held is p =
     subst (λ q. IfSome q P) (sym (ap (λ (b : Bites). b.held) (sym same) ∙ held)) (subst P is p)
 
-still_refused :
+pub still_refused :
     (b : Bool) (hay : List ℕ) (start number : ℕ) (S A : Type 0) → S → AsksFrom b hay start number ⊤ ⊥ → AsksFrom b hay start number S A
 still_refused false hay start number S A s h = absurd h
 still_refused true hay start number S A s h =

@@ -5,5 +5,6 @@ pub mod Put
 pub mod Replaced
 pub mod Replacing
 pub mod Searched
+pub mod Sets
 pub mod Texts
 pub mod Words

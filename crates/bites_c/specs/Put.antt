@@ -5,7 +5,8 @@ use Rattle.bites_spec.specs.Match.{Span}
 use Rattle.bites_spec.specs.Captured.{Captured}
 use Rattle.bites_spec.specs.Slots.{group_in}
 use Rattle.bites_text.specs.declared.error.Error.TheVariants.{Memory}
-use Rattle.bites_c.specs.Codes.{matched, not_matched, done, too_small, no_name, code_of}
+use Rattle.bites_text.specs.Texts.{code_of}
+use Rattle.bites_c.specs.Codes.{matched, not_matched, done, too_small, no_name}
 use Rattle.bites_c.specs.declared.text.BitesSize.{BitesSize}
 use Rattle.bites_c.specs.declared.span.BitesSpan.{BitesSpan}
 

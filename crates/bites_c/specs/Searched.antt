@@ -1,12 +1,10 @@
 -- What a search with two handles returns.
-use Rattle.std.specs.Prelude.{◌≡◌, ◌≢◌, ◌↔◌, ◌<◌, ◌≤◌, ℕ, List, [], ◌∷◌, length, Option, Some, None}
+use Rattle.std.specs.Prelude.{◌≡◌, ◌≢◌, ◌↔◌, ◌<◌, ◌≤◌, ℕ, List, [], length, Option, Some, None, option_map}
 use Rattle.bites_spec.specs.Counts.{Room, fit_of}
 use Rattle.bites_spec.specs.Regex.{Regex, slots_at}
-use Rattle.bites_spec.specs.Captured.{FindsGroups, captured}
-use Rattle.bites_spec.specs.Slots.{group_in}
+use Rattle.bites_spec.specs.Captured.{FindsGroups, excerpt}
 use Rattle.bites_spec.specs.Match.{Span}
-use Rattle.bites_spec.specs.Iteration.{spans_after, captures_after}
-use Rattle.bites_spec.specs.Found.{Finds}
+use Rattle.bites_bytes.specs.Calls as calls
 use Rattle.bites_c.specs.Put.{Puts, PutsGroups, PutsPiece, PutsSpan}
 use Rattle.bites_c.specs.Codes.{matched, not_matched, not_utf8, empty_handle, unfit_cache, too_small}
 use Rattle.bites_c.specs.Texts.{AreUtf8, Asks, AsksFrom, AsksAfter}
@@ -66,18 +64,14 @@ PutsCaptures r hay starts number old new =
     (length old < length r.names → (number ≡ too_small) × (new ≡ old))
     × (length r.names ≤ length old → FindsGroups r hay starts (slots_at r hay starts) × PutsGroups (slots_at r hay starts) (length r.names) number old new)
 
--- what is found is the first of the spans that follow a match that ends at `last`, or of all spans; the others follow it
+-- what is found is the span of the next match after one that ends at `last`, or of the first match
 abbrev pub FindsNext : Regex → List ℕ → Option ℕ → Option Span → Type 0
-FindsNext r hay last None = spans_after r hay last ≡ []
-FindsNext r hay last (Some s) = spans_after r hay last ≡ s ∷ spans_after r hay (Some s.end)
+FindsNext r hay last s = calls.FindsNext r hay last (option_map (excerpt hay) s)
 
--- the groups that are found are those of the next match after one that ends at `last`, or of the first match; the groups of the
--- other matches follow
+-- the groups that are found are those of that match
 abbrev pub FindsNextGroups : Regex → List ℕ → Option ℕ → Option (List (Option ℕ)) → Type 0
-FindsNextGroups r hay last None = FindsNext r hay last None × (captures_after r hay last ≡ [])
-FindsNextGroups r hay last (Some slots) =
-    (s : Span) × FindsNext r hay last (Some s) × (group_in slots 0 ≡ Some s)
-    × (captures_after r hay last ≡ captured r hay slots ∷ captures_after r hay (Some s.end))
+FindsNextGroups r hay last None = calls.ReadsNext r hay last None []
+FindsNextGroups r hay last (Some slots) = (s : Span) × calls.ReadsNext r hay last (Some (excerpt hay s)) slots
 
 -- the groups that are found are put into the first places
 abbrev pub PutsFound : (Option (List (Option ℕ)) → Type 0) → ℕ → ℕ → List BitesSpan → List BitesSpan → Type 0

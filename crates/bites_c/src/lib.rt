@@ -22,7 +22,8 @@ ghost use Rattle.bites_spec.specs.Utf8.{places, start_alone};
 ghost use Rattle.bites_text.specs.declared.error.Error.{Error as Fault};
 ghost use Rattle.bites_text.specs.declared.error.Error.TheVariants.{Memory};
 ghost use Rattle.bites_bytes.specs.Settings.{Refuses};
-ghost use Rattle.bites_c.specs.Codes.{code_of, done, not_utf8, empty_handle};
+ghost use Rattle.bites_text.specs.Texts.{code_of};
+ghost use Rattle.bites_c.specs.Codes.{done, not_utf8, empty_handle};
 ghost use Rattle.bites_c.specs.Made.{IsMadeBy};
 ghost use Rattle.bites_c.specs.Put.{Puts, PutsSpan, last_for_c};
 ghost use Rattle.bites_c.specs.Searched.{AnswersIf, AnswersPiece, AnswersPlace, AnswersSpan, FindsNext, PutsCaptures, PutsNextCaptures, SearchedAfter, SearchedFrom};
@@ -32,11 +33,15 @@ mod cache;
 mod codes;
 mod handle;
 mod held;
+mod held_set;
 mod make;
+mod make_set;
 mod replace;
 mod replacing;
 mod room;
 mod search;
+mod set;
+mod set_calls;
 mod span;
 mod text;
 mod text_calls;
@@ -45,6 +50,7 @@ mod texts;
 pub use cache::BitesCache;
 use codes::{DONE, EMPTY_HANDLE, MATCH, NO_MATCH, NO_MEMORY};
 pub use handle::Bites;
+pub use set::BitesSet;
 pub use span::BitesSpan;
 use std::alloc::Global;
 pub use text::BitesSize;
@@ -319,7 +325,7 @@ pub extern "C" fn bites_find_next(
     let last = span::last(last);
     match search::begin_after(alloc, regex, cache, haystack, last) {
         Ok(mut search) => {
-            let found = search.next(haystack, last);
+            let found = search.find_next(haystack, last);
             search.end(regex, cache);
             span::put(found, out)
         }
@@ -351,7 +357,7 @@ pub extern "C" fn bites_split_next(
     let before = span::last(*last);
     match search::begin_after(alloc, regex, cache, haystack, before) {
         Ok(mut search) => {
-            let found = search.next(haystack, before);
+            let found = search.find_next(haystack, before);
             search.end(regex, cache);
             span::put_piece(found, haystack.len(), last, piece)
         }

@@ -6,17 +6,18 @@ ghost use Rattle.bites_spec.specs.Counts.{fit_of};
 ghost use Rattle.bites_text.specs.declared.error.Error.{Error as Fault};
 ghost use Rattle.bites_text.specs.declared.error.Error.TheVariants.{Memory};
 ghost use Rattle.bites_bytes.specs.Settings.{Refuses};
-ghost use Rattle.bites_c.specs.Codes.{code_of, done, not_utf8};
+ghost use Rattle.bites_text.specs.Texts.{code_of};
+ghost use Rattle.bites_c.specs.Codes.{done, not_utf8};
 ghost use Rattle.bites_c.specs.Made.{IsMadeBy};
 ghost use Rattle.bites_c.specs.Words.{asked, text_in};
 
 use crate::cache::BitesCache;
-use crate::codes::{NO_MEMORY, NOT_UTF8, number};
+use crate::codes::{NO_MEMORY, NOT_UTF8};
 use crate::handle::Bites;
 use crate::held::Held;
 use crate::room::Room;
 use bites_bytes::bytes::{Regex, RegexBuilder};
-use bites_text::error::Error;
+use bites_text::error::{Error, number};
 use std::alloc::Global;
 
 /// Compiles the pattern, and returns a handle of the regex. The error is the number for C.

@@ -14,7 +14,7 @@ ghost use Rattle.bites_spec.specs.Slots.{group_in};
 ghost use Rattle.bites_bytes.specs.ReplaceLimit.{bound};
 ghost use Rattle.bites_c.specs.Replaced.{IsReplaced, with_template, with_text};
 
-use crate::room::{Room, read_next};
+use crate::room::Room;
 use crate::text::index_of;
 use bites_bytes::bytes::{Cache, CaptureLocations, Regex};
 use bites_bytes::replace_limit::{bound, spend};
@@ -82,10 +82,10 @@ impl<'h> Replacing<'h> {
         if !spend(&mut self.left) {
             return Ok(false);
         }
-        let Some((start, end)) = room.next(regex, self.haystack, self.last) else {
+        let Some(found) = room.find_next(regex, self.haystack, self.last) else {
             return Ok(false);
         };
-        self.keep_up_to(start, end)?;
+        self.keep_up_to(found.start(), found.end())?;
         self.out.extend_from_slice(text)?;
         Ok(true)
     }
@@ -118,10 +118,11 @@ impl<'h> Replacing<'h> {
         if !spend(&mut self.left) {
             return Ok(false);
         }
-        let Some((start, end)) = read_next(regex, cache, locations, self.haystack, self.last) else {
+        let (haystack, last) = (self.haystack, self.last);
+        let Some(found) = regex.captures_read_next_with(cache, locations, haystack, last) else {
             return Ok(false);
         };
-        self.keep_up_to(start, end)?;
+        self.keep_up_to(found.start(), found.end())?;
         expand(regex, self.haystack, locations, template, &mut self.out)?;
         Ok(true)
     }

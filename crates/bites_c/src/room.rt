@@ -1,25 +1,24 @@
 //! The memory for searches that a cache handle holds.
 
-ghost use Rattle.std.specs.Prelude.{◌≡◌, ◌≤◌, ◌<◌, ◌+◌, ◌/◌, ◌^◌, ◌↔◌, if◌then◌else◌, IfOk, IfSome, IsSome, IsSomeAnd, IsTrue, None, OnOk, Some, is_some, length, option_map, unwrap_or};
+ghost use Rattle.std.specs.Prelude.{◌≡◌, ◌≤◌, ◌/◌, ◌↔◌, if◌then◌else◌, IfOk, IsTrue, OnOk, length, option_map};
 ghost use Rattle.bites_spec.specs.Counts.{fit_of};
-ghost use Rattle.bites_spec.specs.Captured.{AreGroups, FindsGroups, FindsSpan};
+ghost use Rattle.bites_spec.specs.Captured.{FindsGroups, FindsMatch};
 ghost use Rattle.bites_spec.specs.Full.{IsFullMatch};
 ghost use Rattle.bites_spec.specs.Found.{HasMatch, IsLeastEnd};
-ghost use Rattle.bites_spec.specs.Match.{span};
-ghost use Rattle.bites_spec.specs.Regex.{slots_at, span_at};
+ghost use Rattle.bites_spec.specs.Regex.{slots_at};
 ghost use Rattle.bites_spec.specs.Replaced.{span_in};
 ghost use Rattle.bites_spec.specs.Replacer.{expanded};
-ghost use Rattle.bites_spec.specs.Spans.{LiesFrom, is_empty_at};
-ghost use Rattle.bites_spec.specs.Utf8.{step_len, places, start_alone};
+ghost use Rattle.bites_spec.specs.Utf8.{places, start_alone};
+ghost use Rattle.bites_bytes.specs.Calls.{FindsNext};
+ghost use Rattle.bites_bytes.specs.Matched.{excerpt_of};
 ghost use Rattle.bites_c.specs.Codes.{matched, not_matched};
 ghost use Rattle.bites_c.specs.Put.{HasPrefix, PutsGroups};
 ghost use Rattle.bites_c.specs.Replacing.{Ends, captures_left};
-ghost use Rattle.bites_c.specs.Searched.{FindsNext, FindsNextGroups, PutsFound};
+ghost use Rattle.bites_c.specs.Searched.{FindsNextGroups, PutsFound};
 
 use crate::replacing::Replacing;
 use crate::span::BitesSpan;
-use bites_bytes::bytes::{Cache, CaptureLocations, Regex};
-use bites_text::utf8::decode_lossy;
+use bites_bytes::bytes::{Cache, CaptureLocations, Match, Regex};
 use std::alloc::AllocError;
 use std::marker::Model;
 
@@ -78,47 +77,34 @@ impl Room {
         regex.shortest_match_at_with(&mut self.cache, haystack, start)
     }
 
-    /// Returns the span of the first match that begins at or after `start`.
+    /// Returns the first match that begins at or after `start`.
     #[inline(always)]
-    pub(crate) fn find(
+    pub(crate) fn find<'h>(
         &mut self,
         regex: &Regex,
-        haystack: &[u8],
+        haystack: &'h [u8],
         start: usize,
-    ) -> Option<(usize, usize)>
+    ) -> Option<Match<'h>>
         requires { self.old.fits ≡ fit_of regex.now.program }
-        ensures found { option_map (λ s. span s.0 s.1) result ≡ span_at regex.now haystack.now
-            (places haystack.now start) }
-        ensures on_tree { FindsSpan regex.now haystack.now (places haystack.now start)
-            (span_at regex.now haystack.now (places haystack.now start)) }
-        ensures lies { IfSome result (λ s. LiesFrom (length haystack.now) start (span s.0 s.1)) }
+        ensures found { FindsMatch regex.now haystack.now (places haystack.now start) (option_map excerpt_of result) }
         ensures fits { self.new.fits ≡ self.old.fits }
     {
-        let _pattern = regex.as_str();
-        match regex.find_at_with(&mut self.cache, haystack, start) {
-            Some(found) => Some((found.start(), found.end())),
-            None => None,
-        }
+        regex.find_at_with(&mut self.cache, haystack, start)
     }
 
-    /// Returns the span of the match that begins at `start`.
-    pub(crate) fn find_anchored(
+    /// Returns the match that begins at `start`.
+    pub(crate) fn find_anchored<'h>(
         &mut self,
         regex: &Regex,
-        haystack: &[u8],
+        haystack: &'h [u8],
         start: usize,
-    ) -> Option<(usize, usize)>
+    ) -> Option<Match<'h>>
         requires { self.old.fits ≡ fit_of regex.now.program }
-        ensures found { option_map (λ s. span s.0 s.1) result ≡ span_at regex.now haystack.now
-            (start_alone haystack.now start) }
-        ensures on_tree { FindsSpan regex.now haystack.now (start_alone haystack.now start)
-            (span_at regex.now haystack.now (start_alone haystack.now start)) }
+        ensures found { FindsMatch regex.now haystack.now (start_alone haystack.now start)
+            (option_map excerpt_of result) }
         ensures fits { self.new.fits ≡ self.old.fits }
     {
-        match regex.find_anchored_at_with(&mut self.cache, haystack, start) {
-            Some(found) => Some((found.start(), found.end())),
-            None => None,
-        }
+        regex.find_anchored_at_with(&mut self.cache, haystack, start)
     }
 
     /// Returns whether the pattern matches the whole haystack.
@@ -130,46 +116,19 @@ impl Room {
         regex.is_full_match_with(&mut self.cache, haystack)
     }
 
-    /// Returns the span of the next match after one that ends at `last`, or of the first match.
+    /// Returns the next match after one that ends at `last`, or the first match.
     #[inline(always)]
-    pub(crate) fn next(
+    pub(crate) fn find_next<'h>(
         &mut self,
         regex: &Regex,
-        haystack: &[u8],
+        haystack: &'h [u8],
         last: Option<usize>,
-    ) -> Option<(usize, usize)>
+    ) -> Option<Match<'h>>
         requires { self.old.fits ≡ fit_of regex.now.program }
-        ensures next { FindsNext regex.now haystack.now last (option_map (λ s. span s.0 s.1) result) }
-        ensures lies { IfSome result (λ s. LiesFrom (length haystack.now) (unwrap_or last 0) (span s.0 s.1)) }
+        ensures next { FindsNext regex.now haystack.now last (option_map excerpt_of result) }
         ensures fits { self.new.fits ≡ self.old.fits }
     {
-        // The proof takes from here that the regex is compiled: what its program finds lies in the haystack.
-        let _pattern = regex.as_str();
-        match last {
-            Some(end) => self.next_match_after(regex, haystack, end),
-            None => self.find(regex, haystack, 0),
-        }
-    }
-
-    // Returns the span of the next match after one that ends at `last`.
-    fn next_match_after(
-        &mut self,
-        regex: &Regex,
-        haystack: &[u8],
-        last: usize,
-    ) -> Option<(usize, usize)>
-        requires { self.old.fits ≡ fit_of regex.now.program }
-        ensures next { FindsNext regex.now haystack.now (Some last) (option_map (λ s. span s.0 s.1) result) }
-        ensures lies { IfSome result (λ s. LiesFrom (length haystack.now) last (span s.0 s.1)) }
-        ensures fits { self.new.fits ≡ self.old.fits }
-    {
-        let _pattern = regex.as_str();
-        let found = self.find(regex, haystack, last);
-        if !is_empty_at(found, last) {
-            return found;
-        }
-        let step = step_at(haystack, last);
-        self.find(regex, haystack, last + step)
+        regex.find_next_with(&mut self.cache, haystack, last)
     }
 
     /// Puts the groups of the first match that begins at or after `start` into the first places of `groups`. Returns
@@ -257,10 +216,10 @@ impl Room {
         ensures same { self.new.fits ≡ self.old.fits }
     {
         let _pattern = regex.as_str();
-        let found = read_next(regex, &mut self.cache, &mut self.locations, haystack, last);
-        if found.is_none() {
+        let (cache, locations) = (&mut self.cache, &mut self.locations);
+        let Some(_) = regex.captures_read_next_with(cache, locations, haystack, last) else {
             return false;
-        }
+        };
         put_groups(&self.locations, groups);
         true
     }
@@ -279,85 +238,6 @@ impl Room {
     {
         replacing.by_template(regex, &mut self.cache, &mut self.locations, template)
     }
-}
-
-// Writes the groups of the first match that begins at or after `start` to `locations`. Returns the span of that match.
-fn read(
-    regex: &Regex,
-    cache: &mut Cache,
-    locations: &mut CaptureLocations,
-    haystack: &[u8],
-    start: usize,
-) -> Option<(usize, usize)>
-    requires cache { cache.old.fits ≡ fit_of regex.now.program }
-    requires locations { length locations.old ≡ regex.now.program.slots }
-    ensures found { option_map (λ s. span s.0 s.1) result ≡ span_at regex.now haystack.now
-        (places haystack.now start) }
-    ensures lies { IfSome result (λ s. LiesFrom (length haystack.now) start (span s.0 s.1)) }
-    ensures are { IsSome result → AreGroups regex.now haystack.now locations.new }
-    ensures groups { locations.new ≡ unwrap_or (slots_at regex.now haystack.now
-        (places haystack.now start)) locations.old }
-    ensures len { length locations.new ≡ length locations.old }
-    ensures fits { cache.new.fits ≡ cache.old.fits }
-{
-    let _pattern = regex.as_str();
-    bites_spec::slots_are_groups();
-    match regex.captures_read_at_with(cache, locations, haystack, start) {
-        Some(found) => Some((found.start(), found.end())),
-        None => None,
-    }
-}
-
-/// Writes the groups of the next match after one that ends at `last`, or of the first match, to `locations`. Returns
-/// the span of that match, if there is one.
-pub(crate) fn read_next(
-    regex: &Regex,
-    cache: &mut Cache,
-    locations: &mut CaptureLocations,
-    haystack: &[u8],
-    last: Option<usize>,
-) -> Option<(usize, usize)>
-    requires cache { cache.old.fits ≡ fit_of regex.now.program }
-    requires locations { length locations.old ≡ regex.now.program.slots }
-    ensures next { FindsNextGroups regex.now haystack.now last (if is_some result then Some locations.new else None) }
-    ensures span { FindsNext regex.now haystack.now last (option_map (λ s. span s.0 s.1) result) }
-    ensures lies { IfSome result (λ s. LiesFrom (length haystack.now) (unwrap_or last 0) (span s.0 s.1)) }
-    ensures are { IsSome result → AreGroups regex.now haystack.now locations.new }
-    ensures len { length locations.new ≡ length locations.old }
-    ensures fits { cache.new.fits ≡ cache.old.fits }
-{
-    let _pattern = regex.as_str();
-    let Some(end) = last else {
-        return read(regex, cache, locations, haystack, 0);
-    };
-    let found = read(regex, cache, locations, haystack, end);
-    if !is_empty_at(found, end) {
-        return found;
-    }
-    let step = step_at(haystack, end);
-    read(regex, cache, locations, haystack, end + step)
-}
-
-// Returns whether an empty match was found at this offset.
-fn is_empty_at(found: Option<(usize, usize)>, place: usize) -> bool
-    ensures empty { result ≡ is_empty_at (λ s. s) place (option_map (λ s. span s.0 s.1) found) }
-    ensures ends { IsTrue result → IsSomeAnd found (λ s. s.1 ≡ place) }
-{
-    match found {
-        Some((start, end)) => start == place && end == place,
-        None => false,
-    }
-}
-
-// Returns the length in bytes of the character or the invalid sequence at this offset, or 1 at the end of the haystack.
-#[tactic(auto, unfolding(bites_spec::specs::Utf8::piece))]
-fn step_at(haystack: &[u8], place: usize) -> usize
-    requires { place ≤ length haystack.now }
-    ensures step { result ≡ step_len haystack.now place }
-    ensures fits { place + result < 2 ^ 64 }
-{
-    let (_, len) = decode_lossy(&haystack[place..]);
-    len.max(1)
 }
 
 // Puts the groups into the first places of `groups`.

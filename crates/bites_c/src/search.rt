@@ -3,16 +3,16 @@
 ghost use Rattle.std.specs.Prelude.{◌≡◌, ◌↔◌, IsTrue, IsUtf8, IfOk, IfErr, MatchOption, OnErr, length, option_map, ⊤};
 ghost use Rattle.std.specs.declared.option.Option.TheVariants.{Some};
 ghost use Rattle.bites_spec.specs.Counts.{fit_of};
-ghost use Rattle.bites_spec.specs.Captured.{FindsSpan};
+ghost use Rattle.bites_spec.specs.Captured.{FindsMatch};
 ghost use Rattle.bites_spec.specs.Full.{IsFullMatch};
 ghost use Rattle.bites_spec.specs.Found.{HasMatch, IsLeastEnd};
 ghost use Rattle.bites_spec.specs.Iteration.{captures_in};
-ghost use Rattle.bites_spec.specs.Match.{span};
-ghost use Rattle.bites_spec.specs.Regex.{span_at};
 ghost use Rattle.bites_spec.specs.Utf8.{places, start_alone};
+ghost use Rattle.bites_bytes.specs.Calls.{FindsNext};
+ghost use Rattle.bites_bytes.specs.Matched.{excerpt_of};
 ghost use Rattle.bites_c.specs.Put.{PutsReplaced};
 ghost use Rattle.bites_c.specs.Replaced.{with_template, with_text};
-ghost use Rattle.bites_c.specs.Searched.{FindsNext, Lacks, PutsCaptures, PutsNextCaptures, SearchedAfter, SearchedFrom, SearchedOver};
+ghost use Rattle.bites_c.specs.Searched.{Lacks, PutsCaptures, PutsNextCaptures, SearchedAfter, SearchedFrom, SearchedOver};
 ghost use Rattle.bites_c.specs.Texts.{AreUtf8, IsBorder};
 
 use crate::cache::BitesCache;
@@ -25,6 +25,7 @@ use crate::room::Room;
 use crate::span::BitesSpan;
 use crate::text::BitesSize;
 use crate::texts::{fault_after, fault_from, refuses};
+use bites_bytes::bytes::Match;
 use std::alloc::Global;
 
 /// A regex and room that fits it, while a search runs.
@@ -164,24 +165,24 @@ impl Search {
         self.room.shortest(&self.held.regex, haystack, start)
     }
 
-    /// Returns the span of the first match that begins at or after `start`.
-    pub(crate) fn find(&mut self, haystack: &[u8], start: usize) -> Option<(usize, usize)>
-        ensures found { option_map (λ s. span s.0 s.1) result
-            ≡ span_at self.old.held.value.regex haystack.now (places haystack.now start) }
-        ensures on_tree { FindsSpan self.old.held.value.regex haystack.now (places haystack.now start)
-            (span_at self.old.held.value.regex haystack.now (places haystack.now start)) }
+    /// Returns the first match that begins at or after `start`.
+    pub(crate) fn find<'h>(&mut self, haystack: &'h [u8], start: usize) -> Option<Match<'h>>
+        ensures found { FindsMatch self.old.held.value.regex haystack.now (places haystack.now start)
+            (option_map excerpt_of result) }
         ensures held { self.new.held.value ≡ self.old.held.value }
         ensures fits { self.new.room.value.fits ≡ self.old.room.value.fits }
     {
         self.room.find(&self.held.regex, haystack, start)
     }
 
-    /// Returns the span of the match that begins at `start`.
-    pub(crate) fn find_anchored(&mut self, haystack: &[u8], start: usize) -> Option<(usize, usize)>
-        ensures found { option_map (λ s. span s.0 s.1) result
-            ≡ span_at self.old.held.value.regex haystack.now (start_alone haystack.now start) }
-        ensures on_tree { FindsSpan self.old.held.value.regex haystack.now (start_alone haystack.now start)
-            (span_at self.old.held.value.regex haystack.now (start_alone haystack.now start)) }
+    /// Returns the match that begins at `start`.
+    pub(crate) fn find_anchored<'h>(
+        &mut self,
+        haystack: &'h [u8],
+        start: usize,
+    ) -> Option<Match<'h>>
+        ensures found { FindsMatch self.old.held.value.regex haystack.now (start_alone haystack.now start)
+            (option_map excerpt_of result) }
         ensures held { self.new.held.value ≡ self.old.held.value }
         ensures fits { self.new.room.value.fits ≡ self.old.room.value.fits }
     {
@@ -197,13 +198,17 @@ impl Search {
         self.room.is_full_match(&self.held.regex, haystack)
     }
 
-    /// Returns the span of the next match after one that ends at `last`, or of the first match.
-    pub(crate) fn next(&mut self, haystack: &[u8], last: Option<usize>) -> Option<(usize, usize)>
-        ensures next { FindsNext self.old.held.value.regex haystack.now last (option_map (λ s. span s.0 s.1) result) }
+    /// Returns the next match after one that ends at `last`, or the first match.
+    pub(crate) fn find_next<'h>(
+        &mut self,
+        haystack: &'h [u8],
+        last: Option<usize>,
+    ) -> Option<Match<'h>>
+        ensures next { FindsNext self.old.held.value.regex haystack.now last (option_map excerpt_of result) }
         ensures held { self.new.held.value ≡ self.old.held.value }
         ensures fits { self.new.room.value.fits ≡ self.old.room.value.fits }
     {
-        self.room.next(&self.held.regex, haystack, last)
+        self.room.find_next(&self.held.regex, haystack, last)
     }
 
     /// Puts the groups of the first match that begins at or after `start` into the first places of `groups`, if there

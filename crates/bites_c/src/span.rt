@@ -2,12 +2,14 @@
 
 ghost use Rattle.std.specs.Prelude.{◌≡◌, ◌↔◌, IsTrue, length, option_map};
 ghost use Rattle.bites_spec.specs.Match.{span};
+ghost use Rattle.bites_bytes.specs.Matched.{excerpt_of};
 ghost use Rattle.bites_c.specs.Put.{PutsPiece, PutsSpan, last_for_c, span_for_c};
 ghost use Rattle.bites_c.specs.Replaced.{LiesWithin, span_from_c};
 ghost use Rattle.bites_c.specs.Texts.{LiesAtBorders};
 
 use crate::codes::{MATCH, NO_MATCH};
 use crate::texts::is_border;
+use bites_bytes::bytes::Match;
 
 /// Two offsets, in bytes from the start of the haystack. Both are the greatest number if a group does not participate.
 #[repr(C)]
@@ -71,12 +73,15 @@ pub(crate) fn last(end: usize) -> Option<usize>
 }
 
 /// Puts the span into `out`, if there is one. Returns the number for C.
-pub(crate) fn put(found: Option<(usize, usize)>, out: &mut BitesSpan) -> u32
-    ensures { PutsSpan (option_map (λ s. span s.0 s.1) found) result out.old out.new }
+pub(crate) fn put(found: Option<Match<'_>>, out: &mut BitesSpan) -> u32
+    ensures { PutsSpan (option_map (λ m. (excerpt_of m).span) found.entry) result out.old out.new }
 {
     match found {
-        Some(_) => {
-            *out = BitesSpan::of(found);
+        Some(found) => {
+            *out = BitesSpan {
+                start: found.start(),
+                end: found.end(),
+            };
             MATCH
         }
         None => NO_MATCH,
@@ -87,18 +92,21 @@ pub(crate) fn put(found: Option<(usize, usize)>, out: &mut BitesSpan) -> u32
 /// goes up to the end of the haystack, and `last` is unchanged. The piece begins at the end of the previous match, or
 /// at 0 if there was none, and no later than at the end of the haystack.
 pub(crate) fn put_piece(
-    found: Option<(usize, usize)>,
+    found: Option<Match<'_>>,
     len: usize,
     last: &mut usize,
     piece: &mut BitesSpan,
 ) -> u32
-    ensures { PutsPiece (option_map (λ s. span s.0 s.1) found) len result last.old last.new piece.new }
+    ensures { PutsPiece (option_map (λ m. (excerpt_of m).span) found.entry) len result last.old last.new piece.new }
 {
     let start = self::last(*last).unwrap_or(0).min(len);
     match found {
-        Some((begin, end)) => {
-            *piece = BitesSpan { start, end: begin };
-            *last = end;
+        Some(found) => {
+            *piece = BitesSpan {
+                start,
+                end: found.start(),
+            };
+            *last = found.end();
             MATCH
         }
         None => {

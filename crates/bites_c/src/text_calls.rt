@@ -4,9 +4,9 @@ ghost use Rattle.std.specs.Prelude.{◌≡◌, ◌≢◌, IfSome, IsUtf8, ◌++�
 ghost use Rattle.std.specs.declared.option.Option.TheVariants.{None};
 ghost use Rattle.bites_spec.specs.Expansion.{index_in};
 ghost use Rattle.bites_spec.specs.Iteration.{captures_in};
-ghost use Rattle.bites_text.specs.Texts.{error_text};
+ghost use Rattle.bites_text.specs.Texts.{code_of, error_text};
 ghost use Rattle.bites_text.specs.declared.error.Error.{Error as Fault};
-ghost use Rattle.bites_c.specs.Codes.{answer_text, code_of, not_utf8, empty_handle};
+ghost use Rattle.bites_c.specs.Codes.{answer_text, not_utf8, empty_handle};
 ghost use Rattle.bites_c.specs.Put.{ReturnsIndex, PutsMade, PutsName, PutsNone, PutsReplaced, with_nul};
 ghost use Rattle.bites_c.specs.Replaced.{escaped_text, expanded_by, with_template, with_text};
 ghost use Rattle.bites_c.specs.Searched.{SearchedOver};

@@ -15,3 +15,5 @@ pub mod MachineLongest
 pub mod MachineWalks
 pub mod MachineRoom
 pub mod MachineAnswers
+pub mod MachineOnce
+pub mod MachineTraced

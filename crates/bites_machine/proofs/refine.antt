@@ -7,3 +7,5 @@ pub mod PlaceSteps
 pub mod PlaceLemmas
 pub mod BetweenStepsLemmas
 pub mod PlaceSearches
+pub mod TracedSteps
+pub mod ResumeLemmas

@@ -7,3 +7,4 @@ pub mod StateSetLemmas
 pub mod UsedLemmas
 pub mod ScratchLemmas
 pub mod FrameLemmas
+pub mod TraceLemmas

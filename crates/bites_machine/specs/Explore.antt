@@ -54,6 +54,10 @@ pub record IsReady (states : List program.State) (place : ℕ) (longest : Bool) 
   pub slots_per_row : asked ≡ scratch.rows.slots_per_row
   pub starts : IsStarted longest t.start scratch.first_match
 
+-- if all that was visited had been read, it is so still
+abbrev pub ReadsAll : Record → Record → Type 0
+ReadsAll was now = was.read ≡ was.visits → now.read ≡ now.visits
+
 -- A frame was explored, and this is left: a step of the machine on lists.
 pub record Explores (hay : List ℕ) (longest : Bool) (place : ℕ) (states : List program.State) (t : Thread) (f : Frame) (was now : Record) (old new : Scratch) (slots left : List (Option ℕ)) (on : Option Frame) : Type 0 where
   pub ready : IsReady states place longest now new t (option_to_list on ++ new.stack.frames) (length left)
@@ -66,6 +70,7 @@ pub record Explores (hay : List ℕ) (longest : Bool) (place : ℕ) (states : Li
   pub gone : on ≡ None → new.stack.frames ≡ []
   pub less : length (option_to_list on ++ new.stack.frames) + edges_left states new.visited_set < length (f ∷ old.stack.frames) + edges_left states old.visited_set
   pub before : visited_before place now.visits ≡ visited_before place was.visits
+  pub read : ReadsAll was now
   pub steps : (p : program.Program) → p.states ≡ states → (others : List ℕ) (rest : List machine.Thread) → IsUsed old.rows (users_of old t others) →
       machine.kept hay longest (first_match_of old.first_match slots) rest ≡ rest →
       step hay longest p place (walking_of place t old slots (f ∷ old.stack.frames) rest (seen_here place was.visits) was.looks)

@@ -7,11 +7,12 @@ use Rattle.bites_spec.specs.Program.{at}
 use Rattle.bites_machine.specs.declared.vm.counted.Counted.{Counted}
 use Rattle.bites_machine.specs.contracts.vm.counted.Counted as rows
 
--- the configuration was added to the visits; the states and the number of looks are unchanged
+-- the configuration was added to the visits and to what was read; the states and the number of looks are unchanged
 abbrev pub Visits : MutBor Counted → ℕ → ℕ → Fml
 Visits w state place =
     let row = rows.the_row (record { mir = named 0; lft = [] }) in
     follows_so row row w.ghost_name none (λ _ _. ⊤)
     (λ last. (last.walked.visits ≡ at state place ∷ w.now.walked.visits)
+    × (last.walked.read ≡ at state place ∷ w.now.walked.read)
     × (last.walked.looks ≡ w.now.walked.looks)
     × (last.states ≡ w.now.states))

@@ -23,4 +23,6 @@ pub mod Visits
 pub mod Explore
 pub mod Inputs
 pub mod Sweep
+pub mod Traced
 pub mod Cuts
+pub mod Resume

@@ -8,11 +8,10 @@ use Rattle.bites_spec.specs.Counts.{Record, Fit}
 use Rattle.bites_spec.specs.PikeVm as machine
 use Rattle.bites_spec.specs.PikeVm.{kept, WalksTo, Searching, Searches, SearchedTo, Searched}
 use Rattle.bites_spec.specs.Utf8.{piece}
-use Rattle.bites_machine.specs.SlotTable.{Pool}
 use Rattle.bites_machine.specs.Threads.{Listed}
 use Rattle.bites_machine.specs.Used.{IsUsed, KeepsRows}
 use Rattle.bites_machine.specs.Scratch.{thread_of, next_of, first_match_of, row_of, users_of}
-use Rattle.bites_machine.specs.Explore.{IsReady, seen_here, visited_before, member_count}
+use Rattle.bites_machine.specs.Explore.{IsReady, ReadsAll, seen_here, visited_before, member_count}
 use Rattle.bites_machine.specs.declared.vm.threads.Thread.{Thread}
 use Rattle.bites_machine.specs.declared.vm.closure.Scratch.{Scratch}
 
@@ -43,6 +42,7 @@ pub record ClosesFrames (hay : List ℕ) (longest : Bool) (place : ℕ) (states 
   pub rows : length new.rows.ref_counts ≡ length old.rows.ref_counts
   pub len : length left ≡ length slots
   pub none : new.first_match ≡ None → (old.first_match ≡ None) × (left ≡ slots)
+  pub read : ReadsAll was now
   pub walks : (p : Program) → p.states ≡ states → (others : List ℕ) → IsUsed old.rows (users_of old t others) →
       WalksTo hay longest p place (walking_at place old slots (thread_of old.rows t ∷ []) was) (walking_at place new left [] now)
 
@@ -80,6 +80,7 @@ pub record ClosesThread (hay : List ℕ) (longest : Bool) (place : ℕ) (states 
   pub max_slots : new.rows.max_slots ≡ old.rows.max_slots
   pub len : length left ≡ length slots
   pub none : new.first_match ≡ None → (old.first_match ≡ None) × (left ≡ slots)
+  pub read : ReadsAll was now
   pub walks : (p : Program) → p.states ≡ states → (others : List ℕ) → IsUsed old.rows (users_of old t others) → (below : List machine.Thread) →
       WalksTo hay longest p place (walking_at place old slots (machine.kept hay longest (first_match_of old.first_match slots) (thread_of old.rows t ∷ below)) was)
       (walking_at place new left (machine.kept hay longest (first_match_of new.first_match left) below) now)
@@ -92,6 +93,7 @@ pub record ClosesThreads (hay : List ℕ) (longest : Bool) (place : ℕ) (states
   pub max_slots : new.rows.max_slots ≡ old.rows.max_slots
   pub len : length left ≡ length slots
   pub none : new.first_match ≡ None → (old.first_match ≡ None) × (left ≡ slots)
+  pub read : ReadsAll was now
   pub walks : (p : Program) → p.states ≡ states → (tail : List machine.Thread) →
       WalksTo hay longest p place (walking_at place old slots (machine.kept hay longest (first_match_of old.first_match slots) (map (thread_of old.rows) threads ++ tail)) was)
       (walking_at place new left (machine.kept hay longest (first_match_of new.first_match left) (map (thread_of new.rows) rest ++ tail)) now)
@@ -109,6 +111,7 @@ pub record ClosesAll (hay : List ℕ) (longest : Bool) (place : ℕ) (states : L
   pub max_slots : new.rows.max_slots ≡ old.rows.max_slots
   pub len : length left ≡ length slots
   pub none : new.first_match ≡ None → (old.first_match ≡ None) × (left ≡ slots)
+  pub read : ReadsAll was now
   pub walks : (p : Program) → p.states ≡ states →
       WalksTo hay longest p place
       (walking_at place old slots (machine.kept hay longest (first_match_of old.first_match slots) (map (thread_of old.rows) threads ++ start_threads longest place (length slots) begins)) was)
@@ -130,9 +133,9 @@ pub record InvariantBetweenSteps (states : List program.State) (place : ℕ) (wa
   pub wide : slots_per_row ≡ scratch.rows.slots_per_row
 
 -- A search of the machine on lists is at this place, with these threads, this result and this record; the start is walked here or not.
-pub record Represents (s : Searching) (i : ℕ) (pool : Pool) (list : List Thread) (walked : Record) (first left : List (Option ℕ)) (on is_found : Bool) : Type 0 where
+pub record Represents (s : Searching) (i : ℕ) (list : List machine.Thread) (walked : Record) (first left : List (Option ℕ)) (on is_found : Bool) : Type 0 where
   pub place : s.place ≡ i
-  pub threads : s.threads ≡ map (thread_of pool) list
+  pub threads : s.threads ≡ list
   pub starts : s.starts ≡ on
   pub found : is_some s.best ≡ is_found
   pub slots : left_in s.best first ≡ left
@@ -146,27 +149,31 @@ starts_on anchored starts new = starts && not (anchored || is_some new.first_mat
 -- A place was searched, with the start after the threads if it is walked there.
 pub record PlaceSearched (hay : List ℕ) (longest : Bool) (place len : ℕ) (states : List program.State) (begins : Option ℕ) (was now : Record) (old new : Scratch) (threads later : List Thread) (slots left : List (Option ℕ)) : Type 0 where
   pub searches : (p : Program) → p.states ≡ states → (anchored : Bool) (s : Searching) (first : List (Option ℕ)) (starts found : Bool) →
-      begins ≡ (if starts then Some p.start else None) → Represents s place old.rows threads was first slots starts found →
+      begins ≡ (if starts then Some p.start else None) → Represents s place (map (thread_of old.rows) threads) was first slots starts found →
       (t : Searching) × Searches hay longest p (length slots) anchored s t
-      × Represents t (place + len) new.rows later now first left (starts_on anchored starts new) (found || is_some new.first_match)
+      × Represents t (place + len) (map (thread_of new.rows) later) now first left (starts_on anchored starts new) (found || is_some new.first_match)
+  pub read : ReadsAll was now
 
+-- The slice had these slots when the search began.
 module _ (p : Program) (hay : List ℕ) (longest anchored earliest : Bool) (start : ℕ) (old : List (Option ℕ)) where
-  -- the machine on lists has reached this place
-  pub record HasReached (place : ℕ) (starts is_found : Bool) (walked : Record) (pool : Pool) (threads : List Thread) (slots : List (Option ℕ)) : Type 0 where
+  -- the machine on lists has reached this place, with these threads; the slice has these slots now
+  pub record HasReached (place : ℕ) (starts is_found : Bool) (walked : Record) (threads : List machine.Thread) (slots : List (Option ℕ)) : Type 0 where
     pub places : ℕ
     pub now : Searching
     pub searched : SearchedTo hay longest p (length old) anchored earliest start places now
-    pub stands : Represents now place pool threads walked old slots starts is_found
+    pub stands : Represents now place threads walked old slots starts is_found
+    pub len : length slots ≡ length old
 
   -- the place was searched, and whether the search is over is not known yet
-  pub record HasSearched (place : ℕ) (starts is_found : Bool) (walked : Record) (pool : Pool) (threads : List Thread) (slots : List (Option ℕ)) : Type 0 where
+  pub record HasSearched (place : ℕ) (starts is_found : Bool) (walked : Record) (threads : List machine.Thread) (slots : List (Option ℕ)) : Type 0 where
     pub places : ℕ
     pub before : Searching
     pub now : Searching
     pub searched : SearchedTo hay longest p (length old) anchored earliest start places before
     pub place_is : before.place ≡ place
     pub last : Searches hay longest p (length old) anchored before now
-    pub stands : Represents now (place + (piece hay place).len) pool threads walked old slots starts is_found
+    pub stands : Represents now (place + (piece hay place).len) threads walked old slots starts is_found
+    pub len : length slots ≡ length old
 
 -- there is a program with these states, and with that start if one is given
 abbrev pub IsOfProgram : List program.State → Option ℕ → Type 0
@@ -194,7 +201,7 @@ pub record IsProgramOf (p : Program) (all : List program.State) (first : ℕ) : 
   pub start : p.start ≡ first
   pub well : IsWellFormed p
 
--- The machine on lists searched from the start on, or from the start alone, with this result and record.
+-- The machine on lists searched from the start on, or from the start alone, with this result and record; the slice had the old slots.
 pub record SearchResult (p : Program) (hay : List ℕ) (longest anchored earliest : Bool) (start : ℕ) (answer : Bool) (old new : List (Option ℕ)) (walked : Record) : Type 0 where
   pub last : Searching
   pub searched : Searched hay longest p (length old) anchored earliest start last

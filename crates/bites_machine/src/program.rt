@@ -114,7 +114,7 @@ impl Program {
     }
 
     /// Returns the allocator that the program was made with.
-    pub(crate) fn alloc(&self) -> Global {
+    pub fn alloc(&self) -> Global {
         self.alloc
     }
 

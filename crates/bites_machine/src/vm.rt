@@ -3,23 +3,29 @@
 ghost use Rattle.bites_spec.specs.Counts.{fit_of, IsBounded, VisitedBy};
 ghost use Rattle.bites_spec.specs.Run.{Run, Answered, LeastEnd, first_run, longest_run};
 ghost use Rattle.bites_spec.specs.Utf8.{places, start_alone};
-ghost use Rattle.bites_machine.specs.Inputs.{starts_of};
+ghost use Rattle.bites_machine.specs.Inputs.{starts_of, is_longest, is_earliest};
+ghost use Rattle.bites_machine.specs.Sweep.{SearchResult};
 ghost use Rattle.bites_machine.specs.declared.vm.MatchKind.TheVariants.{First, Earliest, Longest};
-ghost use Rattle.std.specs.Prelude.{◌⊎◌, Option, true, false, ◌≡◌, length};
+ghost use Rattle.std.specs.Prelude.{◌⊎◌, Option, true, false, ◌≡◌, ◌≤◌, suc, length};
 
+mod bytes;
 mod cache;
 mod closure;
 mod counted;
 mod pikevm;
 mod position;
+mod resume;
 mod slot_table;
 mod stack;
 mod state_set;
 mod threads;
+pub mod traced;
 
 use crate::program::Program;
 pub use cache::Cache;
-use counted::Counted;
+pub use counted::Counted;
+pub use resume::{RegisterThread, Resumed, Stopped};
+pub use traced::trace;
 
 /// Which match a search looks for.
 #[derive(Clone, Copy, Drop)]
@@ -33,8 +39,6 @@ pub enum MatchKind {
 }
 
 impl MatchKind {
-    ghost use Rattle.bites_machine.specs.Inputs.{is_longest, is_earliest};
-
     // Returns whether a match with the least end is asked for.
     fn is_earliest(self) -> bool
         ensures { result ≡ is_earliest self }
@@ -64,6 +68,9 @@ pub struct Input<'h> {
 ///
 /// Visits each state of the program at most once at each offset, and allocates nothing. An anchored search stops when no
 /// thread is left.
+///
+/// For proofs: the last clause says that the machine of the definitions did this search. [`trace`] shows what it does at
+/// each place.
 pub fn search_input(
     program: &Program,
     cache: &mut Cache,
@@ -91,9 +98,15 @@ pub fn search_input(
     ensures visited { VisitedBy program.now.program input.now.haystack.now
         (starts_of input.now.haystack.now input.now.anchored input.now.start)
         result cache.new.walked }
+    ensures read { cache.new.walked.read ≡ cache.new.walked.visits }
+    ensures searches { cache.new.searches ≡ suc cache.old.searches }
+    ensures searched { input.now.start ≤ length input.now.haystack.now → SearchResult program.now.program
+        input.now.haystack.now (is_longest input.now.kind) input.now.anchored (is_earliest input.now.kind)
+        input.now.start result slots.old slots.new cache.new.walked }
 {
-    let counted = Counted::new(program.states());
-    cache.search(counted, program.start(), input, slots)
+    // For proofs: a program has two slots at least.
+    let _ = program.start();
+    cache.search(program, input, slots)
 }
 
 /// Finds the leftmost match at or after `start`, the preferred one there, and writes its first `slots.len()` slots.
@@ -120,6 +133,8 @@ pub fn search(
     ensures fits { cache.new.fits ≡ cache.old.fits }
     ensures bounded { IsBounded program.now.program haystack.now start cache.new.walked }
     ensures visited { VisitedBy program.now.program haystack.now (places haystack.now start) result cache.new.walked }
+    ensures read { cache.new.walked.read ≡ cache.new.walked.visits }
+    ensures searches { cache.new.searches ≡ suc cache.old.searches }
 {
     let kind = if earliest {
         MatchKind::Earliest
@@ -151,6 +166,8 @@ pub fn search_longest(
     ensures fits { cache.new.fits ≡ cache.old.fits }
     ensures bounded { IsBounded program.now.program haystack.now start cache.new.walked }
     ensures visited { VisitedBy program.now.program haystack.now (places haystack.now start) result cache.new.walked }
+    ensures read { cache.new.walked.read ≡ cache.new.walked.visits }
+    ensures searches { cache.new.searches ≡ suc cache.old.searches }
 {
     let input = Input {
         haystack,
@@ -187,6 +204,8 @@ pub fn search_anchored(
     ensures bounded { IsBounded program.now.program haystack.now start cache.new.walked }
     ensures visited { VisitedBy program.now.program haystack.now (start_alone haystack.now start)
         result cache.new.walked }
+    ensures read { cache.new.walked.read ≡ cache.new.walked.visits }
+    ensures searches { cache.new.searches ≡ suc cache.old.searches }
 {
     let input = Input {
         haystack,

@@ -14,5 +14,6 @@ pub mod ChoiceFirst
 pub mod ItemOnce
 pub mod WholeSound
 pub mod WholeRanks
+pub mod PlaceLemmas
 pub mod WholeLaws
 pub mod WholeOnce

@@ -1,4 +1,5 @@
 -- UTF-8: pieces, places and borders.
 pub mod PieceLemmas
+pub mod AsciiPieces
 pub mod ScalarPieces
 pub mod StartLemmas

@@ -5,9 +5,10 @@ use Rattle.bites_spec.specs.Walks.{Among, AllApart}
 use Rattle.bites_spec.specs.Program.{Program, Configuration, at, targets}
 use Rattle.bites_spec.specs.Run.{Run, IsRun, Reaches}
 
--- the configurations that were visited, the last one first, and the number of looks
+-- the configurations that were visited, the last one first; those of them whose state was read; and the number of looks
 pub record Record : Type 0 where
   pub visits : List Configuration
+  pub read : List Configuration
   pub looks : ℕ
 
 -- how much room a search of a program takes: for its states, its slots, and the targets of its states
@@ -20,11 +21,16 @@ pub record Fit : Type 0 where
 abbrev pub fit_of : Program → Fit
 fit_of p = record { states = length p.states; slots = p.slots; targets = targets p }
 
+-- the room for so many slots
+abbrev pub fit_with : Program → ℕ → Fit
+fit_with p slots = record { states = length p.states; slots = slots; targets = targets p }
+
 module _ (p : Program) (hay : List ℕ) where
-  -- No configuration is visited twice. A search from s makes at most states times places visits, at most (targets + 1) times
-  -- places looks, and no fewer looks than visits.
+  -- No configuration is visited twice, and what was read was visited. A search from s makes at most states times places visits, at
+  -- most (targets + 1) times places looks, and no fewer looks than visits.
   pub record IsBounded (s : ℕ) (c : Record) : Type 0 where
     pub apart : AllApart c.visits
+    pub read : (v : Configuration) → Among c.read v → Among c.visits v
     pub visits : length c.visits ≤ length p.states * length (places hay s)
     pub looks : c.looks ≤ (targets p + 1) * length (places hay s)
     pub looked : length c.visits ≤ c.looks
@@ -46,10 +52,17 @@ module _ (p : Program) (hay : List ℕ) where
   VisitedBy starts true = VisitedSome starts
   VisitedBy starts false = VisitedAll starts
 
--- The room for searches, as contracts see it: which programs it fits, and what the last search visited.
+-- The room for searches, as contracts see it: which programs it fits, what the last search visited, and how many there were.
 pub record Room : Type 0 where
   pub fits : Fit
   pub walked : Record
+  pub searches : ℕ
+
+-- the room is enough for searches of the program that ask for so many slots
+pub record HasRoomFor (room : Fit) (p : Program) (n : ℕ) : Type 0 where
+  pub states : room.states ≡ length p.states
+  pub targets : room.targets ≡ targets p
+  pub slots : n ≤ room.slots
 
 -- a slice has no slot, two, or as many as the program
 abbrev pub IsSlotCount : Program → ℕ → Type 0

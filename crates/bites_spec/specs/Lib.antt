@@ -62,3 +62,4 @@ pub mod RegexLaws
 pub mod CallerLaws
 pub mod Refutations
 pub mod FullLaws
+pub mod Set

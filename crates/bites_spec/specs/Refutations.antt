@@ -23,7 +23,7 @@ three_ways = record { states = program.splits (1 ∷ 1 ∷ 1 ∷ []) false ∷ p
 
 -- a search on the empty haystack kept the bounds, by its visits and the number of its looks
 abbrev pub KeepsBounds : List program.Configuration → ℕ → Type 0
-KeepsBounds visits looks = IsBounded three_ways [] 0 (record { visits = visits; looks = looks })
+KeepsBounds visits looks = IsBounded three_ways [] 0 (record { visits = visits; read = []; looks = looks })
 
 -- the bound on looks can be reached; one more look, one more visit, a configuration twice, or fewer looks than visits is refused
 abbrev pub BoundsAreReached : Type 0
@@ -50,7 +50,7 @@ SearchesReachBounds =
 
 -- what a search on the empty haystack visited
 abbrev pub Visited : program.State → Bool → List program.Configuration → Type 0
-Visited last found visits = VisitedBy (one_way last) [] (places [] 0) found (record { visits = visits; looks = 2 })
+Visited last found visits = VisitedBy (one_way last) [] (places [] 0) found (record { visits = visits; read = []; looks = 2 })
 
 -- if something is found, a whole run was visited; if nothing is, all that is reached was
 abbrev pub VisitsRefuse : Type 0

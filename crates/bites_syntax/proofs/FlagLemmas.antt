@@ -11,7 +11,7 @@ use Rattle.bites_spec.specs.Reader.{flags_from, stop}
 use Rattle.bites_text.specs.Messages.{error_of}
 use Rattle.bites_text.specs.declared.error.Error.{Error}
 use Rattle.bites_text.specs.declared.error.Error.TheVariants.{RepeatedNegation, DuplicateFlag}
-use Rattle.bites_syntax.specs.Parts.{error_in}
+use Rattle.bites_syntax.specs.Parts.{fault_at, fault_in}
 
 -- one mark more
 pub changed_more : (run : Text) (i : ℕ) (on : Bool) (flags : Flags) → i < length run →
@@ -45,10 +45,10 @@ contains_one_of (d ∷ run) c = rw (same_test d c, contains_one_of run c) refl
 
 -- a mark that stands a second time
 pub repeated_fault : (front : Front) (run t u start : Text) (c : ℕ) (e : Error) → flags_from front [] start ≡ flags_from front run t → t ≡ c ∷ u → one_of (codes ":)") c ≡ false →
-    is_flag_mark c ≡ true → one_of run c ≡ true → e ≡ (if c == dash then RepeatedNegation else DuplicateFlag) → error_in (flags_from front [] start) ≡ Some e
+    is_flag_mark c ≡ true → one_of run c ≡ true → e ≡ (if c == dash then RepeatedNegation else DuplicateFlag) → fault_in (flags_from front [] start) ≡ Some (fault_at e t)
 repeated_fault front run t u start c e so_far at goes_on mark again is =
-    rw (so_far, flags_from_again front run t u c at goes_on mark again, is) (by_dash (c == dash))
+    rw (so_far, flags_from_again front run t u c at goes_on mark again, is, at) (by_dash (c == dash))
   where
-    by_dash : (b : Bool) → Some (error_of (if b then message.repeated_negation else message.duplicate_flag)) ≡ Some (if b then RepeatedNegation else DuplicateFlag)
+    by_dash : (b : Bool) → Some (fault_at (error_of (if b then message.repeated_negation else message.duplicate_flag)) (c ∷ u)) ≡ Some (fault_at (if b then RepeatedNegation else DuplicateFlag) (c ∷ u))
     by_dash true = refl
     by_dash false = refl

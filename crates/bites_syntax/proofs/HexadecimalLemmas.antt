@@ -12,12 +12,12 @@ use Rattle.bites_spec.specs.Pattern.{Text, Flags, next_is, number, left_brace, r
 use Rattle.bites_spec.specs.Reader.{ReadResult, and_then, answer, stop, exactly, between_digits, hexadecimal, in_braces, scalar}
 use Rattle.bites_spec.proofs.characters.EachLemmas.{skip_shorter}
 use Rattle.bites_text.specs.Messages.{error_of}
-use Rattle.bites_text.specs.declared.error.Error.{Error}
+use Rattle.bites_syntax.specs.declared.refusal.Refusal.{Refusal}
 use Rattle.bites_text.specs.declared.error.Error.TheVariants.{FixedHexUnfinished, FixedHexDigit}
 use Rattle.bites_syntax.specs.Hexadecimal.{fixed_number}
 use Rattle.bites_syntax.specs.Numbers.{AgreeBelow}
 use Rattle.bites_syntax.specs.Operators.{Answers}
-use Rattle.bites_syntax.specs.Parts.{error_in}
+use Rattle.bites_syntax.specs.Parts.{fault_at, fault_in}
 use Rattle.bites_syntax.specs.Steps.{each_of}
 use Rattle.bites_syntax.proofs.CursorLemmas.{each_by, each_more, each_ends}
 use Rattle.bites_syntax.proofs.NumberLemmas.{number_from, AgreeBelow_digits}
@@ -61,11 +61,11 @@ fixed_step n left v new k d flags t u w c whole more at is value behind capped s
     )
 
 -- another character, or the end, stops the digits
-pub fixed_fault : (n left k : ℕ) (flags : Flags) (t u : Text) (e : Error) (whole : ReadResult ℕ) → left ≡ suc k →
-    ((t ≡ []) × (e ≡ FixedHexUnfinished)) ⊎ ((c : ℕ) × (t ≡ c ∷ u) × (is_hex_digit c ≡ false) × (e ≡ FixedHexDigit)) →
-    fixed_number n left flags t ≡ whole → error_in whole ≡ Some e
-fixed_fault n left k flags t u e whole more (inl h) so_far = rw (← so_far) (rw (more, h.0, h.1) refl)
-fixed_fault n left k flags t u e whole more (inr h) so_far = rw (← so_far) (rw (more, h.1) (rw (h.2, h.3) refl))
+pub fixed_fault : (n left k : ℕ) (flags : Flags) (t u : Text) (e : Refusal) (whole : ReadResult ℕ) → left ≡ suc k →
+    ((t ≡ []) × (e ≡ fault_at FixedHexUnfinished t)) ⊎ ((c : ℕ) × (t ≡ c ∷ u) × (is_hex_digit c ≡ false) × (e ≡ fault_at FixedHexDigit t)) →
+    fixed_number n left flags t ≡ whole → fault_in whole ≡ Some e
+fixed_fault n left k flags t u e whole more (inl h) so_far = rw (← so_far) (rw (more, h.1, h.0) refl)
+fixed_fault n left k flags t u e whole more (inr h) so_far = rw (← so_far) (rw (more, h.3, h.1) (rw h.2 refl))
 
 -- no number is read in braces that are empty
 pub braces_empty : (flags : Flags) (t rest : Text) → next_is is_hex_digit t ≡ false → (each_of flags is_hex_digit t).1 ≡ right_brace ∷ rest →
@@ -92,9 +92,9 @@ is_scalar_agrees v n (inl e) = ap is_scalar e
 is_scalar_agrees v n (inr h) = above_scalars v h.0 ∙ sym (above_scalars n h.1)
 
 -- the character of a number that agrees with the digits, or the error
-pub scalar_answers : (m : Message) (e : Error) (digits rest : Text) (v : ℕ) (found : Option ℕ) (r : Result ℕ Error) →
+pub scalar_answers : (m : Message) (e : Refusal) (digits rest : Text) (v : ℕ) (found : Option ℕ) (r : Result ℕ Refusal) →
     AgreeBelow 4294967296 v (number 16 digits) → MatchOption found (is_scalar v ≡ false) (λ c. (is_scalar v ≡ true) × (c ≡ v)) → r ≡ ok_or found e →
-    error_of m ≡ e → Answers (λ c. c) r rest (scalar m digits rest)
+    fault_at (error_of m) rest ≡ e → Answers (λ c. c) r rest (scalar m digits rest)
 scalar_answers m e digits rest v None r agree is made names =
     rw (made, ← names) (rw (sym (is_scalar_agrees v (number 16 digits) agree) ∙ is) refl)
 scalar_answers m e digits rest v (Some c) r (inl same) is made names =

@@ -10,21 +10,22 @@ use Rattle.bites_spec.specs.Range.{Range}
 use Rattle.bites_spec.specs.Reader.{ReadResult, Members, Stop, after_dash, after_dashes, after_first, alone, and_then, class_end, class_members, dashes, member, named, range}
 use Rattle.bites_spec.proofs.characters.EachLemmas.{skip_shorter}
 use Rattle.bites_text.specs.declared.error.Error.{Error}
+use Rattle.bites_syntax.specs.declared.refusal.Refusal.{Refusal}
 use Rattle.bites_text.specs.declared.error.Error.TheVariants.{UnclosedAfterDash, UnclosedAfterBracket}
 use Rattle.bites_syntax.specs.Members.{Adds, AnswersLeading, IsOperatorError}
-use Rattle.bites_syntax.specs.Parts.{IsErrorOf, error_in}
+use Rattle.bites_syntax.specs.Parts.{IsFaultOf, fault_at, fault_in}
 use Rattle.bites_syntax.specs.Steps.{each_of}
 use Rattle.bites_syntax.proofs.CursorLemmas.{each_by, each_more, each_ends}
 use Rattle.bites_spec.proofs.brackets.BracketFirst.{nothing}
 
 -- another way to write what the reader does
-pub Adds_by : (old new : List Range) (r : Result (Unit {0}) Error) (rest : Text) (f g : Members → Set → ReadResult Set) → ((go : Members) (set : Set) → g go set ≡ f go set) →
+pub Adds_by : (old new : List Range) (r : Result (Unit {0}) Refusal) (rest : Text) (f g : Members → Set → ReadResult Set) → ((go : Members) (set : Set) → g go set ≡ f go set) →
     Adds old new r rest f → Adds old new r rest g
 Adds_by old new (Ok u) rest f g same adds = λ go set has. (let a = adds go set has in (a.0, same go set ∙ a.1, a.2))
 Adds_by old new (Err e) rest f g same adds = λ go set has. rw (same go set) (adds go set has)
 
 -- a first part's refusal is that of the whole
-pub refuses_first : {A B : Type 0} (e : Error) (a : ReadResult A) (f : A → Text → Result B Stop) → IsErrorOf e a → IsErrorOf e (and_then a f)
+pub refuses_first : {A B : Type 0} (e : Refusal) (a : ReadResult A) (f : A → Text → Result B Stop) → IsFaultOf e a → IsFaultOf e (and_then a f)
 refuses_first e (Ok x) f (inl memory) = inl memory
 refuses_first e (Ok x) f (inr fault) = absurd (let wrong : None ≡ Some e = fault in cc)
 refuses_first e (Err s) f refuses = refuses
@@ -53,8 +54,8 @@ unnamed_leads go n flags set (c ∷ t) rest behind m none no_operator first gap 
     unnamed_by go n flags set t c none no_operator ∙ rw (first, gap) refl
 
 -- a refusal there is that of the member
-pub unnamed_fault : (go : Members) (n : ℕ) (flags : Flags) (set : Set) (t : Text) (e : Error) → next_is (one_of (codes "[]")) t ≡ false → IsOperatorError None t →
-    IsErrorOf e (class_end n flags t) → IsErrorOf e (member go n flags set t)
+pub unnamed_fault : (go : Members) (n : ℕ) (flags : Flags) (set : Set) (t : Text) (e : Refusal) → next_is (one_of (codes "[]")) t ≡ false → IsOperatorError None t →
+    IsFaultOf e (class_end n flags t) → IsFaultOf e (member go n flags set t)
 unnamed_fault go n flags set [] e none no_operator refuses = refuses
 unnamed_fault go n flags set (c ∷ t) e none no_operator refuses =
     rw (unnamed_by go n flags set t c none no_operator) (refuses_first e (class_end n flags (c ∷ t)) _ refuses)
@@ -86,15 +87,15 @@ dash_range go n flags set m k at t u v rest c gap begins other second =
     rw (sym gap ∙ begins) (rw (no_second c other) (rw read refl))
 
 -- a refusal there
-pub dash_fault : (go : Members) (n : ℕ) (flags : Flags) (set : Set) (m : Meaning) (at t u v : Text) (c : ℕ) (e : Error) → u ≡ skip flags t → u ≡ c ∷ v →
-    ((c ≡ 45) ⊎ (c ≡ 93) → ⊥) → IsErrorOf e (class_end n flags u) → IsErrorOf e (after_dash go n flags set m at (skip flags t))
+pub dash_fault : (go : Members) (n : ℕ) (flags : Flags) (set : Set) (m : Meaning) (at t u v : Text) (c : ℕ) (e : Refusal) → u ≡ skip flags t → u ≡ c ∷ v →
+    ((c ≡ 45) ⊎ (c ≡ 93) → ⊥) → IsFaultOf e (class_end n flags u) → IsFaultOf e (after_dash go n flags set m at (skip flags t))
 dash_fault go n flags set m at t u v c e gap begins other refuses =
-    let read : IsErrorOf e (class_end n flags (c ∷ v)) = subst (λ (x : Text). IsErrorOf e (class_end n flags x)) begins refuses in
+    let read : IsFaultOf e (class_end n flags (c ∷ v)) = subst (λ (x : Text). IsFaultOf e (class_end n flags x)) begins refuses in
     rw (sym gap ∙ begins) (rw (no_second c other) (refuses_first e (class_end n flags (c ∷ v)) (range go set m) read))
 
 -- what stands at the end, or not
-abbrev pub AtEnd : ℕ → Error → Result (Option ℕ) Error → Text → Type 0
-AtEnd c error r t = MatchResult r (λ lead. (lead ≡ Some c) × (d : ℕ) × (u : Text) × (t ≡ d ∷ u)) (λ e. (e ≡ error) × (t ≡ []))
+abbrev pub AtEnd : ℕ → Error → Result (Option ℕ) Refusal → Text → Type 0
+AtEnd c error r t = MatchResult r (λ lead. (lead ≡ Some c) × (d : ℕ) × (u : Text) × (t ≡ d ∷ u)) (λ e. (e ≡ fault_at error t) × (t ≡ []))
 
 dashes_by : (n : ℕ) (flags : Flags) (negated : Bool) (t : Text) → length t ≤ n →
     dashes n flags negated t ≡ after_dashes n flags negated (each_of flags (single dash) t).0 (each_of flags (single dash) t).1
@@ -112,20 +113,20 @@ no_dashes n flags negated t u c room at is =
     dashes_by n flags negated t room ∙ ap (λ d. after_dashes n flags negated d.0 d.1) (each_ends flags (single dash) t none)
 
 -- dashes before the members
-pub leading_dashes : (n : ℕ) (flags : Flags) (negated : Bool) (t u rest : Text) (c : ℕ) (r : Result (Option ℕ) Error) → length t ≤ n → t ≡ c ∷ u → c ≡ 45 →
+pub leading_dashes : (n : ℕ) (flags : Flags) (negated : Bool) (t u rest : Text) (c : ℕ) (r : Result (Option ℕ) Refusal) → length t ≤ n → t ≡ c ∷ u → c ≡ 45 →
     rest ≡ (each_of flags (single dash) t).1 → AtEnd 45 UnclosedAfterDash r rest → AnswersLeading r rest n flags negated t
 leading_dashes n flags negated t u rest c (Ok lead) room at is behind end =
     rw end.0 (some_dashes n flags negated t u rest c room at is behind ∙ rw end.3 refl)
 leading_dashes n flags negated t u rest c (Err e) room at is behind end =
-    ap error_in (some_dashes n flags negated t u rest c room at is behind) ∙ rw (end.0, end.1) refl
+    ap fault_in (some_dashes n flags negated t u rest c room at is behind) ∙ rw (end.0, end.1) refl
 
 -- a closing bracket before the members
-pub leading_bracket : (n : ℕ) (flags : Flags) (negated : Bool) (t u rest : Text) (c : ℕ) (r : Result (Option ℕ) Error) → length t ≤ n → t ≡ c ∷ u → c ≡ 93 →
+pub leading_bracket : (n : ℕ) (flags : Flags) (negated : Bool) (t u rest : Text) (c : ℕ) (r : Result (Option ℕ) Refusal) → length t ≤ n → t ≡ c ∷ u → c ≡ 93 →
     rest ≡ skip flags u → AtEnd 93 UnclosedAfterBracket r rest → AnswersLeading r rest n flags negated t
 leading_bracket n flags negated t u rest c (Ok lead) room at is gap end =
     rw end.0 (no_dashes n flags negated t u c room at is ∙ rw (at, is, ← gap, end.3) refl)
 leading_bracket n flags negated t u rest c (Err e) room at is gap end =
-    ap error_in (no_dashes n flags negated t u c room at is) ∙ rw (at, is, ← gap, end.0, end.1) refl
+    ap fault_in (no_dashes n flags negated t u c room at is) ∙ rw (at, is, ← gap, end.0, end.1) refl
 
 -- the members after a gap
 pub enter : (n : ℕ) (flags : Flags) (t u : Text) → length t ≤ n → u ≡ skip flags t →
@@ -142,5 +143,5 @@ closes go n flags set [] rest is behind = absurd (false≢true is)
 closes go n flags set (c ∷ t) rest is behind = rw (is, behind) refl
 
 -- a refusal of what is the same
-pub refuses_by : {A : Type 0} (e : Error) (a b : ReadResult A) → a ≡ b → IsErrorOf e b → IsErrorOf e a
+pub refuses_by : {A : Type 0} (e : Refusal) (a b : ReadResult A) → a ≡ b → IsFaultOf e b → IsFaultOf e a
 refuses_by e a b same refuses = rw same refuses

@@ -16,7 +16,7 @@ use Rattle.bites_text.specs.Messages.{error_of}
 use Rattle.bites_text.specs.declared.error.Error.TheVariants.{MissingName, UnclosedName, EmptyName, DuplicateName}
 use Rattle.bites_syntax.specs.declared.group_names.Names.{Names}
 use Rattle.bites_syntax.specs.Groups.{AreNames}
-use Rattle.bites_syntax.specs.Parts.{error_in}
+use Rattle.bites_syntax.specs.Parts.{fault_at, fault_in}
 
 -- a text of no byte has no character
 pub chars_none : (bytes : Text) → (length bytes == 0) ≡ true → chars bytes ≡ []
@@ -96,7 +96,7 @@ closed [] is = absurd (false≢true is)
 closed (c ∷ t) is = ap (λ x. x ∷ t) (eqb-true c right_angle is)
 
 pub name_empty : (all : List Text) (start t bytes : Text) → name_from all [] start ≡ name_from all (chars bytes) t → next_is (single right_angle) t ≡ true →
-    (length bytes == 0) ≡ true → error_in (name_from all [] start) ≡ Some EmptyName
+    (length bytes == 0) ≡ true → fault_in (name_from all [] start) ≡ Some (fault_at EmptyName t)
 name_empty all start t bytes so_far is none = rw (so_far, chars_none bytes none, closed t is) refl
 
 ends_used : (all : List Text) (name at t : Text) → (name ≡ [] → ⊥) → is_used all name ≡ true → name_end all name at t ≡ stop message.duplicate_name t
@@ -116,9 +116,9 @@ used_by : (names : Names) (all : List Text) (bytes : Text) (b : Bool) → IsUtf8
 used_by names all bytes b utf8 are found = sym (are (chars bytes)) ∙ rw encodes-chars (sym found)
 
 pub name_taken : (names : Names) (all : List Text) (start t bytes : Text) → AreNames names all → name_from all [] start ≡ name_from all (chars bytes) t → next_is (single right_angle) t ≡ true →
-    IsUtf8 bytes → (length bytes == 0) ≡ false → true ≡ contains_text names.texts bytes → error_in (name_from all [] start) ≡ Some DuplicateName
+    IsUtf8 bytes → (length bytes == 0) ≡ false → true ≡ contains_text names.texts bytes → fault_in (name_from all [] start) ≡ Some (fault_at DuplicateName (drop 1 t))
 name_taken names all start t bytes are so_far is utf8 some found =
-    ap error_in (so_far ∙ at_close all (chars bytes) t (closed t is)
+    ap fault_in (so_far ∙ at_close all (chars bytes) t (closed t is)
     ∙ ends_used all (chars bytes) t (drop 1 t) (chars_some bytes utf8 some) (used_by names all bytes true utf8 are found))
 
 pub name_new : (names : Names) (all : List Text) (start t u bytes : Text) → AreNames names all → name_from all [] start ≡ name_from all (chars bytes) t → next_is (single right_angle) t ≡ true →

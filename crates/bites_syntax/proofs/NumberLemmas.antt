@@ -11,7 +11,7 @@ use Rattle.bites_spec.specs.Pattern.{Text, Flags, number, next_is, skip, skip_wh
 use Rattle.bites_spec.specs.Reader.{decimal, decimal_by, choose, answer, stop}
 use Rattle.bites_spec.proofs.characters.EachLemmas.{each_shorter, each_sound, skip_white_shorter}
 use Rattle.bites_text.specs.declared.error.Error.TheVariants.{InvalidDecimal}
-use Rattle.bites_syntax.specs.Parts.{error_in}
+use Rattle.bites_syntax.specs.Parts.{fault_at, fault_in}
 use Rattle.bites_syntax.specs.Steps.{each_of}
 use Rattle.bites_syntax.proofs.CursorLemmas.{each_by, each_more}
 use Rattle.bites_syntax.specs.Numbers.{AgreeBelow}
@@ -105,7 +105,9 @@ small_decimal n flags t u d rest v room at some agree small behind ends =
     decimal_small n flags t rest v room (rw at at some) (rw at at agree) small
     (ends ∙ ap (λ x. (each_of flags is_whitespace x).1) (behind ∙ ap (λ x. (each_of flags is_ascii_digit x).1) at))
 
-pub large_decimal : (n : ℕ) (flags : Flags) (t u : Text) (v : ℕ) → length t ≤ n → u ≡ skip_white t → next_is is_ascii_digit u ≡ true →
-    AgreeBelow 4294967296 v (number 10 (each_of flags is_ascii_digit u).0) → 4294967296 ≤ v → error_in (decimal n flags t) ≡ Some InvalidDecimal
-large_decimal n flags t u v room at some agree large =
-    ap error_in (decimal_large n flags t v room (rw at at some) (rw at at agree) large)
+pub large_decimal : (n : ℕ) (flags : Flags) (t u d rest : Text) (v : ℕ) → length t ≤ n → u ≡ skip_white t → next_is is_ascii_digit u ≡ true →
+    AgreeBelow 4294967296 v (number 10 (each_of flags is_ascii_digit u).0) → 4294967296 ≤ v → d ≡ (each_of flags is_ascii_digit u).1 →
+    rest ≡ (each_of flags is_whitespace d).1 → fault_in (decimal n flags t) ≡ Some (fault_at InvalidDecimal rest)
+large_decimal n flags t u d rest v room at some agree large behind ends =
+    let behind_all : rest ≡ behind_digits flags t = ends ∙ ap (λ x. (each_of flags is_whitespace x).1) (behind ∙ ap (λ x. (each_of flags is_ascii_digit x).1) at) in
+    ap fault_in (decimal_large n flags t v room (rw at at some) (rw at at agree) large) ∙ ap (λ x. Some (fault_at InvalidDecimal x)) (sym behind_all)

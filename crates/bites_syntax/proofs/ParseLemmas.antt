@@ -1,10 +1,9 @@
 -- From the result of the grammar's function to the grammar.
-use Rattle.std.proofs.Common.{◌≡◌, ◌≢◌, ◌⊎◌, ◌<◌, ◌≤◌, ℕ, List, Option, Some, None, Result, Ok, Err, IfOk, IfErr, inl, inr, ⊎_elim, refl, sym, ap, arith}
+use Rattle.std.proofs.Common.{◌≡◌, ◌≢◌, ◌⊎◌, ◌<◌, ◌≤◌, ℕ, Option, Some, None, Result, Ok, Err, inl, inr, ⊎_elim, refl, sym, ap, ◌∙◌, arith}
 use Rattle.bites_spec.specs.Message.{Message, too_much_nesting}
 use Rattle.bites_spec.specs.Pattern.{Text, Flags}
 use Rattle.bites_spec.specs.Tree.{Tree}
-use Rattle.bites_spec.specs.Measure.{groups_opened, height, IsTooTall, Limits}
-use Rattle.bites_spec.specs.Grammar.{Reading}
+use Rattle.bites_spec.specs.Measure.{height, IsTooTall, Limits}
 use Rattle.bites_spec.specs.Built.{IsCompilable}
 use Rattle.bites_spec.specs.Fault.{Fault}
 use Rattle.bites_spec.specs.RangesOf.{ranges_of}
@@ -14,8 +13,10 @@ use Rattle.bites_spec.proofs.regex.CompilableLemmas.{reads_compilable}
 use Rattle.bites_spec.proofs.grammar.WholeLaws.{low_is_within, stop_is_fault, tall_is_fault, refused_has_no_tree}
 use Rattle.bites_text.specs.Messages.{error_of}
 use Rattle.bites_text.specs.declared.error.Error.{Error}
-use Rattle.bites_text.specs.declared.error.Error.TheVariants.{Memory, TooMuchNesting}
-use Rattle.bites_syntax.specs.Parts.{error_in, IsErrorOf}
+use Rattle.bites_text.specs.declared.error.Error.TheVariants as error
+use Rattle.bites_syntax.specs.declared.refusal.Refusal.{Refusal}
+use Rattle.bites_syntax.specs.declared.refusal.Refusal.TheVariants.{TooTall}
+use Rattle.bites_syntax.specs.Parts.{error_by, fault_in, IsFaultOf}
 
 module _ (pattern : Text) (flags : Flags) (nest_limit : ℕ) where
   -- a tree that is not too tall is within the limits
@@ -29,60 +30,30 @@ module _ (pattern : Text) (flags : Flags) (nest_limit : ℕ) where
   answered_compilable t l = reads_compilable pattern flags t l.reading
 
   -- the error of a stop is that of the pattern's fault
-  stopped : (e : Error) (r : Result Tree Stop) → read ranges_of nest_limit pattern flags ≡ r → error_in r ≡ Some e →
-      (m : Message) × (e ≡ error_of m) × Fault pattern flags nest_limit m
+  stopped : (e : Refusal) (r : Result Tree Stop) → read ranges_of nest_limit pattern flags ≡ r → fault_in r ≡ Some e →
+      (m : Message) × (error_by e ≡ error_of m) × Fault pattern flags nest_limit m
   stopped e (Ok t) is none = cc
-  stopped e (Err s) is same = (s.message, sym (of_some same), stop_is_fault ranges_of ranges_of_list nest_limit s is)
+  stopped e (Err s) is same = (s.message, sym (ap error_inside same), stop_is_fault ranges_of ranges_of_list nest_limit s is)
     where
-      of_some : {a b : Error} → Some a ≡ Some b → a ≡ b
-      of_some {a} {b} h = ap (λ o. inside o) h
-        where
-          inside : Option Error → Error
-          inside None = a
-          inside (Some x) = x
+      error_inside : Option Refusal → Error
+      error_inside None = error.Memory
+      error_inside (Some x) = error_by x
 
   -- an error other than out of memory is that of the pattern's fault
-  pub refused_by_fault : (e : Error) →
-      IsErrorOf e (read ranges_of nest_limit pattern flags)
-      ⊎ ((e ≡ TooMuchNesting) × ((t : Tree) × (read ranges_of nest_limit pattern flags ≡ Ok t) × IsTooTall nest_limit t)) →
-      e ≢ Memory → (m : Message) × (e ≡ error_of m) × Fault pattern flags nest_limit m
-  refused_by_fault e (inl (inl memory)) ne = absurd (ne memory)
-  refused_by_fault e (inl (inr stop)) ne = stopped e (read ranges_of nest_limit pattern flags) refl stop
-  refused_by_fault e (inr (nesting, (t, is, tall))) ne = (too_much_nesting, nesting, tall_is_fault ranges_of ranges_of_list nest_limit t is tall)
+  by_fault : (e : Refusal) →
+      IsFaultOf e (read ranges_of nest_limit pattern flags)
+      ⊎ ((e ≡ TooTall) × ((t : Tree) × (read ranges_of nest_limit pattern flags ≡ Ok t) × IsTooTall nest_limit t)) →
+      error_by e ≢ error.Memory → (m : Message) × (error_by e ≡ error_of m) × Fault pattern flags nest_limit m
+  by_fault e (inl (inl memory)) ne = absurd (ne (ap error_by memory))
+  by_fault e (inl (inr stop)) ne = stopped e (read ranges_of nest_limit pattern flags) refl stop
+  by_fault e (inr (nesting, (t, is, tall))) ne = (too_much_nesting, ap error_by nesting, tall_is_fault ranges_of ranges_of_list nest_limit t is tall)
+
+  pub refused_by_fault : (x : Error) (e : Refusal) → x ≡ error_by e →
+      IsFaultOf e (read ranges_of nest_limit pattern flags)
+      ⊎ ((e ≡ TooTall) × ((t : Tree) × (read ranges_of nest_limit pattern flags ≡ Ok t) × IsTooTall nest_limit t)) →
+      x ≢ error.Memory → (m : Message) × (x ≡ error_of m) × Fault pattern flags nest_limit m
+  refused_by_fault x e same refuses ne = let f = by_fault e refuses (λ memory. ne (same ∙ memory)) in (f.0, same ∙ f.1, f.2)
 
   -- a pattern with a fault has no tree within the limits
   pub fault_has_no_tree : (m : Message) → Fault pattern flags nest_limit m → (t : Tree) → Limits pattern flags nest_limit t → ⊥
   fault_has_no_tree m f t l = refused_has_no_tree ranges_of ranges_of_list nest_limit pattern flags m t f l
-
-  -- what the parser returns, by clauses; `tree` is the tree in its result
-  pub read_clause : {A : Type 0} (tree : A → Tree) (o : Result A Error) →
-      IfOk o (λ r. (read ranges_of nest_limit pattern flags ≡ Ok (tree r)) × (height (tree r) ≤ nest_limit) × (height (tree r) < 4294967295)) →
-      IfOk o (λ r. Limits pattern flags nest_limit (tree r))
-  read_clause tree (Ok r) h = answered_within (tree r) h.0 h.1 h.2
-  read_clause tree (Err e) h = h
-
-  pub compilable_clause : {A : Type 0} (tree : A → Tree) (o : Result A Error) →
-      IfOk o (λ r. (read ranges_of nest_limit pattern flags ≡ Ok (tree r)) × (height (tree r) ≤ nest_limit) × (height (tree r) < 4294967295)) →
-      IfOk o (λ r. IsCompilable (tree r))
-  compilable_clause tree (Ok r) h = answered_compilable (tree r) (answered_within (tree r) h.0 h.1 h.2)
-  compilable_clause tree (Err e) h = h
-
-  pub message_clause : {A : Type 0} (o : Result A Error) →
-      IfErr o (λ e. IsErrorOf e (read ranges_of nest_limit pattern flags)
-      ⊎ ((e ≡ TooMuchNesting) × ((t : Tree) × (read ranges_of nest_limit pattern flags ≡ Ok t) × IsTooTall nest_limit t))) →
-      IfErr o (λ e. e ≢ Memory → (m : Message) × (e ≡ error_of m) × Fault pattern flags nest_limit m)
-  message_clause (Ok r) h = h
-  message_clause (Err e) h = λ ne. refused_by_fault e h ne
-
-  pub refused_clause : {A : Type 0} (o : Result A Error) →
-      IfErr o (λ e. e ≢ Memory → (m : Message) × (e ≡ error_of m) × Fault pattern flags nest_limit m) →
-      IfErr o (λ e. e ≢ Memory → (t : Tree) → Limits pattern flags nest_limit t → ⊥)
-  refused_clause (Ok r) h = h
-  refused_clause (Err e) h = λ ne t l. let f = h ne in fault_has_no_tree f.0 f.2 t l
-
-  -- a group that each reading of the pattern opens, any reading of it to the same tree does
-  pub groups_clause : {A : Type 0} (tree : A → Tree) (groups : A → List (Option (List ℕ))) (o : Result A Error) →
-      IfOk o (λ r. (t : Tree) → (reading : Reading pattern flags t) → groups r ≡ groups_opened reading) →
-      IfOk o (λ r. (reading : Reading pattern flags (tree r)) → groups r ≡ groups_opened reading)
-  groups_clause tree groups (Ok r) h = h (tree r)
-  groups_clause tree groups (Err e) h = h

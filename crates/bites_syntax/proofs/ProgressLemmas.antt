@@ -9,7 +9,7 @@ use Rattle.bites_spec.specs.Pattern.{Text, Flags, skip}
 use Rattle.bites_spec.specs.RangesOf.{ranges_of}
 use Rattle.bites_spec.specs.Reader.{ReadResult, Bounds, ReadChoice, Opened, Reader, Stop, and_found, and_then, at_item, at_opened, inner, at_operator, behind_group, counted, directive, group, opened, repeat_last}
 use Rattle.bites_spec.specs.Tree.{Tree, sequence_of}
-use Rattle.bites_text.specs.declared.error.Error.{Error}
+use Rattle.bites_syntax.specs.declared.refusal.Refusal.{Refusal}
 use Rattle.bites_text.specs.declared.error.Error.TheVariants.{TooMuchNesting, UnclosedGroup, UnopenedGroup}
 use Rattle.bites_syntax.specs.declared.node.Node.{Node}
 use Rattle.bites_syntax.specs.declared.parse.OpenGroup.{OpenGroup}
@@ -18,7 +18,7 @@ use Rattle.bites_syntax.specs.declared.parse.Branches.{Branches}
 use Rattle.bites_syntax.specs.declared.parse.Step.{Step}
 use Rattle.bites_syntax.specs.declared.parse.Step.TheVariants.{Item, Group, End}
 use Rattle.bites_syntax.specs.Nodes.{AreNodes}
-use Rattle.bites_syntax.specs.Parts.{error_in, IsErrorOf, WithSteps}
+use Rattle.bites_syntax.specs.Parts.{fault_at, fault_in, IsFaultOf, WithSteps}
 use Rattle.bites_syntax.specs.Progress.{Enters, GoesOn, GoesOnWithItem, HasDepth, IsAt, IsForward, ReadsItem, Steps, ends_items}
 use Rattle.bites_syntax.specs.FlagsView.{flags_of}
 use Rattle.bites_syntax.specs.Openings.{IsStateOf}
@@ -41,9 +41,9 @@ module _ (limit : ℕ) (go : Reader) (depth : ℕ) (g : pattern.Front) (bs : Lis
   operator_goes ts more t m at rest a b are reads = rw (are, reads) refl
 
   -- a fault of an operator after a node
-  pub operator_fault : (ts more : List Tree) (t : Tree) (m : Message) (at : Text) (a : ReadResult Bounds) (e : Error) → ts ≡ t ∷ more → error_in a ≡ Some e →
-      error_in (at_operator ranges_of limit go depth g bs ts m at a) ≡ Some e
-  operator_fault ts more t m at (Ok x) e are fault = absurd (let wrong : error_in (Ok x) ≡ Some e = fault in cc)
+  pub operator_fault : (ts more : List Tree) (t : Tree) (m : Message) (at : Text) (a : ReadResult Bounds) (e : Refusal) → ts ≡ t ∷ more → fault_in a ≡ Some e →
+      fault_in (at_operator ranges_of limit go depth g bs ts m at a) ≡ Some e
+  operator_fault ts more t m at (Ok x) e are fault = absurd (let wrong : fault_in (Ok x) ≡ Some e = fault in cc)
   operator_fault ts more t m at (Err s) e are fault = rw are fault
 
   pub directive_goes : (ts : List Tree) (t rest : Text) (x : Opened) (flags : Flags) → opened g t ≡ Ok (x, rest) → x ≡ directive flags →
@@ -57,7 +57,7 @@ module _ (limit : ℕ) (go : Reader) (depth : ℕ) (g : pattern.Front) (bs : Lis
       let few = le-ltb limit (depth + 1) (omega arith) in rw (reads, is) (rw few refl)
 
   pub group_stops : (ts : List Tree) (t rest : Text) (x : Opened) (opening : Opening) (inside : pattern.Front) → opened g t ≡ Ok (x, rest) → x ≡ group opening inside → limit ≤ depth →
-      error_in (and_then (opened g t) (at_opened ranges_of limit go depth g bs ts)) ≡ Some TooMuchNesting
+      fault_in (and_then (opened g t) (at_opened ranges_of limit go depth g bs ts)) ≡ Some (fault_at TooMuchNesting rest)
   group_stops ts t rest x opening inside reads is full =
       let many = lt-ltb limit (depth + 1) (omega arith) in rw (reads, is) (rw many refl)
 
@@ -69,25 +69,25 @@ pub opened_at : (f : Flags) (g : pattern.Front) (t u : Text) → f ≡ g.flags �
 opened_at f g t u same at = ap (opened g) (ap (λ x. skip x t) (sym same) ∙ sym at)
 
 -- whether a group is opened is what the reader says
-pub enter_steps : (limit depth n : ℕ) (p : Parser) (parsed : Branches) (g : pattern.Front) (bs ts : List Tree) (opens : OpenGroup) (result : Result Step Error) (a : Result ReadChoice Stop) →
-    MatchResult result (λ step. (step ≡ Group opens) × (depth < limit)) (λ e. (e ≡ TooMuchNesting) × (limit ≤ depth)) → (depth < limit → Enters limit depth n p opens g bs ts a) →
-    (limit ≤ depth → error_in a ≡ Some TooMuchNesting) → AreNodes limit parsed.complete.items bs → AreNodes limit parsed.nodes.items ts → Steps limit depth n g bs ts result p parsed a
+pub enter_steps : (limit depth n : ℕ) (p : Parser) (parsed : Branches) (g : pattern.Front) (bs ts : List Tree) (opens : OpenGroup) (result : Result Step Refusal) (a : Result ReadChoice Stop) →
+    MatchResult result (λ step. (step ≡ Group opens) × (depth < limit)) (λ e. (e ≡ fault_at TooMuchNesting p.cursor) × (limit ≤ depth)) → (depth < limit → Enters limit depth n p opens g bs ts a) →
+    (limit ≤ depth → fault_in a ≡ Some (fault_at TooMuchNesting p.cursor)) → AreNodes limit parsed.complete.items bs → AreNodes limit parsed.nodes.items ts → Steps limit depth n g bs ts result p parsed a
 enter_steps limit depth n p parsed g bs ts opens (Ok step) a is enters stops bs_are ts_are = rw is.0 (enters is.1, bs_are, ts_are)
 enter_steps limit depth n p parsed g bs ts opens (Err e) a is enters stops bs_are ts_are = inr (rw is.0 (stops is.1))
 
 -- a step that reads a character more
-pub step_forward : (limit depth : ℕ) (result : Result Step Error) (old new : Text) → HasDepth limit depth result → length new < length old → IsForward limit depth result old new
+pub step_forward : (limit depth : ℕ) (result : Result Step Refusal) (old new : Text) → HasDepth limit depth result → length new < length old → IsForward limit depth result old new
 step_forward limit depth (Ok Item) old new room less = less
 step_forward limit depth (Ok (Group opens)) old new room less = (less, room.0, room.1)
 step_forward limit depth (Ok End) old new room less = absurd room
 step_forward limit depth (Err e) old new room less = omega arith
 
 -- an equal result
-pub steps_at : (limit depth n : ℕ) (g : pattern.Front) (bs ts : List Tree) (result : Result Step Error) (p : Parser) (parsed : Branches) (a b : Result ReadChoice Stop) → a ≡ b →
+pub steps_at : (limit depth n : ℕ) (g : pattern.Front) (bs ts : List Tree) (result : Result Step Refusal) (p : Parser) (parsed : Branches) (a b : Result ReadChoice Stop) → a ≡ b →
     Steps limit depth n g bs ts result p parsed b → Steps limit depth n g bs ts result p parsed a
 steps_at limit depth n g bs ts result p parsed a b e h = subst (λ x. Steps limit depth n g bs ts result p parsed x) (sym e) h
 
-pub reads_at : {A : Type 0} → (limit depth n : ℕ) (result : Result A Error) (p : Parser) (parsed : Branches) (a b : Result ReadChoice Stop) → a ≡ b →
+pub reads_at : {A : Type 0} → (limit depth n : ℕ) (result : Result A Refusal) (p : Parser) (parsed : Branches) (a b : Result ReadChoice Stop) → a ≡ b →
     ReadsItem limit depth n result p parsed b → ReadsItem limit depth n result p parsed a
 reads_at limit depth n result p parsed a b e h = subst (λ x. ReadsItem limit depth n result p parsed x) (sym e) h
 
@@ -100,7 +100,7 @@ read_item limit n depth f g bs ts t u same at =
 
 module _ (limit : ℕ) (go : Reader) (n : ℕ) (g : pattern.Front) (bs ts : List Tree) where
   -- the end of the pattern in a group
-  pub end_in_group : (depth : ℕ) (u : Text) → u ≡ [] → 0 < depth → error_in (at_item ranges_of limit go n depth g bs ts u) ≡ Some UnclosedGroup
+  pub end_in_group : (depth : ℕ) (u : Text) → u ≡ [] → 0 < depth → fault_in (at_item ranges_of limit go n depth g bs ts u) ≡ Some (fault_at UnclosedGroup u)
   end_in_group zero u at deep = absurd (omega arith)
   end_in_group (suc depth) u at deep = rw at refl
 
@@ -110,7 +110,7 @@ module _ (limit : ℕ) (go : Reader) (n : ℕ) (g : pattern.Front) (bs ts : List
   end_of_all (suc depth) u at deep = absurd (omega arith)
 
   -- a closing parenthesis that closes no group
-  pub close_none : (depth : ℕ) (u v : Text) (c : ℕ) → u ≡ c ∷ v → c ≡ 41 → depth ≡ 0 → error_in (at_item ranges_of limit go n depth g bs ts u) ≡ Some UnopenedGroup
+  pub close_none : (depth : ℕ) (u v : Text) (c : ℕ) → u ≡ c ∷ v → c ≡ 41 → depth ≡ 0 → fault_in (at_item ranges_of limit go n depth g bs ts u) ≡ Some (fault_at UnopenedGroup u)
   close_none zero u v c at is deep = rw (at, is) refl
   close_none (suc depth) u v c at is deep = absurd (omega (arith, deep))
 
@@ -165,14 +165,14 @@ pub item_under : (limit : ℕ) (p : Parser) (parsed : Branches) (c : ℕ) (q : P
 item_under limit p parsed c q after e goes = subst (λ l. ItemGoesOn l p parsed c q after) e goes
 
 -- an opening that is read under the limit of the parser is read under this limit
-abbrev pub OpeningSteps : ℕ → ℕ → Parser → Result Step Error → Parser → Type 0
+abbrev pub OpeningSteps : ℕ → ℕ → Parser → Result Step Refusal → Parser → Type 0
 OpeningSteps limit depth p result q =
     (parsed : Branches) → (g : pattern.Front) → (bs ts : List Tree) → IsAt limit p parsed g bs ts → (n : ℕ) →
     Steps limit depth n g bs ts result q parsed (and_then (opened g (skip g.flags p.cursor)) (at_opened ranges_of limit (inner ranges_of limit n) depth g bs ts))
 
-pub opening_under : (limit depth : ℕ) (p : Parser) (result : Result Step Error) (q : Parser) → p.limit ≡ limit → OpeningSteps p.limit depth p result q → OpeningSteps limit depth p result q
+pub opening_under : (limit depth : ℕ) (p : Parser) (result : Result Step Refusal) (q : Parser) → p.limit ≡ limit → OpeningSteps p.limit depth p result q → OpeningSteps limit depth p result q
 opening_under limit depth p result q e opens = subst (λ l. OpeningSteps l depth p result q) e opens
 
 -- a fault of what is read next
-pub fault_of_rest : (e : Error) (a b : Result ReadChoice Stop) → a ≡ b → IsErrorOf e b → IsErrorOf e a
-fault_of_rest e a b same fault = ⊎_elim (λ m. inl m) (λ f. inr (ap error_in same ∙ f)) fault
+pub fault_of_rest : (e : Refusal) (a b : Result ReadChoice Stop) → a ≡ b → IsFaultOf e b → IsFaultOf e a
+fault_of_rest e a b same fault = ⊎_elim (λ m. inl m) (λ f. inr (ap fault_in same ∙ f)) fault

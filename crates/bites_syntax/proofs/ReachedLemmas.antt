@@ -5,14 +5,14 @@ use Rattle.bites_spec.specs.Pattern as pattern
 use Rattle.bites_spec.specs.RangesOf.{ranges_of}
 use Rattle.bites_spec.specs.Reader.{ReadChoice, Stop, and_found, at_item, behind_group, inner, read}
 use Rattle.bites_spec.specs.Tree.{Tree, alternation_of, sequence_of}
-use Rattle.bites_text.specs.declared.error.Error.{Error}
+use Rattle.bites_syntax.specs.declared.refusal.Refusal.{Refusal}
 use Rattle.bites_syntax.specs.declared.node.Node.{Node}
 use Rattle.bites_syntax.specs.declared.parse.OpenGroup.{OpenGroup}
 use Rattle.bites_syntax.specs.declared.parse.Parser.{Parser}
 use Rattle.bites_syntax.specs.declared.parse.Branches.{Branches}
 use Rattle.bites_syntax.specs.Nodes.{AreNodes, IsNodeOf}
 use Rattle.bites_syntax.specs.Openings.{IsStateOf}
-use Rattle.bites_syntax.specs.Parts.{error_in, IsErrorOf}
+use Rattle.bites_syntax.specs.Parts.{fault_in, IsFaultOf}
 use Rattle.bites_syntax.specs.Progress.{IsAt, GoesOn, GoesOnWithItem, Enters, EndsReading, ReadsAs}
 
 -- what the reader is asked at the start, it is asked where the parser is
@@ -46,9 +46,9 @@ module _ (limit depth n : ℕ) (start : pattern.Front) (text : pattern.Text) (p 
       record { g = on.g; branches = on.branches; nodes = on.nodes; steps = on.steps; is_at = on.is_at; room = on.room; same = r.same ∙ on.same }
 
   -- a fault in a run of items
-  pub reached_fault : (e : Error) (r : Reached limit depth n start text p parsed) → IsErrorOf e (inner ranges_of limit (suc r.steps) depth r.g r.branches r.nodes p.cursor) →
-      IsErrorOf e (inner ranges_of limit (suc n) depth start [] [] text)
-  reached_fault e r fault = ⊎_elim (λ m. inl m) (λ f. inr (ap error_in r.same ∙ f)) fault
+  pub reached_fault : (e : Refusal) (r : Reached limit depth n start text p parsed) → IsFaultOf e (inner ranges_of limit (suc r.steps) depth r.g r.branches r.nodes p.cursor) →
+      IsFaultOf e (inner ranges_of limit (suc n) depth start [] [] text)
+  reached_fault e r fault = ⊎_elim (λ m. inl m) (λ f. inr (ap fault_in r.same ∙ f)) fault
 
   -- after a step
   pub reached_item : (q : Parser) (after : Branches) (r : ReachesItem limit depth n start text p parsed) →
@@ -85,13 +85,13 @@ module _ (limit depth n : ℕ) (start : pattern.Front) (text : pattern.Text) (p 
   }
 
   -- a fault of a step
-  pub step_fault : (e : Error) (r : ReachesItem limit depth n start text p parsed) →
-      IsErrorOf e (at_item ranges_of limit (inner ranges_of limit r.steps) r.steps depth r.g r.branches r.nodes p.cursor) →
-      IsErrorOf e (inner ranges_of limit (suc n) depth start [] [] text)
-  step_fault e r fault = ⊎_elim (λ m. inl m) (λ f. inr (ap error_in r.same ∙ f)) fault
+  pub step_fault : (e : Refusal) (r : ReachesItem limit depth n start text p parsed) →
+      IsFaultOf e (at_item ranges_of limit (inner ranges_of limit r.steps) r.steps depth r.g r.branches r.nodes p.cursor) →
+      IsFaultOf e (inner ranges_of limit (suc n) depth start [] [] text)
+  step_fault e r fault = ⊎_elim (λ m. inl m) (λ f. inr (ap fault_in r.same ∙ f)) fault
 
-fault_inside : (a : Result ReadChoice Stop) (f : ReadChoice → Result ReadChoice Stop) (e : Error) → error_in a ≡ Some e → error_in (and_found a f) ≡ Some e
-fault_inside (Ok x) f e fault = absurd (let wrong : error_in (Ok x) ≡ Some e = fault in cc)
+fault_inside : (a : Result ReadChoice Stop) (f : ReadChoice → Result ReadChoice Stop) (e : Refusal) → fault_in a ≡ Some e → fault_in (and_found a f) ≡ Some e
+fault_inside (Ok x) f e fault = absurd (let wrong : fault_in (Ok x) ≡ Some e = fault in cc)
 fault_inside (Err s) f e fault = fault
 
 -- what is read inside a group, by one step less
@@ -106,12 +106,12 @@ module _ (limit depth n : ℕ) (start : pattern.Front) (text : pattern.Text) (p 
     (enters : Enters limit depth r.steps q opens r.g r.branches r.nodes (at_item ranges_of limit (inner ranges_of limit r.steps) r.steps depth r.g r.branches r.nodes p.cursor))
     (less : length q.cursor < length p.cursor) where
   -- a fault in a group
-  pub fault_in_group : (e : Error) → ((k : ℕ) → length q.cursor ≤ k → IsErrorOf e (inner ranges_of limit (suc k) (suc depth) enters.inside [] [] q.cursor)) →
-      IsErrorOf e (inner ranges_of limit (suc n) depth start [] [] text)
+  pub fault_in_group : (e : Refusal) → ((k : ℕ) → length q.cursor ≤ k → IsFaultOf e (inner ranges_of limit (suc k) (suc depth) enters.inside [] [] q.cursor)) →
+      IsFaultOf e (inner ranges_of limit (suc n) depth start [] [] text)
   fault_in_group e reads =
-      let here = inside_by limit depth r.steps q opens r.g r.branches r.nodes _ enters (λ a. IsErrorOf e a) (omega (arith, r.room)) reads in
+      let here = inside_by limit depth r.steps q opens r.g r.branches r.nodes _ enters (λ a. IsFaultOf e a) (omega (arith, r.room)) reads in
       ⊎_elim (λ m. inl m)
-      (λ f. inr (ap error_in (r.same ∙ enters.same)
+      (λ f. inr (ap fault_in (r.same ∙ enters.same)
       ∙ fault_inside _ (behind_group ranges_of limit (inner ranges_of limit r.steps) depth r.g r.branches r.nodes enters.opening) e f)) here
 
   -- after a group

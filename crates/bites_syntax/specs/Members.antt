@@ -7,23 +7,24 @@ use Rattle.bites_spec.specs.Pattern.{Text, Flags, begins}
 use Rattle.bites_spec.specs.Reader.{ReadResult, Members, bracket, class_members, dashes, finished, set_operator_message}
 use Rattle.bites_text.specs.Messages.{error_of}
 use Rattle.bites_text.specs.declared.error.Error.{Error}
-use Rattle.bites_syntax.specs.Parts.{IsErrorOf, error_in}
+use Rattle.bites_syntax.specs.declared.refusal.Refusal.{Refusal}
+use Rattle.bites_syntax.specs.Parts.{IsFaultOf, fault_in}
 
 -- the ranges have the scalar values of the set
 unfoldable pub Has : List Range → Set → Type 0
 Has ranges set = (c : ℕ) → is_scalar c ≡ true → in_ranges ranges c ≡ set c
 
 -- the reader adds a part of a class to any set that the ranges had, as the new ranges do, or stops with the error
-abbrev pub Adds : List Range → List Range → Result (Unit {0}) Error → Text → (Members → Set → ReadResult Set) → Type 0
+abbrev pub Adds : List Range → List Range → Result (Unit {0}) Refusal → Text → (Members → Set → ReadResult Set) → Type 0
 Adds old new result rest read =
     (go : Members) (set : Set) → Has old set →
-    MatchResult result (λ _. (more : Set) × (read go set ≡ go more rest) × Has new more) (λ e. IsErrorOf e (read go set))
+    MatchResult result (λ _. (more : Set) × (read go set ≡ go more rest) × Has new more) (λ e. IsFaultOf e (read go set))
 
 -- from any set that the ranges had, the reader comes to the set that the new ranges have, or stops with the error
-abbrev pub Completes : List Range → List Range → Result (Unit {0}) Error → Text → (Set → ReadResult Set) → Type 0
+abbrev pub Completes : List Range → List Range → Result (Unit {0}) Refusal → Text → (Set → ReadResult Set) → Type 0
 Completes old new result rest read =
     (set : Set) → Has old set →
-    MatchResult result (λ _. (more : Set) × (read set ≡ Ok (more, rest)) × Has new more) (λ e. IsErrorOf e (read set))
+    MatchResult result (λ _. (more : Set) × (read set ≡ Ok (more, rest)) × Has new more) (λ e. IsFaultOf e (read set))
 
 -- the first of these classes whose name stands here, whether a caret comes before it, and the text after it
 unfoldable pub named_at : Text → List NamedClass → Option (NamedClass × Bool × Text)
@@ -43,15 +44,15 @@ leading_set None = none
 leading_set (Some c) = single c
 
 -- what the reader does after the caret
-abbrev pub AnswersCaret : Result Bool Error → Text → (n : ℕ) (flags : Flags) → Text → Type 0
+abbrev pub AnswersCaret : Result Bool Refusal → Text → (n : ℕ) (flags : Flags) → Text → Type 0
 AnswersCaret result rest n flags t =
-    MatchResult result (λ negated. bracket n flags t ≡ dashes n flags negated rest) (λ e. error_in (bracket n flags t) ≡ Some e)
+    MatchResult result (λ negated. bracket n flags t ≡ dashes n flags negated rest) (λ e. fault_in (bracket n flags t) ≡ Some e)
 
 -- what the reader does from the first member on
-abbrev pub AnswersLeading : Result (Option ℕ) Error → Text → (n : ℕ) (flags : Flags) (negated : Bool) → Text → Type 0
+abbrev pub AnswersLeading : Result (Option ℕ) Refusal → Text → (n : ℕ) (flags : Flags) (negated : Bool) → Text → Type 0
 AnswersLeading result rest n flags negated t =
     MatchResult result (λ lead. dashes n flags negated t ≡ finished flags negated (class_members n flags (leading_set lead) rest))
-    (λ e. error_in (dashes n flags negated t) ≡ Some e)
+    (λ e. fault_in (dashes n flags negated t) ≡ Some e)
 
 -- the operator on sets that stands here is refused by this error, or none stands here
 abbrev pub IsOperatorError : Option Error → Text → Type 0

@@ -20,8 +20,8 @@ use crate::cursor::Cursor;
 use crate::escape::{Meaning, escape};
 use crate::flags::Flags;
 use crate::look::Look;
+use crate::refusal::Refusal;
 use crate::tree::Tree;
-use bites_text::error::Error;
 use std::alloc::Global;
 
 /// Returns the tree of a character under the flags in force.
@@ -79,7 +79,7 @@ pub(crate) fn atom(
     cursor: &mut Cursor<'_>,
     flags: Flags,
     c: char,
-) -> Result<Tree, Error>
+) -> Result<Tree, Refusal>
     ensures reads { WithSteps cursor.old (λ n. Agrees (λ tree t. tree
         ≡ t) result cursor.new (atom n (flags_of flags) c cursor.old)) }
     ensures forward { length cursor.new ≤ length cursor.old }

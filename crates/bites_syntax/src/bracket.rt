@@ -9,7 +9,7 @@ ghost use Rattle.bites_spec.specs.Reader.{after_dash, after_first, alone, bracke
 ghost use Rattle.bites_syntax.specs.FlagsView.{flags_of};
 ghost use Rattle.bites_syntax.specs.Meanings.{IsMeaning};
 ghost use Rattle.bites_syntax.specs.Members.{Adds, AnswersCaret, AnswersLeading, Completes, Has, IsOperatorError, leading_set, members_named, named_at};
-ghost use Rattle.bites_syntax.specs.Parts.{Agrees, WithSteps};
+ghost use Rattle.bites_syntax.specs.Parts.{Agrees, WithSteps, fault_at};
 ghost use Rattle.bites_syntax.specs.View.{named_of};
 
 use crate::class::Class;
@@ -18,6 +18,7 @@ use crate::cursor::{Characters, Cursor};
 use crate::escape::{Meaning, escape};
 use crate::flags::Flags;
 use crate::named_class::NamedClass;
+use crate::refusal::Refusal;
 use bites_text::error::Error;
 use std::alloc::{AllocError, Global};
 
@@ -68,14 +69,14 @@ fn class_named(name: NamedClass, negated: bool) -> Class
 }
 
 /// Reads a named class, and adds its characters.
-fn named(cursor: &mut Cursor<'_>, builder: &mut ClassBuilder) -> Result<(), Error>
+fn named(cursor: &mut Cursor<'_>, builder: &mut ClassBuilder) -> Result<(), Refusal>
     ensures reads { Adds builder.old builder.new result cursor.new
         (λ go set. named go set cursor.old named_classes) }
     ensures forward { length cursor.new ≤ length cursor.old }
     ensures progress { OnOk result (length cursor.new < length cursor.old) }
 {
     let Some((name, negated, after)) = named_at(cursor, &NamedClass::ALL) else {
-        return Err(Error::NestedClass);
+        return Err(cursor.fault(Error::NestedClass));
     };
     let class = class_named(name, negated);
     builder.extend(class.ranges())?;
@@ -84,42 +85,51 @@ fn named(cursor: &mut Cursor<'_>, builder: &mut ClassBuilder) -> Result<(), Erro
 }
 
 /// Reads what may be an end of a range: a character or an escape.
-fn class_end(alloc: Global, cursor: &mut Cursor<'_>, flags: Flags) -> Result<Meaning, Error>
+fn class_end(alloc: Global, cursor: &mut Cursor<'_>, flags: Flags) -> Result<Meaning, Refusal>
     ensures reads { (n : ℕ) → length cursor.old ≤ suc n →
         Agrees IsMeaning result cursor.new (class_end n (flags_of flags) cursor.old) }
     ensures forward { length cursor.new ≤ length cursor.old }
     ensures progress { OnOk result (length cursor.new < length cursor.old) }
 {
     match cursor.bump() {
-        None => Err(Error::UnclosedClass),
+        None => Err(cursor.fault(Error::UnclosedClass)),
         Some('\\') => escape(alloc, cursor, flags),
         Some(c) => Ok(Meaning::Character(c)),
     }
 }
 
-/// Adds the characters of a member that is not a range.
-fn add_alone(builder: &mut ClassBuilder, member: Meaning) -> Result<(), Error>
-    ensures { (m : spec.Meaning) → IsMeaning member m → (rest : Text) →
-        Adds builder.old builder.new result rest (λ go set. alone go set m rest) }
+/// Adds the characters of a member that is not a range, after which the cursor stands.
+fn add_alone(
+    cursor: &Cursor<'_>,
+    builder: &mut ClassBuilder,
+    member: Meaning,
+) -> Result<(), Refusal>
+    ensures { (m : spec.Meaning) → IsMeaning member m →
+        Adds builder.old builder.new result cursor.now (λ go set. alone go set m cursor.now) }
 {
     match member {
         Meaning::Character(c) => builder.push(c, c)?,
         Meaning::Characters(set) => builder.extend(set.ranges())?,
-        Meaning::Assertion(_) => return Err(Error::InvalidClassEscape),
+        Meaning::Assertion(_) => return Err(cursor.fault(Error::InvalidClassEscape)),
     }
     Ok(())
 }
 
-/// Adds the characters of a range.
-fn add_range(builder: &mut ClassBuilder, first: Meaning, second: Meaning) -> Result<(), Error>
-    ensures { (m k : spec.Meaning) → IsMeaning first m → IsMeaning second k → (rest : Text) →
-        Adds builder.old builder.new result rest (λ go set. range go set m k rest) }
+/// Adds the characters of a range, after which the cursor stands.
+fn add_range(
+    cursor: &Cursor<'_>,
+    builder: &mut ClassBuilder,
+    first: Meaning,
+    second: Meaning,
+) -> Result<(), Refusal>
+    ensures { (m k : spec.Meaning) → IsMeaning first m → IsMeaning second k →
+        Adds builder.old builder.new result cursor.now (λ go set. range go set m k cursor.now) }
 {
     let (Meaning::Character(low), Meaning::Character(high)) = (first, second) else {
-        return Err(Error::RangeOfNoCharacter);
+        return Err(cursor.fault(Error::RangeOfNoCharacter));
     };
     if high < low {
-        return Err(Error::InvalidRange);
+        return Err(cursor.fault(Error::InvalidRange));
     }
     builder.push(low, high)?;
     Ok(())
@@ -132,7 +142,7 @@ fn after_dash(
     flags: Flags,
     builder: &mut ClassBuilder,
     first: Meaning,
-) -> Result<(), Error>
+) -> Result<(), Refusal>
     ensures reads { (t : Text) → cursor.old ≡ 45 ∷ t → (n : ℕ) → length t ≤ n →
         (m : spec.Meaning) → IsMeaning first m →
         Adds builder.old builder.new result cursor.new
@@ -144,12 +154,12 @@ fn after_dash(
     ahead.bump();
     ahead.skip(flags);
     match ahead.peek() {
-        None => Err(Error::UnclosedAfterDash),
-        Some(']' | '-') => add_alone(builder, first),
+        None => Err(ahead.fault(Error::UnclosedAfterDash)),
+        Some(']' | '-') => add_alone(cursor, builder, first),
         Some(_) => {
             *cursor = ahead;
             let second = class_end(alloc, cursor, flags)?;
-            add_range(builder, first, second)
+            add_range(cursor, builder, first, second)
         }
     }
 }
@@ -161,16 +171,16 @@ fn after_first(
     flags: Flags,
     builder: &mut ClassBuilder,
     first: Meaning,
-) -> Result<(), Error>
+) -> Result<(), Refusal>
     ensures reads { WithSteps cursor.old (λ n. (m : spec.Meaning) → IsMeaning first m →
         Adds builder.old builder.new result cursor.new
         (λ go set. after_first go n (flags_of flags) set m cursor.old)) }
     ensures forward { length cursor.new ≤ length cursor.old }
 {
     match cursor.peek() {
-        None => Err(Error::UnclosedAfterMember),
+        None => Err(cursor.fault(Error::UnclosedAfterMember)),
         Some('-') => after_dash(alloc, cursor, flags, builder, first),
-        Some(_) => add_alone(builder, first),
+        Some(_) => add_alone(cursor, builder, first),
     }
 }
 
@@ -195,7 +205,7 @@ fn unnamed(
     cursor: &mut Cursor<'_>,
     flags: Flags,
     builder: &mut ClassBuilder,
-) -> Result<(), Error>
+) -> Result<(), Refusal>
     requires { next_is (one_of (codes "[]")) cursor.old ≡ false }
     ensures reads { (n : ℕ) → length cursor.old ≤ suc n →
         Adds builder.old builder.new result cursor.new
@@ -204,7 +214,7 @@ fn unnamed(
     ensures progress { OnOk result (length cursor.new < length cursor.old) }
 {
     if let Some(error) = set_operator(cursor) {
-        return Err(error);
+        return Err(cursor.fault(error));
     }
     let first = class_end(alloc, cursor, flags)?;
     cursor.skip(flags);
@@ -217,7 +227,7 @@ fn member(
     cursor: &mut Cursor<'_>,
     flags: Flags,
     builder: &mut ClassBuilder,
-) -> Result<(), Error>
+) -> Result<(), Refusal>
     requires { next_is (single 93) cursor.old ≡ false }
     ensures reads { (n : ℕ) → length cursor.old ≤ suc n →
         Adds builder.old builder.new result cursor.new
@@ -237,7 +247,7 @@ fn members(
     cursor: &mut Cursor<'_>,
     flags: Flags,
     builder: &mut ClassBuilder,
-) -> Result<(), Error>
+) -> Result<(), Refusal>
     ensures reads { WithSteps cursor.old
         (λ n.
         Completes builder.old builder.new result cursor.new
@@ -253,32 +263,32 @@ fn members(
 }
 
 /// Reads a caret and its gap, if one stands here. Returns whether one did.
-fn caret(cursor: &mut Cursor<'_>, flags: Flags) -> Result<bool, Error>
+fn caret(cursor: &mut Cursor<'_>, flags: Flags) -> Result<bool, Refusal>
     ensures reads { (n : ℕ) → AnswersCaret result cursor.new n (flags_of flags) cursor.old }
     ensures forward { length cursor.new ≤ length cursor.old }
 {
     if cursor.peek().is_none() {
-        return Err(Error::UnclosedClass);
+        return Err(cursor.fault(Error::UnclosedClass));
     }
     if !cursor.bump_if('^') {
         return Ok(false);
     }
     cursor.skip(flags);
     match cursor.peek() {
-        None => Err(Error::UnclosedAfterCaret),
+        None => Err(cursor.fault(Error::UnclosedAfterCaret)),
         Some(_) => Ok(true),
     }
 }
 
 /// Reads the dashes or the closing bracket that stand for themselves before the members. Returns which of them stood
 /// there, if any did.
-fn leading(cursor: &mut Cursor<'_>, flags: Flags) -> Result<Option<char>, Error>
+fn leading(cursor: &mut Cursor<'_>, flags: Flags) -> Result<Option<char>, Refusal>
     ensures reads { WithSteps cursor.old (λ n. (negated : Bool) →
         AnswersLeading result cursor.new n (flags_of flags) negated cursor.old) }
     ensures forward { length cursor.new ≤ length cursor.old }
 {
     match cursor.peek() {
-        None => Err(Error::UnclosedClass),
+        None => Err(cursor.fault(Error::UnclosedClass)),
         Some('-') => {
             cursor.pass_each(flags, Characters::Dash);
             unless_at_end(cursor, '-', Error::UnclosedAfterDash)
@@ -292,14 +302,14 @@ fn leading(cursor: &mut Cursor<'_>, flags: Flags) -> Result<Option<char>, Error>
     }
 }
 
-/// Returns `c`, or `error` at the end of the pattern.
-fn unless_at_end(cursor: &Cursor<'_>, c: char, error: Error) -> Result<Option<char>, Error>
+/// Returns `c`, or the fault of `error` at the end of the pattern.
+fn unless_at_end(cursor: &Cursor<'_>, c: char, error: Error) -> Result<Option<char>, Refusal>
     ensures { MatchResult result
         (λ leading. (leading ≡ Some c) × (d : ℕ) × (t : Text) × (cursor.now ≡ d ∷ t))
-        (λ e. (e ≡ error) × (cursor.now ≡ [])) }
+        (λ e. (e ≡ fault_at error cursor.now) × (cursor.now ≡ [])) }
 {
     match cursor.peek() {
-        None => Err(error),
+        None => Err(cursor.fault(error)),
         Some(_) => Ok(Some(c)),
     }
 }
@@ -337,7 +347,11 @@ fn finished(
 }
 
 /// Reads the rest of a class after its opening bracket and the gap there.
-pub(crate) fn bracket(alloc: Global, cursor: &mut Cursor<'_>, flags: Flags) -> Result<Class, Error>
+pub(crate) fn bracket(
+    alloc: Global,
+    cursor: &mut Cursor<'_>,
+    flags: Flags,
+) -> Result<Class, Refusal>
     ensures reads { WithSteps cursor.old
         (λ n. Agrees Lists result cursor.new (bracket n (flags_of flags) cursor.old)) }
     ensures forward { length cursor.new ≤ length cursor.old }

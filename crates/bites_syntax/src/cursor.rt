@@ -5,9 +5,12 @@ ghost use Rattle.std.specs.Prelude.{◌≡◌, ◌||◌, ◌==◌, not, ◌≤�
 ghost use Rattle.bites_spec.specs.Class.{single};
 ghost use Rattle.bites_spec.specs.Pattern.{begins, next_is, skip, skip_blank, skip_white, hash, line_feed};
 ghost use Rattle.bites_syntax.specs.FlagsView.{flags_of};
+ghost use Rattle.bites_syntax.specs.Parts.{fault_at};
 ghost use Rattle.bites_syntax.specs.Steps.{each_of};
 
 use crate::flags::Flags;
+use crate::refusal::Refusal;
+use bites_text::error::Error;
 use std::marker::Model;
 
 /// The rest of a pattern, from an offset to its end.
@@ -85,6 +88,16 @@ impl<'a> Cursor<'a> {
         ensures { result ≡ self.now }
     {
         Cursor { rest: self.rest }
+    }
+
+    /// Returns the fault of this message, if its place is here.
+    pub(crate) fn fault(&self, error: Error) -> Refusal
+        ensures { result ≡ fault_at error self.now }
+    {
+        Refusal::At {
+            error,
+            left: self.rest.len(),
+        }
     }
 
     /// Returns the next character, or None at the end.

@@ -1,6 +1,6 @@
 //! Escapes: what a backslash begins.
 
-ghost use Rattle.std.specs.Prelude.{◌≡◌, ◌≤◌, length, IfOk, OnOk, option_map, string_bytes};
+ghost use Rattle.std.specs.Prelude.{◌≡◌, ◌∷◌, ◌≤◌, length, IfOk, OnOk, option_map, string_bytes};
 ghost use Rattle.bites_spec.specs.Escape.{assertion_of, boundary_of, class_of, control_of, digits_of, escapes_itself, is_boundary_letter};
 ghost use Rattle.bites_spec.specs.Reader.{boundary, boundary_name, escape, meaning_of, simple};
 ghost use Rattle.bites_syntax.specs.FlagsView.{flags_of};
@@ -16,6 +16,7 @@ use crate::hexadecimal::hexadecimal;
 use crate::look::Look;
 use crate::named_class::NamedClass;
 use crate::range_list::Constant;
+use crate::refusal::Refusal;
 use bites_text::error::Error;
 use std::alloc::{AllocError, Global};
 
@@ -119,16 +120,17 @@ fn boundary_of(name: &str) -> Option<Look>
 }
 
 /// Reads the name of a word boundary and its closing brace.
-fn boundary_name(alloc: Global, cursor: &mut Cursor<'_>, flags: Flags) -> Result<Look, Error>
+fn boundary_name(alloc: Global, cursor: &mut Cursor<'_>, flags: Flags) -> Result<Look, Refusal>
     ensures reads { let name = each_of (flags_of flags) is_boundary_letter cursor.old in
         Agrees IsLook result cursor.new (boundary_name name.0 name.1) }
     ensures forward { length cursor.new ≤ length cursor.old }
 {
     let name = letters(alloc, cursor, flags)?;
+    let end = cursor.ahead();
     if !cursor.bump_if('}') {
-        return Err(Error::UnclosedBoundary);
+        return Err(end.fault(Error::UnclosedBoundary));
     }
-    boundary_of(&name).ok_or(Error::UnrecognizedBoundary)
+    boundary_of(&name).ok_or(end.fault(Error::UnrecognizedBoundary))
 }
 
 /// Reads a run of letters and dashes, with the gap after each.
@@ -147,7 +149,7 @@ fn letters(alloc: Global, cursor: &mut Cursor<'_>, flags: Flags) -> Result<Strin
 }
 
 /// Reads the rest of a word boundary after its `b`.
-fn boundary(alloc: Global, cursor: &mut Cursor<'_>, flags: Flags) -> Result<Look, Error>
+fn boundary(alloc: Global, cursor: &mut Cursor<'_>, flags: Flags) -> Result<Look, Refusal>
     ensures reads { WithSteps cursor.old
         (λ n. Agrees IsLook result cursor.new (boundary n (flags_of flags) cursor.old)) }
     ensures forward { length cursor.new ≤ length cursor.old }
@@ -158,7 +160,7 @@ fn boundary(alloc: Global, cursor: &mut Cursor<'_>, flags: Flags) -> Result<Look
     }
     ahead.skip(flags);
     match ahead.peek() {
-        None => Err(Error::UnfinishedBoundary),
+        None => Err(ahead.fault(Error::UnfinishedBoundary)),
         Some(c) if Characters::BoundaryLetter.contains(c) => {
             *cursor = ahead;
             boundary_name(alloc, cursor, flags)
@@ -167,8 +169,14 @@ fn boundary(alloc: Global, cursor: &mut Cursor<'_>, flags: Flags) -> Result<Look
     }
 }
 
-/// Reads the rest of an escape after its first character, which is not `b`.
-fn simple(cursor: &mut Cursor<'_>, flags: Flags, c: char) -> Result<Meaning, Error>
+/// Reads the rest of an escape after its first character, which is not `b`. The escape begins at `start`.
+fn simple(
+    cursor: &mut Cursor<'_>,
+    start: &Cursor<'_>,
+    flags: Flags,
+    c: char,
+) -> Result<Meaning, Refusal>
+    requires { start.now ≡ c ∷ cursor.old }
     ensures reads { WithSteps cursor.old
         (λ n. Agrees IsMeaning result cursor.new (simple n (flags_of flags) c cursor.old)) }
     ensures forward { length cursor.new ≤ length cursor.old }
@@ -177,23 +185,28 @@ fn simple(cursor: &mut Cursor<'_>, flags: Flags, c: char) -> Result<Meaning, Err
         return Ok(meaning);
     }
     let Some(count) = digits(c) else {
-        return Err(Error::UnrecognizedEscape);
+        return Err(start.fault(Error::UnrecognizedEscape));
     };
     cursor.skip(flags);
     Ok(Meaning::Character(hexadecimal(cursor, flags, count)?))
 }
 
 /// Reads the rest of an escape after its backslash.
-pub(crate) fn escape(alloc: Global, cursor: &mut Cursor<'_>, flags: Flags) -> Result<Meaning, Error>
+pub(crate) fn escape(
+    alloc: Global,
+    cursor: &mut Cursor<'_>,
+    flags: Flags,
+) -> Result<Meaning, Refusal>
     ensures reads { WithSteps cursor.old
         (λ n. Agrees IsMeaning result cursor.new (escape n (flags_of flags) cursor.old)) }
     ensures forward { length cursor.new ≤ length cursor.old }
 {
+    let start = cursor.ahead();
     match cursor.bump() {
-        None => Err(Error::EscapeUnfinished),
-        Some('0'..='9') => Err(Error::Backreference),
-        Some('p' | 'P') => Err(Error::UnicodeClass),
+        None => Err(start.fault(Error::EscapeUnfinished)),
+        Some('0'..='9') => Err(start.fault(Error::Backreference)),
+        Some('p' | 'P') => Err(start.fault(Error::UnicodeClass)),
         Some('b') => Ok(Meaning::Assertion(boundary(alloc, cursor, flags)?)),
-        Some(c) => simple(cursor, flags, c),
+        Some(c) => simple(cursor, &start, flags, c),
     }
 }

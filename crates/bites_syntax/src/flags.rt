@@ -6,9 +6,10 @@ ghost use Rattle.bites_spec.specs.Pattern.{Front, dash, one_of};
 ghost use Rattle.bites_spec.specs.Reader.{flags_from};
 ghost use Rattle.bites_syntax.specs.FlagsView.{flags_of};
 ghost use Rattle.bites_syntax.specs.Groups.{ends_flags};
-ghost use Rattle.bites_syntax.specs.Parts.{IsErrorOf};
+ghost use Rattle.bites_syntax.specs.Parts.{IsFaultOf};
 
 use crate::cursor::Cursor;
+use crate::refusal::Refusal;
 use bites_text::error::Error;
 use std::alloc::Global;
 
@@ -74,11 +75,11 @@ fn ends_run(c: char) -> bool
 }
 
 /// Reads flag letters and a dash, up to the character that ends them or to the end of the pattern.
-pub(crate) fn flag_run(alloc: Global, cursor: &mut Cursor<'_>) -> Result<Vec<char>, Error>
+pub(crate) fn flag_run(alloc: Global, cursor: &mut Cursor<'_>) -> Result<Vec<char>, Refusal>
     ensures reads { MatchResult result
         (λ run. (front : Front) →
         flags_from front [] cursor.old ≡ flags_from front run.items cursor.new)
-        (λ e. (front : Front) → IsErrorOf e (flags_from front [] cursor.old)) }
+        (λ e. (front : Front) → IsFaultOf e (flags_from front [] cursor.old)) }
     ensures ends { OnOk result (ends_flags cursor.new ≡ true) }
     ensures forward { length cursor.new ≤ length cursor.old }
 {
@@ -88,10 +89,10 @@ pub(crate) fn flag_run(alloc: Global, cursor: &mut Cursor<'_>) -> Result<Vec<cha
             break;
         }
         if !is_flag_mark(c) {
-            return Err(Error::UnrecognizedFlag);
+            return Err(cursor.fault(Error::UnrecognizedFlag));
         }
         if run.contains(&c) {
-            return Err(duplicate_error(c));
+            return Err(cursor.fault(duplicate_error(c)));
         }
         run.push(c)?;
         cursor.bump();

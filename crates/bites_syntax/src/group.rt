@@ -1,6 +1,6 @@
 //! What opens a group.
 
-ghost use Rattle.std.specs.Prelude.{◌≡◌, ◌≤◌, ◌+◌, [], length, true};
+ghost use Rattle.std.specs.Prelude.{◌≡◌, ◌≤◌, ◌+◌, ◌∷◌, [], length, true};
 ghost use Rattle.bites_spec.specs.Group.{begins_look_around, ends_with_dash};
 ghost use Rattle.bites_spec.specs.Pattern as pattern;
 ghost use Rattle.bites_spec.specs.Pattern.{Text};
@@ -15,6 +15,7 @@ use crate::flags::{Flags, changed, flag_run};
 use crate::group_names::{Names, name};
 use crate::groups::Groups;
 use crate::name::Name;
+use crate::refusal::Refusal;
 use bites_text::error::Error;
 use std::alloc::Global;
 
@@ -59,20 +60,25 @@ fn ends_with_dash(run: &[char]) -> bool
     }
 }
 
-/// Returns what flags and the character after them open.
-fn flags_end(run: &[char], end: char, state: &mut ParserState) -> Result<Opened, Error>
-    ensures { (g : pattern.Front) → (rest : Text) → IsStateOf state.old g →
+/// Returns what flags and the character after them open. That character stands at `place`.
+fn flags_end(
+    run: &[char],
+    place: &Cursor<'_>,
+    end: char,
+    state: &mut ParserState,
+) -> Result<Opened, Refusal>
+    ensures { (g : pattern.Front) → (rest : Text) → place.now ≡ end ∷ rest → IsStateOf state.old g →
         Agrees (λ o x. IsOpened o state.new g x) result rest (flags_end g run.now end rest) }
 {
     if run.is_empty() {
         return if end == ':' {
             Ok(Opened::Unnumbered)
         } else {
-            Err(Error::EmptyFlags)
+            Err(place.fault(Error::EmptyFlags))
         };
     }
     if ends_with_dash(run) {
-        return Err(Error::DanglingNegation);
+        return Err(place.fault(Error::DanglingNegation));
     }
     state.flags = changed(run, state.flags);
     if end == ':' {
@@ -87,15 +93,16 @@ fn open_by_flags(
     alloc: Global,
     cursor: &mut Cursor<'_>,
     state: &mut ParserState,
-) -> Result<Opened, Error>
+) -> Result<Opened, Refusal>
     ensures reads { (g : pattern.Front) → IsStateOf state.old g →
         Agrees (λ o x. IsOpened o state.new g x) result cursor.new (flags_from g [] cursor.old) }
     ensures forward { length cursor.new ≤ length cursor.old }
 {
     let run = flag_run(alloc, cursor)?;
+    let place = cursor.ahead();
     match cursor.bump() {
-        Some(end) => flags_end(&run, end, state),
-        None => Err(unclosed_error(&run)),
+        Some(end) => flags_end(&run, &place, end, state),
+        None => Err(place.fault(unclosed_error(&run))),
     }
 }
 
@@ -104,13 +111,13 @@ fn named_group(
     alloc: Global,
     cursor: &mut Cursor<'_>,
     state: &mut ParserState,
-) -> Result<Opened, Error>
+) -> Result<Opened, Refusal>
     ensures reads { (g : pattern.Front) → IsStateOf state.old g →
         Agrees (λ o x. IsOpened o state.new g x) result cursor.new (named_group g cursor.old) }
     ensures forward { length cursor.new ≤ length cursor.old }
 {
     let Some(groups) = state.groups.checked_add(1) else {
-        return Err(Error::TooManyGroups);
+        return Err(cursor.fault(Error::TooManyGroups));
     };
     let text = name(alloc, cursor, &state.names)?;
     state.names.insert(text.clone()?)?;
@@ -120,7 +127,11 @@ fn named_group(
 }
 
 /// Reads what opens a group that has no name.
-fn no_name(alloc: Global, cursor: &mut Cursor<'_>, state: &mut ParserState) -> Result<Opened, Error>
+fn no_name(
+    alloc: Global,
+    cursor: &mut Cursor<'_>,
+    state: &mut ParserState,
+) -> Result<Opened, Refusal>
     ensures reads { (g : pattern.Front) → IsStateOf state.old g →
         Agrees (λ o x. IsOpened o state.new g x) result cursor.new (no_name g cursor.old) }
     ensures forward { length cursor.new ≤ length cursor.old }
@@ -129,7 +140,7 @@ fn no_name(alloc: Global, cursor: &mut Cursor<'_>, state: &mut ParserState) -> R
         return open_by_flags(alloc, cursor, state);
     }
     let Some(groups) = state.groups.checked_add(1) else {
-        return Err(Error::TooManyGroups);
+        return Err(cursor.fault(Error::TooManyGroups));
     };
     state.opened.push(None)?;
     state.groups = groups;
@@ -149,13 +160,13 @@ pub(crate) fn open_group(
     alloc: Global,
     cursor: &mut Cursor<'_>,
     state: &mut ParserState,
-) -> Result<Opened, Error>
+) -> Result<Opened, Refusal>
     ensures reads { (g : pattern.Front) → IsStateOf state.old g →
         Agrees (λ o x. IsOpened o state.new g x) result cursor.new (opened g cursor.old) }
     ensures forward { length cursor.new ≤ length cursor.old }
 {
     if begins_look_around(cursor) {
-        return Err(Error::LookAround);
+        return Err(cursor.fault(Error::LookAround));
     }
     if cursor.bump_over("?P<") {
         return named_group(alloc, cursor, state);

@@ -7,9 +7,10 @@ ghost use Rattle.bites_spec.specs.Pattern.{Text};
 ghost use Rattle.bites_spec.specs.Reader.{name_from, name_unclosed};
 ghost use Rattle.bites_text.specs.Messages.{error_of};
 ghost use Rattle.bites_syntax.specs.Groups.{AreNames, ends_name};
-ghost use Rattle.bites_syntax.specs.Parts.{Agrees, IsErrorOf};
+ghost use Rattle.bites_syntax.specs.Parts.{Agrees, IsFaultOf};
 
 use crate::cursor::Cursor;
+use crate::refusal::Refusal;
 use bites_text::error::Error;
 use std::alloc::{AllocError, Global};
 use std::collections::BTreeSet;
@@ -87,11 +88,11 @@ fn may_follow(text: &str, c: char) -> bool
 }
 
 /// Reads the characters of a name, up to its closing bracket or to the end of the pattern.
-fn name_text(alloc: Global, cursor: &mut Cursor<'_>) -> Result<String, Error>
+fn name_text(alloc: Global, cursor: &mut Cursor<'_>) -> Result<String, Refusal>
     ensures reads { MatchResult result
         (λ text. (names : List Text) →
         name_from names [] cursor.old ≡ name_from names (chars (string_bytes text)) cursor.new)
-        (λ e. (names : List Text) → IsErrorOf e (name_from names [] cursor.old)) }
+        (λ e. (names : List Text) → IsFaultOf e (name_from names [] cursor.old)) }
     ensures ends { OnOk result (ends_name cursor.new ≡ true) }
     ensures forward { length cursor.new ≤ length cursor.old }
 {
@@ -101,7 +102,7 @@ fn name_text(alloc: Global, cursor: &mut Cursor<'_>) -> Result<String, Error>
             break;
         }
         if !may_follow(&text, c) {
-            return Err(Error::InvalidName);
+            return Err(cursor.fault(Error::InvalidName));
         }
         text.push(c)?;
         cursor.bump();
@@ -110,21 +111,22 @@ fn name_text(alloc: Global, cursor: &mut Cursor<'_>) -> Result<String, Error>
 }
 
 /// Reads a new name and its closing bracket.
-pub(crate) fn name(alloc: Global, cursor: &mut Cursor<'_>, names: &Names) -> Result<String, Error>
+pub(crate) fn name(alloc: Global, cursor: &mut Cursor<'_>, names: &Names) -> Result<String, Refusal>
     ensures reads { (all : List Text) → AreNames names.now all →
         Agrees (λ text name. name ≡ chars (string_bytes text)) result cursor.new
         (name_from all [] cursor.old) }
     ensures forward { length cursor.new ≤ length cursor.old }
 {
     let text = name_text(alloc, cursor)?;
+    let end = cursor.ahead();
     if !cursor.bump_if('>') {
-        return Err(unclosed_error(&text));
+        return Err(end.fault(unclosed_error(&text)));
     }
     if text.is_empty() {
-        return Err(Error::EmptyName);
+        return Err(end.fault(Error::EmptyName));
     }
     if names.contains(&text) {
-        return Err(Error::DuplicateName);
+        return Err(cursor.fault(Error::DuplicateName));
     }
     Ok(text)
 }

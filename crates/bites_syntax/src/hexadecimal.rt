@@ -15,6 +15,7 @@ ghost use Rattle.bites_syntax.specs.Steps.{each_of};
 use crate::cursor::{Characters, Cursor};
 use crate::flags::Flags;
 use crate::number::{TOO_LARGE, number};
+use crate::refusal::Refusal;
 use bites_text::error::Error;
 
 /// Returns the character with this number, if there is one.
@@ -29,18 +30,19 @@ fn character(value: u64) -> Option<char>
 }
 
 /// Reads one digit.
-fn hex_digit(cursor: &mut Cursor<'_>) -> Result<u32, Error>
+fn hex_digit(cursor: &mut Cursor<'_>) -> Result<u32, Refusal>
     ensures reads { AnswersDigit result cursor.new cursor.old }
     ensures forward { length cursor.new ≤ length cursor.old }
 {
+    let start = cursor.ahead();
     match cursor.bump() {
-        None => Err(Error::FixedHexUnfinished),
-        Some(c) => c.to_digit(16).ok_or(Error::FixedHexDigit),
+        None => Err(start.fault(Error::FixedHexUnfinished)),
+        Some(c) => c.to_digit(16).ok_or(start.fault(Error::FixedHexDigit)),
     }
 }
 
 /// Reads `count` digits, with gaps between them. Returns the number that they write, or `TOO_LARGE` if it is too large.
-fn exactly(cursor: &mut Cursor<'_>, flags: Flags, count: u32) -> Result<u64, Error>
+fn exactly(cursor: &mut Cursor<'_>, flags: Flags, count: u32) -> Result<u64, Refusal>
     ensures reads { AnswersNumber TOO_LARGE result cursor.new
         (fixed_number 0 count (flags_of flags) cursor.old) }
     ensures forward { length cursor.new ≤ length cursor.old }
@@ -58,34 +60,39 @@ fn exactly(cursor: &mut Cursor<'_>, flags: Flags, count: u32) -> Result<u64, Err
 }
 
 /// Reads a number of `count` digits, and returns the character with this number.
-fn fixed(cursor: &mut Cursor<'_>, flags: Flags, count: u32) -> Result<char, Error>
+fn fixed(cursor: &mut Cursor<'_>, flags: Flags, count: u32) -> Result<char, Refusal>
     ensures reads { Answers (λ c. c) result cursor.new
         (and_then (exactly count (flags_of flags) cursor.old) (scalar fixed_hex_invalid)) }
     ensures forward { length cursor.new ≤ length cursor.old }
 {
     let value = exactly(cursor, flags, count)?;
-    character(value).ok_or(Error::FixedHexInvalid)
+    character(value).ok_or(cursor.fault(Error::FixedHexInvalid))
 }
 
 /// Reads the rest of a number after its opening brace and the gap there.
-fn in_braces(cursor: &mut Cursor<'_>, flags: Flags) -> Result<char, Error>
+fn in_braces(cursor: &mut Cursor<'_>, flags: Flags) -> Result<char, Refusal>
     ensures reads { let digits = each_of (flags_of flags) is_hex_digit cursor.old in
         Answers (λ c. c) result cursor.new (in_braces digits.0 digits.1) }
     ensures forward { length cursor.new ≤ length cursor.old }
 {
     let empty = !cursor.is_at(Characters::HexDigit);
     let value = number(cursor, flags, Characters::HexDigit, 16);
+    let end = cursor.ahead();
     match cursor.bump() {
-        None => Err(Error::BraceHexUnclosed),
-        Some('}') if empty => Err(Error::BraceHexEmpty),
-        Some('}') => character(value).ok_or(Error::BraceHexInvalid),
-        Some(_) => Err(Error::BraceHexDigit),
+        None => Err(end.fault(Error::BraceHexUnclosed)),
+        Some('}') if empty => Err(end.fault(Error::BraceHexEmpty)),
+        Some('}') => character(value).ok_or(cursor.fault(Error::BraceHexInvalid)),
+        Some(_) => Err(end.fault(Error::BraceHexDigit)),
     }
 }
 
 /// Reads the number after `x`, `u` or `U` and the gap there. It stands in braces or has `count`
 /// digits.
-pub(crate) fn hexadecimal(cursor: &mut Cursor<'_>, flags: Flags, count: u32) -> Result<char, Error>
+pub(crate) fn hexadecimal(
+    cursor: &mut Cursor<'_>,
+    flags: Flags,
+    count: u32,
+) -> Result<char, Refusal>
     ensures reads { WithSteps cursor.old
         (λ n.
         Answers (λ c. c) result cursor.new
@@ -93,7 +100,7 @@ pub(crate) fn hexadecimal(cursor: &mut Cursor<'_>, flags: Flags, count: u32) -> 
     ensures forward { length cursor.new ≤ length cursor.old }
 {
     match cursor.peek() {
-        None => Err(Error::HexUnfinished),
+        None => Err(cursor.fault(Error::HexUnfinished)),
         Some('{') => {
             cursor.bump();
             cursor.skip(flags);

@@ -21,4 +21,5 @@ pub(crate) mod number;
 pub(crate) mod operator;
 pub mod parse;
 pub mod range_list;
+pub(crate) mod refusal;
 pub mod tree;

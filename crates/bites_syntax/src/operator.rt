@@ -11,6 +11,7 @@ ghost use Rattle.bites_syntax.specs.Parts.{WithSteps};
 use crate::cursor::{Characters, Cursor};
 use crate::flags::Flags;
 use crate::number::{TOO_LARGE, number};
+use crate::refusal::Refusal;
 use bites_text::error::Error;
 
 /// How often an operator repeats a node, and whether it prefers more turns.
@@ -47,21 +48,21 @@ pub(crate) fn plain_operator(
     }
 }
 
-fn decimal(cursor: &mut Cursor<'_>, flags: Flags) -> Result<u32, Error>
+fn decimal(cursor: &mut Cursor<'_>, flags: Flags) -> Result<u32, Refusal>
     ensures reads { WithSteps cursor.old
         (λ n. Answers (λ x. x) result cursor.new (decimal n (flags_of flags) cursor.old)) }
     ensures forward { length cursor.new ≤ length cursor.old }
 {
     cursor.skip_white();
     if !cursor.is_at(Characters::Digit) {
-        return Err(Error::DecimalWithoutDigits);
+        return Err(cursor.fault(Error::DecimalWithoutDigits));
     }
     let value = number(cursor, flags, Characters::Digit, 10);
     cursor.pass_each(flags, Characters::WhiteSpace);
     if value < TOO_LARGE {
         Ok(value as u32)
     } else {
-        Err(Error::InvalidDecimal)
+        Err(cursor.fault(Error::InvalidDecimal))
     }
 }
 
@@ -71,7 +72,7 @@ fn whole_count(
     flags: Flags,
     min: u32,
     max: Option<u32>,
-) -> Result<Bounds, Error>
+) -> Result<Bounds, Refusal>
     ensures reads { Answers bounds_of result cursor.new
         (whole_count (flags_of flags) min max (lazy (skip (flags_of flags) cursor.old))) }
     ensures forward { length cursor.new ≤ length cursor.old }
@@ -80,7 +81,7 @@ fn whole_count(
     let lazy = cursor.bump_if('?');
     if let Some(max) = max {
         if max < min {
-            return Err(Error::MinAboveMax);
+            return Err(cursor.fault(Error::MinAboveMax));
         }
     }
     Ok(Bounds {
@@ -90,26 +91,27 @@ fn whole_count(
     })
 }
 
-fn after_max(cursor: &mut Cursor<'_>, flags: Flags, min: u32, max: u32) -> Result<Bounds, Error>
+fn after_max(cursor: &mut Cursor<'_>, flags: Flags, min: u32, max: u32) -> Result<Bounds, Refusal>
     ensures reads { Answers bounds_of result cursor.new
         (after_max (flags_of flags) min max cursor.old) }
     ensures forward { length cursor.new ≤ length cursor.old }
 {
+    let start = cursor.ahead();
     match cursor.bump() {
-        None => Err(Error::UnclosedMax),
+        None => Err(start.fault(Error::UnclosedMax)),
         Some('}') => whole_count(cursor, flags, min, Some(max)),
-        Some(_) => Err(Error::InvalidCount),
+        Some(_) => Err(start.fault(Error::InvalidCount)),
     }
 }
 
-fn after_comma(cursor: &mut Cursor<'_>, flags: Flags, min: u32) -> Result<Bounds, Error>
+fn after_comma(cursor: &mut Cursor<'_>, flags: Flags, min: u32) -> Result<Bounds, Refusal>
     ensures reads { WithSteps cursor.old
         (λ n.
         Answers bounds_of result cursor.new (after_comma n (flags_of flags) min cursor.old)) }
     ensures forward { length cursor.new ≤ length cursor.old }
 {
     match cursor.peek() {
-        None => Err(Error::UnclosedComma),
+        None => Err(cursor.fault(Error::UnclosedComma)),
         Some('}') => {
             cursor.bump();
             whole_count(cursor, flags, min, None)
@@ -121,30 +123,31 @@ fn after_comma(cursor: &mut Cursor<'_>, flags: Flags, min: u32) -> Result<Bounds
     }
 }
 
-fn after_min(cursor: &mut Cursor<'_>, flags: Flags, min: u32) -> Result<Bounds, Error>
+fn after_min(cursor: &mut Cursor<'_>, flags: Flags, min: u32) -> Result<Bounds, Refusal>
     ensures reads { WithSteps cursor.old
         (λ n. Answers bounds_of result cursor.new (after_min n (flags_of flags) min cursor.old)) }
     ensures forward { length cursor.new ≤ length cursor.old }
 {
+    let start = cursor.ahead();
     match cursor.bump() {
-        None => Err(Error::UnclosedMin),
+        None => Err(start.fault(Error::UnclosedMin)),
         Some('}') => whole_count(cursor, flags, min, Some(min)),
         Some(',') => {
             cursor.skip(flags);
             after_comma(cursor, flags, min)
         }
-        Some(_) => Err(Error::InvalidCount),
+        Some(_) => Err(start.fault(Error::InvalidCount)),
     }
 }
 
 /// Reads the rest of an operator in braces after its opening brace and the gap there.
-pub(crate) fn counted(cursor: &mut Cursor<'_>, flags: Flags) -> Result<Bounds, Error>
+pub(crate) fn counted(cursor: &mut Cursor<'_>, flags: Flags) -> Result<Bounds, Refusal>
     ensures reads { WithSteps cursor.old
         (λ n. Answers bounds_of result cursor.new (counted n (flags_of flags) cursor.old)) }
     ensures forward { length cursor.new ≤ length cursor.old }
 {
     let Some(_) = cursor.peek() else {
-        return Err(Error::UnclosedCount);
+        return Err(cursor.fault(Error::UnclosedCount));
     };
     let min = decimal(cursor, flags)?;
     after_min(cursor, flags, min)

@@ -14,7 +14,7 @@ ghost use Rattle.bites_syntax.specs.Atoms.{atom, begins_atom};
 ghost use Rattle.bites_syntax.specs.Nodes.{AreNodes, IsNumbered, IsNodeOf};
 ghost use Rattle.bites_syntax.specs.Progress.{HasDepth, IsAt, IsChoice, IsForward, ReadsItem, ReadsItems, Steps, ends_items};
 ghost use Rattle.bites_syntax.specs.Operators.{bounds_of};
-ghost use Rattle.bites_syntax.specs.Parts.{IsErrorOf, WithSteps};
+ghost use Rattle.bites_syntax.specs.Parts.{IsFaultOf, WithSteps, fault_at};
 ghost use Rattle.bites_syntax.specs.Openings.{IsStateOf};
 ghost use Rattle.bites_syntax.specs.FlagsView.{flags_of};
 ghost use Rattle.bites_spec.specs.Message.{Message};
@@ -31,6 +31,7 @@ use crate::group_names::Names;
 pub use crate::groups::Groups;
 use crate::node::{Node, Numbered, alternation_of, group_of, repetition_of, sequence_of};
 use crate::operator::{Bounds, counted, plain_operator};
+use crate::refusal::Refusal;
 use crate::tree::Tree;
 use bites_text::error::Error;
 use std::alloc::{AllocError, Global};
@@ -178,56 +179,62 @@ fn begins_atom(c: char) -> bool
     matches!(c, '[' | '\\' | '.' | '^' | '$')
 }
 
-/// Opens a group, unless too many are open.
-fn enter(depth: u32, limit: u32, group: OpenGroup) -> Result<Step, Error>
+/// Opens a group, after whose opening the cursor stands, unless too many are open.
+fn enter(cursor: &Cursor<'_>, depth: u32, limit: u32, group: OpenGroup) -> Result<Step, Refusal>
     ensures enters { MatchResult result
         (λ step. (step ≡ Step.Group group) × (depth < limit))
-        (λ e. (e ≡ Error.TooMuchNesting) × (limit ≤ depth)) }
+        (λ e. (e ≡ fault_at Error.TooMuchNesting cursor.now) × (limit ≤ depth)) }
     ensures room { HasDepth limit depth result }
 {
     if depth < limit {
         Ok(Step::Group(group))
     } else {
-        Err(Error::TooMuchNesting)
+        Err(cursor.fault(Error::TooMuchNesting))
     }
 }
 
 impl Parser<'_> {
     /// Reads the lazy mark after `?`, `*` or `+`, if there is one, and repeats the last node with
-    /// these bounds.
-    fn repeat(&mut self, branches: &mut Branches, min: u32, max: Option<u32>) -> Result<(), Error>
+    /// these bounds. The operator stands at `start`.
+    fn repeat(
+        &mut self,
+        branches: &mut Branches,
+        start: &Cursor<'_>,
+        min: u32,
+        max: Option<u32>,
+    ) -> Result<(), Refusal>
         ensures reads { (g : pattern.Front) → (bs ts : List spec.Tree) →
             IsAt self.old.limit self.old branches.old g bs ts →
-            (depth n : ℕ) → (at : Text) →
+            (depth n : ℕ) →
             ReadsItem self.old.limit depth n result self.new branches.new
             (at_operator ranges_of self.old.limit (inner ranges_of self.old.limit n) depth g bs ts
-            message.nothing_to_repeat at
+            message.nothing_to_repeat start.now
             (plain_operator g.flags min max (lazy self.old.cursor))) }
         ensures forward { length self.new.cursor ≤ length self.old.cursor }
     {
         if branches.nodes.is_empty() {
-            return Err(Error::NothingToRepeat);
+            return Err(start.fault(Error::NothingToRepeat));
         }
         let bounds = plain_operator(&mut self.cursor, self.state.flags, min, max);
         branches.repeat(self.alloc, self.limit, bounds)?;
         Ok(())
     }
 
-    /// Reads the rest of an operator in braces after its brace, and repeats the last node.
-    fn repeat_counted(&mut self, branches: &mut Branches) -> Result<(), Error>
+    /// Reads the rest of an operator in braces after its brace, and repeats the last node. The brace stands at `start`.
+    fn repeat_counted(&mut self, branches: &mut Branches, start: &Cursor<'_>) -> Result<(), Refusal>
         ensures reads { (g : pattern.Front) → (bs ts : List spec.Tree) →
             IsAt self.old.limit self.old branches.old g bs ts →
-            (depth : ℕ) → (at : Text) →
+            (depth : ℕ) →
             WithSteps self.old.cursor
             (λ n.
             ReadsItem self.old.limit depth n result self.new branches.new
             (at_operator ranges_of self.old.limit (inner ranges_of self.old.limit n) depth g bs ts
-            message.nothing_to_count at
+            message.nothing_to_count start.now
             (counted n g.flags (skip g.flags self.old.cursor)))) }
         ensures forward { length self.new.cursor ≤ length self.old.cursor }
     {
         if branches.nodes.is_empty() {
-            return Err(Error::NothingToCount);
+            return Err(start.fault(Error::NothingToCount));
         }
         self.cursor.skip(self.state.flags);
         let bounds = counted(&mut self.cursor, self.state.flags)?;
@@ -236,7 +243,7 @@ impl Parser<'_> {
     }
 
     /// Reads what opens a group or is a directive, after its parenthesis.
-    fn open(&mut self, depth: u32) -> Result<Step, Error>
+    fn open(&mut self, depth: u32) -> Result<Step, Refusal>
         ensures steps { (parsed : Branches) → (g : pattern.Front) → (bs ts : List spec.Tree) →
             IsAt self.old.limit self.old parsed g bs ts → (n : ℕ) →
             Steps self.old.limit depth n g bs ts result self.new parsed
@@ -250,6 +257,7 @@ impl Parser<'_> {
         match open_group(self.alloc, &mut self.cursor, &mut self.state)? {
             Opened::Directive => Ok(Step::Item),
             Opened::Unnumbered => enter(
+                &self.cursor,
                 depth,
                 self.limit,
                 OpenGroup {
@@ -263,6 +271,7 @@ impl Parser<'_> {
                     name,
                 };
                 enter(
+                    &self.cursor,
                     depth,
                     self.limit,
                     OpenGroup {
@@ -274,8 +283,9 @@ impl Parser<'_> {
         }
     }
 
-    /// Reads the rest of an item or a bar after its first character, which is not a parenthesis.
-    fn item(&mut self, branches: &mut Branches, c: char) -> Result<(), Error>
+    /// Reads the rest of an item or a bar after its first character, which is not a parenthesis and stands at `start`.
+    fn item(&mut self, branches: &mut Branches, start: &Cursor<'_>, c: char) -> Result<(), Refusal>
+        requires start { start.now ≡ c ∷ self.old.cursor }
         requires closing { c ≢ right_parenthesis }
         requires opening { c ≢ left_parenthesis }
         ensures reads { (g : pattern.Front) → (bs ts : List spec.Tree) →
@@ -292,10 +302,10 @@ impl Parser<'_> {
                 branches.end_branch(self.alloc, self.limit)?;
                 Ok(())
             }
-            '?' => self.repeat(branches, 0, Some(1)),
-            '*' => self.repeat(branches, 0, None),
-            '+' => self.repeat(branches, 1, None),
-            '{' => self.repeat_counted(branches),
+            '?' => self.repeat(branches, start, 0, Some(1)),
+            '*' => self.repeat(branches, start, 0, None),
+            '+' => self.repeat(branches, start, 1, None),
+            '{' => self.repeat_counted(branches, start),
             _ => {
                 if begins_atom(c) {
                     return self.push_atom(branches, c);
@@ -307,7 +317,7 @@ impl Parser<'_> {
     }
 
     /// Reads the rest of an item that is a node after its first character.
-    fn push_atom(&mut self, branches: &mut Branches, c: char) -> Result<(), Error>
+    fn push_atom(&mut self, branches: &mut Branches, c: char) -> Result<(), Refusal>
         ensures reads { (limit : ℕ) → (g : pattern.Front) → (bs ts : List spec.Tree) →
             IsAt limit self.old branches.old g bs ts → (depth : ℕ) →
             WithSteps self.old.cursor
@@ -325,7 +335,7 @@ impl Parser<'_> {
 impl Parser<'_> {
     /// Reads the items and bars that stand here, with the gaps between them, up to a parenthesis or to the end of the
     /// pattern.
-    fn items(&mut self, branches: &mut Branches) -> Result<(), Error>
+    fn items(&mut self, branches: &mut Branches) -> Result<(), Refusal>
         ensures reads { (limit : ℕ) → (g : pattern.Front) → (bs ts : List spec.Tree) →
             IsAt limit self.old branches.old g bs ts → (depth : ℕ) →
             WithSteps self.old.cursor
@@ -340,15 +350,16 @@ impl Parser<'_> {
             if c == '(' || c == ')' {
                 break;
             }
+            let start = self.cursor.ahead();
             self.cursor.bump();
-            self.item(branches, c)?;
+            self.item(branches, &start, c)?;
             self.cursor.skip(self.state.flags);
         }
         Ok(())
     }
 
     /// Reads what stands after the items: what opens a group or is a directive, or nothing where the choice ends.
-    fn step(&mut self, depth: u32) -> Result<Step, Error>
+    fn step(&mut self, depth: u32) -> Result<Step, Refusal>
         requires { ends_items self.old.cursor ≡ true }
         ensures steps { (limit : ℕ) → (parsed : Branches) → (g : pattern.Front) → (bs ts : List spec.Tree) →
             IsAt limit self.old parsed g bs ts → (n : ℕ) →
@@ -358,7 +369,7 @@ impl Parser<'_> {
     {
         let Some(c) = self.cursor.peek() else {
             if depth > 0 {
-                return Err(Error::UnclosedGroup);
+                return Err(self.cursor.fault(Error::UnclosedGroup));
             }
             return Ok(Step::End);
         };
@@ -367,7 +378,7 @@ impl Parser<'_> {
             return self.open(depth);
         }
         if depth == 0 {
-            return Err(Error::UnopenedGroup);
+            return Err(self.cursor.fault(Error::UnopenedGroup));
         }
         Ok(Step::End)
     }
@@ -376,7 +387,7 @@ impl Parser<'_> {
 impl Parser<'_> {
     /// Reads a choice, up to what closes its group or to the end of the pattern. It calls itself once for each group,
     /// at most `self.limit` deep.
-    fn choice(&mut self, depth: u32) -> Result<Node, Error>
+    fn choice(&mut self, depth: u32) -> Result<Node, Refusal>
         ensures reads { (limit : ℕ) → self.old.limit ≡ limit → (g : pattern.Front) →
             IsStateOf self.old.state g →
             WithSteps self.old.cursor
@@ -447,17 +458,20 @@ pub fn parse_with_groups(
         (m : Message) × (e ≡ error_of m)
         × Fault (chars pattern.now) (flags_of flags) nest_limit m) }
 {
-    read_pattern(alloc, pattern, flags, nest_limit)
+    match read_pattern(alloc, pattern, flags, nest_limit) {
+        Ok(read) => Ok(read),
+        Err(refusal) => Err(refusal.error()),
+    }
 }
 
-// Returns the tree that the grammar's function on lists returns, with the groups that were opened. The error is that of
-// its stop, or of a tree that is too tall.
-fn read_pattern(
+// Returns the tree that the grammar's function on lists returns, with the groups that were opened. The refusal is the
+// fault of its stop, or that the tree is too tall.
+pub(crate) fn read_pattern(
     alloc: Global,
     pattern: &str,
     flags: Flags,
     nest_limit: u32,
-) -> Result<(Tree, Groups), Error>
+) -> Result<(Tree, Groups), Refusal>
     ensures reads { IfOk result (λ r. (read ranges_of nest_limit (chars pattern.now)
         (flags_of flags) ≡ Ok r.0)
         × (height r.0 ≤ nest_limit) × (height r.0 < 4294967295)) }
@@ -465,8 +479,8 @@ fn read_pattern(
         (λ r. (t : spec.Tree) → (reading : Reading (chars pattern.now) (flags_of flags) t) →
         r.1 ≡ groups_opened reading) }
     ensures refuses { IfErr result
-        (λ e. IsErrorOf e (read ranges_of nest_limit (chars pattern.now) (flags_of flags))
-        ⊎ ((e ≡ Error.TooMuchNesting)
+        (λ e. IsFaultOf e (read ranges_of nest_limit (chars pattern.now) (flags_of flags))
+        ⊎ ((e ≡ Refusal.TooTall)
         × ((t : spec.Tree)
         × (read ranges_of nest_limit (chars pattern.now) (flags_of flags) ≡ Ok t)
         × IsTooTall nest_limit t))) }
@@ -486,6 +500,6 @@ fn read_pattern(
     };
     match parser.choice(0)? {
         Node::Kept { tree, .. } => Ok((tree, parser.state.opened)),
-        Node::TooTall => Err(Error::TooMuchNesting),
+        Node::TooTall => Err(Refusal::TooTall),
     }
 }

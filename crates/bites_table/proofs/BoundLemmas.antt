@@ -1,20 +1,20 @@
--- Characters without a bound between them are alike.
-use Rattle.std.proofs.Common.{◌≡◌, ℕ, zero, suc, ◌+◌, ◌<◌, ◌≤◌, cond, ◌&&◌, ◌||◌, List, [], ◌∷◌, ◌++◌, take, length, refl, sym, ap, ap₂, ◌∙◌, arith, append_assoc}
+-- Characters without a bound between them are taken alike, and their kinds are not told apart.
+use Rattle.std.proofs.Common.{◌≡◌, ℕ, zero, suc, ◌+◌, ◌<◌, ◌≤◌, Bool, true, false, cond, ◌&&◌, ◌||◌, List, [], ◌∷◌, ◌++◌, take, length, refl, sym, ap, ap₂, ◌∙◌, subst, ◌⊎◌, arith, append_assoc}
 use Rattle.std.specs.Prelude.{◌==◌, nat_le, slice_index_or}
 use Rattle.std.specs.List.{Contains}
+use Rattle.std.specs.List.Sorted.{IsStrictlyIncreasing}
 use Rattle.std.proofs.lemmas.Bool.Decides.{nat_tests}
 use Rattle.std.proofs.lemmas.List.{take_more}
+use Rattle.std.proofs.lemmas.List.Kept.{AllPairs-from_increasing}
 use Rattle.std.proofs.lemmas.List.Elements.{Contains-append_left, Contains-append_right}
+use Rattle.bites_spec.specs.Class.{is_scalar, following}
 use Rattle.bites_spec.specs.Range.{Range, in_range, in_ranges}
-use Rattle.bites_spec.specs.Look.{is_word_byte}
-use Rattle.bites_spec.specs.Program.{State, Program, state_at, takes, char, ranges, splits, goto, capture, fail, match}
-use Rattle.bites_table.specs.Kinds.{line_feed, carriage_return, word_byte, other, kind_of_byte}
-use Rattle.bites_table.specs.Bounds.{ends_of, bounds_of_state, bounds_of, NoneBetween, AreBounds}
-use Rattle.bites_table.proofs.LeadLemmas.{alike_characters}
-
--- the ranges of the kinds
-abbrev pub kind_ranges : List Range
-kind_ranges = (10, 10) ∷ (13, 13) ∷ (48, 57) ∷ (65, 90) ∷ (95, 95) ∷ (97, 122) ∷ []
+use Rattle.bites_spec.specs.Program.{State, state_at, takes, char, ranges, splits, goto, capture, fail, match}
+use Rattle.bites_table.specs.Kinds.{kind_of_byte, is_edge}
+use Rattle.bites_table.specs.Distinctions.{is_line, is_return, is_word_kind, seen}
+use Rattle.bites_table.specs.declared.distinctions.Distinctions.{Distinctions}
+use Rattle.bites_table.specs.Bounds.{bounds_after, ends_of, bounds_of_state, bounds_of, line_feeds, carriage_returns, word_bytes, bounds_of_kinds, NoneBetween, AreBounds}
+use Rattle.bites_table.proofs.KindLemmas.{line_feed_is, carriage_return_is, word_is, no_edge}
 
 first : {X : Type 0} (x : X) (xs : List X) → Contains (x ∷ xs) x
 first x xs = (0, omega arith, refl)
@@ -22,68 +22,157 @@ first x xs = (0, omega arith, refl)
 later : {X : Type 0} (y : X) (xs : List X) (x : X) → Contains xs x → Contains (y ∷ xs) x
 later y xs x (k, lt, is) = (suc k, omega arith, is)
 
--- a range does not tell them apart
-range_alike : (r : Range) (c d : ℕ) → c ≤ d → (c < r.0 → d < r.0) → (c < suc r.1 → d < suc r.1) → in_range r c ≡ in_range r d
-range_alike r c d le low high = ap₂ ◌&&◌ (low_alike r.0 c d le low) (high_alike r.1 c d le high)
+scalar_cases : (c : ℕ) → is_scalar c ≡ true → (c < 0xD800) ⊎ ((0xE000 ≤ c) × (c ≤ 0x10_FFFF))
+scalar_cases c is = grind (arith, nat_tests)
+
+-- what is seen of the kind of a character
+line_at : (c : ℕ) → is_line (kind_of_byte c) ≡ in_ranges line_feeds c
+line_at c = ap₂ ◌||◌ (no_edge c) (line_feed_is c) ∙ ten c
   where
-    low_alike : (lo c d : ℕ) → c ≤ d → (c < lo → d < lo) → nat_le lo c ≡ nat_le lo d
-    low_alike lo c d le low = grind (arith, nat_tests)
+    ten : (c : ℕ) → (c == 10) ≡ ((nat_le 10 c && nat_le c 10) || false)
+    ten c = grind (arith, nat_tests)
 
-    high_alike : (hi c d : ℕ) → c ≤ d → (c < suc hi → d < suc hi) → nat_le c hi ≡ nat_le d hi
-    high_alike hi c d le high = grind (arith, nat_tests)
-
--- nor do ranges
-pub ranges_alike : (rs : List Range) (c d : ℕ) → c ≤ d → NoneBetween (ends_of rs) c d → in_ranges rs c ≡ in_ranges rs d
-ranges_alike [] c d le none = refl
-ranges_alike (r ∷ rs) c d le none =
-    ap₂ ◌||◌ (range_alike r c d le (none r.0 (first r.0 (suc r.1 ∷ ends_of rs))) (none (suc r.1) (later r.0 (suc r.1 ∷ ends_of rs) (suc r.1) (first (suc r.1) (ends_of rs)))))
-    (ranges_alike rs c d le (λ b h. none b (later r.0 (suc r.1 ∷ ends_of rs) b (later (suc r.1) (ends_of rs) b h))))
-
--- nor does a state
-state_alike : (s : State) (c d : ℕ) → c ≤ d → NoneBetween (bounds_of_state s) c d → takes s c ≡ takes s d
-state_alike (char q x) c d le none = same x c d le (none x (first x (suc x ∷ []))) (none (suc x) (later x (suc x ∷ []) (suc x) (first (suc x) [])))
+return_at : (c : ℕ) → is_return (kind_of_byte c) ≡ in_ranges carriage_returns c
+return_at c = carriage_return_is c ∙ thirteen c
   where
-    same : (x c d : ℕ) → c ≤ d → (c < x → d < x) → (c < suc x → d < suc x) → (c == x) ≡ (d == x)
-    same x c d le low high = grind (arith, nat_tests)
-state_alike (ranges q rs) c d le none = ranges_alike rs c d le none
-state_alike (splits qs b) c d le none = refl
-state_alike (goto q look) c d le none = refl
-state_alike (capture q k) c d le none = refl
-state_alike fail c d le none = refl
-state_alike match c d le none = refl
+    thirteen : (c : ℕ) → (c == 13) ≡ ((nat_le 13 c && nat_le c 13) || false)
+    thirteen c = grind (arith, nat_tests)
 
-states_alike : (ss : List State) (c d : ℕ) → c ≤ d → NoneBetween (bounds_of ss) c d → (q : ℕ) → takes (state_at ss q) c ≡ takes (state_at ss q) d
-states_alike [] c d le none q = refl
-states_alike (s ∷ ss) c d le none zero = state_alike s c d le (λ b h. none b (Contains-append_left (bounds_of_state s) (bounds_of ss) b h))
-states_alike (s ∷ ss) c d le none (suc q) = states_alike ss c d le (λ b h. none b (Contains-append_right (bounds_of_state s) (bounds_of ss) b h)) q
-
--- nor do kinds
-kinds_alike : (c d : ℕ) → c ≤ d → NoneBetween (ends_of kind_ranges) c d → kind_of_byte c ≡ kind_of_byte d
-kinds_alike c d le none =
-    let line = same 10 (none 10 (0, omega arith, refl)) (none 11 (1, omega arith, refl)) in
-    let return = same 13 (none 13 (2, omega arith, refl)) (none 14 (3, omega arith, refl)) in
-    let digit = range_alike (48, 57) c d le (none 48 (4, omega arith, refl)) (none 58 (5, omega arith, refl)) in
-    let upper = range_alike (65, 90) c d le (none 65 (6, omega arith, refl)) (none 91 (7, omega arith, refl)) in
-    let low_line = same 95 (none 95 (8, omega arith, refl)) (none 96 (9, omega arith, refl)) in
-    let lower = range_alike (97, 122) c d le (none 97 (10, omega arith, refl)) (none 123 (11, omega arith, refl)) in
-    let word : is_word_byte c ≡ is_word_byte d = ap₂ ◌||◌ (ap₂ ◌||◌ (ap₂ ◌||◌ digit upper) lower) low_line in
-    ap₂ (λ x y. cond x line_feed (cond y carriage_return (cond (is_word_byte c) word_byte other))) line return
-    ∙ ap (λ z. cond (d == 10) line_feed (cond (d == 13) carriage_return (cond z word_byte other))) word
+word_at : (c : ℕ) → is_word_kind (kind_of_byte c) ≡ in_ranges word_bytes c
+word_at c =
+    word_is c ∙ turned (in_range (48, 57) c) (in_range (65, 90) c) (in_range (97, 122) c) (c == 95)
+    ∙ ap (λ x. in_range (48, 57) c || (in_range (65, 90) c || (x || (in_range (97, 122) c || false)))) (low_line c)
   where
-    same : (x : ℕ) → (c < x → d < x) → (c < suc x → d < suc x) → (c == x) ≡ (d == x)
-    same x low high = grind (arith, nat_tests)
+    turned : (d u l s : Bool) → (d || u || l || s) ≡ (d || (u || (s || (l || false))))
+    turned true u l s = refl
+    turned false true l s = refl
+    turned false false true true = refl
+    turned false false true false = refl
+    turned false false false true = refl
+    turned false false false false = refl
+
+    low_line : (c : ℕ) → (c == 95) ≡ (nat_le 95 c && nat_le c 95)
+    low_line c = grind (arith, nat_tests)
+
+-- kinds of characters of which the same ranges hold
+pub seen_alike : (d : Distinctions) (c e : ℕ) → (d.line ≡ true → in_ranges line_feeds c ≡ in_ranges line_feeds e) →
+    (d.carriage_return ≡ true → in_ranges carriage_returns c ≡ in_ranges carriage_returns e) →
+    (d.word ≡ true → in_ranges word_bytes c ≡ in_ranges word_bytes e) → seen d (kind_of_byte c) ≡ seen d (kind_of_byte e)
+seen_alike d c e line return word =
+    let edges : (d.edge && is_edge (kind_of_byte c)) ≡ (d.edge && is_edge (kind_of_byte e)) = ap (λ x. d.edge && x) (no_edge c ∙ sym (no_edge e)) in
+    let lines : (d.line && is_line (kind_of_byte c)) ≡ (d.line && is_line (kind_of_byte e)) = under d.line _ _ (λ told. line_at c ∙ line told ∙ sym (line_at e)) in
+    let returns : (d.carriage_return && is_return (kind_of_byte c)) ≡ (d.carriage_return && is_return (kind_of_byte e)) =
+    under d.carriage_return _ _ (λ told. return_at c ∙ return told ∙ sym (return_at e)) in
+    let words : (d.word && is_word_kind (kind_of_byte c)) ≡ (d.word && is_word_kind (kind_of_byte e)) = under d.word _ _ (λ told. word_at c ∙ word told ∙ sym (word_at e)) in
+    ap₂ (λ x y. made x y (d.carriage_return && is_return (kind_of_byte c)) (d.word && is_word_kind (kind_of_byte c))) edges lines
+    ∙ ap₂ (λ z w. made (d.edge && is_edge (kind_of_byte e)) (d.line && is_line (kind_of_byte e)) z w) returns words
+  where
+    under : (told x y : Bool) → (told ≡ true → x ≡ y) → (told && x) ≡ (told && y)
+    under true x y same = same refl
+    under false x y same = refl
+
+    made : (x y z w : Bool) → Distinctions
+    made x y z w = record { edge = x; line = y; carriage_return = z; word = w }
+
+-- a character and a number that is not above it
+module _ (c d : ℕ) (d_is : is_scalar d ≡ true) (le : c ≤ d) where
+  -- a range does not tell them apart
+  high_alike : (hi : ℕ) → NoneBetween (bounds_after hi) c d → nat_le c hi ≡ nat_le d hi
+  high_alike hi none = by_end (hi == 0x10_FFFF) refl none
+    where
+      by_gap : (x : Bool) → (hi == 0xD7FF) ≡ x → (c < cond x 0xE000 (hi + 1) → d < cond x 0xE000 (hi + 1)) → nat_le c hi ≡ nat_le d hi
+      by_gap true e none =
+          let d_in = scalar_cases d d_is in
+          let is : hi ≡ 0xD7FF = grind (arith, nat_tests) in
+          grind (arith, nat_tests)
+      by_gap false e none = grind (arith, nat_tests)
+
+      by_end : (x : Bool) → (hi == 0x10_FFFF) ≡ x → NoneBetween (cond x [] (following hi ∷ [])) c d → nat_le c hi ≡ nat_le d hi
+      by_end true e none =
+          let d_in = scalar_cases d d_is in
+          let is : hi ≡ 0x10_FFFF = grind (arith, nat_tests) in
+          grind (arith, nat_tests)
+      by_end false e none = by_gap (hi == 0xD7FF) refl (none (following hi) (first (following hi) []))
+
+  range_alike : (r : Range) → (c < r.0 → d < r.0) → NoneBetween (bounds_after r.1) c d → in_range r c ≡ in_range r d
+  range_alike r low high = ap₂ ◌&&◌ (low_alike r.0 low) (high_alike r.1 high)
+    where
+      low_alike : (lo : ℕ) → (c < lo → d < lo) → nat_le lo c ≡ nat_le lo d
+      low_alike lo low = grind (arith, nat_tests)
+
+  -- nor do ranges
+  ranges_alike : (rs : List Range) → NoneBetween (ends_of rs) c d → in_ranges rs c ≡ in_ranges rs d
+  ranges_alike [] none = refl
+  ranges_alike (r ∷ rs) none =
+      ap₂ ◌||◌
+      (range_alike r (none r.0 (first r.0 (bounds_after r.1 ++ ends_of rs))) (λ b h. none b (later r.0 (bounds_after r.1 ++ ends_of rs) b (Contains-append_left (bounds_after r.1) (ends_of rs) b h))))
+      (ranges_alike rs (λ b h. none b (later r.0 (bounds_after r.1 ++ ends_of rs) b (Contains-append_right (bounds_after r.1) (ends_of rs) b h))))
+
+  -- nor does a state
+  state_alike : (s : State) → NoneBetween (bounds_of_state s) c d → takes s c ≡ takes s d
+  state_alike (char q x) none = single x c ∙ ranges_alike ((x, x) ∷ []) none ∙ sym (single x d)
+    where
+      single : (x c : ℕ) → (c == x) ≡ ((nat_le x c && nat_le c x) || false)
+      single x c = grind (arith, nat_tests)
+  state_alike (ranges q rs) none = ranges_alike rs none
+  state_alike (splits qs b) none = refl
+  state_alike (goto q look) none = refl
+  state_alike (capture q k) none = refl
+  state_alike fail none = refl
+  state_alike match none = refl
+
+  states_alike : (ss : List State) → NoneBetween (bounds_of ss) c d → (q : ℕ) → takes (state_at ss q) c ≡ takes (state_at ss q) d
+  states_alike [] none q = refl
+  states_alike (s ∷ ss) none zero = state_alike s (λ b h. none b (Contains-append_left (bounds_of_state s) (bounds_of ss) b h))
+  states_alike (s ∷ ss) none (suc q) = states_alike ss (λ b h. none b (Contains-append_right (bounds_of_state s) (bounds_of ss) b h)) q
+
+  -- nor do kinds
+  kinds_alike : (kinds : Distinctions) → NoneBetween (bounds_of_kinds kinds) c d → seen kinds (kind_of_byte c) ≡ seen kinds (kind_of_byte d)
+  kinds_alike kinds none =
+      seen_alike kinds c d
+      (λ told. ranges_alike line_feeds (λ b h. none b (Contains-append_left lines (returns ++ words) b (chosen kinds.line told (ends_of line_feeds) b h))))
+      (λ told. ranges_alike carriage_returns (λ b h. none b (Contains-append_right lines (returns ++ words) b (Contains-append_left returns words b (chosen kinds.carriage_return told (ends_of carriage_returns) b h)))))
+      (λ told. ranges_alike word_bytes (λ b h. none b (Contains-append_right lines (returns ++ words) b (Contains-append_right returns words b (chosen kinds.word told (ends_of word_bytes) b h)))))
+    where
+      lines : List ℕ
+      lines = cond kinds.line (ends_of line_feeds) []
+
+      returns : List ℕ
+      returns = cond kinds.carriage_return (ends_of carriage_returns) []
+
+      words : List ℕ
+      words = cond kinds.word (ends_of word_bytes) []
+
+      chosen : (told : Bool) → told ≡ true → (bs : List ℕ) (b : ℕ) → Contains bs b → Contains (cond told bs []) b
+      chosen told is bs b h = subst (λ x. Contains (cond x bs []) b) (sym is) h
 
 -- so these are bounds, and so are others that have them all
-pub are_bounds : (p : Program) (bounds : List ℕ) → ((b : ℕ) → Contains (ends_of kind_ranges ++ bounds_of p.states) b → Contains bounds b) → AreBounds p bounds
-are_bounds p bounds all c d le none =
-    alike_characters p c d
-    (states_alike p.states c d le (λ b h. none b (all b (Contains-append_right (ends_of kind_ranges) (bounds_of p.states) b h))))
-    (kinds_alike c d le (λ b h. none b (all b (Contains-append_left (ends_of kind_ranges) (bounds_of p.states) b h))))
+pub are_bounds : (ss : List State) (kinds : Distinctions) (bounds : List ℕ) →
+    ((b : ℕ) → Contains (((0 ∷ []) ++ bounds_of_kinds kinds) ++ bounds_of ss) b → Contains bounds b) → AreBounds ss kinds bounds
+are_bounds ss kinds bounds all c d d_is le none = record {
+  by_states = states_alike c d d_is le ss (λ b h. none b (all b (Contains-append_right ((0 ∷ []) ++ bounds_of_kinds kinds) (bounds_of ss) b h)));
+  by_kinds = kinds_alike c d d_is le kinds (λ b h. none b (all b (Contains-append_left ((0 ∷ []) ++ bounds_of_kinds kinds) (bounds_of ss) b (Contains-append_right (0 ∷ []) (bounds_of_kinds kinds) b h))));
+}
+
+-- and 0 is one of them
+pub has_zero : (ss : List State) (kinds : Distinctions) (bounds : List ℕ) →
+    ((b : ℕ) → Contains (((0 ∷ []) ++ bounds_of_kinds kinds) ++ bounds_of ss) b → Contains bounds b) → Contains bounds 0
+has_zero ss kinds bounds all =
+    all 0 (Contains-append_left ((0 ∷ []) ++ bounds_of_kinds kinds) (bounds_of ss) 0 (Contains-append_left (0 ∷ []) (bounds_of_kinds kinds) 0 (first 0 [])))
+
+-- the first of rising numbers with 0 among them
+pub first_is_zero : (xs : List ℕ) → IsStrictlyIncreasing xs → Contains xs 0 → (slice_index_or xs 0 0 ≡ 0) × (0 < length xs)
+first_is_zero xs rising (zero, lt, is) = (is, lt)
+first_is_zero xs rising (suc k, lt, is) = absurd (let below = AllPairs-from_increasing xs rising 0 (suc k) 0 (omega arith) lt in omega arith)
 
 -- one range more
-pub ends-more : (rs : List Range) (r : Range) → ends_of (rs ++ r ∷ []) ≡ ends_of rs ++ r.0 ∷ suc r.1 ∷ []
-ends-more [] r = refl
-ends-more (x ∷ rs) r = ap (λ l. x.0 ∷ suc x.1 ∷ l) (ends-more rs r)
+pub ends-more : (rs : List Range) (r : Range) → ends_of (rs ++ r ∷ []) ≡ ends_of rs ++ (r.0 ∷ bounds_after r.1)
+ends-more [] r = ap (λ l. r.0 ∷ l) (append_none (bounds_after r.1))
+  where
+    append_none : (l : List ℕ) → l ++ [] ≡ l
+    append_none [] = refl
+    append_none (x ∷ l) = ap (λ m. x ∷ m) (append_none l)
+ends-more (x ∷ rs) r = ap (λ l. x.0 ∷ (bounds_after x.1 ++ l)) (ends-more rs r) ∙ ap (λ l. x.0 ∷ l) (sym (append_assoc (bounds_after x.1) (ends_of rs) (r.0 ∷ bounds_after r.1)))
 
 -- one state more
 pub bounds-more : (ss : List State) (s : State) → bounds_of (ss ++ s ∷ []) ≡ bounds_of ss ++ bounds_of_state s
@@ -96,11 +185,11 @@ bounds-more (x ∷ ss) s = ap (λ l. bounds_of_state x ++ l) (bounds-more ss s) 
 
 -- a loop over ranges goes one further
 pub one_range : (old now one two : List ℕ) (rs : List Range) (i : ℕ) → i < length rs → now ≡ old ++ ends_of (take i rs) →
-    one ≡ now ++ (slice_index_or rs i (0, 0)).0 ∷ [] → two ≡ one ++ suc (slice_index_or rs i (0, 0)).1 ∷ [] → two ≡ old ++ ends_of (take (i + 1) rs)
+    one ≡ now ++ (slice_index_or rs i (0, 0)).0 ∷ [] → two ≡ one ++ bounds_after (slice_index_or rs i (0, 0)).1 → two ≡ old ++ ends_of (take (i + 1) rs)
 one_range old now one two rs i lt is first second =
     let r = slice_index_or rs i (0, 0) in
-    second ∙ ap (λ l. l ++ suc r.1 ∷ []) first ∙ append_assoc now (r.0 ∷ []) (suc r.1 ∷ []) ∙ ap (λ l. l ++ r.0 ∷ suc r.1 ∷ []) is
-    ∙ append_assoc old (ends_of (take i rs)) (r.0 ∷ suc r.1 ∷ [])
+    second ∙ ap (λ l. l ++ bounds_after r.1) first ∙ append_assoc now (r.0 ∷ []) (bounds_after r.1) ∙ ap (λ l. l ++ (r.0 ∷ bounds_after r.1)) is
+    ∙ append_assoc old (ends_of (take i rs)) (r.0 ∷ bounds_after r.1)
     ∙ ap (λ l. old ++ l) (sym (ends-more (take i rs) r) ∙ ap ends_of (sym (take_more rs i (0, 0) lt)))
 
 -- and one over states

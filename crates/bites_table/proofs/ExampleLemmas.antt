@@ -32,10 +32,10 @@ untaken c e (suc (suc (suc zero))) = refl
 untaken c e (suc (suc (suc (suc q)))) = refl
 
 are_classes : AreClasses program classes
-are_classes None = alike_itself program None
-are_classes (Some c) =
+are_classes None is = alike_itself program None
+are_classes (Some c) is =
     ⊎_elim
-    (λ (e : (c == 97) ≡ true). let is : c ≡ 97 = grind (arith, nat_tests) in subst (λ n. AreAlike program (member (class_of (Some n))) (Some n)) (sym is) (alike_itself program (Some 97)))
+    (λ (e : (c == 97) ≡ true). let letter : c ≡ 97 = grind (arith, nat_tests) in subst (λ n. AreAlike program (member (class_of (Some n))) (Some n)) (sym letter) (alike_itself program (Some 97)))
     (λ (e : (c == 97) ≡ false). subst (λ b. AreAlike program (member (cond b 0 1)) (Some c)) (sym e) (alike_plain program no_looks 98 c (untaken c e)))
     (cases_Bool (c == 97))
 

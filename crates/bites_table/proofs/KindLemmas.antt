@@ -17,7 +17,7 @@ is_13 b e = grind (arith, nat_tests)
 abbrev like : ℕ → Option ℕ
 like b = byte_of (kind_of_byte b)
 
-line_feed_is : (b : ℕ) → is_byte 10 (like b) ≡ (b == 10)
+pub line_feed_is : (b : ℕ) → is_byte 10 (like b) ≡ (b == 10)
 line_feed_is b =
     ⊎_elim (λ (e : (b == 10) ≡ true). rw e refl)
     (λ (e : (b == 10) ≡ false). rw e
@@ -27,7 +27,7 @@ line_feed_is b =
     (cases_Bool (b == 13))))
     (cases_Bool (b == 10))
 
-carriage_return_is : (b : ℕ) → is_byte 13 (like b) ≡ (b == 13)
+pub carriage_return_is : (b : ℕ) → is_byte 13 (like b) ≡ (b == 13)
 carriage_return_is b =
     ⊎_elim (λ (e : (b == 10) ≡ true). subst (λ n. is_byte 13 (like n) ≡ (n == 13)) (sym (is_10 b e)) refl)
     (λ (e : (b == 10) ≡ false). rw e
@@ -37,7 +37,7 @@ carriage_return_is b =
     (cases_Bool (b == 13))))
     (cases_Bool (b == 10))
 
-word_is : (b : ℕ) → is_word (like b) ≡ is_word_byte b
+pub word_is : (b : ℕ) → is_word (like b) ≡ is_word_byte b
 word_is b =
     ⊎_elim (λ (e : (b == 10) ≡ true). subst (λ n. is_word (like n) ≡ is_word_byte n) (sym (is_10 b e)) refl)
     (λ (e : (b == 10) ≡ false). rw e
@@ -78,7 +78,7 @@ between word_end b a = ap₂ (λ x y. x && not y) (word_at b) (word_at a)
 between word_start_half b a = ap not (word_at b)
 between word_end_half b a = ap not (word_at a)
 
-no_edge : (b : ℕ) → is_edge (kind_of_byte b) ≡ false
+pub no_edge : (b : ℕ) → is_edge (kind_of_byte b) ≡ false
 no_edge b = of (b == 10) (b == 13) (is_word_byte b)
   where
     of : (x y z : Bool) → is_edge (cond x line_feed (cond y carriage_return (cond z word_byte other))) ≡ false

@@ -1,13 +1,22 @@
 -- Registers by their numbers.
-use Rattle.std.proofs.Common.{◌≡◌, ℕ, ◌+◌, ◌<◌, List, [], ◌∷◌, ◌++◌, map, length, sym, ap, ◌∙◌, arith, append_assoc}
+use Rattle.std.proofs.Common.{◌≡◌, ℕ, ◌+◌, ◌<◌, ◌⊎◌, inl, inr, ⊎_elim, List, [], ◌∷◌, ◌++◌, map, take, length, Option, sym, ap, ◌∙◌, subst, arith, append_assoc}
 use Rattle.std.specs.Prelude.{slice_index_or}
-use Rattle.std.proofs.lemmas.List.{get_or_append_left, get_or-map, map-append, length-append}
-use Rattle.bites_table.specs.Sources.{on_row, unwritten}
+use Rattle.std.specs.Option.{option_to_list}
+use Rattle.std.proofs.lemmas.List.{get_or_append_left, get_or-map, map-append, length-append, append-nil, take_more}
+use Rattle.bites_spec.specs.Walks.{Among}
+use Rattle.bites_spec.specs.Program.{State, Program, state_at}
+use Rattle.bites_machine.specs.Ends.{targets_over}
+use Rattle.bites_table.specs.Sources as sources
+use Rattle.bites_table.specs.Sources.{on_row, unwritten, thread_with}
+use Rattle.bites_table.specs.Takers.{taken}
 use Rattle.bites_table.specs.Transition.{source_at}
 use Rattle.bites_table.specs.Built.{source_of, frame_of, thread_as}
+use Rattle.bites_table.specs.Registers.{AreAssigned}
 use Rattle.bites_table.specs.declared.thread_list.Source.{Source}
 use Rattle.bites_table.specs.declared.thread_list.Frame.{Frame}
 use Rattle.bites_table.specs.declared.thread_list.Thread.{Thread}
+use Rattle.bites_table.specs.declared.registers.Assigned.{Assigned}
+use Rattle.bites_table.proofs.TakerLemmas.{taken-more}
 
 -- the source of a number stays, whatever comes after it
 pub source_at-stays : (rows more : List Source) (g : ℕ) (s : Source) → g < length rows → ((d : Source) → slice_index_or rows g d ≡ s) → source_at (map source_of (rows ++ more)) g ≡ source_of s
@@ -15,18 +24,44 @@ source_at-stays rows more g s within is =
     let len : length (rows ++ more) ≡ length rows + length more = length-append rows more in
     get_or-map source_of (rows ++ more) g s unwritten (omega arith) ∙ ap source_of (get_or_append_left rows more s g within ∙ is s)
 
--- one more thread
-pub one_assigned : (old rows added : List Source) (threads : List Thread) (f : Frame) (g : ℕ) (held : List Frame) → rows ≡ old ++ added → g < length rows → ((d : Source) → slice_index_or rows g d ≡ f.source) →
-    ((more : List Source) → map (on_row (source_at (map source_of (old ++ more)))) (map thread_as threads) ≡ map frame_of held) →
-    (more : List Source) → map (on_row (source_at (map source_of (rows ++ more)))) (map thread_as (threads ++ record { state = f.state; register = g } ∷ [])) ≡ map frame_of (held ++ f ∷ [])
-one_assigned old rows added threads f g held e within is before more =
-    let row = source_at (map source_of (rows ++ more)) in
-    let t : Thread = record { state = f.state; register = g } in
-    ap (map (on_row row)) (map-append thread_as threads (t ∷ []))
-    ∙ map-append (on_row row) (map thread_as threads) (thread_as t ∷ [])
-    ∙ ap (λ l. l ++ on_row row (thread_as t) ∷ [])
-    (ap (λ l. map (on_row (source_at (map source_of (l ++ more)))) (map thread_as threads)) e
-    ∙ ap (λ l. map (on_row (source_at (map source_of l))) (map thread_as threads)) (append_assoc old added more)
-    ∙ before (added ++ more))
-    ∙ ap (λ r. map frame_of held ++ record { state = f.state; row = r } ∷ []) (source_at-stays rows more g f.source within is)
-    ∙ sym (map-append frame_of held (f ∷ []))
+-- one of a list and one more
+among-last : {X : Type 0} (xs : List X) (y x : X) → Among (xs ++ y ∷ []) x → Among xs x ⊎ (y ≡ x)
+among-last [] y x among = ⊎_elim (λ same. inr same) (λ no. inl no) among
+among-last (z ∷ xs) y x among = ⊎_elim (λ same. inl (inl same)) (λ later. ⊎_elim (λ own. inl (inr own)) (λ same. inr same) (among-last xs y x later)) among
+
+module _ (a b : Assigned) (q g : ℕ) (s : Source) (added : List Source) (moved : b.moves.items ≡ a.moves.items ++ added) (pushed : b.threads.items ≡ a.threads.items ++ record { state = q; register = g } ∷ [])
+    (within : g < length b.moves.items) (is : (d : Source) → slice_index_or b.moves.items g d ≡ s) where
+  abbrev thread : Thread
+  thread = record { state = q; register = g }
+
+  -- one more thread
+  pub one_assigned : (ts : List (sources.Thread sources.Source)) → AreAssigned a ts → AreAssigned b (ts ++ thread_with (source_of s) q ∷ [])
+  one_assigned ts are = record {
+    threads = λ more.
+        let row = source_at (map source_of (b.moves.items ++ more)) in
+        ap (λ l. map (on_row row) (map thread_as l)) pushed
+        ∙ ap (map (on_row row)) (map-append thread_as a.threads.items (thread ∷ []))
+        ∙ map-append (on_row row) (map thread_as a.threads.items) (thread_as thread ∷ [])
+        ∙ ap (λ l. l ++ on_row row (thread_as thread) ∷ [])
+        (ap (λ l. map (on_row (source_at (map source_of (l ++ more)))) (map thread_as a.threads.items)) moved
+        ∙ ap (λ l. map (on_row (source_at (map source_of l))) (map thread_as a.threads.items)) (append_assoc a.moves.items added more)
+        ∙ are.threads (added ++ more))
+        ∙ ap (λ r. ts ++ thread_with r q ∷ []) (source_at-stays b.moves.items more g s within is);
+    held = λ t among.
+        ⊎_elim (λ own. let before = are.held t own in let len = ap length moved ∙ length-append a.moves.items added in omega arith)
+        (λ (same : thread ≡ t). subst (λ (u : Thread). u.register < length b.moves.items) same within)
+        (among-last a.threads.items thread t (subst (λ l. Among l t) pushed among));
+  }
+
+-- the threads that take a character among one more
+pub taken-next : (p : Program) (o : Option ℕ) (fs : List Frame) (i : ℕ) (none : Frame) (st : State) (r : Option ℕ) → i < length fs →
+    st ≡ state_at p.states (slice_index_or fs i none).state → option_to_list r ≡ targets_over o st →
+    taken p o (map frame_of (take i fs)) ++ map (thread_with (source_of (slice_index_or fs i none).source)) (option_to_list r) ≡ taken p o (map frame_of (take (i + 1) fs))
+taken-next p o fs i none st r lt is to =
+    let f = slice_index_or fs i none in
+    ap (λ qs. taken p o (map frame_of (take i fs)) ++ map (thread_with (source_of f.source)) qs) to
+    ∙ taken-more p o (map frame_of (take i fs)) (frame_of f) st is
+    ∙ ap (taken p o) (sym (map-append frame_of (take i fs) (f ∷ [])) ∙ ap (map frame_of) (sym (take_more fs i none lt)))
+
+pub none_more : (a : Assigned) (ts : List (sources.Thread sources.Source)) → AreAssigned a ts → AreAssigned a (ts ++ [])
+none_more a ts are = subst (AreAssigned a) (sym (append-nil ts)) are

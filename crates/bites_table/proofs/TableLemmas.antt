@@ -19,6 +19,7 @@ use Rattle.bites_table.specs.Table.{Table, IsTable, list_at, with_list, TableSea
 use Rattle.bites_table.specs.Laws.{passed}
 use Rattle.bites_table.proofs.TransitionLemmas.{searched_by, searches, starts_on, none_written, walked_is}
 use Rattle.bites_table.proofs.LeadLemmas.{leads_is}
+use Rattle.bites_table.proofs.CharacterLemmas.{is_next_character}
 use Rattle.bites_table.proofs.PieceKinds.{kind_before}
 
 -- a search in step begins where the table's does
@@ -97,7 +98,7 @@ module _ (p : Program) (k : Classes) (classes : AreClasses p k) (tab : Table) (r
       alike : (q : ℕ) → here (state_at p.states q) ≡ leads_at x.hay s.place (state_at p.states q)
       alike q =
           kind (k.member (k.class_of (next_character x.hay a.place))) q
-          ∙ (classes (next_character x.hay a.place)).leads (kind_of (before x.hay a.place)) q
+          ∙ (classes (next_character x.hay a.place) (is_next_character x.hay a.place)).leads (kind_of (before x.hay a.place)) q
           ∙ leads_is x.hay a.place step.within (state_at p.states q)
           ∙ ap (λ i. leads_at x.hay i (state_at p.states q)) (sym step.place)
 
@@ -127,12 +128,12 @@ module _ (p : Program) (k : Classes) (classes : AreClasses p k) (tab : Table) (r
   kind_on a b within some e =
       let t = known a b (transition_at k tab x a) refl e in
       let c = character (piece x.hay a.place) in
-      let d = member_is (k.member (k.class_of (next_character x.hay a.place))) (next_character x.hay a.place) (classes (next_character x.hay a.place)) c (some_character a.place some) in
+      let d = member_is (k.member (k.class_of (next_character x.hay a.place))) (next_character x.hay a.place) (classes (next_character x.hay a.place) (is_next_character x.hay a.place)) c (some_character a.place some) in
       subst (HasKind p tab x) t.2
       (λ o q. right.kind a.list (k.class_of (next_character x.hay a.place)) t.0 t.1 d.0 d.1 o q ∙ d.2 o q
       ∙ ap (λ l. leads_by l o (state_at p.states q)) (sym (kind_before x.hay a.place within some)))
 
-  rows_alike : (f g : ℕ → List (Option ℕ)) (ts : List (Thread ℕ)) → ((t : Thread ℕ) → Among ts t → f t.row ≡ g t.row) → map (thread_of f) ts ≡ map (thread_of g) ts
+  pub rows_alike : (f g : ℕ → List (Option ℕ)) (ts : List (Thread ℕ)) → ((t : Thread ℕ) → Among ts t → f t.row ≡ g t.row) → map (thread_of f) ts ≡ map (thread_of g) ts
   rows_alike f g [] same = refl
   rows_alike f g (t ∷ ts) same =
       ap₂ ◌∷◌ (ap (λ (r : List (Option ℕ)). record { state = t.state; start = 0; slots = r }) (same t (inl refl))) (rows_alike f g ts (λ u h. same u (inr h)))

@@ -26,7 +26,7 @@ pub none_written : (i a : ℕ) (xs : List (Option ℕ)) → slots_from i (λ k. 
 none_written i a [] = refl
 none_written i a (x ∷ xs) = ap (λ l. x ∷ l) (none_written i (suc a) xs)
 
-one_written : (i : ℕ) (s : ℕ → Bool) (a : ℕ) (xs : List (Option ℕ)) (k slot : ℕ) → a + k ≡ slot →
+pub one_written : (i : ℕ) (s : ℕ → Bool) (a : ℕ) (xs : List (Option ℕ)) (k slot : ℕ) → a + k ≡ slot →
     slots_from i (λ j. (j == slot) || s j) a xs ≡ slice_set (slots_from i s a xs) k (Some i)
 one_written i s a [] k slot e = refl
 one_written i s a (x ∷ xs) zero slot e =

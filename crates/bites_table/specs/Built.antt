@@ -1,5 +1,5 @@
 -- What the code's types stand for.
-use Rattle.std.specs.Prelude.{ℕ, map, option_map, reverse}
+use Rattle.std.specs.Prelude.{ℕ, map, option_map}
 use Rattle.bites_spec.specs.Closure.{Walking}
 use Rattle.bites_machine.specs.Bits.{has_bit}
 use Rattle.bites_table.specs.Kinds as kinds
@@ -13,7 +13,6 @@ use Rattle.bites_table.specs.declared.thread_list.Starts.TheVariants.{Everywhere
 use Rattle.bites_table.specs.declared.thread_list.ThreadList.{ThreadList}
 use Rattle.bites_table.specs.declared.thread_list.Source.{Source}
 use Rattle.bites_table.specs.declared.thread_list.Frame.{Frame}
-use Rattle.bites_table.specs.declared.transition.Transition.{Transition}
 use Rattle.bites_table.specs.declared.walk.Walk.{Walk}
 
 -- a kind of byte
@@ -43,23 +42,14 @@ abbrev pub thread_as : Thread → sources.Thread ℕ
 thread_as t = record { state = t.state; row = t.register }
 
 abbrev pub list_of : ThreadList → transitions.ThreadList
-list_of l = record { threads = map thread_as l.threads.items; starts = starts_as l.starts; kind = kind_as l.kind }
-
-abbrev pub transition_of : Transition → transitions.Transition transitions.ThreadList
-transition_of t = record {
-  next = list_of t.next;
-  moves = map source_of t.moves.items;
-  hit = option_map frame_of t.hit;
-  seen = reverse t.seen.value.items;
-  looks = t.looks;
-}
+list_of l = record { threads = map thread_as l.threads.now; starts = starts_as l.starts; kind = kind_as l.kind }
 
 -- a walk after so many looks
 abbrev pub walking_of : Walk → ℕ → Walking (sources.Thread sources.Source)
 walking_of w looks = record {
   stack = map frame_of w.stack;
   seen = w.visited;
-  next = map frame_of w.next.items;
+  next = map frame_of w.takers.items;
   first_match = option_map frame_of w.hit;
   looks = looks;
 }

@@ -20,7 +20,7 @@ member (suc zero) = Some 98
 member (suc (suc n)) = None
 
 abbrev pub classes : Classes
-classes = record { class_of = class_of; member = member }
+classes = record { class_of = class_of; member = member; len = 3 }
 
 -- no thread; and a thread after the letter, with register 0
 abbrev pub idle_list : ThreadList

@@ -1,5 +1,6 @@
 -- What a walk sees of a place: the kind of the byte before it, and the character after it.
 use Rattle.std.specs.Prelude.{◌≡◌, ℕ, Bool, true, false, List, [], ◌∷◌, map, Option, Some, None, is_some, if◌then◌else◌, ◌==◌}
+use Rattle.bites_spec.specs.Class.{is_scalar}
 use Rattle.bites_spec.specs.Look.{Look, is_word_byte, holds_between}
 use Rattle.bites_spec.specs.Program.{State, Program, state_at, targets_of, edges, char, ranges, splits, goto, capture, fail, match}
 use Rattle.bites_machine.specs.Ends.{targets_over}
@@ -62,11 +63,17 @@ pub record AreAlike (p : Program) (o u : Option ℕ) : Type 0 where
   pub kinds : AreAlikeKinds p (kind_of o) (kind_of u)
   pub some : is_some o ≡ is_some u
 
--- classes of characters, one of them for the end, each with a member
+-- a character, or none at the end
+abbrev pub is_character : Option ℕ → Bool
+is_character None = true
+is_character (Some c) = is_scalar c
+
+-- classes of characters, one of them for the end, each with a member; and how many there are
 pub record Classes : Type 0 where
   pub class_of : Option ℕ → ℕ
   pub member : ℕ → Option ℕ
+  pub len : ℕ
 
--- the member of each class is alike to all of the class
+-- the member of each class is alike to all characters of the class
 abbrev pub AreClasses : Program → Classes → Type 0
-AreClasses p k = (o : Option ℕ) → AreAlike p (k.member (k.class_of o)) o
+AreClasses p k = (o : Option ℕ) → is_character o ≡ true → AreAlike p (k.member (k.class_of o)) o

@@ -1,36 +1,54 @@
 //! Where the characters begin that a program tells apart.
 
-ghost use Rattle.std.specs.Prelude.{◌≡◌, ◌++◌, IfOk};
+ghost use Rattle.std.specs.Prelude.{◌≡◌, ◌++◌, [], if◌then◌else◌, IfOk, IfSome};
+ghost use Rattle.std.specs.List.{Contains};
 ghost use Rattle.std.specs.List.Sorted.{IsStrictlyIncreasing};
 ghost use Rattle.bites_machine.specs.States.{state_of, states_of};
-ghost use Rattle.bites_table.specs.Bounds.{ends_of, bounds_of_state, bounds_of, AreBounds};
+ghost use Rattle.bites_table.specs.Bounds.{ends_of, bounds_after, bounds_of_state, bounds_of, bounds_of_kinds, AreBounds};
 
-use bites_machine::program::Program;
+use crate::distinctions::Distinctions;
 use bites_machine::state::State;
 use std::alloc::{AllocError, Global};
 
-// The characters of each kind but the last, in ranges.
-const KINDS: [(char, char); 6] = [
-    ('\n', '\n'),
-    ('\r', '\r'),
-    ('0', '9'),
-    ('A', 'Z'),
-    ('_', '_'),
-    ('a', 'z'),
-];
+// The characters of the kinds, in ranges.
+pub(crate) const LINE_FEED: [(char, char); 1] = [('\n', '\n')];
 
-/// Returns rising numbers, so that two characters are alike if none of these lies above one and not above the other. The
-/// error is out of memory.
-pub fn bounds(alloc: Global, program: &Program) -> Result<Vec<u32>, AllocError>
-    ensures alike { IfOk result (λ bounds. AreBounds program.now.program bounds.items) }
-    ensures rising { IfOk result (λ bounds. IsStrictlyIncreasing bounds.items) }
+pub(crate) const CARRIAGE_RETURN: [(char, char); 1] = [('\r', '\r')];
+
+pub(crate) const WORD: [(char, char); 4] = [('0', '9'), ('A', 'Z'), ('_', '_'), ('a', 'z')];
+
+/// Returns rising numbers from 0 on. No state takes one of two characters and not the other if none of these numbers lies
+/// above one and not above the other, and their kinds are not told apart either. Returns `None` if memory runs out.
+pub(crate) fn bounds(alloc: Global, states: &[State], kinds: Distinctions) -> Option<Vec<u32>>
+    ensures bounds { IfSome result (λ bounds. AreBounds (states_of states.now) kinds bounds.items) }
+    ensures rising { IfSome result (λ bounds. IsStrictlyIncreasing bounds.items) }
+    ensures zero { IfSome result (λ bounds. Contains bounds.items 0) }
 {
     let mut bounds = Vec::new(alloc);
-    push_ranges(&mut bounds, &KINDS)?;
-    push_states(&mut bounds, program.states())?;
+    bounds.push(0).ok()?;
+    push_kinds(&mut bounds, kinds).ok()?;
+    push_states(&mut bounds, states).ok()?;
     bounds.sort_unstable();
     bounds.dedup();
-    Ok(bounds)
+    Some(bounds)
+}
+
+fn push_kinds(bounds: &mut Vec<u32>, kinds: Distinctions) -> Result<(), AllocError>
+    ensures { IfOk result (λ _. bounds.new.items ≡ bounds.old.items ++ bounds_of_kinds kinds) }
+{
+    push_if(bounds, kinds.line, &LINE_FEED)?;
+    push_if(bounds, kinds.carriage_return, &CARRIAGE_RETURN)?;
+    push_if(bounds, kinds.word, &WORD)
+}
+
+fn push_if(bounds: &mut Vec<u32>, wanted: bool, ranges: &[(char, char)]) -> Result<(), AllocError>
+    ensures { IfOk result (λ _. bounds.new.items
+        ≡ bounds.old.items ++ (if wanted then ends_of ranges.now else [])) }
+{
+    if wanted {
+        push_ranges(bounds, ranges)?;
+    }
+    Ok(())
 }
 
 fn push_states(bounds: &mut Vec<u32>, states: &[State]) -> Result<(), AllocError>
@@ -57,7 +75,19 @@ fn push_ranges(bounds: &mut Vec<u32>, ranges: &[(char, char)]) -> Result<(), All
 {
     for (first, last) in ranges {
         bounds.push(*first as u32)?;
-        bounds.push(*last as u32 + 1)?;
+        push_after(bounds, *last)?;
+    }
+    Ok(())
+}
+
+// Pushes the next character, if there is one.
+fn push_after(bounds: &mut Vec<u32>, ch: char) -> Result<(), AllocError>
+    ensures { IfOk result (λ _. bounds.new.items ≡ bounds.old.items ++ bounds_after ch) }
+{
+    match ch {
+        char::MAX => {}
+        '\u{D7FF}' => bounds.push(0xE000)?,
+        _ => bounds.push(ch as u32 + 1)?,
     }
     Ok(())
 }

@@ -1,15 +1,11 @@
-//! What a walk sees of a place: the kind of the byte before it, and the character after it.
+//! What assertions see of a place: the kinds of the bytes before and after it.
 
 ghost use Rattle.std.specs.Prelude.{◌≡◌};
 ghost use Rattle.bites_spec.specs.Look.{is_word_byte};
-ghost use Rattle.bites_spec.specs.Program.{takes, HasRanges};
-ghost use Rattle.bites_machine.specs.Ends.{takes_by};
-ghost use Rattle.bites_machine.specs.States.{state_of};
 ghost use Rattle.bites_syntax.specs.View.{look_of};
 ghost use Rattle.bites_table.specs.Kinds.{byte_of, is_edge, kind_of, holds_by};
 ghost use Rattle.bites_table.specs.Built.{kind_as};
 
-use bites_machine::state::State;
 use bites_syntax::look::Look;
 
 /// The kind of a byte, by what assertions tell apart. At an end of the haystack there is no byte, which is `Edge`.
@@ -67,35 +63,23 @@ fn is_word(ch: char) -> bool
     matches!(ch, '0'..='9' | 'A'..='Z' | 'a'..='z' | '_')
 }
 
-/// The kind of the byte before a place, and the character after it, or none at the end.
+/// A place as assertions see it: the kinds of the bytes before and after it.
 #[derive(Clone, Copy, Drop)]
 pub(crate) struct Here {
     pub before: Kind,
-    pub ch: Option<char>,
+    pub after: Kind,
 }
 
 impl Here {
-    /// Returns whether the state takes the character.
-    pub(crate) fn is_taken_by(&self, state: &State) -> bool
-        requires { HasRanges (state_of state.now) }
-        ensures { result ≡ takes_by (takes (state_of state.now)) self.now.ch }
-    {
-        match self.ch {
-            None => false,
-            Some(ch) => state.takes(ch),
-        }
-    }
-
     /// Returns whether the assertion holds.
     pub(crate) fn holds(&self, look: Look) -> bool
-        ensures { result ≡ holds_by (look_of look) (kind_as self.now.before) (kind_of self.now.ch) }
+        ensures { result ≡ holds_by (look_of look) (kind_as self.now.before) (kind_as self.now.after) }
     {
-        let after = Kind::of(self.ch);
         look.holds_between(
             self.before.byte(),
-            after.byte(),
+            self.after.byte(),
             self.before.is_edge(),
-            after.is_edge(),
+            self.after.is_edge(),
         )
     }
 }

@@ -1,18 +1,25 @@
 //! Tables of thread lists: what a search can know before it begins, and the transitions between them.
 //!
-//! No search uses them yet. Each function of this file has an empty body, and its contract is a law about the definitions in
-//! `specs/`.
+//! Each function of this file has an empty body, and its contract is a law about the definitions in `specs/`.
 #![tactic(auto)]
 
 ghost use Rattle.bites_table.specs.Example.{ExampleIsTable, ExampleEnds, TransitionsRefuse};
 ghost use Rattle.bites_table.specs.Laws.{LeadsByKind, KindIsPassed, AlikeByTaking, AlikeWithoutAssertions, WalksAreMapped, TransitionIsOne, TransitionSearches, Begins, Runs, Passes, Ends, ComesBack};
 
-pub mod bounds;
+pub mod alike_kinds;
+mod blocks;
+mod bounds;
+pub mod cache;
+pub mod classes;
+mod distinctions;
+mod explore;
 pub mod kind;
 mod registers;
 mod stack;
+pub mod search;
+pub mod steps;
+pub mod table;
 pub mod thread_list;
-pub mod transition;
 mod visited;
 pub mod walk;
 

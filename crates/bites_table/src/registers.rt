@@ -1,35 +1,85 @@
-//! The registers of the next thread list.
+//! The threads that take a character, and their registers.
 
-ghost use Rattle.std.specs.Prelude.{◌≡◌, ◌<◌, ◌++◌, List, length, map, IfSome, slice_index_or};
-ghost use Rattle.bites_table.specs.Sources.{on_row};
-ghost use Rattle.bites_table.specs.Transition.{source_at};
-ghost use Rattle.bites_table.specs.Built.{source_of, frame_of, thread_as};
+ghost use Rattle.std.specs.Prelude.{◌≡◌, ◌<◌, ◌∷◌, ◌++◌, [], List, length, map, IfSome, slice_index_or};
+ghost use Rattle.std.specs.Option.{option_to_list};
+ghost use Rattle.bites_spec.specs.Program.{HasRanges, IsWellFormed};
+ghost use Rattle.bites_machine.specs.Ends.{targets_over};
+ghost use Rattle.bites_machine.specs.States.{state_of};
+ghost use Rattle.bites_table.specs.Sources as sources;
+ghost use Rattle.bites_table.specs.Sources.{thread_with};
+ghost use Rattle.bites_table.specs.Takers.{taken};
+ghost use Rattle.bites_table.specs.Built.{source_of, frame_of};
+ghost use Rattle.bites_table.specs.Registers.{AreAssigned};
 ghost use Rattle.bites_table.specs.declared.thread_list.Source.{Source};
 
 use crate::thread_list::{Frame, Source, Thread};
+use bites_machine::program::Program;
+use bites_machine::state::State;
 use std::alloc::Global;
 
-/// Threads with registers, and the source of each register.
+/// Threads with registers, and the source of each register. The memory is kept from one character to the next.
 #[derive(Drop)]
 pub(crate) struct Assigned {
     pub threads: Vec<Thread>,
     pub moves: Vec<Source>,
 }
 
-/// Gives each thread a register, in order of preference. Threads with equal sources share one. Returns `None` if memory or
-/// numbers run out.
-pub(crate) fn assign(alloc: Global, frames: &[Frame]) -> Option<Assigned>
-    ensures { IfSome result (λ a. map (on_row (source_at (map source_of a.moves.items)))
-        (map thread_as a.threads.items) ≡ map frame_of frames.now) }
-{
-    let mut threads = Vec::new(alloc);
-    let mut moves = Vec::new(alloc);
-    for frame in frames {
-        let state = frame.state;
-        let register = register_of(&mut moves, frame.source)?;
-        threads.push(Thread { state, register }).ok()?;
+impl Assigned {
+    pub(crate) fn new(alloc: Global) -> Assigned {
+        Assigned {
+            threads: Vec::new(alloc),
+            moves: Vec::new(alloc),
+        }
     }
-    Some(Assigned { threads, moves })
+
+    /// Moves the threads at states that take the character, and gives each a register, in order of preference. Threads with
+    /// equal sources share one. Returns `None` if memory or numbers run out.
+    pub(crate) fn assign(
+        &mut self,
+        program: &Program,
+        takers: &[Frame],
+        ch: Option<char>,
+    ) -> Option<()>
+        requires { IsWellFormed program.now.program }
+        ensures { IfSome result (λ _. AreAssigned self.new (taken program.now.program ch (map frame_of takers.now))) }
+    {
+        self.threads.clear();
+        self.moves.clear();
+        for taker in takers {
+            if taker.state as usize >= program.len() {
+                return None;
+            }
+            match target_over(program.state(taker.state), ch) {
+                None => {}
+                Some(state) => self.push(state, taker.source)?,
+            }
+        }
+        Some(())
+    }
+
+    // Adds a thread.
+    fn push(&mut self, state: u32, source: Source) -> Option<()>
+        ensures { IfSome result (λ _. (ts : List (sources.Thread sources.Source)) → AreAssigned self.old ts →
+            AreAssigned self.new (ts ++ thread_with (source_of source) state ∷ [])) }
+    {
+        let register = register_of(&mut self.moves, source)?;
+        self.threads.push(Thread { state, register }).ok()?;
+        Some(())
+    }
+}
+
+// Returns where a state leads over the character, if it takes it.
+fn target_over(state: &State, ch: Option<char>) -> Option<u32>
+    requires { HasRanges (state_of state.now) }
+    ensures { option_to_list result ≡ targets_over ch (state_of state.now) }
+{
+    let ch = ch?;
+    match state {
+        State::Char { target, .. } | State::Ranges { target, .. } if state.takes(ch) => Some(
+            *target,
+        ),
+        _ => None,
+    }
 }
 
 // Returns the register of a source, which is added if it is new.

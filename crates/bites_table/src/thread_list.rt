@@ -1,6 +1,7 @@
 //! Thread lists, and where the rows of their threads come from.
 
 ghost use Rattle.std.specs.Prelude.{◌≡◌, IfSome};
+ghost use Rattle.bites_machine.specs.Bits.{has_bit};
 ghost use Rattle.bites_table.specs.Sources.{unwritten, row_of_register, write};
 ghost use Rattle.bites_table.specs.Transition.{starts_after, is_walked};
 ghost use Rattle.bites_table.specs.Built.{source_of, starts_as};
@@ -11,7 +12,7 @@ use crate::kind::Kind;
 const SLOTS: u32 = 64;
 
 /// A thread of a thread list: the state that it continues from, and the register that holds its row of slots.
-#[derive(Clone, Copy, Drop)]
+#[derive(Clone, Copy, PartialEq, Eq, Drop)]
 pub struct Thread {
     pub state: u32,
     pub register: u32,
@@ -51,9 +52,9 @@ impl Starts {
 }
 
 /// The threads of a place in order of preference, where the start is walked after them, and the kind of the byte before.
-#[derive(Drop)]
-pub struct ThreadList {
-    pub threads: Vec<Thread>,
+#[derive(Clone, Copy, Drop)]
+pub struct ThreadList<'a> {
+    pub threads: &'a [Thread],
     pub starts: Starts,
     pub kind: Kind,
 }
@@ -87,6 +88,13 @@ impl Source {
         }
     }
 
+    /// Returns whether a slot is written.
+    pub(crate) fn has_written(&self, slot: usize) -> bool
+        ensures { result ≡ has_bit self.now.writes slot }
+    {
+        has_bit(self.writes, slot)
+    }
+
     /// Returns the row with one more slot written, or `None` if no bit is left for the slot.
     pub(crate) fn write(self, slot: u32) -> Option<Source>
         ensures { IfSome result (λ s. source_of s ≡ write slot (source_of self)) }
@@ -101,8 +109,15 @@ impl Source {
     }
 }
 
+// Returns whether the bit of that number is 1.
+fn has_bit(bits: u64, number: usize) -> bool
+    ensures { result ≡ has_bit bits number }
+{
+    number < SLOTS as usize && bits >> number & 1 == 1
+}
+
 /// A thread of a walk: the state that it is at, and where its row comes from.
-#[derive(Clone, Copy, Drop)]
+#[derive(Clone, Copy, PartialEq, Eq, Drop)]
 pub struct Frame {
     pub state: u32,
     pub source: Source,

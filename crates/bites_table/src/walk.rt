@@ -1,29 +1,31 @@
 //! The walk of a thread list: the closures of its threads, one after the other.
 
-ghost use Rattle.std.specs.Prelude.{◌≡◌, ◌∷◌, ◌++◌, ◌<◌, [], ℕ, suc, if◌then◌else◌, length, map, None, IfSome, IfOk, List, option_map};
-ghost use Rattle.bites_spec.specs.Program.{targets_of, HasRanges, IsWellFormed};
+ghost use Rattle.std.specs.Prelude.{◌≡◌, ◌∷◌, ◌++◌, ◌<◌, ◌≤◌, [], ℕ, suc, length, map, None, IfSome, IfOk, List, option_map};
+ghost use Rattle.bites_spec.specs.Program.{targets_of, IsWellFormed};
 ghost use Rattle.bites_spec.specs.Program as program;
 ghost use Rattle.bites_spec.specs.Closure.{WalksTo, stepped, visited};
 ghost use Rattle.bites_machine.specs.States.{state_of};
-ghost use Rattle.bites_table.specs.Kinds.{leads_by};
-ghost use Rattle.bites_table.specs.Sources.{threads_by, thread_with};
-ghost use Rattle.bites_table.specs.Built.{kind_as, source_of, frame_of, walking_of};
+ghost use Rattle.bites_table.specs.Sources.{thread_with, on_row, row_of_register};
+ghost use Rattle.bites_table.specs.Takers.{takers_by};
+ghost use Rattle.bites_table.specs.Transition.{begun};
+ghost use Rattle.bites_table.specs.Built.{kind_as, source_of, frame_of, thread_as, list_of, walking_of};
+ghost use Rattle.bites_table.specs.Made.{IsWalked};
 
-use crate::kind::Here;
+use crate::kind::{Here, Kind};
 use crate::stack::Stack;
-use crate::thread_list::{Frame, Source};
+use crate::thread_list::{Frame, Source, Thread, ThreadList};
 use crate::visited::Visited;
 use bites_machine::program::{Program, Targets};
 use bites_machine::state::State;
 use std::alloc::{AllocError, Global};
 
-/// The memory of a walk: the threads that are still to be walked, the states that were visited, the threads that took the
-/// character, and the first thread that came to a match. It is kept from one walk to the next.
+/// The memory of a walk: the threads that are still to be walked, the states that were visited, the threads at states that
+/// take characters, and the first thread that came to a match. It is kept from one walk to the next.
 #[derive(Drop)]
 pub struct Walk {
     pub(crate) stack: Stack,
     pub(crate) visited: Visited,
-    pub(crate) next: Vec<Frame>,
+    pub(crate) takers: Vec<Frame>,
     pub(crate) hit: Option<Frame>,
 }
 
@@ -33,7 +35,7 @@ impl Walk {
         Ok(Walk {
             stack: Stack::new(alloc),
             visited: Visited::new(alloc, program.len())?,
-            next: Vec::new(alloc),
+            takers: Vec::new(alloc),
             hit: None,
         })
     }
@@ -44,19 +46,66 @@ impl Walk {
     {
         self.stack.clear();
         self.visited.clear();
-        self.next.clear();
+        self.takers.clear();
         self.hit = None;
     }
 }
 
-/// Walks the uppermost thread until the stack is empty. Returns the number of looks, or `None` if the budget has fewer, a
-/// slot or a state has no number here, or memory runs out.
-pub(crate) fn run(walk: &mut Walk, program: &Program, here: &Here, budget: usize) -> Option<usize>
-    requires well_formed { IsWellFormed program.now.program }
+/// Walks a thread list before a byte of the kind, up to the states that take characters. Returns the number of looks, or
+/// `None` if the budget has fewer, a slot or a state has no number here, or memory runs out.
+pub(crate) fn walk_list(
+    walk: &mut Walk,
+    program: &Program,
+    list: &ThreadList<'_>,
+    after: Kind,
+    budget: usize,
+) -> Option<usize>
+    ensures walked { IfSome result (IsWalked program.now.program (list_of list.now) (kind_as after) walk.new) }
+    ensures within { IfSome result (λ looks. looks ≤ budget) }
+    ensures well_formed { IsWellFormed program.now.program }
+{
+    begin(walk, program, list)?;
+    let before = list.kind;
+    run(walk, program, &Here { before, after }, budget)
+}
+
+// Begins the walk of a thread list. Returns `None` if memory runs out.
+fn begin(walk: &mut Walk, program: &Program, list: &ThreadList<'_>) -> Option<()>
+    ensures begun { IfSome result (λ _. walking_of walk.new 0 ≡ begun program.now.program (list_of list.now)) }
+    ensures well_formed { IsWellFormed program.now.program }
+{
+    walk.clear();
+    let state = program.start();
+    if list.starts.is_walked() {
+        let source = Source::unwritten();
+        walk.stack.push(Frame { state, source })?;
+    }
+    push_threads(&mut walk.stack, list.threads)
+}
+
+// Pushes threads, each with the row of its register as it is. The preferred one is then uppermost.
+fn push_threads(stack: &mut Stack, threads: &[Thread]) -> Option<()>
+    ensures { IfSome result (λ _. map frame_of stack.new
+        ≡ map (on_row row_of_register) (map thread_as threads.now) ++ map frame_of stack.old) }
+{
+    let mut number = threads.len();
+    while number > 0 {
+        number -= 1;
+        let Thread { state, register } = threads[number];
+        let source = Source::of_register(register);
+        stack.push(Frame { state, source })?;
+    }
+    Some(())
+}
+
+// Walks the uppermost thread until the stack is empty. Returns the number of looks, or `None` if the budget has fewer, a
+// slot or a state has no number here, or memory runs out.
+fn run(walk: &mut Walk, program: &Program, here: &Here, budget: usize) -> Option<usize>
     ensures walks { IfSome result (λ looks. WalksTo
-        (threads_by (leads_by (kind_as here.now.before) here.now.ch)) program.now.program
+        (takers_by (kind_as here.now.before) (kind_as here.now.after)) program.now.program
         (walking_of walk.old 0) (walking_of walk.new looks)) }
     ensures over { IfSome result (λ _. walk.new.stack ≡ []) }
+    ensures within { IfSome result (λ looks. looks ≤ budget) }
 {
     for looks in 0..budget {
         let Some(frame) = walk.stack.pop() else {
@@ -73,9 +122,8 @@ pub(crate) fn run(walk: &mut Walk, program: &Program, here: &Here, budget: usize
 // Walks one thread: one step of the walk, and one look.
 #[tactic(auto, unfolding(bites_spec::specs::Closure::stepped))]
 fn turn(walk: &mut Walk, program: &Program, here: &Here, frame: Frame) -> Option<()>
-    requires well_formed { IsWellFormed program.now.program }
     ensures { IfSome result (λ _. (looks : ℕ) → walking_of walk.new (suc looks)
-        ≡ stepped (threads_by (leads_by (kind_as here.now.before) here.now.ch)) program.now.program
+        ≡ stepped (takers_by (kind_as here.now.before) (kind_as here.now.after)) program.now.program
         (frame_of frame ∷ map frame_of walk.old.stack) (walking_of walk.old looks)) }
 {
     if frame.state as usize >= program.len() {
@@ -90,28 +138,20 @@ fn turn(walk: &mut Walk, program: &Program, here: &Here, frame: Frame) -> Option
 // Follows a state that is visited for the first time.
 #[tactic(auto, unfolding(bites_spec::specs::Closure::visited))]
 fn follow(walk: &mut Walk, here: &Here, state: &State, frame: Frame) -> Option<()>
-    requires { HasRanges (state_of state.now) }
     ensures { IfSome result (λ _. (seen : List ℕ) (looks : ℕ) → walk.old.visited ≡ frame.state ∷ seen →
         walking_of walk.new (suc looks)
-        ≡ visited (threads_by (leads_by (kind_as here.now.before) here.now.ch)) (state_of state.now)
+        ≡ visited (takers_by (kind_as here.now.before) (kind_as here.now.after)) (state_of state.now)
         (frame_of frame) (map frame_of walk.old.stack) (record {
           stack = map frame_of walk.old.stack;
           seen = seen;
-          next = map frame_of walk.old.next.items;
+          next = map frame_of walk.old.takers.items;
           first_match = option_map frame_of walk.old.hit;
           looks = looks;
         })) }
 {
     let source = frame.source;
     match state {
-        State::Char { target, .. } => {
-            let takes = here.is_taken_by(state);
-            step_char(&mut walk.next, *target, source, takes)
-        }
-        State::Ranges { target, .. } => {
-            let takes = here.is_taken_by(state);
-            step_char(&mut walk.next, *target, source, takes)
-        }
+        State::Char { .. } | State::Ranges { .. } => walk.takers.push(frame).ok(),
         State::Splits { targets, reverse } => {
             push_targets(&mut walk.stack, targets, *reverse, source)
         }
@@ -136,18 +176,6 @@ fn follow(walk: &mut Walk, here: &Here, state: &State, frame: Frame) -> Option<(
             Some(())
         }
     }
-}
-
-// Adds a thread to those of the next place, if the character is taken.
-fn step_char(next: &mut Vec<Frame>, target: u32, source: Source, takes: bool) -> Option<()>
-    ensures { IfSome result (λ _. map frame_of next.new.items ≡ map frame_of next.old.items
-        ++ map (thread_with (source_of source)) (if takes then target ∷ [] else [])) }
-{
-    if takes {
-        let state = target;
-        next.push(Frame { state, source }).ok()?;
-    }
-    Some(())
 }
 
 // Pushes all targets of a split. The preferred one is then uppermost.

@@ -1,6 +1,7 @@
 //! The examples at the items over byte strings, word for word.
 
-use regex_bites::bytes::{NoExpand, Regex, RegexBuilder};
+use regex_bites::Error;
+use regex_bites::bytes::{NoExpand, Regex, RegexBuilder, RegexSet, RegexSetBuilder};
 use std::test::Fail;
 
 #[test]
@@ -101,6 +102,16 @@ fn at_find_with(rt: HostRuntime) -> Result<(), Fail> {
 }
 
 #[test]
+fn at_find_next_with(rt: HostRuntime) -> Result<(), Fail> {
+    let regex = Regex::new(rt.alloc(), "a*")?;
+    let mut cache = regex.cache()?;
+    let next = regex.find_next_with(&mut cache, b"ab", Some(1)).ok_or("no match")?;
+    assert_eq!(rt; next.range(), 2..2);
+    assert_eq!(rt; regex.find_next_with(&mut cache, b"ab", Some(2)), None);
+    Ok(())
+}
+
+#[test]
 fn at_find_anchored_at(rt: HostRuntime) -> Result<(), Fail> {
     let regex = Regex::new(rt.alloc(), "[a-z]+")?;
     let found = regex.find_anchored_at(b"ab 1cd", 1)?.ok_or("no match")?;
@@ -192,5 +203,49 @@ fn at_builder(rt: HostRuntime) -> Result<(), Fail> {
     builder.case_insensitive(true);
     let regex = builder.build()?;
     assert!(rt; regex.is_match(b"\xFFABC")?);
+    Ok(())
+}
+
+#[test]
+fn at_set(rt: HostRuntime) -> Result<(), Fail> {
+    let set = RegexSet::new(rt.alloc(), &["[a-z]+", r"\d+", "foo"])?;
+    let matches = set.matches(b"\xFFfood")?;
+    let mut numbers = Vec::new(rt.alloc());
+    for number in matches.iter() {
+        numbers.push(number)?;
+    }
+    assert_eq!(rt; numbers.as_slice(), [0, 2].as_slice());
+    Ok(())
+}
+
+#[test]
+fn at_set_new(rt: HostRuntime) -> Result<(), Fail> {
+    let error = RegexSet::new(rt.alloc(), &["a", "(b"]).err().ok_or("no error")?;
+    assert_eq!(rt; error.index(), 1);
+    assert_eq!(rt; error.error(), Error::UnclosedGroup);
+    Ok(())
+}
+
+#[test]
+fn at_set_patterns(rt: HostRuntime) -> Result<(), Fail> {
+    let set = RegexSet::new(rt.alloc(), &["a+", "b"])?;
+    assert_eq!(rt; set.patterns().next(), Some("a+"));
+    Ok(())
+}
+
+#[test]
+fn at_set_builder(rt: HostRuntime) -> Result<(), Fail> {
+    let mut builder = RegexSetBuilder::new(rt.alloc(), &["foo", "bar"])?;
+    builder.case_insensitive(true);
+    let set = builder.build()?;
+    assert!(rt; set.is_match(b"\xFFBAR")?);
+    Ok(())
+}
+
+#[test]
+fn at_set_matches_iter(rt: HostRuntime) -> Result<(), Fail> {
+    let set = RegexSet::new(rt.alloc(), &["a", "b", "c"])?;
+    let matches = set.matches(b"cab")?;
+    assert_eq!(rt; matches.iter().last(), Some(2));
     Ok(())
 }

@@ -1,6 +1,8 @@
 //! The examples at the items over texts, word for word.
 
-use regex_bites::{Captures, Error, NoExpand, Regex, RegexBuilder, With, escape};
+use regex_bites::{
+    Captures, Error, NoExpand, Regex, RegexBuilder, RegexSet, RegexSetBuilder, With, escape,
+};
 use std::test::Fail;
 
 #[test]
@@ -226,5 +228,36 @@ fn at_with(rt: HostRuntime) -> Result<(), Fail> {
 fn at_escape(rt: HostRuntime) -> Result<(), Fail> {
     let pattern = escape(rt.alloc(), "1+1")?;
     assert_eq!(rt; pattern.as_str(), r"1\+1");
+    Ok(())
+}
+
+#[test]
+fn at_set(rt: HostRuntime) -> Result<(), Fail> {
+    let set = RegexSet::new(rt.alloc(), &["[a-z]+", r"\d+", "foo"])?;
+    let matches = set.matches("food")?;
+    let mut numbers = Vec::new(rt.alloc());
+    for number in matches.iter() {
+        numbers.push(number)?;
+    }
+    assert_eq!(rt; numbers.as_slice(), [0, 2].as_slice());
+    Ok(())
+}
+
+#[test]
+fn at_set_cache(rt: HostRuntime) -> Result<(), Fail> {
+    let set = RegexSet::new(rt.alloc(), &["a", "b"])?;
+    let mut cache = set.cache()?;
+    assert!(rt; cache.fits(&set));
+    assert!(rt; set.is_match_with(&mut cache, "cab"));
+    assert!(rt; !set.is_match_with(&mut cache, "c"));
+    Ok(())
+}
+
+#[test]
+fn at_set_builder(rt: HostRuntime) -> Result<(), Fail> {
+    let mut builder = RegexSetBuilder::new(rt.alloc(), &["foo", "bar"])?;
+    builder.case_insensitive(true);
+    let set = builder.build()?;
+    assert!(rt; set.is_match("xBAR")?);
     Ok(())
 }

@@ -1,4 +1,5 @@
 pub mod ErrorLemmas
+pub mod NumberLemmas
 pub mod PieceFacts
 mod RowLemmas
 mod FrontLemmas

@@ -1,7 +1,8 @@
 //! Why a pattern is refused.
 
-ghost use Rattle.std.specs.Prelude.{◌≡◌, ◌↔◌, IsTrue, Some};
-ghost use Rattle.bites_text.specs.Texts.{TextsAgree, error_text};
+ghost use Rattle.std.specs.Prelude.{◌≡◌, ◌≤◌, ◌↔◌, IsTrue, Some, IfSome, IfNone, map};
+ghost use Rattle.std.specs.List.{range_with_len};
+ghost use Rattle.bites_text.specs.Texts.{TextsAgree, code_of, error_text};
 ghost use Rattle.bites_text.specs.declared.error.Error.TheVariants.{Memory};
 
 use std::alloc::{AllocError, AllocFailed};
@@ -9,125 +10,125 @@ use std::fmt;
 
 /// Why a pattern was refused: one message of the parser or the compiler, or out of memory.
 ///
-/// A copy or a clone takes no memory.
+/// A copy or a clone takes no memory. The discriminant of each variant is the number of its message.
 #[derive(Clone, Copy, Debug, PartialEq, Eq)]
 pub enum Error {
     /// More groups are open than the limit allows, or the expression is too tall.
-    TooMuchNesting,
+    TooMuchNesting = 1,
     /// A group's number does not fit a `u32`.
-    TooManyGroups,
+    TooManyGroups = 2,
     /// Two groups have one name.
-    DuplicateName,
+    DuplicateName = 3,
     /// The pattern ends in a group.
-    UnclosedGroup,
+    UnclosedGroup = 4,
     /// The pattern ends after `(?`.
-    UnclosedQuestion,
+    UnclosedQuestion = 5,
     /// A `)` closes no group.
-    UnopenedGroup,
+    UnopenedGroup = 6,
     /// A group begins with `?=`, `?!`, `?<=` or `?<!`.
-    LookAround,
+    LookAround = 7,
     /// `(?)` sets no flag.
-    EmptyFlags,
+    EmptyFlags = 8,
     /// The pattern ends where a group's name begins.
-    MissingName,
+    MissingName = 9,
     /// A character cannot stand in a group's name.
-    InvalidName,
+    InvalidName = 10,
     /// The pattern ends in a group's name.
-    UnclosedName,
+    UnclosedName = 11,
     /// A group's name has no character.
-    EmptyName,
+    EmptyName = 12,
     /// A character is not a flag.
-    UnrecognizedFlag,
+    UnrecognizedFlag = 13,
     /// The flags have a second `-`.
-    RepeatedNegation,
+    RepeatedNegation = 14,
     /// A flag is set or cleared a second time.
-    DuplicateFlag,
+    DuplicateFlag = 15,
     /// The pattern ends in the flags.
-    UnclosedFlags,
+    UnclosedFlags = 16,
     /// No flag follows the `-`.
-    DanglingNegation,
+    DanglingNegation = 17,
     /// A bound of a counted repetition has no digit.
-    DecimalWithoutDigits,
+    DecimalWithoutDigits = 18,
     /// A bound of a counted repetition does not fit a `u32`.
-    InvalidDecimal,
+    InvalidDecimal = 19,
     /// A character in the braces is not a hexadecimal digit.
-    BraceHexDigit,
+    BraceHexDigit = 20,
     /// The pattern ends in the braces of a hexadecimal number.
-    BraceHexUnclosed,
+    BraceHexUnclosed = 21,
     /// The braces of a hexadecimal number are empty.
-    BraceHexEmpty,
+    BraceHexEmpty = 22,
     /// The number in the braces is not a scalar value.
-    BraceHexInvalid,
+    BraceHexInvalid = 23,
     /// The pattern ends after some of the hexadecimal digits.
-    FixedHexUnfinished,
+    FixedHexUnfinished = 24,
     /// A character is not a hexadecimal digit where one has to stand.
-    FixedHexDigit,
+    FixedHexDigit = 25,
     /// The number of these digits is not a scalar value.
-    FixedHexInvalid,
+    FixedHexInvalid = 26,
     /// The pattern ends after `\x`, `\u` or `\U`.
-    HexUnfinished,
+    HexUnfinished = 27,
     /// The pattern ends after `\`.
-    EscapeUnfinished,
+    EscapeUnfinished = 28,
     /// A digit follows `\`.
-    Backreference,
+    Backreference = 29,
     /// `\p` or `\P` begins a class of Unicode.
-    UnicodeClass,
+    UnicodeClass = 30,
     /// A character has no meaning after `\`.
-    UnrecognizedEscape,
+    UnrecognizedEscape = 31,
     /// Nothing stands before `?`, `*` or `+`.
-    NothingToRepeat,
+    NothingToRepeat = 32,
     /// Nothing stands before a counted repetition.
-    NothingToCount,
+    NothingToCount = 33,
     /// The pattern ends after `{`.
-    UnclosedCount,
+    UnclosedCount = 34,
     /// The pattern ends after the lower bound.
-    UnclosedMin,
+    UnclosedMin = 35,
     /// The pattern ends after the comma of a counted repetition.
-    UnclosedComma,
+    UnclosedComma = 36,
     /// The pattern ends after the upper bound.
-    UnclosedMax,
+    UnclosedMax = 37,
     /// Another character stands where the counted repetition would go on.
-    InvalidCount,
+    InvalidCount = 38,
     /// The lower bound is above the upper one.
-    MinAboveMax,
+    MinAboveMax = 39,
     /// The pattern ends after a member of a class.
-    UnclosedAfterMember,
+    UnclosedAfterMember = 40,
     /// An end of a range in a class is not a single character.
-    RangeOfNoCharacter,
+    RangeOfNoCharacter = 41,
     /// An assertion stands in a class.
-    InvalidClassEscape,
+    InvalidClassEscape = 42,
     /// The pattern ends after a `-` in a class.
-    UnclosedAfterDash,
+    UnclosedAfterDash = 43,
     /// The pattern ends after `[^`.
-    UnclosedAfterCaret,
+    UnclosedAfterCaret = 44,
     /// The pattern ends after a class's leading `]`.
-    UnclosedAfterBracket,
+    UnclosedAfterBracket = 45,
     /// The first end of a range in a class is above its second.
-    InvalidRange,
+    InvalidRange = 46,
     /// The pattern ends where a member of a class could begin.
-    UnclosedClass,
+    UnclosedClass = 47,
     /// A class stands in a class.
-    NestedClass,
+    NestedClass = 48,
     /// `&&` stands between members of a class.
-    ClassIntersection,
+    ClassIntersection = 49,
     /// `--` stands between members of a class.
-    ClassDifference,
+    ClassDifference = 50,
     /// `~~` stands between members of a class.
-    ClassSymmetricDifference,
+    ClassSymmetricDifference = 51,
     /// The letters after `\b{` are not closed by `}`.
-    UnclosedBoundary,
+    UnclosedBoundary = 52,
     /// The letters in `\b{}` spell no word boundary.
-    UnrecognizedBoundary,
+    UnrecognizedBoundary = 53,
     /// The pattern ends after `\b{`.
-    UnfinishedBoundary,
+    UnfinishedBoundary = 54,
     /// The compiled program is above the size limit.
-    TooBig,
+    TooBig = 55,
     /// The compiled program has more states than there are numbers for them.
-    TooManyStates,
+    TooManyStates = 56,
     /// The groups need more slots than there are numbers for them.
-    TooManySlots,
+    TooManySlots = 57,
     /// An allocation failed.
-    Memory,
+    Memory = 58,
 }
 
 impl Error {
@@ -244,6 +245,90 @@ impl<T: Drop> From<AllocFailed<T>> for Error {
     fn from(_refused: AllocFailed<T>) -> Error {
         Error::Memory
     }
+}
+
+/// Returns the number of an error, from 1 on. Out of memory is 58.
+pub fn number(error: Error) -> u32
+    ensures { result ≡ code_of error }
+{
+    error as u32
+}
+
+/// Returns the error of a number, if an error has it.
+pub fn of_number(number: u32) -> Option<Error>
+    ensures known { IfSome result (λ e. number ≡ code_of e) }
+    ensures unknown { IfNone result (1 ≤ number → number ≤ 58 → ⊥) }
+{
+    if number == 0 || number > 58 {
+        return None;
+    }
+    Some(errors()[number as usize - 1])
+}
+
+// Returns the errors in the order of their numbers.
+fn errors() -> [Error; 58]
+    ensures { map code_of result ≡ range_with_len 1 58 }
+{
+    [
+        Error::TooMuchNesting,
+        Error::TooManyGroups,
+        Error::DuplicateName,
+        Error::UnclosedGroup,
+        Error::UnclosedQuestion,
+        Error::UnopenedGroup,
+        Error::LookAround,
+        Error::EmptyFlags,
+        Error::MissingName,
+        Error::InvalidName,
+        Error::UnclosedName,
+        Error::EmptyName,
+        Error::UnrecognizedFlag,
+        Error::RepeatedNegation,
+        Error::DuplicateFlag,
+        Error::UnclosedFlags,
+        Error::DanglingNegation,
+        Error::DecimalWithoutDigits,
+        Error::InvalidDecimal,
+        Error::BraceHexDigit,
+        Error::BraceHexUnclosed,
+        Error::BraceHexEmpty,
+        Error::BraceHexInvalid,
+        Error::FixedHexUnfinished,
+        Error::FixedHexDigit,
+        Error::FixedHexInvalid,
+        Error::HexUnfinished,
+        Error::EscapeUnfinished,
+        Error::Backreference,
+        Error::UnicodeClass,
+        Error::UnrecognizedEscape,
+        Error::NothingToRepeat,
+        Error::NothingToCount,
+        Error::UnclosedCount,
+        Error::UnclosedMin,
+        Error::UnclosedComma,
+        Error::UnclosedMax,
+        Error::InvalidCount,
+        Error::MinAboveMax,
+        Error::UnclosedAfterMember,
+        Error::RangeOfNoCharacter,
+        Error::InvalidClassEscape,
+        Error::UnclosedAfterDash,
+        Error::UnclosedAfterCaret,
+        Error::UnclosedAfterBracket,
+        Error::InvalidRange,
+        Error::UnclosedClass,
+        Error::NestedClass,
+        Error::ClassIntersection,
+        Error::ClassDifference,
+        Error::ClassSymmetricDifference,
+        Error::UnclosedBoundary,
+        Error::UnrecognizedBoundary,
+        Error::UnfinishedBoundary,
+        Error::TooBig,
+        Error::TooManyStates,
+        Error::TooManySlots,
+        Error::Memory,
+    ]
 }
 
 /// For proofs: the error of each message of the grammar has that message's text, and no two messages have the same

@@ -34,6 +34,10 @@ use Rattle.regex_bites.specs.Borders.{IsPart, HaveBorders, AreGroupsOf}
 pub none_some : {A B : Type 0} (a : A) → None ≡ Some a → B
 none_some a e = absurd (cc)
 
+-- what is said of a regex and of bytes that are a text's is said of the text
+pub over_text : (P : Regex → List ℕ → Type 0) (r q : Regex) (h k : List ℕ) → r ≡ q → h ≡ k → P r h → P q k
+over_text P r q h k e f p = subst (λ x. P x k) e (subst (P r) f p)
+
 -- a search may begin at the place
 abbrev pub MayStart : List ℕ → ℕ → Type 0
 MayStart hay s = s ≤ length hay → IsCharBoundary hay s

@@ -137,5 +137,6 @@ pub use bites_text::error::Error;
 pub use bites_text::{error, utf8};
 pub use string::{
     Cache, CaptureLocations, CaptureMatches, CaptureNames, Captures, Match, Matches, NoExpand,
-    Regex, RegexBuilder, Replacer, ReplacerRef, Split, SplitN, SubCaptureMatches, With,
+    Regex, RegexBuilder, RegexSet, RegexSetBuilder, Replacer, ReplacerRef, SetCache, SetError,
+    SetMatches, SetMatchesIter, SetPatterns, Split, SplitN, SubCaptureMatches, With,
 };

@@ -13,7 +13,8 @@
 //! ```
 
 use crate::builder::regex_builder;
-use crate::engine::{Engine, Settings, ABSENT};
+use crate::engine::{Engine, SetEngine, Settings, ABSENT};
+use crate::sets::regex_set;
 use crate::sys::{self, BitesSpan};
 use std::borrow::Cow;
 use std::fmt;
@@ -473,3 +474,5 @@ impl Regex {
 }
 
 regex_builder!();
+
+regex_set!([u8]);

@@ -8,9 +8,9 @@ use std::mem;
 /// The flags and limits of a pattern.
 #[derive(Clone, Copy, Debug)]
 pub(crate) struct Settings {
-    flags: u32,
-    size_limit: usize,
-    nest_limit: u32,
+    pub(super) flags: u32,
+    pub(super) size_limit: usize,
+    pub(super) nest_limit: u32,
 }
 
 impl Settings {

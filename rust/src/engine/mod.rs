@@ -20,9 +20,11 @@ use std::sync::{Arc, Mutex, OnceLock};
 use text::{append, give_up, made_text, text_of, written, SHORT};
 
 mod handle;
+mod sets;
 mod text;
 
 pub(crate) use handle::Settings;
+pub(crate) use sets::SetEngine;
 pub(crate) use text::message;
 
 /// A compiled regex, which any number of threads may read.

@@ -1,8 +1,9 @@
 //! Searches of texts.
 
 use crate::builder::regex_builder;
-use crate::engine::{Engine, Settings, ABSENT};
+use crate::engine::{Engine, SetEngine, Settings, ABSENT};
 use crate::error::Error;
+use crate::sets::regex_set;
 use crate::sys::{self, BitesSpan};
 use std::borrow::Cow;
 use std::fmt;
@@ -474,3 +475,5 @@ impl Regex {
 }
 
 regex_builder!();
+
+regex_set!(str);

@@ -1,15 +1,16 @@
 //! Searches for a match that begins at one offset, and for matches of the whole haystack.
 
-ghost use Rattle.std.specs.Prelude.{◌≡◌, ◌↔◌, length, option_map, is_some, unwrap_or, MatchOption, OnOk, IsTrue, IfOk, IfSome};
-ghost use Rattle.bites_spec.specs.Counts.{fit_of, IsBounded, IsWalked};
-ghost use Rattle.bites_spec.specs.Captured.{captured, excerpt, AreGroupsFrom, FindsGroups, FindsMatch};
-ghost use Rattle.bites_spec.specs.Full.{IsFullMatch, full_slots, FindsGroupsFull};
-ghost use Rattle.bites_spec.specs.Found.{HasMatch, NoMatch};
-ghost use Rattle.bites_spec.specs.Regex.{slots_at, span_at};
+ghost use Rattle.std.specs.Prelude.{◌≡◌, ◌↔◌, length, option_map, is_some, OnOk, IsTrue, IfOk};
+ghost use Rattle.bites_spec.specs.Counts.{fit_of};
+ghost use Rattle.bites_spec.specs.Captured.{FindsMatch};
+ghost use Rattle.bites_bytes.specs.Calls.{Searched, SearchedWithin, FindsCaptured, FindsCapturedFull, ReadsGroups};
+ghost use Rattle.bites_spec.specs.Full.{IsFullMatch};
+ghost use Rattle.bites_spec.specs.Found.{HasMatch};
 ghost use Rattle.bites_spec.specs.Utf8.{start_alone};
 ghost use Rattle.bites_bytes.specs.Matched.{excerpt_of};
 
 use crate::bytes::{Cache, CaptureLocations, Captures, Match, Regex};
+use bites_machine::vm::{Input, MatchKind};
 use std::alloc::AllocError;
 
 impl Regex {
@@ -51,12 +52,16 @@ impl Regex {
         requires { cache.old.fits ≡ fit_of self.now.program }
         ensures found { FindsMatch self.now haystack.now (start_alone haystack.now start)
             (option_map excerpt_of result) }
-        ensures fits { cache.new.fits ≡ cache.old.fits }
-        ensures walked { IsWalked self.now.program haystack.now start (start_alone haystack.now start)
-            (is_some result) cache.new.walked }
+        ensures searched { Searched self.now.program haystack.now start (start_alone haystack.now start)
+            (is_some result) cache.old cache.new }
     {
-        let ends = cache.find_anchored(self.compiled(), haystack, start);
-        Match::at(haystack, ends)
+        let input = Input {
+            haystack,
+            start,
+            anchored: true,
+            kind: self.kind(),
+        };
+        cache.find(self, &input, &mut [None; 2])
     }
 
     /// Returns whether a match begins at `start`, an offset in bytes. Past the end of the haystack nothing matches.
@@ -82,11 +87,16 @@ impl Regex {
     ) -> bool
         requires { cache.old.fits ≡ fit_of self.now.program }
         ensures found { IsTrue result ↔ HasMatch self.now.tree haystack.now (start_alone haystack.now start) }
-        ensures fits { cache.new.fits ≡ cache.old.fits }
-        ensures walked { IsWalked self.now.program haystack.now start (start_alone haystack.now start)
-            result cache.new.walked }
+        ensures searched { Searched self.now.program haystack.now start (start_alone haystack.now start)
+            result cache.old cache.new }
     {
-        cache.is_match_anchored(self.compiled(), haystack, start)
+        let input = Input {
+            haystack,
+            start,
+            anchored: true,
+            kind: MatchKind::Earliest,
+        };
+        cache.is_match(self, &input)
     }
 
     /// Returns the groups of the match that begins at `start`, as [`Regex::find_anchored_at`] finds it. Past the end
@@ -98,12 +108,7 @@ impl Regex {
         haystack: &'h [u8],
         start: usize,
     ) -> Result<Option<Captures<'h>>, AllocError>
-        ensures found { IfOk result (λ c. c ≡ option_map (captured self.now haystack.now)
-            (slots_at self.now haystack.now (start_alone haystack.now start))) }
-        ensures on_tree { IfOk result (λ c. FindsGroups self.now haystack.now (start_alone haystack.now start)
-            (option_map (λ x. x.slots) c)) }
-        ensures regex { IfOk result (λ c. IfSome c (λ x. x.regex ≡ self.now)) }
-        ensures haystack { IfOk result (λ c. IfSome c (λ x. x.haystack ≡ haystack.now)) }
+        ensures { IfOk result (FindsCaptured self.now haystack.now (start_alone haystack.now start)) }
     {
         let mut cache = self.cache()?;
         self.captures_anchored_at_with(&mut cache, haystack, start)
@@ -117,20 +122,18 @@ impl Regex {
         start: usize,
     ) -> Result<Option<Captures<'h>>, AllocError>
         requires { cache.old.fits ≡ fit_of self.now.program }
-        ensures found { IfOk result (λ c. c ≡ option_map (captured self.now haystack.now)
-            (slots_at self.now haystack.now (start_alone haystack.now start))) }
-        ensures on_tree { IfOk result (λ c. FindsGroups self.now haystack.now (start_alone haystack.now start)
-            (option_map (λ x. x.slots) c)) }
-        ensures regex { IfOk result (λ c. IfSome c (λ x. x.regex ≡ self.now)) }
-        ensures haystack { IfOk result (λ c. IfSome c (λ x. x.haystack ≡ haystack.now)) }
+        ensures found { IfOk result (FindsCaptured self.now haystack.now (start_alone haystack.now start)) }
+        ensures searched { IfOk result (λ c. Searched self.now.program haystack.now start
+            (start_alone haystack.now start) (is_some c) cache.old cache.new) }
         ensures fits { cache.new.fits ≡ cache.old.fits }
-        ensures walked { IfOk result (λ c. IsWalked self.now.program haystack.now start
-            (start_alone haystack.now start) (is_some c) cache.new.walked) }
     {
-        // For proofs: the contract of `as_str` says that the regex is compiled, so its tree finds what its program
-        // finds.
-        let _pattern = self.as_str();
-        Captures::find_anchored(self, cache, haystack, start)
+        let input = Input {
+            haystack,
+            start,
+            anchored: true,
+            kind: self.kind(),
+        };
+        Captures::find(self, cache, &input)
     }
 
     /// Like [`Regex::find_anchored_at_with`], but also writes the offsets of each group into `locations`, which must
@@ -147,18 +150,18 @@ impl Regex {
     ) -> Option<Match<'h>>
         requires cache { cache.old.fits ≡ fit_of self.now.program }
         requires locations { length locations.old ≡ self.now.program.slots }
-        ensures found { option_map excerpt_of result
-            ≡ option_map (excerpt haystack.now) (span_at self.now haystack.now (start_alone haystack.now start)) }
-        ensures on_tree { MatchOption result (NoMatch self.now.tree haystack.now (start_alone haystack.now start))
-            (λ _. AreGroupsFrom self.now haystack.now (start_alone haystack.now start) locations.new) }
-        ensures groups { locations.new
-            ≡ unwrap_or (slots_at self.now haystack.now (start_alone haystack.now start)) locations.old }
-        ensures fits { cache.new.fits ≡ cache.old.fits }
-        ensures walked { IsWalked self.now.program haystack.now start (start_alone haystack.now start)
-            (is_some result) cache.new.walked }
+        ensures read { ReadsGroups self.now haystack.now (start_alone haystack.now start)
+            (option_map excerpt_of result) locations.old locations.new }
+        ensures searched { Searched self.now.program haystack.now start (start_alone haystack.now start)
+            (is_some result) cache.old cache.new }
     {
-        let ends = locations.read_anchored(self.compiled(), cache, haystack, start);
-        Match::at(haystack, ends)
+        let input = Input {
+            haystack,
+            start,
+            anchored: true,
+            kind: self.kind(),
+        };
+        locations.find(self, cache, &input)
     }
 
     /// Returns whether any match of the pattern is the whole haystack. The error is out of memory.
@@ -177,10 +180,9 @@ impl Regex {
     pub fn is_full_match_with(&self, cache: &mut Cache, haystack: &[u8]) -> bool
         requires { cache.old.fits ≡ fit_of self.now.program }
         ensures found { IsTrue result ↔ IsFullMatch self.now.tree haystack.now }
-        ensures fits { cache.new.fits ≡ cache.old.fits }
-        ensures bounded { IsBounded self.now.program haystack.now 0 cache.new.walked }
+        ensures searched { SearchedWithin self.now.program haystack.now 0 cache.old cache.new }
     {
-        cache.is_full_match(self.compiled(), haystack)
+        cache.find_full(self, haystack, &mut [None; 2])
     }
 
     /// Returns the groups of a match that is the whole haystack. Of several parses it is the preferred one. The error
@@ -193,12 +195,7 @@ impl Regex {
     /// assert_eq!(rt; second.as_bytes(), b"bcd".as_slice());
     /// ```
     pub fn captures_full<'h>(&self, haystack: &'h [u8]) -> Result<Option<Captures<'h>>, AllocError>
-        ensures found { IfOk result (λ c. c ≡ option_map (captured self.now haystack.now)
-            (full_slots self.now haystack.now)) }
-        ensures on_tree { IfOk result (λ c. FindsGroupsFull self.now haystack.now
-            (option_map (λ x. x.slots) c)) }
-        ensures regex { IfOk result (λ c. IfSome c (λ x. x.regex ≡ self.now)) }
-        ensures haystack { IfOk result (λ c. IfSome c (λ x. x.haystack ≡ haystack.now)) }
+        ensures { IfOk result (FindsCapturedFull self.now haystack.now) }
     {
         let mut cache = self.cache()?;
         self.captures_full_with(&mut cache, haystack)
@@ -213,18 +210,10 @@ impl Regex {
         haystack: &'h [u8],
     ) -> Result<Option<Captures<'h>>, AllocError>
         requires { cache.old.fits ≡ fit_of self.now.program }
-        ensures found { IfOk result (λ c. c ≡ option_map (captured self.now haystack.now)
-            (full_slots self.now haystack.now)) }
-        ensures on_tree { IfOk result (λ c. FindsGroupsFull self.now haystack.now
-            (option_map (λ x. x.slots) c)) }
-        ensures regex { IfOk result (λ c. IfSome c (λ x. x.regex ≡ self.now)) }
-        ensures haystack { IfOk result (λ c. IfSome c (λ x. x.haystack ≡ haystack.now)) }
+        ensures found { IfOk result (FindsCapturedFull self.now haystack.now) }
+        ensures searched { OnOk result (SearchedWithin self.now.program haystack.now 0 cache.old cache.new) }
         ensures fits { cache.new.fits ≡ cache.old.fits }
-        ensures bounded { OnOk result (IsBounded self.now.program haystack.now 0 cache.new.walked) }
     {
-        // For proofs: the contract of `as_str` says that the regex is compiled, so its tree finds what its program
-        // finds.
-        let _pattern = self.as_str();
         Captures::find_full(self, cache, haystack)
     }
 }

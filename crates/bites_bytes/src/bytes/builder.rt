@@ -211,6 +211,22 @@ impl RegexBuilder {
         self
     }
 
+    /// Returns a builder for another pattern, with the same flags, limits and options.
+    ///
+    /// The error is out of memory for a copy of the pattern.
+    pub fn with_pattern(&self, pattern: &str) -> Result<RegexBuilder, AllocError>
+        ensures { IfOk result (λ b. b ≡ record self.now { pattern = pattern.now }) }
+    {
+        Ok(RegexBuilder {
+            alloc: self.alloc,
+            pattern: String::from_str(self.alloc, pattern)?,
+            flags: self.flags,
+            limits: self.limits,
+            keep_dropped_groups: self.keep_dropped_groups,
+            leftmost_longest: self.leftmost_longest,
+        })
+    }
+
     /// Returns a regex of this pattern, in time linear in the pattern and the size limit, except for the sorting of
     /// classes and of group names.
     ///
@@ -268,14 +284,7 @@ impl RegexBuilder {
     fn copy(&self) -> Result<RegexBuilder, AllocError>
         ensures { IfOk result (λ b. b ≡ self.now) }
     {
-        Ok(RegexBuilder {
-            alloc: self.alloc,
-            pattern: String::from_str(self.alloc, &self.pattern)?,
-            flags: self.flags,
-            limits: self.limits,
-            keep_dropped_groups: self.keep_dropped_groups,
-            leftmost_longest: self.leftmost_longest,
-        })
+        self.with_pattern(&self.pattern)
     }
 
     // Returns the regex of the tree that was read from the pattern, and of all groups that the pattern opens.

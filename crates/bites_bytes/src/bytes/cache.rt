@@ -1,22 +1,23 @@
 //! The memory of searches.
 
-ghost use Rattle.std.specs.Prelude.{◌≡◌, ◌⊎◌, ◌↔◌, ◌≤◌, ◌<◌, ◌+◌, ◌^◌, length, option_map, is_some, IsTrue, IfOk, IfSome, Some};
-ghost use Rattle.std.specs.Option.{ForSome};
-ghost use Rattle.bites_spec.specs.Counts.{fit_of, IsSlotCount, IsWalked, IsBounded};
+ghost use Rattle.std.specs.Prelude.{◌≡◌, ◌⊎◌, ◌↔◌, ◌≤◌, ◌<◌, ◌+◌, ◌^◌, length, option_map, is_some, IsTrue, IfOk, Some};
+ghost use Rattle.bites_spec.specs.Counts.{fit_of, IsSlotCount};
+ghost use Rattle.bites_bytes.specs.Calls.{Searched, SearchedWithin};
+ghost use Rattle.bites_spec.specs.Captured.{FindsMatch};
 ghost use Rattle.bites_spec.specs.Match.{span};
 ghost use Rattle.bites_spec.specs.Slots.{slot_in, group_in};
 ghost use Rattle.bites_spec.specs.Run.{Answered};
-ghost use Rattle.bites_spec.specs.Regex.{IsCompiled, run_at, span_at};
+ghost use Rattle.bites_spec.specs.Regex.{IsCompiled, run_at};
 ghost use Rattle.bites_spec.specs.Found.{HasMatch, IsLeastEnd};
-ghost use Rattle.bites_spec.specs.Full.{IsFullMatch, full_run};
-ghost use Rattle.bites_spec.specs.Utf8.{step_len, places, start_alone};
-ghost use Rattle.bites_spec.specs.Spans.{is_empty_at};
-ghost use Rattle.bites_bytes.specs.NextMatch.{next_run, LeavesRun};
+ghost use Rattle.bites_spec.specs.Full.{full_run};
+ghost use Rattle.bites_spec.specs.Utf8.{step_len};
+ghost use Rattle.bites_machine.specs.declared.vm.MatchKind.TheVariants.{Earliest};
+ghost use Rattle.bites_bytes.specs.Matched.{excerpt_of};
+ghost use Rattle.bites_bytes.specs.NextMatch.{kind_of, starts_in, FindsNextRun, IsSearched, LeavesRun};
 
-use crate::bytes::Regex;
-use crate::bytes::regex::Compiled;
+use crate::bytes::{Match, Regex};
 use bites_machine::program::Program;
-use bites_machine::vm::{self, MatchKind};
+use bites_machine::vm::{self, Input, MatchKind};
 use bites_text::utf8::decode_lossy;
 use std::alloc::AllocError;
 use std::fmt;
@@ -55,238 +56,137 @@ impl Cache {
         })
     }
 
-    // Searches from `start`, and returns whether it finds a match. Writes the slots of the match, as many as are given;
-    // without a match they are unchanged.
-    pub(super) fn search(
+    // Searches as the input asks, and returns whether it finds a match. Writes the slots of the match, as many as are
+    // given; without a match they are unchanged.
+    fn search(
         &mut self,
-        compiled: &Compiled,
-        haystack: &[u8],
-        start: usize,
+        regex: &Regex,
+        input: &Input<'_>,
         slots: &mut [Option<usize>],
     ) -> bool
-        requires fits { self.old.fits ≡ fit_of compiled.now.program }
-        requires slots { IsSlotCount compiled.now.program (length slots.old) }
-        ensures answered { Answered compiled.now.program (run_at compiled.now haystack.now
-            (places haystack.now start))
-            result slots.old slots.new }
-        ensures compiled { IsCompiled compiled.now }
-        ensures fits { self.new.fits ≡ self.old.fits }
-        ensures walked { IsWalked compiled.now.program haystack.now start (places haystack.now start)
-            result self.new.walked }
+        requires fits { self.old.fits ≡ fit_of regex.now.program }
+        requires slots { IsSlotCount regex.now.program (length slots.old) }
+        ensures { IsSearched regex.now input.now result slots.old slots.new self.old self.new }
     {
-        let program = compiled.program();
-        if compiled.leftmost_longest() {
-            vm::search_longest(program, &mut self.room, haystack, start, slots)
-        } else {
-            vm::search(program, &mut self.room, haystack, start, false, slots)
-        }
+        vm::search_input(regex.program(), &mut self.room, input, slots)
     }
 
-    // Returns where the match that a search from `start` finds begins and ends.
-    pub(super) fn find(
+    // Returns the match of the kind that the regex searches for, and writes its slots, as many as are given. Without a
+    // match they are unchanged.
+    pub(super) fn find<'h>(
         &mut self,
-        compiled: &Compiled,
-        haystack: &[u8],
-        start: usize,
-    ) -> Option<(usize, usize)>
-        requires { self.old.fits ≡ fit_of compiled.now.program }
-        ensures found { option_map (λ s. span s.0 s.1) result ≡ span_at compiled.now haystack.now
-            (places haystack.now start) }
-        ensures lies { IfSome result (λ s. (s.0 ≤ s.1) × (s.1 ≤ length haystack.now)) }
-        ensures compiled { IsCompiled compiled.now }
-        ensures fits { self.new.fits ≡ self.old.fits }
-        ensures walked { IsWalked compiled.now.program haystack.now start (places haystack.now start)
-            (is_some result) self.new.walked }
+        regex: &Regex,
+        input: &Input<'h>,
+        slots: &mut [Option<usize>],
+    ) -> Option<Match<'h>>
+        requires fits { self.old.fits ≡ fit_of regex.now.program }
+        requires slots { (length slots.old ≡ 2) ⊎ (length slots.old ≡ regex.now.program.slots) }
+        requires kind { input.now.kind ≡ kind_of regex.now }
+        ensures found { FindsMatch regex.now input.now.haystack.now (starts_in input.now)
+            (option_map excerpt_of result) }
+        ensures answered { Answered regex.now.program (run_at regex.now input.now.haystack.now (starts_in input.now))
+            (is_some result) slots.old slots.new }
+        ensures compiled { IsCompiled regex.now }
+        ensures searched { Searched regex.now.program input.now.haystack.now input.now.start (starts_in input.now)
+            (is_some result) self.old self.new }
     {
-        let mut slots = [None; 2];
-        if !self.search(compiled, haystack, start, &mut slots) {
+        if !self.search(regex, input, slots) {
             return None;
         }
-        ends_in(&slots)
+        Match::at(input.haystack, ends_in(slots))
     }
 
-    // Returns whether a match begins at a place from `start` on. It asks for no slots, and stops at the first end of a
-    // match.
-    pub(super) fn is_match(&mut self, compiled: &Compiled, haystack: &[u8], start: usize) -> bool
-        requires { self.old.fits ≡ fit_of compiled.now.program }
-        ensures found { IsTrue result ↔ HasMatch compiled.now.tree haystack.now (places haystack.now start) }
-        ensures fits { self.new.fits ≡ self.old.fits }
-        ensures walked { IsWalked compiled.now.program haystack.now start (places haystack.now start)
-            result self.new.walked }
+    // Returns whether there is a match. It asks for no slots, and stops at the first end of a match.
+    pub(super) fn is_match(&mut self, regex: &Regex, input: &Input<'_>) -> bool
+        requires fits { self.old.fits ≡ fit_of regex.now.program }
+        requires kind { input.now.kind ≡ Earliest }
+        ensures found { IsTrue result ↔ HasMatch regex.now.tree input.now.haystack.now (starts_in input.now) }
+        ensures searched { Searched regex.now.program input.now.haystack.now input.now.start (starts_in input.now)
+            result self.old self.new }
     {
-        vm::search(
-            compiled.program(),
-            &mut self.room,
-            haystack,
-            start,
-            true,
-            &mut [],
-        )
+        self.search(regex, input, &mut [])
     }
 
-    // Returns the least end of all matches that begin at a place from `start` on.
-    pub(super) fn shortest(
-        &mut self,
-        compiled: &Compiled,
-        haystack: &[u8],
-        start: usize,
-    ) -> Option<usize>
-        requires { self.old.fits ≡ fit_of compiled.now.program }
-        ensures least { IsLeastEnd compiled.now.tree haystack.now (places haystack.now start) result }
-        ensures fits { self.new.fits ≡ self.old.fits }
-        ensures walked { IsWalked compiled.now.program haystack.now start (places haystack.now start)
-            (is_some result) self.new.walked }
+    // Returns the least end of all matches.
+    pub(super) fn shortest(&mut self, regex: &Regex, input: &Input<'_>) -> Option<usize>
+        requires fits { self.old.fits ≡ fit_of regex.now.program }
+        requires kind { input.now.kind ≡ Earliest }
+        ensures least { IsLeastEnd regex.now.tree input.now.haystack.now (starts_in input.now) result }
+        ensures searched { Searched regex.now.program input.now.haystack.now input.now.start (starts_in input.now)
+            (is_some result) self.old self.new }
     {
-        let program = compiled.program();
         let mut slots = [None; 2];
-        if !vm::search(program, &mut self.room, haystack, start, true, &mut slots) {
+        if !self.search(regex, input, &mut slots) {
             return None;
         }
         end_in(&slots)
     }
 
-    // Writes the slots of the next match after one that ends at `last`, or of the first match, and returns whether
-    // there is one. Without a match the slots may be written too.
-    pub(super) fn next_match(
+    // Returns the next match after one that ends at `last`, or the first match, and writes its slots, as many as are
+    // given. Without a match the slots may be written too.
+    pub(super) fn find_next<'h>(
         &mut self,
-        compiled: &Compiled,
-        haystack: &[u8],
+        regex: &Regex,
+        haystack: &'h [u8],
         last: Option<usize>,
         slots: &mut [Option<usize>],
-    ) -> bool
-        requires fits { self.old.fits ≡ fit_of compiled.now.program }
-        requires slots { IsSlotCount compiled.now.program (length slots.old) }
-        requires whole { 2 ≤ length slots.old }
-        requires last { ForSome last (λ e. e ≤ length haystack.now) }
-        ensures next { LeavesRun compiled.now.program (next_run compiled.now haystack.now last)
-            result (length slots.old) slots.new }
-        ensures compiled { IsCompiled compiled.now }
+    ) -> Option<Match<'h>>
+        requires fits { self.old.fits ≡ fit_of regex.now.program }
+        requires slots { (length slots.old ≡ 2) ⊎ (length slots.old ≡ regex.now.program.slots) }
+        ensures next { FindsNextRun regex.now haystack.now last (option_map excerpt_of result)
+            (length slots.old) slots.new }
+        ensures compiled { IsCompiled regex.now }
         ensures fits { self.new.fits ≡ self.old.fits }
     {
-        let Some(last) = last else {
-            return self.search(compiled, haystack, 0, slots);
-        };
-        if !self.search(compiled, haystack, last, slots) {
-            return false;
-        }
-        if !is_empty_at(slots, last) {
-            return true;
-        }
-        let step = step_at(haystack, last);
-        self.search(compiled, haystack, last + step, slots)
-    }
-
-    // Like [`Cache::search`], but finds only a match that begins at `start` itself.
-    pub(super) fn search_anchored(
-        &mut self,
-        compiled: &Compiled,
-        haystack: &[u8],
-        start: usize,
-        slots: &mut [Option<usize>],
-    ) -> bool
-        requires fits { self.old.fits ≡ fit_of compiled.now.program }
-        requires slots { IsSlotCount compiled.now.program (length slots.old) }
-        ensures answered { Answered compiled.now.program
-            (run_at compiled.now haystack.now (start_alone haystack.now start)) result slots.old slots.new }
-        ensures compiled { IsCompiled compiled.now }
-        ensures fits { self.new.fits ≡ self.old.fits }
-        ensures walked { IsWalked compiled.now.program haystack.now start
-            (start_alone haystack.now start) result self.new.walked }
-    {
-        let program = compiled.program();
-        let room = &mut self.room;
-        if compiled.leftmost_longest() {
-            vm::search_anchored(program, room, haystack, start, MatchKind::Longest, slots)
-        } else {
-            vm::search_anchored(program, room, haystack, start, MatchKind::First, slots)
-        }
-    }
-
-    // Like [`Cache::find`], but finds only a match that begins at `start` itself.
-    pub(super) fn find_anchored(
-        &mut self,
-        compiled: &Compiled,
-        haystack: &[u8],
-        start: usize,
-    ) -> Option<(usize, usize)>
-        requires { self.old.fits ≡ fit_of compiled.now.program }
-        ensures found { option_map (λ s. span s.0 s.1) result
-            ≡ span_at compiled.now haystack.now (start_alone haystack.now start) }
-        ensures lies { IfSome result (λ s. (s.0 ≤ s.1) × (s.1 ≤ length haystack.now)) }
-        ensures compiled { IsCompiled compiled.now }
-        ensures fits { self.new.fits ≡ self.old.fits }
-        ensures walked { IsWalked compiled.now.program haystack.now start (start_alone haystack.now start)
-            (is_some result) self.new.walked }
-    {
-        let mut slots = [None; 2];
-        if !self.search_anchored(compiled, haystack, start, &mut slots) {
-            return None;
-        }
-        ends_in(&slots)
-    }
-
-    // Returns whether a match begins at `start` itself. It asks for no slots, and stops at the first end of a match.
-    pub(super) fn is_match_anchored(
-        &mut self,
-        compiled: &Compiled,
-        haystack: &[u8],
-        start: usize,
-    ) -> bool
-        requires { self.old.fits ≡ fit_of compiled.now.program }
-        ensures found { IsTrue result ↔ HasMatch compiled.now.tree haystack.now (start_alone haystack.now start) }
-        ensures fits { self.new.fits ≡ self.old.fits }
-        ensures walked { IsWalked compiled.now.program haystack.now start
-            (start_alone haystack.now start) result self.new.walked }
-    {
-        vm::search_anchored(
-            compiled.program(),
-            &mut self.room,
+        let start = last.unwrap_or(0);
+        let input = Input {
             haystack,
             start,
-            MatchKind::Earliest,
-            &mut [],
-        )
+            anchored: false,
+            kind: regex.kind(),
+        };
+        let found = self.find(regex, &input, slots)?;
+        let Some(end) = last else {
+            return Some(found);
+        };
+        // A match that ends where the last one did is empty.
+        if found.end() != end {
+            return Some(found);
+        }
+        let later = Input {
+            haystack,
+            start: end + step_at(haystack, end),
+            anchored: false,
+            kind: regex.kind(),
+        };
+        self.find(regex, &later, slots)
     }
 
     // Writes the slots of the preferred match of the whole haystack, and returns whether there is one. Without one the
     // slots may be written too. It is the longest match from the start, if that ends where the haystack does.
-    pub(super) fn search_full(
+    pub(super) fn find_full(
         &mut self,
-        compiled: &Compiled,
+        regex: &Regex,
         haystack: &[u8],
         slots: &mut [Option<usize>],
     ) -> bool
-        requires fits { self.old.fits ≡ fit_of compiled.now.program }
-        requires slots { (length slots.old ≡ 2) ⊎ (length slots.old ≡ compiled.now.program.slots) }
-        ensures full { LeavesRun compiled.now.program (full_run compiled.now haystack.now) result
+        requires fits { self.old.fits ≡ fit_of regex.now.program }
+        requires slots { (length slots.old ≡ 2) ⊎ (length slots.old ≡ regex.now.program.slots) }
+        ensures full { LeavesRun regex.now.program (full_run regex.now haystack.now) result
             (length slots.old) slots.new }
-        ensures compiled { IsCompiled compiled.now }
-        ensures fits { self.new.fits ≡ self.old.fits }
-        ensures bounded { IsBounded compiled.now.program haystack.now 0 self.new.walked }
+        ensures compiled { IsCompiled regex.now }
+        ensures searched { SearchedWithin regex.now.program haystack.now 0 self.old self.new }
     {
-        let program = compiled.program();
-        if !vm::search_anchored(
-            program,
-            &mut self.room,
+        let input = Input {
             haystack,
-            0,
-            MatchKind::Longest,
-            slots,
-        ) {
+            start: 0,
+            anchored: true,
+            kind: MatchKind::Longest,
+        };
+        if !self.search(regex, &input, slots) {
             return false;
         }
         ends_at(slots, haystack.len())
-    }
-
-    // Returns whether the pattern matches the whole haystack.
-    pub(super) fn is_full_match(&mut self, compiled: &Compiled, haystack: &[u8]) -> bool
-        requires { self.old.fits ≡ fit_of compiled.now.program }
-        ensures found { IsTrue result ↔ IsFullMatch compiled.now.tree haystack.now }
-        ensures fits { self.new.fits ≡ self.old.fits }
-        ensures bounded { IsBounded compiled.now.program haystack.now 0 self.new.walked }
-    {
-        let mut slots = [None; 2];
-        self.search_full(compiled, haystack, &mut slots)
     }
 
     /// Returns whether searches with this regex may use the cache. They may if it was made for a program with as many
@@ -299,7 +199,7 @@ impl Cache {
 }
 
 // Returns the offsets in the first two slots, if both are known.
-pub(super) fn ends_in(slots: &[Option<usize>]) -> Option<(usize, usize)>
+fn ends_in(slots: &[Option<usize>]) -> Option<(usize, usize)>
     requires { 2 ≤ length slots.now }
     ensures { option_map (λ s. span s.0 s.1) result ≡ group_in slots.now 0 }
 {
@@ -322,17 +222,6 @@ fn ends_at(slots: &[Option<usize>], place: usize) -> bool
     match slots[1] {
         Some(end) => end == place,
         None => false,
-    }
-}
-
-// Returns whether both of the first two slots have this offset.
-fn is_empty_at(slots: &[Option<usize>], place: usize) -> bool
-    requires { 2 ≤ length slots.now }
-    ensures { result ≡ is_empty_at (λ s. s) place (group_in slots.now 0) }
-{
-    match (slots[0], slots[1]) {
-        (Some(start), Some(end)) => start == place && end == place,
-        _ => false,
     }
 }
 

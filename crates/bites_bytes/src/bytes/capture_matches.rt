@@ -1,6 +1,6 @@
 //! The groups of the successive matches in a haystack.
 
-ghost use Rattle.std.specs.Prelude.{◌≡◌, ◌≤◌, IfOk, IfSome, length, None};
+ghost use Rattle.std.specs.Prelude.{◌≡◌, IfOk, IfSome, length, None};
 ghost use Rattle.bites_spec.specs.Iteration.{captures_in};
 ghost use Rattle.bites_bytes.specs.Matches.{regex_of_matches};
 
@@ -19,7 +19,6 @@ pub struct CaptureMatches<'r, 'h> {
     // Whether memory ran out.
     refused: bool,
     pub ghost fits: { length locations ≡ (regex_of_matches matches).program.slots },
-    pub ghost whole: { 2 ≤ length locations },
 }
 
 impl<'r, 'h> CaptureMatches<'r, 'h> {
@@ -31,8 +30,7 @@ impl<'r, 'h> CaptureMatches<'r, 'h> {
         ensures steps { NextCaptures self.old result self.new }
         ensures refused { self.new.refused ≡ self.old.refused }
     {
-        let found = self.locations.advance(&mut self.matches);
-        found.is_some()
+        self.matches.step_with(&mut self.locations).is_some()
     }
 
     // Returns the groups of the next match, or that memory ran out.

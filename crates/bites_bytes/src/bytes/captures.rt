@@ -1,19 +1,20 @@
 //! The groups of a match.
 
-ghost use Rattle.std.specs.Prelude.{◌≡◌, ◌+◌, ◌/◌, length, map, take, drop, is_some, IfOk, IfSome, IsSome, OnOk, Some, option_map, option_and_then};
+ghost use Rattle.std.specs.Prelude.{◌≡◌, ◌+◌, ◌/◌, length, map, take, drop, is_some, IfOk, IsSome, OnOk, Some, option_map, option_and_then};
 ghost use Rattle.bites_spec.specs.Measure.{static_captures_len};
 ghost use Rattle.bites_spec.specs.Slots.{group_in, participating};
-ghost use Rattle.bites_spec.specs.Counts.{fit_of, IsBounded, IsWalked};
+ghost use Rattle.bites_spec.specs.Counts.{fit_of};
+ghost use Rattle.bites_bytes.specs.Calls.{Searched, SearchedWithin, FindsCaptured, FindsCapturedFull};
 ghost use Rattle.bites_spec.specs.Pieces.{text_at};
-ghost use Rattle.bites_spec.specs.Regex.{slots_at};
-ghost use Rattle.bites_spec.specs.Full.{full_slots};
-ghost use Rattle.bites_spec.specs.Captured.{AreGroups, captured, excerpt, FindsGroups};
-ghost use Rattle.bites_spec.specs.Utf8.{places, start_alone};
+ghost use Rattle.bites_spec.specs.Captured.{AreGroups, captured, excerpt};
+ghost use Rattle.bites_spec.specs.Utf8.{places};
+ghost use Rattle.bites_bytes.specs.NextMatch.{kind_of, starts_in};
 
 use crate::bytes::regex::Compiled;
 use crate::bytes::{Cache, CaptureLocations, CaptureNames, Match, Regex, SubCaptureMatches};
 use crate::debug::{Key, Part};
 use bites_machine::interpolate;
+use bites_machine::vm::Input;
 use std::alloc::AllocError;
 use std::fmt;
 use std::marker::Model;
@@ -61,54 +62,27 @@ impl<'h> Captures<'h> {
     ghost use Rattle.bites_bytes.specs.Matched.{excerpt_of};
     ghost use Rattle.bites_spec.specs.Replacer.{answer_text, expanded};
 
-    // Returns the groups of the match that a search from `start` finds.
+    // Returns the groups of the match that a search finds as the input asks.
     pub(super) fn find(
         regex: &Regex,
         cache: &mut Cache,
-        haystack: &'h [u8],
-        start: usize,
+        input: &Input<'h>,
     ) -> Result<Option<Captures<'h>>, AllocError>
-        requires { cache.old.fits ≡ fit_of regex.now.program }
-        ensures found { IfOk result (λ c. c
-            ≡ option_map (captured regex.now haystack.now) (slots_at regex.now haystack.now (places haystack.now start))) }
+        requires fits { cache.old.fits ≡ fit_of regex.now.program }
+        requires kind { input.now.kind ≡ kind_of regex.now }
+        ensures found { IfOk result (FindsCaptured regex.now input.now.haystack.now (starts_in input.now)) }
+        ensures searched { IfOk result (λ c. Searched regex.now.program input.now.haystack.now input.now.start
+            (starts_in input.now) (is_some c) cache.old cache.new) }
         ensures fits { cache.new.fits ≡ cache.old.fits }
-        ensures walked { IfOk result (λ c. IsWalked regex.now.program haystack.now start
-            (places haystack.now start) (is_some c) cache.new.walked) }
     {
         let mut locations = regex.capture_locations()?;
         let compiled = regex.compiled().clone()?;
-        if !locations.search(&compiled, cache, haystack, start) {
+        if locations.find(regex, cache, input).is_none() {
             return Ok(None);
         }
         Ok(Some(Captures {
             compiled,
-            haystack,
-            locations,
-        }))
-    }
-
-    // Returns the groups of the match that begins at `start` itself.
-    pub(super) fn find_anchored(
-        regex: &Regex,
-        cache: &mut Cache,
-        haystack: &'h [u8],
-        start: usize,
-    ) -> Result<Option<Captures<'h>>, AllocError>
-        requires { cache.old.fits ≡ fit_of regex.now.program }
-        ensures found { IfOk result (λ c. c ≡ option_map (captured regex.now haystack.now)
-            (slots_at regex.now haystack.now (start_alone haystack.now start))) }
-        ensures fits { cache.new.fits ≡ cache.old.fits }
-        ensures walked { IfOk result (λ c. IsWalked regex.now.program haystack.now start
-            (start_alone haystack.now start) (is_some c) cache.new.walked) }
-    {
-        let mut locations = regex.capture_locations()?;
-        let compiled = regex.compiled().clone()?;
-        if !locations.search_anchored(&compiled, cache, haystack, start) {
-            return Ok(None);
-        }
-        Ok(Some(Captures {
-            compiled,
-            haystack,
+            haystack: input.haystack,
             locations,
         }))
     }
@@ -120,14 +94,13 @@ impl<'h> Captures<'h> {
         haystack: &'h [u8],
     ) -> Result<Option<Captures<'h>>, AllocError>
         requires { cache.old.fits ≡ fit_of regex.now.program }
-        ensures found { IfOk result (λ c. c ≡ option_map (captured regex.now haystack.now)
-            (full_slots regex.now haystack.now)) }
+        ensures found { IfOk result (FindsCapturedFull regex.now haystack.now) }
+        ensures searched { OnOk result (SearchedWithin regex.now.program haystack.now 0 cache.old cache.new) }
         ensures fits { cache.new.fits ≡ cache.old.fits }
-        ensures bounded { OnOk result (IsBounded regex.now.program haystack.now 0 cache.new.walked) }
     {
         let mut locations = regex.capture_locations()?;
         let compiled = regex.compiled().clone()?;
-        if !locations.search_full(&compiled, cache, haystack) {
+        if !locations.find_full(regex, cache, haystack) {
             return Ok(None);
         }
         Ok(Some(Captures {
@@ -320,12 +293,7 @@ impl Regex {
     /// assert_eq!(rt; captures.get(2), None);
     /// ```
     pub fn captures<'h>(&self, haystack: &'h [u8]) -> Result<Option<Captures<'h>>, AllocError>
-        ensures found { IfOk result (λ c. c
-            ≡ option_map (captured self.now haystack.now) (slots_at self.now haystack.now (places haystack.now 0))) }
-        ensures on_tree { IfOk result (λ c. FindsGroups self.now haystack.now (places haystack.now 0)
-            (option_map (λ x. x.slots) c)) }
-        ensures regex { IfOk result (λ c. IfSome c (λ x. x.regex ≡ self.now)) }
-        ensures haystack { IfOk result (λ c. IfSome c (λ x. x.haystack ≡ haystack.now)) }
+        ensures { IfOk result (FindsCaptured self.now haystack.now (places haystack.now 0)) }
     {
         self.captures_at(haystack, 0)
     }
@@ -339,12 +307,7 @@ impl Regex {
         haystack: &'h [u8],
         start: usize,
     ) -> Result<Option<Captures<'h>>, AllocError>
-        ensures found { IfOk result (λ c. c
-            ≡ option_map (captured self.now haystack.now) (slots_at self.now haystack.now (places haystack.now start))) }
-        ensures on_tree { IfOk result (λ c. FindsGroups self.now haystack.now (places haystack.now start)
-            (option_map (λ x. x.slots) c)) }
-        ensures regex { IfOk result (λ c. IfSome c (λ x. x.regex ≡ self.now)) }
-        ensures haystack { IfOk result (λ c. IfSome c (λ x. x.haystack ≡ haystack.now)) }
+        ensures { IfOk result (FindsCaptured self.now haystack.now (places haystack.now start)) }
     {
         let mut cache = self.cache()?;
         self.captures_at_with(&mut cache, haystack, start)
@@ -359,15 +322,10 @@ impl Regex {
         haystack: &'h [u8],
     ) -> Result<Option<Captures<'h>>, AllocError>
         requires { cache.old.fits ≡ fit_of self.now.program }
-        ensures found { IfOk result (λ c. c
-            ≡ option_map (captured self.now haystack.now) (slots_at self.now haystack.now (places haystack.now 0))) }
-        ensures on_tree { IfOk result (λ c. FindsGroups self.now haystack.now (places haystack.now 0)
-            (option_map (λ x. x.slots) c)) }
-        ensures regex { IfOk result (λ c. IfSome c (λ x. x.regex ≡ self.now)) }
-        ensures haystack { IfOk result (λ c. IfSome c (λ x. x.haystack ≡ haystack.now)) }
+        ensures found { IfOk result (FindsCaptured self.now haystack.now (places haystack.now 0)) }
+        ensures searched { IfOk result (λ c. Searched self.now.program haystack.now 0 (places haystack.now 0)
+            (is_some c) cache.old cache.new) }
         ensures fits { cache.new.fits ≡ cache.old.fits }
-        ensures walked { IfOk result (λ c. IsWalked self.now.program haystack.now 0 (places haystack.now 0)
-            (is_some c) cache.new.walked) }
     {
         self.captures_at_with(cache, haystack, 0)
     }
@@ -380,19 +338,17 @@ impl Regex {
         start: usize,
     ) -> Result<Option<Captures<'h>>, AllocError>
         requires { cache.old.fits ≡ fit_of self.now.program }
-        ensures found { IfOk result (λ c. c
-            ≡ option_map (captured self.now haystack.now) (slots_at self.now haystack.now (places haystack.now start))) }
-        ensures on_tree { IfOk result (λ c. FindsGroups self.now haystack.now (places haystack.now start)
-            (option_map (λ x. x.slots) c)) }
-        ensures regex { IfOk result (λ c. IfSome c (λ x. x.regex ≡ self.now)) }
-        ensures haystack { IfOk result (λ c. IfSome c (λ x. x.haystack ≡ haystack.now)) }
+        ensures found { IfOk result (FindsCaptured self.now haystack.now (places haystack.now start)) }
+        ensures searched { IfOk result (λ c. Searched self.now.program haystack.now start (places haystack.now start)
+            (is_some c) cache.old cache.new) }
         ensures fits { cache.new.fits ≡ cache.old.fits }
-        ensures walked { IfOk result (λ c. IsWalked self.now.program haystack.now start
-            (places haystack.now start) (is_some c) cache.new.walked) }
     {
-        // For proofs: the contract of `as_str` says that the regex is compiled, so its tree finds what its program
-        // finds.
-        let _pattern = self.as_str();
-        Captures::find(self, cache, haystack, start)
+        let input = Input {
+            haystack,
+            start,
+            anchored: false,
+            kind: self.kind(),
+        };
+        Captures::find(self, cache, &input)
     }
 }

@@ -2,10 +2,12 @@
 
 ghost use Rattle.std.specs.Prelude.{◌≡◌, ◌↔◌, IsTrue, IfOk};
 ghost use Rattle.bites_spec.specs.Found.{HasMatch};
-ghost use Rattle.bites_spec.specs.Counts.{fit_of, IsWalked};
+ghost use Rattle.bites_spec.specs.Counts.{fit_of};
+ghost use Rattle.bites_bytes.specs.Calls.{Searched};
 ghost use Rattle.bites_spec.specs.Utf8.{places};
 
 use crate::bytes::{Cache, Regex};
+use bites_machine::vm::{Input, MatchKind};
 use std::alloc::AllocError;
 
 impl Regex {
@@ -41,8 +43,7 @@ impl Regex {
     pub fn is_match_with(&self, cache: &mut Cache, haystack: &[u8]) -> bool
         requires { cache.old.fits ≡ fit_of self.now.program }
         ensures found { IsTrue result ↔ HasMatch self.now.tree haystack.now (places haystack.now 0) }
-        ensures fits { cache.new.fits ≡ cache.old.fits }
-        ensures walked { IsWalked self.now.program haystack.now 0 (places haystack.now 0) result cache.new.walked }
+        ensures searched { Searched self.now.program haystack.now 0 (places haystack.now 0) result cache.old cache.new }
     {
         self.is_match_at_with(cache, haystack, 0)
     }
@@ -53,10 +54,15 @@ impl Regex {
     pub fn is_match_at_with(&self, cache: &mut Cache, haystack: &[u8], start: usize) -> bool
         requires { cache.old.fits ≡ fit_of self.now.program }
         ensures found { IsTrue result ↔ HasMatch self.now.tree haystack.now (places haystack.now start) }
-        ensures fits { cache.new.fits ≡ cache.old.fits }
-        ensures walked { IsWalked self.now.program haystack.now start (places haystack.now start)
-            result cache.new.walked }
+        ensures searched { Searched self.now.program haystack.now start (places haystack.now start)
+            result cache.old cache.new }
     {
-        cache.is_match(self.compiled(), haystack, start)
+        let input = Input {
+            haystack,
+            start,
+            anchored: false,
+            kind: MatchKind::Earliest,
+        };
+        cache.is_match(self, &input)
     }
 }

@@ -1,14 +1,13 @@
 //! The successive matches in a haystack.
 
-ghost use Rattle.std.specs.Prelude.{◌≡◌, ◌≤◌, ◌<◌, ◌^◌, IfOk, IfSome, length, None, map, unwrap_or, is_some};
+ghost use Rattle.std.specs.Prelude.{◌≡◌, ◌≤◌, ◌<◌, ◌^◌, IfOk, IfSome, length, None, map, option_map, unwrap_or, is_some};
 ghost use Rattle.std.specs.Option.{ForSome};
-ghost use Rattle.bites_spec.specs.Counts.{fit_of, IsSlotCount};
-ghost use Rattle.bites_spec.specs.Regex.{IsCompiled};
+ghost use Rattle.bites_spec.specs.Counts.{fit_of};
 ghost use Rattle.bites_spec.specs.Captured.{excerpt};
 ghost use Rattle.bites_spec.specs.Iteration.{spans_in};
+ghost use Rattle.bites_bytes.specs.Calls.{ReadsNext};
 
-use crate::bytes::cache::ends_in;
-use crate::bytes::{Cache, Match, Regex};
+use crate::bytes::{Cache, CaptureLocations, Match, Regex};
 use std::alloc::AllocError;
 use std::fmt;
 use std::iter::FusedIterator;
@@ -27,7 +26,7 @@ pub(super) struct Cursor<'r, 'h> {
 impl<'r, 'h> Cursor<'r, 'h> {
     ghost use Rattle.std.specs.Iterator.{YieldsFirstBy};
     ghost use Rattle.bites_bytes.specs.Matched.{excerpt_of};
-    ghost use Rattle.bites_bytes.specs.Matches.{Advances, Moves, IsSameSearch, left_from, regex_of, haystack_of, last_of};
+    ghost use Rattle.bites_bytes.specs.Matches.{Moves, IsSameSearch, left_from, regex_of, haystack_of, last_of};
 
     // Returns a cursor before the first match.
     pub(super) fn new(regex: &'r Regex, haystack: &'h [u8]) -> Cursor<'r, 'h>
@@ -69,42 +68,38 @@ impl<'r, 'h> Cursor<'r, 'h> {
         self.last.unwrap_or(0)
     }
 
-    // Returns the next match, and writes the first of its slots, as many as are given.
-    pub(super) fn advance(
-        &mut self,
-        cache: &mut Cache,
-        slots: &mut [Option<usize>],
-    ) -> Option<Match<'h>>
-        requires fits { cache.old.fits ≡ fit_of (regex_of self.old).program }
-        requires slots { IsSlotCount (regex_of self.old).program (length slots.old) }
-        requires whole { 2 ≤ length slots.old }
-        ensures steps { Advances self.old result self.new (length slots.old) slots.new }
-        ensures same { IsSameSearch self.old self.new }
-        ensures compiled { IsCompiled (regex_of self.old) }
-        ensures fits { cache.new.fits ≡ cache.old.fits }
-    {
-        if !cache.next_match(self.regex.compiled(), self.haystack, self.last, slots) {
-            return None;
-        }
-        match ends_in(slots) {
-            Some((start, end)) => {
-                self.last = Some(end);
-                Some(Match::new(self.haystack, start, end))
-            }
-            None => None,
-        }
-    }
-
     // Returns the next match.
     pub(super) fn step(&mut self, cache: &mut Cache) -> Option<Match<'h>>
-        requires fits { cache.old.fits ≡ fit_of (regex_of self.old).program }
+        requires { cache.old.fits ≡ fit_of (regex_of self.old).program }
         ensures steps { YieldsFirstBy excerpt_of left_from self.old result self.new }
         ensures moves { Moves self.old result self.new }
         ensures same { IsSameSearch self.old self.new }
         ensures fits { cache.new.fits ≡ cache.old.fits }
     {
-        let mut slots = [None; 2];
-        self.advance(cache, &mut slots)
+        let found = self.regex.find_next_with(cache, self.haystack, self.last)?;
+        self.last = Some(found.end());
+        Some(found)
+    }
+
+    // Like [`Cursor::step`], but also writes the slots of the match into the locations.
+    pub(super) fn step_with(
+        &mut self,
+        cache: &mut Cache,
+        locations: &mut CaptureLocations,
+    ) -> Option<Match<'h>>
+        requires cache { cache.old.fits ≡ fit_of (regex_of self.old).program }
+        requires locations { length locations.old ≡ (regex_of self.old).program.slots }
+        ensures next { ReadsNext (regex_of self.old) (haystack_of self.old) (last_of self.old)
+            (option_map excerpt_of result) locations.new }
+        ensures moves { Moves self.old result self.new }
+        ensures same { IsSameSearch self.old self.new }
+        ensures len { length locations.new ≡ length locations.old }
+        ensures fits { cache.new.fits ≡ cache.old.fits }
+    {
+        let (regex, haystack) = (self.regex, self.haystack);
+        let found = regex.captures_read_next_with(cache, locations, haystack, self.last)?;
+        self.last = Some(found.end());
+        Some(found)
     }
 }
 
@@ -122,7 +117,7 @@ pub struct Matches<'r, 'h> {
 impl<'r, 'h> Matches<'r, 'h> {
     ghost use Rattle.std.specs.Iterator.{YieldsFirstBy};
     ghost use Rattle.bites_bytes.specs.Matched.{excerpt_of};
-    ghost use Rattle.bites_bytes.specs.Matches.{Advances, Moves, IsSameSearch, cursor_of, matches_left, regex_of_matches, haystack_of_matches, last_of_matches};
+    ghost use Rattle.bites_bytes.specs.Matches.{Moves, IsSameSearch, cursor_of, matches_left, regex_of_matches, haystack_of_matches, last_of_matches};
 
     pub(super) fn new(regex: &'r Regex, haystack: &'h [u8]) -> Result<Matches<'r, 'h>, AllocError>
         ensures regex { IfOk result (λ m. regex_of_matches m ≡ regex.now) }
@@ -155,15 +150,16 @@ impl<'r, 'h> Matches<'r, 'h> {
         self.cursor.end_of_last()
     }
 
-    // Returns the next match, and writes the first of its slots, as many as are given.
-    pub(super) fn advance(&mut self, slots: &mut [Option<usize>]) -> Option<Match<'h>>
-        requires slots { IsSlotCount (regex_of_matches self.old).program (length slots.old) }
-        requires whole { 2 ≤ length slots.old }
-        ensures steps { Advances (cursor_of self.old) result (cursor_of self.new) (length slots.old) slots.new }
+    // Returns the next match, and writes its slots into the locations.
+    pub(super) fn step_with(&mut self, locations: &mut CaptureLocations) -> Option<Match<'h>>
+        requires { length locations.old ≡ (regex_of_matches self.old).program.slots }
+        ensures next { ReadsNext (regex_of_matches self.old) (haystack_of_matches self.old)
+            (last_of_matches self.old) (option_map excerpt_of result) locations.new }
+        ensures moves { Moves (cursor_of self.old) result (cursor_of self.new) }
         ensures same { IsSameSearch (cursor_of self.old) (cursor_of self.new) }
-        ensures compiled { IsCompiled (regex_of_matches self.old) }
+        ensures len { length locations.new ≡ length locations.old }
     {
-        self.cursor.advance(&mut self.cache, slots)
+        self.cursor.step_with(&mut self.cache, locations)
     }
 
     // Returns the next match.

@@ -6,12 +6,14 @@ ghost use Rattle.bites_spec.specs.Measure.{groups_left, static_captures_len};
 ghost use Rattle.bites_spec.specs.Regex.{IsCompiled, NamesAreKept};
 ghost use Rattle.bites_spec.specs.Expansion.{index_in};
 ghost use Rattle.bites_spec.specs.Settings.{Accepts, by_default, no_flags};
+ghost use Rattle.bites_bytes.specs.NextMatch.{kind_of};
 ghost use Rattle.bites_bytes.specs.Parts.{regex_of};
 ghost use Rattle.bites_syntax.specs.FlagsView.{flags_of};
 ghost use Rattle.bites_bytes.specs.Settings.{Refuses};
 
 use crate::bytes::{CaptureNames, RegexBuilder};
 use bites_machine::program::Program;
+use bites_machine::vm::MatchKind;
 use bites_syntax::parse::Flags;
 use bites_syntax::tree::Tree;
 use bites_text::error::Error;
@@ -38,7 +40,8 @@ impl Model for Compiled {
     ghost use Rattle.bites_syntax.specs.FlagsView.{flags_of};
     ghost use Rattle.bites_syntax.specs.TreeCode.{tree_code};
     ghost use Rattle.bites_spec.specs.Regex as spec;
-    ghost use Rattle.bites_bytes.specs.Parts.{regex_of};
+    ghost use Rattle.bites_bytes.specs.NextMatch.{kind_of};
+ghost use Rattle.bites_bytes.specs.Parts.{regex_of};
 
     ghost Value = { spec.Regex };
 
@@ -63,7 +66,7 @@ impl Compiled {
     }
 
     // Returns whether searches return the longest match.
-    pub(super) fn leftmost_longest(&self) -> bool
+    fn leftmost_longest(&self) -> bool
         ensures { result ≡ self.now.leftmost_longest }
     {
         self.leftmost_longest
@@ -198,6 +201,17 @@ impl Regex {
         ensures compiled { IsCompiled self.now }
     {
         self.compiled.program()
+    }
+
+    // Returns which match searches are asked for: the longest one, or the preferred one.
+    pub(super) fn kind(&self) -> MatchKind
+        ensures { result ≡ kind_of self.now }
+    {
+        if self.compiled.leftmost_longest() {
+            MatchKind::Longest
+        } else {
+            MatchKind::First
+        }
     }
 
     pub(super) fn alloc(&self) -> Global {

@@ -1,6 +1,6 @@
 //! Haystacks with their matches replaced.
 
-ghost use Rattle.std.specs.Prelude.{◌≡◌, ◌↔◌, ◌⊎◌, ◌++◌, [], List, ℕ, ◌≤◌, None, IfOk, OnOk, OnErr, drop, length};
+ghost use Rattle.std.specs.Prelude.{◌≡◌, ◌↔◌, ◌⊎◌, ◌++◌, [], List, ℕ, None, IfOk, OnOk, OnErr, drop, length};
 ghost use Rattle.std.specs.Cow.{cow_slice_items, IsBorrowedSlice};
 ghost use Rattle.bites_spec.specs.Counts.{fit_of};
 ghost use Rattle.bites_spec.specs.Iteration.{captures_in};
@@ -84,7 +84,6 @@ impl<'r, 'h> Replacing<'r, 'h> {
         requires callable { (state : R) → R.can_replace state }
         requires cache { cache.old.fits ≡ fit_of (regex_of self.old.cursor).program }
         requires fits { length locations.old ≡ (regex_of self.old.cursor).program.slots }
-        requires whole { 2 ≤ length locations.old }
         ensures steps { IfOk result (λ there.
             StepsBy R.replaces R.answers self.old replacer.old there self.new replacer.new) }
         ensures stops { OnErr result (Stops R.replaces R.answers R.refuses
@@ -97,7 +96,7 @@ impl<'r, 'h> Replacing<'r, 'h> {
         }
         let haystack = self.cursor.haystack();
         let begin = self.cursor.end_of_last();
-        let Some(found) = locations.advance_with(&mut self.cursor, cache) else {
+        let Some(found) = self.cursor.step_with(cache, locations) else {
             return Ok(false);
         };
         self.out.extend_from_slice(&haystack[begin..found.start()])?;
@@ -116,7 +115,6 @@ impl<'r, 'h> Replacing<'r, 'h> {
         requires callable { (state : R) → R.can_replace state }
         requires cache { cache.old.fits ≡ fit_of (regex_of self.old.cursor).program }
         requires fits { length locations.old ≡ (regex_of self.old.cursor).program.slots }
-        requires whole { 2 ≤ length locations.old }
         ensures ends { OnOk result (EndsBy R.replaces R.answers self.old replacer.old self.new replacer.new) }
         ensures served { OnErr result (GaveSome R.replaces R.answers R.refuses
             replacer.old (captures_to_replace self.old) replacer.new) }

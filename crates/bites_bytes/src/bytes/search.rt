@@ -1,14 +1,14 @@
 //! Searches that return where a match is.
 
-ghost use Rattle.std.specs.Prelude.{◌≡◌, None, replicate, length, option_map, is_some, unwrap_or, IfOk, MatchOption, OnOk, OnErr};
-ghost use Rattle.bites_spec.specs.Counts.{fit_of, IsWalked};
-ghost use Rattle.bites_spec.specs.Regex.{span_at, slots_at};
-ghost use Rattle.bites_spec.specs.Found.{NoMatch};
-ghost use Rattle.bites_spec.specs.Captured.{excerpt, FindsMatch, AreGroupsFrom};
+ghost use Rattle.std.specs.Prelude.{◌≡◌, None, replicate, length, option_map, is_some, IfOk, OnErr};
+ghost use Rattle.bites_spec.specs.Counts.{fit_of};
+ghost use Rattle.bites_spec.specs.Captured.{FindsMatch};
+ghost use Rattle.bites_bytes.specs.Calls.{Searched, ReadsGroups, FindsNext, ReadsNext};
 ghost use Rattle.bites_spec.specs.Utf8.{places};
 ghost use Rattle.bites_bytes.specs.Matched.{excerpt_of};
 
 use crate::bytes::{Cache, CaptureLocations, Match, Regex};
+use bites_machine::vm::Input;
 use std::alloc::AllocError;
 
 impl Regex {
@@ -84,9 +84,8 @@ impl Regex {
     pub fn find_with<'h>(&self, cache: &mut Cache, haystack: &'h [u8]) -> Option<Match<'h>>
         requires { cache.old.fits ≡ fit_of self.now.program }
         ensures found { FindsMatch self.now haystack.now (places haystack.now 0) (option_map excerpt_of result) }
-        ensures fits { cache.new.fits ≡ cache.old.fits }
-        ensures walked { IsWalked self.now.program haystack.now 0 (places haystack.now 0)
-            (is_some result) cache.new.walked }
+        ensures searched { Searched self.now.program haystack.now 0 (places haystack.now 0)
+            (is_some result) cache.old cache.new }
     {
         self.find_at_with(cache, haystack, 0)
     }
@@ -102,12 +101,42 @@ impl Regex {
     ) -> Option<Match<'h>>
         requires { cache.old.fits ≡ fit_of self.now.program }
         ensures found { FindsMatch self.now haystack.now (places haystack.now start) (option_map excerpt_of result) }
-        ensures fits { cache.new.fits ≡ cache.old.fits }
-        ensures walked { IsWalked self.now.program haystack.now start (places haystack.now start)
-            (is_some result) cache.new.walked }
+        ensures searched { Searched self.now.program haystack.now start (places haystack.now start)
+            (is_some result) cache.old cache.new }
     {
-        let ends = cache.find(self.compiled(), haystack, start);
-        Match::at(haystack, ends)
+        let input = Input {
+            haystack,
+            start,
+            anchored: false,
+            kind: self.kind(),
+        };
+        cache.find(self, &input, &mut [None; 2])
+    }
+
+    /// Returns the first match after one that ends at `last`, an offset in bytes, or the first of all for `None`. The
+    /// cache must fit. It allocates nothing and cannot fail.
+    ///
+    /// The matches that it returns in turn, each for the end of the one before, are those of [`Regex::find_iter`]. An
+    /// empty match at `last` is dropped, and then a second search continues one character later.
+    ///
+    /// ```rust
+    /// let regex = Regex::new(rt.alloc(), "a*")?;
+    /// let mut cache = regex.cache()?;
+    /// let next = regex.find_next_with(&mut cache, b"ab", Some(1)).ok_or("no match")?;
+    /// assert_eq!(rt; next.range(), 2..2);
+    /// assert_eq!(rt; regex.find_next_with(&mut cache, b"ab", Some(2)), None);
+    /// ```
+    pub fn find_next_with<'h>(
+        &self,
+        cache: &mut Cache,
+        haystack: &'h [u8],
+        last: Option<usize>,
+    ) -> Option<Match<'h>>
+        requires { cache.old.fits ≡ fit_of self.now.program }
+        ensures next { FindsNext self.now haystack.now last (option_map excerpt_of result) }
+        ensures fits { cache.new.fits ≡ cache.old.fits }
+    {
+        cache.find_next(self, haystack, last, &mut [None; 2])
     }
 
     /// Returns the leftmost match like [`Regex::find`], and writes the offsets of each group into `locations`. The
@@ -129,12 +158,8 @@ impl Regex {
         haystack: &'h [u8],
     ) -> Result<Option<Match<'h>>, AllocError>
         requires { length locations.old ≡ self.now.program.slots }
-        ensures found { IfOk result (λ m. option_map excerpt_of m
-            ≡ option_map (excerpt haystack.now) (span_at self.now haystack.now (places haystack.now 0))) }
-        ensures on_tree { IfOk result (λ m. MatchOption m (NoMatch self.now.tree haystack.now (places haystack.now 0))
-            (λ _. AreGroupsFrom self.now haystack.now (places haystack.now 0) locations.new)) }
-        ensures groups { OnOk result (locations.new
-            ≡ unwrap_or (slots_at self.now haystack.now (places haystack.now 0)) locations.old) }
+        ensures read { IfOk result (λ m. ReadsGroups self.now haystack.now (places haystack.now 0)
+            (option_map excerpt_of m) locations.old locations.new) }
         ensures refused { OnErr result (locations.new ≡ locations.old) }
     {
         self.captures_read_at(locations, haystack, 0)
@@ -151,13 +176,8 @@ impl Regex {
         start: usize,
     ) -> Result<Option<Match<'h>>, AllocError>
         requires { length locations.old ≡ self.now.program.slots }
-        ensures found { IfOk result (λ m. option_map excerpt_of m
-            ≡ option_map (excerpt haystack.now) (span_at self.now haystack.now (places haystack.now start))) }
-        ensures on_tree { IfOk result (λ m. MatchOption m (NoMatch self.now.tree haystack.now
-            (places haystack.now start))
-            (λ _. AreGroupsFrom self.now haystack.now (places haystack.now start) locations.new)) }
-        ensures groups { OnOk result (locations.new
-            ≡ unwrap_or (slots_at self.now haystack.now (places haystack.now start)) locations.old) }
+        ensures read { IfOk result (λ m. ReadsGroups self.now haystack.now (places haystack.now start)
+            (option_map excerpt_of m) locations.old locations.new) }
         ensures refused { OnErr result (locations.new ≡ locations.old) }
     {
         let mut cache = self.cache()?;
@@ -173,15 +193,10 @@ impl Regex {
     ) -> Option<Match<'h>>
         requires cache { cache.old.fits ≡ fit_of self.now.program }
         requires locations { length locations.old ≡ self.now.program.slots }
-        ensures found { option_map excerpt_of result
-            ≡ option_map (excerpt haystack.now) (span_at self.now haystack.now (places haystack.now 0)) }
-        ensures on_tree { MatchOption result (NoMatch self.now.tree haystack.now (places haystack.now 0))
-            (λ _. AreGroupsFrom self.now haystack.now (places haystack.now 0) locations.new) }
-        ensures groups { locations.new ≡ unwrap_or (slots_at self.now haystack.now
-            (places haystack.now 0)) locations.old }
-        ensures fits { cache.new.fits ≡ cache.old.fits }
-        ensures walked { IsWalked self.now.program haystack.now 0 (places haystack.now 0)
-            (is_some result) cache.new.walked }
+        ensures read { ReadsGroups self.now haystack.now (places haystack.now 0)
+            (option_map excerpt_of result) locations.old locations.new }
+        ensures searched { Searched self.now.program haystack.now 0 (places haystack.now 0)
+            (is_some result) cache.old cache.new }
     {
         self.captures_read_at_with(cache, locations, haystack, 0)
     }
@@ -198,17 +213,35 @@ impl Regex {
     ) -> Option<Match<'h>>
         requires cache { cache.old.fits ≡ fit_of self.now.program }
         requires locations { length locations.old ≡ self.now.program.slots }
-        ensures found { option_map excerpt_of result
-            ≡ option_map (excerpt haystack.now) (span_at self.now haystack.now (places haystack.now start)) }
-        ensures on_tree { MatchOption result (NoMatch self.now.tree haystack.now (places haystack.now start))
-            (λ _. AreGroupsFrom self.now haystack.now (places haystack.now start) locations.new) }
-        ensures groups { locations.new
-            ≡ unwrap_or (slots_at self.now haystack.now (places haystack.now start)) locations.old }
-        ensures fits { cache.new.fits ≡ cache.old.fits }
-        ensures walked { IsWalked self.now.program haystack.now start (places haystack.now start)
-            (is_some result) cache.new.walked }
+        ensures read { ReadsGroups self.now haystack.now (places haystack.now start)
+            (option_map excerpt_of result) locations.old locations.new }
+        ensures searched { Searched self.now.program haystack.now start (places haystack.now start)
+            (is_some result) cache.old cache.new }
     {
-        let ends = locations.read(self.compiled(), cache, haystack, start);
-        Match::at(haystack, ends)
+        let input = Input {
+            haystack,
+            start,
+            anchored: false,
+            kind: self.kind(),
+        };
+        locations.find(self, cache, &input)
+    }
+
+    /// Like [`Regex::find_next_with`], but also writes the offsets of each group into `locations`, which must fit this
+    /// regex. If nothing matches, the locations may hold the groups of an empty match that was dropped.
+    pub fn captures_read_next_with<'h>(
+        &self,
+        cache: &mut Cache,
+        locations: &mut CaptureLocations,
+        haystack: &'h [u8],
+        last: Option<usize>,
+    ) -> Option<Match<'h>>
+        requires cache { cache.old.fits ≡ fit_of self.now.program }
+        requires locations { length locations.old ≡ self.now.program.slots }
+        ensures next { ReadsNext self.now haystack.now last (option_map excerpt_of result) locations.new }
+        ensures len { length locations.new ≡ length locations.old }
+        ensures fits { cache.new.fits ≡ cache.old.fits }
+    {
+        locations.find_next(self, cache, haystack, last)
     }
 }

@@ -2,10 +2,12 @@
 
 ghost use Rattle.std.specs.Prelude.{◌≡◌, is_some, IfOk};
 ghost use Rattle.bites_spec.specs.Found.{IsLeastEnd};
-ghost use Rattle.bites_spec.specs.Counts.{fit_of, IsWalked};
+ghost use Rattle.bites_spec.specs.Counts.{fit_of};
+ghost use Rattle.bites_bytes.specs.Calls.{Searched};
 ghost use Rattle.bites_spec.specs.Utf8.{places};
 
 use crate::bytes::{Cache, Regex};
+use bites_machine::vm::{Input, MatchKind};
 use std::alloc::AllocError;
 
 impl Regex {
@@ -42,9 +44,8 @@ impl Regex {
     pub fn shortest_match_with(&self, cache: &mut Cache, haystack: &[u8]) -> Option<usize>
         requires { cache.old.fits ≡ fit_of self.now.program }
         ensures least { IsLeastEnd self.now.tree haystack.now (places haystack.now 0) result }
-        ensures fits { cache.new.fits ≡ cache.old.fits }
-        ensures walked { IsWalked self.now.program haystack.now 0 (places haystack.now 0)
-            (is_some result) cache.new.walked }
+        ensures searched { Searched self.now.program haystack.now 0 (places haystack.now 0)
+            (is_some result) cache.old cache.new }
     {
         self.shortest_match_at_with(cache, haystack, 0)
     }
@@ -60,10 +61,15 @@ impl Regex {
     ) -> Option<usize>
         requires { cache.old.fits ≡ fit_of self.now.program }
         ensures least { IsLeastEnd self.now.tree haystack.now (places haystack.now start) result }
-        ensures fits { cache.new.fits ≡ cache.old.fits }
-        ensures walked { IsWalked self.now.program haystack.now start (places haystack.now start)
-            (is_some result) cache.new.walked }
+        ensures searched { Searched self.now.program haystack.now start (places haystack.now start)
+            (is_some result) cache.old cache.new }
     {
-        cache.shortest(self.compiled(), haystack, start)
+        let input = Input {
+            haystack,
+            start,
+            anchored: false,
+            kind: MatchKind::Earliest,
+        };
+        cache.shortest(self, &input)
     }
 }

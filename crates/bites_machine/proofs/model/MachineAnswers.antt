@@ -3,7 +3,7 @@ use Rattle.std.proofs.Common.{◌≡◌, ℕ, ◌<◌, ◌≤◌, Bool, true, fa
 use Rattle.std.proofs.lemmas.Option.{same_Some, none-some}
 use Rattle.std.specs.Prelude.{is_some}
 use Rattle.bites_spec.specs.Walks.{Among, first_among}
-use Rattle.bites_spec.specs.Program.{Program, IsWellFormed}
+use Rattle.bites_spec.specs.Program.{Program, Configuration, IsWellFormed}
 use Rattle.bites_spec.specs.Run.{Run, Answered, LeastEnd, slots, first_run, first_run_from, longest_run, longest_run_below}
 use Rattle.bites_spec.specs.Counts.{Record, IsBounded, VisitedBy}
 use Rattle.bites_spec.specs.PikeVm.{Thread, Searching, Searched}
@@ -15,9 +15,19 @@ use Rattle.bites_machine.proofs.model.MachineLongest.{longest_answer}
 use Rattle.bites_machine.proofs.model.MachineCounts.{search_bounded}
 use Rattle.bites_machine.proofs.model.MachineClosed.{all_visited, some_visited, no_run, least_end}
 
--- what was visited, and how often was looked
-abbrev pub record_of : Searching → Record
-record_of t = record { visits = t.visits; looks = t.looks }
+-- what was visited, what of it was read, and how often was looked
+abbrev pub record_of : List Configuration → Searching → Record
+record_of read t = record { visits = t.visits; read = read; looks = t.looks }
+
+-- nothing was visited
+abbrev pub nothing_done : Record
+nothing_done = record { visits = []; read = []; looks = 0 }
+
+pub is_nothing : (r : Record) → r.visits ≡ [] → r.read ≡ [] → r.looks ≡ 0 → r ≡ nothing_done
+is_nothing r visits read looks =
+    ap (λ (vs : List Configuration). record { visits = vs; read = r.read; looks = r.looks }) visits
+    ∙ ap (λ (vs : List Configuration). record { visits = []; read = vs; looks = r.looks }) read
+    ∙ ap (λ (n : ℕ). record { visits = []; read = []; looks = n }) looks
 
 pub answered : (p : Program) (width : ℕ) (o : Option Run) (best : Option Thread) (old : List (Option ℕ)) → length old ≡ width →
     option_map (λ (b : Thread). b.slots) best ≡ option_map (λ (r : Run). take width (slots p r)) o → Answered p o (is_some best) old (left_in best old)
@@ -52,18 +62,18 @@ module _ (p : Program) (hay : List ℕ) (well : IsWellFormed p) (width : ℕ) (f
             let least = least_end p hay false width fits anchored start within t end b some in
             (Some least.0, least.1, answered p width (Some least.0) (Some b) old len (ap (λ (l : List (Option ℕ)). Some l) least.2))
 
-  module _ (longest earliest : Bool) (t : Searching) (end : Searched hay longest p width anchored earliest start t) where
+  module _ (longest earliest : Bool) (t : Searching) (end : Searched hay longest p width anchored earliest start t) (read : List Configuration) where
     -- what a search has visited
-    pub search_visited : VisitedBy p hay starts (is_some t.best) (record_of t)
+    pub search_visited : VisitedBy p hay starts (is_some t.best) (record_of read t)
     search_visited = by_best t.best refl
       where
-        by_best : (best : Option Thread) → t.best ≡ best → VisitedBy p hay starts (is_some best) (record_of t)
+        by_best : (best : Option Thread) → t.best ≡ best → VisitedBy p hay starts (is_some best) (record_of read t)
         by_best None none = all_visited p hay longest width fits anchored start within earliest t end none
         by_best (Some b) some = some_visited p hay longest width fits anchored start within earliest t end b some
 
     -- and within which bounds
-    pub search_counted : IsBounded p hay start (record_of t)
-    search_counted = search_bounded p hay well longest width fits anchored earliest start within t end
+    pub search_counted : ((v : Configuration) → Among read v → Among t.visits v) → IsBounded p hay start (record_of read t)
+    search_counted = search_bounded p hay well longest width fits anchored earliest start within t end read
 
 -- a start past the end of the haystack
 module _ (p : Program) (hay : List ℕ) (anchored : Bool) (start : ℕ) (past : length hay < start) where
@@ -78,12 +88,13 @@ module _ (p : Program) (hay : List ℕ) (anchored : Bool) (start : ℕ) (past : 
   pub past_least : LeastEnd p hay (starts_of hay anchored start) None
   past_least i among r j runs = subst (λ (l : List ℕ). Among l i) (starts-past hay anchored start past) among
 
-  pub past_visited : VisitedBy p hay (starts_of hay anchored start) false (record { visits = []; looks = 0 })
+  pub past_visited : VisitedBy p hay (starts_of hay anchored start) false nothing_done
   past_visited i among t reaches = absurd (subst (λ (l : List ℕ). Among l i) (starts-past hay anchored start past) among)
 
-  pub past_counted : IsBounded p hay start (record { visits = []; looks = 0 })
+  pub past_counted : IsBounded p hay start nothing_done
   past_counted = record {
     apart = tt;
+    read = λ v h. absurd h;
     visits = omega arith;
     looks = omega arith;
     looked = omega arith;

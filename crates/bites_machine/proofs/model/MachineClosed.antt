@@ -209,7 +209,7 @@ module _ (p : Program) (hay : List ℕ) (longest : Bool) (width : ℕ) (fits : w
         (goes_on p hay longest width anchored earliest start within s.place t on)) n s to
 
     abbrev record_of : Searching → Record
-    record_of t = record { visits = t.visits; looks = t.looks }
+    record_of t = record { visits = t.visits; read = []; looks = t.looks }
 
     module _ (t : Searching) (end : Searched hay longest p width anchored earliest start t) where
       abbrev before : Searching

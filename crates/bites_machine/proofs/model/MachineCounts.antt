@@ -206,12 +206,14 @@ module _ (p : Program) (hay : List ℕ) (well : IsWellFormed p) (longest : Bool)
         left_few (Some u) rest = omega arith
 
   -- what was counted keeps to the bounds
-  counted_bounded : (t : Searching) (more : ℕ) → HasCounted t more → IsBounded p hay start (record { visits = t.visits; looks = t.looks })
-  counted_bounded t more done =
+  counted_bounded : (t : Searching) (more : ℕ) → HasCounted t more → (read : List Configuration) → ((v : Configuration) → Among read v → Among t.visits v) →
+      IsBounded p hay start (record { visits = t.visits; read = read; looks = t.looks })
+  counted_bounded t more done read reads =
       let ones = sum_of_configurations (λ (u : Configuration). 1) (λ (st : State). 1) p.states (places hay start) t.visits (λ q i. omega arith) done.apart done.inside in
       let edges = sum_of_configurations (λ (u : Configuration). length (leads p hay u)) (λ (st : State). length (targets_of st)) p.states (places hay start) t.visits
       (λ q i. edges_within hay (state_at p.states q) i) done.apart done.inside in record {
         apart = done.apart;
+        read = reads;
         visits = let a = sum_of_ones t.visits in
             let b : length t.visits ≤ sum_by (λ (st : State). 1) p.states * length (places hay start) = omega arith in
             subst (λ (n : ℕ). length t.visits ≤ n * length (places hay start)) (sum_of_ones p.states) b;
@@ -227,9 +229,15 @@ module _ (p : Program) (hay : List ℕ) (well : IsWellFormed p) (longest : Bool)
       searched_keeps p hay longest width anchored earliest start within IsCounting counting_start
       (λ s t placed now place on. counting_on s t placed place now (goes_on p hay longest width anchored earliest start within s.place t on)) n s to
 
+  -- no configuration was visited twice, and all that were lie before the place
+  pub searched_visits : (n : ℕ) (s : Searching) → SearchedTo hay longest p width anchored earliest start n s →
+      AllApart s.visits × ((v : Configuration) → Among s.visits v → v.place < s.place)
+  searched_visits n s to = let counted = counting n s to in (counted.counted.apart, counted.before)
+
   -- the bounds on what a search visits and on how often it looks
-  pub search_bounded : (t : Searching) → Searched hay longest p width anchored earliest start t → IsBounded p hay start (record { visits = t.visits; looks = t.looks })
-  search_bounded t end =
+  pub search_bounded : (t : Searching) → Searched hay longest p width anchored earliest start t → (read : List Configuration) → ((v : Configuration) → Among read v → Among t.visits v) →
+      IsBounded p hay start (record { visits = t.visits; read = read; looks = t.looks })
+  search_bounded t end read reads =
       let placed = searched_placed p hay longest width anchored earliest start within end.places end.before end.searched in
       counted_bounded t (length (to_come_later hay anchored end.before))
-      (counted_behind end.before t placed end.last (counting end.places end.before end.searched))
+      (counted_behind end.before t placed end.last (counting end.places end.before end.searched)) read reads

@@ -139,6 +139,7 @@ module _ (hay : List ℕ) (longest : Bool) (place : ℕ) (states : List program.
     within_step = w.within_step;
     users = w.users;
     before = w.before;
+    read = w.read;
     max_slots = w.max_slots;
     len = w.len;
     none = w.none;
@@ -164,6 +165,7 @@ module _ (hay : List ℕ) (longest : Bool) (place : ℕ) (states : List program.
         within_step = past.within_step;
         users = past.users [] used;
         before = past.before ∙ w.before;
+        read = λ all. past.read (w.read all);
         max_slots = past.max_slots ∙ w.max_slots;
         len = past.len ∙ w.len;
         none = λ e. let one = past.none e in let two = w.none one.0 in (two.0, one.1 ∙ two.1);

@@ -91,6 +91,7 @@ closes_by_closure hay longest place states t was now old new slots left on withi
   users = off.users;
   kept = off.kept;
   before = off.before;
+  read = off.read;
   max_slots = off.max_slots;
   len = off.len;
   none = off.none;
@@ -131,6 +132,7 @@ closes_by_cut hay longest place states t was old rows slots cut within_step know
   users = λ others used. released t.row (map row_of old.next.threads ++ others) old.rows rows ref_counts same slots_per_row used;
   kept = λ r h. slots_same r;
   before = refl;
+  read = λ all. all;
   max_slots = max_slots;
   len = refl;
   none = λ h. (h, refl);

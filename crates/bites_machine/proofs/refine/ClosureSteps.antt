@@ -12,7 +12,7 @@ use Rattle.bites_machine.specs.Used.{IsUsed, KeepsRows}
 use Rattle.bites_machine.specs.Framed.{frame_at}
 use Rattle.bites_machine.specs.Scratch.{thread_of, first_match_of, walking_of, users_of, row_of}
 use Rattle.bites_machine.specs.Visits.{Stays}
-use Rattle.bites_machine.specs.Explore.{seen_here, visited_before, IsReady, Explores}
+use Rattle.bites_machine.specs.Explore.{seen_here, visited_before, IsReady, ReadsAll, Explores}
 use Rattle.bites_machine.specs.Sweep.{ClosesFrames, walking_at}
 use Rattle.bites_machine.specs.declared.vm.threads.Thread.{Thread}
 use Rattle.bites_machine.specs.declared.vm.stack.Frame.{Frame}
@@ -28,6 +28,7 @@ pub record ClosesSome (hay : List ℕ) (longest : Bool) (place : ℕ) (states : 
   pub users : (others : List ℕ) → IsUsed old.rows (users_of old t others) → IsUsed new.rows (users_of new t others)
   pub kept : KeepsRows old.rows new.rows
   pub before : visited_before place now.visits ≡ visited_before place was.visits
+  pub read : ReadsAll was now
   pub room : new.stack.room ≡ old.stack.room
   pub rows : length new.rows.ref_counts ≡ length old.rows.ref_counts
   pub len : length left ≡ length slots
@@ -85,6 +86,7 @@ module _ (hay : List ℕ) (longest : Bool) (place : ℕ) (states : List program.
     users = λ others used. used;
     kept = λ row h. refl;
     before = refl;
+    read = λ all. all;
     room = refl;
     rows = refl;
     len = refl;
@@ -106,6 +108,7 @@ module _ (hay : List ℕ) (longest : Bool) (place : ℕ) (states : List program.
     kept = rows_through old.rows new.rows last.rows (users_of old t others) (users_of new t others) used (w.users others used)
         (users_stay t.row (map row_of old.next.threads) (map row_of new.next.threads) others w.stays.threads) w.kept l.kept;
     before = l.before ∙ w.before;
+    read = λ all. l.read (w.read all);
     room = l.room ∙ w.room;
     rows = l.rows ∙ w.rows;
     len = l.len ∙ w.len;
@@ -155,6 +158,7 @@ module _ (hay : List ℕ) (longest : Bool) (place : ℕ) (states : List program.
         users = λ ks h. released t.row (map row_of new.next.threads ++ ks) new.rows pool (w.users ks h) ref_counts rows slots_per_row;
         kept = λ r h. slots_same r ∙ w.kept r h;
         before = w.before;
+        read = w.read;
         room = w.room;
         max_slots = max_slots ∙ w.stays.max_slots;
         rows = same ∙ w.rows;

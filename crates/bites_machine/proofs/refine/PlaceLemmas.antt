@@ -47,6 +47,7 @@ module _ (hay : List ℕ) (longest : Bool) (place : ℕ) (states : List program.
     within_step = within_step;
     users = used;
     before = refl;
+    read = λ all. all;
     max_slots = refl;
     len = refl;
     none = λ e. (e, refl);
@@ -68,6 +69,7 @@ module _ (hay : List ℕ) (longest : Bool) (place : ℕ) (states : List program.
         within_step = past.within_step;
         users = past.users (map row_of rest) used;
         before = past.before ∙ w.before;
+        read = λ all. past.read (w.read all);
         max_slots = past.max_slots ∙ w.max_slots;
         len = past.len ∙ w.len;
         none = λ e. let one = past.none e in let two = w.none one.0 in (two.0, one.1 ∙ two.1);

@@ -31,7 +31,7 @@ abbrev searching_at : ℕ → List machine.Thread → Bool → Option machine.Th
 searching_at place threads starts best visits looks = record { place = place; threads = threads; starts = starts; best = best; visits = visits; looks = looks }
 
 -- a thread of a list, with its row
-among_threads : (pool : Pool) (ts : List Thread) (t : Thread) → Among ts t → Among (map (thread_of pool) ts) (thread_of pool t)
+pub among_threads : (pool : Pool) (ts : List Thread) (t : Thread) → Among ts t → Among (map (thread_of pool) ts) (thread_of pool t)
 among_threads pool [] t h = h
 among_threads pool (u ∷ ts) t h = ⊎_elim (λ (e : u ≡ t). inl (ap (thread_of pool) e)) (λ l. inr (among_threads pool ts t l)) h
 
@@ -130,7 +130,7 @@ module _ (hay : List ℕ) (longest : Bool) (place : ℕ) (states : List program.
     by_best : (len : ℕ) → len ≡ (piece hay place).len → (p : Program) → p.states ≡ states → (anchored : Bool) (best : Option machine.Thread) (first : List (Option ℕ)) (starts found : Bool) → is_some best ≡ found →
         left_in best first ≡ slots → begins ≡ (if starts then Some p.start else None) →
         (t : Searching) × Searches hay longest p (length slots) anchored (searching_at place (map (thread_of old.rows) threads) starts best was.visits was.looks) t
-        × Represents t (place + len) new.rows new.next.threads now first left (starts_on anchored starts new) (found || is_some new.first_match)
+        × Represents t (place + len) (map (thread_of new.rows) new.next.threads) now first left (starts_on anchored starts new) (found || is_some new.first_match)
     by_best len len_is p is anchored best first starts found found_is slots_is begins_is =
         let s = searching_at place (map (thread_of old.rows) threads) starts best was.visits was.looks in
         let begun : start_threads longest place (length slots) begins
@@ -157,9 +157,9 @@ module _ (hay : List ℕ) (longest : Bool) (place : ℕ) (states : List program.
 
     -- the machine on lists searches the place too
     pub place_searches : (len : ℕ) → len ≡ (piece hay place).len → (p : Program) → p.states ≡ states → (anchored : Bool) (s : Searching) (first : List (Option ℕ)) (starts found : Bool) →
-        begins ≡ (if starts then Some p.start else None) → Represents s place old.rows threads was first slots starts found →
+        begins ≡ (if starts then Some p.start else None) → Represents s place (map (thread_of old.rows) threads) was first slots starts found →
         (t : Searching) × Searches hay longest p (length slots) anchored s t
-        × Represents t (place + len) new.rows new.next.threads now first left (starts_on anchored starts new) (found || is_some new.first_match)
+        × Represents t (place + len) (map (thread_of new.rows) new.next.threads) now first left (starts_on anchored starts new) (found || is_some new.first_match)
     place_searches len len_is p is anchored s first starts found begins_is stands =
         let same : s ≡ searching_at place (map (thread_of old.rows) threads) starts s.best was.visits was.looks =
         ap (λ (i : ℕ). searching_at i s.threads s.starts s.best s.visits s.looks) stands.place
@@ -168,5 +168,5 @@ module _ (hay : List ℕ) (longest : Bool) (place : ℕ) (states : List program.
         ∙ ap (λ (l : List Configuration). searching_at place (map (thread_of old.rows) threads) starts s.best l s.looks) stands.visits
         ∙ ap (λ (n : ℕ). searching_at place (map (thread_of old.rows) threads) starts s.best was.visits n) stands.looks in
         subst (λ (x : Searching). (t : Searching) × Searches hay longest p (length slots) anchored x t
-        × Represents t (place + len) new.rows new.next.threads now first left (starts_on anchored starts new) (found || is_some new.first_match)) (sym same)
+        × Represents t (place + len) (map (thread_of new.rows) new.next.threads) now first left (starts_on anchored starts new) (found || is_some new.first_match)) (sym same)
         (by_best len len_is p is anchored s.best first starts found stands.found stands.slots begins_is)

@@ -1,19 +1,16 @@
 -- A search from place to place, and its result where it ends.
-use Rattle.std.proofs.Common.{◌≡◌, ℕ, zero, suc, ◌+◌, ◌<◌, ◌≤◌, Bool, true, false, ◌||◌, ◌&&◌, cond, List, [], ◌∷◌, map, length, Option, Some, None, replicate, refl, sym, ap, ap₂, ◌∙◌, subst, arith, true≢false}
+use Rattle.std.proofs.Common.{◌≡◌, ℕ, zero, suc, ◌+◌, ◌<◌, ◌≤◌, Bool, true, false, ◌||◌, ◌&&◌, cond, List, [], ◌∷◌, map, length, Option, Some, None, refl, sym, ap, ap₂, ◌∙◌, subst, arith, true≢false}
 use Rattle.std.specs.Prelude.{◌==◌, is_some, not, IfSome}
 use Rattle.bites_spec.specs.Utf8.{piece}
-use Rattle.bites_spec.specs.Walks.{Among}
 use Rattle.bites_spec.specs.Program as program
 use Rattle.bites_spec.specs.Program.{Program, Configuration}
-use Rattle.bites_spec.specs.Counts.{Record, fit_of}
+use Rattle.bites_spec.specs.Counts.{Record}
 use Rattle.bites_spec.specs.PikeVm as machine
 use Rattle.bites_spec.specs.PikeVm.{Searching, Searches, SearchedTo, at_start, is_over, is_empty}
 use Rattle.bites_machine.specs.SlotTable.{Pool}
 use Rattle.bites_machine.specs.Threads.{Listed}
-use Rattle.bites_machine.specs.Used.{IsUsed, slots_at}
-use Rattle.bites_machine.specs.Scratch.{thread_of, row_of}
-use Rattle.bites_machine.specs.Sweep.{SearchResult, InvariantBetweenSteps, HasRoom, IsIdle, IsProgramOf, Represents, PlaceSearched, HasReached, HasSearched, starts_on}
-use Rattle.bites_machine.proofs.refine.IdleLemmas.{used_by_none}
+use Rattle.bites_machine.specs.Scratch.{thread_of}
+use Rattle.bites_machine.specs.Sweep.{SearchResult, InvariantBetweenSteps, HasRoom, IsProgramOf, Represents, PlaceSearched, HasReached, HasSearched, fit_in, starts_on}
 use Rattle.bites_machine.specs.declared.vm.threads.Thread.{Thread}
 use Rattle.bites_machine.specs.declared.vm.closure.Scratch.{Scratch}
 
@@ -35,27 +32,6 @@ of_first P starts begins first is holds = subst (λ (o : Option ℕ). IfSome o P
     by_test true = holds
     by_test false = tt
 
--- a program with room for its searches leaves a scratch between two places
-pub between_first : (p : Program) (states : List program.State) (place : ℕ) (walked : Record) (scratch : Scratch) (list : Listed) (slots_per_row : ℕ) →
-    p.states ≡ states → HasRoom (fit_of p) scratch list → IsIdle scratch list → walked.visits ≡ [] → slots_per_row ≡ scratch.rows.slots_per_row →
-    slots_at scratch.rows 0 ≡ replicate scratch.rows.slots_per_row None → length scratch.rows.rows ≡ length scratch.rows.ref_counts →
-    InvariantBetweenSteps states place walked scratch list slots_per_row
-between_first p states place walked scratch list slots_per_row same room idle visits wide nothing even =
-    subst (λ (ss : List program.State). InvariantBetweenSteps ss place walked scratch list slots_per_row) same (record {
-      visited_set = room.visited_set;
-      visits = λ v h. absurd (subst (λ (vs : List Configuration). Among vs v) visits h);
-      pending_len = room.pending_len;
-      stack = room.stack;
-      empty = room.empty;
-      more = room.next;
-      room = room.threads;
-      few = subst (λ (ts : List Thread). length ts ≤ length p.states) (sym idle.threads) (omega arith);
-      known = λ t h. absurd (subst (λ (ts : List Thread). Among ts t) idle.threads h);
-      used = subst (λ (ts : List Thread). IsUsed scratch.rows (map row_of ts)) (sym idle.threads) (used_by_none scratch.rows idle.free even nothing);
-      rows = room.rows;
-      wide = wide;
-    })
-
 -- a scratch between two places is so at a later place too
 pub between_later : (states : List program.State) (place later : ℕ) (walked : Record) (scratch : Scratch) (list : Listed) (slots_per_row : ℕ) →
     place ≤ later → InvariantBetweenSteps states place walked scratch list slots_per_row → InvariantBetweenSteps states later walked scratch list slots_per_row
@@ -75,48 +51,47 @@ between_later states place later walked scratch list slots_per_row le b = record
 }
 
 -- between two places there is room for other searches of the program
-pub room_between : (p : Program) (states : List program.State) (place : ℕ) (walked : Record) (scratch : Scratch) (list : Listed) (slots_per_row : ℕ) (rows : Pool) (empty : Listed) →
-    p.states ≡ states → InvariantBetweenSteps states place walked scratch list slots_per_row → p.slots ≤ rows.max_slots → length rows.ref_counts ≡ length scratch.rows.ref_counts →
+pub room_between : (states : List program.State) (place : ℕ) (walked : Record) (scratch : Scratch) (list : Listed) (slots_per_row : ℕ) (rows : Pool) (empty : Listed) →
+    InvariantBetweenSteps states place walked scratch list slots_per_row → length rows.ref_counts ≡ length scratch.rows.ref_counts →
     rows.pending ≡ scratch.rows.pending → empty.room ≡ list.room →
-    HasRoom (fit_of p) (record { visited_set = scratch.visited_set; stack = scratch.stack; rows = rows; next = scratch.next; first_match = scratch.first_match }) empty
-room_between p states place walked scratch list slots_per_row rows empty same between max_slots ref_counts pending room =
-    let b = subst (λ (ss : List program.State). InvariantBetweenSteps ss place walked scratch list slots_per_row) (sym same) between in
-    record {
-      visited_set = b.visited_set;
-      pending_len = ap length pending ∙ b.pending_len;
-      stack = b.stack;
-      empty = b.empty;
-      next = b.more;
-      threads = room ∙ b.room;
-      rows = ref_counts ∙ b.rows;
-      max_slots = max_slots;
-    }
+    HasRoom (fit_in states) (record { visited_set = scratch.visited_set; stack = scratch.stack; rows = rows; next = scratch.next; first_match = scratch.first_match }) empty
+room_between states place walked scratch list slots_per_row rows empty b ref_counts pending room = record {
+  visited_set = b.visited_set;
+  pending_len = ap length pending ∙ b.pending_len;
+  stack = b.stack;
+  empty = b.empty;
+  next = b.more;
+  threads = room ∙ b.room;
+  rows = ref_counts ∙ b.rows;
+  max_slots = omega arith;
+}
 
 module _ (p : Program) (hay : List ℕ) (longest anchored earliest : Bool) (start : ℕ) (old : List (Option ℕ)) where
   -- a search begins at its start
-  pub reached_first : (walked : Record) (pool : Pool) (threads : List Thread) → walked.visits ≡ [] → walked.looks ≡ 0 → threads ≡ [] →
-      HasReached p hay longest anchored earliest start old start true false walked pool threads old
-  reached_first walked pool threads visits looks none = record {
+  pub reached_first : (place : ℕ) (starts is_found : Bool) (walked : Record) (threads : List machine.Thread) → place ≡ start → starts ≡ true → is_found ≡ false → threads ≡ [] →
+      walked.visits ≡ [] → walked.looks ≡ 0 → HasReached p hay longest anchored earliest start old place starts is_found walked threads old
+  reached_first place starts is_found walked threads here on nothing none visits looks = record {
     places = 0;
     now = at_start start;
     searched = refl;
     stands = record {
-      place = refl;
-      threads = sym (ap (λ (ts : List Thread). map (thread_of pool) ts) none);
-      starts = refl;
-      found = refl;
+      place = sym here;
+      threads = sym none;
+      starts = sym on;
+      found = sym nothing;
       slots = refl;
       visits = sym visits;
       looks = sym looks;
     };
+    len = refl;
   }
 
   -- one place more is searched
   pub has_searched : (place here len first : ℕ) (text : List ℕ) (long : Bool) (states : List program.State) (begins : Option ℕ) (starts on is_found found : Bool) (was now : Record) (scratch new : Scratch) (threads later : List Thread) (slots left : List (Option ℕ)) →
-      text ≡ hay → long ≡ longest → here ≡ place → len ≡ (piece hay place).len → length slots ≡ length old → IsProgramOf p states first →
+      text ≡ hay → long ≡ longest → here ≡ place → len ≡ (piece hay place).len → length left ≡ length slots → IsProgramOf p states first →
       begins ≡ cond starts (Some first) None → on ≡ starts_on anchored starts new → found ≡ (is_found || is_some new.first_match) →
-      HasReached p hay longest anchored earliest start old place starts is_found was scratch.rows threads slots → PlaceSearched text long here len states begins was now scratch new threads later slots left →
-      HasSearched p hay longest anchored earliest start old place on found now new.rows later left
+      HasReached p hay longest anchored earliest start old place starts is_found was (map (thread_of scratch.rows) threads) slots → PlaceSearched text long here len states begins was now scratch new threads later slots left →
+      HasSearched p hay longest anchored earliest start old place on found now (map (thread_of new.rows) later) left
   has_searched place here len first text long states begins starts on is_found found was now scratch new threads later slots left texts longs heres lens same is begun ons founds gone one =
       let there : PlaceSearched hay longest place (piece hay place).len states begins was now scratch new threads later slots left =
       subst (λ (b : Bool). PlaceSearched hay b place (piece hay place).len states begins was now scratch new threads later slots left) longs
@@ -130,56 +105,55 @@ module _ (p : Program) (hay : List ℕ) (longest anchored earliest : Bool) (star
         now = next.0;
         searched = gone.searched;
         place_is = gone.stands.place;
-        last = subst (λ n. Searches hay longest p n anchored gone.now next.0) same next.1;
-        stands = subst (λ b. Represents next.0 (place + (piece hay place).len) new.rows later now old left b found) (sym ons)
-            (subst (λ b. Represents next.0 (place + (piece hay place).len) new.rows later now old left (starts_on anchored starts new) b) (sym founds) next.2);
+        last = subst (λ n. Searches hay longest p n anchored gone.now next.0) gone.len next.1;
+        stands = subst (λ b. Represents next.0 (place + (piece hay place).len) (map (thread_of new.rows) later) now old left b found) (sym ons)
+            (subst (λ b. Represents next.0 (place + (piece hay place).len) (map (thread_of new.rows) later) now old left (starts_on anchored starts new) b) (sym founds) next.2);
+        len = same ∙ gone.len;
       }
 
-  empty_by : (pool : Pool) (ts : List Thread) → is_empty (map (thread_of pool) ts) ≡ (length ts == 0)
-  empty_by pool [] = refl
-  empty_by pool (t ∷ ts) = grind arith
+  empty_by : (ts : List machine.Thread) → is_empty ts ≡ (length ts == 0)
+  empty_by [] = refl
+  empty_by (t ∷ ts) = grind arith
 
-  over_by : (place : ℕ) (starts is_found : Bool) (walked : Record) (pool : Pool) (threads : List Thread) (slots : List (Option ℕ)) →
-      (h : HasSearched p hay longest anchored earliest start old place starts is_found walked pool threads slots) →
-      is_over hay longest p (length old) anchored earliest h.before.place h.now ≡ ends_by earliest (piece hay place).len is_found starts (length threads)
-  over_by place starts is_found walked pool threads slots h =
-      ap (λ (i : ℕ). ((piece hay i).len == 0) || ((earliest && is_some h.now.best) || (not h.now.starts && is_empty h.now.threads))) h.place_is
-      ∙ ap₂ (λ (b c : Bool). ((piece hay place).len == 0) || ((earliest && b) || (not c && is_empty h.now.threads))) h.stands.found h.stands.starts
-      ∙ ap (λ (e : Bool). ((piece hay place).len == 0) || ((earliest && is_found) || (not starts && e)))
-      (ap (λ (ts : List machine.Thread). is_empty ts) h.stands.threads ∙ empty_by pool threads)
+  module _ (place len left : ℕ) (starts is_found : Bool) (walked : Record) (threads : List machine.Thread) (slots : List (Option ℕ))
+      (h : HasSearched p hay longest anchored earliest start old place starts is_found walked threads slots) (lens : len ≡ (piece hay place).len) (lefts : left ≡ length threads) where
+    over_by : (over : Bool) → ends_by earliest len is_found starts left ≡ over → is_over hay longest p (length old) anchored earliest h.before.place h.now ≡ over
+    over_by over is =
+        ap (λ (i : ℕ). ((piece hay i).len == 0) || ((earliest && is_some h.now.best) || (not h.now.starts && is_empty h.now.threads))) h.place_is
+        ∙ ap₂ (λ (b c : Bool). ((piece hay place).len == 0) || ((earliest && b) || (not c && is_empty h.now.threads))) h.stands.found h.stands.starts
+        ∙ ap (λ (e : Bool). ((piece hay place).len == 0) || ((earliest && is_found) || (not starts && e)))
+        (ap (λ (ts : List machine.Thread). is_empty ts) h.stands.threads ∙ empty_by threads)
+        ∙ sym (ap₂ (λ n k. ends_by earliest n is_found starts k) lens lefts) ∙ is
 
-  over_as : (place len left : ℕ) (starts is_found over : Bool) (walked : Record) (pool : Pool) (threads : List Thread) (slots : List (Option ℕ)) →
-      (h : HasSearched p hay longest anchored earliest start old place starts is_found walked pool threads slots) → len ≡ (piece hay place).len → left ≡ length threads →
-      ends_by earliest len is_found starts left ≡ over → is_over hay longest p (length old) anchored earliest h.before.place h.now ≡ over
-  over_as place len left starts is_found over walked pool threads slots h lens lefts is =
-      over_by place starts is_found walked pool threads slots h ∙ sym (ap₂ (λ n k. ends_by earliest n is_found starts k) lens lefts) ∙ is
+    -- a search that is not over has gone on to the next place
+    pub reached_next : ends_by earliest len is_found starts left ≡ false → HasReached p hay longest anchored earliest start old (place + len) starts is_found walked threads slots
+    reached_next on = record {
+      places = suc h.places;
+      now = h.now;
+      searched = (h.before, h.searched, h.last, over_by false on);
+      stands = subst (λ n. Represents h.now (place + n) threads walked old slots starts is_found) (sym lens) h.stands;
+      len = h.len;
+    }
 
-  -- a search that is not over has gone on to the next place
-  pub reached_next : (place len left : ℕ) (starts is_found : Bool) (walked : Record) (pool : Pool) (threads : List Thread) (slots : List (Option ℕ)) →
-      HasSearched p hay longest anchored earliest start old place starts is_found walked pool threads slots → len ≡ (piece hay place).len → left ≡ length threads →
-      ends_by earliest len is_found starts left ≡ false → HasReached p hay longest anchored earliest start old (place + len) starts is_found walked pool threads slots
-  reached_next place len left starts is_found walked pool threads slots h lens lefts on = record {
-    places = suc h.places;
-    now = h.now;
-    searched = (h.before, h.searched, h.last, over_as place len left starts is_found false walked pool threads slots h lens lefts on);
-    stands = subst (λ n. Represents h.now (place + n) pool threads walked old slots starts is_found) (sym lens) h.stands;
-  }
+    -- a search that is over was this one
+    pub result_by : ends_by earliest len is_found starts left ≡ true → SearchResult p hay longest anchored earliest start is_found old slots walked
+    result_by over = record {
+      last = h.now;
+      searched = record {
+        places = h.places;
+        before = h.before;
+        searched = h.searched;
+        last = h.last;
+        over = over_by true over;
+      };
+      found = h.stands.found;
+      slots = h.stands.slots;
+      visits = h.stands.visits;
+      looks = h.stands.looks;
+    }
 
-  -- a search that is over was this one
-  pub result_by : (place len left : ℕ) (starts is_found : Bool) (walked : Record) (pool : Pool) (threads : List Thread) (slots : List (Option ℕ)) →
-      HasSearched p hay longest anchored earliest start old place starts is_found walked pool threads slots → len ≡ (piece hay place).len → left ≡ length threads →
-      ends_by earliest len is_found starts left ≡ true → SearchResult p hay longest anchored earliest start is_found old slots walked
-  result_by place len left starts is_found walked pool threads slots h lens lefts over = record {
-    last = h.now;
-    searched = record {
-      places = h.places;
-      before = h.before;
-      searched = h.searched;
-      last = h.last;
-      over = over_as place len left starts is_found true walked pool threads slots h lens lefts over;
-    };
-    found = h.stands.found;
-    slots = h.stands.slots;
-    visits = h.stands.visits;
-    looks = h.stands.looks;
-  }
+-- a search that is not over and has no thread walks the start
+pub starts_still : (earliest : Bool) (len : ℕ) (is_found starts : Bool) (threads : ℕ) → ends_by earliest len is_found starts threads ≡ false → threads ≡ 0 → starts ≡ true
+starts_still earliest len is_found true threads on none = refl
+starts_still earliest len is_found false zero on none = grind (arith, on)
+starts_still earliest len is_found false (suc n) on none = absurd (omega (arith, none))

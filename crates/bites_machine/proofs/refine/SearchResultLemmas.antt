@@ -1,5 +1,5 @@
 -- What a search of the code returns, by what the machine on lists returns.
-use Rattle.std.proofs.Common.{◌≡◌, ℕ, ◌<◌, ◌≤◌, ◌⊎◌, ⊎_elim, Bool, true, false, List, [], length, Option, None, refl, sym, ap₂, subst, arith}
+use Rattle.std.proofs.Common.{◌≡◌, ℕ, ◌<◌, ◌≤◌, ◌⊎◌, ⊎_elim, Bool, true, false, List, length, Option, None, refl, sym, ap₂, subst, arith}
 use Rattle.std.proofs.lemmas.Bool.{cases_lt}
 use Rattle.std.specs.Prelude.{is_some}
 use Rattle.bites_spec.specs.Program.{Program, Configuration, IsWellFormed}
@@ -8,10 +8,9 @@ use Rattle.bites_spec.specs.Counts.{Record, IsBounded, VisitedBy}
 use Rattle.bites_spec.specs.PikeVm.{Searching, Searched}
 use Rattle.bites_machine.specs.Sweep.{left_in, SearchResult}
 use Rattle.bites_machine.specs.Inputs.{starts_of}
-use Rattle.bites_machine.proofs.model.MachineAnswers.{record_of, first_answered, longest_answered, least_answered, search_visited, search_counted, past_first, past_longest, past_least, past_visited, past_counted}
-
-abbrev recorded : List Configuration → ℕ → Record
-recorded visits looks = record { visits = visits; looks = looks }
+use Rattle.bites_machine.specs.Trace.{ReadsVisits}
+use Rattle.bites_spec.specs.Walks.{Among}
+use Rattle.bites_machine.proofs.model.MachineAnswers.{record_of, nothing_done, first_answered, longest_answered, least_answered, search_visited, search_counted, past_first, past_longest, past_least, past_visited, past_counted}
 
 module _ (p : Program) (hay : List ℕ) (well : IsWellFormed p) (anchored : Bool) (start : ℕ) (answer : Bool) (old new : List (Option ℕ)) (walked : Record) (fits : length old ≤ p.slots) where
   abbrev starts : List ℕ
@@ -19,7 +18,7 @@ module _ (p : Program) (hay : List ℕ) (well : IsWellFormed p) (anchored : Bool
 
   -- nothing was found, and nothing was done
   abbrev pub Rests : Type 0
-  Rests = (answer ≡ false) × (new ≡ old) × (walked.visits ≡ []) × (walked.looks ≡ 0)
+  Rests = (answer ≡ false) × (new ≡ old) × (walked ≡ nothing_done)
 
   -- what a search did, if it began within the haystack, and else
   abbrev pub Did : Bool → Bool → Type 0
@@ -27,16 +26,17 @@ module _ (p : Program) (hay : List ℕ) (well : IsWellFormed p) (anchored : Bool
 
   -- what holds of the end of a search, and past the end of the haystack of nothing, holds of what the search did
   of_end : (Q : Bool → List (Option ℕ) → Record → Type 0) (longest earliest : Bool) →
-      ((within : start ≤ length hay) (t : Searching) → Searched hay longest p (length old) anchored earliest start t → Q (is_some t.best) (left_in t.best old) (record_of t)) →
-      (length hay < start → Q false old (recorded [] 0)) → Did longest earliest → Q answer new walked
+      ((within : start ≤ length hay) (t : Searching) → Searched hay longest p (length old) anchored earliest start t → t.visits ≡ walked.visits → Q (is_some t.best) (left_in t.best old) (record_of walked.read t)) →
+      (length hay < start → Q false old nothing_done) → Did longest earliest → Q answer new walked
   of_end Q longest earliest at_end nothing did =
       ⊎_elim
       (λ (past : length hay < start).
       let rests = did.1 past in
-      moved false answer old new (recorded [] 0) walked (sym rests.0) (sym rests.1) (sym (ap₂ recorded rests.2 rests.3)) (nothing past))
+      moved false answer old new nothing_done walked (sym rests.0) (sym rests.1) (sym rests.2) (nothing past))
       (λ (within : start ≤ length hay).
       let s = did.0 within in
-      moved (is_some s.last.best) answer (left_in s.last.best old) new (record_of s.last) walked s.found s.slots (ap₂ recorded s.visits s.looks) (at_end within s.last s.searched))
+      moved (is_some s.last.best) answer (left_in s.last.best old) new (record_of walked.read s.last) walked s.found s.slots
+      (ap₂ (λ (vs : List Configuration) (n : ℕ). record { visits = vs; read = walked.read; looks = n }) s.visits s.looks) (at_end within s.last s.searched s.visits))
       (cases_lt (length hay) start)
     where
       moved : (a b : Bool) (l m : List (Option ℕ)) (v w : Record) → a ≡ b → l ≡ m → v ≡ w → Q a l v → Q b m w
@@ -46,35 +46,36 @@ module _ (p : Program) (hay : List ℕ) (well : IsWellFormed p) (anchored : Bool
   pub did_first : Did false false → Answered p (first_run p hay starts) answer old new
   did_first =
       of_end (λ a l w. Answered p (first_run p hay starts) a old l) false false
-      (λ within t end. first_answered p hay well (length old) fits anchored start within t old refl end)
+      (λ within t end visits. first_answered p hay well (length old) fits anchored start within t old refl end)
       (λ past. subst (λ o. Answered p o false old old) (sym (past_first p hay anchored start past)) (refl, refl))
 
   -- the longest run
   pub did_longest : Did true false → Answered p (longest_run p hay starts) answer old new
   did_longest =
       of_end (λ a l w. Answered p (longest_run p hay starts) a old l) true false
-      (λ within t end. longest_answered p hay well (length old) fits anchored start within t old refl end)
+      (λ within t end visits. longest_answered p hay well (length old) fits anchored start within t old refl end)
       (λ past. subst (λ o. Answered p o false old old) (sym (past_longest p hay anchored start past)) (refl, refl))
 
   -- a run that ends before or with every other
   pub did_least : Did false true → (o : Option Run) × LeastEnd p hay starts o × Answered p o answer old new
   did_least =
       of_end (λ a l w. (o : Option Run) × LeastEnd p hay starts o × Answered p o a old l) false true
-      (λ within t end. least_answered p hay well (length old) fits anchored start within t old refl end)
+      (λ within t end visits. least_answered p hay well (length old) fits anchored start within t old refl end)
       (λ past. (None, past_least p hay anchored start past, (refl, refl)))
 
   -- what was visited
   pub did_visit : (longest earliest : Bool) → Did longest earliest → VisitedBy p hay starts answer walked
   did_visit longest earliest =
       of_end (λ a l w. VisitedBy p hay starts a w) longest earliest
-      (λ within t end. search_visited p hay well (length old) fits anchored start within longest earliest t end)
+      (λ within t end visits. search_visited p hay well (length old) fits anchored start within longest earliest t end walked.read)
       (past_visited p hay anchored start)
 
   -- and within which bounds
-  pub did_bounded : (longest earliest : Bool) → Did longest earliest → IsBounded p hay start walked
-  did_bounded longest earliest =
+  pub did_bounded : (longest earliest : Bool) → ReadsVisits walked → Did longest earliest → IsBounded p hay start walked
+  did_bounded longest earliest reads =
       of_end (λ a l w. IsBounded p hay start w) longest earliest
-      (λ within t end. search_counted p hay well (length old) fits anchored start within longest earliest t end)
+      (λ within t end visits. search_counted p hay well (length old) fits anchored start within longest earliest t end walked.read
+      (λ v h. subst (λ (vs : List Configuration). Among vs v) (sym visits) (reads v h)))
       (past_counted p hay anchored start)
 
 -- a slice that a search may fill

@@ -37,9 +37,9 @@ module _ (hay : List ℕ) (longest : Bool) (place : ℕ) where
   -- a state that was visited here is explored
   pub explores_again : (states : List program.State) (t : Thread) (f : Frame) (was now : Record) (old : Scratch) (m : List Bool) (s : Frames) (slots : List (Option ℕ)) (on : Option Frame) →
       IsReady states place longest was old t (f ∷ old.stack.frames) (length slots) → slice_index_or old.visited_set f.state false ≡ true → m ≡ old.visited_set →
-      option_to_list on ++ s.frames ≡ old.stack.frames → s.room ≡ old.stack.room → now.visits ≡ was.visits → now.looks ≡ was.looks + 1 →
+      option_to_list on ++ s.frames ≡ old.stack.frames → s.room ≡ old.stack.room → now.visits ≡ was.visits → now.read ≡ was.read → now.looks ≡ was.looks + 1 →
       (on ≡ None → s.frames ≡ []) → Explores hay longest place states t f was now old (record { visited_set = m; stack = s; rows = old.rows; next = old.next; first_match = old.first_match }) slots slots on
-  explores_again states t f was now old m s slots on r is_member same frames room visits looks gone = record {
+  explores_again states t f was now old m s slots on r is_member same frames room visits read looks gone = record {
     ready = record {
       visited_set = ap length same ∙ r.visited_set;
       seen = λ q lt. ap (λ (ms : List Bool). slice_index_or ms q false) same ∙ r.seen q lt ∙ ap (λ (vs : List Configuration). list_any (λ x. x == q) (seen_here place vs)) (sym visits);
@@ -65,6 +65,7 @@ module _ (hay : List ℕ) (longest : Bool) (place : ℕ) where
     gone = gone;
     less = omega (arith, ap length frames, ap (edges_left states) same);
     before = ap (visited_before place) visits;
+    read = λ all. read ∙ all ∙ sym visits;
     steps = λ p is others rest used keeps.
         stepped_seen p (frame_of place old.rows t f) (map (frame_of place old.rows t) old.stack.frames ++ rest)
         (walking_of place t old slots (f ∷ old.stack.frames) rest (seen_here place was.visits) was.looks) (sym (r.seen f.state (r.known f (inl refl))) ∙ is_member)
@@ -89,9 +90,9 @@ module _ (hay : List ℕ) (longest : Bool) (place : ℕ) where
       IsReady states place longest was old t (f ∷ old.stack.frames) (length slots) → slice_index_or old.visited_set f.state false ≡ false → m ≡ slice_set old.visited_set f.state true →
       VisitsTo hay longest place (state_at states f.state) t f (record { visited_set = m; stack = old.stack; rows = old.rows; next = old.next; first_match = old.first_match }) mid slots left first →
       option_to_list on ++ s.frames ≡ option_to_list first ++ mid.stack.frames → s.room ≡ mid.stack.room →
-      ((q : ℕ) → Among (targets_of (state_at states f.state)) q → q < length states) → now.visits ≡ at f.state place ∷ was.visits → now.looks ≡ was.looks + 1 →
+      ((q : ℕ) → Among (targets_of (state_at states f.state)) q → q < length states) → now.visits ≡ at f.state place ∷ was.visits → now.read ≡ at f.state place ∷ was.read → now.looks ≡ was.looks + 1 →
       (on ≡ None → s.frames ≡ []) → Explores hay longest place states t f was now old (record { visited_set = mid.visited_set; stack = s; rows = mid.rows; next = mid.next; first_match = mid.first_match }) slots left on
-  explores_new states t f was now old m mid s slots left first on r not_member m_is v frames room targets visits looks gone =
+  explores_new states t f was now old m mid s slots left first on r not_member m_is v frames room targets visits read looks gone =
       let visited_set : mid.visited_set ≡ slice_set old.visited_set f.state true = v.visited_set ∙ m_is in
       let state : f.state < length states = r.known f (inl refl) in
       let within : f.state < length old.visited_set = omega (arith, state, r.visited_set) in
@@ -126,6 +127,7 @@ module _ (hay : List ℕ) (longest : Bool) (place : ℕ) where
         gone = gone;
         less = omega (arith, ap length frames, v.frames, edges);
         before = before;
+        read = λ all. read ∙ ap (λ (vs : List Configuration). at f.state place ∷ vs) all ∙ sym visits;
         steps = λ p is others rest used keeps.
             stepped_new p (frame_of place old.rows t f) (map (frame_of place old.rows t) old.stack.frames ++ rest)
             (walking_of place t old slots (f ∷ old.stack.frames) rest (seen_here place was.visits) was.looks) (sym (r.seen f.state state) ∙ not_member)

@@ -33,7 +33,7 @@ row_at w (suc n) (suc r) cells lt =
     row_at w n r (drop w cells) (omega arith) ∙ ap (take w) (drop-drop (r * w) w cells ∙ ap (λ k. drop k cells) (sym (row_step w r)))
 
 -- one row is written, or appended to all that are there
-row_written : (w n r : ℕ) (cells row : List (Option ℕ)) → r < n → r * w ≤ length cells → length row ≡ w →
+pub row_written : (w n r : ℕ) (cells row : List (Option ℕ)) → r < n → r * w ≤ length cells → length row ≡ w →
     rows_of w n (take (r * w) cells ++ (row ++ drop (r * w + w) cells)) ≡ slice_set (rows_of w n cells) r row
 row_written w zero r cells row lt room len = absurd (omega arith)
 row_written w (suc n) zero cells row lt room len =
@@ -69,6 +69,12 @@ row_written w (suc n) (suc r) cells row lt room len =
       where
         pair : (m k : ℕ) → suc m + k ≡ suc (m + k)
         pair m k = omega arith
+
+-- what is written last stays
+pub set_again : {A : Type 0} (xs : List A) (i : ℕ) (x y : A) → slice_set (slice_set xs i x) i y ≡ slice_set xs i y
+set_again [] i x y = refl
+set_again (z ∷ xs) zero x y = refl
+set_again (z ∷ xs) (suc i) x y = ap (λ l. z ∷ l) (set_again xs i x y)
 
 -- the slots of a row are there
 pub row_fits : (w max_slots n r : ℕ) → r < n → w ≤ max_slots → r * w + w ≤ n * max_slots

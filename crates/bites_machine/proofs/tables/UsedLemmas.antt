@@ -5,7 +5,7 @@ use Rattle.std.proofs.lemmas.List.{length-set, get_or-set_same, get_or-set_other
 use Rattle.std.proofs.lemmas.List.Sums.{sum_by-cons, sum_by-set, get_or-le-sum_by}
 use Rattle.bites_machine.specs.SlotTable.{Pool, with_pending, one_more, one_less}
 use Rattle.bites_machine.proofs.tables.RowLemmas.{length-with_pending}
-use Rattle.bites_machine.specs.Used.{IsUsed, ForksTo, slots_at}
+use Rattle.bites_machine.specs.Used.{IsUsed, ForksTo, KeepsRows, slots_at}
 
 -- the number of users of a row, one user more
 pub users_more : (row user : ℕ) (users : List ℕ) → user ≡ row → count_by (λ u. u == row) (user ∷ users) ≡ count_by (λ u. u == row) users + 1
@@ -91,25 +91,31 @@ shared place row old new known ref_counts rows pending slots_per_row max_slots =
   max_slots = max_slots;
 }
 
--- a thread goes on with a row of its own
-pub copied : (place row pending_len fresh : ℕ) (old new : Pool) → fresh < length old.ref_counts → slice_index old.ref_counts fresh ≡ 0 → fresh ≢ 0 →
-    new.ref_counts ≡ slice_set old.ref_counts fresh 1 → new.rows ≡ slice_set old.rows fresh (with_pending place (take pending_len old.pending) (slots_at old row)) →
-    new.pending ≡ old.pending → new.slots_per_row ≡ old.slots_per_row → length old.rows ≡ length old.ref_counts → new.max_slots ≡ old.max_slots → ForksTo place row pending_len fresh old new
-copied place row pending_len fresh old new known none other ref_counts rows pending slots_per_row even max_slots = record {
+-- a row without users gets one, and new contents
+pub record Places (fresh : ℕ) (row : List (Option ℕ)) (old new : Pool) : Type 0 where
+  pub users : (users : List ℕ) → IsUsed old users → IsUsed new (fresh ∷ users)
+  pub slots : slots_at new fresh ≡ row
+  pub kept : KeepsRows old new
+  pub sum : sum new.ref_counts ≤ sum old.ref_counts + 1
+  pub rows : length new.ref_counts ≡ length old.ref_counts
+
+pub placed : (fresh : ℕ) (row : List (Option ℕ)) (old new : Pool) → fresh < length old.ref_counts → slice_index old.ref_counts fresh ≡ 0 → fresh ≢ 0 →
+    new.ref_counts ≡ slice_set old.ref_counts fresh 1 → new.rows ≡ slice_set old.rows fresh row → new.slots_per_row ≡ old.slots_per_row →
+    length old.rows ≡ length old.ref_counts → length row ≡ old.slots_per_row → Places fresh row old new
+placed fresh row old new known none other ref_counts rows slots_per_row even wide = record {
   users = λ users used. record {
     ref_counts = λ r apart. ap (λ (c : List ℕ). slice_index c r) ref_counts
         ∙ ⊎_elim
         (λ (e : fresh ≡ r). ap (slice_index (slice_set old.ref_counts fresh 1)) (sym e) ∙ get_or-set_same old.ref_counts fresh 1 0 known
-        ∙ ap (λ k. k + 1) (sym none ∙ ap (slice_index old.ref_counts) e ∙ used.ref_counts r apart) ∙ sym (users_more r fresh (row ∷ users) e))
-        (λ (d : fresh ≢ r). get_or-set_other old.ref_counts fresh r 1 0 (λ e. d (sym e)) ∙ used.ref_counts r apart ∙ sym (users_same r fresh (row ∷ users) d))
+        ∙ ap (λ k. k + 1) (sym none ∙ ap (slice_index old.ref_counts) e ∙ used.ref_counts r apart) ∙ sym (users_more r fresh users e))
+        (λ (d : fresh ≢ r). get_or-set_other old.ref_counts fresh r 1 0 (λ e. d (sym e)) ∙ used.ref_counts r apart ∙ sym (users_same r fresh users d))
         (same_or_not fresh r);
     known = λ r h. subst (λ n. r < n) (sym (ap length ref_counts ∙ length-set old.ref_counts fresh 1))
         (⊎_elim (λ (e : fresh ≡ r). subst (λ k. k < length old.ref_counts) e known) (λ l. used.known r l) h);
-    rows = ap length rows ∙ length-set old.rows fresh (with_pending place (take pending_len old.pending) (slots_at old row)) ∙ used.rows ∙ sym (ap length ref_counts ∙ length-set old.ref_counts fresh 1);
+    rows = ap length rows ∙ length-set old.rows fresh row ∙ used.rows ∙ sym (ap length ref_counts ∙ length-set old.ref_counts fresh 1);
     nothing = written 0 (λ e. other (sym e)) ∙ used.nothing ∙ ap (λ w. replicate w None) (sym slots_per_row);
     wide = λ r h. ⊎_elim
-        (λ (e : r ≡ fresh). ap (λ k. length (slots_at new k)) e ∙ ap length own
-        ∙ length-with_pending place (take pending_len old.pending) (slots_at old row) ∙ used.wide row (inl refl) ∙ sym slots_per_row)
+        (λ (e : r ≡ fresh). ap (λ k. length (slots_at new k)) e ∙ ap length own ∙ wide ∙ sym slots_per_row)
         (λ (d : r ≢ fresh). ap length (written r d) ∙ used.wide r (⊎_elim (λ (e : fresh ≡ r). absurd (d (sym e))) (λ l. l) h) ∙ sym slots_per_row)
         (same_or_not r fresh);
   };
@@ -117,23 +123,35 @@ copied place row pending_len fresh old new known none other ref_counts rows pend
   kept = λ r h. written r (λ e. not_fresh r h e);
   sum = subst (λ (c : List ℕ). sum c ≤ sum old.ref_counts + 1) (sym ref_counts) (omega (arith, sum_by-set (λ n. n) old.ref_counts fresh 1 0 known));
   rows = ap length ref_counts ∙ length-set old.ref_counts fresh 1;
-  pending = pending;
-  slots_per_row = slots_per_row;
-  max_slots = max_slots;
 }
   where
-    own : slots_at new fresh ≡ with_pending place (take pending_len old.pending) (slots_at old row)
-    own =
-        ap (λ (rs : List (List (Option ℕ))). slice_index_or rs fresh []) rows
-        ∙ get_or-set_same old.rows fresh (with_pending place (take pending_len old.pending) (slots_at old row)) [] (omega (arith, known, even))
+    own : slots_at new fresh ≡ row
+    own = ap (λ (rs : List (List (Option ℕ))). slice_index_or rs fresh []) rows ∙ get_or-set_same old.rows fresh row [] (omega (arith, known, even))
 
     written : (r : ℕ) → r ≢ fresh → slots_at new r ≡ slots_at old r
-    written r apart =
-        ap (λ (rs : List (List (Option ℕ))). slice_index_or rs r []) rows
-        ∙ get_or-set_other old.rows fresh r (with_pending place (take pending_len old.pending) (slots_at old row)) [] apart
+    written r apart = ap (λ (rs : List (List (Option ℕ))). slice_index_or rs r []) rows ∙ get_or-set_other old.rows fresh r row [] apart
 
     not_fresh : (r : ℕ) → (r ≡ 0) ⊎ (0 < slice_index old.ref_counts r) → r ≡ fresh → ⊥
     not_fresh r h e = ⊎_elim (λ (z : r ≡ 0). other (sym e ∙ z)) (λ (p : 0 < slice_index old.ref_counts r). absurd (omega (arith, p, ap (slice_index old.ref_counts) e, none))) h
+
+-- a thread goes on with a row of its own
+pub copied : (place row pending_len fresh : ℕ) (old new : Pool) → fresh < length old.ref_counts → slice_index old.ref_counts fresh ≡ 0 → fresh ≢ 0 →
+    new.ref_counts ≡ slice_set old.ref_counts fresh 1 → new.rows ≡ slice_set old.rows fresh (with_pending place (take pending_len old.pending) (slots_at old row)) →
+    new.pending ≡ old.pending → new.slots_per_row ≡ old.slots_per_row → length old.rows ≡ length old.ref_counts → new.max_slots ≡ old.max_slots →
+    length (slots_at old row) ≡ old.slots_per_row → ForksTo place row pending_len fresh old new
+copied place row pending_len fresh old new known none other ref_counts rows pending slots_per_row even max_slots wide =
+    let by = placed fresh (with_pending place (take pending_len old.pending) (slots_at old row)) old new known none other ref_counts rows slots_per_row even
+    (length-with_pending place (take pending_len old.pending) (slots_at old row) ∙ wide) in
+    record {
+      users = λ users used. by.users (row ∷ users) used;
+      slots = by.slots;
+      kept = by.kept;
+      sum = by.sum;
+      rows = by.rows;
+      pending = pending;
+      slots_per_row = slots_per_row;
+      max_slots = max_slots;
+    }
 
 -- the counts of users when one goes
 counts_less : (ref_counts : List ℕ) (row : ℕ) (users : List ℕ) → row < length ref_counts →

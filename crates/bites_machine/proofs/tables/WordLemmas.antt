@@ -3,7 +3,7 @@ use Rattle.std.proofs.Common.{◌≡◌, ℕ, zero, suc, ◌+◌, ◌-◌, ◌*�
 use Rattle.std.specs.Prelude.{slice_set, slice_index_or}
 use Rattle.std.proofs.lemmas.List.{length-map, length-set, length-replicate, map-append, map-set, take-map, drop-map, take_all}
 use Rattle.bites_machine.specs.SlotTable.{no_slot, slot_of, rows_of, with_pending, with_words}
-use Rattle.bites_machine.proofs.tables.RowLemmas.{row_copied, row_pushed}
+use Rattle.bites_machine.proofs.tables.RowLemmas.{row_copied, row_fits, row_pushed, row_written}
 
 -- a word below the greatest is an offset
 pub slot_of_place : (place : ℕ) → place < no_slot → slot_of place ≡ Some place
@@ -39,6 +39,19 @@ written_slots place lt [] words = refl
 written_slots place lt (k ∷ ks) words =
     written_slots place lt ks (slice_set words k place)
     ∙ ap (with_pending place ks) (map-set slot_of words k place ∙ ap (λ s. slice_set (map slot_of words) k s) (slot_of_place place lt))
+
+-- a row that was taken is written anew
+pub words_written : (w row_count taken row : ℕ) (words cells : List ℕ) → length words ≡ w → row < taken → taken ≤ row_count → length cells ≡ taken * w →
+    rows_of w row_count (map slot_of (take (row * w) cells ++ (words ++ drop (row * w + length words) cells)))
+    ≡ slice_set (rows_of w row_count (map slot_of cells)) row (map slot_of words)
+words_written w row_count taken row words cells wide known few len =
+    ap (rows_of w row_count)
+    (map-append slot_of (take (row * w) cells) (words ++ drop (row * w + length words) cells)
+    ∙ ap₂ ◌++◌ (sym (take-map slot_of (row * w) cells))
+    (map-append slot_of words (drop (row * w + length words) cells)
+    ∙ ap (λ (l : List (Option ℕ)). map slot_of words ++ l) (sym (drop-map slot_of (row * w + length words) cells) ∙ ap (λ (n : ℕ). drop (row * w + n) (map slot_of cells)) wide)))
+    ∙ row_written w row_count row (map slot_of cells) (map slot_of words) (omega (arith, known, few))
+    (omega (arith, row_fits w w taken row known (omega arith), length-map cells slot_of, len)) (length-map words slot_of ∙ wide)
 
 module _ (w row_count taken row place : ℕ) (ks cells : List ℕ) (lt : place < no_slot) (known : row < taken) (len : length cells ≡ taken * w) where
   slots : List (Option ℕ)

@@ -1,15 +1,20 @@
 //! The working memory of searches, allocated once.
 
-ghost use Rattle.std.specs.Prelude.{◌≡◌, ◌<◌, ◌≤◌, ◌↔◌, [], IfOk, IsTrue, None, length, replicate, false};
+ghost use Rattle.std.specs.Prelude.{◌≡◌, ◌≤◌, ◌↔◌, ◌⊎◌, ℕ, suc, List, [], IfOk, IsTrue, Option, None, length, map, false};
 ghost use Rattle.bites_spec.specs.Program as program;
-ghost use Rattle.bites_spec.specs.Counts.{fit_of};
+ghost use Rattle.bites_spec.specs.Counts.{fit_of, fit_with, HasRoomFor, IsBounded, VisitedBy};
+ghost use Rattle.bites_spec.specs.Run.{Run, Answered, LeastEnd, first_run, longest_run};
 ghost use Rattle.bites_machine.specs.States.{states_of};
-ghost use Rattle.bites_machine.specs.Sweep.{HasRoom, IsIdle, IsProgramOf, SearchResult, frames_for, rows_for};
-ghost use Rattle.bites_machine.specs.Inputs.{is_longest, is_earliest};
-ghost use Rattle.bites_machine.specs.Used.{slots_at};
+ghost use Rattle.bites_machine.specs.Explore.{ReadsAll};
+ghost use Rattle.bites_machine.specs.Trace.{ReadsVisits};
+ghost use Rattle.bites_machine.specs.Sweep.{IsProgramOf, HasReached, SearchResult, frames_for, rows_for};
+ghost use Rattle.bites_machine.specs.Resume.{HaveRows, thread_in, StopsAt};
+ghost use Rattle.bites_machine.specs.Inputs.{is_longest, is_earliest, starts_of};
+ghost use Rattle.bites_machine.specs.declared.vm.MatchKind.TheVariants.{First, Earliest, Longest};
 
 use super::closure::Scratch;
-use super::counted::{Counted, Trace};
+use super::counted::{Counted, Searches, Trace};
+use super::resume::{self, Resumed, Stopped};
 use super::slot_table::SlotTable;
 use super::stack::Stack;
 use super::state_set::StateSet;
@@ -29,6 +34,7 @@ pub struct Cache {
     scratch: Scratch,
     threads: Threads,
     walked: Trace,
+    searches: Searches,
 }
 
 impl Model for Cache {
@@ -40,6 +46,7 @@ impl Model for Cache {
     ghost view = { λ a. record {
       fits = record { states = a.states; slots = a.slots; targets = a.targets };
       walked = a.walked;
+      searches = a.searches;
     } };
 
     ghost invariant = { λ a.
@@ -55,9 +62,15 @@ impl Cache {
     pub fn new(program: &Program) -> Result<Cache, AllocError>
         ensures { IfOk result (λ cache. cache.fits ≡ fit_of program.now.program) }
     {
+        Cache::for_slots(program, program.slots())
+    }
+
+    /// Allocates a cache for searches of the program that ask for at most so many slots. The error is out of memory.
+    pub fn for_slots(program: &Program, slots: usize) -> Result<Cache, AllocError>
+        ensures { IfOk result (λ cache. cache.fits ≡ fit_with program.now.program slots) }
+    {
         let alloc = program.alloc();
         let states = program.len();
-        let slots = program.slots();
         let targets = program.targets();
         let frames = targets.checked_add(1).ok_or(AllocError)?;
         let threads = states.checked_mul(2).ok_or(AllocError)?;
@@ -77,6 +90,7 @@ impl Cache {
             scratch,
             threads: Threads::new(alloc, states)?,
             walked: Trace::new(),
+            searches: Searches::none(),
         })
     }
 
@@ -105,42 +119,120 @@ impl Cache {
             && self.targets == program.targets()
     }
 
-    // Searches as the input asks, in a program of the states in `counted` that starts in the state `first`. A start past
-    // the end of the haystack finds nothing.
-    pub(super) fn search(
+    /// Begins a search of the program: returns its states with an empty record. Counts the search.
+    pub fn begin<'p>(&mut self, program: &'p Program) -> Counted<'p>
+        ensures states { states_of result.states.now ≡ program.now.program.states }
+        ensures visits { result.walked.visits ≡ [] }
+        ensures read { result.walked.read ≡ [] }
+        ensures looks { result.walked.looks ≡ 0 }
+        ensures searches { self.new.searches ≡ suc self.old.searches }
+        ensures fits { self.new.fits ≡ self.old.fits }
+    {
+        self.searches.add();
+        Counted::new(program.states())
+    }
+
+    /// Searches on as the input asks, from a place where another kind of search stopped, with the threads that it left.
+    /// Returns how it stopped, and writes the slots of a match that it found. It may be resumed again. The program starts
+    /// in the state `first`.
+    ///
+    /// Allocates nothing.
+    pub fn resume(
         &mut self,
-        mut counted: Counted<'_>,
+        counted: &mut Counted<'_>,
         first: u32,
+        input: &Input<'_>,
+        from: &Resumed<'_>,
+        slots: &mut [Option<usize>],
+    ) -> Stopped
+        requires start { input.now.start ≤ length input.now.haystack.now }
+        requires registers { HaveRows from.now.registers.now (length slots.old) from.now.threads.now }
+        requires reached { (p : program.Program)
+            × IsProgramOf p (states_of counted.old.states.now) first
+            × HasRoomFor self.old.fits p (length slots.old) × (length slots.old ≤ p.slots)
+            × (before : List (Option ℕ)) × HasReached p input.now.haystack.now
+            (is_longest input.now.kind) input.now.anchored (is_earliest input.now.kind) input.now.start before
+            from.now.place from.now.starts from.now.is_found counted.old.walked
+            (map (thread_in from.now.registers.now (length slots.old)) from.now.threads.now) slots.old }
+        ensures stopped { (p : program.Program) →
+            IsProgramOf p (states_of counted.old.states.now) first →
+            (before : List (Option ℕ)) → HasReached p input.now.haystack.now
+            (is_longest input.now.kind) input.now.anchored (is_earliest input.now.kind) input.now.start before
+            from.now.place from.now.starts from.now.is_found counted.old.walked
+            (map (thread_in from.now.registers.now (length slots.old)) from.now.threads.now) slots.old →
+            StopsAt p input.now.haystack.now (is_longest input.now.kind) input.now.anchored
+            (is_earliest input.now.kind) input.now.start before result.is_found result.idle slots.new
+            counted.new.walked }
+        ensures whole { from.now.until_idle ≡ false → result.idle ≡ None }
+        ensures states { counted.new.states ≡ counted.old.states }
+        ensures read { ReadsAll counted.old.walked counted.new.walked }
+        ensures len { length slots.new ≡ length slots.old }
+        ensures fits { self.new.fits ≡ self.old.fits }
+        ensures searches { self.new.searches ≡ self.old.searches }
+    {
+        let (scratch, threads) = (&mut self.scratch, &mut self.threads);
+        scratch.rows.setup_search(slots.len());
+        resume::load(&mut scratch.rows, threads, from, slots.len());
+        pikevm::search(counted, scratch, threads, first, input, from, slots)
+    }
+
+    /// Ends a search: its record is the one of the last search.
+    pub fn finish(&mut self, counted: Counted<'_>)
+        ensures walked { self.new.walked ≡ counted.entry.walked }
+        ensures read { ReadsVisits self.new.walked }
+        ensures fits { self.new.fits ≡ self.old.fits }
+        ensures searches { self.new.searches ≡ self.old.searches }
+    {
+        self.walked = counted.into_trace();
+    }
+
+    /// Finds the match that the input asks for, as `search_input` does. The cache may have been made for fewer slots than
+    /// the program has, if it was made for as many as the slice has.
+    pub fn search(
+        &mut self,
+        program: &Program,
         input: &Input<'_>,
         slots: &mut [Option<usize>],
     ) -> bool
-        requires visits { counted.walked.visits ≡ [] }
-        requires looks { counted.walked.looks ≡ 0 }
-        requires fits { (p : program.Program)
-            × IsProgramOf p (states_of counted.states.now) first
-            × (self.old.fits ≡ fit_of p) }
-        requires slots_per_row { length slots.old ≤ self.old.fits.slots }
-        ensures search_result { input.now.start ≤ length input.now.haystack.now →
-            (p : program.Program) →
-            IsProgramOf p (states_of counted.entry.states.now) first →
-            self.old.fits ≡ fit_of p →
-            SearchResult p input.now.haystack.now (is_longest input.now.kind) input.now.anchored
-            (is_earliest input.now.kind) input.now.start result slots.old slots.new
-            self.new.walked }
-        ensures past { length input.now.haystack.now < input.now.start →
-            (result ≡ false) × (slots.new ≡ slots.old)
-            × (self.new.walked.visits ≡ []) × (self.new.walked.looks ≡ 0) }
+        requires fits { HasRoomFor self.old.fits program.now.program (length slots.old) }
+        requires slots { (length slots.old ≡ 0) ⊎ (length slots.old ≡ 2)
+            ⊎ (length slots.old ≡ program.now.program.slots) }
+        ensures first { input.now.kind ≡ First → Answered program.now.program
+            (first_run program.now.program input.now.haystack.now
+            (starts_of input.now.haystack.now input.now.anchored input.now.start))
+            result slots.old slots.new }
+        ensures least { input.now.kind ≡ Earliest → (o : Option Run)
+            × LeastEnd program.now.program input.now.haystack.now
+            (starts_of input.now.haystack.now input.now.anchored input.now.start) o
+            × Answered program.now.program o result slots.old slots.new }
+        ensures longest { input.now.kind ≡ Longest → Answered program.now.program
+            (longest_run program.now.program input.now.haystack.now
+            (starts_of input.now.haystack.now input.now.anchored input.now.start))
+            result slots.old slots.new }
         ensures fits { self.new.fits ≡ self.old.fits }
+        ensures bounded { IsBounded program.now.program input.now.haystack.now input.now.start
+            self.new.walked }
+        ensures visited { VisitedBy program.now.program input.now.haystack.now
+            (starts_of input.now.haystack.now input.now.anchored input.now.start)
+            result self.new.walked }
+        ensures read { self.new.walked.read ≡ self.new.walked.visits }
+        ensures searches { self.new.searches ≡ suc self.old.searches }
+        ensures searched { input.now.start ≤ length input.now.haystack.now →
+            SearchResult program.now.program input.now.haystack.now (is_longest input.now.kind)
+            input.now.anchored (is_earliest input.now.kind) input.now.start result slots.old slots.new
+            self.new.walked }
     {
-        let found = if input.start <= input.haystack.len() {
-            self.scratch.rows.setup_search(slots.len());
-            let (scratch, threads) = (&mut self.scratch, &mut self.threads);
-            pikevm::search(&mut counted, scratch, threads, first, input, slots)
+        let mut counted = self.begin(program);
+        let first = program.start();
+        let is_found = if input.start <= input.haystack.len() {
+            let from = Resumed::at_start(input.start);
+            self.resume(&mut counted, first, input, &from, slots)
+                .is_found
         } else {
             false
         };
-        self.walked = counted.into_trace();
-        found
+        self.finish(counted);
+        is_found
     }
 }
 

@@ -73,6 +73,8 @@ fn follow(
     requires starts { IsStarted here.now.longest thread.start scratch.old.first_match }
     ensures visits { counted.new.walked.visits
         ≡ at frame.state here.now.place ∷ counted.old.walked.visits }
+    ensures read { counted.new.walked.read
+        ≡ at frame.state here.now.place ∷ counted.old.walked.read }
     ensures looks { counted.new.walked.looks ≡ counted.old.walked.looks }
     ensures states { counted.new.states ≡ counted.old.states }
     ensures moves { VisitsTo here.now.haystack.now here.now.longest here.now.place

@@ -1,10 +1,14 @@
 //! The states of a program as a search reads them: at most once at each place, and each visit is recorded.
 
-ghost use Rattle.std.specs.Prelude.{◌≡◌, ◌<◌, ◌+◌, [], ◌∷◌, length};
-ghost use Rattle.bites_spec.specs.Walks.{IsNew};
+ghost use Rattle.std.specs.Prelude.{◌≡◌, ◌<◌, ◌+◌, suc, [], ◌∷◌, length, reverse};
+ghost use Rattle.bites_spec.specs.Utf8.{places};
+ghost use Rattle.bites_spec.specs.Walks.{IsNew, AllApart};
 ghost use Rattle.bites_spec.specs.Program.{state_at, at};
 ghost use Rattle.bites_machine.specs.States.{state_of, states_of};
+ghost use Rattle.bites_machine.specs.Trace.{after_place, after_each, ReadsVisits};
+ghost use Rattle.std.specs.List.{range_with_len};
 
+use super::bytes::Bytes;
 use crate::state::State;
 use std::marker::Model;
 use std::mem;
@@ -22,9 +26,25 @@ enum History {
     Step {
         earlier: Snapshot<History>,
     },
+    // Places one byte each, at each of which a transition visited the same states.
+    Transitions {
+        earlier: Snapshot<History>,
+        seen: Snapshot<Snapshot<Vec<u32>>>,
+        looks: Snapshot<Snapshot<usize>>,
+        place: usize,
+        count: usize,
+    },
+    // All places from one on, at each of which a transition visited the same states.
+    Rest {
+        earlier: Snapshot<History>,
+        seen: Snapshot<Snapshot<Vec<u32>>>,
+        looks: Snapshot<Snapshot<usize>>,
+        haystack: Bytes,
+        place: usize,
+    },
 }
 
-/// The visits and the number of steps of a search. No visit stands there twice.
+/// The visits and the number of steps of a search. No visit stands there twice, and what was read was visited.
 ///
 /// For proofs: contracts alone see it. Its size is 0.
 #[derive(Drop)]
@@ -42,8 +62,9 @@ impl Model for Trace {
     ghost view = { λ a. record_of a.history.value };
 
     ghost use Rattle.bites_spec.specs.Walks.{AllApart};
+    ghost use Rattle.bites_machine.specs.Trace.{ReadsVisits};
 
-    ghost invariant = { λ a. AllApart (record_of a.history.value).visits };
+    ghost invariant = { λ a. AllApart (record_of a.history.value).visits × ReadsVisits (record_of a.history.value) };
 }
 
 const _: () = prove!(size_of::<Trace>() == 0);
@@ -52,6 +73,7 @@ impl Trace {
     /// Returns an empty record.
     pub(super) fn new() -> Trace
         ensures visits { result.visits ≡ [] }
+        ensures read { result.read ≡ [] }
         ensures looks { result.looks ≡ 0 }
     {
         Trace {
@@ -59,10 +81,20 @@ impl Trace {
         }
     }
 
-    // Records a visit that was not made before.
+    // Does nothing.
+    //
+    // For proofs: what was read was visited.
+    fn reads_visits(&self)
+        ensures { ReadsVisits self.now }
+    {
+        let _ = &self.history;
+    }
+
+    // Records that a state was read, which was not visited before.
     fn visit(&mut self, state: u32, place: usize)
         requires { IsNew (at state place) self.old.visits }
         ensures visits { self.new.visits ≡ at state place ∷ self.old.visits }
+        ensures read { self.new.read ≡ at state place ∷ self.old.read }
         ensures looks { self.new.looks ≡ self.old.looks }
     {
         let earlier = mem::replace(&mut self.history, Snapshot::of(&History::Nothing));
@@ -77,17 +109,113 @@ impl Trace {
     // Records a step.
     fn step(&mut self)
         ensures visits { self.new.visits ≡ self.old.visits }
+        ensures read { self.new.read ≡ self.old.read }
         ensures looks { self.new.looks ≡ self.old.looks + 1 }
     {
         let earlier = mem::replace(&mut self.history, Snapshot::of(&History::Nothing));
         let step = History::Step { earlier };
         self.history = Snapshot::of(&step);
     }
+
+    // Records the visits and looks of a transition at `count` places one byte each.
+    fn record_transitions(
+        &mut self,
+        seen: &Snapshot<Vec<u32>>,
+        looks: &Snapshot<usize>,
+        place: usize,
+        count: usize,
+    )
+        requires { AllApart (after_each (reverse seen.now.value.items) looks.now.value
+            (range_with_len place count) self.old).visits }
+        ensures { self.new ≡ after_each (reverse seen.now.value.items) looks.now.value
+            (range_with_len place count) self.old }
+    {
+        let earlier = mem::replace(&mut self.history, Snapshot::of(&History::Nothing));
+        let transitions = History::Transitions {
+            earlier,
+            seen: Snapshot::of(seen),
+            looks: Snapshot::of(looks),
+            place,
+            count,
+        };
+        self.history = Snapshot::of(&transitions);
+    }
+
+    // Records the visits and looks of a transition at all places from one on.
+    fn record_rest(
+        &mut self,
+        seen: &Snapshot<Vec<u32>>,
+        looks: &Snapshot<usize>,
+        haystack: &[u8],
+        place: usize,
+    )
+        requires { AllApart (after_each (reverse seen.now.value.items) looks.now.value
+            (places haystack.now place) self.old).visits }
+        ensures { self.new ≡ after_each (reverse seen.now.value.items) looks.now.value
+            (places haystack.now place) self.old }
+    {
+        let earlier = mem::replace(&mut self.history, Snapshot::of(&History::Nothing));
+        let rest = History::Rest {
+            earlier,
+            seen: Snapshot::of(seen),
+            looks: Snapshot::of(looks),
+            haystack: Bytes::of(haystack),
+            place,
+        };
+        self.history = Snapshot::of(&rest);
+    }
 }
 
-/// The states of a program during one search, with the record of what was read of them.
+/// How many searches a cache has begun, for proofs.
+#[derive(Drop)]
+enum Begun {
+    Nothing,
+    Search { earlier: Snapshot<Begun> },
+}
+
+/// The number of searches of a cache.
+///
+/// For proofs: contracts alone see it. Its size is 0.
+#[derive(Drop)]
+pub struct Searches {
+    begun: Snapshot<Begun>,
+}
+
+impl Model for Searches {
+    ghost use Rattle.std.specs.Prelude.{ℕ};
+    ghost use Rattle.bites_machine.specs.Trace.{count_of};
+
+    ghost Value = { ℕ };
+
+    ghost view = { λ a. count_of a.begun.value };
+}
+
+const _: () = prove!(size_of::<Searches>() == 0);
+
+impl Searches {
+    /// Returns the number of no searches.
+    pub(super) fn none() -> Searches
+        ensures { result ≡ 0 }
+    {
+        Searches {
+            begun: Snapshot::of(&Begun::Nothing),
+        }
+    }
+
+    /// Counts a search.
+    pub(super) fn add(&mut self)
+        ensures { self.new ≡ suc self.old }
+    {
+        let earlier = mem::replace(&mut self.begun, Snapshot::of(&Begun::Nothing));
+        let search = Begun::Search { earlier };
+        self.begun = Snapshot::of(&search);
+    }
+}
+
+/// The states of a program during one search, with the record of what was visited.
 ///
 /// A search reads the states through it alone. It lends a state until the next call, and at most once at each place.
+/// `Cache::begin` makes it. A search by a table records here what its transitions visit; for this alone it is public.
 #[derive(Drop)]
 pub struct Counted<'p> {
     states: &'p [State],
@@ -102,6 +230,7 @@ impl<'p> Counted<'p> {
     pub(super) fn new(states: &'p [State]) -> Counted<'p>
         ensures states { result.states ≡ states.entry }
         ensures visits { result.walked.visits ≡ [] }
+        ensures read { result.walked.read ≡ [] }
         ensures looks { result.walked.looks ≡ 0 }
     {
         Counted {
@@ -114,6 +243,7 @@ impl<'p> Counted<'p> {
     pub(super) fn step(&mut self)
         ensures states { self.new.states ≡ self.old.states }
         ensures visits { self.new.walked.visits ≡ self.old.walked.visits }
+        ensures read { self.new.walked.read ≡ self.old.walked.read }
         ensures looks { self.new.walked.looks ≡ self.old.walked.looks + 1 }
     {
         self.walked.step();
@@ -130,11 +260,72 @@ impl<'p> Counted<'p> {
         &self.states[state as usize]
     }
 
+    /// Records that a transition, whose walk visited these states and took so many looks, was made at a place.
+    ///
+    /// Costs nothing at run time.
+    #[inline(always)]
+    pub fn record_transition(
+        &mut self,
+        seen: &Snapshot<Vec<u32>>,
+        looks: &Snapshot<usize>,
+        place: usize,
+    )
+        requires fresh { AllApart
+            (after_place (reverse seen.now.value.items) looks.now.value place self.old.walked).visits }
+        ensures walked { self.new.walked
+            ≡ after_place (reverse seen.now.value.items) looks.now.value place self.old.walked }
+        ensures states { self.new.states ≡ self.old.states }
+    {
+        self.walked.record_transitions(seen, looks, place, 1);
+    }
+
+    /// Records the same for each of `count` places one byte each, from `place` on.
+    #[inline(always)]
+    pub fn record_transitions(
+        &mut self,
+        seen: &Snapshot<Vec<u32>>,
+        looks: &Snapshot<usize>,
+        place: usize,
+        count: usize,
+    )
+        requires fresh { AllApart
+            (after_each (reverse seen.now.value.items) looks.now.value (range_with_len place count)
+            self.old.walked).visits }
+        ensures walked { self.new.walked
+            ≡ after_each (reverse seen.now.value.items) looks.now.value (range_with_len place count)
+            self.old.walked }
+        ensures states { self.new.states ≡ self.old.states }
+    {
+        self.walked.record_transitions(seen, looks, place, count);
+    }
+
+    /// Records the same for all places of the haystack from `place` on, with its end.
+    #[inline(always)]
+    pub fn record_rest(
+        &mut self,
+        seen: &Snapshot<Vec<u32>>,
+        looks: &Snapshot<usize>,
+        haystack: &[u8],
+        place: usize,
+    )
+        requires fresh { AllApart
+            (after_each (reverse seen.now.value.items) looks.now.value (places haystack.now place)
+            self.old.walked).visits }
+        ensures walked { self.new.walked
+            ≡ after_each (reverse seen.now.value.items) looks.now.value (places haystack.now place)
+            self.old.walked }
+        ensures states { self.new.states ≡ self.old.states }
+    {
+        self.walked.record_rest(seen, looks, haystack, place);
+    }
+
     /// Returns the record.
     pub(super) fn into_trace(self) -> Trace
-        ensures { result ≡ self.entry.walked }
+        ensures walked { result ≡ self.entry.walked }
+        ensures read { ReadsVisits result }
     {
         let Counted { states: _, walked } = self;
+        walked.reads_visits();
         walked
     }
 }

@@ -1,25 +1,26 @@
 //! One step at each place, with its threads in order of preference.
 
-ghost use Rattle.std.specs.Prelude.{◌≡◌, ◌≢◌, ℕ, ◌+◌, ◌++◌, ◌∷◌, ◌<◌, ◌≤◌, ◌==◌, ◌||◌, ◌&&◌, if◌then◌else◌, List, [], IfSome, drop, length, None, Some, false, is_some, map, not, replicate, slice_index, sum};
+ghost use Rattle.std.specs.Prelude.{◌≡◌, ◌≢◌, ℕ, ◌+◌, ◌++◌, ◌∷◌, ◌<◌, ◌≤◌, ◌==◌, ◌||◌, ◌&&◌, if◌then◌else◌, List, [], IfSome, Option, drop, length, None, Some, false, is_some, map, not, replicate, slice_index, sum};
 ghost use Rattle.bites_spec.specs.Utf8.{piece};
 ghost use Rattle.bites_spec.specs.Walks.{Among};
 ghost use Rattle.bites_spec.specs.Program as program;
 ghost use Rattle.bites_spec.specs.Program.{IsWellFormed};
-ghost use Rattle.bites_spec.specs.Counts.{Record, fit_of};
 ghost use Rattle.bites_machine.specs.Ends.{next_character};
 ghost use Rattle.bites_machine.specs.States.{states_of};
-ghost use Rattle.bites_machine.specs.Used.{IsUsed, slots_at};
-ghost use Rattle.bites_machine.specs.Scratch.{users_of, row_of};
+ghost use Rattle.bites_machine.specs.Used.{IsUsed};
+ghost use Rattle.bites_machine.specs.Scratch.{users_of, row_of, thread_of};
 ghost use Rattle.bites_machine.specs.declared.vm.threads.Thread as thread;
-ghost use Rattle.bites_machine.specs.Explore.{AreSound};
+ghost use Rattle.bites_machine.specs.Explore.{AreSound, ReadsAll};
 ghost use Rattle.bites_machine.specs.Cuts.{cuts};
 ghost use Rattle.bites_machine.specs.Inputs.{is_longest, is_earliest};
-ghost use Rattle.bites_machine.specs.Sweep.{InvariantWithinStep, ClosesThread, ClosesThreads, ClosesAll, InvariantBetweenSteps, PlaceSearched, IsOfProgram, HasRoom, IsIdle, IsProgramOf, SearchResult};
+ghost use Rattle.bites_machine.specs.Sweep.{InvariantWithinStep, ClosesThread, ClosesThreads, ClosesAll, InvariantBetweenSteps, PlaceSearched, IsOfProgram, HasRoom, IsIdle, IsProgramOf, HasReached, fit_in};
+ghost use Rattle.bites_machine.specs.Resume.{StopsAt};
 
 use super::Input;
 use super::closure::{FirstMatch, Scratch, epsilon_closure};
 use super::counted::Counted;
 use super::position::{Position, code};
+use super::resume::{Resumed, Stopped};
 use super::slot_table::SlotTable;
 use super::threads::{Thread, Threads};
 use bites_text::utf8::decode_lossy;
@@ -27,7 +28,7 @@ use bites_text::utf8::decode_lossy;
 // Decodes the character at a place.
 #[inline(always)]
 #[tactic(auto, unfolding(bites_spec::specs::Utf8::piece))]
-fn piece_at(haystack: &[u8], place: usize, longest: bool) -> Position<'_>
+pub(super) fn piece_at(haystack: &[u8], place: usize, longest: bool) -> Position<'_>
     requires { place ≤ length haystack.now }
     ensures haystack { result.haystack.now ≡ haystack.now }
     ensures place { result.place ≡ place }
@@ -213,48 +214,58 @@ fn is_found_with(is_found: bool, first_match: &Option<FirstMatch>) -> bool
 // Returns whether the search is over after a place: at the end of the haystack, where `len` is 0, if an earliest match
 // was found, or if no thread is left and the start is not explored any more.
 #[inline(always)]
-fn is_over(len: usize, earliest: bool, is_found: bool, starts: bool, threads: usize) -> bool
+pub(super) fn is_over(
+    len: usize,
+    earliest: bool,
+    is_found: bool,
+    starts: bool,
+    threads: usize,
+) -> bool
     ensures { result ≡ ((len == 0) || ((earliest && is_found) || (not starts && (threads == 0)))) }
 {
     len == 0 || (earliest && is_found) || (!starts && threads == 0)
 }
 
-/// Searches as the input asks, place by place, in a program that starts in the state `first`. Returns whether a match was
-/// found, and writes its slots.
-///
-/// The start is explored at each place until a match is found, or at the first place alone if the search is anchored.
-pub(super) fn search(
+// Searches on as the input asks, place by place, with these threads, in a program that starts in the state `first`, until
+// the search is over or as `from` asks. Returns how it stopped, and writes the slots of a match that it found.
+//
+// The start is explored at each place until a match is found, or at the first place alone if the search is anchored.
+fn run(
     counted: &mut Counted<'_>,
     scratch: &mut Scratch,
     threads: &mut Threads,
     first: u32,
     input: &Input<'_>,
+    from: &Resumed<'_>,
     slots: &mut [Option<usize>],
-) -> bool
-    requires start { input.now.start ≤ length input.now.haystack.now }
-    requires visits { counted.old.walked.visits ≡ [] }
-    requires looks { counted.old.walked.looks ≡ 0 }
-    requires program { (p : program.Program) × IsProgramOf p (states_of counted.old.states.now)
-        first × HasRoom (fit_of p) scratch.old threads.old }
-    requires idle { IsIdle scratch.old threads.old }
-    requires slots_per_row { length slots.old ≡ scratch.old.rows.slots_per_row }
-    requires nothing { slots_at scratch.old.rows 0 ≡ replicate scratch.old.rows.slots_per_row None }
-    requires even { length scratch.old.rows.rows ≡ length scratch.old.rows.ref_counts }
-    ensures search_result { (p : program.Program) →
+) -> Stopped
+    requires place { from.now.place ≤ length input.now.haystack.now }
+    requires program { (p : program.Program)
+        × IsProgramOf p (states_of counted.old.states.now) first }
+    requires between { InvariantBetweenSteps (states_of counted.old.states.now) from.now.place
+        counted.old.walked scratch.old threads.old (length slots.old) }
+    ensures stopped { (p : program.Program) →
         IsProgramOf p (states_of counted.old.states.now) first →
-        SearchResult p input.now.haystack.now (is_longest input.now.kind) input.now.anchored
-        (is_earliest input.now.kind) input.now.start result slots.old slots.new
+        (before : List (Option ℕ)) → HasReached p input.now.haystack.now
+        (is_longest input.now.kind) input.now.anchored (is_earliest input.now.kind) input.now.start before
+        from.now.place from.now.starts from.now.is_found counted.old.walked
+        (map (thread_of scratch.old.rows) threads.old.threads) slots.old →
+        StopsAt p input.now.haystack.now (is_longest input.now.kind) input.now.anchored
+        (is_earliest input.now.kind) input.now.start before result.is_found result.idle slots.new
         counted.new.walked }
-    ensures room { (p : program.Program) →
-        IsProgramOf p (states_of counted.old.states.now) first →
-        HasRoom (fit_of p) scratch.old threads.old → HasRoom (fit_of p) scratch.new threads.new }
-    ensures idle { IsIdle scratch.new threads.new }
+    ensures whole { from.now.until_idle ≡ false → result.idle ≡ None }
+    ensures states { counted.new.states ≡ counted.old.states }
+    ensures read { ReadsAll counted.old.walked counted.new.walked }
+    ensures between { (place : ℕ) × InvariantBetweenSteps (states_of counted.old.states.now) place
+        counted.new.walked scratch.new threads.new (length slots.new) }
+    ensures max_slots { scratch.new.rows.max_slots ≡ scratch.old.rows.max_slots }
+    ensures len { length slots.new ≡ length slots.old }
 {
     let earliest = input.kind.is_earliest();
     let longest = input.kind.is_longest();
-    let mut place = input.start;
-    let mut starts = true;
-    let mut is_found = false;
+    let mut place = from.place;
+    let mut starts = from.starts;
+    let mut is_found = from.is_found;
     'places: loop {
         let here = piece_at(input.haystack, place, longest);
         let begins = first_of(starts, first);
@@ -262,12 +273,57 @@ pub(super) fn search(
         starts = starts_on(starts, input.anchored, &scratch.first_match);
         is_found = is_found_with(is_found, &scratch.first_match);
         if is_over(here.ch_len, earliest, is_found, starts, threads.len()) {
-            break;
+            return Stopped {
+                is_found,
+                idle: None,
+            };
         }
         place += here.ch_len;
+        if from.until_idle && threads.len() == 0 {
+            return Stopped {
+                is_found,
+                idle: Some(place),
+            };
+        }
     }
+}
+
+/// Searches on as the input asks, with these threads, in a program that starts in the state `first`, until the search is
+/// over or as `from` asks. Returns how it stopped, and writes the slots of a match that it found. No thread is left then.
+pub(super) fn search(
+    counted: &mut Counted<'_>,
+    scratch: &mut Scratch,
+    threads: &mut Threads,
+    first: u32,
+    input: &Input<'_>,
+    from: &Resumed<'_>,
+    slots: &mut [Option<usize>],
+) -> Stopped
+    requires place { from.now.place ≤ length input.now.haystack.now }
+    requires program { (p : program.Program)
+        × IsProgramOf p (states_of counted.old.states.now) first }
+    requires between { InvariantBetweenSteps (states_of counted.old.states.now) from.now.place
+        counted.old.walked scratch.old threads.old (length slots.old) }
+    ensures stopped { (p : program.Program) →
+        IsProgramOf p (states_of counted.old.states.now) first →
+        (before : List (Option ℕ)) → HasReached p input.now.haystack.now
+        (is_longest input.now.kind) input.now.anchored (is_earliest input.now.kind) input.now.start before
+        from.now.place from.now.starts from.now.is_found counted.old.walked
+        (map (thread_of scratch.old.rows) threads.old.threads) slots.old →
+        StopsAt p input.now.haystack.now (is_longest input.now.kind) input.now.anchored
+        (is_earliest input.now.kind) input.now.start before result.is_found result.idle slots.new
+        counted.new.walked }
+    ensures whole { from.now.until_idle ≡ false → result.idle ≡ None }
+    ensures states { counted.new.states ≡ counted.old.states }
+    ensures read { ReadsAll counted.old.walked counted.new.walked }
+    ensures room { HasRoom (fit_in (states_of counted.old.states.now)) scratch.new threads.new }
+    ensures max_slots { scratch.new.rows.max_slots ≡ scratch.old.rows.max_slots }
+    ensures idle { IsIdle scratch.new threads.new }
+    ensures len { length slots.new ≡ length slots.old }
+{
+    let stopped = run(counted, scratch, threads, first, input, from, slots);
     release_all(&mut scratch.rows, threads);
-    is_found
+    stopped
 }
 
 // Removes the threads that are left, and releases their rows.

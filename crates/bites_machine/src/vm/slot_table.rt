@@ -251,6 +251,39 @@ impl SlotTable {
         fresh
     }
 
+    /// Writes the words of slots into a new row with one user. Returns the row.
+    pub(super) fn load(&mut self, words: &[usize]) -> usize
+        requires slots_per_row { length words.now ≡ self.old.slots_per_row }
+        requires room { sum self.old.ref_counts + 1 < length self.old.ref_counts }
+        requires even { length self.old.rows ≡ length self.old.ref_counts }
+        ensures known { result < length self.old.ref_counts }
+        ensures fresh { slice_index self.old.ref_counts result ≡ 0 }
+        ensures other { result ≢ 0 }
+        ensures ref_counts { self.new.ref_counts ≡ slice_set self.old.ref_counts result 1 }
+        ensures rows { self.new.rows ≡ slice_set self.old.rows result (map slot_of words.now) }
+        ensures pending { self.new.pending ≡ self.old.pending }
+        ensures slots_per_row { self.new.slots_per_row ≡ self.old.slots_per_row }
+        ensures max_slots { self.new.max_slots ≡ self.old.max_slots }
+    {
+        let row = self.copy(0, 0, 0);
+        self.overwrite(row, words);
+        row
+    }
+
+    // Writes the words of slots into a row that has a user.
+    fn overwrite(&mut self, row: usize, words: &[usize])
+        requires slots_per_row { length words.now ≡ self.old.slots_per_row }
+        requires other { row ≢ 0 }
+        requires used { 0 < slice_index self.old.ref_counts row }
+        ensures rows { self.new.rows ≡ slice_set self.old.rows row (map slot_of words.now) }
+        ensures ref_counts { self.new.ref_counts ≡ self.old.ref_counts }
+        ensures pending { self.new.pending ≡ self.old.pending }
+        ensures slots_per_row { self.new.slots_per_row ≡ self.old.slots_per_row }
+        ensures max_slots { self.new.max_slots ≡ self.old.max_slots }
+    {
+        write_row_words(&mut self.slots, row * self.slots_per_row, words);
+    }
+
     /// Writes the row into the slice, with `place` in the first `pending_len` pending slots.
     #[inline(always)]
     pub(super) fn write_match(
@@ -357,6 +390,14 @@ fn copy_row(
 {
     copy_within(slots, from, to, slots_per_row);
     write_words(&mut slots[to..to + slots_per_row], pending, place);
+}
+
+// Writes the words of a row to an index.
+fn write_row_words(slots: &mut [usize], to: usize, words: &[usize])
+    requires { to + length words.now ≤ length slots.old }
+    ensures { slots.new ≡ take to slots.old ++ (words.now ++ drop (to + length words.now) slots.old) }
+{
+    slots[to..to + words.len()].copy_from_slice(words);
 }
 
 // Writes the place to each of the pending slots of a row.

@@ -18,6 +18,7 @@ pub bounds_are_reached : BoundsAreReached
 unfolding places
 bounds_are_reached = record {
   apart = (other, (λ h. h, tt));
+  read = λ v h. absurd h;
   visits = omega arith;
   looks = omega arith;
   looked = omega arith;

@@ -1,12 +1,12 @@
 //! Searches of texts for a match that begins at one offset, and for matches of the whole text.
 
-ghost use Rattle.std.specs.Prelude.{◌≡◌, ◌↔◌, ◌≤◌, length, option_map, is_some, unwrap_or, MatchOption, OnOk, IsTrue, IfOk, IfSome, IsCharBoundary};
-ghost use Rattle.bites_spec.specs.Counts.{fit_of, IsBounded, IsWalked};
-ghost use Rattle.bites_spec.specs.Captured.{captured, excerpt, AreGroupsFrom, FindsGroups, FindsMatch};
-ghost use Rattle.bites_spec.specs.Full.{IsFullMatch, full_slots, FindsGroupsFull};
-ghost use Rattle.bites_spec.specs.Found.{HasMatch, NoMatch};
-ghost use Rattle.bites_spec.specs.Regex.{slots_at, span_at};
+ghost use Rattle.std.specs.Prelude.{◌≡◌, ◌↔◌, ◌≤◌, length, option_map, is_some, OnOk, IsTrue, IfOk, IfSome, IsCharBoundary};
+ghost use Rattle.bites_spec.specs.Counts.{fit_of};
+ghost use Rattle.bites_spec.specs.Captured.{FindsMatch};
+ghost use Rattle.bites_spec.specs.Full.{IsFullMatch};
+ghost use Rattle.bites_spec.specs.Found.{HasMatch};
 ghost use Rattle.bites_spec.specs.Utf8.{start_alone};
+ghost use Rattle.bites_bytes.specs.Calls.{Searched, SearchedWithin, FindsCaptured, FindsCapturedFull, ReadsGroups};
 ghost use Rattle.regex_bites.specs.Matched.{excerpt_of};
 ghost use Rattle.regex_bites.specs.Borders.{HaveBorders};
 
@@ -54,9 +54,8 @@ impl Regex {
         requires fits { cache.old.fits ≡ fit_of self.now.program }
         ensures found { FindsMatch self.now haystack.now (start_alone haystack.now start)
             (option_map excerpt_of result) }
-        ensures fits { cache.new.fits ≡ cache.old.fits }
-        ensures walked { IsWalked self.now.program haystack.now start (start_alone haystack.now start)
-            (is_some result) cache.new.walked }
+        ensures searched { Searched self.now.program haystack.now start (start_alone haystack.now start)
+            (is_some result) cache.old cache.new }
     {
         let found = self
             .over_bytes()
@@ -85,9 +84,8 @@ impl Regex {
         requires border { start ≤ length haystack.now → IsCharBoundary haystack.now start }
         requires fits { cache.old.fits ≡ fit_of self.now.program }
         ensures found { IsTrue result ↔ HasMatch self.now.tree haystack.now (start_alone haystack.now start) }
-        ensures fits { cache.new.fits ≡ cache.old.fits }
-        ensures walked { IsWalked self.now.program haystack.now start (start_alone haystack.now start)
-            result cache.new.walked }
+        ensures searched { Searched self.now.program haystack.now start (start_alone haystack.now start)
+            result cache.old cache.new }
     {
         self.over_bytes()
             .is_match_anchored_at_with(&mut cache.cache, haystack.as_bytes(), start)
@@ -104,12 +102,7 @@ impl Regex {
         start: usize,
     ) -> Result<Option<Captures<'h>>, AllocError>
         requires { start ≤ length haystack.now → IsCharBoundary haystack.now start }
-        ensures found { IfOk result (λ c. c ≡ option_map (captured self.now haystack.now)
-            (slots_at self.now haystack.now (start_alone haystack.now start))) }
-        ensures on_tree { IfOk result (λ c. FindsGroups self.now haystack.now (start_alone haystack.now start)
-            (option_map (λ x. x.slots) c)) }
-        ensures regex { IfOk result (λ c. IfSome c (λ x. x.regex ≡ self.now)) }
-        ensures haystack { IfOk result (λ c. IfSome c (λ x. x.haystack ≡ haystack.now)) }
+        ensures { IfOk result (FindsCaptured self.now haystack.now (start_alone haystack.now start)) }
     {
         let mut cache = self.cache()?;
         self.captures_anchored_at_with(&mut cache, haystack, start)
@@ -124,15 +117,10 @@ impl Regex {
     ) -> Result<Option<Captures<'h>>, AllocError>
         requires border { start ≤ length haystack.now → IsCharBoundary haystack.now start }
         requires fits { cache.old.fits ≡ fit_of self.now.program }
-        ensures found { IfOk result (λ c. c ≡ option_map (captured self.now haystack.now)
-            (slots_at self.now haystack.now (start_alone haystack.now start))) }
-        ensures on_tree { IfOk result (λ c. FindsGroups self.now haystack.now (start_alone haystack.now start)
-            (option_map (λ x. x.slots) c)) }
-        ensures regex { IfOk result (λ c. IfSome c (λ x. x.regex ≡ self.now)) }
-        ensures haystack { IfOk result (λ c. IfSome c (λ x. x.haystack ≡ haystack.now)) }
+        ensures found { IfOk result (FindsCaptured self.now haystack.now (start_alone haystack.now start)) }
+        ensures searched { IfOk result (λ c. Searched self.now.program haystack.now start
+            (start_alone haystack.now start) (is_some c) cache.old cache.new) }
         ensures fits { cache.new.fits ≡ cache.old.fits }
-        ensures walked { IfOk result (λ c. IsWalked self.now.program haystack.now start
-            (start_alone haystack.now start) (is_some c) cache.new.walked) }
     {
         match self
             .over_bytes()
@@ -158,16 +146,11 @@ impl Regex {
         requires border { start ≤ length haystack.now → IsCharBoundary haystack.now start }
         requires cache { cache.old.fits ≡ fit_of self.now.program }
         requires locations { length locations.old ≡ self.now.program.slots }
-        ensures found { option_map excerpt_of result
-            ≡ option_map (excerpt haystack.now) (span_at self.now haystack.now (start_alone haystack.now start)) }
-        ensures on_tree { MatchOption result (NoMatch self.now.tree haystack.now (start_alone haystack.now start))
-            (λ _. AreGroupsFrom self.now haystack.now (start_alone haystack.now start) locations.new) }
-        ensures groups { locations.new
-            ≡ unwrap_or (slots_at self.now haystack.now (start_alone haystack.now start)) locations.old }
+        ensures read { ReadsGroups self.now haystack.now (start_alone haystack.now start)
+            (option_map excerpt_of result) locations.old locations.new }
         ensures borders { IfSome result (λ _. HaveBorders haystack.now locations.new) }
-        ensures fits { cache.new.fits ≡ cache.old.fits }
-        ensures walked { IsWalked self.now.program haystack.now start (start_alone haystack.now start)
-            (is_some result) cache.new.walked }
+        ensures searched { Searched self.now.program haystack.now start (start_alone haystack.now start)
+            (is_some result) cache.old cache.new }
     {
         let found = self.over_bytes().captures_read_anchored_at_with(
             &mut cache.cache,
@@ -194,8 +177,7 @@ impl Regex {
     pub fn is_full_match_with(&self, cache: &mut Cache, haystack: &str) -> bool
         requires { cache.old.fits ≡ fit_of self.now.program }
         ensures found { IsTrue result ↔ IsFullMatch self.now.tree haystack.now }
-        ensures fits { cache.new.fits ≡ cache.old.fits }
-        ensures bounded { IsBounded self.now.program haystack.now 0 cache.new.walked }
+        ensures searched { SearchedWithin self.now.program haystack.now 0 cache.old cache.new }
     {
         self.over_bytes()
             .is_full_match_with(&mut cache.cache, haystack.as_bytes())
@@ -211,12 +193,7 @@ impl Regex {
     /// assert_eq!(rt; second.as_str(), "bcd");
     /// ```
     pub fn captures_full<'h>(&self, haystack: &'h str) -> Result<Option<Captures<'h>>, AllocError>
-        ensures found { IfOk result (λ c. c ≡ option_map (captured self.now haystack.now)
-            (full_slots self.now haystack.now)) }
-        ensures on_tree { IfOk result (λ c. FindsGroupsFull self.now haystack.now
-            (option_map (λ x. x.slots) c)) }
-        ensures regex { IfOk result (λ c. IfSome c (λ x. x.regex ≡ self.now)) }
-        ensures haystack { IfOk result (λ c. IfSome c (λ x. x.haystack ≡ haystack.now)) }
+        ensures { IfOk result (FindsCapturedFull self.now haystack.now) }
     {
         let mut cache = self.cache()?;
         self.captures_full_with(&mut cache, haystack)
@@ -231,14 +208,9 @@ impl Regex {
         haystack: &'h str,
     ) -> Result<Option<Captures<'h>>, AllocError>
         requires { cache.old.fits ≡ fit_of self.now.program }
-        ensures found { IfOk result (λ c. c ≡ option_map (captured self.now haystack.now)
-            (full_slots self.now haystack.now)) }
-        ensures on_tree { IfOk result (λ c. FindsGroupsFull self.now haystack.now
-            (option_map (λ x. x.slots) c)) }
-        ensures regex { IfOk result (λ c. IfSome c (λ x. x.regex ≡ self.now)) }
-        ensures haystack { IfOk result (λ c. IfSome c (λ x. x.haystack ≡ haystack.now)) }
+        ensures found { IfOk result (FindsCapturedFull self.now haystack.now) }
+        ensures searched { OnOk result (SearchedWithin self.now.program haystack.now 0 cache.old cache.new) }
         ensures fits { cache.new.fits ≡ cache.old.fits }
-        ensures bounded { OnOk result (IsBounded self.now.program haystack.now 0 cache.new.walked) }
     {
         match self
             .over_bytes()

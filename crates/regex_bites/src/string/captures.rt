@@ -1,14 +1,14 @@
 //! The groups of a match in a text.
 
-ghost use Rattle.std.specs.Prelude.{◌≡◌, ◌≤◌, ◌+◌, ◌/◌, length, map, take, drop, is_some, IfOk, IfSome, IsSome, Some, option_map, option_and_then, IsCharBoundary};
+ghost use Rattle.std.specs.Prelude.{◌≡◌, ◌≤◌, ◌+◌, ◌/◌, length, map, take, drop, is_some, IfOk, IsSome, Some, option_map, option_and_then, IsCharBoundary};
 ghost use Rattle.bites_spec.specs.Measure.{static_captures_len};
 ghost use Rattle.bites_spec.specs.Slots.{group_in, participating};
 ghost use Rattle.bites_spec.specs.Pieces.{text_at};
-ghost use Rattle.bites_spec.specs.Counts.{fit_of, IsWalked};
-ghost use Rattle.bites_spec.specs.Regex.{slots_at};
-ghost use Rattle.bites_spec.specs.Captured.{AreGroups, captured, excerpt, FindsGroups};
+ghost use Rattle.bites_spec.specs.Counts.{fit_of};
+ghost use Rattle.bites_spec.specs.Captured.{AreGroups, excerpt};
 ghost use Rattle.bites_spec.specs.Expansion.{index_in};
 ghost use Rattle.bites_spec.specs.Utf8.{places};
+ghost use Rattle.bites_bytes.specs.Calls.{Searched, FindsCaptured};
 
 use crate::string::{Cache, Match, Regex};
 use bites_bytes::bytes;
@@ -238,12 +238,7 @@ impl Regex {
     /// assert_eq!(rt; captures.get(2), None);
     /// ```
     pub fn captures<'h>(&self, haystack: &'h str) -> Result<Option<Captures<'h>>, AllocError>
-        ensures found { IfOk result (λ c. c
-            ≡ option_map (captured self.now haystack.now) (slots_at self.now haystack.now (places haystack.now 0))) }
-        ensures on_tree { IfOk result (λ c. FindsGroups self.now haystack.now (places haystack.now 0)
-            (option_map (λ x. x.slots) c)) }
-        ensures regex { IfOk result (λ c. IfSome c (λ x. x.regex ≡ self.now)) }
-        ensures haystack { IfOk result (λ c. IfSome c (λ x. x.haystack ≡ haystack.now)) }
+        ensures { IfOk result (FindsCaptured self.now haystack.now (places haystack.now 0)) }
     {
         self.captures_at(haystack, 0)
     }
@@ -259,12 +254,7 @@ impl Regex {
         start: usize,
     ) -> Result<Option<Captures<'h>>, AllocError>
         requires { start ≤ length haystack.now → IsCharBoundary haystack.now start }
-        ensures found { IfOk result (λ c. c
-            ≡ option_map (captured self.now haystack.now) (slots_at self.now haystack.now (places haystack.now start))) }
-        ensures on_tree { IfOk result (λ c. FindsGroups self.now haystack.now (places haystack.now start)
-            (option_map (λ x. x.slots) c)) }
-        ensures regex { IfOk result (λ c. IfSome c (λ x. x.regex ≡ self.now)) }
-        ensures haystack { IfOk result (λ c. IfSome c (λ x. x.haystack ≡ haystack.now)) }
+        ensures { IfOk result (FindsCaptured self.now haystack.now (places haystack.now start)) }
     {
         let mut cache = self.cache()?;
         self.captures_at_with(&mut cache, haystack, start)
@@ -279,15 +269,10 @@ impl Regex {
         haystack: &'h str,
     ) -> Result<Option<Captures<'h>>, AllocError>
         requires { cache.old.fits ≡ fit_of self.now.program }
-        ensures found { IfOk result (λ c. c
-            ≡ option_map (captured self.now haystack.now) (slots_at self.now haystack.now (places haystack.now 0))) }
-        ensures on_tree { IfOk result (λ c. FindsGroups self.now haystack.now (places haystack.now 0)
-            (option_map (λ x. x.slots) c)) }
-        ensures regex { IfOk result (λ c. IfSome c (λ x. x.regex ≡ self.now)) }
-        ensures haystack { IfOk result (λ c. IfSome c (λ x. x.haystack ≡ haystack.now)) }
+        ensures found { IfOk result (FindsCaptured self.now haystack.now (places haystack.now 0)) }
+        ensures searched { IfOk result (λ c. Searched self.now.program haystack.now 0 (places haystack.now 0)
+            (is_some c) cache.old cache.new) }
         ensures fits { cache.new.fits ≡ cache.old.fits }
-        ensures walked { IfOk result (λ c. IsWalked self.now.program haystack.now 0 (places haystack.now 0)
-            (is_some c) cache.new.walked) }
     {
         self.captures_at_with(cache, haystack, 0)
     }
@@ -301,15 +286,10 @@ impl Regex {
     ) -> Result<Option<Captures<'h>>, AllocError>
         requires border { start ≤ length haystack.now → IsCharBoundary haystack.now start }
         requires fits { cache.old.fits ≡ fit_of self.now.program }
-        ensures found { IfOk result (λ c. c
-            ≡ option_map (captured self.now haystack.now) (slots_at self.now haystack.now (places haystack.now start))) }
-        ensures on_tree { IfOk result (λ c. FindsGroups self.now haystack.now (places haystack.now start)
-            (option_map (λ x. x.slots) c)) }
-        ensures regex { IfOk result (λ c. IfSome c (λ x. x.regex ≡ self.now)) }
-        ensures haystack { IfOk result (λ c. IfSome c (λ x. x.haystack ≡ haystack.now)) }
+        ensures found { IfOk result (FindsCaptured self.now haystack.now (places haystack.now start)) }
+        ensures searched { IfOk result (λ c. Searched self.now.program haystack.now start (places haystack.now start)
+            (is_some c) cache.old cache.new) }
         ensures fits { cache.new.fits ≡ cache.old.fits }
-        ensures walked { IfOk result (λ c. IsWalked self.now.program haystack.now start
-            (places haystack.now start) (is_some c) cache.new.walked) }
     {
         match self
             .over_bytes()

@@ -1,12 +1,10 @@
 //! Searches of texts that return where a match is.
 
-ghost use Rattle.std.specs.Prelude.{◌≡◌, ◌≤◌, length, option_map, is_some, unwrap_or, IfOk, IfSome, MatchOption, OnOk, OnErr, IsCharBoundary};
+ghost use Rattle.std.specs.Prelude.{◌≡◌, ◌≤◌, length, option_map, is_some, IfOk, IfSome, OnErr, IsCharBoundary};
 ghost use Rattle.bites_spec.specs.Counts.{fit_of};
-ghost use Rattle.bites_spec.specs.Regex.{span_at, slots_at};
-ghost use Rattle.bites_spec.specs.Found.{NoMatch};
-ghost use Rattle.bites_spec.specs.Captured.{excerpt, FindsMatch, AreGroupsFrom};
-ghost use Rattle.bites_spec.specs.Counts.{IsWalked};
+ghost use Rattle.bites_spec.specs.Captured.{FindsMatch};
 ghost use Rattle.bites_spec.specs.Utf8.{places};
+ghost use Rattle.bites_bytes.specs.Calls.{Searched, ReadsGroups};
 ghost use Rattle.regex_bites.specs.Matched.{excerpt_of};
 ghost use Rattle.regex_bites.specs.Borders.{HaveBorders};
 
@@ -70,9 +68,8 @@ impl Regex {
     pub fn find_with<'h>(&self, cache: &mut Cache, haystack: &'h str) -> Option<Match<'h>>
         requires { cache.old.fits ≡ fit_of self.now.program }
         ensures found { FindsMatch self.now haystack.now (places haystack.now 0) (option_map excerpt_of result) }
-        ensures fits { cache.new.fits ≡ cache.old.fits }
-        ensures walked { IsWalked self.now.program haystack.now 0 (places haystack.now 0)
-            (is_some result) cache.new.walked }
+        ensures searched { Searched self.now.program haystack.now 0 (places haystack.now 0)
+            (is_some result) cache.old cache.new }
     {
         self.find_at_with(cache, haystack, 0)
     }
@@ -89,9 +86,8 @@ impl Regex {
         requires border { start ≤ length haystack.now → IsCharBoundary haystack.now start }
         requires fits { cache.old.fits ≡ fit_of self.now.program }
         ensures found { FindsMatch self.now haystack.now (places haystack.now start) (option_map excerpt_of result) }
-        ensures fits { cache.new.fits ≡ cache.old.fits }
-        ensures walked { IsWalked self.now.program haystack.now start (places haystack.now start)
-            (is_some result) cache.new.walked }
+        ensures searched { Searched self.now.program haystack.now start (places haystack.now start)
+            (is_some result) cache.old cache.new }
     {
         let found = self
             .over_bytes()
@@ -118,12 +114,8 @@ impl Regex {
         haystack: &'h str,
     ) -> Result<Option<Match<'h>>, AllocError>
         requires { length locations.old ≡ self.now.program.slots }
-        ensures found { IfOk result (λ m. option_map excerpt_of m
-            ≡ option_map (excerpt haystack.now) (span_at self.now haystack.now (places haystack.now 0))) }
-        ensures on_tree { IfOk result (λ m. MatchOption m (NoMatch self.now.tree haystack.now (places haystack.now 0))
-            (λ _. AreGroupsFrom self.now haystack.now (places haystack.now 0) locations.new)) }
-        ensures groups { OnOk result (locations.new
-            ≡ unwrap_or (slots_at self.now haystack.now (places haystack.now 0)) locations.old) }
+        ensures read { IfOk result (λ m. ReadsGroups self.now haystack.now (places haystack.now 0)
+            (option_map excerpt_of m) locations.old locations.new) }
         ensures borders { IfOk result (λ m. IfSome m (λ _. HaveBorders haystack.now locations.new)) }
         ensures refused { OnErr result (locations.new ≡ locations.old) }
     {
@@ -143,13 +135,8 @@ impl Regex {
     ) -> Result<Option<Match<'h>>, AllocError>
         requires border { start ≤ length haystack.now → IsCharBoundary haystack.now start }
         requires locations { length locations.old ≡ self.now.program.slots }
-        ensures found { IfOk result (λ m. option_map excerpt_of m
-            ≡ option_map (excerpt haystack.now) (span_at self.now haystack.now (places haystack.now start))) }
-        ensures on_tree { IfOk result (λ m. MatchOption m (NoMatch self.now.tree haystack.now
-            (places haystack.now start))
-            (λ _. AreGroupsFrom self.now haystack.now (places haystack.now start) locations.new)) }
-        ensures groups { OnOk result (locations.new
-            ≡ unwrap_or (slots_at self.now haystack.now (places haystack.now start)) locations.old) }
+        ensures read { IfOk result (λ m. ReadsGroups self.now haystack.now (places haystack.now start)
+            (option_map excerpt_of m) locations.old locations.new) }
         ensures borders { IfOk result (λ m. IfSome m (λ _. HaveBorders haystack.now locations.new)) }
         ensures refused { OnErr result (locations.new ≡ locations.old) }
     {
@@ -166,16 +153,11 @@ impl Regex {
     ) -> Option<Match<'h>>
         requires cache { cache.old.fits ≡ fit_of self.now.program }
         requires locations { length locations.old ≡ self.now.program.slots }
-        ensures found { option_map excerpt_of result
-            ≡ option_map (excerpt haystack.now) (span_at self.now haystack.now (places haystack.now 0)) }
-        ensures on_tree { MatchOption result (NoMatch self.now.tree haystack.now (places haystack.now 0))
-            (λ _. AreGroupsFrom self.now haystack.now (places haystack.now 0) locations.new) }
-        ensures groups { locations.new ≡ unwrap_or (slots_at self.now haystack.now
-            (places haystack.now 0)) locations.old }
+        ensures read { ReadsGroups self.now haystack.now (places haystack.now 0)
+            (option_map excerpt_of result) locations.old locations.new }
         ensures borders { IfSome result (λ _. HaveBorders haystack.now locations.new) }
-        ensures fits { cache.new.fits ≡ cache.old.fits }
-        ensures walked { IsWalked self.now.program haystack.now 0 (places haystack.now 0)
-            (is_some result) cache.new.walked }
+        ensures searched { Searched self.now.program haystack.now 0 (places haystack.now 0)
+            (is_some result) cache.old cache.new }
     {
         self.captures_read_at_with(cache, locations, haystack, 0)
     }
@@ -193,16 +175,11 @@ impl Regex {
         requires border { start ≤ length haystack.now → IsCharBoundary haystack.now start }
         requires cache { cache.old.fits ≡ fit_of self.now.program }
         requires locations { length locations.old ≡ self.now.program.slots }
-        ensures found { option_map excerpt_of result
-            ≡ option_map (excerpt haystack.now) (span_at self.now haystack.now (places haystack.now start)) }
-        ensures on_tree { MatchOption result (NoMatch self.now.tree haystack.now (places haystack.now start))
-            (λ _. AreGroupsFrom self.now haystack.now (places haystack.now start) locations.new) }
-        ensures groups { locations.new
-            ≡ unwrap_or (slots_at self.now haystack.now (places haystack.now start)) locations.old }
+        ensures read { ReadsGroups self.now haystack.now (places haystack.now start)
+            (option_map excerpt_of result) locations.old locations.new }
         ensures borders { IfSome result (λ _. HaveBorders haystack.now locations.new) }
-        ensures fits { cache.new.fits ≡ cache.old.fits }
-        ensures walked { IsWalked self.now.program haystack.now start (places haystack.now start)
-            (is_some result) cache.new.walked }
+        ensures searched { Searched self.now.program haystack.now start (places haystack.now start)
+            (is_some result) cache.old cache.new }
     {
         let found = self.over_bytes().captures_read_at_with(
             &mut cache.cache,

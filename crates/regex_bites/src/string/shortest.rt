@@ -3,8 +3,8 @@
 ghost use Rattle.std.specs.Prelude.{◌≡◌, ◌≤◌, length, is_some, IfOk, IfSome, IsCharBoundary};
 ghost use Rattle.bites_spec.specs.Found.{IsLeastEnd};
 ghost use Rattle.bites_spec.specs.Counts.{fit_of};
-ghost use Rattle.bites_spec.specs.Counts.{IsWalked};
 ghost use Rattle.bites_spec.specs.Utf8.{places};
+ghost use Rattle.bites_bytes.specs.Calls.{Searched};
 
 use crate::string::{Cache, Regex};
 use std::alloc::AllocError;
@@ -48,9 +48,8 @@ impl Regex {
         requires { cache.old.fits ≡ fit_of self.now.program }
         ensures least { IsLeastEnd self.now.tree haystack.now (places haystack.now 0) result }
         ensures border { IfSome result (IsCharBoundary haystack.now) }
-        ensures fits { cache.new.fits ≡ cache.old.fits }
-        ensures walked { IsWalked self.now.program haystack.now 0 (places haystack.now 0)
-            (is_some result) cache.new.walked }
+        ensures searched { Searched self.now.program haystack.now 0 (places haystack.now 0)
+            (is_some result) cache.old cache.new }
     {
         self.shortest_match_at_with(cache, haystack, 0)
     }
@@ -68,9 +67,8 @@ impl Regex {
         requires border { start ≤ length haystack.now → IsCharBoundary haystack.now start }
         ensures least { IsLeastEnd self.now.tree haystack.now (places haystack.now start) result }
         ensures border { IfSome result (IsCharBoundary haystack.now) }
-        ensures fits { cache.new.fits ≡ cache.old.fits }
-        ensures walked { IsWalked self.now.program haystack.now start (places haystack.now start)
-            (is_some result) cache.new.walked }
+        ensures searched { Searched self.now.program haystack.now start (places haystack.now start)
+            (is_some result) cache.old cache.new }
     {
         self.over_bytes()
             .shortest_match_at_with(&mut cache.cache, haystack.as_bytes(), start)

@@ -11,7 +11,7 @@ returns-in-Some-eq93-clause-reads c = λ t at n room m means.
     let behind : c.skip.new.self ≡ skip (flags_of c.args.flags) t =
     c.skip.ensures.rest ∙ ap (λ x. skip (flags_of c.args.flags) x) (c.bump.ensures.rest ∙ ap (drop 1) (c.ahead-ahead.ensures ∙ at)) in
     Adds_by _ _ _ _ _ _ (λ go set. dash_alone go n (flags_of c.args.flags) set m c.args.cursor.now _ _ _ _ behind c.in-Some-eq93.ensures c.in-Some-eq93.field-0-test)
-    (c.add_alone.ensures m means c.args.cursor.now)
+    (c.add_alone.ensures m means)
 
 pub returns-in_ok-second-in-Some-clause-reads : goal.returns-in_ok-second-in-Some-clause-reads
 returns-in_ok-second-in-Some-clause-reads c = λ t at n room m means.
@@ -20,7 +20,7 @@ returns-in_ok-second-in-Some-clause-reads c = λ t at n room m means.
     let enough : length c.skip.new.self ≤ suc n = omega (arith, room, ap length behind, skip_shorter (flags_of c.args.flags) t) in
     let second = c.in_ok-second-in-Some.ensures.reads n enough in
     Adds_by _ _ _ _ _ _ (λ go set. dash_range go n (flags_of c.args.flags) set m second.0 c.args.cursor.now _ _ _ _ _ behind c.in-Some.ensures c.in-Some.field-0-test.1 second.1)
-    (c.add_range.ensures m second.0 means second.2 c.class_end.new.cursor)
+    (c.add_range.ensures m second.0 means second.2)
 
 pub returns-in_err-second-in-Some-clause-reads : goal.returns-in_err-second-in-Some-clause-reads
 returns-in_err-second-in-Some-clause-reads c = λ t at n room m means go set has.

@@ -13,4 +13,4 @@ returns-in-Some-eq45-clause-reads c = λ n room m means.
 pub returns-in-Some-clause-reads : goal.returns-in-Some-clause-reads
 returns-in-Some-clause-reads c = λ n room m means.
     Adds_by _ _ _ _ _ _ (λ go set. first_alone go n (flags_of c.args.flags) set m _ _ _ c.in-Some.ensures c.in-Some.field-0-test.1)
-    (c.add_alone.ensures m means c.args.cursor.now)
+    (c.add_alone.ensures m means)

@@ -1,14 +1,14 @@
-use Rattle.std.proofs.Common.{◌≡◌, ◌<◌, length, Some, inr, ap, arith}
+use Rattle.std.proofs.Common.{◌≡◌, ◌∙◌, ◌<◌, length, Some, inr, ap, sym, arith}
 use Rattle.bites_spec.specs.Class.{named_classes, union}
 use Rattle.bites_syntax.specs.Members.{members_named, named_at}
-use Rattle.bites_syntax.specs.Parts.{error_in}
+use Rattle.bites_syntax.specs.Parts.{fault_in}
 use Rattle.bites_syntax.specs.View.{named_of}
 use Rattle.bites_syntax.proofs.BracketParts.{Has_extend}
 use Rattle.bites_syntax.proofs.NamedParts.{named_none, named_shorter, named_some}
 use Rattle.bites_syntax.proofs.bracket.named.Goals as goal
 
 pub returns-in_default-clause-reads : goal.returns-in_default-clause-reads
-returns-in_default-clause-reads c = λ go set has. inr (ap error_in (named_none go set c.args.cursor.now named_classes c.in_default.ensures))
+returns-in_default-clause-reads c = λ go set has. inr (ap fault_in (named_none go set c.args.cursor.now named_classes c.in_default.ensures) ∙ ap Some (sym c.fault.ensures))
 
 pub returns-clause-reads : goal.returns-clause-reads
 returns-clause-reads c = λ go set has.

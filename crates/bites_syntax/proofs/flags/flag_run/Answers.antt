@@ -1,4 +1,4 @@
-use Rattle.std.proofs.Common.{arith, sym, ◌∙◌, inr}
+use Rattle.std.proofs.Common.{arith, sym, ap, ◌∙◌, inr, Some}
 use Rattle.bites_syntax.proofs.CursorLemmas.{peeked}
 use Rattle.bites_syntax.proofs.FlagLemmas.{flags_from_more, contains_one_of, repeated_fault}
 use Rattle.bites_syntax.proofs.flags.flag_run.Goals as goal
@@ -6,7 +6,8 @@ use Rattle.bites_syntax.proofs.flags.flag_run.Goals as goal
 pub returns-then-contains-clause-reads : goal.returns-then-contains-clause-reads
 returns-then-contains-clause-reads c = λ front.
     inr (repeated_fault front _ c.loop-c.cursor _ c.args.cursor.now c.in-Some.c _ (c.loop-c.invariant.0 front) c.in-Some.ensures (sym c.if-ends_run.ensures) (sym c.if-not-is_flag_mark.ensures)
-    (rw c.deref.ensures.value at (sym (contains_one_of _ c.in-Some.c) ∙ sym c.if-contains.ensures.value)) c.duplicate_error.ensures)
+    (rw c.deref.ensures.value at (sym (contains_one_of _ c.in-Some.c) ∙ sym c.if-contains.ensures.value)) c.duplicate_error.ensures
+    ∙ ap Some (sym c.fault-then-contains.ensures))
 
 pub loop-c-preserved : goal.loop-c-preserved
 loop-c-preserved c = (

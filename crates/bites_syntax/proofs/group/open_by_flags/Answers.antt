@@ -8,4 +8,4 @@ pub returns-in-Some-clause-reads : goal.returns-in-Some-clause-reads
 returns-in-Some-clause-reads c = λ g is.
     let same : flags_from g [] c.args.cursor.now ≡ flags_end g c.deref.result.now c.in-Some.end c.bump.new.self =
     c.in_ok-run.ensures.reads g ∙ rw c.deref.ensures.value (flags_close g c.in_ok-run.run'.items c.flag_run.new.cursor c.bump.new.self c.in-Some.end c.in_ok-run.ensures.ends c.in-Some.ensures.value) in
-    agrees_at (λ o x. IsOpened o c.flags_end.new.state g x) c.flags_end.result c.bump.new.self _ _ same (c.flags_end.ensures g c.bump.new.self is)
+    agrees_at (λ o x. IsOpened o c.flags_end.new.state g x) c.flags_end.result c.bump.new.self _ _ same (c.flags_end.ensures g c.bump.new.self (c.ahead-place.ensures ∙ c.in-Some.ensures.value) is)

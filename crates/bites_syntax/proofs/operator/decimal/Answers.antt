@@ -1,4 +1,4 @@
-use Rattle.std.proofs.Common.{arith, sym}
+use Rattle.std.proofs.Common.{arith, sym, ap, ◌∙◌, Some}
 use Rattle.bites_syntax.specs.FlagsView.{flags_of}
 use Rattle.bites_syntax.proofs.NumberLemmas.{small_decimal, large_decimal}
 use Rattle.bites_syntax.proofs.operator.decimal.Goals as goal
@@ -10,4 +10,6 @@ returns-then-value-lt-TOO_LARGE-clause-reads c = λ n room.
 
 pub returns-else-value-lt-TOO_LARGE-clause-reads : goal.returns-else-value-lt-TOO_LARGE-clause-reads
 returns-else-value-lt-TOO_LARGE-clause-reads c = λ n room.
-    large_decimal n (flags_of c.args.flags) _ _ _ room c.skip_white.ensures.rest (sym c.if-not-is_at.ensures) c.number-value.ensures.value (omega arith)
+    large_decimal n (flags_of c.args.flags) _ _ _ _ _ room c.skip_white.ensures.rest (sym c.if-not-is_at.ensures) c.number-value.ensures.value (omega arith)
+    c.number-value.ensures.rest c.pass_each.ensures.rest
+    ∙ ap Some (sym c.fault-else-value-lt-TOO_LARGE.ensures)

@@ -1,14 +1,13 @@
 use Rattle.std.proofs.Common.{◌≡◌, ◌+◌, ℕ, suc, map, ap, subst, arith}
 use Rattle.bites_spec.specs.Closure.{WalksTo}
-use Rattle.bites_table.specs.Kinds.{leads_by}
-use Rattle.bites_table.specs.Sources.{threads_by}
+use Rattle.bites_table.specs.Takers.{takers_by}
 use Rattle.bites_table.specs.Built.{kind_as, frame_of, walking_of}
 use Rattle.bites_table.proofs.StepLemmas.{one_turn}
 use Rattle.bites_table.proofs.walk.run.Goals as goal
 
 pub loop-looks-preserved : goal.loop-looks-preserved
 loop-looks-preserved c =
-    let threads = threads_by (leads_by (kind_as c.args.here.now.before) c.args.here.now.ch) in
+    let threads = takers_by (kind_as c.args.here.now.before) (kind_as c.args.here.now.after) in
     subst (λ n. WalksTo threads c.args.program.now.program (walking_of c.args.walk.now 0) (walking_of c.turn.new.walk n)) (next c.loop-looks.looks)
     (one_turn threads c.args.program.now.program (walking_of c.args.walk.now 0) (walking_of c.loop-looks.walk c.loop-looks.looks) (walking_of c.turn.new.walk (suc c.loop-looks.looks))
     (frame_of c.in-Some.frame) (map frame_of c.pop.new.self) c.loop-looks.invariant (ap (map frame_of) c.in-Some.ensures) (c.in_ok-turn.ensures c.loop-looks.looks))

@@ -1,9 +1,8 @@
 use Rattle.bites_spec.specs.Closure.{WalksTo}
-use Rattle.bites_table.specs.Kinds.{leads_by}
-use Rattle.bites_table.specs.Sources.{threads_by}
+use Rattle.bites_table.specs.Takers.{takers_by}
 use Rattle.bites_table.specs.Built.{kind_as, walking_of}
 use Rattle.bites_table.proofs.walk.run.Given as goal
 
 abbrev pub invariant-loop-looks : goal.invariant-loop-looks
 invariant-loop-looks l =
-    WalksTo (threads_by (leads_by (kind_as l.here.before) l.here.ch)) l.program.program (walking_of l.initial.walk 0) (walking_of l.walk l.looks)
+    WalksTo (takers_by (kind_as l.here.before) (kind_as l.here.after)) l.program.program (walking_of l.initial.walk 0) (walking_of l.walk l.looks)

@@ -1,19 +1,14 @@
-use Rattle.std.proofs.Common.{rules, ◌∷◌, suc, map, ap, ◌∙◌}
+use Rattle.std.proofs.Common.{◌∷◌, suc, map, ap, ◌∙◌}
 use Rattle.std.specs.Prelude.{if◌then◌else◌}
 use Rattle.bites_machine.specs.States.{state_of}
-use Rattle.bites_table.specs.Kinds.{leads_by}
-use Rattle.bites_table.specs.Sources.{threads_by}
+use Rattle.bites_table.specs.Takers.{takers_by}
 use Rattle.bites_table.specs.Built.{kind_as, frame_of, walking_of}
-use Rattle.bites_table.proofs.FrameLemmas.{has_ranges}
 use Rattle.bites_table.proofs.StepLemmas.{not_true, if_some, one_visit}
 use Rattle.bites_table.proofs.walk.turn.Goals as goal
 
-pub follow-requires : goal.follow-requires
-follow-requires c = has_ranges c.args.program.now.program c.requires.well_formed (state_of c.state.result.now) c.args.frame.state (search rules) c.state.ensures
-
 pub returns : goal.returns
 returns c =
-    if_some (λ u walked looks. one_visit (threads_by (leads_by (kind_as c.args.here.now.before) c.args.here.now.ch)) c.args.program.now.program
+    if_some (λ u walked looks. one_visit (takers_by (kind_as c.args.here.now.before) (kind_as c.args.here.now.after)) c.args.program.now.program
     (frame_of c.args.frame) (map frame_of c.args.walk.now.stack) (walking_of c.args.walk.now looks) (walking_of c.follow.new.walk (suc looks)) (state_of c.state.result.now)
     (not_true _ _ c.in_ok-insert.ensures.is_new c.if-not-branch.false) c.state.ensures
     (walked c.args.walk.now.visited looks (c.in_ok-insert.ensures.states ∙ ap (λ b. if b then c.args.frame.state ∷ c.args.walk.now.visited else c.args.walk.now.visited) c.if-not-branch.false))) c.follow.result c.follow.ensures

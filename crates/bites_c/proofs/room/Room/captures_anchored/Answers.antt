@@ -23,7 +23,7 @@ put_groups-requires c =
     let len : length c.self.inside.locations ≡ c.args.regex.now.program.slots = c.self.invariant ∙ ap (λ (f : Fit). f.slots) fits in
     let kept : length c.captures_read_anchored_at_with.new.locations ≡ c.args.regex.now.program.slots =
     read_len r c.as_str-pattern.ensures.compiled c.slots_are_groups.ensures c.args.haystack.now c.args.start _
-    (alone_is_start c.args.haystack.now c.args.start) c.self.inside.locations read.new.locations len read.ensures.groups in
+    (alone_is_start c.args.haystack.now c.args.start) c.self.inside.locations read.new.locations len read.ensures.read.groups in
     omega (arith, kept, c.as_str-pattern.ensures.compiled.slots, c.requires.wide)
 
 pub invariant_of-self-2 : goal.invariant_of-self-2
@@ -33,8 +33,8 @@ invariant_of-self-2 c =
     let len : length c.self.inside.locations ≡ c.args.regex.now.program.slots = c.self.invariant ∙ ap (λ (f : Fit). f.slots) fits in
     let kept : length c.captures_read_anchored_at_with.new.locations ≡ c.args.regex.now.program.slots =
     read_len r c.as_str-pattern.ensures.compiled c.slots_are_groups.ensures c.args.haystack.now c.args.start _
-    (alone_is_start c.args.haystack.now c.args.start) c.self.inside.locations read.new.locations len read.ensures.groups in
-    kept ∙ sym (ap (λ (f : Fit). f.slots) (read.ensures.fits ∙ fits))
+    (alone_is_start c.args.haystack.now c.args.start) c.self.inside.locations read.new.locations len read.ensures.read.groups in
+    kept ∙ sym (ap (λ (f : Fit). f.slots) (read.ensures.searched.fits ∙ fits))
 
 pub returns-clause-put : goal.returns-clause-put
 returns-clause-put c =
@@ -43,10 +43,10 @@ returns-clause-put c =
     let len : length c.self.inside.locations ≡ c.args.regex.now.program.slots = c.self.invariant ∙ ap (λ (f : Fit). f.slots) fits in
     let kept : length c.captures_read_anchored_at_with.new.locations ≡ c.args.regex.now.program.slots =
     read_len r c.as_str-pattern.ensures.compiled c.slots_are_groups.ensures c.args.haystack.now c.args.start _
-    (alone_is_start c.args.haystack.now c.args.start) c.self.inside.locations read.new.locations len read.ensures.groups in
+    (alone_is_start c.args.haystack.now c.args.start) c.self.inside.locations read.new.locations len read.ensures.read.groups in
     let half : length c.captures_read_anchored_at_with.new.locations / 2 ≡ length c.args.regex.now.names = omega (arith, kept, c.as_str-pattern.ensures.compiled.slots) in
-    let some = some_slots c.in-Some.field-0 excerpt_of (excerpt c.args.haystack.now) span_of_run (slots r.program) read.result (run_at r c.args.haystack.now (start_alone c.args.haystack.now c.args.start)) c.in-Some.is read.ensures.found in
-    found_put (slots_at r c.args.haystack.now (start_alone c.args.haystack.now c.args.start)) read.new.locations c.self.inside.locations (length r.names) c.args.groups.now c.put_groups.new.groups some read.ensures.groups half c.put_groups.ensures.put
+    let some = some_slots c.in-Some.field-0 excerpt_of (excerpt c.args.haystack.now) span_of_run (slots r.program) read.result (run_at r c.args.haystack.now (start_alone c.args.haystack.now c.args.start)) c.in-Some.is read.ensures.read.found.span in
+    found_put (slots_at r c.args.haystack.now (start_alone c.args.haystack.now c.args.start)) read.new.locations c.self.inside.locations (length r.names) c.args.groups.now c.put_groups.new.groups some read.ensures.read.groups half c.put_groups.ensures.put
 
 pub returns-clause-on_tree : goal.returns-clause-on_tree
 returns-clause-on_tree c =

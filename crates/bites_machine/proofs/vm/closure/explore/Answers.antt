@@ -20,7 +20,7 @@ returns-then-not-insert-clause-looks c =
     explores_again c.args.here.now.haystack.now c.args.here.now.longest c.args.here.now.place (states_of c.args.counted.now.states.now) c.args.thread c.args.frame c.args.counted.now.walked c.step.new.self.walked
     c.args.scratch.now c.insert.new.self c.pop.new.self c.args.slots.now c.pop.result c.requires.ready is_member
     (c.insert.ensures.inserted ∙ ap (slice_set c.args.scratch.now.visited_set c.args.frame.state) (sym is_member) ∙ set-get_or c.args.scratch.now.visited_set c.args.frame.state false)
-    (popped c.pop.result c.args.scratch.now.stack.frames c.pop.new.self.frames c.pop.ensures.frames) c.pop.ensures.room c.step.ensures.visits c.step.ensures.looks
+    (popped c.pop.result c.args.scratch.now.stack.frames c.pop.new.self.frames c.pop.ensures.frames) c.pop.ensures.room c.step.ensures.visits c.step.ensures.read c.step.ensures.looks
     (none_popped c.pop.result c.args.scratch.now.stack.frames c.pop.new.self.frames c.pop.ensures.frames)
 
 was_false : (b : Bool) → true ≡ not b → b ≡ false
@@ -70,7 +70,8 @@ returns-in-Some-clause-looks c =
     explores_new c.args.here.now.haystack.now c.args.here.now.longest c.args.here.now.place (states_of c.args.counted.now.states.now) c.args.thread c.args.frame c.args.counted.now.walked c.follow.new.counted.walked
     c.args.scratch.now c.insert.new.self c.follow.new.scratch c.follow.new.scratch.stack c.args.slots.now c.follow.new.slots (Some c.in-Some.frame) (Some c.in-Some.frame) c.requires.ready not_member c.insert.ensures.inserted v
     refl refl (c.requires.sound c.args.frame.state state).1
-    (c.follow.ensures.visits ∙ ap (λ (vs : List Configuration). at c.args.frame.state c.args.here.now.place ∷ vs) c.step.ensures.visits) (c.follow.ensures.looks ∙ c.step.ensures.looks) (λ e. cc)
+    (c.follow.ensures.visits ∙ ap (λ (vs : List Configuration). at c.args.frame.state c.args.here.now.place ∷ vs) c.step.ensures.visits)
+    (c.follow.ensures.read ∙ ap (λ (vs : List Configuration). at c.args.frame.state c.args.here.now.place ∷ vs) c.step.ensures.read) (c.follow.ensures.looks ∙ c.step.ensures.looks) (λ e. cc)
 
 pub returns-in-None-clause-looks : goal.returns-in-None-clause-looks
 returns-in-None-clause-looks c =
@@ -82,5 +83,6 @@ returns-in-None-clause-looks c =
     explores_new c.args.here.now.haystack.now c.args.here.now.longest c.args.here.now.place (states_of c.args.counted.now.states.now) c.args.thread c.args.frame c.args.counted.now.walked c.follow.new.counted.walked
     c.args.scratch.now c.insert.new.self c.follow.new.scratch c.pop-in-None.new.self c.args.slots.now c.follow.new.slots None c.pop-in-None.result c.requires.ready not_member c.insert.ensures.inserted v
     (popped c.pop-in-None.result c.follow.new.scratch.stack.frames c.pop-in-None.new.self.frames c.pop-in-None.ensures.frames) c.pop-in-None.ensures.room (c.requires.sound c.args.frame.state state).1
-    (c.follow.ensures.visits ∙ ap (λ (vs : List Configuration). at c.args.frame.state c.args.here.now.place ∷ vs) c.step.ensures.visits) (c.follow.ensures.looks ∙ c.step.ensures.looks)
+    (c.follow.ensures.visits ∙ ap (λ (vs : List Configuration). at c.args.frame.state c.args.here.now.place ∷ vs) c.step.ensures.visits)
+    (c.follow.ensures.read ∙ ap (λ (vs : List Configuration). at c.args.frame.state c.args.here.now.place ∷ vs) c.step.ensures.read) (c.follow.ensures.looks ∙ c.step.ensures.looks)
     (none_popped c.pop-in-None.result c.follow.new.scratch.stack.frames c.pop-in-None.new.self.frames c.pop-in-None.ensures.frames)

@@ -27,6 +27,7 @@ returns-clause-searched c =
     record {
       searches = place_searches c.args.here.now.haystack.now c.args.here.now.longest c.args.here.now.place (states_of c.args.counted.now.states.now) c.args.first c.args.threads.now.threads
           c.args.counted.now.walked c.close_all.new.counted.walked cleared c.close_all.new.scratch c.args.slots.now c.close_all.new.slots c.close_all.ensures.walks refl c.clear-2.ensures.threads c.requires.between.visits c.args.here.now.ch_len c.args.here.now.len_is;
+      read = c.close_all.ensures.walks.read;
     } in
     subst (λ (x : Listed). PlaceSearched c.args.here.now.haystack.now c.args.here.now.longest c.args.here.now.place c.args.here.now.ch_len (states_of c.args.counted.now.states.now) c.args.first
     c.args.counted.now.walked c.close_all.new.counted.walked c.args.scratch.now

@@ -3,7 +3,7 @@ use Rattle.std.proofs.lemmas.Result.{err_from_is_err_and}
 use Rattle.bites_spec.specs.RangesOf.{ranges_of}
 use Rattle.bites_spec.specs.Reader.{at_item, inner}
 use Rattle.bites_syntax.specs.declared.parse.Step.TheVariants.{Group}
-use Rattle.bites_syntax.specs.Parts.{IsErrorOf}
+use Rattle.bites_syntax.specs.Parts.{IsFaultOf}
 use Rattle.bites_syntax.specs.Progress.{EndsReading, GoesOn, IsForward, ReadsAs, Steps}
 use Rattle.bites_syntax.proofs.ReachedLemmas.{reached_start, reached_items, reached_item, reached_end, reached_fault, step_fault, reached_group, fault_in_group}
 use Rattle.bites_syntax.proofs.parse.Parser.+choice.Goals as goal
@@ -63,7 +63,7 @@ returns-in_err-choice-in-Group-clause-reads t c = λ limit bound g is n room.
     c.in-Group.is (c.in_ok-step.ensures.steps limit c.items.new.branches r.g r.branches r.nodes r.is_at r.steps) in
     rw (p.1, p.2)
     (fault_in_group limit c.args.depth n g c.args.self.now.cursor c.items.new.self c.items.new.branches c.step.new.self c.in-Group.group r on.0 forward.0 c.in_err-choice-in-Group.field-0.0
-    (λ k fits. subst (λ d. IsErrorOf c.in_err-choice-in-Group.field-0.0 (inner ranges_of limit (suc k) d on.0.inside [] [] c.step.new.self.cursor)) (add-one c.args.depth)
+    (λ k fits. subst (λ d. IsFaultOf c.in_err-choice-in-Group.field-0.0 (inner ranges_of limit (suc k) d on.0.inside [] [] c.step.new.self.cursor)) (add-one c.args.depth)
     (c.in_err-choice-in-Group.ensures.reads limit on.0.limit_is on.0.inside on.0.state k fits)))
 
 pub loop-branches-preserved : goal.loop-branches-preserved

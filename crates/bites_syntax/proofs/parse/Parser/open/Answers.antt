@@ -5,7 +5,7 @@ use Rattle.bites_spec.specs.Reader.{inner, and_then, at_opened}
 use Rattle.bites_syntax.specs.declared.group.Opened.TheVariants.{Directive, Unnumbered, Numbered}
 use Rattle.bites_syntax.specs.FlagsView.{flags_of}
 use Rattle.bites_syntax.specs.Openings.{IsOpened}
-use Rattle.bites_syntax.specs.Parts.{error_in}
+use Rattle.bites_syntax.specs.Parts.{fault_in}
 use Rattle.bites_syntax.proofs.ProgressLemmas.{directive_goes, group_enters, group_stops, enter_steps, opened_at}
 use Rattle.bites_syntax.proofs.parse.Parser.open.Goals as goal
 
@@ -39,7 +39,7 @@ returns-in-Unnumbered-clause-steps c = λ parsed g bs ts is n.
       numbered = refl;
       same = same ∙ group_enters c.args.self.now.limit (inner ranges_of c.args.self.now.limit n) c.args.depth g bs ts c.skip.new.self c.open_group.new.cursor read.0 unnumbered read_as.0 read.1 read_as.1 room;
     })
-    (λ full. ap error_in same ∙ group_stops c.args.self.now.limit (inner ranges_of c.args.self.now.limit n) c.args.depth g bs ts c.skip.new.self c.open_group.new.cursor read.0 unnumbered read_as.0 read.1 read_as.1 full)
+    (λ full. ap fault_in same ∙ group_stops c.args.self.now.limit (inner ranges_of c.args.self.now.limit n) c.args.depth g bs ts c.skip.new.self c.open_group.new.cursor read.0 unnumbered read_as.0 read.1 read_as.1 full)
     is.branches_are is.nodes_are
 
 pub returns-in-Numbered-clause-steps : goal.returns-in-Numbered-clause-steps
@@ -58,5 +58,5 @@ returns-in-Numbered-clause-steps c = λ parsed g bs ts is n.
       numbered = (read_as.0, refl, read_as.5.groups ∙ read_as.4, read_as.3);
       same = same ∙ group_enters c.args.self.now.limit (inner ranges_of c.args.self.now.limit n) c.args.depth g bs ts c.skip.new.self c.open_group.new.cursor read.0 (numbered read_as.0) read_as.1 read.1 read_as.2 room;
     })
-    (λ full. ap error_in same ∙ group_stops c.args.self.now.limit (inner ranges_of c.args.self.now.limit n) c.args.depth g bs ts c.skip.new.self c.open_group.new.cursor read.0 (numbered read_as.0) read_as.1 read.1 read_as.2 full)
+    (λ full. ap fault_in same ∙ group_stops c.args.self.now.limit (inner ranges_of c.args.self.now.limit n) c.args.depth g bs ts c.skip.new.self c.open_group.new.cursor read.0 (numbered read_as.0) read_as.1 read.1 read_as.2 full)
     is.branches_are is.nodes_are

@@ -10,7 +10,7 @@ use Rattle.bites_syntax.proofs.ProgressLemmas.{some_of, operator_goes}
 use Rattle.bites_syntax.proofs.parse.Parser.repeat.Goals as goal
 
 pub returns-clause-reads : goal.returns-clause-reads
-returns-clause-reads c = λ g bs ts is depth n at.
+returns-clause-reads c = λ g bs ts is depth n.
     let some : vec_len c.args.branches.now.nodes ≢ 0 = eqb-false (vec_len c.args.branches.now.nodes) 0 (sym c.if-is_empty.ensures) in
     let filled : 0 < length c.args.branches.now.nodes.items = omega (arith, c.args.branches.now.nodes.ok.0) in
     let one = some_of c.args.self.now.limit c.args.branches.now.nodes.items ts filled is.nodes_are in
@@ -28,5 +28,5 @@ returns-clause-reads c = λ g bs ts is depth n at.
         branches_are = rw c.in_ok-repeat.ensures.complete is.branches_are;
         nodes_are = c.in_ok-repeat.ensures.nodes one.first one.more are;
       };
-      same = operator_goes c.args.self.now.limit (inner ranges_of c.args.self.now.limit n) depth g bs ts one.more one.first message.nothing_to_repeat at c.plain_operator-bounds.new.cursor _ _ one.are reads;
+      same = operator_goes c.args.self.now.limit (inner ranges_of c.args.self.now.limit n) depth g bs ts one.more one.first message.nothing_to_repeat c.args.start.now c.plain_operator-bounds.new.cursor _ _ one.are reads;
     }

@@ -1,4 +1,4 @@
-use Rattle.std.proofs.Common.{inr}
+use Rattle.std.proofs.Common.{◌∙◌, ap, sym, inr, Some}
 use Rattle.bites_spec.specs.RangesOf.{ranges_of}
 use Rattle.bites_spec.specs.Reader.{inner}
 use Rattle.bites_syntax.proofs.CursorLemmas.{peeked}
@@ -7,7 +7,7 @@ use Rattle.bites_syntax.proofs.parse.Parser.step.Goals as goal
 
 pub returns-then-depth-gt0-clause-steps : goal.returns-then-depth-gt0-clause-steps
 returns-then-depth-gt0-clause-steps c = λ limit parsed g bs ts is n.
-    inr (end_in_group limit (inner ranges_of limit n) n g bs ts c.args.depth c.args.self.now.cursor c.in_default.ensures c.if-depth-gt0.true)
+    inr (end_in_group limit (inner ranges_of limit n) n g bs ts c.args.depth c.args.self.now.cursor c.in_default.ensures c.if-depth-gt0.true ∙ ap Some (sym c.fault.ensures))
 
 pub returns-in_default-clause-steps : goal.returns-in_default-clause-steps
 returns-in_default-clause-steps c = λ limit parsed g bs ts is n. record {
@@ -31,7 +31,7 @@ returns-then-c-eq40-clause-steps c = λ limit parsed g bs ts is n.
 pub returns-then-depth-eq0-clause-steps : goal.returns-then-depth-eq0-clause-steps
 returns-then-depth-eq0-clause-steps c = λ limit parsed g bs ts is n.
     inr (close_none limit (inner ranges_of limit n) n g bs ts c.args.depth c.args.self.now.cursor _ c.in-Some.c c.in-Some.ensures
-    (closing_of c.args.self.now.cursor _ c.in-Some.c c.in-Some.ensures c.requires c.if-c-eq40.false) c.if-depth-eq0.true)
+    (closing_of c.args.self.now.cursor _ c.in-Some.c c.in-Some.ensures c.requires c.if-c-eq40.false) c.if-depth-eq0.true ∙ ap Some (sym c.fault-then-depth-eq0.ensures))
 
 pub returns-clause-steps : goal.returns-clause-steps
 returns-clause-steps c = λ limit parsed g bs ts is n. record {

@@ -8,15 +8,15 @@ use Rattle.bites_theorems.proofs.calls.over_bytes.search_anchored.Goals as goal
 pub returns-clause-exactly : goal.returns-clause-exactly
 returns-clause-exactly c =
     written_exactly c.args.regex.now c.args.haystack.now c.args.start _ (laws.searches_have_starts c.args.haystack.now c.args.start).1 c.as_str.ensures.compiled excerpt_of
-    c.captures_read_anchored_at_with.result c.captures_read_anchored_at_with.ensures.found
+    c.captures_read_anchored_at_with.result c.captures_read_anchored_at_with.ensures.read.found.span
 
 pub returns-clause-whole : goal.returns-clause-whole
 returns-clause-whole c =
     written_whole c.args.regex.now c.args.haystack.now c.args.start _ (laws.searches_have_starts c.args.haystack.now c.args.start).1 c.as_str.ensures.compiled excerpt_of
-    c.captures_read_anchored_at_with.result c.captures_read_anchored_at_with.ensures.found _ _ c.captures_read_anchored_at_with.ensures.groups
+    c.captures_read_anchored_at_with.result c.captures_read_anchored_at_with.ensures.read.found.span _ _ c.captures_read_anchored_at_with.ensures.read.groups
 
 pub returns-clause-headline : goal.returns-clause-headline
 returns-clause-headline c =
     let r = c.args.regex.now in let hay = c.args.haystack.now in
     on_written r hay c.args.start _ (laws.searches_have_starts hay c.args.start).1 c.as_str.ensures.compiled excerpt_of (AreFirstGroups r hay (start_alone hay c.args.start)) (first_groups r hay c.args.start _ (laws.searches_have_starts hay c.args.start).1)
-    c.captures_read_anchored_at_with.result c.captures_read_anchored_at_with.ensures.found _ _ c.captures_read_anchored_at_with.ensures.groups
+    c.captures_read_anchored_at_with.result c.captures_read_anchored_at_with.ensures.read.found.span _ _ c.captures_read_anchored_at_with.ensures.read.groups

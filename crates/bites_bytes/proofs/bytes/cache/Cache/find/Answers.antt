@@ -1,34 +1,51 @@
-use Rattle.std.proofs.Common.{◌≡◌, ◌∙◌, subst, refl}
-use Rattle.std.specs.Prelude.{option_map}
-use Rattle.bites_spec.specs.Regex.{span_at}
-use Rattle.bites_spec.specs.Counts.{IsWalked}
-use Rattle.bites_spec.specs.Utf8.{places}
-use Rattle.bites_spec.proofs.utf8.StartLemmas.{all_are_starts}
-use Rattle.bites_bytes.proofs.SlotLemmas.{ends, two_slots, none_there, answered_found, ends_lie, ends_found}
+use Rattle.std.proofs.Common.{◌∙◌, ◌≤◌, ap, sym, subst, option_map}
+use Rattle.bites_spec.specs.Run.{Answered}
+use Rattle.bites_spec.specs.Regex.{run_at}
+use Rattle.bites_spec.specs.Captured.{excerpt}
+use Rattle.bites_bytes.specs.Calls.{Searched}
+use Rattle.bites_bytes.specs.Matched.{excerpt_of}
+use Rattle.bites_bytes.specs.NextMatch.{starts_in}
+use Rattle.bites_bytes.proofs.SlotLemmas.{answered, starts_are, front_slots, none_there, two_at_least, ends_lie, found_match, found_some}
 use Rattle.bites_bytes.proofs.bytes.cache.Cache.find.Goals as goal
 
 pub returns-then-not-search-clause-found : goal.returns-then-not-search-clause-found
 returns-then-not-search-clause-found c =
-    let r = c.args.compiled.now in let hay = c.args.haystack.now in let e = c.search.ensures in
-    none_there r e.compiled hay c.args.start _ (all_are_starts hay c.args.start) c.search.result (answered_found r e.compiled hay c.args.start _ (all_are_starts hay c.args.start) c.search.result _ _ e.answered) c.if-not-search.true
+    let r = c.args.regex.now in let i = c.args.input.now in let hay = i.haystack.now in let e = c.search.ensures in
+    found_match r e.compiled hay i.start _ (starts_are i) _
+    (ap (option_map (excerpt hay))
+    (none_there r e.compiled hay i.start _ (starts_are i) _ _ _ (answered r i _ _ _ _ _ e c.requires.kind) c.if-not-search.true))
+
+pub ends_in-requires : goal.ends_in-requires
+ends_in-requires c = subst (λ n. 2 ≤ n) (sym c.search.auto.slots) (two_at_least c.args.regex.now c.search.ensures.compiled _ c.requires.slots)
+
+pub at-requires : goal.at-requires
+at-requires c =
+    let r = c.args.regex.now in let i = c.args.input.now in let hay = i.haystack.now in let e = c.search.ensures in
+    ends_lie r e.compiled hay i.start _ (starts_are i) c.ends_in.result
+    (c.ends_in.ensures
+    ∙ front_slots r e.compiled hay i.start _ (starts_are i) _ _ _ (answered r i _ _ _ _ _ e c.requires.kind) c.if-not-search.false (two_at_least r e.compiled _ c.requires.slots))
 
 pub returns-clause-found : goal.returns-clause-found
 returns-clause-found c =
-    let r = c.args.compiled.now in let hay = c.args.haystack.now in let e = c.search.ensures in
-    c.ends_in.ensures ∙ two_slots r e.compiled hay c.args.start _ (all_are_starts hay c.args.start) c.search.result _ _ refl c.if-not-search.false e.answered
+    let r = c.args.regex.now in let i = c.args.input.now in let hay = i.haystack.now in let e = c.search.ensures in
+    found_match r e.compiled hay i.start _ (starts_are i) (option_map excerpt_of c.at.result)
+    (c.at.ensures.found ∙ ap (option_map (excerpt hay)) (c.ends_in.ensures
+    ∙ front_slots r e.compiled hay i.start _ (starts_are i) _ _ _ (answered r i _ _ _ _ _ e c.requires.kind) c.if-not-search.false (two_at_least r e.compiled _ c.requires.slots)))
 
-pub returns-clause-lies : goal.returns-clause-lies
-returns-clause-lies c =
-    let r = c.args.compiled.now in let hay = c.args.haystack.now in let e = c.search.ensures in
-    ends_lie r e.compiled hay c.args.start _ (all_are_starts hay c.args.start) c.ends_in.result
-    (c.ends_in.ensures ∙ two_slots r e.compiled hay c.args.start _ (all_are_starts hay c.args.start) c.search.result _ _ refl c.if-not-search.false e.answered)
+pub returns-clause-answered : goal.returns-clause-answered
+returns-clause-answered c =
+    let r = c.args.regex.now in let i = c.args.input.now in let hay = i.haystack.now in let e = c.search.ensures in
+    let a = answered r i _ _ _ _ _ e c.requires.kind in
+    subst (λ b. Answered r.program (run_at r hay (starts_in i)) b c.args.slots.now c.search.new.slots)
+    (found_some r e.compiled hay i.start _ (starts_are i) excerpt_of c.at.result
+    (c.at.ensures.found ∙ ap (option_map (excerpt hay)) (c.ends_in.ensures
+    ∙ front_slots r e.compiled hay i.start _ (starts_are i) _ _ _ a c.if-not-search.false (two_at_least r e.compiled _ c.requires.slots))) _ _ _ a) a
 
-pub returns-clause-walked : goal.returns-clause-walked
-returns-clause-walked c =
-    let r = c.args.compiled.now in let hay = c.args.haystack.now in let e = c.search.ensures in
-    let found : option_map ends c.ends_in.result ≡ span_at r hay (places hay c.args.start) =
-    c.ends_in.ensures ∙ two_slots r e.compiled hay c.args.start _ (all_are_starts hay c.args.start) c.search.result _ _ refl c.if-not-search.false e.answered in
-    subst (λ b. IsWalked r.program hay c.args.start (places hay c.args.start) b c.search.new.self.walked)
-    (ends_found r e.compiled hay c.args.start _ (all_are_starts hay c.args.start) c.ends_in.result c.search.result found
-    (answered_found r e.compiled hay c.args.start _ (all_are_starts hay c.args.start) c.search.result _ _ e.answered))
-    e.walked
+pub returns-clause-searched : goal.returns-clause-searched
+returns-clause-searched c =
+    let r = c.args.regex.now in let i = c.args.input.now in let hay = i.haystack.now in let e = c.search.ensures in
+    let a = answered r i _ _ _ _ _ e c.requires.kind in
+    subst (λ b. Searched r.program hay i.start (starts_in i) b c.args.self.now c.search.new.self)
+    (found_some r e.compiled hay i.start _ (starts_are i) excerpt_of c.at.result
+    (c.at.ensures.found ∙ ap (option_map (excerpt hay)) (c.ends_in.ensures
+    ∙ front_slots r e.compiled hay i.start _ (starts_are i) _ _ _ a c.if-not-search.false (two_at_least r e.compiled _ c.requires.slots))) _ _ _ a) e.searched

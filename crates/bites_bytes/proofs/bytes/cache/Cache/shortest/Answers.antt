@@ -1,38 +1,25 @@
-use Rattle.std.proofs.Common.{◌∙◌, ℕ, Option, None, [], ◌∷◌, List, ap, sym, subst, refl, arith}
+use Rattle.std.proofs.Common.{◌∙◌, ap, sym, subst, arith}
 use Rattle.std.specs.Prelude.{is_some}
-use Rattle.bites_spec.specs.Program.{Program}
-use Rattle.bites_spec.specs.Run.{Run, LeastEnd, Answered}
 use Rattle.bites_spec.specs.Found.{IsLeastEnd}
-use Rattle.bites_spec.specs.Counts.{IsWalked}
-use Rattle.bites_spec.specs.Utf8.{places}
+use Rattle.bites_bytes.specs.Calls.{Searched}
+use Rattle.bites_bytes.specs.NextMatch.{starts_in}
 use Rattle.bites_bytes.proofs.SearchLemmas.{least_none, least_some}
 use Rattle.bites_bytes.proofs.bytes.cache.Cache.shortest.Goals as goal
 
 pub returns-then-not-search-clause-least : goal.returns-then-not-search-clause-least
 returns-then-not-search-clause-least c =
-    let r = c.args.compiled.now in let hay = c.args.haystack.now in let s = c.args.start in
-    let old : List (Option ℕ) = None ∷ None ∷ [] in
-    let T : Program → Type 0 = λ p. (o : Option Run) × LeastEnd p hay (places hay s) o × Answered p o c.search.result old c.search.new.slots in
-    let found = subst T c.program-program.ensures.program (c.search.ensures.least refl) in
-    least_none r c.program-program.ensures.compiled hay (places hay s) found.0 c.search.result old c.search.new.slots found.1 found.2 c.if-not-search.true
+    let i = c.args.input.now in let e = c.search.ensures in let found = e.least c.requires.kind in
+    least_none c.args.regex.now e.compiled i.haystack.now (starts_in i) found.0 c.search.result _ _ found.1 found.2 c.if-not-search.true
 
 pub returns-clause-least : goal.returns-clause-least
 returns-clause-least c =
-    let r = c.args.compiled.now in let hay = c.args.haystack.now in let s = c.args.start in
-    let old : List (Option ℕ) = None ∷ None ∷ [] in
-    let T : Program → Type 0 = λ p. (o : Option Run) × LeastEnd p hay (places hay s) o × Answered p o c.search.result old c.search.new.slots in
-    let found = subst T c.program-program.ensures.program (c.search.ensures.least refl) in
-    let least = least_some r c.program-program.ensures.compiled hay (places hay s) found.0 c.search.result old c.search.new.slots found.1 found.2 c.if-not-search.false (omega arith) in
-    subst (IsLeastEnd r.tree hay (places hay s)) (sym c.end_in.ensures) least.0
+    let r = c.args.regex.now in let i = c.args.input.now in let e = c.search.ensures in let found = e.least c.requires.kind in
+    let least = least_some r e.compiled i.haystack.now (starts_in i) found.0 c.search.result _ _ found.1 found.2 c.if-not-search.false (omega arith) in
+    subst (IsLeastEnd r.tree i.haystack.now (starts_in i)) (sym c.end_in.ensures) least.0
 
-pub returns-clause-walked : goal.returns-clause-walked
-returns-clause-walked c =
-    let r = c.args.compiled.now in let hay = c.args.haystack.now in let s = c.args.start in
-    let old : List (Option ℕ) = None ∷ None ∷ [] in
-    let T : Program → Type 0 = λ p. (o : Option Run) × LeastEnd p hay (places hay s) o × Answered p o c.search.result old c.search.new.slots in
-    let found = subst T c.program-program.ensures.program (c.search.ensures.least refl) in
-    let least = least_some r c.program-program.ensures.compiled hay (places hay s) found.0 c.search.result old c.search.new.slots found.1 found.2 c.if-not-search.false (omega arith) in
-    let walked : IsWalked r.program hay s (places hay s) c.search.result c.search.new.cache.walked =
-    subst (λ p. IsWalked p hay s (places hay s) c.search.result c.search.new.cache.walked) c.program-program.ensures.program (c.search.ensures.bounded, c.search.ensures.visited) in
-    subst (λ b. IsWalked r.program hay s (places hay s) b c.search.new.cache.walked)
-    (c.if-not-search.false ∙ sym least.1 ∙ ap is_some (sym c.end_in.ensures)) walked
+pub returns-clause-searched : goal.returns-clause-searched
+returns-clause-searched c =
+    let r = c.args.regex.now in let i = c.args.input.now in let e = c.search.ensures in let found = e.least c.requires.kind in
+    let least = least_some r e.compiled i.haystack.now (starts_in i) found.0 c.search.result _ _ found.1 found.2 c.if-not-search.false (omega arith) in
+    subst (λ b. Searched r.program i.haystack.now i.start (starts_in i) b c.args.self.now c.search.new.self)
+    (c.if-not-search.false ∙ sym least.1 ∙ ap is_some (sym c.end_in.ensures)) e.searched

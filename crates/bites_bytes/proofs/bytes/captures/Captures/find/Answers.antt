@@ -1,13 +1,11 @@
-use Rattle.std.proofs.Common.{subst}
+use Rattle.std.proofs.Common.{◌∙◌, subst, sym}
 use Rattle.bites_spec.specs.Captured.{AreGroups}
-use Rattle.bites_spec.proofs.regex.RegexRuns.{slots_are_groups}
-use Rattle.bites_spec.proofs.utf8.StartLemmas.{all_are_starts}
-use Rattle.bites_bytes.proofs.SlotLemmas.{slots_there}
+use Rattle.bites_bytes.specs.Matched.{excerpt_of}
+use Rattle.bites_bytes.proofs.SlotLemmas.{starts_are, read_are_groups, some_mapped}
 use Rattle.bites_bytes.proofs.bytes.captures.Captures.find.Goals as goal
 
 pub invariant_of-result : goal.invariant_of-result
 invariant_of-result c =
-    let r = c.deref.result.now in let hay = c.args.haystack.now in let e = c.search.ensures in
-    subst (λ q. AreGroups q hay c.search.new.self) c.deref.ensures
-    (slots_are_groups r e.compiled hay c.args.start _ (all_are_starts hay c.args.start) c.search.new.self
-    (slots_there r e.compiled hay c.args.start _ (all_are_starts hay c.args.start) c.search.result _ c.search.new.self e.found c.if-not-search.false e.slots))
+    let r = c.args.regex.now in let i = c.args.input.now in let e = c.find.ensures in
+    subst (λ q. AreGroups q i.haystack.now c.find.new.self) (sym (c.in_ok-compiled.ensures.cases ∙ c.compiled.ensures))
+    (read_are_groups r e.compiled i.haystack.now i.start _ (starts_are i) _ _ _ e.read (some_mapped excerpt_of c.find.result ∙ c.if-is_none.ensures))

@@ -1,10 +1,22 @@
-use Rattle.std.proofs.Common.{subst}
-use Rattle.bites_spec.specs.Captured.{AreGroups}
+use Rattle.std.proofs.Common.{◌∙◌, None, Some, subst, sym}
+use Rattle.bites_spec.specs.Captured.{AreGroups, captured}
+use Rattle.bites_bytes.specs.Calls.{FindsCapturedFull}
 use Rattle.bites_spec.proofs.regex.FullLemmas.{full_slots_are_groups}
+use Rattle.bites_bytes.proofs.FullLemmas.{captured_full}
 use Rattle.bites_bytes.proofs.bytes.captures.Captures.find_full.Goals as goal
+
+pub returns-then-not-find_full-clause-found : goal.returns-then-not-find_full-clause-found
+returns-then-not-find_full-clause-found c =
+    let e = c.find_full.ensures in captured_full c.args.regex.now e.compiled c.args.haystack.now None (e.none c.if-not-find_full.true)
 
 pub invariant_of-result : goal.invariant_of-result
 invariant_of-result c =
-    let r = c.deref.result.now in let hay = c.args.haystack.now in let e = c.search_full.ensures in
-    subst (λ q. AreGroups q hay c.search_full.new.self) c.deref.ensures
-    (full_slots_are_groups r e.compiled hay c.search_full.new.self (e.found c.if-not-search_full.false))
+    let r = c.args.regex.now in let hay = c.args.haystack.now in let e = c.find_full.ensures in
+    subst (λ q. AreGroups q hay c.find_full.new.self) (sym (c.in_ok-compiled.ensures.cases ∙ c.compiled.ensures))
+    (full_slots_are_groups r e.compiled hay c.find_full.new.self (e.found c.if-not-find_full.false))
+
+pub returns-clause-found : goal.returns-clause-found
+returns-clause-found c =
+    let r = c.args.regex.now in let hay = c.args.haystack.now in let new = c.find_full.new.self in let e = c.find_full.ensures in
+    subst (λ q. FindsCapturedFull r hay (Some (captured q hay new))) (sym (c.in_ok-compiled.ensures.cases ∙ c.compiled.ensures))
+    (captured_full r e.compiled hay (Some new) (e.found c.if-not-find_full.false))

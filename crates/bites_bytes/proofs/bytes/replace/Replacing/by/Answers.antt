@@ -1,4 +1,4 @@
-use Rattle.std.proofs.Common.{◌≤◌, ◌∙◌, sym, ap, subst}
+use Rattle.std.proofs.Common.{◌∙◌, sym, ap, subst}
 use Rattle.bites_spec.specs.Counts.{fit_of}
 use Rattle.bites_spec.specs.Regex.{Regex}
 use Rattle.bites_bytes.specs.Replacing.{StepsBy, captures_to_replace}
@@ -16,7 +16,6 @@ loop-preserved g c =
           steps.0 (captures_to_replace t.self) steps.2 steps.1 t.replacer steps.3;
       on = on_on R.replaces R.answers c.args.self.now c.args.replacer.now l.self l.replacer t.self t.replacer l.invariant.on on;
       fits = e.len ∙ l.invariant.fits ∙ ap (λ (r : Regex). r.program.slots) (sym on.same.0);
-      whole = subst (λ n. 2 ≤ n) (sym e.len) l.invariant.whole;
       cache = e.fits ∙ l.invariant.cache ∙ ap (λ (r : Regex). fit_of r.program) (sym on.same.0);
       kept = e.fits ∙ l.invariant.kept;
     }

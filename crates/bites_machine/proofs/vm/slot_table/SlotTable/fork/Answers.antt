@@ -1,4 +1,4 @@
-use Rattle.std.proofs.Common.{subst, sym}
+use Rattle.std.proofs.Common.{subst, sym, inl, refl}
 use Rattle.bites_machine.specs.Used.{ForksTo}
 use Rattle.bites_machine.proofs.tables.UsedLemmas.{user_known, user_counted, few_users, shared, copied}
 use Rattle.bites_machine.proofs.vm.slot_table.SlotTable.fork.Goals as goal
@@ -28,3 +28,4 @@ pub returns-else-pending_len-eq0 : goal.returns-else-pending_len-eq0
 returns-else-pending_len-eq0 c =
     copied c.args.place c.args.row c.args.pending_len c.copy.result c.args.self.now c.copy.new.self c.copy.ensures.known c.copy.ensures.fresh c.copy.ensures.other
     c.copy.ensures.ref_counts c.copy.ensures.rows c.copy.ensures.pending c.copy.ensures.slots_per_row c.requires.used.1.rows c.copy.ensures.max_slots
+    (c.requires.used.1.wide c.args.row (inl refl))

@@ -1,17 +1,14 @@
-use Rattle.std.proofs.Common.{◌∙◌, ap, option_map}
+use Rattle.std.proofs.Common.{option_map}
 use Rattle.bites_spec.proofs.utf8.StartLemmas.{all_are_starts}
 use Rattle.bites_spec.specs.Utf8.{places}
-use Rattle.bites_spec.specs.Regex.{span_at}
-use Rattle.bites_spec.specs.Captured.{excerpt}
+use Rattle.bites_spec.specs.Captured.{FindsMatch}
 use Rattle.bites_bytes.specs.Matched.{excerpt_of}
-use Rattle.regex_bites.proofs.BorderLemmas.{found_part}
+use Rattle.regex_bites.proofs.BorderLemmas.{over_text, found_part}
 use Rattle.regex_bites.proofs.string.regex.Regex.find_at_with.Goals as goal
 
 pub of_found-requires : goal.of_found-requires
 of_found-requires c =
-    found_part c.args.haystack.now c.utf8.haystack c.args.self.now c.over_bytes.ensures.compiled excerpt_of c.args.start _
-    (all_are_starts c.args.haystack.now c.args.start) c.requires.border
-    c.find_at_with-found.result
-    (c.find_at_with-found.ensures.found.span
-    ∙ ap (λ hay. option_map (excerpt hay) (span_at c.over_bytes.result.now hay (places hay c.args.start))) c.as_bytes.ensures.value
-    ∙ ap (λ r. option_map (excerpt c.args.haystack.now) (span_at r c.args.haystack.now (places c.args.haystack.now c.args.start))) c.over_bytes.ensures.same)
+    let hay = c.args.haystack.now in let s = c.args.start in let found = c.find_at_with-found in
+    let match = over_text (λ r h. FindsMatch r h (places h s) (option_map excerpt_of found.result))
+    _ _ _ _ c.over_bytes.ensures.same c.as_bytes.ensures.value found.ensures.found in
+    found_part hay c.utf8.haystack c.args.self.now c.over_bytes.ensures.compiled excerpt_of s _ (all_are_starts hay s) c.requires.border found.result match.span

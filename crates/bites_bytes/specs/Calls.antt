@@ -1,0 +1,66 @@
+-- What the calls of a regex promise: a word for each promise.
+use Rattle.std.specs.Prelude.{◌≡◌, ℕ, Bool, List, [], ◌∷◌, Option, Some, None, option_map, unwrap_or, length, IfSome, MatchOption}
+use Rattle.bites_spec.specs.Match.{Span}
+use Rattle.bites_spec.specs.Program.{Program}
+use Rattle.bites_spec.specs.Counts.{Room, IsBounded, IsWalked}
+use Rattle.bites_spec.specs.Slots.{group_in}
+use Rattle.bites_spec.specs.Spans.{LiesFrom}
+use Rattle.bites_spec.specs.Found.{NoMatch}
+use Rattle.bites_spec.specs.Regex.{Regex, slots_at}
+use Rattle.bites_spec.specs.Captured.{Excerpt, Captured, captured, AreGroups, AreGroupsFrom, FindsGroups, FindsMatch}
+use Rattle.bites_spec.specs.Full.{full_slots, FindsGroupsFull}
+use Rattle.bites_spec.specs.Iteration.{spans_after, captures_after}
+
+-- a search from s that may begin at these starts was made with the room: it fits the same programs as before, and shows what
+-- the search visited
+pub record Searched (p : Program) (hay : List ℕ) (s : ℕ) (starts : List ℕ) (found : Bool) (old new : Room) : Type 0 where
+  pub fits : new.fits ≡ old.fits
+  pub walked : IsWalked p hay s starts found new.walked
+
+-- the same, of which only the bounds are known
+pub record SearchedWithin (p : Program) (hay : List ℕ) (s : ℕ) (old new : Room) : Type 0 where
+  pub fits : new.fits ≡ old.fits
+  pub bounded : IsBounded p hay s new.walked
+
+-- a search of the regex from these starts finds these groups, or none
+pub record FindsCaptured (r : Regex) (hay starts : List ℕ) (c : Option Captured) : Type 0 where
+  pub found : c ≡ option_map (captured r hay) (slots_at r hay starts)
+  pub on_tree : FindsGroups r hay starts (option_map (λ x. x.slots) c)
+  pub regex : IfSome c (λ x. x.regex ≡ r)
+  pub haystack : IfSome c (λ x. x.haystack ≡ hay)
+
+-- the same for a match of the whole haystack
+pub record FindsCapturedFull (r : Regex) (hay : List ℕ) (c : Option Captured) : Type 0 where
+  pub found : c ≡ option_map (captured r hay) (full_slots r hay)
+  pub on_tree : FindsGroupsFull r hay (option_map (λ x. x.slots) c)
+  pub regex : IfSome c (λ x. x.regex ≡ r)
+  pub haystack : IfSome c (λ x. x.haystack ≡ hay)
+
+-- a search of the regex from these starts finds this part of the haystack, or none, and writes its groups over the old slots
+pub record ReadsGroups (r : Regex) (hay starts : List ℕ) (m : Option Excerpt) (old new : List (Option ℕ)) : Type 0 where
+  pub found : FindsMatch r hay starts m
+  pub groups : new ≡ unwrap_or (slots_at r hay starts) old
+  pub on_tree : MatchOption m (NoMatch r.tree hay starts) (λ x. AreGroupsFrom r hay starts new)
+
+-- a part of the haystack is the first of the matches after one that ends at `last`, or of all; the others follow it
+pub record IsNext (r : Regex) (hay : List ℕ) (last : Option ℕ) (m : Excerpt) : Type 0 where
+  pub haystack : m.haystack ≡ hay
+  pub lies : LiesFrom (length hay) (unwrap_or last 0) m.span
+  pub follow : spans_after r hay last ≡ m.span ∷ spans_after r hay (Some m.span.end)
+
+-- the next match is found, or there is none
+abbrev pub FindsNext : Regex → List ℕ → Option ℕ → Option Excerpt → Type 0
+FindsNext r hay last None = spans_after r hay last ≡ []
+FindsNext r hay last (Some m) = IsNext r hay last m
+
+-- the slots hold the groups of the next match; those of the other matches follow
+pub record AreNextGroups (r : Regex) (hay : List ℕ) (last : Option ℕ) (m : Excerpt) (slots : List (Option ℕ)) : Type 0 where
+  pub next : IsNext r hay last m
+  pub are : AreGroups r hay slots
+  pub whole : group_in slots 0 ≡ Some m.span
+  pub follow : captures_after r hay last ≡ captured r hay slots ∷ captures_after r hay (Some m.span.end)
+
+-- the next match is found with its groups, or there is none
+abbrev pub ReadsNext : Regex → List ℕ → Option ℕ → Option Excerpt → List (Option ℕ) → Type 0
+ReadsNext r hay last None slots = (spans_after r hay last ≡ []) × (captures_after r hay last ≡ [])
+ReadsNext r hay last (Some m) slots = AreNextGroups r hay last m slots

@@ -1,0 +1,37 @@
+-- What builders of sets return where they build none, and what an iterator over the numbers of patterns has left.
+use Rattle.std.specs.Prelude.{◌≡◌, ℕ, ◌<◌, List, slice_get, Some}
+use Rattle.std.specs.Borrow.{Bor}
+use Rattle.bites_spec.specs.Tree.{Tree}
+use Rattle.bites_spec.specs.Settings.{Accepts}
+use Rattle.bites_spec.specs.Set.{SetSettings, with_pattern}
+use Rattle.bites_text.specs.declared.error.Error.{Error}
+use Rattle.bites_bytes.specs.Settings.{Refuses}
+
+-- the number of a pattern that is not built, and why
+pub record Refusal : Type 0 where
+  pub index : ℕ
+  pub error : Error
+
+-- The pattern with this number is not accepted, with this error. Those before it are.
+pub record IsRefused (s : SetSettings) (refusal : Refusal) : Type 0 where
+  pub pattern : List ℕ
+  pub at : slice_get s.patterns refusal.index ≡ Some pattern
+  pub none : (t : Tree) → Accepts (with_pattern s.all pattern) t → ⊥
+  pub message : Refuses (with_pattern s.all pattern) refusal.error
+  pub first : (k : ℕ) (p : List ℕ) → k < refusal.index → slice_get s.patterns k ≡ Some p → (t : Tree) × Accepts (with_pattern s.all p) t
+
+-- all numbers that are left
+abbrev pub every_number : List ℕ → List ℕ
+every_number numbers = numbers
+
+-- all patterns that are left
+abbrev pub every_pattern : List (List ℕ) → List (List ℕ)
+every_pattern patterns = patterns
+
+-- a pattern by its bytes
+abbrev pub bytes_of : Bor (List ℕ) → List ℕ
+bytes_of text = text.now
+
+-- a refusal by its parts
+abbrev pub refusal : ℕ → Error → Refusal
+refusal index error = record { index = index; error = error }

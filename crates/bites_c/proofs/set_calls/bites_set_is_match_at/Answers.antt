@@ -1,0 +1,18 @@
+use Rattle.std.proofs.Common.{◌≡◌, List, Some, sym, ap, ◌∙◌}
+use Rattle.std.specs.Prelude.{⊤}
+use Rattle.bites_spec.specs.Regex.{Regex}
+use Rattle.bites_spec.specs.Set.{HasMatchOfAny}
+use Rattle.bites_spec.specs.Utf8.{places}
+use Rattle.bites_c.specs.Searched.{AnswersIf}
+use Rattle.bites_c.specs.Sets.{SetHeld}
+use Rattle.bites_c.specs.declared.set.BitesSet.{BitesSet}
+use Rattle.bites_c.proofs.SetLemmas.{refused_set}
+use Rattle.bites_c.proofs.set_calls.bites_set_is_match_at.Goals as goal
+
+pub returns-in-Some-fault_from-clause-answered : goal.returns-in-Some-fault_from-clause-answered
+returns-in-Some-fault_from-clause-answered c =
+    let hay = c.args.haystack.now in let start = c.args.start in let code = c.in-Some-fault_from.code in
+    refused_set hay start c.args.set.now.held c.in-Some.held.value c.is_text.result code ⊤
+    (λ (rs : List Regex). AnswersIf code (HasMatchOfAny rs hay (places hay start)))
+    (ap (λ (s : BitesSet). s.held) (sym c.replace.ensures.value) ∙ c.in-Some.ensures)
+    (c.is_text.ensures ∙ ap (λ (h : SetHeld). h.is_text) c.deref.ensures) tt c.in-Some-fault_from.ensures

@@ -1,0 +1,104 @@
+-- The laws of searches that begin later.
+use Rattle.std.proofs.Common.{◌≡◌, ℕ, zero, suc, ◌+◌, ◌<◌, ◌≤◌, Bool, true, false, cond, List, [], ◌∷◌, ◌++◌, length, Option, Some, None, refl, sym, ap, ◌∙◌, subst, ◌⊎◌, inl, inr, ⊎_elim, arith, leb-true}
+use Rattle.std.specs.Prelude.{nat_le}
+use Rattle.std.proofs.lemmas.Bool.{cases_Bool}
+use Rattle.bites_spec.specs.Walks.{Among}
+use Rattle.bites_spec.specs.Utf8.{places, places_within, step_len}
+use Rattle.bites_spec.specs.Tree.{Tree, IsPlain}
+use Rattle.bites_spec.specs.Match.{Mark, Matches}
+use Rattle.bites_spec.specs.Found.{Answer, FoundBy, head_of, first_ending, parse_to}
+use Rattle.bites_spec.specs.Preference.{parses}
+use Rattle.bites_spec.proofs.utf8.PieceLemmas.{Among-places_within, step_some}
+use Rattle.bites_literals.specs.Begins.{NoneBefore}
+use Rattle.bites_literals.specs.Laws.{PlacesGoOn, FindsFromThere, LeastEndFromThere}
+
+module _ (hay : List ℕ) where
+  none_past : (n s : ℕ) → length hay < s → places_within n hay s ≡ []
+  none_past zero s lt = refl
+  none_past (suc n) s lt = ⊎_elim (λ (e : nat_le s (length hay) ≡ true). absurd (omega (arith, leb-true s (length hay) e, lt)))
+      (λ (e : nat_le s (length hay) ≡ false). ap (λ b. cond b (s ∷ places_within n hay (s + step_len hay s)) []) e) (cases_Bool (nat_le s (length hay)))
+
+  -- more steps than there are bytes left give the same places
+  same_places : (n m s : ℕ) → length hay < n + s → length hay < m + s → places_within n hay s ≡ places_within m hay s
+  same_places zero m s a b = sym (none_past m s (omega arith))
+  same_places (suc n) zero s a b = none_past (suc n) s (omega arith)
+  same_places (suc n) (suc m) s a b =
+      ap (λ l. cond (nat_le s (length hay)) (s ∷ l) [])
+      (same_places n m (s + step_len hay s) (omega (arith, step_some hay s)) (omega (arith, step_some hay s)))
+
+  abbrev Tail : List ℕ → ℕ → ℕ → Type 0
+  Tail all m p = (front : List ℕ) × (all ≡ front ++ places_within m hay p) × ((i : ℕ) → Among front i → i < p)
+
+  tail_within : (n m s p : ℕ) → length hay < n + s → length hay < m + p → Among (places_within n hay s) p → Tail (places_within n hay s) m p
+  tail_within zero m s p a b among = absurd among
+  tail_within (suc n) m s p a b among =
+      by (nat_le s (length hay)) among (same_places (suc n) m s a) (λ more. tail_within n m (s + step_len hay s) p (omega (arith, step_some hay s)) b more)
+    where
+      later : Among (places_within n hay (s + step_len hay s)) p → s < p
+      later more = omega (arith, (Among-places_within n hay (s + step_len hay s) p more).0, step_some hay s)
+
+      by : (c : Bool) → Among (cond c (s ∷ places_within n hay (s + step_len hay s)) []) p →
+          (length hay < m + s → cond c (s ∷ places_within n hay (s + step_len hay s)) [] ≡ places_within m hay s) →
+          (Among (places_within n hay (s + step_len hay s)) p → Tail (places_within n hay (s + step_len hay s)) m p) →
+          Tail (cond c (s ∷ places_within n hay (s + step_len hay s)) []) m p
+      by false among same more = absurd among
+      by true (inl here) same more = ([], same (omega (arith, here)) ∙ ap (λ k. places_within m hay k) here, λ i none. absurd none)
+      by true (inr there) same more =
+          let t = more there in
+          (s ∷ t.0, ap (λ l. s ∷ l) t.1, in_front t.0 t.2 (later there))
+        where
+          in_front : (front : List ℕ) → ((i : ℕ) → Among front i → i < p) → s < p → (i : ℕ) → Among (s ∷ front) i → i < p
+          in_front front less lt i (inl here) = omega (arith, here, lt)
+          in_front front less lt i (inr there) = less i there
+
+pub places_go_on : PlacesGoOn
+unfolding places
+places_go_on hay start p among = tail_within hay (suc (length hay)) (suc (length hay)) start p (omega arith) (omega arith) among
+
+among_back : (front rest : List ℕ) (i : ℕ) → Among rest i → Among (front ++ rest) i
+among_back [] rest i h = h
+among_back (x ∷ front) rest i h = inr (among_back front rest i h)
+
+among_one : (front rest : List ℕ) (i : ℕ) → Among (front ++ rest) i → Among front i ⊎ Among rest i
+among_one [] rest i h = inr h
+among_one (x ∷ front) rest i (inl h) = inl (inl h)
+among_one (x ∷ front) rest i (inr h) = ⊎_elim (λ f. inl (inr f)) (λ r. inr r) (among_one front rest i h)
+
+module _ (t : Tree) (hay : List ℕ) (start p : ℕ) (none : NoneBefore t hay start p) where
+  back : (i : ℕ) → Among (places hay p) i → Among (places hay start) i
+  back i h =
+      let tail = places_go_on hay start p none.place in
+      subst (λ (l : List ℕ). Among l i) (sym tail.1) (among_back tail.0 (places hay p) i h)
+
+  before_or : (i : ℕ) → Among (places hay start) i → (i < p) ⊎ Among (places hay p) i
+  before_or i h =
+      let tail = places_go_on hay start p none.place in
+      ⊎_elim (λ f. inl (tail.2 i f)) (λ r. inr r) (among_one tail.0 (places hay p) i (subst (λ (l : List ℕ). Among l i) tail.1 h))
+
+  -- what holds of a match from p on holds of one from the start on
+  by_later : {A : Type 0} → (i : ℕ) → Among (places hay start) i → (j : ℕ) → Matches hay t i j → (Among (places hay p) i → A) → A
+  by_later i among j m later = ⊎_elim (λ less. absurd (none.none_before i among less j m)) later (before_or i among)
+
+  found : (Q : (i j : ℕ) → List Mark → Type 0) (o : Option Answer) → FoundBy t hay Q (places hay p) o → FoundBy t hay Q (places hay start) o
+  found Q None f = λ i among j m. by_later i among j m (λ later. f i later j m)
+  found Q (Some a) f = record {
+    first = record {
+      place = back a.start f.first.place;
+      matches = f.first.matches;
+      none_before = λ k among lt j m. by_later k among j m (λ later. f.first.none_before k later lt j m);
+    };
+    marks = f.marks;
+    parse = f.parse;
+    groups = f.groups;
+    chosen = f.chosen;
+  }
+
+pub finds_from_there : FindsFromThere
+finds_from_there t hay start p none true o f =
+    found t hay start p none (λ i j ms. ((l : ℕ) → Matches hay t i l → l ≤ j) × (IsPlain t → first_ending j (parses hay t i) ≡ Some (parse_to j ms))) o f
+finds_from_there t hay start p none false o f = found t hay start p none (λ i j ms. IsPlain t → head_of (parses hay t i) ≡ Some (parse_to j ms)) o f
+
+pub least_end_from_there : LeastEndFromThere
+least_end_from_there t hay start p none None f = λ i among j m. by_later t hay start p none i among j m (λ later. f i later j m)
+least_end_from_there t hay start p none (Some j) ((i, among, m), least) =
+    ((i, back t hay start p none i among, m), λ k other l n. by_later t hay start p none k other l n (λ later. least k later l n))

@@ -1,0 +1,6 @@
+pub mod TextLemmas
+pub mod FactLemmas
+pub mod CharacterFacts
+pub mod PlaceLemmas
+pub mod BeginLemmas
+pub mod LawLemmas

@@ -1,0 +1,60 @@
+-- Texts that stand in a haystack: one after another, and in a longer stretch.
+use Rattle.std.proofs.Common.{◌≡◌, ℕ, ◌+◌, ◌-◌, ◌<◌, ◌≤◌, Bool, true, false, ◌||◌, List, ◌++◌, length, get_or, Option, Some, None, sym, ap, ◌∙◌, subst, inl, inr, arith, length-append}
+use Rattle.std.specs.Prelude.{IfSome}
+use Rattle.std.specs.Char.{to_ascii_lowercase}
+use Rattle.std.proofs.lemmas.Bool.{cases_lt}
+use Rattle.std.proofs.lemmas.List.{get_or_append_left}
+use Rattle.std.proofs.Math.Seq.{get_or-append_right}
+use Rattle.bites_scan.specs.Literal.{folding}
+use Rattle.bites_literals.specs.Facts.{IsSum}
+use Rattle.bites_literals.specs.Texts.{Holds, Stands}
+
+-- bytes that are equal stay so if case is ignored
+left_equal : (a b : Bool) (x y : ℕ) → folding a x ≡ folding a y → folding (a || b) x ≡ folding (a || b) y
+left_equal true b x y e = e
+left_equal false b x y e = ap (folding b) e
+
+right_equal : (a b : Bool) (x y : ℕ) → folding b x ≡ folding b y → folding (a || b) x ≡ folding (a || b) y
+right_equal true true x y e = e
+right_equal true false x y e = ap to_ascii_lowercase e
+right_equal false b x y e = e
+
+pub stand_together : (a b : Bool) (xs ys hay : List ℕ) (i : ℕ) → Stands a xs hay i → Stands b ys hay (i + length xs) → Stands (a || b) (xs ++ ys) hay i
+stand_together a b xs ys hay i s t k h =
+    elim (cases_lt k (length xs)) [
+      | inl l ↦
+          let own = s k l in
+          (own.0, left_equal a b (get_or hay (i + k) 0) (get_or (xs ++ ys) k 0) (own.1 ∙ ap (folding a) (sym (get_or_append_left xs ys 0 k l))))
+      | inr g ↦
+          let m : ℕ = k - length xs in
+          let at : i + length xs + m ≡ i + k = omega arith in
+          let own = t m (omega (arith, length-append xs ys)) in (
+            subst (λ p. p < length hay) at own.0,
+            right_equal a b (get_or hay (i + k) 0) (get_or (xs ++ ys) k 0)
+                (ap (λ p. folding b (get_or hay p 0)) (sym at) ∙ own.1 ∙ ap (folding b) (sym (get_or-append_right xs ys k 0 g))),
+          )
+    ]
+
+pub hold_longer : (c : Bool) (bytes : List ℕ) (before : Option ℕ) (hay : List ℕ) (i l j : ℕ) → l ≤ j → Holds c bytes before hay i l → Holds c bytes before hay i j
+hold_longer c bytes before hay i l j le h = record { at = h.at; onward = h.onward; within = omega (arith, h.within, le); near = h.near; stands = h.stands }
+
+near_later : (most before after : Option ℕ) (i l at : ℕ) → IsSum most before after → IfSome most (λ n. l ≤ i + n) → IfSome before (λ n. at ≤ l + n) → IfSome after (λ n. at ≤ i + n)
+near_later most before None i l at is m b = tt
+near_later most before (Some r) i l at (x, y, ex, ey, e) m b =
+    let mx : l ≤ i + x = subst (λ o. IfSome o (λ n. l ≤ i + n)) ex m in
+    let by : at ≤ l + y = subst (λ o. IfSome o (λ n. at ≤ l + n)) ey b in
+    omega (arith, mx, by, e)
+
+pub hold_later : (c : Bool) (bytes : List ℕ) (most before after : Option ℕ) (hay : List ℕ) (i l j : ℕ) → i ≤ l → IsSum most before after → IfSome most (λ n. l ≤ i + n) →
+    Holds c bytes before hay l j → Holds c bytes after hay i j
+hold_later c bytes most before after hay i l j le is m h = record {
+  at = h.at;
+  onward = omega (arith, le, h.onward);
+  within = h.within;
+  near = near_later most before after i l h.at is m h.near;
+  stands = h.stands;
+}
+
+-- a text at the beginning is one behind at most so many bytes
+pub hold_front : (c : Bool) (bytes : List ℕ) (before : Option ℕ) (hay : List ℕ) (i l j : ℕ) → i ≤ l → IfSome before (λ n. l ≤ i + n) → Stands c bytes hay l → l + length bytes ≤ j → Holds c bytes before hay i j
+hold_front c bytes before hay i l j le near s within = record { at = l; onward = le; within = within; near = near; stands = s }

@@ -1,0 +1,78 @@
+-- What is known of each match of a tree.
+use Rattle.std.specs.Prelude.{◌≡◌, ℕ, ◌+◌, ◌*◌, ◌<◌, ◌≤◌, max, true, false, List, length, slice_index, Option, Some, None, IfSome}
+use Rattle.std.specs.Char.{to_ascii_lowercase}
+use Rattle.bites_spec.specs.Range.{Range, in_ranges}
+use Rattle.bites_spec.specs.Tree.{Tree, Trees}
+use Rattle.bites_spec.specs.Match.{Matches, MatchesAll, MatchesOne}
+use Rattle.bites_literals.specs.declared.facts.Facts.{Facts}
+use Rattle.bites_literals.specs.declared.facts.Needed.{Needed}
+use Rattle.bites_literals.specs.Texts.{Holds, Stands, bytes_of}
+
+-- M says of a haystack what lies between two of its offsets
+
+-- it has at most so many bytes
+abbrev pub IsMost : (List ℕ → ℕ → ℕ → Type 0) → Option ℕ → Type 0
+IsMost M most = IfSome most (λ n. (hay : List ℕ) (i j : ℕ) → M hay i j → j ≤ i + n)
+
+-- it holds no line feed
+abbrev pub HasNoLineFeed : (List ℕ → ℕ → ℕ → Type 0) → Type 0
+HasNoLineFeed M = (hay : List ℕ) (i j : ℕ) → M hay i j → (k : ℕ) → i ≤ k → k < j → slice_index hay k ≡ 10 → ⊥
+
+-- it holds the text
+abbrev pub IsHeld : (List ℕ → ℕ → ℕ → Type 0) → Option Needed → Type 0
+IsHeld M needed =
+    IfSome needed (λ n. (hay : List ℕ) (i j : ℕ) → M hay i j → Holds n.text.caseless (bytes_of n.text) n.before hay i j)
+
+-- these facts hold of it
+pub record AreFactsOf (M : List ℕ → ℕ → ℕ → Type 0) (f : Facts) : Type 0 where
+  pub onward : (hay : List ℕ) (i j : ℕ) → M hay i j → i ≤ j
+  pub most : IsMost M f.most
+  pub feeds : f.feeds ≡ false → HasNoLineFeed M
+  pub front : (hay : List ℕ) (i j : ℕ) → M hay i j → Stands f.front.caseless (bytes_of f.front) hay i × (i + length (bytes_of f.front) ≤ j)
+  pub whole : f.whole ≡ true → (hay : List ℕ) (i j : ℕ) → M hay i j → j ≡ i + length (bytes_of f.front)
+  pub needed : IsHeld M f.needed
+
+-- they hold of what is empty
+abbrev pub AreEmptyFacts : Facts → Type 0
+AreEmptyFacts = AreFactsOf (λ hay i j. j ≡ i)
+
+-- they hold of each match of the tree
+abbrev pub AreFacts : Tree → Facts → Type 0
+AreFacts t = AreFactsOf (λ hay i j. Matches hay t i j)
+
+-- they hold of each match of the trees one after another
+abbrev pub AreAllFacts : Trees → Facts → Type 0
+AreAllFacts ts = AreFactsOf (λ hay i j. MatchesAll hay ts i j)
+
+-- they hold of each match of one of the trees
+abbrev pub AreSomeFacts : Trees → Facts → Type 0
+AreSomeFacts ts = AreFactsOf (λ hay i j. MatchesOne hay ts i j)
+
+-- each match of the tree holds the text
+abbrev pub IsNeeded : Tree → Option Needed → Type 0
+IsNeeded t = IsHeld (λ hay i j. Matches hay t i j)
+
+-- the result is the sum of both numbers, or not known
+abbrev pub IsSum : (a b result : Option ℕ) → Type 0
+IsSum a b None = Unit {0}
+IsSum a b (Some r) = (m : ℕ) × (n : ℕ) × (a ≡ Some m) × (b ≡ Some n) × (r ≡ m + n)
+
+-- the result is their product, or not known
+abbrev pub IsProduct : (a b result : Option ℕ) → Type 0
+IsProduct a b None = Unit {0}
+IsProduct a b (Some r) = (m : ℕ) × (n : ℕ) × (a ≡ Some m) × (b ≡ Some n) × (r ≡ m * n)
+
+-- the result is the greater one of them, or not known
+abbrev pub IsGreatest : (a b result : Option ℕ) → Type 0
+IsGreatest a b None = Unit {0}
+IsGreatest a b (Some r) = (m : ℕ) × (n : ℕ) × (a ≡ Some m) × (b ≡ Some n) × (r ≡ max m n)
+
+-- the result is the text behind so many more bytes, or none
+abbrev pub IsLater : Option Needed → Option ℕ → Option Needed → Type 0
+IsLater needed most None = Unit {0}
+IsLater needed most (Some r) = (n : Needed) × (needed ≡ Some n) × (r.text ≡ n.text) × IsSum most n.before r.before
+
+-- each character of the ranges is this letter in one of its cases
+abbrev pub IsOneLetter : List Range → ℕ → Type 0
+IsOneLetter ranges letter =
+    (c : ℕ) → in_ranges ranges c ≡ true → (c < 128) × (to_ascii_lowercase c ≡ to_ascii_lowercase letter)

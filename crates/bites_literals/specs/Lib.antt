@@ -1,0 +1,4 @@
+pub mod Begins
+pub mod Facts
+pub mod Laws
+pub mod Texts

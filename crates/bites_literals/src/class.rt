@@ -1,0 +1,90 @@
+//! What is known of a character of a class.
+
+ghost use Rattle.std.specs.Prelude.{◌≡◌, ℕ, ◌<◌, true, IfSome, IsTrue};
+ghost use Rattle.bites_spec.specs.Range.{in_ranges};
+ghost use Rattle.bites_spec.specs.Tree as spec;
+ghost use Rattle.bites_literals.specs.Facts.{AreFacts, IsOneLetter};
+
+use crate::facts::Facts;
+use crate::text::Text;
+use bites_syntax::class::Class;
+
+/// Returns what is known of a character.
+pub(crate) fn facts_of_char(c: char) -> Facts
+    ensures { AreFacts (spec.char c) result }
+{
+    if c.is_ascii() {
+        return Facts {
+            most: Some(1),
+            feeds: c == '\n',
+            front: Text::one(c as u8, false),
+            whole: true,
+            needed: None,
+        };
+    }
+    Facts {
+        most: Some(4),
+        feeds: false,
+        front: Text::empty(),
+        whole: false,
+        needed: None,
+    }
+}
+
+/// Returns what is known of a character of the class.
+pub(crate) fn facts_of_class(class: &Class) -> Facts
+    ensures { AreFacts (spec.class class.now) result }
+{
+    if let Some(letter) = letter_of(class.ranges()) {
+        return Facts {
+            most: Some(1),
+            feeds: class.contains('\n'),
+            front: Text::one(letter, true),
+            whole: true,
+            needed: None,
+        };
+    }
+    Facts {
+        most: if is_ascii(class.ranges()) {
+            Some(1)
+        } else {
+            Some(4)
+        },
+        feeds: class.contains('\n'),
+        front: Text::empty(),
+        whole: false,
+        needed: None,
+    }
+}
+
+/// Returns the letter if the ranges are its two cases.
+fn letter_of(ranges: &[(char, char)]) -> Option<u8>
+    ensures { IfSome result (λ letter. IsOneLetter ranges.now letter) }
+{
+    if ranges.len() != 2 {
+        return None;
+    }
+    let (upper, end) = ranges[0];
+    let (lower, last) = ranges[1];
+    if upper == end
+        && lower == last
+        && lower.is_ascii_lowercase()
+        && lower == upper.to_ascii_lowercase()
+    {
+        Some(lower as u8)
+    } else {
+        None
+    }
+}
+
+/// Returns whether all characters of the ranges are ASCII.
+fn is_ascii(ranges: &[(char, char)]) -> bool
+    ensures { IsTrue result → (c : ℕ) → in_ranges ranges.now c ≡ true → c < 128 }
+{
+    for range in ranges {
+        if !range.1.is_ascii() {
+            return false;
+        }
+    }
+    true
+}

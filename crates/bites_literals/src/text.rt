@@ -1,0 +1,102 @@
+//! A text of ASCII that stands in a match.
+
+ghost use Rattle.std.specs.Prelude.{◌≡◌, ◌+◌, ◌<◌, ◌≤◌, ◌||◌, ◌++◌, [], ◌∷◌, length};
+ghost use Rattle.bites_scan.specs.Literal.{needle};
+
+use bites_scan::literal::{Literal, MAX_LEN};
+use bites_scan::rank::rank;
+
+/// A text of at most 32 bytes. If it is caseless, letters of ASCII count as equal in both cases.
+#[derive(Clone, Copy, Drop)]
+pub(crate) struct Text {
+    bytes: [u8; MAX_LEN],
+    len: usize,
+    caseless: bool,
+    ghost short: { len ≤ 32 },
+}
+
+impl Text {
+    ghost use Rattle.bites_literals.specs.Texts.{bytes_of};
+
+    /// Returns the empty text.
+    pub(crate) fn empty() -> Text
+        ensures { bytes_of result ≡ [] }
+    {
+        Text {
+            bytes: [0; MAX_LEN],
+            len: 0,
+            caseless: false,
+        }
+    }
+
+    /// Returns the text of one byte.
+    pub(crate) fn one(byte: u8, caseless: bool) -> Text
+        ensures bytes { bytes_of result ≡ byte ∷ [] }
+        ensures caseless { result.caseless ≡ caseless }
+    {
+        let mut bytes = [0; MAX_LEN];
+        bytes[0] = byte;
+        Text {
+            bytes,
+            len: 1,
+            caseless,
+        }
+    }
+
+    /// Returns how many bytes the text has.
+    pub(crate) fn len(&self) -> usize
+        ensures { result ≡ length (bytes_of self.now) }
+    {
+        self.len
+    }
+
+    /// Returns this text and the next one after it.
+    pub(crate) fn followed_by(&self, next: &Text) -> Text
+        requires { length (bytes_of self.now) + length (bytes_of next.now) ≤ 32 }
+        ensures bytes { bytes_of result ≡ bytes_of self.now ++ bytes_of next.now }
+        ensures caseless { result.caseless ≡ (self.now.caseless || next.now.caseless) }
+    {
+        let mut bytes = self.bytes;
+        for k in 0..next.len {
+            bytes[self.len + k] = next.bytes[k];
+        }
+        Text {
+            bytes,
+            len: self.len + next.len,
+            caseless: self.caseless || next.caseless,
+        }
+    }
+
+    /// Returns the literal that a haystack is searched for.
+    pub(crate) fn literal(&self) -> Literal
+        requires { 0 < length (bytes_of self.now) }
+        ensures { result ≡ needle (bytes_of self.now) self.now.caseless }
+    {
+        Literal::new(&self.bytes[..self.len], self.caseless)
+    }
+
+    /// Returns how often the text's rarest two bytes occur. Only speed depends on it.
+    pub(crate) fn cost(&self) -> u32 {
+        let (mut first, mut second) = (255, 255);
+        for k in 0..self.len {
+            let own = self.rank_at(k);
+            if own < first {
+                second = first;
+                first = own;
+            } else if own < second {
+                second = own;
+            }
+        }
+        first as u32 + second as u32
+    }
+
+    fn rank_at(&self, k: usize) -> u8
+        requires { k < 32 }
+    {
+        if self.caseless {
+            rank(self.bytes[k].to_ascii_lowercase())
+        } else {
+            rank(self.bytes[k])
+        }
+    }
+}

@@ -1,0 +1,116 @@
+-- The machine on lists goes one way: a walk has one end, and a search that is over has one.
+use Rattle.std.proofs.Common.{◌≡◌, ℕ, zero, suc, ◌+◌, ◌-◌, ◌<◌, ◌≤◌, ◌⊎◌, ⊎_elim, Bool, true, cond, List, [], ◌∷◌, refl, sym, ap, ◌∙◌, subst, true≢false, arith}
+use Rattle.std.specs.Prelude.{◌==◌}
+use Rattle.std.specs.List.{list_any}
+use Rattle.std.specs.Fn.{iterate}
+use Rattle.bites_spec.specs.Program.{State, Program, state_at, char, ranges, splits, goto, capture, fail, match}
+use Rattle.bites_spec.specs.Closure as closure
+use Rattle.bites_spec.specs.PikeVm.{Searching, Searches, SearchedTo, Searched, begun, after, is_over, threads_at}
+
+-- a walk that is over stays, so it has one end
+module _ {T : Type 0} (p : Program) (a : closure.Threads T) where
+  stays : (k : ℕ) (w : closure.Walking T) → w.stack ≡ [] → iterate (closure.step a p) k w ≡ w
+  unfolding closure.stepped
+  stays zero w over = refl
+  stays (suc k) w over = ap (iterate (closure.step a p) k) (ap (λ l. closure.stepped a p l w) over) ∙ stays k w over
+
+  iterates_add : (j k : ℕ) (w : closure.Walking T) → iterate (closure.step a p) (j + k) w ≡ iterate (closure.step a p) k (iterate (closure.step a p) j w)
+  iterates_add zero k w = ap (λ n. iterate (closure.step a p) n w) (from_zero k)
+    where
+      from_zero : (k : ℕ) → 0 + k ≡ k
+      from_zero k = omega arith
+  iterates_add (suc j) k w = ap (λ n. iterate (closure.step a p) n w) (next j k) ∙ iterates_add j k (closure.step a p w)
+    where
+      next : (j k : ℕ) → suc j + k ≡ suc (j + k)
+      next j k = omega arith
+
+  one_end_by : (j k : ℕ) (w v u : closure.Walking T) → iterate (closure.step a p) j w ≡ v → v.stack ≡ [] → iterate (closure.step a p) (j + k) w ≡ u → v ≡ u
+  one_end_by j k w v u e over f = sym (stays k v over) ∙ ap (iterate (closure.step a p) k) (sym e) ∙ sym (iterates_add j k w) ∙ f
+
+  pub one_end : (w v u : closure.Walking T) → closure.WalksTo a p w v → v.stack ≡ [] → closure.WalksTo a p w u → u.stack ≡ [] → v ≡ u
+  one_end w v u (j, e) over (k, f) ended =
+      ⊎_elim
+      (λ (le : j ≤ k). one_end_by j (k - j) w v u e over (ap (λ n. iterate (closure.step a p) n w) (back j k le) ∙ f))
+      (λ (le : k ≤ j). sym (one_end_by k (j - k) w u v f ended (ap (λ n. iterate (closure.step a p) n w) (back k j le) ∙ e)))
+      (either_way j k)
+    where
+      back : (j k : ℕ) → j ≤ k → j + (k - j) ≡ k
+      back j k le = omega arith
+
+      either_way : (j k : ℕ) → (j ≤ k) ⊎ (k ≤ j)
+      either_way j k = grind arith
+
+iterate_more : {A : Type 0} (f : A → A) (k : ℕ) (x : A) → iterate f (suc k) x ≡ f (iterate f k x)
+iterate_more f zero x = refl
+iterate_more f (suc k) x = iterate_more f k (f x)
+
+module _ {T : Type 0} (a : closure.Threads T) (p : Program) where
+  abbrev pub with_stack : closure.Walking T → List T → closure.Walking T
+  with_stack w stack = record { stack = stack; seen = w.seen; next = w.next; first_match = w.first_match; looks = w.looks }
+
+  -- a step does not read the stack beside the threads that it is given
+  unread : (st : State) (t : T) (rest : List T) (w : closure.Walking T) → closure.visited a st t rest w ≡ closure.visited a st t rest (with_stack w rest)
+  unfolding closure.visited
+  unread match t rest w = refl
+  unread (char q c) t rest w = refl
+  unread (ranges q rs) t rest w = refl
+  unread (splits qs b) t rest w = refl
+  unread (goto q look) t rest w = refl
+  unread (capture q k) t rest w = refl
+  unread fail t rest w = refl
+
+  -- a walk that goes one step on
+  pub one_turn : (begun w v : closure.Walking T) (t : T) (rest : List T) → closure.WalksTo a p begun w → w.stack ≡ t ∷ rest → v ≡ closure.stepped a p (t ∷ rest) (with_stack w rest) → closure.WalksTo a p begun v
+  unfolding closure.stepped
+  one_turn begun w v t rest (k, e) is to = (
+    suc k,
+    iterate_more (closure.step a p) k begun ∙ ap (closure.step a p) e ∙ ap (λ l. closure.stepped a p l w) is
+        ∙ ap (λ u. cond (list_any (λ q. q == a.state t) w.seen) (closure.dropped rest w) u) (unread (state_at p.states (a.state t)) t rest w)
+        ∙ sym to,
+  )
+
+module _ (hay : List ℕ) (longest : Bool) (p : Program) (width : ℕ) (anchored : Bool) where
+  pub searches_once : (s t u : Searching) → Searches hay longest p width anchored s t → Searches hay longest p width anchored s u → t ≡ u
+  searches_once s t u a b =
+      sym a.is
+      ∙ ap (after hay longest p width anchored s) (one_end p (threads_at hay longest s.place) (begun hay longest p width s) a.last b.last a.walks a.over b.walks b.over)
+      ∙ b.is
+
+  module _ (earliest : Bool) (start : ℕ) where
+    reached_once : (n : ℕ) (s t : Searching) → SearchedTo hay longest p width anchored earliest start n s → SearchedTo hay longest p width anchored earliest start n t → s ≡ t
+    reached_once zero s t a b = sym a ∙ b
+    reached_once (suc n) s t (before, a, x, on) (other, b, y, off) =
+        searches_once before s t x (subst (λ (v : Searching). Searches hay longest p width anchored v t) (sym (reached_once n before other a b)) y)
+
+    -- a search that is over goes no further
+    no_further : (n m : ℕ) → n < m → (before t u : Searching) → SearchedTo hay longest p width anchored earliest start n before → Searches hay longest p width anchored before t →
+        is_over hay longest p width anchored earliest before.place t ≡ true → SearchedTo hay longest p width anchored earliest start m u → ⊥
+    no_further n zero lt before t u a x over b = omega arith
+    no_further n (suc m) lt before t u a x over (other, b, y, on) =
+        ⊎_elim
+        (λ (same : n ≡ m).
+        let e : other ≡ before = reached_once n other before (subst (λ k. SearchedTo hay longest p width anchored earliest start k other) (sym same) b) a in
+        let f : u ≡ t = searches_once before u t (subst (λ (v : Searching). Searches hay longest p width anchored v u) e y) x in
+        true≢false (sym over ∙ ap (λ (v : Searching). is_over hay longest p width anchored earliest before.place v) (sym f)
+        ∙ ap (λ (v : Searching). is_over hay longest p width anchored earliest v.place u) (sym e) ∙ on))
+        (λ (less : n < m). no_further n m less before t other a x over b)
+        (same_or_less n m lt)
+      where
+        same_or_less : (n m : ℕ) → n < suc m → (n ≡ m) ⊎ (n < m)
+        same_or_less n m lt = grind arith
+
+    -- two searches that are over ended in the same state
+    pub searched_once : (t u : Searching) → Searched hay longest p width anchored earliest start t → Searched hay longest p width anchored earliest start u → t ≡ u
+    searched_once t u a b =
+        ⊎_elim
+        (λ (less : a.places < b.places). absurd (no_further a.places b.places less a.before t b.before a.searched a.last a.over b.searched))
+        (λ other. ⊎_elim
+        (λ (more : b.places < a.places). absurd (no_further b.places a.places more b.before u a.before b.searched b.last b.over a.searched))
+        (λ (same : a.places ≡ b.places).
+        let e : b.before ≡ a.before = reached_once a.places b.before a.before (subst (λ k. SearchedTo hay longest p width anchored earliest start k b.before) (sym same) b.searched) a.searched in
+        searches_once a.before t u a.last (subst (λ (v : Searching). Searches hay longest p width anchored v u) e b.last))
+        other)
+        (three_ways a.places b.places)
+      where
+        three_ways : (m n : ℕ) → (m < n) ⊎ ((n < m) ⊎ (m ≡ n))
+        three_ways m n = grind arith

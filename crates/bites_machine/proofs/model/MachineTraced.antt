@@ -1,0 +1,56 @@
+-- A search that is traced place by place is a search of the machine on lists, and has its visits.
+use Rattle.std.proofs.Common.{◌≡◌, ℕ, Bool, List, [], ◌∷◌, ◌++◌, map, reverse, length, sym, ap, ◌∙◌, subst}
+use Rattle.std.proofs.lemmas.List.{reverse-reverse}
+use Rattle.std.specs.Prelude.{is_some}
+use Rattle.bites_spec.specs.Program.{Program, at}
+use Rattle.bites_spec.specs.PikeVm.{Searching, Searches, SearchedTo, Searched}
+use Rattle.bites_machine.specs.Sweep.{left_in}
+use Rattle.bites_machine.specs.Traced.{Place, Traces, TracedTo, TracedAll, IsTracedSearch, visits_of}
+use Rattle.bites_machine.proofs.model.MachineOnce.{searched_once}
+
+module _ (hay : List ℕ) (longest : Bool) (p : Program) (width : ℕ) (anchored : Bool) where
+  traces_search : (s t : Searching) (x : Place) → Traces hay longest p width anchored s t x → Searches hay longest p width anchored s t
+  traces_search s t x traces = record { last = traces.last; walks = traces.walks; over = traces.over; is = traces.is }
+
+  -- the visits of a place come before those of the places before it
+  traces_visits : (s t : Searching) (x : Place) → Traces hay longest p width anchored s t x → t.visits ≡ map (λ q. at q x.place) (reverse x.visited) ++ s.visits
+  traces_visits s t x traces =
+      ap (λ (v : Searching). v.visits) (sym traces.is)
+      ∙ ap (λ (l : List ℕ). map (λ q. at q s.place) l ++ s.visits) (sym (reverse-reverse traces.last.seen))
+      ∙ ap (λ (y : Place). map (λ q. at q y.place) (reverse y.visited) ++ s.visits) traces.traced
+
+  module _ (earliest : Bool) (start : ℕ) where
+    traced_searched : (xs : List Place) (t : Searching) → TracedTo hay longest p width anchored earliest start xs t → SearchedTo hay longest p width anchored earliest start (length xs) t
+    traced_searched [] t to = to
+    traced_searched (x ∷ xs) t (s, to, traces, on) = (s, traced_searched xs s to, traces_search s t x traces, on)
+
+    traced_visits : (xs : List Place) (t : Searching) → TracedTo hay longest p width anchored earliest start xs t → t.visits ≡ visits_of xs
+    traced_visits [] t to = ap (λ (s : Searching). s.visits) (sym to)
+    traced_visits (x ∷ xs) t (s, to, traces, on) =
+        traces_visits s t x traces ∙ ap (λ l. map (λ q. at q x.place) (reverse x.visited) ++ l) (traced_visits xs s to)
+
+    pub all_searched : (xs : List Place) (t : Searching) → TracedAll hay longest p width anchored earliest start xs t → Searched hay longest p width anchored earliest start t
+    all_searched xs t all = record {
+      places = length all.earlier;
+      before = all.before;
+      searched = traced_searched all.earlier all.before all.searched;
+      last = traces_search all.before t all.last all.traces;
+      over = all.over;
+    }
+
+    pub all_visits : (xs : List Place) (t : Searching) → TracedAll hay longest p width anchored earliest start xs t → t.visits ≡ visits_of xs
+    all_visits xs t all =
+        traces_visits all.before t all.last all.traces
+        ∙ ap (λ l. map (λ q. at q all.last.place) (reverse all.last.visited) ++ l) (traced_visits all.earlier all.before all.searched)
+        ∙ ap visits_of (sym all.are)
+
+-- a traced search has the answer, the slots and the visits of the search
+pub traced_is_search : IsTracedSearch
+traced_is_search p hay longest anchored earliest start answer old new walked xs t done len all =
+    let same : done.last ≡ t = searched_once hay longest p (length old) anchored earliest start done.last t done.searched
+    (subst (λ n. Searched hay longest p n anchored earliest start t) (sym len) (all_searched hay longest p p.slots anchored earliest start xs t all)) in
+    record {
+      visits = sym done.visits ∙ ap (λ (s : Searching). s.visits) same ∙ all_visits hay longest p p.slots anchored earliest start xs t all;
+      found = ap (λ (s : Searching). is_some s.best) (sym same) ∙ done.found;
+      slots = ap (λ (s : Searching). left_in s.best old) (sym same) ∙ done.slots;
+    }

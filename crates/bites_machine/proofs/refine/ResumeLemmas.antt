@@ -1,0 +1,158 @@
+-- A search that is resumed: its threads are few, and they are loaded one by one, each with a row of its own.
+use Rattle.std.proofs.Common.{◌≡◌, ℕ, zero, suc, ◌+◌, ◌*◌, ◌<◌, ◌≤◌, ⊎_elim, inl, inr, Bool, true, false, cond, List, [], ◌∷◌, ◌++◌, map, drop, length, Option, refl, sym, ap, ap₂, ◌∙◌, subst, arith, append_assoc}
+use Rattle.std.specs.Prelude.{slice_index_or}
+use Rattle.std.proofs.lemmas.List.{length-map, map-append}
+use Rattle.std.proofs.Math.Seq.{drop-cons}
+use Rattle.bites_spec.specs.Walks.{Among}
+use Rattle.bites_spec.specs.Program as program
+use Rattle.bites_spec.specs.Program.{Program, Configuration, IsWellFormed}
+use Rattle.bites_spec.specs.Counts.{Record, Fit, HasRoomFor}
+use Rattle.bites_spec.specs.PikeVm as machine
+use Rattle.bites_spec.specs.PikeVm.{Searching, Searches, SearchedTo, begun, started}
+use Rattle.bites_machine.specs.SlotTable.{Pool}
+use Rattle.bites_machine.specs.Threads.{Listed}
+use Rattle.bites_machine.specs.Used.{IsUsed}
+use Rattle.bites_machine.specs.Scratch.{thread_of, row_of}
+use Rattle.bites_machine.specs.Sweep.{HasRoom, HasReached, InvariantBetweenSteps}
+use Rattle.bites_machine.specs.Resume.{row_in, thread_in}
+use Rattle.bites_machine.specs.declared.vm.threads.Thread.{Thread}
+use Rattle.bites_machine.specs.declared.vm.closure.Scratch.{Scratch}
+use Rattle.bites_machine.specs.declared.vm.resume.RegisterThread.{RegisterThread}
+use Rattle.bites_machine.proofs.tables.UsedLemmas.{Places}
+use Rattle.bites_machine.proofs.tables.ScratchLemmas.{uses, uses-cons, uses-append, reordered, row_kept, threads_kept}
+use Rattle.bites_machine.proofs.model.MachineRoom as room
+use Rattle.bites_machine.proofs.model.MachineRoom.{walk_room, seen_within}
+use Rattle.bites_machine.proofs.model.MachineSearch.{searched_placed, place_within}
+use Rattle.bites_machine.proofs.model.MachineCounts.{searched_visits}
+use Rattle.bites_machine.proofs.refine.PlaceSearches.{among_threads}
+use Rattle.bites_spec.proofs.programs.BuiltLemmas.{Among-append}
+
+-- the threads lead to states, and there are no more of them than states
+pub record AreFew (p : Program) (ts : List machine.Thread) : Type 0 where
+  pub known : (t : machine.Thread) → Among ts t → t.state < length p.states
+  pub few : length ts ≤ length p.states
+
+module _ (p : Program) (hay : List ℕ) (well : IsWellFormed p) (longest : Bool) (width : ℕ) (anchored earliest : Bool) (start : ℕ) (within : start ≤ length hay) where
+  begun_inside : (s : Searching) → AreFew p s.threads → (b : Bool) (u : machine.Thread) →
+      Among (s.threads ++ cond b (started hay longest p width s.place ∷ []) []) u → u.state < length p.states
+  begun_inside s few b u h =
+      ⊎_elim (few.known u) (start_inside b) (Among-append s.threads (cond b (started hay longest p width s.place ∷ []) []) u h)
+    where
+      start_inside : (b : Bool) → Among (cond b (started hay longest p width s.place ∷ []) []) u → u.state < length p.states
+      start_inside false h = absurd h
+      start_inside true h =
+          ⊎_elim (λ (e : started hay longest p width s.place ≡ u). subst (λ (x : machine.Thread). x.state < length p.states) e well.start) (λ none. absurd none) h
+
+  few_on : (s t : Searching) → s.place ≤ length hay → AreFew p s.threads → Searches hay longest p width anchored s t → AreFew p t.threads
+  few_on s t here few place =
+      let first : room.HasRoom p hay well longest s.place here (length (begun hay longest p width s).stack) (begun hay longest p width s) = record {
+        apart = tt;
+        inside = λ q none. absurd none;
+        stack = omega arith;
+        next = omega arith;
+        stack_inside = begun_inside s few s.starts;
+        next_inside = λ u none. absurd none;
+      } in
+      let last = walk_room p hay well longest s.place here (length (begun hay longest p width s).stack) (begun hay longest p width s) place.last place.walks first in
+      subst (λ (x : Searching). AreFew p x.threads) place.is record {
+        known = last.next_inside;
+        few = let seen = seen_within p place.last.seen last.apart last.inside in let next = last.next in omega arith;
+      }
+
+  -- the threads of a search are few
+  pub searched_few : (n : ℕ) (s : Searching) → SearchedTo hay longest p width anchored earliest start n s → AreFew p s.threads
+  searched_few zero s is = subst (λ (x : Searching). AreFew p x.threads) is record { known = λ t none. absurd none; few = omega arith }
+  searched_few (suc n) t (s, before, place, on) =
+      few_on s t (place_within p hay longest width anchored earliest start within s (searched_placed p hay longest width anchored earliest start within n s before))
+      (searched_few n s before) place
+
+-- what stands at an index is in the list
+pub among_index : {A : Type 0} (xs : List A) (i : ℕ) (d : A) → i < length xs → Among xs (slice_index_or xs i d)
+among_index [] i d lt = absurd (omega arith)
+among_index (x ∷ xs) zero d lt = inl refl
+among_index (x ∷ xs) (suc i) d lt = inr (among_index xs i d (omega arith))
+
+-- One thread more is loaded: it has a row of its own, and the rows of the others are kept.
+module _ (words : List ℕ) (width : ℕ) (old new : Pool) (list : List Thread) (fresh : ℕ) (t : RegisterThread) (by : Places fresh (row_in words width t.register) old new) (used : IsUsed old (map row_of list)) where
+  abbrev loaded : Thread
+  loaded = record { state = t.state; row = fresh; start = 0 }
+
+  rows_are : map row_of (list ++ loaded ∷ []) ≡ map row_of list ++ fresh ∷ []
+  rows_are = map-append row_of list (loaded ∷ [])
+
+  pub loaded_used : IsUsed new (map row_of (list ++ loaded ∷ []))
+  loaded_used =
+      subst (IsUsed new) (sym rows_are)
+      (reordered new (fresh ∷ map row_of list) (map row_of list ++ fresh ∷ []) (by.users (map row_of list) used)
+      (λ r. omega (arith, uses-append r (map row_of list) (fresh ∷ []), uses-cons r fresh [], uses-cons r fresh (map row_of list), nothing r))
+      (λ r h. ⊎_elim (λ a. inr a) (λ (b : Among (fresh ∷ []) r). ⊎_elim (λ e. inl e) (λ n. absurd n) b) (Among-append (map row_of list) (fresh ∷ []) r h)))
+    where
+      nothing : (r : ℕ) → uses r [] ≡ 0
+      nothing r = refl
+
+  loaded_threads : map (thread_of new) (list ++ loaded ∷ []) ≡ map (thread_of old) list ++ thread_in words width t ∷ []
+  loaded_threads =
+      map-append (thread_of new) list (loaded ∷ [])
+      ∙ ap₂ ◌++◌ (threads_kept old new list (λ r h. row_kept old new (map row_of list) used by.kept r h))
+      (ap (λ (s : List (Option ℕ)). record { state = t.state; start = 0; slots = s } ∷ []) by.slots)
+
+  -- the threads that are loaded, before those that are not
+  pub loaded_more : (ts : List RegisterThread) (i : ℕ) (d : RegisterThread) → i < length ts → t ≡ slice_index_or ts i d →
+      map (thread_of old) list ++ map (thread_in words width) (drop i ts) ≡ map (thread_in words width) ts →
+      map (thread_of new) (list ++ loaded ∷ []) ++ map (thread_in words width) (drop (i + 1) ts) ≡ map (thread_in words width) ts
+  loaded_more ts i d lt is so_far =
+      ap (λ (l : List machine.Thread). l ++ map (thread_in words width) (drop (i + 1) ts)) loaded_threads
+      ∙ append_assoc (map (thread_of old) list) (thread_in words width t ∷ []) (map (thread_in words width) (drop (i + 1) ts))
+      ∙ ap (λ (l : List RegisterThread). map (thread_of old) list ++ map (thread_in words width) l) (sym front)
+      ∙ so_far
+    where
+      front : drop i ts ≡ t ∷ drop (i + 1) ts
+      front =
+          let next : suc i ≡ i + 1 = omega arith in
+          subst (λ n. drop i ts ≡ t ∷ drop n ts) next (drop-cons ts i d lt ∙ ap (λ x. x ∷ drop (suc i) ts) (sym is))
+
+-- what was loaded is the scratch of a search between two places
+module _ (p : Program) (hay : List ℕ) (well : IsWellFormed p) (longest anchored earliest : Bool) (start : ℕ) (within : start ≤ length hay) (first : List (Option ℕ)) (fits : length first ≤ p.slots)
+    (place : ℕ) (starts is_found : Bool) (walked : Record) (threads : List machine.Thread) (slots : List (Option ℕ))
+    (reached : HasReached p hay longest anchored earliest start first place starts is_found walked threads slots) where
+  few_reached : AreFew p threads
+  few_reached =
+      subst (AreFew p) reached.stands.threads
+      (searched_few p hay well longest (length first) anchored earliest start within reached.places reached.now reached.searched)
+
+  -- the threads are few
+  pub few_threads : (n : ℕ) → length threads ≡ n → n ≤ length p.states
+  few_threads n is = subst (λ k. k ≤ length p.states) is few_reached.few
+
+  -- the place lies in the haystack
+  pub place_reached : place ≤ length hay
+  place_reached =
+      subst (λ (i : ℕ). i ≤ length hay) reached.stands.place
+      (place_within p hay longest (length first) anchored earliest start within reached.now
+      (searched_placed p hay longest (length first) anchored earliest start within reached.places reached.now reached.searched))
+
+  -- what holds between two places
+  pub between_loaded : (states : List program.State) (fit : Fit) (scratch : Scratch) (list : Listed) (rows : Pool) (loaded : Listed) (slots_per_row : ℕ) →
+      p.states ≡ states → HasRoomFor fit p (length slots) → HasRoom fit scratch list →
+      length rows.ref_counts ≡ length scratch.rows.ref_counts → rows.pending ≡ scratch.rows.pending → loaded.room ≡ list.room → slots_per_row ≡ rows.slots_per_row →
+      IsUsed rows (map row_of loaded.threads) → map (thread_of rows) loaded.threads ≡ threads →
+      InvariantBetweenSteps states place walked (record { visited_set = scratch.visited_set; stack = scratch.stack; rows = rows; next = scratch.next; first_match = scratch.first_match }) loaded slots_per_row
+  between_loaded states fit scratch list rows loaded slots_per_row same has r ref_counts pending list_room wide used is =
+      subst (λ (ss : List program.State). InvariantBetweenSteps ss place walked (record { visited_set = scratch.visited_set; stack = scratch.stack; rows = rows; next = scratch.next; first_match = scratch.first_match }) loaded slots_per_row) same
+      (record {
+        visited_set = r.visited_set ∙ has.states;
+        visits = λ v h.
+            let before = (searched_visits p hay well longest (length first) fits anchored earliest start within reached.places reached.now reached.searched).1 v
+            (subst (λ (vs : List Configuration). Among vs v) (sym reached.stands.visits) h) in
+            omega (arith, before, reached.stands.place);
+        pending_len = ap length pending ∙ r.pending_len ∙ has.states;
+        stack = r.stack ∙ ap (λ (n : ℕ). n + 1) has.targets;
+        empty = r.empty;
+        more = r.next ∙ has.states;
+        room = list_room ∙ r.threads ∙ has.states;
+        few = few_threads (length loaded.threads) (ap length (sym is) ∙ length-map loaded.threads (thread_of rows));
+        known = λ t h. few_reached.known (thread_of rows t) (subst (λ (ts : List machine.Thread). Among ts (thread_of rows t)) is (among_threads rows loaded.threads t h));
+        used = used;
+        rows = ref_counts ∙ r.rows ∙ ap₂ (λ (n k : ℕ). 2 * n + k + 2) has.states has.targets;
+        wide = wide;
+      })

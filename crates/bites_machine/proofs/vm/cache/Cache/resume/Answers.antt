@@ -1,0 +1,53 @@
+use Rattle.std.proofs.Common.{◌≡◌, ◌≤◌, ◌+◌, ◌*◌, length, map, sym, ◌∙◌, subst, arith}
+use Rattle.std.proofs.lemmas.List.{length-map}
+use Rattle.bites_spec.specs.Counts.{Room, Fit, HasRoomFor}
+use Rattle.bites_machine.specs.Inputs.{is_longest, is_earliest}
+use Rattle.bites_machine.specs.States.{states_of}
+use Rattle.bites_machine.specs.Resume.{thread_in}
+use Rattle.bites_machine.proofs.refine.ResumeLemmas.{few_threads, place_reached, between_loaded}
+use Rattle.bites_machine.proofs.vm.cache.Cache.resume.Goals as goal
+use Rattle.bites_machine.proofs.vm.cache.Cache.resume.Goals.{After-setup_search}
+
+abbrev room_of : After-setup_search → Fit
+room_of c = record { states = c.self.inside.states; slots = c.self.inside.slots; targets = c.self.inside.targets }
+
+fits : (c : After-setup_search) → HasRoomFor (room_of c) c.requires.reached.0 (length c.args.slots.now)
+fits c = subst (λ (v : Room). HasRoomFor v.fits c.requires.reached.0 (length c.args.slots.now)) (sym c.self.view_is) c.requires.reached.2
+
+-- there are no more threads than states
+few : (c : After-setup_search) → length c.args.from.now.threads.now ≤ length c.requires.reached.0.states
+few c =
+    let q = c.requires.reached in
+    few_threads q.0 c.args.input.now.haystack.now q.1.well (is_longest c.args.input.now.kind) c.args.input.now.anchored (is_earliest c.args.input.now.kind) c.args.input.now.start c.requires.start
+    q.4 (subst (λ n. n ≤ q.0.slots) q.5.len q.3) c.args.from.now.place c.args.from.now.starts c.args.from.now.is_found c.args.counted.now.walked
+    (map (thread_in c.args.from.now.registers.now (length c.args.slots.now)) c.args.from.now.threads.now) c.args.slots.now q.5
+    (length c.args.from.now.threads.now) (length-map c.args.from.now.threads.now (thread_in c.args.from.now.registers.now (length c.args.slots.now)))
+
+pub load-requires-clause-room : goal.load-requires-clause-room
+load-requires-clause-room c =
+    let at = (goal.at.load-requires-clause-room c).After-setup_search in
+    omega (arith, few at, (fits at).states, c.self.invariant.0.threads)
+
+pub load-requires-clause-more : goal.load-requires-clause-more
+load-requires-clause-more c =
+    let at = (goal.at.load-requires-clause-more c).After-setup_search in
+    let rows : length c.self.inside.scratch.rows.ref_counts ≡ 2 * c.self.inside.states + c.self.inside.targets + 2 = c.self.invariant.0.rows in
+    omega (arith, few at, (fits at).states, rows, c.setup_search.ensures.count)
+
+pub search-requires-clause-place : goal.search-requires-clause-place
+search-requires-clause-place c =
+    let q = c.requires.reached in
+    place_reached q.0 c.args.input.now.haystack.now q.1.well (is_longest c.args.input.now.kind) c.args.input.now.anchored (is_earliest c.args.input.now.kind) c.args.input.now.start c.requires.start
+    q.4 (subst (λ n. n ≤ q.0.slots) q.5.len q.3) c.args.from.now.place c.args.from.now.starts c.args.from.now.is_found c.args.counted.now.walked
+    (map (thread_in c.args.from.now.registers.now (length c.args.slots.now)) c.args.from.now.threads.now) c.args.slots.now q.5
+
+pub search-requires-clause-between : goal.search-requires-clause-between
+search-requires-clause-between c =
+    let at = (goal.at.search-requires-clause-between c).After-setup_search in
+    let q = c.requires.reached in
+    between_loaded q.0 c.args.input.now.haystack.now q.1.well (is_longest c.args.input.now.kind) c.args.input.now.anchored (is_earliest c.args.input.now.kind) c.args.input.now.start c.requires.start
+    q.4 (subst (λ n. n ≤ q.0.slots) q.5.len q.3) c.args.from.now.place c.args.from.now.starts c.args.from.now.is_found c.args.counted.now.walked
+    (map (thread_in c.args.from.now.registers.now (length c.args.slots.now)) c.args.from.now.threads.now) c.args.slots.now q.5
+    (states_of c.args.counted.now.states.now) (room_of at) c.self.inside.scratch c.self.inside.threads c.load.new.rows c.load.new.threads (length c.args.slots.now)
+    q.1.states (fits at) c.self.invariant.0 (c.load.ensures.rows ∙ c.setup_search.ensures.count) (c.load.ensures.pending ∙ c.setup_search.ensures.pending) c.load.ensures.room
+    (sym (c.load.ensures.slots_per_row ∙ c.setup_search.ensures.slots_per_row)) c.load.ensures.used c.load.ensures.threads

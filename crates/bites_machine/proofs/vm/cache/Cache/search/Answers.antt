@@ -1,0 +1,106 @@
+use Rattle.std.proofs.Common.{◌≡◌, ◌≤◌, ℕ, List, Option, length, map, sym, ap, ◌∙◌, subst, arith}
+use Rattle.bites_spec.specs.Counts.{Record}
+use Rattle.bites_machine.specs.Inputs.{is_longest, is_earliest}
+use Rattle.bites_machine.specs.States.{states_of}
+use Rattle.bites_machine.specs.Resume.{StopsAt, thread_in}
+use Rattle.bites_machine.specs.Sweep.{IsProgramOf, SearchResult}
+use Rattle.bites_machine.specs.declared.vm.MatchKind.{MatchKind}
+use Rattle.bites_machine.specs.declared.vm.resume.RegisterThread.{RegisterThread}
+use Rattle.bites_machine.proofs.model.MachineAnswers.{is_nothing}
+use Rattle.bites_machine.proofs.refine.PlaceSteps.{reached_first}
+use Rattle.bites_machine.proofs.refine.SearchResultLemmas.{Did, slots_fit, did_first, did_longest, did_least, did_visit, did_bounded}
+use Rattle.bites_machine.proofs.vm.cache.Cache.search.Goals as goal
+use Rattle.bites_machine.proofs.vm.cache.Cache.search.Goals.{After-finish, then-input, else-input}
+
+fits : (c : After-finish) → length c.args.slots.now ≤ c.args.program.now.program.slots
+fits c = slots_fit (length c.args.slots.now) c.args.program.now.program.slots c.start-first.ensures.well_formed.slots c.requires.slots
+
+-- what the search did
+did : (c : After-finish) → Did c.args.program.now.program c.args.input.now.haystack.now c.start-first.ensures.well_formed c.args.input.now.anchored c.args.input.now.start
+    c.if-input.is_found c.args.slots.now c.if-input.slots c.finish.new.self.walked (fits c) (is_longest c.args.input.now.kind) (is_earliest c.args.input.now.kind)
+did c =
+    let p = c.args.program.now.program in
+    let input = c.args.input.now in
+    let old = c.args.slots.now in
+    elim c.if-input.branch [
+      | then-input w ↦ (
+        λ within.
+            let is : IsProgramOf p (states_of c.begin-counted.result.states.now) c.start-first.result =
+            record { states = sym c.begin-counted.ensures.states; start = sym c.start-first.ensures.start; well = c.start-first.ensures.well_formed } in
+            let from = w.at_start-from.result in
+            let begun = w.at_start-from.ensures in
+            let first = reached_first p input.haystack.now (is_longest input.kind) input.anchored (is_earliest input.kind) input.start old from.place from.starts from.is_found c.begin-counted.result.walked
+            (map (thread_in from.registers.now (length old)) from.threads.now) begun.place begun.starts begun.is_found (ap (λ (ts : List RegisterThread). map (thread_in from.registers.now (length old)) ts) begun.threads)
+            c.begin-counted.ensures.visits c.begin-counted.ensures.looks in
+            let result : SearchResult p input.haystack.now (is_longest input.kind) input.anchored (is_earliest input.kind) input.start w.resume.result.is_found old w.resume.new.slots w.resume.new.counted.walked =
+            subst (λ (o : Option ℕ). StopsAt p input.haystack.now (is_longest input.kind) input.anchored (is_earliest input.kind) input.start old w.resume.result.is_found o w.resume.new.slots w.resume.new.counted.walked)
+            (w.resume.ensures.whole begun.until_idle) (w.resume.ensures.stopped p is old first) in
+            let walked : w.resume.new.counted.walked ≡ c.finish.new.self.walked = sym (c.finish.ensures.walked ∙ ap (λ k. k.walked) w.counted-is) in
+            record {
+              last = result.last;
+              searched = result.searched;
+              found = result.found ∙ sym w.is_found-is;
+              slots = result.slots ∙ sym w.slots-is;
+              visits = result.visits ∙ ap (λ (r : Record). r.visits) walked;
+              looks = result.looks ∙ ap (λ (r : Record). r.looks) walked;
+            },
+        λ past. absurd (omega (arith, past, w.if-input.true)),
+      )
+      | else-input w ↦ (
+        λ within. absurd (omega (arith, within, w.if-input.false)),
+        λ past. (
+          w.is_found-is,
+          w.slots-is,
+          c.finish.ensures.walked ∙ ap (λ k. k.walked) w.counted-is
+              ∙ is_nothing c.begin-counted.result.walked c.begin-counted.ensures.visits c.begin-counted.ensures.read c.begin-counted.ensures.looks,
+        ),
+      )
+    ]
+
+-- what it did, by the kind that was asked for
+of_kind : (c : After-finish) {k : MatchKind} → c.args.input.now.kind ≡ k →
+    Did c.args.program.now.program c.args.input.now.haystack.now c.start-first.ensures.well_formed c.args.input.now.anchored c.args.input.now.start
+    c.if-input.is_found c.args.slots.now c.if-input.slots c.finish.new.self.walked (fits c) (is_longest c.args.input.now.kind) (is_earliest c.args.input.now.kind) →
+    Did c.args.program.now.program c.args.input.now.haystack.now c.start-first.ensures.well_formed c.args.input.now.anchored c.args.input.now.start
+    c.if-input.is_found c.args.slots.now c.if-input.slots c.finish.new.self.walked (fits c) (is_longest k) (is_earliest k)
+of_kind c asked =
+    subst (λ (k : MatchKind). Did c.args.program.now.program c.args.input.now.haystack.now c.start-first.ensures.well_formed c.args.input.now.anchored c.args.input.now.start
+    c.if-input.is_found c.args.slots.now c.if-input.slots c.finish.new.self.walked (fits c) (is_longest k) (is_earliest k)) asked
+
+pub returns-clause-first : goal.returns-clause-first
+returns-clause-first c asked =
+    let end = (goal.at.returns-clause-first c).After-finish in
+    let input = c.args.input.now in
+    did_first c.args.program.now.program input.haystack.now c.start-first.ensures.well_formed input.anchored input.start c.if-input.is_found c.args.slots.now c.if-input.slots c.finish.new.self.walked (fits end)
+    (of_kind end asked (did end))
+
+pub returns-clause-least : goal.returns-clause-least
+returns-clause-least c asked =
+    let end = (goal.at.returns-clause-least c).After-finish in
+    let input = c.args.input.now in
+    did_least c.args.program.now.program input.haystack.now c.start-first.ensures.well_formed input.anchored input.start c.if-input.is_found c.args.slots.now c.if-input.slots c.finish.new.self.walked (fits end)
+    (of_kind end asked (did end))
+
+pub returns-clause-longest : goal.returns-clause-longest
+returns-clause-longest c asked =
+    let end = (goal.at.returns-clause-longest c).After-finish in
+    let input = c.args.input.now in
+    did_longest c.args.program.now.program input.haystack.now c.start-first.ensures.well_formed input.anchored input.start c.if-input.is_found c.args.slots.now c.if-input.slots c.finish.new.self.walked (fits end)
+    (of_kind end asked (did end))
+
+pub returns-clause-bounded : goal.returns-clause-bounded
+returns-clause-bounded c =
+    let end = (goal.at.returns-clause-bounded c).After-finish in
+    let input = c.args.input.now in
+    did_bounded c.args.program.now.program input.haystack.now c.start-first.ensures.well_formed input.anchored input.start c.if-input.is_found c.args.slots.now c.if-input.slots c.finish.new.self.walked (fits end)
+    (is_longest input.kind) (is_earliest input.kind) c.finish.ensures.read (did end)
+
+pub returns-clause-visited : goal.returns-clause-visited
+returns-clause-visited c =
+    let end = (goal.at.returns-clause-visited c).After-finish in
+    let input = c.args.input.now in
+    did_visit c.args.program.now.program input.haystack.now c.start-first.ensures.well_formed input.anchored input.start c.if-input.is_found c.args.slots.now c.if-input.slots c.finish.new.self.walked (fits end)
+    (is_longest input.kind) (is_earliest input.kind) (did end)
+
+pub returns-clause-searched : goal.returns-clause-searched
+returns-clause-searched c = (did (goal.at.returns-clause-searched c).After-finish).0

@@ -1,0 +1,26 @@
+use Rattle.std.proofs.Common.{◌≡◌, ◌≤◌, ◌-◌, ℕ, List, Option, length, map}
+use Rattle.bites_spec.specs.Program as program
+use Rattle.bites_machine.specs.Inputs.{is_longest, is_earliest}
+use Rattle.bites_machine.specs.States.{states_of}
+use Rattle.bites_machine.specs.Scratch.{thread_of}
+use Rattle.bites_machine.specs.Explore.{ReadsAll}
+use Rattle.bites_machine.specs.Sweep.{InvariantBetweenSteps, IsProgramOf, HasReached}
+use Rattle.bites_machine.proofs.vm.pikevm.run.Given as goal
+
+abbrev pub invariant-places : goal.invariant-places
+invariant-places l = record {
+  within : l.place ≤ length l.input.haystack.now;
+  len : length l.slots ≡ length l.fn.slots;
+  states : l.counted.states ≡ l.fn.counted.states;
+  max_slots : l.scratch.rows.max_slots ≡ l.fn.scratch.rows.max_slots;
+  read : ReadsAll l.fn.counted.walked l.counted.walked;
+  between : InvariantBetweenSteps (states_of l.fn.counted.states.now) l.place l.counted.walked l.scratch l.threads (length l.slots);
+  gone : (p : program.Program) → IsProgramOf p (states_of l.fn.counted.states.now) l.first → (before : List (Option ℕ)) →
+      HasReached p l.input.haystack.now (is_longest l.input.kind) l.input.anchored (is_earliest l.input.kind) l.input.start before l.from.place l.from.starts l.from.is_found
+      l.fn.counted.walked (map (thread_of l.fn.scratch.rows) l.fn.threads.threads) l.fn.slots →
+      HasReached p l.input.haystack.now (is_longest l.input.kind) l.input.anchored (is_earliest l.input.kind) l.input.start before l.place l.starts l.is_found
+      l.counted.walked (map (thread_of l.scratch.rows) l.threads.threads) l.slots;
+}
+
+abbrev pub decreases-places : goal.decreases-places
+decreases-places l = length l.input.haystack.now - l.place

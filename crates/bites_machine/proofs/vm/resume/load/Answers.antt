@@ -1,0 +1,68 @@
+use Rattle.std.proofs.Common.{◌≡◌, ◌≤◌, ◌+◌, ◌-◌, ◌*◌, ◌++◌, ℕ, List, length, map, take, drop, refl, sym, ap, ◌∙◌, subst, arith, length-append, length-drop}
+use Rattle.std.specs.Prelude.{slice_index_or, slice_set}
+use Rattle.std.proofs.lemmas.List.{length-map, length-take-le}
+use Rattle.bites_machine.specs.SlotTable.{slot_of}
+use Rattle.bites_machine.specs.Used.{IsUsed}
+use Rattle.bites_machine.specs.Scratch.{row_of, thread_of}
+use Rattle.bites_machine.specs.Resume.{row_in, thread_in}
+use Rattle.bites_machine.specs.declared.vm.threads.Thread.{Thread}
+use Rattle.bites_machine.specs.declared.vm.resume.RegisterThread.{RegisterThread}
+use Rattle.bites_machine.proofs.tables.UsedLemmas.{Places, placed}
+use Rattle.bites_machine.proofs.refine.BetweenStepsLemmas.{sum_within}
+use Rattle.bites_machine.proofs.refine.ResumeLemmas.{among_index, loaded_used, loaded_more}
+use Rattle.bites_machine.proofs.vm.resume.load.Goals as goal
+use Rattle.bites_machine.proofs.vm.resume.load.Goals.{In-loop-index}
+
+abbrev none : RegisterThread
+none = record { state = 0; register = 0 }
+
+row_there : (c : In-loop-index) → (slice_index_or c.args.from.now.threads.now c.loop-index.index none).register * c.args.slots_per_row + c.args.slots_per_row ≤ length c.args.from.now.registers.now
+row_there c = c.requires.registers (slice_index_or c.args.from.now.threads.now c.loop-index.index none) (among_index c.args.from.now.threads.now c.loop-index.index none c.loop-index-test.true)
+
+pub overflow_mul-first : goal.overflow_mul-first
+overflow_mul-first c = omega (arith, row_there (goal.at.overflow_mul-first c).In-loop-index, c.type_inv.from)
+
+pub overflow_add-first : goal.overflow_add-first
+overflow_add-first c = omega (arith, row_there (goal.at.overflow_add-first c).In-loop-index, c.type_inv.from)
+
+pub offset_bounds-from-first : goal.offset_bounds-from-first
+offset_bounds-from-first c = omega (arith, row_there (goal.at.offset_bounds-from-first c).In-loop-index, c.type_inv.from)
+
+pub slice_bounds-load-end : goal.slice_bounds-load-end
+slice_bounds-load-end c = omega (arith, row_there (goal.at.slice_bounds-load-end c).In-loop-index)
+
+pub load-row-requires-clause-room : goal.load-row-requires-clause-room
+load-row-requires-clause-room c =
+    let inv = c.loop-index.invariant in
+    omega (arith, sum_within (map row_of c.loop-index.threads.threads) c.loop-index.rows c.first_is_free.ensures inv.used, length-map c.loop-index.threads.threads row_of, inv.len, c.loop-index-test.true, c.requires.more, inv.rows)
+
+pub loop-index-preserved : goal.loop-index-preserved
+loop-index-preserved c =
+    let ts = c.args.from.now.threads.now in
+    let words = c.args.from.now.registers.now in
+    let w = c.args.slots_per_row in
+    let i = c.loop-index.index in
+    let inv = c.loop-index.invariant in
+    let old = c.loop-index.rows in
+    let new = c.load-row.new.self in
+    let t = slice_index_or ts i none in
+    let first = t.register * w in
+    let there = row_there (goal.at.loop-index-preserved c).In-loop-index in
+    let row : ◌≡◌ {A = List ℕ} (take (first + w - first) (drop first words)) (take w (drop first words)) = ap (λ (n : ℕ). take n (drop first words)) (omega arith) in
+    let wide : length (row_in words w t.register) ≡ old.slots_per_row =
+    length-map (take w (drop first words)) slot_of ∙ length-take-le w (drop first words) (omega (arith, there, length-drop first words)) ∙ c.requires.slots_per_row ∙ sym inv.slots_per_row in
+    let by : Places c.load-row.result (row_in words w t.register) old new =
+    placed c.load-row.result (row_in words w t.register) old new c.load-row.ensures.known c.load-row.ensures.fresh c.load-row.ensures.other c.load-row.ensures.ref_counts
+    (c.load-row.ensures.rows ∙ ap (λ (l : List ℕ). slice_set old.rows c.load-row.result (map slot_of l)) row) c.load-row.ensures.slots_per_row inv.used.rows wide in
+    record {
+      within = omega (arith, c.loop-index-test.true);
+      len = ap length c.push.ensures.threads ∙ length-append c.loop-index.threads.threads _ ∙ ap (λ (n : ℕ). n + 1) inv.len;
+      used = subst (λ (l : List Thread). IsUsed new (map row_of l)) (sym c.push.ensures.threads) (loaded_used words w old new c.loop-index.threads.threads c.load-row.result t by inv.used);
+      threads = ap (λ (l : List Thread). map (thread_of new) l ++ map (thread_in words w) (drop (i + 1) ts)) c.push.ensures.threads
+          ∙ loaded_more words w old new c.loop-index.threads.threads c.load-row.result t by inv.used ts i none c.loop-index-test.true refl inv.threads;
+      room = c.push.ensures.room ∙ inv.room;
+      rows = by.rows ∙ inv.rows;
+      pending = c.load-row.ensures.pending ∙ inv.pending;
+      slots_per_row = c.load-row.ensures.slots_per_row ∙ inv.slots_per_row;
+      max_slots = c.load-row.ensures.max_slots ∙ inv.max_slots;
+    }

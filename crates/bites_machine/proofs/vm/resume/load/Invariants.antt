@@ -1,0 +1,22 @@
+use Rattle.std.proofs.Common.{◌≡◌, ◌≤◌, ◌-◌, ◌++◌, drop, length, map}
+use Rattle.bites_machine.specs.Used.{IsUsed}
+use Rattle.bites_machine.specs.Scratch.{row_of, thread_of}
+use Rattle.bites_machine.specs.Resume.{thread_in}
+use Rattle.bites_machine.proofs.vm.resume.load.Given as goal
+
+abbrev pub invariant-loop-index : goal.invariant-loop-index
+invariant-loop-index l = record {
+  within : l.index ≤ length l.from.threads.now;
+  len : length l.threads.threads ≡ l.index;
+  used : IsUsed l.rows (map row_of l.threads.threads);
+  threads : map (thread_of l.rows) l.threads.threads ++ map (thread_in l.from.registers.now l.slots_per_row) (drop l.index l.from.threads.now)
+      ≡ map (thread_in l.from.registers.now l.slots_per_row) l.from.threads.now;
+  room : l.threads.room ≡ l.fn.threads.room;
+  rows : length l.rows.ref_counts ≡ length l.fn.rows.ref_counts;
+  pending : l.rows.pending ≡ l.fn.rows.pending;
+  slots_per_row : l.rows.slots_per_row ≡ l.fn.rows.slots_per_row;
+  max_slots : l.rows.max_slots ≡ l.fn.rows.max_slots;
+}
+
+abbrev pub decreases-loop-index : goal.decreases-loop-index
+decreases-loop-index l = length l.from.threads.now - l.index

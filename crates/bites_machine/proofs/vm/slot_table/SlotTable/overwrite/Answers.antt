@@ -1,0 +1,60 @@
+use Rattle.std.proofs.Common.{◌≡◌, ◌<◌, ◌≤◌, ◌+◌, ◌*◌, ℕ, List, length, map, take, drop, sym, ap, ◌∙◌, ◌++◌, subst, arith}
+use Rattle.std.specs.Prelude.{slice_index, slice_set}
+use Rattle.bites_machine.specs.SlotTable.{slot_of, rows_of}
+use Rattle.bites_machine.proofs.tables.RowLemmas.{row_fits, whole_again}
+use Rattle.bites_machine.proofs.tables.WordLemmas.{words_written}
+use Rattle.bites_machine.proofs.tables.FreeLemmas.{is_taken, first_stays}
+use Rattle.bites_machine.proofs.vm.slot_table.SlotTable.overwrite.Goals as goal
+use Rattle.bites_machine.proofs.vm.slot_table.SlotTable.overwrite.Goals.{After-deref_mut, After-write_row_words}
+
+known : (c : After-deref_mut) → c.args.row < length c.self.inside.ref_counts.items
+known c =
+    is_taken c.self.inside.row_count c.self.inside.free.items c.self.inside.ref_counts.items c.args.row c.self.invariant.0.free
+    (λ other. subst (λ p. 0 < slice_index p.ref_counts c.args.row) (sym c.self.view_is) c.requires.used)
+
+wide : (c : After-deref_mut) → length c.args.words.now ≡ c.self.inside.slots_per_row
+wide c = c.requires.slots_per_row ∙ sym (ap (λ p. p.slots_per_row) c.self.view_is)
+
+fits : (c : After-deref_mut) → c.args.row * c.self.inside.slots_per_row + c.self.inside.slots_per_row ≤ length c.self.inside.slots.items
+fits c =
+    let le = row_fits c.self.inside.slots_per_row c.self.inside.slots_per_row (length c.self.inside.ref_counts.items) c.args.row (known c) (omega arith) in
+    omega (arith, le, c.self.invariant.0.slots)
+
+pub overflow_mul-row : goal.overflow_mul-row
+overflow_mul-row c = omega (arith, fits (goal.at.overflow_mul-row c).After-deref_mut, c.self.inside.slots.ok.0)
+
+pub write_row_words-requires : goal.write_row_words-requires
+write_row_words-requires c =
+    omega (arith, fits (goal.at.write_row_words-requires c).After-deref_mut, wide (goal.at.write_row_words-requires c).After-deref_mut, ap length c.deref_mut.ensures.value)
+
+same : (c : After-write_row_words) → take c.self.inside.slots.len (c.write_row_words.new.slots ++ drop (length c.write_row_words.new.slots) c.self.inside.slots.items) ≡ c.write_row_words.new.slots
+same c =
+    whole_again c.self.inside.slots.len c.write_row_words.new.slots c.self.inside.slots.items (c.write_row_words.auto.slots ∙ ap length c.deref_mut.ensures.value) c.self.inside.slots.ok.0
+
+pub invariant_of-self : goal.invariant_of-self
+invariant_of-self c =
+    let len : length c.write_row_words.new.slots ≡ length c.self.inside.slots.items = c.write_row_words.auto.slots ∙ ap length c.deref_mut.ensures.value in
+    rw (same (goal.at.invariant_of-self c).After-write_row_words) (
+      record {
+        free = c.self.invariant.0.free;
+        few = c.self.invariant.0.few;
+        slots = len ∙ c.self.invariant.0.slots;
+        wide = c.self.invariant.0.wide;
+        first = first_stays c.self.inside.row_count c.self.inside.slots_per_row c.self.inside.max_slots c.args.row c.self.inside.slots.items _ _ _ _ _
+            c.self.invariant.0 c.deref_mut.ensures.value c.requires.other (omega (arith, fits (goal.at.invariant_of-self c).After-deref_mut)) c.write_row_words.ensures;
+      },
+      c.self.invariant.1,
+      c.self.invariant.2,
+      c.self.invariant.3,
+    )
+
+pub returns-clause-rows : goal.returns-clause-rows
+returns-clause-rows c =
+    let w = c.self.inside.slots_per_row in
+    let row_count = c.self.inside.row_count in
+    let to = c.args.row * c.self.inside.slots_per_row in
+    ap (λ slots. rows_of w row_count (map slot_of slots)) (same (goal.at.returns-clause-rows c).After-write_row_words ∙ c.write_row_words.ensures)
+    ∙ ap (λ (d : List ℕ). rows_of w row_count (map slot_of (take to d ++ (c.args.words.now ++ drop (to + length c.args.words.now) d)))) c.deref_mut.ensures.value
+    ∙ words_written w row_count (length c.self.inside.ref_counts.items) c.args.row c.args.words.now c.self.inside.slots.items (wide (goal.at.returns-clause-rows c).After-deref_mut)
+    (known (goal.at.returns-clause-rows c).After-deref_mut) c.self.invariant.0.few c.self.invariant.0.slots
+    ∙ ap (λ p. slice_set p.rows c.args.row (map slot_of c.args.words.now)) c.self.view_is

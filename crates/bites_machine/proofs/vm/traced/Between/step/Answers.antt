@@ -1,0 +1,47 @@
+use Rattle.std.proofs.Common.{◌≡◌, ◌+◌, ◌&&◌, ◌||◌, ◌∙◌, ℕ, List, Option, not, sym, ap, ap₂, subst}
+use Rattle.std.specs.Prelude.{is_some}
+use Rattle.std.specs.Option.{option_or}
+use Rattle.bites_spec.specs.Utf8.{piece}
+use Rattle.bites_spec.specs.Walks.{Among}
+use Rattle.bites_spec.specs.PikeVm.{Thread}
+use Rattle.bites_machine.specs.Inputs.{is_longest}
+use Rattle.bites_machine.specs.Traced.{Place, WalksPlace, walked_from}
+use Rattle.bites_machine.proofs.refine.TracedSteps.{walked_known, traces_place}
+use Rattle.bites_machine.proofs.vm.traced.Between.step.Goals as goal
+
+pub walk_place-requires-clause-known : goal.walk_place-requires-clause-known
+walk_place-requires-clause-known c t h =
+    walked_known c.piece_at-here.result.longest c.args.program.now.program c.args.self.now.place c.args.self.now.starts c.args.self.now.threads.items c.take_threads.ensures.well_formed c.requires.known t
+    (subst (λ (l : List Thread). Among l t) c.in_ok-threads.ensures.threads h)
+
+pub returns-clause-traces : goal.returns-clause-traces
+returns-clause-traces c s stands =
+    let e = c.piece_at-here.ensures in
+    let here = c.piece_at-here.result in
+    let old = c.args.self.now in
+    let p = c.args.program.now.program in
+    let longest : here.longest ≡ is_longest c.args.input.now.kind = e.longest ∙ c.is_longest.ensures in
+    let items = c.in_ok-threads.ensures.threads ∙ ap (λ b. walked_from b p old.place old.starts old.threads.items) longest in
+    let walks : WalksPlace c.args.input.now.haystack.now (is_longest c.args.input.now.kind) old.place p old.starts (walked_from (is_longest c.args.input.now.kind) p old.place old.starts old.threads.items) c.in_ok-traced.traced c.in_ok-traced.next.items =
+    subst (λ (l : List Thread). WalksPlace c.args.input.now.haystack.now (is_longest c.args.input.now.kind) old.place p old.starts l c.in_ok-traced.traced c.in_ok-traced.next.items) items
+    (subst (λ b. WalksPlace c.args.input.now.haystack.now (is_longest c.args.input.now.kind) old.place p b c.in_ok-threads.threads.items c.in_ok-traced.traced c.in_ok-traced.next.items) c.take_threads.ensures.starts
+    (subst (λ i. WalksPlace c.args.input.now.haystack.now (is_longest c.args.input.now.kind) i p c.take_threads.new.self.starts c.in_ok-threads.threads.items c.in_ok-traced.traced c.in_ok-traced.next.items) e.place
+    (subst (λ b. WalksPlace c.args.input.now.haystack.now b here.place p c.take_threads.new.self.starts c.in_ok-threads.threads.items c.in_ok-traced.traced c.in_ok-traced.next.items) longest
+    (subst (λ (h : List ℕ). WalksPlace h here.longest here.place p c.take_threads.new.self.starts c.in_ok-threads.threads.items c.in_ok-traced.traced c.in_ok-traced.next.items) e.haystack
+    c.in_ok-traced.ensures.walks)))) in
+    let one = traces_place c.args.input.now.haystack.now (is_longest c.args.input.now.kind) p c.args.input.now.anchored c.in_ok-traced.traced c.in_ok-traced.next.items
+    old.place old.threads.items old.starts old.best walks s stands.place stands.threads stands.starts stands.best in
+    let len : here.ch_len ≡ (piece c.args.input.now.haystack.now old.place).len = here.len_is ∙ ap₂ (λ (h : List ℕ) (i : ℕ). (piece h i).len) e.haystack e.place in
+    let first = ap (λ (x : Place). x.first_match) c.traced.view_is in
+    let now = c.in_ok-advance.ensures in (
+      one.0,
+      one.1,
+      record {
+        place = one.2 ∙ ap (λ n. old.place + n) (sym len) ∙ ap (λ n. n + here.ch_len) (sym c.take_threads.ensures.place) ∙ sym now.place;
+        threads = one.3 ∙ ap (λ v. v.items) (sym now.threads);
+        starts = one.4 ∙ ap (λ b. b && not (c.args.input.now.anchored || is_some c.in_ok-traced.traced.first_match)) (sym c.take_threads.ensures.starts)
+            ∙ ap (λ (o : Option Thread). c.take_threads.new.self.starts && not (c.args.input.now.anchored || is_some o)) (sym first) ∙ sym now.starts;
+        best = one.5 ∙ ap (λ (o : Option Thread). option_or c.in_ok-traced.traced.first_match o) (sym c.take_threads.ensures.best)
+            ∙ ap (λ (o : Option Thread). option_or o c.take_threads.new.self.best) (sym first) ∙ sym now.best;
+      },
+    )

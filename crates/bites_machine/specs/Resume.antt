@@ -1,0 +1,26 @@
+-- A search that is resumed between two places, and how it stops.
+use Rattle.std.specs.Prelude.{ℕ, ◌*◌, ◌+◌, ◌≤◌, Bool, true, List, [], map, take, drop, length, Option, Some, None}
+use Rattle.bites_spec.specs.Walks.{Among}
+use Rattle.bites_spec.specs.Program.{Program}
+use Rattle.bites_spec.specs.Counts.{Record}
+use Rattle.bites_spec.specs.PikeVm as machine
+use Rattle.bites_machine.specs.SlotTable.{slot_of}
+use Rattle.bites_machine.specs.Sweep.{HasReached, SearchResult}
+use Rattle.bites_machine.specs.declared.vm.resume.RegisterThread.{RegisterThread}
+
+-- the row of a register: so many of the words of all registers
+abbrev pub row_in : List ℕ → ℕ → ℕ → List (Option ℕ)
+row_in words width r = map slot_of (take width (drop (r * width) words))
+
+-- the thread with the row of its register
+abbrev pub thread_in : List ℕ → ℕ → RegisterThread → machine.Thread
+thread_in words width t = record { state = t.state; start = 0; slots = row_in words width t.register }
+
+-- each thread has a whole row among the words
+abbrev pub HaveRows : List ℕ → ℕ → List RegisterThread → Type 0
+HaveRows words width threads = (t : RegisterThread) → Among threads t → t.register * width + width ≤ length words
+
+-- The search stopped: it was over, or at this place no thread is left while the start is walked.
+abbrev pub StopsAt : Program → List ℕ → Bool → Bool → Bool → ℕ → List (Option ℕ) → Bool → Option ℕ → List (Option ℕ) → Record → Type 0
+StopsAt p hay longest anchored earliest start first is_found None slots walked = SearchResult p hay longest anchored earliest start is_found first slots walked
+StopsAt p hay longest anchored earliest start first is_found (Some place) slots walked = HasReached p hay longest anchored earliest start first place true is_found walked [] slots

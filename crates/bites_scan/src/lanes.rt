@@ -1,0 +1,44 @@
+//! Vectors of 16 bytes, lane by lane. A lane that isn't 0 is marked.
+
+ghost use Rattle.std.specs.Prelude.{◌≡◌, ◌+◌, ◌≤◌, ◌<◌, ◌++◌, length};
+ghost use lib.Lanes.{chunk};
+ghost use Rattle.bites_scan.specs.Lanes.{marks, mask};
+
+use std::simd::prelude::*;
+
+/// How many lanes a vector has.
+pub(crate) const LANES: usize = 16;
+
+/// Returns the 16 bytes from `at` on.
+#[inline(always)]
+pub(crate) fn load(bytes: &[u8], at: usize) -> u8x16
+    requires { at + 16 ≤ length bytes.now }
+    ensures { result ≡ chunk at 16 bytes.now }
+{
+    u8x16::from_slice(&bytes[at..])
+}
+
+/// Returns a bit for each lane that is marked.
+#[inline(always)]
+pub(crate) fn mask_of(lanes: u8x16) -> u64
+    ensures bits { result ≡ mask (marks lanes) }
+    ensures small { result < 65536 }
+{
+    lanes.simd_ne(u8x16::splat(0)).to_bitmask()
+}
+
+/// Marks each lane that is marked in one of two vectors.
+#[inline(always)]
+pub(crate) fn either(a: u8x16, b: u8x16) -> u8x16
+    ensures { mask (marks result) ≡ 0 → (mask (marks a) ≡ 0) × (mask (marks b) ≡ 0) }
+{
+    a | b
+}
+
+/// Returns a bit for each lane of four vectors that is marked.
+#[inline(always)]
+pub(crate) fn mask_of_four(a: u8x16, b: u8x16, c: u8x16, d: u8x16) -> u64
+    ensures { result ≡ mask (marks a ++ (marks b ++ (marks c ++ marks d))) }
+{
+    mask_of(a) + (mask_of(b) << 16) + (mask_of(c) << 32) + (mask_of(d) << 48)
+}

@@ -1,0 +1,15 @@
+//! Vector loops over bytes: the first byte outside a set, and the first offset of a literal.
+//!
+//! Nothing here knows of patterns or of UTF-8. A [`byte_set::ByteSet`] is skipped, and a [`literal::Literal`] is searched for.
+#![tactic(auto)]
+
+pub mod byte_set;
+mod first_stop;
+mod folding;
+mod form;
+mod lanes;
+pub mod literal;
+mod nibbles;
+mod pair;
+pub mod rank;
+mod stops;

@@ -1,0 +1,90 @@
+//! A literal that a haystack is searched for.
+
+ghost use Rattle.std.specs.Prelude.{◌≡◌, ◌≤◌, ◌<◌, length, take};
+ghost use Rattle.bites_scan.specs.Literal.{Needle, IsOutcome, folding, needle};
+
+use crate::folding::{Caseless, Exact};
+use crate::pair::{Pair, rarest_two};
+use std::marker::Model;
+
+/// How many bytes a literal has at most.
+pub const MAX_LEN: usize = 32;
+
+/// A literal of 1 to 32 bytes that a haystack is searched for. It owns no memory.
+///
+/// For proofs: a contract sees it as its bytes, and whether letters of ASCII count as equal in both cases.
+#[derive(Drop)]
+pub struct Literal {
+    bytes: [u8; MAX_LEN],
+    len: usize,
+    first: usize,
+    second: usize,
+    caseless: bool,
+    ghost short: { len ≤ 32 },
+    ghost first_within: { first < len },
+    ghost second_within: { second < len },
+}
+
+impl Model for Literal {
+    ghost use Rattle.bites_scan.specs.Literal.{Needle, needle};
+    ghost use Rattle.std.specs.Prelude.{take};
+
+    ghost Value = { Needle };
+
+    ghost view = { λ l. needle (take l.len l.bytes) l.caseless };
+}
+
+/// What a search found.
+#[derive(Clone, Copy, Debug, Drop, PartialEq)]
+pub enum Outcome {
+    /// The first offset of the literal.
+    Found(usize),
+    /// The literal does not occur.
+    Nowhere,
+    /// Too many offsets looked like the literal and were not. The literal does not occur before this offset.
+    Tired(usize),
+}
+
+impl Literal {
+    /// Returns a literal of these bytes. If `caseless` is set, letters of ASCII count as equal in both cases.
+    pub fn new(bytes: &[u8], caseless: bool) -> Literal
+        requires some { 0 < length bytes.now }
+        requires short { length bytes.now ≤ 32 }
+        ensures { result ≡ needle bytes.now caseless }
+    {
+        let mut own = [0; MAX_LEN];
+        own[..bytes.len()].copy_from_slice(bytes);
+        let (first, second) = if caseless {
+            rarest_two::<Caseless>(bytes)
+        } else {
+            rarest_two::<Exact>(bytes)
+        };
+        Literal {
+            bytes: own,
+            len: bytes.len(),
+            first,
+            second,
+            caseless,
+        }
+    }
+
+    /// Searches from `from` on, until the literal is found or too many offsets only looked like it.
+    ///
+    /// The two rarest bytes of the literal are compared at 64 offsets a step. At an offset where both agree all bytes are
+    /// compared. Of `n` bytes that the search passes, at most 65 + n / 4 are offsets at which this fails.
+    pub fn search(&self, haystack: &[u8], from: usize) -> Outcome
+        requires { from ≤ length haystack.now }
+        ensures { IsOutcome self.now haystack.now from result }
+    {
+        let pair = Pair {
+            needle: &self.bytes[..self.len],
+            first: self.first,
+            second: self.second,
+        };
+        if self.caseless {
+            pair.search::<Caseless>(haystack, from)
+        } else {
+            pair.search::<Exact>(haystack, from)
+        }
+    }
+}

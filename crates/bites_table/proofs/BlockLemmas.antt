@@ -1,0 +1,213 @@
+-- Partitions into blocks, and the steps of a split.
+use Rattle.std.proofs.Common.{◌≡◌, ℕ, zero, suc, ◌+◌, ◌<◌, ◌≤◌, Bool, true, false, ◌&&◌, ◌||◌, List, [], ◌∷◌, ◌++◌, length, refl, sym, ap, ◌∙◌, subst, ⊎_elim, ◌⊎◌, inl, inr, arith, length-append}
+use Rattle.std.specs.Prelude.{Option, Some, None, IfSome, ◌==◌, nat_le, nat_lt, slice_index_or, slice_set, replicate}
+use Rattle.std.specs.List.Sorted.{IsStrictlyIncreasing}
+use Rattle.std.proofs.lemmas.Bool.{cases_eq}
+use Rattle.std.proofs.lemmas.Bool.Decides.{nat_tests}
+use Rattle.std.proofs.lemmas.List.{get_or-set_same, get_or-set_other, get_or_past}
+use Rattle.std.proofs.lemmas.List.Kept.{AllPairs-from_increasing}
+use Rattle.bites_spec.specs.Range.{in_range, in_ranges}
+use Rattle.bites_spec.specs.Program.{State, state_at, takes, fail}
+use Rattle.bites_table.specs.Bounds.{line_feeds, carriage_returns, word_bytes}
+use Rattle.bites_table.specs.Blocks.{at, IsInterval, IsFiner, PassAlike, AreBlocks, IsMoved, AreSplit, AreSplitByKinds}
+use Rattle.bites_table.specs.declared.distinctions.Distinctions.{Distinctions}
+use Rattle.bites_table.specs.declared.blocks.Blocks.{Blocks}
+
+-- rising numbers do not fall
+pub rises : (xs : List ℕ) → IsStrictlyIncreasing xs → (i j : ℕ) → i ≤ j → j < length xs → at xs i ≤ at xs j
+rises xs rising i j le lt =
+    ⊎_elim (λ (e : i ≡ j). rw e (omega arith)) (λ ne. let below = AllPairs-from_increasing xs rising i j 0 (unlike i j le ne) lt in omega arith) (cases_eq i j)
+  where
+    unlike : (i j : ℕ) → i ≤ j → (i ≡ j → ⊥) → i < j
+    unlike i j le ne = ⊎_elim (λ lt. lt) (λ (e : i ≡ j). absurd (ne e)) (cases i j le)
+      where
+        cases : (i j : ℕ) → i ≤ j → (i < j) ⊎ (i ≡ j)
+        cases i j le = grind arith
+
+-- a number in place of another
+pub at_set : (xs : List ℕ) (i v k : ℕ) → i < length xs → ((k ≡ i) × (at (slice_set xs i v) k ≡ v)) ⊎ ((k ≡ i → ⊥) × (at (slice_set xs i v) k ≡ at xs k))
+at_set xs i v k lt =
+    ⊎_elim (λ (e : k ≡ i). inl (e, rw e (get_or-set_same xs i v 0 lt))) (λ ne. inr (ne, get_or-set_other xs i k v 0 ne)) (cases_eq k i)
+
+-- what moved, by its number
+pub marks_set : (from : ℕ) (of : List ℕ) (i to : ℕ) → i < length of → from ≤ to → (k : ℕ) → nat_le from (at (slice_set of i to) k) ≡ (nat_le from (at of k) || (k == i))
+marks_set from of i to lt le k =
+    ⊎_elim (λ (h : (k ≡ i) × (at (slice_set of i to) k ≡ to)). rw h.1 (here (nat_le from (at of k)) k i h.0))
+    (λ (h : (k ≡ i → ⊥) × (at (slice_set of i to) k ≡ at of k)). rw h.1 (there (nat_le from (at of k)) k i h.0)) (at_set of i to k lt)
+  where
+    here : (x : Bool) (k i : ℕ) → k ≡ i → nat_le from to ≡ (x || (k == i))
+    here true k i e = grind (arith, nat_tests)
+    here false k i e = grind (arith, nat_tests)
+
+    there : (x : Bool) (k i : ℕ) → (k ≡ i → ⊥) → x ≡ (x || (k == i))
+    there true k i ne = refl
+    there false k i ne = grind (arith, nat_tests)
+
+-- at the beginning of a split nothing moved
+pub begins_split : (b : Blocks) → AreBlocks b → IsMoved b.len b.of.items b
+begins_split b are = record {
+  blocks = are;
+  len = refl;
+  some = are.some;
+  up_to = omega arith;
+  kept = λ i less. refl;
+  moved = λ i more. absurd (omega (arith, are.of i));
+  apart = λ m n more same. absurd (omega (arith, are.moved m));
+}
+
+-- at its end the blocks are finer
+pub ends_finer : (from : ℕ) (old : List ℕ) (b : Blocks) → IsMoved from old b → IsFiner old b.of.items
+ends_finer from old b m i j il jl same =
+    ⊎_elim (λ (less : at b.of.items i < from). sym (m.kept i less) ∙ same ∙ m.kept j (omega arith))
+    (λ (more : from ≤ at b.of.items i).
+    let i_is = m.moved i more in
+    let j_is = m.moved j (omega arith) in
+    m.apart (at old i) (at old j) (omega arith) (i_is ∙ same ∙ sym j_is)) (cases (at b.of.items i) from)
+  where
+    cases : (n k : ℕ) → (n < k) ⊎ (k ≤ n)
+    cases n k = grind arith
+
+-- and pass the test alike by which they moved
+pub ends_alike : (from : ℕ) (begins of : List ℕ) (test : ℕ → Bool) → ((k : ℕ) → k < length begins → nat_le from (at of k) ≡ test (at begins k)) → PassAlike begins of test
+ends_alike from begins of test marks i j il jl same = sym (marks i il) ∙ ap (nat_le from) same ∙ marks j jl
+
+-- numbers of rising ones are strictly rising
+pub rises_strictly : (xs : List ℕ) → IsStrictlyIncreasing xs → (i j : ℕ) → i < j → j < length xs → at xs i < at xs j
+rises_strictly xs rising i j less lt = AllPairs-from_increasing xs rising i j 0 less lt
+
+-- where a range begins to be moved
+pub begins_up : (begins : List ℕ) → IsStrictlyIncreasing begins → (first r : ℕ) → IsInterval begins first r → (i : ℕ) →
+    ((at begins r < first) × (i ≡ r + 1)) ⊎ ((first ≤ at begins r) × (i ≡ r)) →
+    ((k : ℕ) → i ≤ k → k < length begins → first ≤ at begins k) × ((k : ℕ) → k < i → at begins k < first)
+begins_up begins rising first r is i (inl h) = (
+  λ k le lt. let next = is.next_above k (omega arith) lt in omega arith,
+  λ k less. let low = rises begins rising k r (omega arith) is.within in omega arith,
+)
+begins_up begins rising first r is i (inr h) = (
+  λ k le lt. let low = rises begins rising r k (omega arith) lt in omega arith,
+  λ k less. let low = rises_strictly begins rising k r (omega arith) is.within in let at_first = is.begins_below in omega arith,
+)
+
+pub marks_begin : (a : Bool) (first last n k i : ℕ) → (k < i → n < first) → a ≡ (a || (in_range (first, last) n && nat_lt k i))
+marks_begin true first last n k i below = refl
+marks_begin false first last n k i below = grind (arith, nat_tests)
+
+pub marks_more : (a b : Bool) (first last n k i : ℕ) → b ≡ (a || (in_range (first, last) n && nat_lt k i)) → (k ≡ i → (first ≤ n) × (n ≤ last)) →
+    (b || (k == i)) ≡ (a || (in_range (first, last) n && nat_lt k (i + 1)))
+marks_more true b first last n k i is inside = rw is refl
+marks_more false b first last n k i is inside = rw is (grind (arith, nat_tests))
+
+pub marks_end : (a : Bool) (first last n k i : ℕ) → (i ≤ k → last < n) → (a || (in_range (first, last) n && nat_lt k i)) ≡ (a || in_range (first, last) n)
+marks_end true first last n k i past = refl
+marks_end false first last n k i past = grind (arith, nat_tests)
+
+-- a list of one value, and one of zeros also past its end
+pub repeated : {X : Type 0} (n : ℕ) (x d : X) (m : ℕ) → m < n → slice_index_or (replicate n x) m d ≡ x
+repeated zero x d m lt = absurd (omega arith)
+repeated (suc n) x d zero lt = refl
+repeated (suc n) x d (suc m) lt = repeated n x d m (omega arith)
+
+pub zeros : (n m : ℕ) → at (replicate n 0) m ≡ 0
+zeros zero m = refl
+zeros (suc n) zero = refl
+zeros (suc n) (suc m) = zeros n m
+
+-- blocks that are numbered anew
+module _ (from : ℕ) (old : List ℕ) (mid : Blocks) (m : IsMoved from old mid) (all : (k : ℕ) → k < length old → from ≤ at mid.of.items k) (c : Blocks)
+    (same_len : length c.of.items ≡ length old) (less : (k : ℕ) → k < length old → at c.of.items k + from ≡ at mid.of.items k) where
+  pub renumbered_blocks : 0 < length old → c.len + from ≡ mid.len → ((n : ℕ) → at c.moved.items n ≡ 0) → AreBlocks c
+  renumbered_blocks there len none =
+      let first = less 0 there in
+      let below = m.blocks.of 0 in
+      let some : 1 ≤ c.len = omega arith in record {
+        some = some;
+        of = λ i. ⊎_elim (λ (lt : i < length old). let i_is = less i lt in let i_below = m.blocks.of i in omega arith)
+            (λ (le : length old ≤ i). let past : at c.of.items i ≡ 0 = get_or_past c.of.items i 0 (omega arith) in omega arith) (cases i (length old));
+        moved = λ n. let is = none n in omega arith;
+      }
+    where
+      cases : (n k : ℕ) → (n < k) ⊎ (k ≤ n)
+      cases n k = grind arith
+
+  pub renumbered_finer : IsFiner old c.of.items
+  renumbered_finer i j il jl same = let i_is = less i il in let j_is = less j jl in ends_finer from old mid m i j il jl (omega arith)
+
+-- blocks that become finer
+pub still_alike : (begins old new : List ℕ) (test : ℕ → Bool) → length old ≡ length begins → IsFiner old new → PassAlike begins old test → PassAlike begins new test
+still_alike begins old new test len finer alike i j il jl same = alike i j il jl (finer i j (omega arith) (omega arith) same)
+
+pub still_by_kinds : (begins old new : List ℕ) (kinds : Distinctions) → length old ≡ length begins → IsFiner old new → AreSplitByKinds begins old kinds → AreSplitByKinds begins new kinds
+still_by_kinds begins old new kinds len finer by = record {
+  line = λ told. still_alike begins old new (in_ranges line_feeds) len finer (by.line told);
+  carriage_return = λ told. still_alike begins old new (in_ranges carriage_returns) len finer (by.carriage_return told);
+  word = λ told. still_alike begins old new (in_ranges word_bytes) len finer (by.word told);
+}
+
+-- by a single character
+pub single_alike : (begins blocks : List ℕ) (x : ℕ) → PassAlike begins blocks (in_ranges ((x, x) ∷ [])) → PassAlike begins blocks (λ d. d == x)
+single_alike begins blocks x alike i j il jl same = single (at begins i) ∙ alike i j il jl same ∙ sym (single (at begins j))
+  where
+    single : (c : ℕ) → (c == x) ≡ ((nat_le x c && nat_le c x) || false)
+    single c = grind (arith, nat_tests)
+
+-- a loop over states goes one further
+pub one_state_more : (begins old new : List ℕ) (ss : List State) (n : ℕ) (s : State) → s ≡ state_at ss n → length old ≡ length begins → IsFiner old new → PassAlike begins new (takes s) →
+    ((q : ℕ) → q < n → PassAlike begins old (takes (state_at ss q))) → (q : ℕ) → q < n + 1 → PassAlike begins new (takes (state_at ss q))
+one_state_more begins old new ss n s is len finer alike before q lt =
+    ⊎_elim (λ (less : q < n). still_alike begins old new (takes (state_at ss q)) len finer (before q less))
+    (λ (e : q ≡ n). subst (λ t. PassAlike begins new (takes t)) (is ∙ ap (state_at ss) (sym e)) alike) (cases q n lt)
+  where
+    cases : (q n : ℕ) → q < n + 1 → (q < n) ⊎ (q ≡ n)
+    cases q n lt = grind arith
+
+pub all_states : (begins old new : List ℕ) (ss : List State) (n : ℕ) → length ss ≤ n → length old ≡ length begins → IsFiner old new →
+    ((q : ℕ) → q < n → PassAlike begins old (takes (state_at ss q))) → AreSplit begins new ss
+all_states begins old new ss n le len finer before q =
+    ⊎_elim (λ (less : q < n). still_alike begins old new (takes (state_at ss q)) len finer (before q less))
+    (λ (past : n ≤ q). subst (λ s. PassAlike begins new (takes s)) (sym (get_or_past ss q fail (omega arith))) (λ i j il jl same. refl)) (cases q n)
+  where
+    cases : (q n : ℕ) → (q < n) ⊎ (n ≤ q)
+    cases q n = grind arith
+
+-- members of the blocks of the first intervals
+pub record AreMembersOf (begins blocks members : List ℕ) (n : ℕ) : Type 0 where
+  pub below : (i : ℕ) → i < n → at blocks i < length members
+  pub is : (m : ℕ) → m < length members → (i : ℕ) × (i < n) × (at blocks i ≡ m) × (at begins i ≡ at members m)
+
+pub no_member_more : (begins blocks members : List ℕ) (n : ℕ) → at blocks n < length members → AreMembersOf begins blocks members n → AreMembersOf begins blocks members (n + 1)
+no_member_more begins blocks members n known are = record {
+  below = λ i lt. ⊎_elim (λ (less : i < n). are.below i less) (λ (e : i ≡ n). subst (λ k. at blocks k < length members) (sym e) known) (cases i n lt);
+  is = λ m lt. let old = are.is m lt in (old.0, omega (arith, old.1), old.2, old.3);
+}
+  where
+    cases : (i n : ℕ) → i < n + 1 → (i < n) ⊎ (i ≡ n)
+    cases i n lt = grind arith
+
+pub one_member_more : (begins blocks members : List ℕ) (n c : ℕ) → at blocks n ≡ length members → c ≡ at begins n → AreMembersOf begins blocks members n →
+    AreMembersOf begins blocks (members ++ c ∷ []) (n + 1)
+one_member_more begins blocks members n c new c_is are = record {
+  below = λ i lt. ⊎_elim (λ (less : i < n). let old = are.below i less in omega (arith, len)) (λ (e : i ≡ n). let at_n = ap (at blocks) e in omega (arith, len)) (cases i (n + 1) n lt);
+  is = λ m lt. ⊎_elim (λ (less : m < length members).
+      let old = are.is m less in (old.0, omega (arith, old.1), old.2, old.3 ∙ sym (front members c m less)))
+      (λ (e : m ≡ length members). (n, omega arith, new ∙ sym e, sym c_is ∙ sym (last members c) ∙ ap (at (members ++ c ∷ [])) (sym e))) (cases m (length (members ++ c ∷ [])) (length members) (omega (arith, len)));
+}
+  where
+    len : length (members ++ c ∷ []) ≡ length members + 1
+    len = length-append members (c ∷ [])
+
+    cases : (i k n : ℕ) → i < n + 1 → (i < n) ⊎ (i ≡ n)
+    cases i k n lt = grind arith
+
+    front : (members : List ℕ) (c m : ℕ) → m < length members → at (members ++ c ∷ []) m ≡ at members m
+    front [] c m lt = absurd (omega arith)
+    front (x ∷ members) c zero lt = refl
+    front (x ∷ members) c (suc m) lt = front members c m (omega arith)
+
+    last : (members : List ℕ) (c : ℕ) → at (members ++ c ∷ []) (length members) ≡ c
+    last [] c = refl
+    last (x ∷ members) c = last members c
+
+-- what follows for a result that is there
+pub if_there : {P Q : Type 0} (o : Option (Unit {0})) → (P → Q) → IfSome o (λ _. P) → IfSome o (λ _. Q)
+if_there None follows h = tt
+if_there (Some x) follows h = follows h

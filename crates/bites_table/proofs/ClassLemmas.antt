@@ -1,0 +1,147 @@
+-- The classes of blocks are classes of the program.
+use Rattle.std.proofs.Common.{◌≡◌, ℕ, zero, suc, ◌+◌, ◌<◌, ◌≤◌, Bool, true, false, cond, List, [], ◌∷◌, length, Option, Some, None, refl, sym, ap, ◌∙◌, subst, ⊎_elim, ◌⊎◌, inl, inr, arith}
+use Rattle.std.specs.Prelude.{IfSome, nat_le, slice_get}
+use Rattle.std.specs.List.{Contains}
+use Rattle.std.specs.List.Sorted.{IsStrictlyIncreasing}
+use Rattle.std.proofs.lemmas.Bool.Decides.{nat_tests}
+use Rattle.std.proofs.lemmas.List.{get_or_default}
+use Rattle.std.proofs.lemmas.Option.{slice_get_past}
+use Rattle.bites_spec.specs.Class.{is_scalar}
+use Rattle.bites_spec.specs.Program.{Program, state_at, takes}
+use Rattle.bites_table.specs.Kinds.{kind_of_byte, AreAlike, AreClasses}
+use Rattle.bites_table.specs.Distinctions.{seen, CoverBefore, CoverAfter}
+use Rattle.bites_table.specs.declared.distinctions.Distinctions.{Distinctions}
+use Rattle.bites_table.specs.Bounds.{NoneBetween, AreBounds, AreTakenAlike}
+use Rattle.bites_table.specs.Blocks.{at, IsInterval, AreSplit, AreSplitByKinds, HaveMembers}
+use Rattle.bites_table.specs.Classes.{Intervals, interval_at, class_by, classes_of, AreSound, IsPast}
+use Rattle.bites_table.proofs.LeadLemmas.{alike_itself}
+use Rattle.bites_table.proofs.DistinctionLemmas.{characters_alike}
+use Rattle.bites_table.proofs.BoundLemmas.{seen_alike, first_is_zero}
+use Rattle.bites_table.proofs.BlockLemmas.{rises, rises_strictly}
+
+abbrev NeverFalls : List ℕ → Type 0
+NeverFalls xs = (i j : ℕ) → i ≤ j → j < length xs → at xs i ≤ at xs j
+
+-- a number from the first on has an interval
+found : (xs : List ℕ) → NeverFalls xs → (c : ℕ) → 0 < length xs → at xs 0 ≤ c → IsInterval xs c (interval_at xs c)
+found [] never c some below = absurd (omega arith)
+found (b ∷ []) never c some below = record { within = omega arith; begins_below = below; next_above = λ k more lt. absurd (omega arith) }
+found (b ∷ d ∷ bs) never c some below = by_next (nat_le d c) refl (λ le. found (d ∷ bs) tail c (omega arith) le)
+  where
+    tail : NeverFalls (d ∷ bs)
+    tail i j le lt = never (suc i) (suc j) (omega arith) (omega arith)
+
+    above_next : (k : ℕ) → suc (interval_at (d ∷ bs) c) < k → k < length (b ∷ d ∷ bs) → IsInterval (d ∷ bs) c (interval_at (d ∷ bs) c) → c < at (b ∷ d ∷ bs) k
+    above_next zero more lt rest = absurd (omega arith)
+    above_next (suc k) more lt rest = rest.next_above k (omega arith) (omega arith)
+
+    above_first : (k : ℕ) → c < d → 0 < k → k < length (b ∷ d ∷ bs) → c < at (b ∷ d ∷ bs) k
+    above_first zero past more lt = absurd (omega arith)
+    above_first (suc k) past more lt = let low = tail 0 k (omega arith) (omega arith) in omega arith
+
+    by_next : (x : Bool) → nat_le d c ≡ x → (d ≤ c → IsInterval (d ∷ bs) c (interval_at (d ∷ bs) c)) → IsInterval (b ∷ d ∷ bs) c (cond x (suc (interval_at (d ∷ bs) c)) 0)
+    by_next true e rest =
+        let next = rest (grind (arith, nat_tests)) in record {
+          within = omega (arith, next.within);
+          begins_below = next.begins_below;
+          next_above = λ k more lt. above_next k more lt next;
+        }
+    by_next false e rest = record { within = omega arith; begins_below = below; next_above = λ k more lt. above_first k (grind (arith, nat_tests)) more lt }
+
+pub interval_found : (xs : List ℕ) → IsStrictlyIncreasing xs → (c : ℕ) → 0 < length xs → at xs 0 ≤ c → IsInterval xs c (interval_at xs c)
+interval_found xs rising c some below = found xs (rises xs rising) c some below
+
+-- it is the only one
+pub same_interval : (xs : List ℕ) (c i j : ℕ) → IsInterval xs c i → IsInterval xs c j → i ≡ j
+same_interval xs c i j a b =
+    ⊎_elim (λ (lt : i < j). absurd (let above = a.next_above j lt b.within in omega (arith, b.begins_below)))
+    (λ (h : (i ≡ j) ⊎ (j < i)). ⊎_elim (λ (e : i ≡ j). e) (λ (lt : j < i). absurd (let above = b.next_above i lt a.within in omega (arith, a.begins_below))) h)
+    (cases i j)
+  where
+    cases : (i j : ℕ) → (i < j) ⊎ ((i ≡ j) ⊎ (j < i))
+    cases i j = grind arith
+
+pub interval_is : (xs : List ℕ) → IsStrictlyIncreasing xs → (c i : ℕ) → 0 < length xs → at xs 0 ≤ c → IsInterval xs c i → interval_at xs c ≡ i
+interval_is xs rising c i some below is = same_interval xs c (interval_at xs c) i (interval_found xs rising c some below) is
+
+-- no interval begins between the beginning of that of a number and the number
+none_between : (xs : List ℕ) → IsStrictlyIncreasing xs → (c i : ℕ) → IsInterval xs c i → NoneBetween xs (at xs i) c
+none_between xs rising c i is b (k, lt, b_is) above =
+    let k_is : at xs k ≡ b = get_or_default xs k 0 b lt ∙ b_is in
+    ⊎_elim (λ (le : k ≤ i). absurd (let below = rises xs rising k i le is.within in omega arith)) (λ (gt : i < k). let past = is.next_above k gt lt in omega arith) (cases k i)
+  where
+    cases : (k i : ℕ) → (k ≤ i) ⊎ (i < k)
+    cases k i = grind arith
+
+-- the interval of the next number
+pub next_interval : (xs : List ℕ) → IsStrictlyIncreasing xs → (n i j : ℕ) → i < length xs → at xs i ≤ n → (i + 1 < length xs → n ≤ at xs (i + 1)) →
+    ((j ≡ i + 1) × (i + 1 < length xs) × (at xs (i + 1) ≤ n)) ⊎ ((j ≡ i) × (i + 1 < length xs → n < at xs (i + 1))) → IsInterval xs n j
+next_interval xs rising n i j within begun next (inl h) = record {
+  within = omega (arith, h.0, h.1);
+  begins_below = rw h.0 h.2;
+  next_above = λ k more lt. let above = rises_strictly xs rising (i + 1) k (omega (arith, h.0)) lt in omega (arith, next h.1);
+}
+next_interval xs rising n i j within begun next (inr h) = record {
+  within = omega (arith, h.0);
+  begins_below = rw h.0 begun;
+  next_above = λ k more lt. let up = rises xs rising (i + 1) k (omega (arith, h.0)) lt in omega (arith, h.1 (omega (arith, h.0)));
+}
+
+there : (xs : List ℕ) (i : ℕ) → i < length xs → slice_get xs i ≡ Some (at xs i)
+there [] i lt = absurd (omega arith)
+there (x ∷ xs) zero lt = refl
+there (x ∷ xs) (suc i) lt = there xs i (omega arith)
+
+module _ (p : Program) (kinds : Distinctions) (before : CoverBefore kinds p.states) (after : CoverAfter kinds p.states) (begins blocks members : List ℕ)
+    (rising : IsStrictlyIncreasing begins) (first : at begins 0 ≡ 0) (some : 0 < length begins) (bounds : AreBounds p.states kinds begins)
+    (split : AreSplit begins blocks p.states) (by_kinds : AreSplitByKinds begins blocks kinds) (have : HaveMembers begins blocks members) where
+  -- first characters of two intervals of a block
+  block_alike : (j i : ℕ) → j < length begins → i < length begins → at blocks j ≡ at blocks i → seen kinds (kind_of_byte (at begins j)) ≡ seen kinds (kind_of_byte (at begins i))
+  block_alike j i jl il same =
+      seen_alike kinds (at begins j) (at begins i) (λ told. by_kinds.line told j i jl il same) (λ told. by_kinds.carriage_return told j i jl il same) (λ told. by_kinds.word told j i jl il same)
+
+  member_alike : (c : ℕ) → is_scalar c ≡ true → (i : ℕ) → IsInterval begins c i → AreAlike p (Some (at members (at blocks i))) (Some c)
+  member_alike c c_is i is =
+      let j = have.is (at blocks i) (have.below i is.within) in
+      let near : AreTakenAlike p.states kinds (at begins i) c = bounds (at begins i) c c_is is.begins_below (none_between begins rising c i is) in
+      characters_alike p kinds before after (at members (at blocks i)) c
+      (λ q. ap (λ n. takes (state_at p.states q) n) (sym j.3) ∙ split q j.0 i j.1 is.within j.2 ∙ near.by_states q)
+      (ap (λ n. seen kinds (kind_of_byte n)) (sym j.3) ∙ block_alike j.0 i j.1 is.within j.2 ∙ near.by_kinds)
+
+  pub are_classes : AreClasses p (classes_of (record { begins = begins; classes = blocks; members = members }))
+  are_classes None is = subst (λ o. AreAlike p o None) (sym (slice_get_past members (length members) (omega arith))) (alike_itself p None)
+  are_classes (Some c) is =
+      let i = interval_found begins rising c some (omega arith) in
+      subst (λ o. AreAlike p o (Some c)) (sym (there members (at blocks (interval_at begins c)) (have.below (interval_at begins c) i.within)))
+      (member_alike c is (interval_at begins c) i)
+
+-- so are those that the code makes of them, if it does
+pub made_classes : (p : Program) (kinds : Distinctions) → CoverBefore kinds p.states → CoverAfter kinds p.states → (begins blocks : List ℕ) →
+    IsStrictlyIncreasing begins → Contains begins 0 → AreBounds p.states kinds begins → AreSplit begins blocks p.states → AreSplitByKinds begins blocks kinds → (o : Option Intervals) →
+    IfSome o (λ v. v ≡ record { begins = begins; classes = blocks; members = v.members }) → IfSome o (λ v. HaveMembers begins blocks v.members) → IfSome o (λ v. AreClasses p (classes_of v))
+made_classes p kinds before after begins blocks rising has_zero bounds split by_kinds None is have = tt
+made_classes p kinds before after begins blocks rising has_zero bounds split by_kinds (Some v) is have =
+    let first = first_is_zero begins rising has_zero in
+    subst (λ (u : Intervals). AreClasses p (classes_of u)) (sym is)
+    (are_classes p kinds before after begins blocks v.members rising first.0 first.1 bounds split by_kinds have)
+
+module _ (v : Intervals) (sound : AreSound v) where
+  -- the class of a character by its interval
+  pub class_is : (c i : ℕ) → IsInterval v.begins c i → class_by v (Some c) ≡ at v.classes i
+  class_is c i is = ap (at v.classes) (interval_is v.begins sound.rising c i sound.begun (omega (arith, sound.first)) is)
+
+  pub class_below : (c : ℕ) → class_by v (Some c) < length v.members
+  class_below c = let is = interval_found v.begins sound.rising c sound.begun (omega (arith, sound.first)) in sound.below (interval_at v.begins c) is.within
+
+  -- characters past ASCII have the interval of the first of them or a later one
+  pub past_interval : (i : ℕ) → IsPast v i → (c : ℕ) → 128 ≤ c → (i ≤ interval_at v.begins c) × (interval_at v.begins c < length v.classes)
+  past_interval i past c le =
+      let is = interval_found v.begins sound.rising c sound.begun (omega (arith, sound.first)) in (
+        ⊎_elim (λ (le : i ≤ interval_at v.begins c). le)
+            (λ (lt : interval_at v.begins c < i). absurd (let above = is.next_above i lt past.within in omega (arith, past.up_to)))
+            (cases i (interval_at v.begins c)),
+        omega (arith, is.within, sound.classes),
+      )
+    where
+      cases : (i n : ℕ) → (i ≤ n) ⊎ (n < i)
+      cases i n = grind arith

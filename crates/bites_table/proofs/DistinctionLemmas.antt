@@ -1,0 +1,167 @@
+-- Kinds of which the same is seen are alike for all assertions that these distinctions cover.
+use Rattle.std.proofs.Common.{◌≡◌, ℕ, Bool, true, false, cond, ◌&&◌, ◌||◌, not, ◌+◌, ◌<◌, ◌≤◌, List, [], ◌∷◌, length, Option, Some, None, refl, sym, ap, ap₂, ◌∙◌, subst, ⊎_elim, ◌⊎◌, arith}
+use Rattle.std.proofs.lemmas.List.{get_or_past}
+use Rattle.bites_spec.specs.Look.{Look, start, end, start_lf, end_lf, start_crlf, end_crlf, word, word_negate, word_start, word_end, word_start_half, word_end_half, is_byte, is_word}
+use Rattle.bites_spec.specs.Program.{State, Program, state_at, takes, char, ranges, splits, goto, capture, fail, match}
+use Rattle.bites_table.specs.Kinds.{Kind, edge, line_feed, carriage_return, word_byte, other, kind_of_byte, kind_of, byte_of, is_edge, holds_by, leads_by, AreAlikeKinds, AreAlike}
+use Rattle.bites_table.specs.Distinctions.{is_line, is_return, is_word_kind, nothing, before_by, after_by, before_state, after_state, either, seen, IsWithin, CoverBefore, CoverAfter}
+use Rattle.bites_table.specs.declared.distinctions.Distinctions.{Distinctions}
+
+-- what is told apart is seen alike
+under : (told x y : Bool) → told ≡ true → (told && x) ≡ (told && y) → x ≡ y
+under true x y is e = e
+under false x y is e = absurd (let no : false ≡ true = is in cc)
+
+feed_is : (k : Kind) → is_byte 10 (byte_of k) ≡ (is_line k && not (is_edge k))
+feed_is edge = refl
+feed_is line_feed = refl
+feed_is carriage_return = refl
+feed_is word_byte = refl
+feed_is other = refl
+
+module _ (d : Distinctions) (k l : Kind) (same : seen d k ≡ seen d l) where
+  edge_is : d.edge ≡ true → is_edge k ≡ is_edge l
+  edge_is told = under d.edge (is_edge k) (is_edge l) told (ap (λ (s : Distinctions). s.edge) same)
+
+  line_is : d.line ≡ true → is_line k ≡ is_line l
+  line_is told = under d.line (is_line k) (is_line l) told (ap (λ (s : Distinctions). s.line) same)
+
+  return_is : d.carriage_return ≡ true → is_return k ≡ is_return l
+  return_is told = under d.carriage_return (is_return k) (is_return l) told (ap (λ (s : Distinctions). s.carriage_return) same)
+
+  word_kind_is : d.word ≡ true → is_word_kind k ≡ is_word_kind l
+  word_kind_is told = under d.word (is_word_kind k) (is_word_kind l) told (ap (λ (s : Distinctions). s.word) same)
+
+  line_feed_is : d.edge ≡ true → d.line ≡ true → is_byte 10 (byte_of k) ≡ is_byte 10 (byte_of l)
+  line_feed_is edges_told lines_told = feed_is k ∙ ap₂ (λ x y. x && not y) (line_is lines_told) (edge_is edges_told) ∙ sym (feed_is l)
+
+  -- as kinds of the byte before
+  pub alike_before : (look : Look) → IsWithin (before_by look) d → (a : Kind) → holds_by look k a ≡ holds_by look l a
+  alike_before start within a = edge_is (within.edge refl)
+  alike_before end within a = refl
+  alike_before start_lf within a = line_is (within.line refl)
+  alike_before end_lf within a = refl
+  alike_before start_crlf within a =
+      ap₂ (λ x y. x || (y && not (is_byte 10 (byte_of a)))) (line_is (within.line refl)) (return_is (within.carriage_return refl))
+  alike_before end_crlf within a =
+      ap (λ x. is_edge a || is_byte 13 (byte_of a) || (is_byte 10 (byte_of a) && not x)) (return_is (within.carriage_return refl))
+  alike_before word within a = ap (λ x. cond x (not (is_word (byte_of a))) (is_word (byte_of a))) (word_kind_is (within.word refl))
+  alike_before word_negate within a = ap (λ x. cond x (is_word (byte_of a)) (not (is_word (byte_of a)))) (word_kind_is (within.word refl))
+  alike_before word_start within a = ap (λ x. not x && is_word (byte_of a)) (word_kind_is (within.word refl))
+  alike_before word_end within a = ap (λ x. x && not (is_word (byte_of a))) (word_kind_is (within.word refl))
+  alike_before word_start_half within a = ap not (word_kind_is (within.word refl))
+  alike_before word_end_half within a = refl
+
+  -- as kinds of the character after
+  pub alike_after : (look : Look) → IsWithin (after_by look) d → (b : Kind) → holds_by look b k ≡ holds_by look b l
+  alike_after start within b = refl
+  alike_after end within b = edge_is (within.edge refl)
+  alike_after start_lf within b = refl
+  alike_after end_lf within b = line_is (within.line refl)
+  alike_after start_crlf within b =
+      ap (λ x. is_edge b || is_byte 10 (byte_of b) || (is_byte 13 (byte_of b) && not x)) (line_feed_is (within.edge refl) (within.line refl))
+  alike_after end_crlf within b =
+      ap₂ (λ x y. x || y || (is_byte 10 (byte_of k) && not (is_byte 13 (byte_of b)))) (edge_is (within.edge refl)) (return_is (within.carriage_return refl))
+      ∙ ap (λ x. is_edge l || is_byte 13 (byte_of l) || (x && not (is_byte 13 (byte_of b)))) (line_feed_is (within.edge refl) (within.line refl))
+  alike_after word within b = ap (λ x. cond (is_word (byte_of b)) (not x) x) (word_kind_is (within.word refl))
+  alike_after word_negate within b = ap (λ x. cond (is_word (byte_of b)) x (not x)) (word_kind_is (within.word refl))
+  alike_after word_start within b = ap (λ x. not (is_word (byte_of b)) && x) (word_kind_is (within.word refl))
+  alike_after word_end within b = ap (λ x. is_word (byte_of b) && not x) (word_kind_is (within.word refl))
+  alike_after word_start_half within b = refl
+  alike_after word_end_half within b = ap not (word_kind_is (within.word refl))
+
+-- what a state tells apart that tests an assertion
+before_is : (s : State) (d : Distinctions) → IsWithin (before_state s) d → (k l : Kind) → seen d k ≡ seen d l → (o : Option ℕ) → leads_by k o s ≡ leads_by l o s
+before_is (char q c) d within k l same o = refl
+before_is (ranges q rs) d within k l same o = refl
+before_is (splits qs b) d within k l same o = refl
+before_is (goto q None) d within k l same o = refl
+before_is (goto q (Some look)) d within k l same o = ap (λ x. cond x (q ∷ []) []) (alike_before d k l same look within (kind_of o))
+before_is (capture q slot) d within k l same o = refl
+before_is fail d within k l same o = refl
+before_is match d within k l same o = refl
+
+-- kinds of the byte before of which the same is seen are alike
+pub kinds_alike_before : (p : Program) (d : Distinctions) → CoverBefore d p.states → (k l : Kind) → seen d k ≡ seen d l → AreAlikeKinds p k l
+kinds_alike_before p d cover k l same o q = before_is (state_at p.states q) d (cover q) k l same o
+
+-- and as kinds of the character after, for an assertion of the program
+pub kinds_alike_after : (p : Program) (d : Distinctions) → CoverAfter d p.states → (k l : Kind) → seen d k ≡ seen d l →
+    (q t : ℕ) (look : Look) → state_at p.states q ≡ goto t (Some look) → (b : Kind) → holds_by look b k ≡ holds_by look b l
+kinds_alike_after p d cover k l same q t look is b = alike_after d k l same look (subst (λ s. IsWithin (after_state s) d) is (cover q)) b
+
+over_is : (s : State) (d : Distinctions) → IsWithin (after_state s) d → (c e : ℕ) → takes s c ≡ takes s e → seen d (kind_of_byte c) ≡ seen d (kind_of_byte e) →
+    (k : Kind) → leads_by k (Some c) s ≡ leads_by k (Some e) s
+over_is (char q x) d within c e taken same k = ap (λ b. cond b (q ∷ []) []) taken
+over_is (ranges q rs) d within c e taken same k = ap (λ b. cond b (q ∷ []) []) taken
+over_is (splits qs b) d within c e taken same k = refl
+over_is (goto q None) d within c e taken same k = refl
+over_is (goto q (Some look)) d within c e taken same k = ap (λ x. cond x (q ∷ []) []) (alike_after d (kind_of_byte c) (kind_of_byte e) same look within k)
+over_is (capture q slot) d within c e taken same k = refl
+over_is fail d within c e taken same k = refl
+over_is match d within c e taken same k = refl
+
+-- characters that the same states take, and of whose kinds the same is seen
+pub characters_alike : (p : Program) (d : Distinctions) → CoverBefore d p.states → CoverAfter d p.states → (c e : ℕ) →
+    ((q : ℕ) → takes (state_at p.states q) c ≡ takes (state_at p.states q) e) → seen d (kind_of_byte c) ≡ seen d (kind_of_byte e) → AreAlike p (Some c) (Some e)
+characters_alike p d before after c e taken same = record {
+  leads = λ k q. over_is (state_at p.states q) d (after q) c e (taken q) same k;
+  kinds = kinds_alike_before p d before (kind_of_byte c) (kind_of_byte e) same;
+  some = refl;
+}
+
+-- what lies within one of two lies within both
+or_left : (x y : Bool) → x ≡ true → (x || y) ≡ true
+or_left true y e = refl
+or_left false y e = absurd (let no : false ≡ true = e in cc)
+
+or_right : (x y : Bool) → y ≡ true → (x || y) ≡ true
+or_right true y e = refl
+or_right false y e = e
+
+pub within_left : (a d e : Distinctions) → IsWithin a d → IsWithin a (either d e)
+within_left a d e within = record {
+  edge = λ is. or_left d.edge e.edge (within.edge is);
+  line = λ is. or_left d.line e.line (within.line is);
+  carriage_return = λ is. or_left d.carriage_return e.carriage_return (within.carriage_return is);
+  word = λ is. or_left d.word e.word (within.word is);
+}
+
+pub within_right : (a d e : Distinctions) → IsWithin a e → IsWithin a (either d e)
+within_right a d e within = record {
+  edge = λ is. or_right d.edge e.edge (within.edge is);
+  line = λ is. or_right d.line e.line (within.line is);
+  carriage_return = λ is. or_right d.carriage_return e.carriage_return (within.carriage_return is);
+  word = λ is. or_right d.word e.word (within.word is);
+}
+
+pub within_itself : (a : Distinctions) → IsWithin a a
+within_itself a = record { edge = λ is. is; line = λ is. is; carriage_return = λ is. is; word = λ is. is }
+
+pub nothing_within : (d : Distinctions) → IsWithin nothing d
+nothing_within d = record {
+  edge = λ is. absurd (let no : false ≡ true = is in cc);
+  line = λ is. absurd (let no : false ≡ true = is in cc);
+  carriage_return = λ is. absurd (let no : false ≡ true = is in cc);
+  word = λ is. absurd (let no : false ≡ true = is in cc);
+}
+
+-- a loop over states goes one further
+pub cover_more : (f : State → Distinctions) (ss : List State) (i : ℕ) (d : Distinctions) (s : State) → s ≡ state_at ss i →
+    ((q : ℕ) → q < i → IsWithin (f (state_at ss q)) d) → (q : ℕ) → q < i + 1 → IsWithin (f (state_at ss q)) (either d (f s))
+cover_more f ss i d s is cover q lt =
+    ⊎_elim (λ (less : q < i). within_left (f (state_at ss q)) d (f s) (cover q less))
+    (λ (same : q ≡ i). within_right (f (state_at ss q)) d (f s) (subst (λ t. IsWithin (f t) (f s)) (is ∙ ap (state_at ss) (sym same)) (within_itself (f s)))) (cases q i lt)
+  where
+    cases : (q i : ℕ) → q < i + 1 → (q < i) ⊎ (q ≡ i)
+    cases q i lt = grind arith
+
+-- and ends
+pub cover_all : (f : State → Distinctions) → f fail ≡ nothing → (ss : List State) (i : ℕ) (d : Distinctions) → length ss ≤ i →
+    ((q : ℕ) → q < i → IsWithin (f (state_at ss q)) d) → (q : ℕ) → IsWithin (f (state_at ss q)) d
+cover_all f none ss i d le cover q =
+    ⊎_elim (λ (less : q < i). cover q less)
+    (λ (past : i ≤ q). subst (λ s. IsWithin (f s) d) (sym (get_or_past ss q fail (omega arith))) (subst (λ a. IsWithin a d) (sym none) (nothing_within d))) (cases q i)
+  where
+    cases : (q i : ℕ) → (q < i) ⊎ (i ≤ q)
+    cases q i = grind arith

@@ -1,0 +1,227 @@
+-- What was made of a graph stays right as the graph grows, and is a table.
+use Rattle.std.proofs.Common.{◌≡◌, ℕ, zero, suc, ◌+◌, ◌*◌, ◌/◌, ◌%◌, ◌<◌, ◌⊎◌, inl, inr, ⊎_elim, true, false, cond, List, [], ◌∷◌, ◌++◌, map, length, Option, Some, None, option_map, refl, sym, ap, ◌∙◌, subst, arith, length-append, append_assoc}
+use Rattle.std.specs.Prelude.{nat_lt, replicate, slice_get, slice_set, slice_index, slice_index_or}
+use Rattle.std.specs.Option.{option_flatten}
+use Rattle.std.proofs.lemmas.Bool.{cases_Bool}
+use Rattle.std.proofs.lemmas.Bool.Decides.{nat_tests}
+use Rattle.std.proofs.lemmas.Option.{slice_get_within}
+use Rattle.std.proofs.lemmas.List.{get_or_append_left, append-nil, map-append, length-map}
+use Rattle.std.proofs.lemmas.Nat.{div-mul-add, mod-mul-add}
+use Rattle.bites_spec.specs.Program.{Program}
+use Rattle.bites_table.specs.Kinds as kinds
+use Rattle.bites_table.specs.Kinds.{kind_of, leads_by, AreAlikeKinds, Classes}
+use Rattle.bites_table.specs.Transition.{Starts, nowhere, ThreadList, Transition, IsTransition}
+use Rattle.bites_table.specs.Table as tables
+use Rattle.bites_table.specs.Table.{list_at}
+use Rattle.bites_table.specs.Built.{source_of, frame_of}
+use Rattle.bites_table.specs.Graph.{NumberedList, Outcome, Cell, Graph, list_as, transition_with, transition_in, cell_at, table_of, registers_at, AreHeld, with_list, with_outcome, with_cells, AddsList, IsGraph, IsRoot}
+use Rattle.bites_table.specs.Made.{Grows, IsCell, IsMade}
+
+-- an item of a list stays where more come after it
+pub get-left : {X : Type 0} (xs ys : List X) (i : ℕ) (x : X) → slice_get xs i ≡ Some x → slice_get (xs ++ ys) i ≡ Some x
+get-left [] ys i x e = absurd (let no : Some x ≡ None = sym e in cc)
+get-left (y ∷ xs) ys zero x e = e
+get-left (y ∷ xs) ys (suc i) x e = get-left xs ys i x e
+
+-- the last item, or one before it
+pub get-last : {X : Type 0} (xs : List X) (y : X) (i : ℕ) (x : X) → slice_get (xs ++ y ∷ []) i ≡ Some x → (slice_get xs i ≡ Some x) ⊎ (y ≡ x)
+get-last [] y zero x e = inr (let same : Some y ≡ Some x = e in cc)
+get-last [] y (suc i) x e = inl e
+get-last (z ∷ xs) y zero x e = inl e
+get-last (z ∷ xs) y (suc i) x e = get-last xs y i x e
+
+none_in : {X : Type 0} (n j : ℕ) (x : X) → slice_get (replicate n None) j ≡ Some (Some x) → ⊥
+none_in zero j x e = let no : None ≡ Some (Some x) = e in cc
+none_in (suc n) zero x e = let no : Some None ≡ Some (Some x) = e in cc
+none_in (suc n) (suc j) x e = none_in n j x e
+
+-- what is known among what is known and what is not
+get-known : {X : Type 0} (xs : List (Option X)) (n j : ℕ) (x : X) → slice_get (xs ++ replicate n None) j ≡ Some (Some x) → slice_get xs j ≡ Some (Some x)
+get-known [] n j x e = absurd (none_in n j x e)
+get-known (y ∷ xs) n zero x e = e
+get-known (y ∷ xs) n (suc j) x e = get-known xs n j x e
+
+-- an item after one is set
+get-set : {X : Type 0} (xs : List X) (i j : ℕ) (y x : X) → slice_get (slice_set xs i y) j ≡ Some x → (slice_get xs j ≡ Some x) ⊎ ((j ≡ i) × (y ≡ x))
+get-set [] i j y x e = inl e
+get-set (z ∷ xs) zero zero y x e = inr (refl, let same : Some y ≡ Some x = e in cc)
+get-set (z ∷ xs) zero (suc j) y x e = inl e
+get-set (z ∷ xs) (suc i) zero y x e = inl e
+get-set (z ∷ xs) (suc i) (suc j) y x e = ⊎_elim (λ before. inl before) (λ at. inr (ap suc at.0, at.1)) (get-set xs i j y x e)
+
+abbrev pub no_list : ThreadList
+no_list = record { threads = []; starts = nowhere; kind = kinds.edge }
+
+-- a list keeps its number
+pub list-stays : (g h : Graph) → Grows g h → (n : ℕ) → n < length g.lists → list_at (table_of h) n ≡ list_at (table_of g) n
+list-stays g h grows n lt =
+    ap (λ l. slice_index_or (map list_as l) n no_list) grows.lists
+    ∙ ap (λ l. slice_index_or l n no_list) (map-append list_as g.lists grows.more)
+    ∙ get_or_append_left (map list_as g.lists) (map list_as grows.more) no_list n (let len = length-map g.lists list_as in omega arith)
+
+registers-stay : (g h : Graph) → Grows g h → (n : ℕ) → n < length g.lists → registers_at h n ≡ registers_at g n
+registers-stay g h grows n lt =
+    let count : NumberedList → ℕ = λ l. l.registers in
+    ap (λ l. slice_index (map count l) n) grows.lists
+    ∙ ap (λ l. slice_index l n) (map-append count g.lists grows.more)
+    ∙ get_or_append_left (map count g.lists) (map count grows.more) 0 n (let len = length-map g.lists count in omega arith)
+
+pub grows-refl : (g : Graph) → Grows g g
+grows-refl g = record { classes = refl; more = []; lists = sym (append-nil g.lists) }
+
+pub grows-by : (g h : Graph) → h ≡ g → Grows g h
+grows-by g h is = subst (Grows g) (sym is) (grows-refl g)
+
+pub grows-list : (g : Graph) (l : NumberedList) → Grows g (with_list g l)
+grows-list g l = record { classes = refl; more = l ∷ []; lists = refl }
+
+pub grows-added : (g h : Graph) (l : NumberedList) (n : ℕ) → AddsList g l n h → Grows g h
+grows-added g h l n added =
+    ⊎_elim (λ (old : (slice_get g.lists n ≡ Some l) × (h ≡ g)). grows-by g h old.1)
+    (λ (new : (n ≡ length g.lists) × (h ≡ with_list g l)). subst (Grows g) (sym new.1) (grows-list g l)) added
+
+pub grows-trans : (f g h : Graph) → Grows f g → Grows g h → Grows f h
+grows-trans f g h a b = record {
+  classes = b.classes ∙ a.classes;
+  more = a.more ++ b.more;
+  lists = b.lists ∙ ap (λ l. l ++ b.more) a.lists ∙ append_assoc f.lists a.more b.more;
+}
+
+-- other cells change no list
+pub grows-cells : (f g h : Graph) (cells : List (Option Cell)) → h ≡ with_cells g cells → Grows f g → Grows f h
+grows-cells f g h cells is grows = record {
+  classes = ap (λ (h : Graph). h.classes) is ∙ grows.classes;
+  more = grows.more;
+  lists = ap (λ (h : Graph). h.lists) is ∙ grows.lists;
+}
+
+pub grows-within : (g h : Graph) → Grows g h → (n : ℕ) → n < length g.lists → n < length h.lists
+grows-within g h more n lt = let len = ap length more.lists ∙ length-append g.lists more.more in omega arith
+
+pub root-stays : (p : Program) (g h : Graph) → Grows g h → (b : kinds.Kind) (starts : Starts) (n : ℕ) → IsRoot p g b starts n → IsRoot p h b starts n
+root-stays p g h more b starts n root =
+    let stays = list-stays g h more n root.within in
+    record {
+      within = grows-within g h more n root.within;
+      empty = ap (λ (l : ThreadList). l.threads) stays ∙ root.empty;
+      walked = ap (λ (l : ThreadList). l.starts) stays ∙ root.walked;
+      alike = subst (λ (l : ThreadList). AreAlikeKinds p l.kind b) (sym stays) root.alike;
+    }
+
+module _ (p : Program) (k : Classes) where
+  -- a transition stays one
+  cell-stays : (g h : Graph) → Grows g h → (more : List Outcome) → h.outcomes ≡ g.outcomes ++ more →
+      ((i : ℕ) (o : Outcome) → slice_get g.outcomes i ≡ Some o → o.next < length g.lists) →
+      (n c : ℕ) (x : Cell) → IsCell p k g n c x → IsCell p k h n c x
+  cell-stays g h grows more outcomes next n c x cell =
+      let own = list-stays g h grows n cell.within in
+      let there = list-stays g h grows cell.outcome.next (next x.outcome cell.outcome cell.named) in
+      let with : ThreadList → Transition ThreadList = λ l. record { next = l; moves = map source_of cell.outcome.moves; hit = option_map frame_of cell.outcome.hit; seen = x.seen; looks = x.looks } in
+      record {
+        within = grows-within g h grows n cell.within;
+        outcome = cell.outcome;
+        named = ap (λ os. slice_get os x.outcome) outcomes ∙ get-left g.outcomes more x.outcome cell.outcome cell.named;
+        transition = subst (λ (l : ThreadList). IsTransition p (leads_by l.kind (k.member c)) l (with (list_at (table_of h) cell.outcome.next))) (sym own)
+            (subst (λ (l : ThreadList). IsTransition p (leads_by (list_at (table_of g) n).kind (k.member c)) (list_at (table_of g) n) (with l)) (sym there) cell.transition);
+        kind = λ d e. subst (λ (l : ThreadList). AreAlikeKinds p l.kind (kind_of (Some d))) (sym there) (cell.kind d e);
+      }
+
+  -- a list is added
+  made-new : (g : Graph) (l : NumberedList) → AreHeld l.registers l.threads → IsMade p k g → IsMade p k (with_list g l)
+  made-new g l held made =
+      let grows = grows-list g l in
+      record {
+        held = λ n own e. ⊎_elim (made.held n own) (λ (same : l ≡ own). subst (λ (m : NumberedList). AreHeld m.registers m.threads) same held) (get-last g.lists l n own e);
+        next = λ i o e. grows-within g (with_list g l) grows o.next (made.next i o e);
+        moves = λ i o e. made.moves i o e ∙ sym (registers-stay g (with_list g l) grows o.next (made.next i o e));
+        cells = λ j x e. cell-stays g (with_list g l) grows [] (sym (append-nil g.outcomes)) made.next (j / g.classes) (j % g.classes) x (made.cells j x e);
+      }
+
+  -- a list is added if it is new
+  pub made-list : (g h : Graph) (l : NumberedList) (n : ℕ) → AddsList g l n h → AreHeld l.registers l.threads → IsMade p k g → IsMade p k h
+  made-list g h l n added held made =
+      ⊎_elim (λ (old : (slice_get g.lists n ≡ Some l) × (h ≡ g)). subst (IsMade p k) (sym old.1) made)
+      (λ (new : (n ≡ length g.lists) × (h ≡ with_list g l)). subst (IsMade p k) (sym new.1) (made-new g l held made)) added
+
+  -- an outcome is added
+  pub made-outcome : (g : Graph) (o : Outcome) → o.next < length g.lists → length o.moves ≡ registers_at g o.next → IsMade p k g → IsMade p k (with_outcome g o)
+  made-outcome g o lt moves made = record {
+    held = made.held;
+    next = λ i u e. ⊎_elim (made.next i u) (λ (same : o ≡ u). subst (λ (v : Outcome). v.next < length g.lists) same lt) (get-last g.outcomes o i u e);
+    moves = λ i u e. ⊎_elim (made.moves i u) (λ (same : o ≡ u). subst (λ (v : Outcome). length v.moves ≡ registers_at g v.next) same moves) (get-last g.outcomes o i u e);
+    cells = λ j x e. cell-stays g (with_outcome g o) (record { classes = refl; more = []; lists = sym (append-nil g.lists) }) (o ∷ []) refl made.next (j / g.classes) (j % g.classes) x (made.cells j x e);
+  }
+
+  -- only the cells changed, and each is right
+  made-cells : (g : Graph) (cells : List (Option Cell)) → ((j : ℕ) (x : Cell) → slice_get cells j ≡ Some (Some x) → IsCell p k g (j / g.classes) (j % g.classes) x) → IsMade p k g → IsMade p k (with_cells g cells)
+  made-cells g cells are made = record {
+    held = made.held;
+    next = made.next;
+    moves = made.moves;
+    cells = λ j x e. cell-stays g (with_cells g cells) (record { classes = refl; more = []; lists = sym (append-nil g.lists) }) [] (sym (append-nil g.outcomes)) made.next (j / g.classes) (j % g.classes) x (are j x e);
+  }
+
+  -- cells that are not known are added
+  pub made-row : (g : Graph) (n : ℕ) → IsMade p k g → IsMade p k (with_cells g (g.cells ++ replicate n None))
+  made-row g n made = made-cells g (g.cells ++ replicate n None) (λ j x e. made.cells j x (get-known g.cells n j x e)) made
+
+  -- a cell is set
+  pub made-cell : (g : Graph) (n c : ℕ) (x : Cell) → c < g.classes → IsCell p k g n c x → IsMade p k g → IsMade p k (with_cells g (slice_set g.cells (n * g.classes + c) (Some x)))
+  made-cell g n c x lt cell made =
+      made-cells g (slice_set g.cells (n * g.classes + c) (Some x))
+      (λ j y e. ⊎_elim (made.cells j y)
+      (λ (at : (j ≡ n * g.classes + c) × (Some x ≡ Some y)).
+      subst (λ i. IsCell p k g (i / g.classes) (i % g.classes) y) (sym at.0)
+      (subst (λ i. IsCell p k g i ((n * g.classes + c) % g.classes) y) (sym (div-mul-add n g.classes c lt))
+      (subst (λ i. IsCell p k g n i y) (sym (mod-mul-add n g.classes c lt))
+      (let same : x ≡ y = let e = at.1 in cc in subst (IsCell p k g n c) same cell))))
+      (get-set g.cells (n * g.classes + c) j (Some x) (Some y) e)) made
+
+  -- the cell of a list and a class is one
+  cell_is : (g : Graph) → IsMade p k g → (n c : ℕ) (x : Cell) → cell_at g n c ≡ Some x → IsCell p k g n c x
+  cell_is g made n c x e =
+      ⊎_elim
+      (λ (lt : nat_lt c g.classes ≡ true).
+      let below : c < g.classes = grind (arith, nat_tests) in
+      let named : slice_get g.cells (n * g.classes + c) ≡ Some (Some x) = flat (slice_get g.cells (n * g.classes + c)) x (ap (λ b. cond b (option_flatten (slice_get g.cells (n * g.classes + c))) None) (sym lt) ∙ e) in
+      subst (λ i. IsCell p k g i c x) (div-mul-add n g.classes c below)
+      (subst (λ i. IsCell p k g ((n * g.classes + c) / g.classes) i x) (mod-mul-add n g.classes c below)
+      (made.cells (n * g.classes + c) x named)))
+      (λ (past : nat_lt c g.classes ≡ false).
+      absurd (let no : None ≡ Some x = ap (λ b. cond b (option_flatten (slice_get g.cells (n * g.classes + c))) None) (sym past) ∙ e in cc))
+      (cases_Bool (nat_lt c g.classes))
+    where
+      flat : (o : Option (Option Cell)) (x : Cell) → option_flatten o ≡ Some x → o ≡ Some (Some x)
+      flat None x e = absurd (let no : None ≡ Some x = e in cc)
+      flat (Some None) x e = absurd (let no : None ≡ Some x = e in cc)
+      flat (Some (Some y)) x e = ap Some e
+
+  -- the transition of the list over the class
+  abbrev Right : Graph → ℕ → ℕ → Transition ℕ → Type 0
+  Right g n c t =
+      IsTransition p (leads_by (list_at (table_of g) n).kind (k.member c)) (list_at (table_of g) n) (tables.with_list (table_of g) t)
+      × ((d : ℕ) → k.member c ≡ Some d → AreAlikeKinds p (list_at (table_of g) t.next).kind (kind_of (Some d)))
+
+  -- what was made is a graph of the program
+  pub made-graph : (g : Graph) → IsMade p k g → IsGraph p k g
+  made-graph g made = record {
+    table = record {
+      transition = λ n c t e. (is_one n c t e).0;
+      kind = λ n c t e. (is_one n c t e).1;
+    };
+    cells = λ n c x e. let cell = cell_is g made n c x e in (cell.within, slice_get_within g.outcomes x.outcome cell.outcome cell.named);
+    next = made.next;
+    held = made.held;
+    moves = made.moves;
+  }
+    where
+      of_cell : (n c : ℕ) (t : Transition ℕ) (o : Option Cell) → ((x : Cell) → o ≡ Some x → IsCell p k g n c x) → transition_in g.outcomes o ≡ Some t → Right g n c t
+      of_cell n c t None are e = absurd (let no : None ≡ Some t = e in cc)
+      of_cell n c t (Some x) are e =
+          let cell = are x refl in
+          let is : Some (transition_with x cell.outcome) ≡ Some t = ap (option_map (transition_with x)) (sym cell.named) ∙ e in
+          let same : transition_with x cell.outcome ≡ t = cc in
+          subst (Right g n c) same (cell.transition, cell.kind)
+
+      is_one : (n c : ℕ) (t : Transition ℕ) → transition_in g.outcomes (cell_at g n c) ≡ Some t → Right g n c t
+      is_one n c t e = of_cell n c t (cell_at g n c) (λ x is. cell_is g made n c x is) e

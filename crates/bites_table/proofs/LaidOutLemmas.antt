@@ -1,0 +1,439 @@
+-- Graphs of thread lists, laid out.
+use Rattle.std.proofs.Common.{◌≡◌, ◌≢◌, ℕ, zero, suc, ◌+◌, ◌*◌, ◌/◌, ◌%◌, ◌^◌, ◌<◌, ◌≤◌, ◌⊎◌, Bool, true, false, cond, ◌||◌, List, [], ◌∷◌, ◌++◌, map, take, drop, length, Option, Some, None, option_map, refl, sym, ap, ◌∙◌, subst, inl, inr, ⊎_elim, add-zero, arith, length-append}
+use Rattle.std.specs.Prelude.{◌==◌, nat_le, nat_lt, slice_get, slice_index_or, slice_range, bit_and, min, is_some}
+use Rattle.std.specs.Int.{bit_at}
+use Rattle.std.specs.Option.{option_flatten}
+use Rattle.std.proofs.lemmas.List.{get_or-map, take_more, length-map}
+use Rattle.std.proofs.lemmas.Bool.{cases_eq}
+use Rattle.std.proofs.lemmas.Bool.Decides.{nat_tests}
+use Rattle.std.proofs.lemmas.Nat.{div-mul-add, mod-mul-add}
+use Rattle.std.proofs.lemmas.Nat.Bits.{bit_at_and, bit_at-zero, bit_at_above, bit_at_ones}
+use Rattle.std.proofs.Math.Nat.{suc-mul}
+use Rattle.bites_spec.specs.Walks.{Among}
+use Rattle.bites_machine.specs.Bits.{has_bit}
+use Rattle.bites_machine.specs.declared.vm.resume.RegisterThread.{RegisterThread}
+use Rattle.bites_table.specs.Sources as sources
+use Rattle.bites_table.specs.Sources.{unwritten}
+use Rattle.bites_table.specs.Transition.{ThreadList, is_walked, nowhere, source_at}
+use Rattle.bites_table.specs.Kinds.{edge}
+use Rattle.bites_table.specs.Table.{list_at}
+use Rattle.bites_table.specs.Built.{source_of, frame_of, thread_as}
+use Rattle.bites_table.specs.Graph as graphs
+use Rattle.bites_table.specs.Graph.{NumberedList, Outcome, Graph, AreHeld, list_as, transition_with, transition_in, cell_at, table_of}
+use Rattle.bites_table.specs.Stored.{cell_of}
+use Rattle.bites_table.specs.Steps.{MakeMoves}
+use Rattle.bites_table.specs.Packed.{Packed, table_in, lists_in, stride, row_of, mask_of, is_dead, IsQuiet, IsCell, Tells, IsPartOf, thread_with_register}
+use Rattle.bites_table.specs.Layout.{Tell, AreCells, IsEntry}
+use Rattle.bites_table.specs.LaidOut.{IsHeldHit, AreHeldHits, register_thread, AreHeldBelow, IsEntryOf, AreEntries, masked, IsOwn, IsKept, DoesQuietly, DoesByBits, IsAct, IsActOf, AreActs, Fits, AreLaid}
+use Rattle.bites_table.specs.declared.thread_list.Thread.{Thread}
+use Rattle.bites_table.specs.declared.thread_list.Source.{Source}
+use Rattle.bites_table.specs.declared.explore.graph.Cell as made
+use Rattle.bites_table.specs.declared.steps.Step.{Step}
+use Rattle.bites_table.specs.declared.table.ListEntry.{ListEntry}
+use Rattle.bites_table.specs.declared.table.act.Act.{Act}
+use Rattle.bites_table.specs.declared.table.cell.Cell.{Cell}
+use Rattle.bites_table.proofs.StoredLemmas.{range-stays, range-last}
+use Rattle.bites_table.proofs.RowLemmas.{among-more}
+
+-- what is at an index after one more was added
+pub get-push : {X : Type 0} (xs : List X) (y : X) (i : ℕ) (x : X) → slice_get (xs ++ y ∷ []) i ≡ Some x → (slice_get xs i ≡ Some x) ⊎ ((i ≡ length xs) × (y ≡ x))
+get-push [] y zero x e = inr (refl, let same : Some y ≡ Some x = e in cc)
+get-push [] y (suc i) x e = inl e
+get-push (z ∷ xs) y zero x e = inl e
+get-push (z ∷ xs) y (suc i) x e = ⊎_elim (λ before. inl before) (λ at. inr (ap suc at.0, at.1)) (get-push xs y i x e)
+
+-- nothing is written in the slots of a mask
+pub clear : (writes mask : ℕ) → writes < 2 ^ 64 → bit_and writes mask ≡ 0 → (k : ℕ) → masked mask k ≡ true → has_bit writes k ≡ false
+clear writes mask fits none k masks =
+    ⊎_elim (λ e. low e) (λ (e : nat_le 64 k ≡ true). high (le k e)) (one-of (has_bit mask k) (nat_le 64 k) masks)
+  where
+    one-of : (a b : Bool) → (a || b) ≡ true → (a ≡ true) ⊎ (b ≡ true)
+    one-of true b e = inl refl
+    one-of false b e = inr e
+
+    le : (k : ℕ) → nat_le 64 k ≡ true → 64 ≤ k
+    le k e = grind (arith, nat_tests)
+
+    high : 64 ≤ k → has_bit writes k ≡ false
+    high past = ap (λ n. n == 1) (bit_at_above writes 64 k fits past)
+
+    is-one : (n : ℕ) → (n == 1) ≡ true → n ≡ 1
+    is-one n e = grind (arith, nat_tests)
+
+    is-none : (n : ℕ) → n ≡ 0 → (n == 1) ≡ false
+    is-none n e = grind (arith, nat_tests)
+
+    least : (a b : ℕ) → b ≡ 1 → min a b ≡ 0 → a ≡ 0
+    least a b one e = omega arith
+
+    low : has_bit mask k ≡ true → has_bit writes k ≡ false
+    low e =
+        is-none (bit_at writes k)
+        (least (bit_at writes k) (bit_at mask k) (is-one (bit_at mask k) e)
+        (sym (bit_at_and writes mask k) ∙ ap (λ n. bit_at n k) none ∙ bit_at-zero k))
+
+pub own-kept : (moves : List Source) (mask : ℕ) (t : Thread) (d : Source) → t.register < length moves → IsOwn t.register mask (slice_index_or moves t.register d) → IsKept moves mask t
+own-kept moves mask t d lt own =
+    let is : source_at (map source_of moves) t.register ≡ source_of (slice_index_or moves t.register d) = get_or-map source_of moves t.register d unwritten lt in
+    record {
+      register = ap (λ (s : sources.Source). s.register) is ∙ own.register_is;
+      unwritten = λ k masks. ap (λ (s : sources.Source). s.writes k) is ∙ own.unwritten k masks;
+    }
+
+-- the bits of the widths
+widths : (width : ℕ) → (width ≡ 0) ⊎ ((width ≡ 2) ⊎ (mask_of width ≡ 4))
+widths width =
+    ⊎_elim (λ (e : width ≡ 0). inl e)
+    (λ (isnt-0 : width ≢ 0). ⊎_elim (λ (e : width ≡ 2). inr (inl e)) (λ (isnt-2 : width ≢ 2). inr (inr (more width isnt-0 isnt-2))) (cases_eq width 2))
+    (cases_eq width 0)
+  where
+    isnt : (n m : ℕ) → n ≢ m → (n == m) ≡ false
+    isnt n m ne = grind (arith, nat_tests)
+
+    more : (width : ℕ) → width ≢ 0 → width ≢ 2 → mask_of width ≡ 4
+    more width isnt-0 isnt-2 = ap (λ b. cond b 1 (cond (width == 2) 2 4)) (isnt width 0 isnt-0) ∙ ap (λ b. cond b 2 4) (isnt width 2 isnt-2)
+
+at-mask : (doing width m : ℕ) → mask_of width ≡ m → bit_and doing (mask_of width) ≡ 0 → bit_and doing m ≡ 0
+at-mask doing width m is e = ap (bit_and doing) (sym is) ∙ e
+
+pub all-set : (width : ℕ) → bit_and 255 (mask_of width) ≡ 0 → ⊥
+all-set width e =
+    ⊎_elim (λ (z : width ≡ 0). let no : 1 ≡ 0 = at-mask 255 width 1 (ap mask_of z) e in omega arith)
+    (⊎_elim (λ (z : width ≡ 2). let no : 2 ≡ 0 = at-mask 255 width 2 (ap mask_of z) e in omega arith)
+    (λ (z : mask_of width ≡ 4). let no : 4 ≡ 0 = at-mask 255 width 4 z e in omega arith))
+    (widths width)
+
+pub do-unknown : (o : Outcome) (l : ThreadList) → DoesByBits o l 255
+do-unknown o l width e = absurd (all-set width e)
+
+pub do-each : (o : Outcome) (l : ThreadList) → DoesByBits o l 7
+do-each o l width e =
+    ⊎_elim (λ (z : width ≡ 0). let no : 1 ≡ 0 = at-mask 7 width 1 (ap mask_of z) e in absurd (omega arith))
+    (⊎_elim (λ (z : width ≡ 2). let no : 2 ≡ 0 = at-mask 7 width 2 (ap mask_of z) e in absurd (omega arith))
+    (λ (z : mask_of width ≡ 4). let no : 4 ≡ 0 = at-mask 7 width 4 z e in absurd (omega arith)))
+    (widths width)
+
+-- nobody comes to a match, and the search is not over
+module _ (o : Outcome) (l : ThreadList) (hit : o.hit ≡ None) (alive : is_dead l ≡ false) where
+  no-width : (width : ℕ) → width ≡ 0 → DoesQuietly o l width
+  no-width width z = record {
+    hit = hit;
+    alive = alive;
+    kept = λ lt u is. absurd (omega arith);
+    unwritten = λ u is k lt. absurd (omega arith);
+  }
+
+  pub do-slots : DoesByBits o l 6
+  do-slots width e =
+      ⊎_elim (λ (z : width ≡ 0). no-width width z)
+      (⊎_elim (λ (z : width ≡ 2). let no : 2 ≡ 0 = at-mask 6 width 2 (ap mask_of z) e in absurd (omega arith))
+      (λ (z : mask_of width ≡ 4). let no : 4 ≡ 0 = at-mask 6 width 4 z e in absurd (omega arith)))
+      (widths width)
+
+  module _ (threads : List Thread) (is : l.threads ≡ map thread_as threads) where
+    thread-of : (u : sources.Thread ℕ) → Among l.threads u → (t : Thread) × Among threads t × (thread_as t ≡ u)
+    thread-of u at = among-map threads u (let P : List (sources.Thread ℕ) → Type 0 = λ ts. Among ts u in subst P is at)
+      where
+        among-map : (ts : List Thread) (u : sources.Thread ℕ) → Among (map thread_as ts) u → (t : Thread) × Among ts t × (thread_as t ≡ u)
+        among-map [] u at = absurd at
+        among-map (t ∷ ts) u at = ⊎_elim (λ e. (t, inl refl, e)) (λ later. let own = among-map ts u later in (own.0, inr own.1, own.2)) at
+
+    module _ (mask : ℕ) (kept : (t : Thread) → Among threads t → IsKept o.moves mask t) where
+      in-width : (width : ℕ) → ((k : ℕ) → k < width → masked mask k ≡ true) → DoesQuietly o l width
+      in-width width masks = record {
+        hit = hit;
+        alive = alive;
+        kept = λ lt u at. let own = thread-of u at in
+            let P : sources.Thread ℕ → Type 0 = λ v. (source_at (map source_of o.moves) v.row).register ≡ Some v.row in
+            subst P own.2 (kept own.0 own.1).register;
+        unwritten = λ u at k lt. let own = thread-of u at in
+            let P : sources.Thread ℕ → Type 0 = λ v. (source_at (map source_of o.moves) v.row).writes k ≡ false in
+            subst P own.2 ((kept own.0 own.1).unwritten k (masks k lt));
+      }
+
+    pub do-more : ((t : Thread) → Among threads t → IsKept o.moves 3 t) → DoesByBits o l 4
+    do-more kept width e =
+        ⊎_elim (λ (z : width ≡ 0). no-width width z)
+        (⊎_elim (λ (z : width ≡ 2). in-width 3 kept width (λ k lt. first k (omega arith)))
+        (λ (z : mask_of width ≡ 4). let no : 4 ≡ 0 = at-mask 4 width 4 z e in absurd (omega arith)))
+        (widths width)
+      where
+        first : (k : ℕ) → k < 2 → masked 3 k ≡ true
+        first zero lt = refl
+        first (suc zero) lt = refl
+        first (suc (suc k)) lt = absurd (omega arith)
+
+    pub do-none : ((t : Thread) → Among threads t → IsKept o.moves 18446744073709551615 t) → DoesByBits o l 0
+    do-none kept width e = in-width 18446744073709551615 kept width (λ k lt. every k)
+      where
+        either : (k : ℕ) → (k < 64) ⊎ (64 ≤ k)
+        either k = grind arith
+
+        either-or : (b : Bool) → (b || true) ≡ true
+        either-or true = refl
+        either-or false = refl
+
+        past : (k : ℕ) → 64 ≤ k → nat_le 64 k ≡ true
+        past k le = grind (arith, nat_tests)
+
+        every : (k : ℕ) → masked 18446744073709551615 k ≡ true
+        every k =
+            ⊎_elim (λ (lt : k < 64). ap (λ n. (n == 1) || nat_le 64 k) (bit_at_ones 64 k lt))
+            (λ (le : 64 ≤ k). ap (λ b. has_bit 18446744073709551615 k || b) (past k le) ∙ either-or (has_bit 18446744073709551615 k))
+            (either k)
+
+-- what an outcome does stays as steps are added
+pub act-grows : (steps more new : List Step) (o : Outcome) (l : ThreadList) (a : Act) → new ≡ steps ++ more → IsAct steps o l a → IsAct new o l a
+act-grows steps more new o l a e is =
+    let len = ap length e ∙ length-append steps more in
+    let to = is.part.1 in
+    let same : slice_range new a.steps.from a.steps.to ≡ slice_range steps a.steps.from a.steps.to =
+    ap (λ ss. slice_range ss a.steps.from a.steps.to) e ∙ range-stays steps more a.steps.from a.steps.to is.part.0 is.part.1 in
+    let P : List Step → Type 0 = λ ss. MakeMoves ss (map source_of o.moves) in
+    record {
+      hit = is.hit;
+      list = is.list;
+      over = is.over;
+      part = (is.part.0, omega arith);
+      moves = λ other. subst P (sym same) (is.moves other);
+      held = is.held;
+      few = is.few;
+      quiet = is.quiet;
+    }
+
+pub acts-push : (g : Graph) (steps more new : List Step) (acts : List Act) (o : Outcome) (a : Act) → new ≡ steps ++ more → AreActs g steps acts →
+    slice_get g.outcomes (length acts) ≡ Some o → IsActOf g new o a → AreActs g new (acts ++ a ∷ [])
+acts-push g steps more new acts o a e are there own i p b at is =
+    ⊎_elim (λ before. let old = are i p b at before in record { within = old.within; act = act-grows steps more new p (list_at (table_of g) p.next) b e old.act })
+    (λ (last : (i ≡ length acts) × (a ≡ b)).
+    let same : Some o ≡ Some p = sym there ∙ ap (slice_get g.outcomes) (sym last.0) ∙ at in
+    let one : o ≡ p = cc in
+    let P : Outcome → Type 0 = λ q. IsActOf g new q b in
+    let Q : Act → Type 0 = λ q. IsActOf g new o q in
+    subst P one (subst Q last.1 own))
+    (get-push acts a i b is)
+
+-- the list with a number
+pub list-there : (g : Graph) (n : ℕ) (l : NumberedList) → slice_get g.lists n ≡ Some l → list_at (table_of g) n ≡ list_as l
+list-there g n l e = at g.lists n e
+  where
+    at : (ls : List NumberedList) (n : ℕ) → slice_get ls n ≡ Some l → slice_index_or (map list_as ls) n (record { threads = []; starts = nowhere; kind = edge }) ≡ list_as l
+    at [] n e = cc
+    at (m ∷ ls) zero e = let same : Some m ≡ Some l = e in ap list_as (let one : m ≡ l = cc in one)
+    at (m ∷ ls) (suc n) e = at ls n e
+
+-- entries of lists
+pub entries-push : (g : Graph) (ts more new : List RegisterThread) (es : List ListEntry) (l : NumberedList) (e : ListEntry) → new ≡ ts ++ more → AreEntries g ts es →
+    slice_get g.lists (length es) ≡ Some l → IsEntryOf new l e → AreEntries g new (es ++ e ∷ [])
+entries-push g ts more new es l e is are there own n m d at last =
+    ⊎_elim (λ before. grown m d (are n m d at before))
+    (λ (here : (n ≡ length es) × (e ≡ d)).
+    let same : Some l ≡ Some m = sym there ∙ ap (slice_get g.lists) (sym here.0) ∙ at in
+    let one : l ≡ m = cc in
+    let P : NumberedList → Type 0 = λ q. IsEntryOf new q d in
+    let Q : ListEntry → Type 0 = λ q. IsEntryOf new l q in
+    subst P one (subst Q here.1 own))
+    (get-push es e n d last)
+  where
+    grown : (m : NumberedList) (d : ListEntry) → IsEntryOf ts m d → IsEntryOf new m d
+    grown m d old =
+        let len = ap length is ∙ length-append ts more in
+        let to = old.part.1 in
+        record {
+          part = (old.part.0, omega arith);
+          threads_are = ap (λ rs. slice_range rs d.threads.from d.threads.to) is ∙ range-stays ts more d.threads.from d.threads.to old.part.0 old.part.1 ∙ old.threads_are;
+          walks_start = old.walks_start;
+          skip = old.skip;
+          rest = old.rest;
+        }
+
+pub held-more : (n : ℕ) (a b new : List RegisterThread) → new ≡ a ++ b → AreHeldBelow n a → AreHeldBelow n b → AreHeldBelow n new
+held-more n a b new e first then t is =
+    ⊎_elim (first t) (then t) (among-more a b t (let P : List RegisterThread → Type 0 = λ l. Among l t in subst P e is))
+
+get-some : {X : Type 0} (xs : List X) (i : ℕ) → i < length xs → (x : X) × (slice_get xs i ≡ Some x)
+get-some [] i lt = absurd (omega arith)
+get-some (x ∷ xs) zero lt = (x, refl)
+get-some (x ∷ xs) (suc i) lt = get-some xs i (omega arith)
+
+pub get-lt : {X : Type 0} (xs : List X) (i : ℕ) (x : X) → slice_get xs i ≡ Some x → i < length xs
+get-lt [] i x e = absurd (let no : None ≡ Some x = e in cc)
+get-lt (y ∷ xs) zero x e = omega arith
+get-lt (y ∷ xs) (suc i) x e = let lt = get-lt xs i x e in omega arith
+
+-- a transition that is known, as a cell
+module _ (x : Packed) (acts : List Act) (w : ℕ) (fits : Fits x acts w) (n c : ℕ) (m : made.Cell) (number r : ℕ) (a : Act)
+    (known : cell_at x.graph n c ≡ Some (cell_of m)) (same : number ≡ m.outcome) (at : slice_get acts number ≡ Some a) (row : r ≡ a.next * w) where
+  module _ (o : Outcome) (there : slice_get x.graph.outcomes number ≡ Some o) where
+    named : slice_get x.acts number ≡ Some a
+    named = ap (λ l. slice_get l number) fits.acts_are ∙ at
+
+    own : IsActOf x.graph x.steps o a
+    own = fits.acts_do number o a there named
+
+    is-transition : (table_in x).transition n c ≡ Some (transition_with (cell_of m) o)
+    is-transition = ap (transition_in x.graph.outcomes) known ∙ ap (option_map (transition_with (cell_of m))) (ap (slice_get x.graph.outcomes) (sym same) ∙ there)
+
+    is-cell : a.doing ≢ 255 → IsCell x n c (record { next = r; act = number; doing = a.doing; seen = m.seen; looks = m.looks }) (transition_with (cell_of m) o)
+    is-cell other = record {
+      transition = is-transition;
+      next = row ∙ ap (λ k. k * w) own.act.list ∙ ap (λ s. o.next * s) fits.stride_is;
+      within = own.within;
+      seen = refl;
+      looks = refl;
+      act = a;
+      named = named;
+      hit = ap (option_map frame_of) (sym own.act.hit);
+      list = own.act.list;
+      over = own.act.over;
+      moves = own.act.moves other;
+      held = λ u at. let lt = own.act.held other u at in let len = length-map o.moves source_of in omega arith;
+      few = let le = own.act.few other in let len = length-map o.moves source_of in omega arith;
+    }
+
+    is-quiet : (width : ℕ) → DoesQuietly o (list_at (table_of x.graph) o.next) width → IsQuiet (table_in x) width (transition_with (cell_of m) o)
+    is-quiet width does = record {
+      hit = ap (option_map frame_of) does.hit;
+      alive = does.alive;
+      kept = does.kept;
+      unwritten = does.unwritten;
+    }
+
+    tells-of : Tells x n c (record { next = r; act = number; doing = a.doing; seen = m.seen; looks = m.looks })
+    tells-of = record {
+      known = λ z. (transition_with (cell_of m) o, is-cell (λ e. let no : 8 ≡ 0 = ap (λ d. bit_and d 8) (sym e) ∙ z in omega arith));
+      quiet = λ width z. (transition_with (cell_of m) o, is-cell (λ e. all-set width (ap (λ d. bit_and d (mask_of width)) (sym e) ∙ z)), is-quiet width (own.act.quiet width z));
+    }
+
+  pub tells : Tells x n c (record { next = r; act = number; doing = a.doing; seen = m.seen; looks = m.looks })
+  tells =
+      let lt = get-lt acts number a at in
+      let len = ap length fits.acts_are in
+      let count = fits.count in
+      let o = get-some x.graph.outcomes number (omega arith) in
+      tells-of o.0 o.1
+
+pub tells-nothing : (x : Packed) (n c : ℕ) (a : Cell) → a.doing ≡ 255 → Tells x n c a
+tells-nothing x n c a e = record {
+  known = λ z. absurd (let no : 8 ≡ 0 = ap (λ d. bit_and d 8) (sym e) ∙ z in omega arith);
+  quiet = λ width z. absurd (all-set width (ap (λ d. bit_and d (mask_of width)) (sym e) ∙ z));
+}
+
+-- the next of what is left
+pub left-more : (cells : List (Option graphs.Cell)) (k : ℕ) (y : Option graphs.Cell) (ys : List (Option graphs.Cell)) → y ∷ ys ≡ drop k cells →
+    (y ≡ option_flatten (slice_get cells k)) × (ys ≡ drop (suc k) cells)
+left-more [] zero y ys e = cc
+left-more [] (suc k) y ys e = cc
+left-more (z ∷ cells) zero y ys e = let a : y ∷ ys ≡ z ∷ cells = e in ((let b : y ≡ z = cc in flat y z b), (let b : ys ≡ cells = cc in b))
+  where
+    flat : (y z : Option graphs.Cell) → y ≡ z → y ≡ option_flatten (Some z)
+    flat y z e = e
+left-more (z ∷ cells) (suc k) y ys e = left-more cells k y ys e
+
+pub left-none : (cells : List (Option graphs.Cell)) (k : ℕ) → [] ≡ drop k cells → (None ≡ option_flatten (slice_get cells k)) × ([] ≡ drop (suc k) cells)
+left-none [] zero e = (refl, refl)
+left-none [] (suc k) e = (refl, refl)
+left-none (z ∷ cells) zero e = cc
+left-none (z ∷ cells) (suc k) e = left-none cells k e
+
+-- one cell more is laid out
+module _ (x : Packed) (n c : ℕ) (left : List (Option made.Cell)) (cells : List Cell) (laid : AreLaid x n c left cells) (a : Cell) (lt : c < stride x) (tell : Tells x n c a) where
+  pub told-more : Tell x (cells ++ a ∷ [])
+  told-more m d b within e =
+      ⊎_elim (λ before. laid.told m d b within before)
+      (λ (last : (row_of x m + d ≡ length cells) × (a ≡ b)).
+      let place : m * stride x + d ≡ n * stride x + c = last.0 ∙ laid.len in
+      let list : m ≡ n = sym (div-mul-add m (stride x) d within) ∙ ap (λ k. k / stride x) place ∙ div-mul-add n (stride x) c lt in
+      let class : d ≡ c = sym (mod-mul-add m (stride x) d within) ∙ ap (λ k. k % stride x) place ∙ mod-mul-add n (stride x) c lt in
+      let P : ℕ → Type 0 = λ k. Tells x k d b in
+      let Q : ℕ → Type 0 = λ k. Tells x n k b in
+      let R : Cell → Type 0 = λ y. Tells x n c y in
+      subst P (sym list) (subst Q (sym class) (subst R last.1 tell)))
+      (get-push cells a (row_of x m + d) b e)
+
+  pub laid-more : (more : List (Option made.Cell)) → map (option_map cell_of) more ≡ drop (suc (n * x.graph.classes + c)) x.graph.cells → AreLaid x n (c + 1) more (cells ++ a ∷ [])
+  laid-more more is = record {
+    left_is = is ∙ ap (λ k. drop k x.graph.cells) (let e : suc (n * x.graph.classes + c) ≡ n * x.graph.classes + (c + 1) = omega arith in e);
+    len = length-append cells (a ∷ []) ∙ ap (λ k. k + 1) laid.len ∙ (omega arith);
+    told = told-more;
+  }
+
+  pub laid-row : suc c ≡ stride x → c ≡ x.graph.classes → AreLaid x (suc n) 0 left (cells ++ a ∷ [])
+  laid-row end all = record {
+    left_is = laid.left_is ∙ ap (λ k. drop k x.graph.cells) (next-left n c x.graph.classes all);
+    len = length-append cells (a ∷ []) ∙ ap (λ k. k + 1) laid.len ∙ next-len n c (stride x) end;
+    told = told-more;
+  }
+    where
+      next-left : (n c w : ℕ) → c ≡ w → n * w + c ≡ suc n * w + 0
+      next-left n c w e = let s = suc-mul n w in omega arith
+
+      next-len : (n c w : ℕ) → suc c ≡ w → n * w + c + 1 ≡ suc n * w + 0
+      next-len n c w e = let s = suc-mul n w in omega arith
+
+pub cell-there : (g : Graph) (n c : ℕ) (o : Option graphs.Cell) → c < g.classes → o ≡ option_flatten (slice_get g.cells (n * g.classes + c)) → cell_at g n c ≡ o
+cell-there g n c o lt is = ap (λ b. cond b (option_flatten (slice_get g.cells (n * g.classes + c))) None) (test c g.classes lt) ∙ sym is
+  where
+    test : (c w : ℕ) → c < w → nat_lt c w ≡ true
+    test c w lt = grind (arith, nat_tests)
+
+pub laid-all : (x : Packed) (n : ℕ) (left : List (Option made.Cell)) (cells : List Cell) → n ≡ lists_in x → AreLaid x n 0 left cells → AreCells x cells
+laid-all x n left cells e laid = record { len = laid.len ∙ add-zero (n * stride x) ∙ ap (λ k. k * stride x) e; told = laid.told }
+
+-- the entry of a list in the table
+pub is-entry : (x : Packed) (threads : List RegisterThread) (l : NumberedList) (n : ℕ) (e : ListEntry) → slice_get x.graph.lists n ≡ Some l → IsEntryOf threads l e → IsEntry x threads [] n e
+is-entry x threads l n e there is = record {
+  part = is.part;
+  threads_are = ap (map thread_with_register) is.threads_are ∙ twice l.threads ∙ ap (λ (m : ThreadList). m.threads) (sym (list-there x.graph n l there));
+  walks_start = is.walks_start ∙ ap (λ (m : ThreadList). is_walked m.starts) (sym (list-there x.graph n l there));
+  skip = λ i s no. absurd (let two : None ≡ Some i = sym is.skip ∙ no in cc);
+  rest = λ r no. absurd (let two : None ≡ Some r = sym is.rest ∙ no in cc);
+}
+  where
+    twice : (ts : List Thread) → map thread_with_register (map register_thread ts) ≡ map thread_as ts
+    twice [] = refl
+    twice (t ∷ ts) = ap (λ l. thread_as t ∷ l) (twice ts)
+
+pub among-last : {X : Type 0} (P : X → Type 0) (xs : List X) (i : ℕ) (d : X) → i < length xs → ((t : X) → Among (take i xs) t → P t) → P (slice_index_or xs i d) →
+    (t : X) → Among (take (i + 1) xs) t → P t
+among-last {X = X} P xs i d lt before own t is =
+    ⊎_elim (before t) (λ last. ⊎_elim (λ e. subst P e own) (λ none-else. absurd none-else) last)
+    (among-more (take i xs) (slice_index_or xs i d ∷ []) t (let Q : List X → Type 0 = λ l. Among l t in subst Q (take_more xs i d lt) is))
+
+pub get-at : {X : Type 0} (xs : List X) (i : ℕ) (d : X) → i < length xs → slice_get xs i ≡ Some (slice_index_or xs i d)
+get-at [] i d lt = absurd (omega arith)
+get-at (x ∷ xs) zero d lt = refl
+get-at (x ∷ xs) (suc i) d lt = get-at xs i d (omega arith)
+
+pub none-of : {X : Type 0} (o : Option X) → is_some o ≡ false → o ≡ None
+none-of None e = refl
+none-of (Some x) e = cc
+
+pub range-made : (ts more new : List RegisterThread) (from to : ℕ) → new ≡ ts ++ more → from ≡ length ts → to ≡ length new → slice_range new from to ≡ more
+range-made ts more new from to e is ends =
+    ap (λ n. slice_range new n to) is ∙ ap (slice_range new (length ts)) ends ∙ ap (λ l. slice_range l (length ts) (length l)) e ∙ range-last ts more
+
+pub act-part : (g : Graph) (steps : List Step) (acts : List Act) → length acts ≡ length g.outcomes → AreActs g steps acts →
+    (i : ℕ) (a : Act) → slice_get acts i ≡ Some a → IsPartOf (length steps) a.steps
+act-part g steps acts len are i a e =
+    let lt = get-lt acts i a e in
+    let o = get-some g.outcomes i (omega arith) in
+    (are i o.0 a o.1 e).act.part
+
+pub are-entries : (x : Packed) (threads : List RegisterThread) (es : List ListEntry) → length es ≡ lists_in x → AreEntries x.graph threads es →
+    (n : ℕ) (e : ListEntry) → slice_get es n ≡ Some e → IsEntry x threads [] n e
+are-entries x threads es len are n e at =
+    let lt = get-lt es n e at in
+    let l = get-some x.graph.lists n (omega arith) in
+    is-entry x threads l.0 n e l.1 (are n l.0 e l.1 at)
+
+-- threads that have registers, as threads of the definitions
+pub held-threads : (n : ℕ) (ts : List Thread) → AreHeld n ts → (u : sources.Thread ℕ) → Among (map thread_as ts) u → u.row < n
+held-threads n [] held u at = absurd at
+held-threads n (t ∷ ts) held u at =
+    ⊎_elim (λ e. let P : sources.Thread ℕ → Type 0 = λ v. v.row < n in subst P e (held t (inl refl)))
+    (λ later. held-threads n ts (λ v is. held v (inr is)) u later) at
+
+pub hits-push : (acts : List Act) (a : Act) → AreHeldHits acts → IsHeldHit a.hit → AreHeldHits (acts ++ a ∷ [])
+hits-push acts a are own i b e =
+    ⊎_elim (λ before. are i b before) (λ (last : (i ≡ length acts) × (a ≡ b)). let P : Act → Type 0 = λ d. IsHeldHit d.hit in subst P last.1 own) (get-push acts a i b e)

@@ -1,0 +1,53 @@
+-- What is read of a table.
+use Rattle.std.proofs.Common.{◌≡◌, ℕ, zero, suc, ◌+◌, ◌-◌, ◌*◌, ◌/◌, ◌<◌, ◌≤◌, List, [], ◌∷◌, take, drop, length, Option, Some, None, Bor, refl, sym, ap, ◌∙◌, inl, inr, ⊎_elim, arith}
+use Rattle.std.specs.Prelude.{IfSome, slice_get, slice_index_or, slice_range}
+use Rattle.std.specs.Option.{option_copied}
+use Rattle.std.proofs.Math.Nat.{mul-div_cancel, mul-le-mul_right, suc-mul}
+use Rattle.bites_spec.specs.Walks.{Among}
+use Rattle.bites_table.specs.Packed.{Packed, lists_in, stride, row_of, IsRow, Tells}
+use Rattle.bites_table.specs.Layout.{AreCells}
+use Rattle.bites_table.specs.declared.table.cell.Cell.{Cell}
+
+pub get-read : {X : Type 0} (xs : List X) (i : ℕ) (x : X) → i < length xs → x ≡ slice_index_or xs i x → slice_get xs i ≡ Some x
+get-read [] i x lt e = absurd (omega arith)
+get-read (y ∷ xs) zero x lt e = ap (λ z. Some z) (sym e)
+get-read (y ∷ xs) (suc i) x lt e = get-read xs i x (omega arith) e
+
+pub among-take : {X : Type 0} (n : ℕ) (xs : List X) (x : X) → Among (take n xs) x → Among xs x
+among-take zero xs x is = absurd is
+among-take (suc n) [] x is = absurd is
+among-take (suc n) (y ∷ xs) x is = ⊎_elim (λ e. inl e) (λ later. inr (among-take n xs x later)) is
+
+pub among-drop : {X : Type 0} (n : ℕ) (xs : List X) (x : X) → Among (drop n xs) x → Among xs x
+among-drop zero xs x is = is
+among-drop (suc n) [] x is = absurd is
+among-drop (suc n) (y ∷ xs) x is = inr (among-drop n xs x is)
+
+pub among-range : {X : Type 0} (xs : List X) (a b : ℕ) (x : X) → Among (slice_range xs a b) x → Among xs x
+among-range xs a b x is = among-drop a xs x (among-take (b - a) (drop a xs) x is)
+
+module _ (x : Packed) (row : ℕ) (is : IsRow x row) where
+  pub row-number : (s : ℕ) → s ≡ stride x → row / s ≡ is.number
+  row-number s e = ap (λ m. row / m) e ∙ ap (λ r. r / stride x) is.is ∙ mul-div_cancel is.number (omega arith)
+
+  one-number : (n : ℕ) → row ≡ row_of x n → n ≡ is.number
+  one-number n e = sym (mul-div_cancel n (omega arith)) ∙ ap (λ r. r / stride x) (sym e) ∙ row-number (stride x) refl
+
+  pub row-within : (class : ℕ) → class < stride x → row + class < lists_in x * stride x
+  row-within class lt =
+      let there : suc is.number ≤ lists_in x = is.within in
+      let more : suc is.number * stride x ≤ lists_in x * stride x = mul-le-mul_right (stride x) there in
+      let at = is.is in
+      omega (arith, suc-mul is.number (stride x))
+
+  pub cells-tell : (cells : List Cell) → AreCells x cells → (class : ℕ) (a : Cell) → class < stride x →
+      a ≡ slice_index_or cells (row + class) a → (n : ℕ) → row ≡ row_of x n → Tells x n class a
+  cells-tell cells are class a lt read n e =
+      let one = one-number n e in
+      let within : row + class < length cells = let w = row-within class lt in let l = are.len in omega arith in
+      are.told n class a lt
+      (ap (λ r. slice_get cells (r + class)) (sym e) ∙ get-read cells (row + class) a within read)
+
+pub if-copied : {X : Type 0} (P : X → Type 0) (r : Option (Bor X)) (o : Option X) → option_copied r ≡ o → ((v : X) → o ≡ Some v → P v) → IfSome r (λ b. P b.now)
+if-copied P None o e all = tt
+if-copied P (Some b) o e all = all b.now (sym e)

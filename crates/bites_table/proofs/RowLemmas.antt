@@ -1,0 +1,271 @@
+-- Rows of registers, as words.
+use Rattle.std.proofs.Common.{◌≡◌, ◌≢◌, ℕ, zero, suc, ◌+◌, ◌*◌, ◌<◌, ◌≤◌, ◌⊎◌, Bool, false, cond, List, [], ◌∷◌, ◌++◌, map, take, drop, length, get_or, set, replicate, Option, Some, None, refl, sym, ap, ap₂, ◌∙◌, subst, inl, inr, ⊎_elim, add-zero, zero-add, arith}
+use Rattle.std.specs.Prelude.{◌==◌, slice_set, slice_index, slice_index_or, min, IfSome}
+use borrow.Author.Count.{below_more}
+use Rattle.bites_spec.specs.Walks.{Among}
+use Rattle.std.specs.List.{range_with_len}
+use Rattle.std.specs.Option.{option_map_or}
+use Rattle.std.proofs.lemmas.List.{length-take, length-drop, length-set, length-map, get_or-take, get_or-drop, get_or-set_same, get_or-set_other, get_or-replicate, get_or-map, length-replicate, map-set, drop-set-add, ext_get_or, take_all, take_more, take_more_set, take-map}
+use Rattle.std.proofs.lemmas.Bool.{cases_eq}
+use Rattle.std.proofs.lemmas.Bool.Decides.{nat_tests}
+use Rattle.std.proofs.Math.Nat.{mul-le-mul_right, suc-mul}
+use Rattle.bites_machine.specs.SlotTable.{no_slot, slot_of}
+use Rattle.bites_machine.specs.Resume.{row_in}
+use Rattle.bites_table.specs.Sources.{Source, unwritten, row_of_register, write, slots_from, row_at}
+use Rattle.bites_table.specs.Transition.{source_at}
+use Rattle.bites_table.specs.Steps.{with_spare, own_rows, after_step, after_steps, NameRegisters, AreRows}
+use Rattle.bites_table.specs.Built.{source_of}
+use Rattle.bites_table.specs.declared.thread_list.Source as code
+use Rattle.bites_table.specs.declared.steps.Step.{Step}
+use Rattle.bites_table.specs.declared.steps.Step.TheVariants.{Copy, Blank, Write}
+use Rattle.bites_table.proofs.TransitionLemmas.{none_written, one_written}
+
+-- the rows of two registers are apart
+pub rows-apart : (a b width : ℕ) → a < b → a * width + width ≤ b * width
+rows-apart a b width lt =
+    let le : suc a * width ≤ b * width = mul-le-mul_right width lt in
+    omega (arith, suc-mul a width)
+
+-- a row lies in the words of all
+pub row-room : (r count width : ℕ) (words : List ℕ) → r < count → count * width ≤ length words → r * width + width ≤ length words
+row-room r count width words lt room =
+    let le = rows-apart r count width lt in omega arith
+
+part-length : (words : List ℕ) (from width : ℕ) → from + width ≤ length words → length (take width (drop from words)) ≡ width
+part-length words from width room =
+    length-take width (drop from words) ∙ ap (min width) (length-drop from words) ∙ (omega arith)
+
+part-at : (words : List ℕ) (from width k : ℕ) → k < width → get_or (take width (drop from words)) k 0 ≡ get_or words (from + k) 0
+part-at words from width k lt = get_or-take width (drop from words) k 0 lt ∙ get_or-drop from words k 0
+
+pub row-length : (words : List ℕ) (width r : ℕ) → r * width + width ≤ length words → length (row_in words width r) ≡ width
+row-length words width r room = length-map (take width (drop (r * width) words)) slot_of ∙ part-length words (r * width) width room
+
+-- two rows with the same words
+pub same-row : (words others : List ℕ) (width r q : ℕ) → r * width + width ≤ length words → q * width + width ≤ length others →
+    ((k : ℕ) → k < width → get_or words (r * width + k) 0 ≡ get_or others (q * width + k) 0) → row_in words width r ≡ row_in others width q
+same-row words others width r q room more same =
+    let a = part-length words (r * width) width room in
+    let b = part-length others (q * width) width more in
+    ap (map slot_of) (ext_get_or 0 (take width (drop (r * width) words)) (take width (drop (q * width) others)) (a ∙ sym b)
+    (λ k lt. let within : k < width = omega arith in part-at words (r * width) width k within ∙ same k within ∙ sym (part-at others (q * width) width k within)))
+
+-- a row in which nothing is written
+pub blank-row : (words : List ℕ) (width r : ℕ) → r * width + width ≤ length words →
+    ((k : ℕ) → k < width → get_or words (r * width + k) 0 ≡ no_slot) → row_in words width r ≡ replicate width None
+blank-row words width r room none =
+    let a = part-length words (r * width) width room in
+    ap (map slot_of) (ext_get_or 0 (take width (drop (r * width) words)) (replicate width no_slot) (a ∙ sym (length-replicate width no_slot))
+    (λ k lt. let within : k < width = omega arith in part-at words (r * width) width k within ∙ none k within ∙ sym (get_or-replicate width k no_slot 0 within)))
+    ∙ mapped width
+  where
+    mapped : (n : ℕ) → map slot_of (replicate n no_slot) ≡ replicate n None
+    mapped zero = refl
+    mapped (suc n) = ap (λ l. None ∷ l) (mapped n)
+
+-- a word is written to a row
+pub written-row : (words : List ℕ) (width r slot place : ℕ) → r * width + width ≤ length words → slot < width → (place == no_slot) ≡ false →
+    row_in (slice_set words (r * width + slot) place) width r ≡ slice_set (row_in words width r) slot (Some place)
+written-row words width r slot place room lt some =
+    ap (λ l. map slot_of (take width l)) (drop-set-add (r * width) words slot place)
+    ∙ ap (map slot_of) (take-set width (drop (r * width) words) slot place lt)
+    ∙ map-set slot_of (take width (drop (r * width) words)) slot place
+    ∙ ap (set (row_in words width r) slot) (is-some place some)
+  where
+    take-set : (n : ℕ) (l : List ℕ) (i a : ℕ) → i < n → take n (set l i a) ≡ set (take n l) i a
+    take-set zero l i a lt = absurd (omega arith)
+    take-set (suc n) [] i a lt = refl
+    take-set (suc n) (x ∷ l) zero a lt = refl
+    take-set (suc n) (x ∷ l) (suc i) a lt = ap (λ m. x ∷ m) (take-set n l i a (omega arith))
+
+    is-some : (word : ℕ) → (word == no_slot) ≡ false → slot_of word ≡ Some word
+    is-some word e = ap (λ b. cond b None (Some word)) e
+
+-- the other rows stay
+pub other-row : (words : List ℕ) (width r q slot place : ℕ) → r * width + width ≤ length words → q * width + width ≤ length words → slot < width → q ≢ r →
+    row_in (slice_set words (r * width + slot) place) width q ≡ row_in words width q
+other-row words width r q slot place room more lt ne =
+    let l = length-set words (r * width + slot) place in
+    same-row (slice_set words (r * width + slot) place) words width q q (omega arith) more
+    (λ k within. get_or-set_other words (r * width + slot) (q * width + k) place 0 (apart q r k within ne))
+  where
+    either : (q r : ℕ) → q ≢ r → (q < r) ⊎ (r < q)
+    either q r ne = grind arith
+
+    apart : (q r k : ℕ) → k < width → q ≢ r → q * width + k ≢ r * width + slot
+    apart q r k within ne e =
+        ⊎_elim (λ (before : q < r). let far = rows-apart q r width before in absurd (omega arith))
+        (λ (after : r < q). let far = rows-apart r q width after in absurd (omega arith))
+        (either q r ne)
+
+-- words from a place on, one more of which is written
+pub written-more : (ws : List ℕ) (first n v : ℕ) (source : ℕ → ℕ) → first + n < length ws → v ≡ source n →
+    ((k : ℕ) → k < n → get_or ws (first + k) 0 ≡ source k) → (k : ℕ) → k < n + 1 → get_or (set ws (first + n) v) (first + k) 0 ≡ source k
+written-more ws first n v source lt e before =
+    below_more (λ k. get_or (set ws (first + n) v) (first + k) 0 ≡ source k) n
+    (λ k l. get_or-set_other ws (first + n) (first + k) v 0 (λ same. absurd (omega arith)) ∙ before k l)
+    (get_or-set_same ws (first + n) v 0 lt ∙ e)
+
+-- the words of a row that is copied were not written before they are read
+pub source-kept : (old ws : List ℕ) (to from width n : ℕ) → n < width →
+    ((k : ℕ) → k < to * width → get_or ws k 0 ≡ get_or old k 0) → ((k : ℕ) → to * width + n ≤ k → get_or ws k 0 ≡ get_or old k 0) →
+    get_or ws (from * width + n) 0 ≡ get_or old (from * width + n) 0
+source-kept old ws to from width n lt below above =
+    ⊎_elim (λ (before : from < to). let far = rows-apart from to width before in below (from * width + n) (omega arith))
+    (λ (after : to ≤ from). let le : to * width ≤ from * width = mul-le-mul_right width after in above (from * width + n) (omega arith))
+    (either from to)
+  where
+    either : (a b : ℕ) → (a < b) ⊎ (b ≤ a)
+    either a b = grind arith
+
+-- where the words of one row were written, the others stay
+pub others-kept : (old ws : List ℕ) (count to width n : ℕ) → n ≤ width → count * width ≤ length ws → length ws ≡ length old →
+    ((k : ℕ) → k < to * width → get_or ws k 0 ≡ get_or old k 0) → ((k : ℕ) → to * width + n ≤ k → get_or ws k 0 ≡ get_or old k 0) →
+    (r : ℕ) → r < count → r ≢ to → row_in ws width r ≡ row_in old width r
+others-kept old ws count to width n le room same below above r lt ne =
+    let own = row-room r count width ws lt room in
+    same-row ws old width r r own (omega arith)
+    (λ k within.
+    ⊎_elim (λ (before : r < to). let far = rows-apart r to width before in below (r * width + k) (omega arith))
+    (λ (after : to < r). let far = rows-apart to r width after in above (r * width + k) (omega arith))
+    (either r to ne))
+  where
+    either : (q r : ℕ) → q ≢ r → (q < r) ⊎ (r < q)
+    either q r ne = grind arith
+
+-- one register gets another row
+pub set-rows : (before old new : List ℕ) (width place : ℕ) (ss : List Source) (to : ℕ) (s : Source) → length ss ≡ with_spare → to < with_spare →
+    row_in new width to ≡ row_at width place (row_in before width) s →
+    ((r : ℕ) → r < with_spare → r ≢ to → row_in new width r ≡ row_in old width r) →
+    AreRows before width place ss old → AreRows before width place (slice_set ss to s) new
+set-rows before old new width place ss to s len within own others rows r lt =
+    ⊎_elim (λ (same : r ≡ to).
+    ap (row_in new width) same ∙ own
+    ∙ ap (row_at width place (row_in before width)) (sym (ap (source_at (slice_set ss to s)) same ∙ get_or-set_same ss to s unwritten (omega arith))))
+    (λ (ne : r ≢ to).
+    others r lt ne ∙ rows r lt ∙ ap (row_at width place (row_in before width)) (sym (get_or-set_other ss to r s unwritten ne)))
+    (cases_eq r to)
+
+pub blank-at : (width place : ℕ) (registers : ℕ → List (Option ℕ)) → row_at width place registers unwritten ≡ replicate width None
+blank-at width place registers = none_written place 0 (replicate width None)
+
+pub write-at : (width place slot : ℕ) (registers : ℕ → List (Option ℕ)) (s : Source) →
+    row_at width place registers (write slot s) ≡ slice_set (row_at width place registers s) slot (Some place)
+write-at width place slot registers s = one_written place s.writes 0 (option_map_or registers s.register (replicate width None)) slot slot (omega arith)
+
+pub is-place : (place : ℕ) → place < no_slot → (place == no_slot) ≡ false
+is-place place lt = grind (arith, nat_tests)
+
+-- the rows of registers before any step
+own-rows-is : own_rows ≡ map row_of_register (range_with_len 0 with_spare)
+unfolding own_rows
+own-rows-is = refl
+
+pub own-row : (r : ℕ) → r < with_spare → source_at own_rows r ≡ row_of_register r
+own-row r lt = ap (λ (ss : List Source). source_at ss r) own-rows-is ∙ at 0 with_spare r lt ∙ ap row_of_register (zero-add r)
+  where
+    next : (a r : ℕ) → a + 1 + r ≡ a + suc r
+    next a r = omega arith
+
+    at : (a n r : ℕ) → r < n → source_at (map row_of_register (range_with_len a n)) r ≡ row_of_register (a + r)
+    at a zero r lt = absurd (omega arith)
+    at a (suc n) zero lt = ap row_of_register (sym (add-zero a))
+    at a (suc n) (suc r) lt = at (a + 1) n r (omega arith) ∙ ap row_of_register (next a r)
+
+pub own-rows-length : length own_rows ≡ with_spare
+own-rows-length = ap length own-rows-is
+
+pub own-rows-are : (words : List ℕ) (width place : ℕ) → AreRows words width place own_rows words
+own-rows-are words width place r lt =
+    sym (ap (row_at width place (row_in words width)) (own-row r lt) ∙ none_written place 0 (row_in words width r))
+
+step-length : (s : Step) (ss : List Source) → length (after_step s ss) ≡ length ss
+step-length (Copy to from) ss = length-set ss to (source_at ss from)
+step-length (Blank to) ss = length-set ss to unwritten
+step-length (Write register slot) ss = length-set ss register (write slot (source_at ss register))
+
+pub steps-length : (steps : List Step) (ss : List Source) → length (after_steps steps ss) ≡ length ss
+steps-length [] ss = refl
+steps-length (s ∷ steps) ss = steps-length steps (after_step s ss) ∙ step-length s ss
+
+pub one-step-more : (steps : List Step) (s : Step) (ss : List Source) → after_steps (steps ++ s ∷ []) ss ≡ after_step s (after_steps steps ss)
+one-step-more [] s ss = refl
+one-step-more (t ∷ steps) s ss = one-step-more steps s (after_step t ss)
+
+pub among-at : {X : Type 0} (xs : List X) (i : ℕ) (d : X) → i < length xs → Among xs (slice_index_or xs i d)
+among-at [] i d lt = absurd (omega arith)
+among-at (x ∷ xs) zero d lt = inl refl
+among-at (x ∷ xs) (suc i) d lt = inr (among-at xs i d (omega arith))
+
+base-length : (o : Option ℕ) (width : ℕ) (words : List ℕ) → ((r : ℕ) → o ≡ Some r → r * width + width ≤ length words) →
+    length (option_map_or (row_in words width) o (replicate width None)) ≡ width
+base-length None width words room = length-replicate width None
+base-length (Some r) width words room = row-length words width r (room r refl)
+
+-- a slot of the row of a source
+pub slot-at : (width place slot : ℕ) (words : List ℕ) (s : Source) → slot < width →
+    ((r : ℕ) → s.register ≡ Some r → r * width + width ≤ length words) → (d : Option ℕ) →
+    slice_index_or (row_at width place (row_in words width) s) slot d
+    ≡ cond (s.writes slot) (Some place) (option_map_or (λ r. slot_of (slice_index words (r * width + slot))) s.register None)
+slot-at width place slot words s lt room d =
+    slots-at s.writes 0 (option_map_or (row_in words width) s.register (replicate width None)) slot d (let l = base-length s.register width words room in omega arith)
+    ∙ ap (λ n. cond (s.writes n) (Some place) (slice_index_or (option_map_or (row_in words width) s.register (replicate width None)) slot d)) (zero-add slot)
+    ∙ ap (cond (s.writes slot) (Some place)) (base s.register room)
+  where
+    slots-at : (writes : ℕ → Bool) (a : ℕ) (xs : List (Option ℕ)) (k : ℕ) (d : Option ℕ) → k < length xs →
+        slice_index_or (slots_from place writes a xs) k d ≡ cond (writes (a + k)) (Some place) (slice_index_or xs k d)
+    slots-at writes a [] k d lt = absurd (omega arith)
+    slots-at writes a (x ∷ xs) zero d lt = ap (λ n. cond (writes n) (Some place) x) (sym (add-zero a))
+    slots-at writes a (x ∷ xs) (suc k) d lt = slots-at writes (suc a) xs k d (omega arith) ∙ ap (λ n. cond (writes n) (Some place) (slice_index_or xs k d)) (omega arith)
+
+    base : (o : Option ℕ) → ((r : ℕ) → o ≡ Some r → r * width + width ≤ length words) →
+        slice_index_or (option_map_or (row_in words width) o (replicate width None)) slot d ≡ option_map_or (λ r. slot_of (slice_index words (r * width + slot))) o None
+    base None room = get_or-replicate width slot None d lt
+    base (Some r) room =
+        get_or-map slot_of (take width (drop (r * width) words)) slot 0 d (let l = part-length words (r * width) width (room r refl) in omega arith)
+        ∙ ap slot_of (part-at words (r * width) width slot lt)
+
+pub row-at-length : (width place : ℕ) (words : List ℕ) (s : Source) → ((r : ℕ) → s.register ≡ Some r → r * width + width ≤ length words) →
+    length (row_at width place (row_in words width) s) ≡ width
+row-at-length width place words s room =
+    kept s.writes 0 (option_map_or (row_in words width) s.register (replicate width None)) ∙ base-length s.register width words room
+  where
+    kept : (writes : ℕ → Bool) (a : ℕ) (xs : List (Option ℕ)) → length (slots_from place writes a xs) ≡ length xs
+    kept writes a [] = refl
+    kept writes a (x ∷ xs) = ap suc (kept writes (suc a) xs)
+
+pub some-room : (o : Option ℕ) (width : ℕ) (words : List ℕ) → IfSome o (λ r. r * width + width ≤ length words) → (r : ℕ) → o ≡ Some r → r * width + width ≤ length words
+some-room None width words room r e = cc
+some-room (Some q) width words room r e = let P : Option ℕ → Type 0 = λ o. IfSome o (λ n. n * width + width ≤ length words) in subst P e room
+
+pub among-more : {X : Type 0} (xs ys : List X) (x : X) → Among (xs ++ ys) x → Among xs x ⊎ Among ys x
+among-more [] ys x is = inr is
+among-more (z ∷ xs) ys x is = ⊎_elim (λ e. inl (inl e)) (λ later. ⊎_elim (λ a. inl (inr a)) (λ b. inr b) (among-more xs ys x later)) is
+
+pub names-more : (a b new : List Step) → new ≡ a ++ b → NameRegisters a → NameRegisters b → NameRegisters new
+names-more a b new e first then s is =
+    ⊎_elim (first s) (then s) (among-more a b s (let P : List Step → Type 0 = λ l. Among l s in subst P e is))
+
+-- sources that begin as others do
+pub begun-with : (ss ms : List code.Source) (n : ℕ) → take n ss ≡ take n ms → (r : ℕ) → r < n → source_at (map source_of ss) r ≡ source_at (map source_of ms) r
+begun-with ss ms n e r lt =
+    sym (get_or-take n (map source_of ss) r unwritten lt)
+    ∙ ap (λ l. source_at l r) (take-map source_of n ss ∙ ap (map source_of) e ∙ sym (take-map source_of n ms))
+    ∙ get_or-take n (map source_of ms) r unwritten lt
+
+-- one register more has its own row
+pub own-more : (ss : List code.Source) (i : ℕ) (s : code.Source) → length ss ≡ with_spare → i < with_spare → source_of s ≡ row_of_register i →
+    take i (map source_of ss) ≡ take i own_rows → take (i + 1) (map source_of (slice_set ss i s)) ≡ take (i + 1) own_rows
+own-more ss i s len lt is before =
+    let within : i < length (map source_of ss) = let l = length-map ss source_of in omega arith in
+    let own : i < length own_rows = let l = own-rows-length in omega arith in
+    ap (take (i + 1)) (map-set source_of ss i s)
+    ∙ take_more_set (map source_of ss) i (source_of s) within
+    ∙ ap₂ (λ (l : List Source) (x : Source). l ++ x ∷ []) before (is ∙ sym (own-row i lt))
+    ∙ sym (take_more own_rows i unwritten own)
+
+pub own-all : (ss : List code.Source) (i : ℕ) → length ss ≡ with_spare → with_spare ≤ i → take i (map source_of ss) ≡ take i own_rows → map source_of ss ≡ own_rows
+own-all ss i len le e =
+    let a = length-map ss source_of in
+    let b = own-rows-length in
+    sym (take_all i (map source_of ss) (omega arith)) ∙ e ∙ take_all i own_rows (omega arith)

@@ -1,0 +1,451 @@
+-- What the code of a search does is what a search by the table does.
+use Rattle.std.proofs.Common.{◌≡◌, ℕ, zero, suc, ◌+◌, ◌-◌, true≢false, ◌*◌, ◌/◌, ◌<◌, ◌≤◌, Bool, true, false, ◌||◌, ◌&&◌, List, [], map, eq-eqb, length, reverse, Option, Some, None, refl, sym, ap, ap₂, ◌∙◌, subst, ⊎_elim, arith}
+use Rattle.std.specs.Prelude.{is_some, ◌==◌, nat_lt, if◌then◌else◌, slice_index, slice_get, slice_index_or, slice_range, option_map, not, bit_and, IfSome}
+use Rattle.std.specs.Option.{option_flatten, option_or}
+use Rattle.std.proofs.Math.Nat.{mul-div_cancel, mul-le-mul_left}
+use Rattle.std.proofs.lemmas.Option.{none-some, slice_get_past}
+use Rattle.std.proofs.lemmas.Bool.{cases_lt}
+use Rattle.std.proofs.lemmas.Bool.Decides.{nat_tests}
+use Rattle.bites_spec.specs.Utf8.{Piece, piece}
+use Rattle.bites_spec.specs.Walks.{AllApart}
+use Rattle.bites_spec.specs.Counts.{Record}
+use Rattle.bites_machine.specs.Ends.{next_character}
+use Rattle.bites_machine.specs.Trace.{after_place, after_each}
+use Rattle.std.specs.List.{range_with_len}
+use Rattle.bites_table.specs.declared.table.skip.Skip.{Skip}
+use Rattle.bites_table.specs.Kinds as kinds
+use Rattle.bites_machine.specs.Resume.{row_in, thread_in}
+use Rattle.bites_table.specs.Sources.{row_at}
+use Rattle.bites_table.specs.Steps.{own_rows, after_steps}
+use Rattle.bites_table.specs.Built.{frame_of}
+use Rattle.bites_table.specs.Table.{list_at}
+use Rattle.bites_table.specs.declared.table.act.Act.{Act}
+use Rattle.bites_table.specs.declared.thread_list.Frame.{Frame}
+use Rattle.bites_table.specs.Transition.{Transition, source_at}
+use Rattle.bites_table.specs.Graph.{transition_in}
+use Rattle.bites_table.specs.Packed.{Packed, table_in, classes_in, lists_in, stride, row_of, mask_of, unknown, is_dead, Tells, IsCell, IsSkip, Stays, thread_with_register}
+use Rattle.bites_table.specs.Standing.{Asked, IsAsked, IsAt, IsAtRow, IsOver, transition_from, ends_after, slots_after, AreMoved}
+use Rattle.bites_machine.specs.Inputs.{is_earliest, is_longest}
+use Rattle.bites_machine.specs.Sweep.{HasReached}
+use Rattle.bites_machine.specs.declared.vm.resume.RegisterThread.{RegisterThread}
+use Rattle.bites_machine.proofs.refine.ResumeLemmas.{place_reached}
+use Rattle.bites_machine.proofs.model.MachineSearch.{goes_on}
+use Rattle.bites_spec.specs.PikeVm as vm
+use Rattle.bites_spec.specs.PikeVm.{Searching, SearchedTo}
+use Rattle.bites_spec.specs.Look.{before as before_byte}
+use Rattle.bites_table.specs.Kinds.{kind_of}
+use Rattle.bites_table.specs.Graph.{IsRoot}
+use Rattle.bites_table.specs.Explored.{number_in}
+use Rattle.bites_table.specs.Transition.{is_walked}
+use Rattle.bites_table.specs.Table.{starts_of}
+use Rattle.bites_table.proofs.TransitionLemmas.{walked_is}
+use Rattle.bites_table.specs.Searches.{asked, IsSame, StandsAt, IsHeldAt, IsLent}
+use Rattle.bites_table.specs.declared.search.record.Lent.{Lent}
+use Rattle.bites_table.specs.declared.search.record.Standing.{Standing}
+use Rattle.bites_table.specs.declared.search.record.Search.{Search}
+use Rattle.bites_table.specs.declared.table.cell.Cell.{Cell}
+use Rattle.bites_table.proofs.StandingLemmas.{at_start, handed_over, handed_back, at_next, over_after, apart_at, all_skipped, apart_after, quiet_on, ascii_here, ascii_next}
+
+-- the cells of two lists begin at two places
+pub row_once : (x : Packed) (n m : ℕ) → row_of x n ≡ row_of x m → n ≡ m
+row_once x n m e = sym (mul-div_cancel n (omega arith)) ∙ ap (λ r. r / stride x) e ∙ mul-div_cancel m (omega arith)
+
+-- past ASCII no transition is known by the byte alone
+none_past : (s : Asked) → IsAsked s → (n : ℕ) → (table_in s.table).transition n (classes_in s.table).len ≡ None
+none_past s is n =
+    ap (λ b. transition_in s.table.graph.outcomes (if b then option_flatten (slice_get s.table.graph.cells (n * s.table.graph.classes + (classes_in s.table).len)) else None))
+    (not_below (classes_in s.table).len s.table.graph.classes is.table.len)
+  where
+    not_below : (a b : ℕ) → b ≡ a → nat_lt a b ≡ false
+    not_below a b e = grind (arith, nat_tests)
+
+-- the class of a byte is that of what stands at its place, where a transition is known
+pub known_by_byte : (s : Asked) → IsAsked s → (place class : ℕ) → place < length s.input.hay →
+    (slice_index s.input.hay place < 128 → class ≡ (classes_in s.table).class_of (Some (slice_index s.input.hay place))) →
+    (128 ≤ slice_index s.input.hay place → class ≡ (classes_in s.table).len) →
+    (n : ℕ) (t : Transition ℕ) → (table_in s.table).transition n class ≡ Some t → (transition_from s n place ≡ Some t) × ((piece s.input.hay place).len ≡ 1)
+known_by_byte s is place class within low high n t known =
+    ⊎_elim
+    (λ (lt : slice_index s.input.hay place < 128). (
+      ap (λ o. (table_in s.table).transition n ((classes_in s.table).class_of o)) (ascii_next s.input.hay place (slice_index s.input.hay place) within refl lt)
+          ∙ ap ((table_in s.table).transition n) (sym (low lt)) ∙ known,
+      ap (λ (p : Piece). p.len) (ascii_here s.input.hay place (slice_index s.input.hay place) within refl lt),
+    ))
+    (λ (le : 128 ≤ slice_index s.input.hay place).
+    absurd (none-some t (sym (none_past s is n) ∙ ap ((table_in s.table).transition n) (sym (high le)) ∙ known)))
+    (cases_lt (slice_index s.input.hay place) 128)
+
+-- a transition that is known visits nothing that was visited
+pub fresh_at : (s : Asked) → IsAsked s → (place row : ℕ) (words : List ℕ) (is_found : Bool) (slots : List (Option ℕ)) (walked : Record) → IsAtRow s place row words is_found slots walked →
+    (n : ℕ) → row ≡ row_of s.table n → (t : Transition ℕ) → transition_from s n place ≡ Some t → AllApart (after_place t.seen t.looks place walked).visits
+fresh_at s is place row words is_found slots walked at n row_is t known =
+    apart_after s is place at.list words is_found slots walked at.here t
+    (subst (λ m. transition_from s m place ≡ Some t) (row_once s.table n at.list (sym row_is ∙ at.row_is)) known)
+
+-- the search goes on over a place where nothing is to be done
+pub passed_on : (s : Asked) → IsAsked s → (place row : ℕ) (words : List ℕ) (is_found : Bool) (slots : List (Option ℕ)) (walked : Record) → (at : IsAtRow s place row words is_found slots walked) →
+    (class : ℕ) → place < length s.input.hay →
+    (slice_index s.input.hay place < 128 → class ≡ (classes_in s.table).class_of (Some (slice_index s.input.hay place))) →
+    (128 ≤ slice_index s.input.hay place → class ≡ (classes_in s.table).len) →
+    (cell : Cell) → Tells s.table at.list class cell → bit_and cell.doing (mask_of s.input.width) ≡ 0 →
+    IsAtRow s (place + 1) cell.next words is_found slots (after_place (reverse cell.seen.value.items) cell.looks.value place walked)
+passed_on s is place row words is_found slots walked at class within low high cell tells bits =
+    let q = tells.quiet s.input.width bits in
+    let t = q.0 in
+    let by = known_by_byte s is place class within low high at.list t q.1.transition in record {
+      list = t.next;
+      within = q.1.within;
+      row_is = q.1.next;
+      here = subst (λ w. IsAt s (place + 1) t.next words is_found slots w) (ap₂ (λ l n. after_place l n place walked) q.1.seen q.1.looks)
+          (quiet_on s is place at.list words is_found slots walked at.here t by.0 q.2 by.1);
+    }
+
+-- what is searched stays the same
+pub asked_same : (a b : Search) (before : List (Option ℕ)) → IsSame a b → asked b before ≡ asked a before
+asked_same a b before same =
+    ap (λ p. asked (record { program = p; table = b.table; input = b.input; counted = b.counted }) before) same.program
+    ∙ ap (λ t. asked (record { program = a.program; table = t; input = b.input; counted = b.counted }) before) same.table
+    ∙ ap (λ i. asked (record { program = a.program; table = a.table; input = i; counted = b.counted }) before) same.input
+
+pub same_same : (a b d : Search) → IsSame a b → IsSame b d → IsSame a d
+same_same a b d one two = record {
+  program = two.program ∙ one.program;
+  table = two.table ∙ one.table;
+  input = two.input ∙ one.input;
+  states = two.states ∙ one.states;
+}
+
+pub asked_still : (a b : Search) (before : List (Option ℕ)) → IsSame a b → IsAsked (asked a before) → IsAsked (asked b before)
+asked_still a b before same is = subst IsAsked (sym (asked_same a b before same)) is
+
+-- the search goes on over bytes that leave it at its thread list, and visits nothing twice
+module _ (s : Asked) (is : IsAsked s) (place row : ℕ) (words : List ℕ) (is_found : Bool) (slots : List (Option ℕ)) (walked : Record) (at : IsAtRow s place row words is_found slots walked)
+    (number : ℕ) (row_is : row ≡ row_of s.table number) (skip : Skip) (is_skip : IsSkip s.table number skip) (end : ℕ) (onward : place ≤ end) (within : end ≤ length s.input.hay)
+    (passed : (k : ℕ) → place ≤ k → k < end → not (slice_index_or skip.set (slice_index s.input.hay k) false) ≡ false) where
+  member : (b : Bool) → not b ≡ false → b ≡ true
+  member true e = refl
+  member false e = absurd (true≢false e)
+
+  skipped_here : IsAt s end at.list words is_found slots (after_each (reverse skip.seen.value.items) skip.looks.value (range_with_len place (end - place)) walked)
+  skipped_here =
+      let there : place + (end - place) ≡ end = omega arith in
+      subst (λ n. IsAt s n at.list words is_found slots (after_each (reverse skip.seen.value.items) skip.looks.value (range_with_len place (end - place)) walked)) there
+      (all_skipped s is at.list (reverse skip.seen.value.items) skip.looks.value skip.set is_skip.ascii
+      (λ b h. subst (λ n. Stays s.table n ((classes_in s.table).class_of (Some b)) (reverse skip.seen.value.items) skip.looks.value)
+      (row_once s.table number at.list (sym row_is ∙ at.row_is)) (is_skip.stays b h))
+      words is_found slots (end - place) place walked (omega arith) (λ k le lt. member _ (passed k le (omega arith))) at.here)
+
+  pub skipped : IsAtRow s end row words is_found slots (after_each (reverse skip.seen.value.items) skip.looks.value (range_with_len place (end - place)) walked)
+  skipped = record { list = at.list; within = at.within; row_is = at.row_is; here = skipped_here }
+
+  pub skipped_apart : AllApart (after_each (reverse skip.seen.value.items) skip.looks.value (range_with_len place (end - place)) walked).visits
+  skipped_apart =
+      apart_at s is end at.list words is_found slots (after_each (reverse skip.seen.value.items) skip.looks.value (range_with_len place (end - place)) walked) skipped_here
+
+-- the rows of registers are there
+pub row_within : (r n m : ℕ) → 33 * n ≤ m → r < 32 → r * n + n ≤ m
+row_within r n m room lt = let le : suc r ≤ 33 = omega arith in omega (arith, mul-le-mul_left n le)
+
+pub row_there : (o : Option ℕ) (n m : ℕ) → 33 * n ≤ m → IfSome o (λ r. r < 32) → IfSome o (λ r. r * n + n ≤ m)
+row_there None n m room h = tt
+row_there (Some r) n m room lt = row_within r n m room lt
+
+some_same : {A : Type 0} (x y : A) → Some x ≡ Some y → x ≡ y
+some_same x y e = cc
+
+some_frame : (o : Option Frame) → is_some (option_map frame_of o) ≡ is_some o
+some_frame None = refl
+some_frame (Some f) = refl
+
+ends_alike : (z e f d : Bool) → (z || ((e && f) || d)) ≡ (z || (d || (f && e)))
+ends_alike true e f d = refl
+ends_alike false true true true = refl
+ends_alike false true true false = refl
+ends_alike false true false true = refl
+ends_alike false true false false = refl
+ends_alike false false true true = refl
+ends_alike false false true false = refl
+ends_alike false false false true = refl
+ends_alike false false false false = refl
+
+-- one place by a cell that is known, and by what its transition does
+module _ (s : Asked) (is : IsAsked s) (place row : ℕ) (words : List ℕ) (was_found : Bool) (slots : List (Option ℕ)) (walked : Record) (at : IsAtRow s place row words was_found slots walked)
+    (class : ℕ) (class_is : class ≡ (classes_in s.table).class_of (next_character s.input.hay place)) (cell : Cell) (tells : Tells s.table at.list class cell) (bits : bit_and cell.doing unknown ≡ 0) where
+  abbrev next : Transition ℕ
+  next = (tells.known bits).0
+
+  abbrev is_cell : IsCell s.table at.list class cell next
+  is_cell = (tells.known bits).1
+
+  pub act_within : cell.act < length s.table.acts
+  act_within = slice_get_within s.table.acts cell.act is_cell.act is_cell.named
+    where
+      slice_get_within : (xs : List Act) (i : ℕ) (x : Act) → slice_get xs i ≡ Some x → i < length xs
+      slice_get_within xs i x e =
+          ⊎_elim (λ (lt : i < length xs). lt) (λ (le : length xs ≤ i). absurd (none-some x (sym (slice_get_past xs i le) ∙ e))) (cases_lt i (length xs))
+
+  from_here : transition_from s at.list place ≡ Some next
+  from_here = ap ((table_in s.table).transition at.list) (sym class_is) ∙ is_cell.transition
+
+  module _ (act : Act) (named : slice_get s.table.acts cell.act ≡ Some act) (width : ℕ) (wide : width ≡ s.input.width) (len : ℕ) (len_is : len ≡ (piece s.input.hay place).len)
+      (is_found : Bool) (found_is : is_found ≡ (is_some act.hit || was_found)) (left : List (Option ℕ)) (left_is : left ≡ slots_after width place words (option_map frame_of act.hit) slots)
+      (over : Bool) (over_is : over ≡ ((len == 0) || (act.is_over || (is_found && s.input.earliest)))) where
+    act_is : is_cell.act ≡ act
+    act_is = some_same is_cell.act act (sym is_cell.named ∙ named)
+
+    hit_is : next.hit ≡ option_map frame_of act.hit
+    hit_is = is_cell.hit ∙ ap (λ (a : Act). option_map frame_of a.hit) act_is
+
+    found_after : (is_some next.hit || was_found) ≡ is_found
+    found_after = ap (λ b. b || was_found) (ap is_some hit_is ∙ some_frame act.hit) ∙ sym found_is
+
+    left_after : slots_after s.input.width place words next.hit slots ≡ left
+    left_after = ap₂ (λ n h. slots_after n place words h slots) (sym wide) hit_is ∙ sym left_is
+
+    dead_is : is_dead (list_at (table_in s.table) next.next) ≡ act.is_over
+    dead_is = sym is_cell.over ∙ ap (λ (a : Act). a.is_over) act_is
+
+    ends_is : ends_after s place next.next (is_some next.hit || was_found) ≡ over
+    ends_is =
+        ap₂ (λ f d. ((piece s.input.hay place).len == 0) || ((s.input.earliest && f) || d)) found_after dead_is
+        ∙ ends_alike ((piece s.input.hay place).len == 0) s.input.earliest is_found act.is_over
+        ∙ ap (λ n. (n == 0) || (act.is_over || (is_found && s.input.earliest))) (sym len_is) ∙ sym over_is
+
+    abbrev walked_on : Record
+    walked_on = after_place (reverse cell.seen.value.items) cell.looks.value place walked
+
+    record_is : after_place next.seen next.looks place walked ≡ walked_on
+    record_is = ap₂ (λ l n. after_place l n place walked) is_cell.seen is_cell.looks
+
+    pub ended_here : over ≡ true → IsOver s is_found left walked_on
+    ended_here done =
+        subst (λ w. IsOver s is_found left w) record_is
+        (subst (λ l. IsOver s is_found l (after_place next.seen next.looks place walked)) left_after
+        (subst (λ f. IsOver s f (slots_after s.input.width place words next.hit slots) (after_place next.seen next.looks place walked)) found_after
+        (over_after s is place at.list words was_found slots walked at.here next from_here (ends_is ∙ done))))
+
+    -- the next list begins there
+    pub next_row : cell.next ≡ row_of s.table act.next
+    next_row = is_cell.next ∙ ap (row_of s.table) (sym is_cell.list ∙ ap (λ (a : Act). a.next) act_is)
+
+    pub next_within : act.next < lists_in s.table
+    next_within = subst (λ n. n < lists_in s.table) (sym is_cell.list ∙ ap (λ (a : Act). a.next) act_is) is_cell.within
+
+    pub went_on : over ≡ false → (new : List ℕ) →
+        ((r : ℕ) → r < 33 → row_in new width r ≡ row_at width place (row_in words width) (source_at (after_steps (slice_range s.table.steps act.steps.from act.steps.to) own_rows) r)) →
+        IsAtRow s (place + len) cell.next new is_found left walked_on
+    went_on open_ new moved = record {
+      list = next.next;
+      within = is_cell.within;
+      row_is = is_cell.next;
+      here =
+          subst (λ w. IsAt s (place + len) next.next new is_found left w) record_is
+          (subst (λ l. IsAt s (place + len) next.next new is_found l (after_place next.seen next.looks place walked)) left_after
+          (subst (λ f. IsAt s (place + len) next.next new f (slots_after s.input.width place words next.hit slots) (after_place next.seen next.looks place walked)) found_after
+          (subst (λ n. IsAt s (place + n) next.next new (is_some next.hit || was_found) (slots_after s.input.width place words next.hit slots) (after_place next.seen next.looks place walked)) (sym len_is)
+          (at_next s is place at.list words was_found slots walked at.here next from_here (ends_is ∙ open_) new are_moved))));
+    }
+      where
+        are_moved : AreMoved s.input.width place (list_at (table_in s.table) next.next).threads next.moves words new
+        are_moved u h =
+            let below = is_cell.held u h in
+            subst (λ n. row_in new n u.row ≡ row_at n place (row_in words n) (source_at next.moves u.row)) wide
+            (moved u.row (let few = is_cell.few in omega arith)
+            ∙ ap (row_at width place (row_in words width))
+            (subst (λ (a : Act). source_at (after_steps (slice_range s.table.steps a.steps.from a.steps.to) own_rows) u.row ≡ source_at next.moves u.row) act_is (is_cell.moves u.row below)))
+
+    -- a search that is not over goes on by a byte at least
+    pub some_len : over ≡ false → 0 < len
+    some_len open_ = by len (act.is_over || (is_found && s.input.earliest)) (sym over_is ∙ open_)
+      where
+        by : (n : ℕ) (b : Bool) → ((n == 0) || b) ≡ false → 0 < n
+        by zero b e = absurd (true≢false e)
+        by (suc n) b e = omega arith
+
+-- one place of the code's search
+module _ (old new : Search) (same : IsSame old new) (before : List (Option ℕ)) (asks : IsAsked (asked old before)) (here : Standing) (words : List ℕ) (was_found : Bool) (slots : List (Option ℕ))
+    (at : StandsAt old before here words was_found slots) (class : ℕ) (class_is : class ≡ (classes_in old.table.now).class_of (next_character old.input.now.haystack.now here.place))
+    (l : Lent) (lent : IsLent old new at.list class unknown here.place l) (act : Act) (named : slice_get new.table.now.acts l.act ≡ Some act)
+    (width : ℕ) (wide : width ≡ length before) (len : ℕ) (len_is : len ≡ (piece old.input.now.haystack.now here.place).len)
+    (is_found : Bool) (found_is : is_found ≡ (is_some act.hit || was_found)) (left : List (Option ℕ)) (left_is : left ≡ slots_after width here.place words (option_map frame_of act.hit) slots)
+    (over : Bool) (over_is : over ≡ ((len == 0) || (act.is_over || (is_found && is_earliest new.input.now.kind)))) where
+  abbrev tables : new.table.now ≡ old.table.now
+  tables = ap (λ t. t.now) same.table
+
+  named_here : slice_get old.table.now.acts lent.cell.act ≡ Some act
+  named_here = subst (λ (x : Packed). slice_get x.acts lent.cell.act ≡ Some act) tables (subst (λ n. slice_get new.table.now.acts n ≡ Some act) lent.act named)
+
+  over_here : over ≡ ((len == 0) || (act.is_over || (is_found && is_earliest old.input.now.kind)))
+  over_here = over_is ∙ ap (λ i. (len == 0) || (act.is_over || (is_found && is_earliest i.now.kind))) same.input
+
+  pub turn_ends : over ≡ true → IsOver (asked new before) is_found left new.counted.walked
+  turn_ends done =
+      subst (λ s. IsOver s is_found left new.counted.walked) (sym (asked_same old new before same))
+      (subst (λ w. IsOver (asked old before) is_found left w) (sym lent.walked)
+      (ended_here (asked old before) asks here.place here.row words was_found slots old.counted.walked at class class_is lent.cell lent.tells lent.bits act named_here width wide len len_is
+      is_found found_is left left_is over over_here done))
+
+  pub turn_row : l.next ≡ row_of new.table.now act.next
+  turn_row =
+      lent.next
+      ∙ next_row (asked old before) asks here.place here.row words was_found slots old.counted.walked at class class_is lent.cell lent.tells lent.bits act named_here width wide len len_is
+      is_found found_is left left_is over over_here
+      ∙ ap (λ (x : Packed). row_of x act.next) (sym tables)
+
+  pub turn_within : act.next < lists_in new.table.now
+  turn_within =
+      subst (λ (x : Packed). act.next < lists_in x) (sym tables)
+      (next_within (asked old before) asks here.place here.row words was_found slots old.counted.walked at class class_is lent.cell lent.tells lent.bits act named_here width wide len len_is
+      is_found found_is left left_is over over_here)
+
+  pub turn_len : over ≡ false → 0 < len
+  turn_len open_ =
+      some_len (asked old before) asks here.place here.row words was_found slots old.counted.walked at class class_is lent.cell lent.tells lent.bits act named_here width wide len len_is
+      is_found found_is left left_is over over_here open_
+
+  pub turn_goes : over ≡ false → (after : List ℕ) →
+      ((r : ℕ) → r < 33 → row_in after width r ≡ row_at width here.place (row_in words width) (source_at (after_steps (slice_range new.table.now.steps act.steps.from act.steps.to) own_rows) r)) →
+      IsHeldAt new (record { place = here.place + len; row = l.next }) (record { before = before; words = after; is_found = is_found; slots = left })
+  turn_goes open_ after moved = record {
+    is_asked = asked_still old new before same asks;
+    stands =
+        subst (λ s. IsAtRow s (here.place + len) l.next after is_found left new.counted.walked) (sym (asked_same old new before same))
+        (subst (λ w. IsAtRow (asked old before) (here.place + len) l.next after is_found left w) (sym lent.walked)
+        (subst (λ n. IsAtRow (asked old before) (here.place + len) n after is_found left (after_place (reverse lent.cell.seen.value.items) lent.cell.looks.value here.place old.counted.walked)) (sym lent.next)
+        (went_on (asked old before) asks here.place here.row words was_found slots old.counted.walked at class class_is lent.cell lent.tells lent.bits act named_here width wide len len_is
+        is_found found_is left left_is over over_here open_ after
+        (subst (λ (x : Packed). (r : ℕ) → r < 33 → row_in after width r ≡ row_at width here.place (row_in words width) (source_at (after_steps (slice_range x.steps act.steps.from act.steps.to) own_rows) r)) tables moved))));
+  }
+
+-- the place lies in the haystack
+pub within_at : (s : Asked) (place row : ℕ) (words : List ℕ) (is_found : Bool) (slots : List (Option ℕ)) (walked : Record) → IsAtRow s place row words is_found slots walked → place ≤ length s.input.hay
+within_at s place row words is_found slots walked at = at.here.reached.in_step.within
+
+-- whether the start is walked, as the code tests it
+abbrev pub starts_by : Bool → ℕ → ℕ → Bool → Bool
+starts_by anchored start place is_found = not is_found && (not anchored || (place == start))
+
+starts_on : (anchored here : Bool) (was : Bool) (best fm : Option vm.Thread) → was ≡ (not (is_some best) && (not anchored || here)) →
+    (was && not (anchored || is_some fm)) ≡ (not (is_some (option_or fm best)) && (not anchored || false))
+starts_on true here was best fm is = never was ∙ sym (by (is_some (option_or fm best)))
+  where
+    never : (b : Bool) → (b && false) ≡ false
+    never true = refl
+    never false = refl
+
+    by : (b : Bool) → (not b && false) ≡ false
+    by true = refl
+    by false = refl
+starts_on false here was best None is = ap (λ b. b && true) is ∙ by (is_some best)
+  where
+    by : (b : Bool) → ((not b && true) && true) ≡ (not b && true)
+    by true = refl
+    by false = refl
+starts_on false here was best (Some t) is = never was
+  where
+    never : (b : Bool) → (b && false) ≡ false
+    never true = refl
+    never false = refl
+
+module _ (s : Asked) (is : IsAsked s) where
+  -- where the search is, and whether the start is walked there
+  pub record IsWalkedBy (u : Searching) : Type 0 where
+    pub onward : s.input.start ≤ u.place
+    pub starts_is : u.starts ≡ starts_by s.input.anchored s.input.start u.place (is_some u.best)
+
+  first_by : (anchored : Bool) (start : ℕ) → true ≡ starts_by anchored start start false
+  first_by true start = sym (eq-eqb start start refl)
+  first_by false start = refl
+
+  walked_by : (n : ℕ) (u : Searching) → SearchedTo s.input.hay false s.program s.input.width s.input.anchored s.input.earliest s.input.start n u → IsWalkedBy u
+  walked_by zero u first = subst IsWalkedBy first (record { onward = omega arith; starts_is = first_by s.input.anchored s.input.start })
+  walked_by (suc n) u (v, earlier, last, open_) =
+      let old = walked_by n v earlier in
+      let some = goes_on s.program s.input.hay false s.input.width s.input.anchored s.input.earliest s.input.start is.within v.place u open_ in
+      let further : s.input.start < v.place + (piece s.input.hay v.place).len = let le = old.onward in omega arith in
+      subst IsWalkedBy last.is
+      (record {
+        onward = omega arith;
+        starts_is = starts_on s.input.anchored (v.place == s.input.start) v.starts v.best last.last.first_match old.starts_is
+            ∙ ap (λ b. not (is_some (option_or last.last.first_match v.best)) && (not s.input.anchored || b)) (sym (apart (v.place + (piece s.input.hay v.place).len) s.input.start further));
+      })
+    where
+      apart : (a b : ℕ) → b < a → (a == b) ≡ false
+      apart a b lt = grind (arith, nat_tests)
+
+  pub starts_there : (place list : ℕ) (words : List ℕ) (is_found : Bool) (slots : List (Option ℕ)) (walked : Record) → IsAt s place list words is_found slots walked →
+      starts_by s.input.anchored s.input.start place is_found ≡ is_walked (list_at (table_in s.table) list).starts
+  starts_there place list words is_found slots walked here =
+      ap₂ (λ i f. starts_by s.input.anchored s.input.start i f) (sym here.reached.in_step.place) (sym (ap is_some here.reached.in_step.best ∙ here.found))
+      ∙ sym (walked_by here.places here.reached.search here.reached.searched).starts_is
+      ∙ sym (walked_is s.input.anchored here.reached.search.starts) ∙ ap is_walked here.reached.in_step.starts
+
+-- the Pike VM goes on from where the code stands
+module _ (a : Search) (before : List (Option ℕ)) (asks : IsAsked (asked a before)) (longest : is_longest a.input.now.kind ≡ false) where
+  pub handed : (at : Standing) (words : List ℕ) (is_found : Bool) (slots : List (Option ℕ)) (here : StandsAt a before at words is_found slots) (number : ℕ) → at.row ≡ row_of a.table.now number →
+      (width : ℕ) → width ≡ length before → length slots ≡ width → (threads : List RegisterThread) → map thread_with_register threads ≡ (list_at (table_in a.table.now) number).threads →
+      (starts : Bool) → starts ≡ starts_by a.input.now.anchored a.input.now.start at.place is_found →
+      HasReached a.program.now.program a.input.now.haystack.now (is_longest a.input.now.kind) a.input.now.anchored (is_earliest a.input.now.kind) a.input.now.start before at.place starts is_found
+      a.counted.walked (map (thread_in words width) threads) slots
+  handed at words is_found slots here number row_is width wide len threads same starts starts_is =
+      let one = row_once a.table.now number here.list (sym row_is ∙ here.row_is) in
+      subst (λ b. HasReached a.program.now.program a.input.now.haystack.now b a.input.now.anchored (is_earliest a.input.now.kind) a.input.now.start before at.place starts is_found
+      a.counted.walked (map (thread_in words width) threads) slots) (sym longest)
+      (subst (λ b. HasReached a.program.now.program a.input.now.haystack.now false a.input.now.anchored (is_earliest a.input.now.kind) a.input.now.start before at.place b is_found
+      a.counted.walked (map (thread_in words width) threads) slots) (sym (starts_is ∙ starts_there (asked a before) asks at.place here.list words is_found slots a.counted.walked here.here))
+      (subst (λ n. HasReached a.program.now.program a.input.now.haystack.now false a.input.now.anchored (is_earliest a.input.now.kind) a.input.now.start before at.place
+      (is_walked (list_at (table_in a.table.now) here.list).starts) is_found a.counted.walked (map (thread_in words n) threads) slots) (sym wide)
+      (handed_over (asked a before) asks at.place here.list words is_found slots a.counted.walked here.here (len ∙ wide) threads (same ∙ ap (λ n. (list_at (table_in a.table.now) n).threads) one))))
+
+  root_is : (anchored : Bool) (k : kinds.Kind) → IsRoot a.program.now.program a.table.now.graph k (starts_of anchored true) (number_in (if anchored then a.table.now.here else a.table.now.everywhere) k)
+  root_is true k = asks.table.here k
+  root_is false k = asks.table.everywhere k
+
+  -- the list where a search begins behind the byte before a place
+  pub begins_at : (words : List ℕ) (at : Standing) (number : ℕ) → at.place ≡ a.input.now.start → at.row ≡ row_of a.table.now number →
+      number ≡ number_in (if a.input.now.anchored then a.table.now.here else a.table.now.everywhere) (kind_of (before_byte a.input.now.haystack.now a.input.now.start)) → number < lists_in a.table.now →
+      a.counted.walked.visits ≡ [] → a.counted.walked.looks ≡ 0 →
+      IsHeldAt a at (record { before = before; words = words; is_found = false; slots = before })
+  begins_at words at number place_is row_is number_is within visits looks =
+      let root = subst (IsRoot a.program.now.program a.table.now.graph (kind_of (before_byte a.input.now.haystack.now a.input.now.start)) (starts_of a.input.now.anchored true)) (sym number_is)
+      (root_is a.input.now.anchored (kind_of (before_byte a.input.now.haystack.now a.input.now.start))) in
+      record {
+        is_asked = asks;
+        stands = record {
+          list = number;
+          within = within;
+          row_is = row_is;
+          here = subst (λ i. IsAt (asked a before) i number words false before a.counted.walked) (sym place_is)
+              (at_start (asked a before) asks number words a.counted.walked root.empty root.walked root.alike visits looks);
+        };
+      }
+
+  module _ (place : ℕ) (is_found : Bool) (slots : List (Option ℕ))
+      (back : HasReached a.program.now.program a.input.now.haystack.now (is_longest a.input.now.kind) a.input.now.anchored (is_earliest a.input.now.kind) a.input.now.start before place true is_found
+      a.counted.walked [] slots) where
+    first_back : HasReached a.program.now.program a.input.now.haystack.now false a.input.now.anchored (is_earliest a.input.now.kind) a.input.now.start before place true is_found a.counted.walked [] slots
+    first_back =
+        subst (λ b. HasReached a.program.now.program a.input.now.haystack.now b a.input.now.anchored (is_earliest a.input.now.kind) a.input.now.start before place true is_found
+        a.counted.walked [] slots) longest back
+
+    pub back_within : place ≤ length a.input.now.haystack.now
+    back_within =
+        place_reached a.program.now.program a.input.now.haystack.now asks.well false a.input.now.anchored (is_earliest a.input.now.kind) a.input.now.start asks.within before asks.fits
+        place true is_found a.counted.walked [] slots first_back
+
+    pub comes_to : (words : List ℕ) (at : Standing) (number : ℕ) → at.place ≡ place → at.row ≡ row_of a.table.now number →
+        number ≡ number_in (if a.input.now.anchored then a.table.now.here else a.table.now.everywhere) (kind_of (before_byte a.input.now.haystack.now place)) → number < lists_in a.table.now →
+        IsHeldAt a at (record { before = before; words = words; is_found = is_found; slots = slots })
+    comes_to words at number place_is row_is number_is within =
+        let root = subst (IsRoot a.program.now.program a.table.now.graph (kind_of (before_byte a.input.now.haystack.now place)) (starts_of a.input.now.anchored true)) (sym number_is)
+        (root_is a.input.now.anchored (kind_of (before_byte a.input.now.haystack.now place))) in
+        record {
+          is_asked = asks;
+          stands = record {
+            list = number;
+            within = within;
+            row_is = row_is;
+            here = subst (λ i. IsAt (asked a before) i number words is_found slots a.counted.walked) (sym place_is)
+                (handed_back (asked a before) asks place number words is_found slots a.counted.walked first_back root.empty root.walked root.alike);
+          };
+        }

@@ -1,0 +1,266 @@
+-- A search by a table goes from place to place.
+use Rattle.std.proofs.Common.{◌≡◌, ℕ, zero, suc, ◌+◌, ◌<◌, ◌≤◌, Bool, true, false, ◌||◌, ◌&&◌, List, [], ◌∷◌, map, length, Option, Some, None, option_map, refl, sym, ap, ap₂, ◌∙◌, subst, ⊎_elim, drop, take, replicate, cond, add-zero, ◌*◌, arith}
+use Rattle.std.specs.Prelude.{is_some, not, ◌==◌, if◌then◌else◌, nat_lt, slice_index, slice_index_or}
+use Rattle.std.specs.List.{range_with_len}
+use Rattle.std.proofs.Math.Seq.{drop-cons}
+use Rattle.std.specs.Option.{option_or, option_map_or}
+use Rattle.std.proofs.lemmas.List.{length-map, length-take}
+use Rattle.bites_machine.specs.SlotTable.{slot_of}
+use Rattle.std.proofs.lemmas.Bool.{cases_Bool}
+use Rattle.bites_spec.specs.Look.{before}
+use Rattle.bites_spec.specs.Utf8.{Piece, piece, front_piece, character}
+use Rattle.bites_spec.specs.Walks.{AllApart}
+use Rattle.bites_spec.specs.Program.{Configuration}
+use Rattle.bites_spec.specs.Counts.{Record}
+use Rattle.bites_spec.specs.PikeVm as vm
+use Rattle.bites_spec.specs.PikeVm.{Searching, Searches, SearchedTo}
+use Rattle.bites_machine.specs.Sweep.{left_in}
+use Rattle.bites_machine.specs.Ends.{next_character}
+use Rattle.bites_machine.specs.Resume.{row_in, thread_in}
+use Rattle.bites_machine.specs.Sweep.{HasReached}
+use Rattle.bites_machine.specs.Trace.{after_place, after_each}
+use Rattle.bites_machine.specs.declared.vm.resume.RegisterThread.{RegisterThread}
+use Rattle.bites_machine.proofs.refine.ResumeLemmas.{place_reached}
+use Rattle.bites_spec.proofs.utf8.AsciiPieces.{ascii}
+use Rattle.bites_machine.proofs.model.MachineSearch.{still_open}
+use Rattle.bites_machine.proofs.model.MachineCounts.{searched_visits, search_bounded}
+use Rattle.bites_table.specs.Sources.{Thread, Source, slots_from, row_at, thread_of}
+use Rattle.bites_table.specs.Transition.{is_walked, Transition, source_at}
+use Rattle.bites_table.specs.Kinds.{kind_of, AreAlikeKinds}
+use Rattle.bites_table.specs.Table.{Table, starts_of, list_at, TableSearch, search_after, is_over, is_empty, Reached}
+use Rattle.bites_table.specs.Packed.{table_in, classes_in, is_dead, thread_with_register, IsQuiet, Stays}
+use Rattle.bites_table.specs.Standing.{Asked, IsAsked, search_at, IsAt, IsOver, transition_from, ends_after, slots_after, AreMoved}
+use Rattle.bites_table.proofs.TableLemmas.{rows_alike, begins, comes_back, runs, ends}
+use Rattle.bites_table.proofs.TransitionLemmas.{walked_is}
+
+-- the slots that a transition leaves
+left_after : (first : List (Option ℕ)) (width place : ℕ) (words : List ℕ) (hit : Option (Thread Source)) (best : Option vm.Thread) (slots : List (Option ℕ)) → left_in best first ≡ slots →
+    left_in (option_or (option_map (thread_of (row_at width place (row_in words width))) hit) best) first ≡ slots_after width place words hit slots
+left_after first width place words None best slots is = is
+left_after first width place words (Some t) best slots is = refl
+
+found_after : (width place : ℕ) (words : List ℕ) (hit : Option (Thread Source)) (best : Option vm.Thread) (is_found : Bool) → is_some best ≡ is_found →
+    is_some (option_or (option_map (thread_of (row_at width place (row_in words width))) hit) best) ≡ (is_some hit || is_found)
+found_after width place words None best is_found is = is
+found_after width place words (Some t) best is_found is = refl
+
+module _ (s : Asked) (is : IsAsked s) (place list : ℕ) (words : List ℕ) (is_found : Bool) (slots : List (Option ℕ)) (walked : Record) (here : IsAt s place list words is_found slots walked)
+    (t : Transition ℕ) (known : transition_from s list place ≡ Some t) where
+  abbrev now : TableSearch
+  now = search_at s place list words here.best walked
+
+  abbrev later : TableSearch
+  later = search_after s.input t now
+
+  after_is : option_map (λ u. search_after s.input u now) (transition_from s list place) ≡ Some later
+  after_is = ap (option_map (λ u. search_after s.input u now)) known
+
+  over_is : (b : Bool) → ends_after s place t.next (is_some t.hit || is_found) ≡ b → is_over (classes_in s.table) (table_in s.table) s.input place later ≡ b
+  over_is b e =
+      ap (λ f. ((piece s.input.hay place).len == 0) || ((s.input.earliest && f) || (not (is_walked (list_at (table_in s.table) t.next).starts) && is_empty (list_at (table_in s.table) t.next).threads)))
+      (found_after s.input.width place words t.hit here.best is_found here.found)
+      ∙ e
+
+  -- where the search is over
+  pub over_after : ends_after s place t.next (is_some t.hit || is_found) ≡ true →
+      IsOver s (is_some t.hit || is_found) (slots_after s.input.width place words t.hit slots) (after_place t.seen t.looks place walked)
+  over_after over =
+      let end = ends s.program (classes_in s.table) is.table.classes (table_in s.table) is.table.table s.input here.places now later here.reached after_is (over_is true over) in record {
+        last = end.search;
+        searched = subst (λ n. vm.Searched s.input.hay false s.program n s.input.anchored s.input.earliest s.input.start end.search) (sym is.width) end.searched;
+        found = ap is_some end.best ∙ found_after s.input.width place words t.hit here.best is_found here.found;
+        slots = ap (λ b. left_in b s.slots) end.best ∙ left_after s.slots s.input.width place words t.hit here.best slots here.slots;
+        visits = end.visits;
+        looks = end.looks;
+      }
+
+  on : ends_after s place t.next (is_some t.hit || is_found) ≡ false → Reached s.program (table_in s.table) s.input (here.places + 1) later
+  on goes = runs s.program (classes_in s.table) is.table.classes (table_in s.table) is.table.table s.input here.places 1 now later here.reached (now, refl, after_is, over_is false goes)
+
+  -- where it goes on
+  pub at_next : ends_after s place t.next (is_some t.hit || is_found) ≡ false → (new : List ℕ) → AreMoved s.input.width place (list_at (table_in s.table) t.next).threads t.moves words new →
+      IsAt s (place + (piece s.input.hay place).len) t.next new (is_some t.hit || is_found) (slots_after s.input.width place words t.hit slots) (after_place t.seen t.looks place walked)
+  at_next goes new moved = record {
+    places = here.places + 1;
+    best = later.best;
+    reached = record {
+      search = (on goes).search;
+      searched = (on goes).searched;
+      in_step = record {
+        place = (on goes).in_step.place;
+        within = (on goes).in_step.within;
+        threads = (on goes).in_step.threads
+            ∙ rows_alike s.program (classes_in s.table) is.table.classes (table_in s.table) is.table.table s.input later.registers (row_in new s.input.width) (list_at (table_in s.table) t.next).threads
+            (λ u h. sym (moved u h));
+        starts = (on goes).in_step.starts;
+        best = (on goes).in_step.best;
+        visits = (on goes).in_step.visits;
+        looks = (on goes).in_step.looks;
+      };
+      kind = (on goes).kind;
+    };
+    found = found_after s.input.width place words t.hit here.best is_found here.found;
+    slots = left_after s.slots s.input.width place words t.hit here.best slots here.slots;
+  }
+
+  -- what it visits, it visits once
+  pub apart_after : AllApart (after_place t.seen t.looks place walked).visits
+  apart_after =
+      ⊎_elim
+      (λ (e : ends_after s place t.next (is_some t.hit || is_found) ≡ true).
+      let end = ends s.program (classes_in s.table) is.table.classes (table_in s.table) is.table.table s.input here.places now later here.reached after_is (over_is true e) in
+      subst (λ (vs : List Configuration). AllApart vs) end.visits
+      (search_bounded s.program s.input.hay is.well false s.input.width is.fits s.input.anchored s.input.earliest s.input.start is.within end.search end.searched [] (λ v h. absurd h)).apart)
+      (λ (e : ends_after s place t.next (is_some t.hit || is_found) ≡ false).
+      subst (λ (vs : List Configuration). AllApart vs) (on e).in_step.visits
+      (searched_visits s.program s.input.hay is.well false s.input.width is.fits s.input.anchored s.input.earliest s.input.start is.within (here.places + 1) (on e).search (on e).searched).0)
+      (cases_Bool (ends_after s place t.next (is_some t.hit || is_found)))
+
+-- a search begins at a list without threads that walks the start
+pub at_start : (s : Asked) → IsAsked s → (list : ℕ) (words : List ℕ) (walked : Record) → (list_at (table_in s.table) list).threads ≡ [] →
+    (list_at (table_in s.table) list).starts ≡ starts_of s.input.anchored true → AreAlikeKinds s.program (list_at (table_in s.table) list).kind (kind_of (before s.input.hay s.input.start)) →
+    walked.visits ≡ [] → walked.looks ≡ 0 → IsAt s s.input.start list words false s.slots walked
+at_start s is list words walked none starts kind visits looks = record {
+  places = 0;
+  best = None;
+  reached = begins s.program (table_in s.table) s.input (search_at s s.input.start list words None walked) refl is.within none starts refl visits looks kind;
+  found = refl;
+  slots = refl;
+}
+
+-- the threads of the code's list
+threads_as : (words : List ℕ) (width : ℕ) (ts : List RegisterThread) → map (thread_in words width) ts ≡ map (thread_of (row_in words width)) (map thread_with_register ts)
+threads_as words width [] = refl
+threads_as words width (t ∷ ts) = ap (λ l. thread_in words width t ∷ l) (threads_as words width ts)
+
+-- the Pike VM goes on from there
+pub handed_over : (s : Asked) → IsAsked s → (place list : ℕ) (words : List ℕ) (is_found : Bool) (slots : List (Option ℕ)) (walked : Record) → IsAt s place list words is_found slots walked →
+    length slots ≡ s.input.width → (threads : List RegisterThread) → map thread_with_register threads ≡ (list_at (table_in s.table) list).threads →
+    HasReached s.program s.input.hay false s.input.anchored s.input.earliest s.input.start s.slots place (is_walked (list_at (table_in s.table) list).starts) is_found walked
+    (map (thread_in words s.input.width) threads) slots
+handed_over s is place list words is_found slots walked here len threads same = record {
+  places = here.places;
+  now = here.reached.search;
+  searched = subst (λ n. SearchedTo s.input.hay false s.program n s.input.anchored s.input.earliest s.input.start here.places here.reached.search) (sym is.width) here.reached.searched;
+  stands = record {
+    place = here.reached.in_step.place;
+    threads = here.reached.in_step.threads ∙ ap (map (thread_of (row_in words s.input.width))) (sym same) ∙ sym (threads_as words s.input.width threads);
+    starts = sym (walked_is s.input.anchored here.reached.search.starts) ∙ ap is_walked here.reached.in_step.starts;
+    found = ap is_some here.reached.in_step.best ∙ here.found;
+    slots = ap (λ b. left_in b s.slots) here.reached.in_step.best ∙ here.slots;
+    visits = here.reached.in_step.visits;
+    looks = here.reached.in_step.looks;
+  };
+  len = len ∙ sym is.width;
+}
+
+-- and comes back where no thread is left
+pub handed_back : (s : Asked) → IsAsked s → (place list : ℕ) (words : List ℕ) (is_found : Bool) (slots : List (Option ℕ)) (walked : Record) →
+    HasReached s.program s.input.hay false s.input.anchored s.input.earliest s.input.start s.slots place true is_found walked [] slots →
+    (list_at (table_in s.table) list).threads ≡ [] → (list_at (table_in s.table) list).starts ≡ starts_of s.input.anchored true → AreAlikeKinds s.program (list_at (table_in s.table) list).kind (kind_of (before s.input.hay place)) →
+    IsAt s place list words is_found slots walked
+handed_back s is place list words is_found slots walked back none starts kind = record {
+  places = back.places;
+  best = back.now.best;
+  reached =
+      comes_back s.program (table_in s.table) s.input back.places back.now (search_at s place list words back.now.best walked)
+      (subst (λ n. SearchedTo s.input.hay false s.program n s.input.anchored s.input.earliest s.input.start back.places back.now) is.width back.searched) back.stands.threads back.stands.place
+      (place_reached s.program s.input.hay is.well false s.input.anchored s.input.earliest s.input.start is.within s.slots (subst (λ n. n ≤ s.program.slots) (sym is.width) is.fits) place true is_found walked [] slots back)
+      none (ap (starts_of s.input.anchored) back.stands.starts ∙ sym starts) refl back.stands.visits back.stands.looks kind;
+  found = back.stands.found;
+  slots = back.stands.slots;
+}
+
+-- a byte of ASCII is a character
+pub ascii_here : (hay : List ℕ) (i b : ℕ) → i < length hay → slice_index hay i ≡ b → b < 128 → piece hay i ≡ record { decoded = Some b; len = 1 }
+unfolding piece
+ascii_here hay i b within is lt = ap front_piece (drop-cons hay i 0 within ∙ ap (λ x. x ∷ drop (suc i) hay) is) ∙ ascii b (drop (suc i) hay) lt
+
+pub ascii_next : (hay : List ℕ) (i b : ℕ) → i < length hay → slice_index hay i ≡ b → b < 128 → next_character hay i ≡ Some b
+ascii_next hay i b within is lt = ap (λ (p : Piece). if nat_lt 0 p.len then Some (character p) else None) (ascii_here hay i b within is lt)
+
+-- a search that is not over looks for more
+pub open_at : (s : Asked) → IsAsked s → (place list : ℕ) (words : List ℕ) (is_found : Bool) (slots : List (Option ℕ)) (walked : Record) → IsAt s place list words is_found slots walked → (s.input.earliest && is_found) ≡ false
+open_at s is place list words is_found slots walked here =
+    ap (λ f. s.input.earliest && f) (sym here.found ∙ ap is_some (sym here.reached.in_step.best)) ∙ by here.places here.reached.search here.reached.searched
+  where
+    never : (b : Bool) → (b && false) ≡ false
+    never true = refl
+    never false = refl
+
+    by : (n : ℕ) (u : Searching) → SearchedTo s.input.hay false s.program s.input.width s.input.anchored s.input.earliest s.input.start n u → (s.input.earliest && is_some u.best) ≡ false
+    by zero u first = ap (λ (v : Searching). s.input.earliest && is_some v.best) (sym first) ∙ never s.input.earliest
+    by (suc n) u (v, earlier, last, goes) = still_open s.program s.input.hay false s.input.width s.input.anchored s.input.earliest s.input.start is.within v.place u goes
+
+-- nothing is written below a slot
+none_below : (i a n : ℕ) (writes : ℕ → Bool) (xs : List (Option ℕ)) → a + length xs ≤ n → ((k : ℕ) → k < n → writes k ≡ false) → slots_from i writes a xs ≡ xs
+none_below i a n writes [] le none = refl
+none_below i a n writes (x ∷ xs) le none =
+    ap₂ (λ b l. cond b (Some i) x ∷ l) (none a (omega arith)) (none_below i (suc a) n writes xs (omega arith) none)
+
+-- a quiet transition leaves the rows as they are
+quiet_row : (width place : ℕ) (words : List ℕ) (source : Source) (r : ℕ) → (0 < width → source.register ≡ Some r) → ((k : ℕ) → k < width → source.writes k ≡ false) →
+    row_at width place (row_in words width) source ≡ row_in words width r
+quiet_row zero place words source r kept none = by source.register
+  where
+    by : (o : Option ℕ) → slots_from place source.writes 0 (option_map_or (row_in words 0) o []) ≡ []
+    by None = refl
+    by (Some q) = refl
+quiet_row (suc n) place words source r kept none =
+    ap (λ o. slots_from place source.writes 0 (option_map_or (row_in words (suc n)) o (replicate (suc n) None))) (kept (omega arith))
+    ∙ none_below place 0 (suc n) source.writes (row_in words (suc n) r) short none
+  where
+    short : 0 + length (row_in words (suc n) r) ≤ suc n
+    short = omega (arith, length-map (take (suc n) (drop (r * suc n) words)) slot_of, length-take (suc n) (drop (r * suc n) words))
+
+pub quiet_rows : (tab : Table) (width place : ℕ) (words : List ℕ) (t : Transition ℕ) → IsQuiet tab width t → AreMoved width place (list_at tab t.next).threads t.moves words words
+quiet_rows tab width place words t quiet u h =
+    sym (quiet_row width place words (source_at t.moves u.row) u.row (λ some. quiet.kept some u h) (λ k lt. quiet.unwritten u h k lt))
+
+-- the search goes on over a place where nothing is to be done
+pub quiet_on : (s : Asked) → IsAsked s → (place list : ℕ) (words : List ℕ) (is_found : Bool) (slots : List (Option ℕ)) (walked : Record) → IsAt s place list words is_found slots walked →
+    (t : Transition ℕ) → transition_from s list place ≡ Some t → IsQuiet (table_in s.table) s.input.width t → (piece s.input.hay place).len ≡ 1 →
+    IsAt s (place + 1) t.next words is_found slots (after_place t.seen t.looks place walked)
+quiet_on s is place list words is_found slots walked here t known quiet lone =
+    let open_ = open_at s is place list words is_found slots walked here in
+    let goes : ends_after s place t.next (is_some t.hit || is_found) ≡ false =
+    ap₂ (λ n f. (n == 0) || ((s.input.earliest && f) || is_dead (list_at (table_in s.table) t.next))) lone (ap (λ h. is_some h || is_found) quiet.hit)
+    ∙ ap₂ (λ e d. e || d) open_ quiet.alive in
+    let on = at_next s is place list words is_found slots walked here t known goes words (quiet_rows (table_in s.table) s.input.width place words t quiet) in
+    subst (λ n. IsAt s (place + n) t.next words is_found slots (after_place t.seen t.looks place walked)) lone
+    (subst (λ f. IsAt s (place + (piece s.input.hay place).len) t.next words f slots (after_place t.seen t.looks place walked)) (ap (λ h. is_some h || is_found) quiet.hit)
+    (subst (λ l. IsAt s (place + (piece s.input.hay place).len) t.next words (is_some t.hit || is_found) l (after_place t.seen t.looks place walked))
+    (ap (λ h. slots_after s.input.width place words h slots) quiet.hit) on))
+
+-- the search goes on over bytes that leave it at its thread list
+module _ (s : Asked) (is : IsAsked s) (list : ℕ) (seen : List ℕ) (looks : ℕ) (set : List Bool) (are_ascii : (b : ℕ) → slice_index_or set b false ≡ true → b < 128)
+    (stays : (b : ℕ) → slice_index_or set b false ≡ true → Stays s.table list ((classes_in s.table).class_of (Some b)) seen looks)
+    (words : List ℕ) (is_found : Bool) (slots : List (Option ℕ)) where
+  one_skipped : (place : ℕ) (walked : Record) → place < length s.input.hay → slice_index_or set (slice_index s.input.hay place) false ≡ true →
+      IsAt s place list words is_found slots walked → IsAt s (place + 1) list words is_found slots (after_place seen looks place walked)
+  one_skipped place walked within member here =
+      let b = slice_index s.input.hay place in
+      let low = are_ascii b member in
+      let over = stays b member in
+      let t = over.transition in
+      let known : transition_from s list place ≡ Some t = ap (λ o. (table_in s.table).transition list ((classes_in s.table).class_of o)) (ascii_next s.input.hay place b within refl low) ∙ over.known in
+      let lone : (piece s.input.hay place).len ≡ 1 = ap (λ (p : Piece). p.len) (ascii_here s.input.hay place b within refl low) in
+      let on = quiet_on s is place list words is_found slots walked here t known (over.quiet s.input.width) lone in
+      subst (λ w. IsAt s (place + 1) list words is_found slots w) (ap₂ (λ l n. after_place l n place walked) over.seen_is over.looks_is)
+      (subst (λ n. IsAt s (place + 1) n words is_found slots (after_place t.seen t.looks place walked)) over.next on)
+
+  pub all_skipped : (count place : ℕ) (walked : Record) → place + count ≤ length s.input.hay →
+      ((k : ℕ) → place ≤ k → k < place + count → slice_index_or set (slice_index s.input.hay k) false ≡ true) →
+      IsAt s place list words is_found slots walked → IsAt s (place + count) list words is_found slots (after_each seen looks (range_with_len place count) walked)
+  all_skipped zero place walked within members here = subst (λ n. IsAt s n list words is_found slots walked) (sym (add-zero place)) here
+  all_skipped (suc count) place walked within members here =
+      let same : (place + 1) + count ≡ place + suc count = omega arith in
+      subst (λ n. IsAt s n list words is_found slots (after_each seen looks (range_with_len (place + 1) count) (after_place seen looks place walked))) same
+      (all_skipped count (place + 1) (after_place seen looks place walked) (omega arith) (λ k le lt. members k (omega arith) (omega arith))
+      (one_skipped place walked (omega arith) (members place (omega arith) (omega arith)) here))
+
+-- what was visited so far was visited once
+pub apart_at : (s : Asked) → IsAsked s → (place list : ℕ) (words : List ℕ) (is_found : Bool) (slots : List (Option ℕ)) (walked : Record) → IsAt s place list words is_found slots walked → AllApart walked.visits
+apart_at s is place list words is_found slots walked here =
+    subst (λ (vs : List Configuration). AllApart vs) here.reached.in_step.visits
+    (searched_visits s.program s.input.hay is.well false s.input.width is.fits s.input.anchored s.input.earliest s.input.start is.within here.places here.reached.search here.reached.searched).0

@@ -1,0 +1,37 @@
+use Rattle.std.proofs.Common.{◌≡◌, sym, subst}
+use Rattle.bites_table.specs.Blocks.{at, AreSplit, AreSplitByKinds}
+use Rattle.bites_table.specs.Bounds.{AreBounds}
+use Rattle.bites_table.specs.Distinctions.{IsWithin, before_state, after_state, CoverBefore, CoverAfter}
+use Rattle.bites_spec.specs.Program.{state_at}
+use Rattle.bites_machine.specs.States.{states_of}
+use Rattle.bites_table.proofs.BoundLemmas.{first_is_zero}
+use Rattle.bites_table.proofs.ClassLemmas.{made_classes}
+use Rattle.bites_table.proofs.DistinctionLemmas.{within_left, within_right}
+use Rattle.bites_table.proofs.classes.Classes.new.Goals as goal
+
+pub blocks_of-requires-clause-first : goal.blocks_of-requires-clause-first
+blocks_of-requires-clause-first c =
+    subst (λ l. at l 0 ≡ 0) (sym c.deref.ensures.value) (first_is_zero c.in_ok-begins.begins.items c.in_ok-begins.ensures.rising c.in_ok-begins.ensures.zero).0
+
+pub of_blocks-requires-clause-first : goal.of_blocks-requires-clause-first
+of_blocks-requires-clause-first c = (first_is_zero c.in_ok-begins.begins.items c.in_ok-begins.ensures.rising c.in_ok-begins.ensures.zero).0
+
+pub returns : goal.returns
+returns c =
+    let p = c.args.program.now.program in
+    let kinds = c.or-kinds.result in
+    let is = c.states-states.ensures in
+    let begins = c.in_ok-begins.begins.items in
+    let blocks = c.deref-2.result.now in
+    let bounds : AreBounds p.states kinds begins = subst (λ ss. AreBounds ss kinds begins) is c.in_ok-begins.ensures.bounds in
+    let before : CoverBefore kinds p.states = subst (λ ss. CoverBefore kinds ss) is
+    (λ q. subst (IsWithin (before_state (state_at _ q))) (sym c.or-kinds.ensures) (within_left _ c.before-2.result c.after.result (c.before-2.ensures q))) in
+    let after : CoverAfter kinds p.states = subst (λ ss. CoverAfter kinds ss) is
+    (λ q. subst (IsWithin (after_state (state_at _ q))) (sym c.or-kinds.ensures) (within_right _ c.before-2.result c.after.result (c.after.ensures q))) in
+    let states = states_of c.states-states.result.now in
+    let split : AreSplit begins blocks p.states =
+    subst (λ ss. AreSplit begins blocks ss) is
+    (subst (λ l. AreSplit l blocks states) c.deref.ensures.value (subst (λ l. AreSplit c.deref.result.now l states) (sym c.deref-2.ensures.value) c.in_ok-blocks.ensures.states)) in
+    let by_kinds : AreSplitByKinds begins blocks kinds =
+    subst (λ l. AreSplitByKinds l blocks kinds) c.deref.ensures.value (subst (λ l. AreSplitByKinds c.deref.result.now l kinds) (sym c.deref-2.ensures.value) c.in_ok-blocks.ensures.kinds) in
+    made_classes p kinds before after begins blocks c.in_ok-begins.ensures.rising c.in_ok-begins.ensures.zero bounds split by_kinds c.of_blocks.result c.of_blocks.ensures.classes c.of_blocks.ensures.members

@@ -1,0 +1,13 @@
+use Rattle.std.proofs.Common.{◌≡◌, ◌<◌, ℕ, length}
+use Rattle.bites_spec.specs.Program.{state_at, takes}
+use Rattle.bites_machine.specs.States.{states_of}
+use Rattle.bites_table.specs.Blocks.{AreBlocks, PassAlike, AreSplitByKinds}
+use Rattle.bites_table.proofs.classes.blocks_of.Given as goal
+
+abbrev pub invariant-loop-state : goal.invariant-loop-state
+invariant-loop-state l = record {
+  blocks : AreBlocks l.blocks;
+  len : length l.blocks.of.items ≡ length l.begins;
+  states : (q : ℕ) → q < l.state-index → PassAlike l.begins l.blocks.of.items (takes (state_at (states_of l.states) q));
+  kinds : AreSplitByKinds l.begins l.blocks.of.items l.fn.kinds;
+}

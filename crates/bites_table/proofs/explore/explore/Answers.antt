@@ -1,0 +1,35 @@
+use Rattle.std.proofs.Common.{sym, subst}
+use Rattle.bites_table.specs.Classes.{classes_of}
+use Rattle.bites_table.specs.Transition.{everywhere, here}
+use Rattle.bites_table.specs.Explored.{classes_in, number_in, AreAfter}
+use Rattle.bites_table.proofs.GraphLemmas.{grows-trans, root-stays, made-graph}
+use Rattle.bites_table.proofs.explore.explore.Goals as goal
+
+pub follow-done-requires-clause-context : goal.follow-done-requires-clause-context
+unfolding classes_in
+follow-done-requires-clause-context c = record {
+  alike = c.of-kinds.ensures;
+  after = subst (AreAfter c.args.program.now.program (classes_of c.args.classes.now)) (sym c.deref.ensures.value) (c.in_ok-after.ensures c.args.program.now.program c.of-kinds.ensures);
+}
+
+pub follow-done-requires-2-clause-context : goal.follow-done-requires-2-clause-context
+unfolding classes_in
+follow-done-requires-2-clause-context c = record {
+  alike = c.of-kinds.ensures;
+  after = subst (AreAfter c.args.program.now.program (classes_of c.args.classes.now)) (sym c.deref.ensures.value) (c.in_ok-after.ensures c.args.program.now.program c.of-kinds.ensures);
+}
+
+pub returns : goal.returns
+unfolding classes_in
+returns c =
+    let p = c.args.program.now.program in
+    let g1 = c.add_roots.new.graph in
+    let g2 = c.follow-done.new.graph in
+    let g3 = c.add_roots-2.new.graph in
+    let g4 = c.follow-done-2.new.graph in
+    let grown = grows-trans g1 g2 g4 c.follow-done.ensures.grows (grows-trans g2 g3 g4 c.add_roots-2.ensures.grows c.follow-done-2.ensures.grows) in
+    record {
+      graph = made-graph p (classes_of c.args.classes.now) g4 c.follow-done-2.ensures.made;
+      walked_everywhere = λ b. root-stays p g1 g4 grown b everywhere (number_in c.in-Some.everywhere b) (c.in-Some.ensures.roots p c.of-kinds.ensures b);
+      walked_here = λ b. root-stays p g3 g4 c.follow-done-2.ensures.grows b here (number_in c.in-Some-add_roots.here b) (c.in-Some-add_roots.ensures.roots p c.of-kinds.ensures b);
+    }

@@ -1,0 +1,18 @@
+use Rattle.std.proofs.Common.{◌≡◌, ℕ, zero, suc, ◌-◌, ◌≤◌, ◌<◌, List, length, Some, sym, ap, ◌∙◌, arith}
+use Rattle.std.specs.Prelude.{slice_index_or}
+use Rattle.std.proofs.lemmas.Option.{slice_get-get_or}
+use Rattle.bites_spec.specs.Look.{before}
+use Rattle.bites_table.specs.Kinds.{kind_of}
+use Rattle.bites_table.proofs.search.place.kind_before.Goals as goal
+
+before_is : (hay : List ℕ) (i : ℕ) → 0 < i → i ≤ length hay → before hay i ≡ Some (slice_index_or hay (i - 1) 0)
+before_is hay zero some le = absurd (omega arith)
+before_is hay (suc i) some le = slice_get-get_or hay i 0 (omega arith) ∙ ap (λ k. Some (slice_index_or hay k 0)) (one_less i)
+  where
+    one_less : (i : ℕ) → i ≡ suc i - 1
+    one_less i = omega arith
+
+pub returns : goal.returns
+returns c =
+    c.of.ensures ∙ ap (λ b. kind_of (Some b)) c.from.ensures
+    ∙ ap kind_of (sym (before_is c.args.haystack.now c.args.place (omega (arith, c.if-place-eq0.false)) c.requires))

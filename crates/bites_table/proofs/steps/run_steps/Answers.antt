@@ -1,0 +1,26 @@
+use Rattle.std.proofs.Common.{◌≡◌, ◌+◌, List, take, length, [], ◌∷◌, ◌++◌, ap, sym, ◌∙◌, subst}
+use Rattle.std.specs.Prelude.{slice_index_or}
+use Rattle.std.proofs.lemmas.List.{take_more}
+use Rattle.bites_table.specs.Sources.{Source}
+use Rattle.bites_table.specs.Steps.{with_spare, own_rows, after_steps, AreRows}
+use Rattle.bites_table.specs.declared.steps.Step.TheVariants.{Copy}
+use Rattle.bites_table.proofs.RowLemmas.{own-rows-are, own-rows-length, steps-length, one-step-more, among-at}
+use Rattle.bites_table.proofs.steps.run_steps.Goals as goal
+
+pub loop-step-init : goal.loop-step-init
+loop-step-init c = own-rows-are c.args.registers.now c.args.width c.args.place
+
+pub run_step-requires-clause-names : goal.run_step-requires-clause-names
+run_step-requires-clause-names c =
+    c.requires.names (slice_index_or c.args.steps.now c.loop-step.step-index (Copy 0 0)) (among-at c.args.steps.now c.loop-step.step-index (Copy 0 0) c.loop-step-test.true)
+
+pub loop-step-preserved : goal.loop-step-preserved
+loop-step-preserved c =
+    let steps = c.args.steps.now in
+    let i = c.loop-step.step-index in
+    let so_far = after_steps (take i steps) own_rows in
+    let len : length so_far ≡ with_spare = steps-length (take i steps) own_rows ∙ own-rows-length in
+    let more : after_steps (take (i + 1) steps) own_rows ≡ after_steps (take i steps ++ slice_index_or steps i (Copy 0 0) ∷ []) own_rows = ap (λ l. after_steps l own_rows) (take_more steps i (Copy 0 0) c.loop-step-test.true) in
+    subst (λ (ss : List Source). AreRows c.args.registers.now c.args.width c.args.place ss c.run_step.new.registers)
+    (sym (more ∙ one-step-more (take i steps) (slice_index_or steps i (Copy 0 0)) own_rows))
+    (c.run_step.ensures so_far len c.args.registers.now c.loop-step.invariant)

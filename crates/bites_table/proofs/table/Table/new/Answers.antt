@@ -1,0 +1,29 @@
+use Rattle.std.proofs.Common.{◌≡◌, sym, subst}
+use Rattle.bites_table.specs.Kinds.{AreClasses}
+use Rattle.bites_table.specs.Table.{IsTable}
+use Rattle.bites_table.specs.Transition.{everywhere, here}
+use Rattle.bites_table.specs.Graph.{Graph, table_of}
+use Rattle.bites_table.specs.Classes.{Intervals, classes_of}
+use Rattle.bites_table.specs.Explored.{AreRoots, IsExplored}
+use Rattle.bites_table.specs.declared.explore.roots.Roots.{Roots}
+use Rattle.bites_table.proofs.table.Table.new.Goals as goal
+
+pub returns : goal.returns
+returns c =
+    let p = c.args.program.now.program in
+    let x = c.in_ok-table.table in
+    let is : IsExplored p (classes_of c.in_ok-classes.classes) c.in-Ok.explored = c.in-Ok.ensures in
+    let intervals : x.intervals ≡ c.in_ok-classes.classes = c.in_ok-table.ensures.intervals in
+    let graph : x.graph ≡ c.in-Ok.explored.graph = c.in_ok-table.ensures.graph in
+    let all : x.everywhere ≡ c.in-Ok.explored.everywhere = c.in_ok-table.ensures.everywhere in
+    let one : x.here ≡ c.in-Ok.explored.here = c.in_ok-table.ensures.here in
+    record {
+      classes = subst (λ (v : Intervals). AreClasses p (classes_of v)) (sym intervals) c.in_ok-classes.ensures;
+      table = subst (λ (v : Intervals). IsTable p (classes_of v) (table_of x.graph)) (sym intervals)
+          (subst (λ (g : Graph). IsTable p (classes_of c.in_ok-classes.classes) (table_of g)) (sym graph) is.graph.table);
+      len = c.in_ok-table.ensures.classes;
+      everywhere = subst (λ (r : Roots). AreRoots p x.graph everywhere r) (sym all)
+          (subst (λ (g : Graph). AreRoots p g everywhere c.in-Ok.explored.everywhere) (sym graph) is.walked_everywhere);
+      here = subst (λ (r : Roots). AreRoots p x.graph here r) (sym one)
+          (subst (λ (g : Graph). AreRoots p g here c.in-Ok.explored.here) (sym graph) is.walked_here);
+    }

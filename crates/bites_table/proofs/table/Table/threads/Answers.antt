@@ -1,0 +1,33 @@
+use Rattle.std.proofs.Common.{◌≡◌, ◌<◌, List, length, map, ap, subst, ◌∙◌, arith}
+use Rattle.std.specs.Prelude.{slice_range}
+use Rattle.bites_machine.specs.declared.vm.resume.RegisterThread.{RegisterThread}
+use Rattle.bites_table.specs.Packed.{Packed, lists_in, thread_with_register}
+use Rattle.bites_table.specs.Layout.{IsEntry}
+use Rattle.bites_table.proofs.LayoutLemmas.{get-read, among-range}
+use Rattle.bites_table.proofs.table.Table.threads.Goals as goal
+
+pub part_of-requires : goal.part_of-requires
+part_of-requires c =
+    let within : c.args.number < length c.self.inside.lists.items = let n = ap lists_in c.self.view_is in let m = c.self.invariant.count in omega arith in
+    let entry : IsEntry c.args.self.now c.self.inside.threads.items c.self.inside.skips.items c.args.number c.index.result.now =
+    subst (λ (x : Packed). IsEntry x c.self.inside.threads.items c.self.inside.skips.items c.args.number c.index.result.now) c.self.view_is
+    (c.self.invariant.entries c.args.number c.index.result.now (get-read c.self.inside.lists.items c.args.number c.index.result.now within c.index.ensures)) in
+    let value : c.deref.result.now ≡ c.self.inside.threads.items = c.deref.ensures.value in
+    rw value entry.part
+
+pub returns-clause-threads : goal.returns-clause-threads
+returns-clause-threads c =
+    let within : c.args.number < length c.self.inside.lists.items = let n = ap lists_in c.self.view_is in let m = c.self.invariant.count in omega arith in
+    let entry : IsEntry c.args.self.now c.self.inside.threads.items c.self.inside.skips.items c.args.number c.index.result.now =
+    subst (λ (x : Packed). IsEntry x c.self.inside.threads.items c.self.inside.skips.items c.args.number c.index.result.now) c.self.view_is
+    (c.self.invariant.entries c.args.number c.index.result.now (get-read c.self.inside.lists.items c.args.number c.index.result.now within c.index.ensures)) in
+    let part = c.index.result.now.threads in
+    ap (map thread_with_register) c.part_of.ensures
+    ∙ ap (λ (ts : List RegisterThread). map thread_with_register (slice_range ts part.from part.to)) c.deref.ensures.value
+    ∙ entry.threads_are
+
+pub returns-clause-held : goal.returns-clause-held
+returns-clause-held c t is =
+    let part = c.index.result.now.threads in
+    let value : c.part_of.result.now ≡ slice_range c.self.inside.threads.items part.from part.to = c.part_of.ensures ∙ ap (λ (ts : List RegisterThread). slice_range ts part.from part.to) c.deref.ensures.value in
+    c.self.invariant.held t (among-range c.self.inside.threads.items part.from part.to t (rw value at is))

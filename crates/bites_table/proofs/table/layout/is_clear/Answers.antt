@@ -1,0 +1,10 @@
+use Rattle.std.proofs.Common.{◌≡◌, arith}
+use Rattle.std.specs.Prelude.{bit_and}
+use Rattle.std.proofs.lemmas.Bool.Decides.{nat_tests}
+use Rattle.bites_table.proofs.LaidOutLemmas.{clear}
+use Rattle.bites_table.proofs.table.layout.is_clear.Goals as goal
+
+pub returns : goal.returns
+returns c is =
+    let none : bit_and c.args.writes c.args.mask ≡ 0 = grind (arith, nat_tests) in
+    clear c.args.writes c.args.mask c.ranges.writes.fits none

@@ -1,0 +1,52 @@
+use Rattle.std.proofs.Common.{rules, ◌≡◌, ◌+◌, ℕ, suc, List, length, ap, sym, ◌∙◌, subst, arith}
+use Rattle.bites_table.specs.Graph.{Graph}
+use Rattle.bites_table.specs.Packed.{Packed, lists_in, stride, classes_in}
+use Rattle.bites_table.specs.Layout.{AreWithin, IsEntry}
+use Rattle.bites_table.specs.LaidOut.{AreActs, AreEntries, Fits}
+use Rattle.bites_table.specs.declared.table.skip.Skip.{Skip}
+use Rattle.bites_table.proofs.LaidOutLemmas.{act-part, are-entries}
+use Rattle.bites_table.proofs.table.layout.lay_out.Goals as goal
+
+pub invariant_of-result : goal.invariant_of-result
+invariant_of-result c =
+    let acts = c.in_ok-acts.field-0.acts.items in
+    let steps = c.in_ok-acts.field-0.steps.items in
+    let entries = c.in_ok-entries.field-0.entries.items in
+    let threads = c.in_ok-entries.field-0.threads.items in
+    let value : c.of-value.result.value ≡ c.args.explored.graph = c.of-value.ensures in
+    let x : Packed = record {
+      intervals = c.args.classes;
+      graph = c.of-value.result.value;
+      everywhere = c.args.explored.everywhere;
+      here = c.args.explored.here;
+      acts = acts;
+      steps = steps;
+    } in
+    let count : length acts ≡ length x.graph.outcomes = subst (λ (g : Graph). length acts ≡ length g.outcomes) (sym value) c.in_ok-acts.ensures.count in
+    let do-acts : AreActs x.graph steps acts = subst (λ (g : Graph). AreActs g steps acts) (sym value) c.in_ok-acts.ensures.acts in
+    let len : length entries ≡ lists_in x = subst (λ (g : Graph). length entries ≡ length g.lists) (sym value) c.in_ok-entries.ensures.count in
+    let are : AreEntries x.graph threads entries = subst (λ (g : Graph). AreEntries g threads entries) (sym value) c.in_ok-entries.ensures.entries in
+    let lists : c.lists-lists.result ≡ lists_in x = c.lists-lists.ensures ∙ ap (λ (g : Graph). length g.lists) (sym value) in
+    let stride_is : c.len-stride.result + 1 ≡ stride x = ap (λ n. n + 1) c.len-stride.ensures.len ∙ (let e : (classes_in x).len + 1 ≡ suc (classes_in x).len = omega arith in e) in
+    let classes : suc x.graph.classes ≡ stride x = ap suc (ap (λ (g : Graph). g.classes) value ∙ sym c.classes-2.ensures ∙ c.if-classes-len.false ∙ c.len.ensures.len) in
+    let everywhere : AreWithin c.lists-lists.result c.args.explored.everywhere = c.are_within.ensures (search rules) in
+    let here : AreWithin c.lists-lists.result c.args.explored.here = c.are_within-else-not-are_within.ensures (search rules) in
+    let fits : Fits x c.deref.result.now (c.len-stride.result + 1) = record {
+      acts_are = sym c.deref.ensures.value;
+      count = count;
+      acts_do = do-acts;
+      stride_is = stride_is;
+      classes = classes;
+    } in
+    record {
+      stride_is = stride_is;
+      cells = c.in_ok-cells.ensures x value fits;
+      parts = act-part x.graph steps acts count do-acts;
+      hits = c.in_ok-acts.ensures.hits;
+      names = c.in_ok-acts.ensures.names;
+      count = len;
+      entries = λ n l at. subst (λ (ss : List Skip). IsEntry x threads ss n l) (sym c.new.ensures.items) (are-entries x threads entries len are n l at);
+      held = c.in_ok-entries.ensures.held;
+      everywhere = subst (λ (n : ℕ). AreWithin n x.everywhere) lists everywhere;
+      here = subst (λ (n : ℕ). AreWithin n x.here) lists here;
+    }

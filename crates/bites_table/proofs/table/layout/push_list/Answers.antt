@@ -1,0 +1,33 @@
+use Rattle.std.proofs.Common.{rules, ◌≡◌, List, [], ◌∷◌, ◌++◌, map, length, None, Some, refl, ap, sym, ◌∙◌, subst, arith, length-append}
+use Rattle.std.specs.Prelude.{slice_get}
+use Rattle.bites_table.specs.Graph.{registers_at}
+use Rattle.bites_table.specs.Stored.{numbered}
+use Rattle.bites_table.specs.LaidOut.{register_thread, IsEntryOf, AreEntries}
+use Rattle.bites_table.specs.declared.table.ListEntry.{ListEntry}
+use Rattle.bites_table.proofs.LaidOutLemmas.{entries-push, range-made}
+use Rattle.bites_table.proofs.table.layout.push_list.Goals as goal
+
+pub returns-clause-entries : goal.returns-clause-entries
+returns-clause-entries c =
+    let g = c.args.graph.now in
+    let ts = c.args.lists.now.threads.items in
+    let more = map register_thread c.list-list.result.threads.now in
+    let new = c.push_threads.new.all.items in
+    let es = c.args.lists.now.entries.items in
+    let l = numbered c.list-list.result (registers_at g c.args.number) in
+    let from : c.in_ok-from.from ≡ length ts = search rules in
+    let to : c.in_ok-to.to ≡ length new = search rules in
+    let grown : new ≡ ts ++ more = c.in_ok-push_threads.ensures.threads in
+    let e : ListEntry = record { threads = record { from = c.in_ok-from.from; to = c.in_ok-to.to }; walks_start = c.is_walked.result; skip = None; rest = None } in
+    let pushed : c.push.new.self.items ≡ es ++ e ∷ [] = search rules in
+    let len = ap length grown ∙ length-append ts more in
+    let own : IsEntryOf new l e = record {
+      part = (omega arith, omega arith);
+      threads_are = range-made ts more new c.in_ok-from.from c.in_ok-to.to grown from to;
+      walks_start = c.is_walked.ensures;
+      skip = refl;
+      rest = refl;
+    } in
+    let there : slice_get g.lists (length es) ≡ Some l = ap (slice_get g.lists) c.requires.count ∙ c.list-list.ensures in
+    subst (λ (l : List ListEntry). AreEntries g new l) (sym pushed)
+    (entries-push g ts more new es l e grown c.requires.entries there own)

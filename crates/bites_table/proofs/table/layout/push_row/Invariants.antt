@@ -1,0 +1,12 @@
+use Rattle.std.proofs.Common.{◌≡◌, ℕ, length}
+use Rattle.std.specs.Vec.Iter.{into_iter_items, into_iter_len}
+use Rattle.bites_table.specs.Packed.{Packed}
+use Rattle.bites_table.specs.LaidOut.{Fits, AreLaid}
+use Rattle.bites_table.proofs.table.layout.push_row.Given as goal
+
+abbrev pub invariant-loop : goal.invariant-loop
+invariant-loop l = record {
+  len : into_iter_len l.left ≡ length (into_iter_items l.left);
+  row : (x : Packed) (n : ℕ) → x.graph.classes ≡ l.classes → Fits x l.acts l.stride →
+      AreLaid x n 0 (into_iter_items l.fn.left) l.fn.cells.items → AreLaid x n l.counter (into_iter_items l.left) l.cells.items;
+}

@@ -1,0 +1,10 @@
+use Rattle.std.proofs.Common.{◌≡◌, ap, sym, ◌∙◌, arith}
+use Rattle.std.specs.Prelude.{◌==◌, nat_lt, false}
+use Rattle.std.proofs.lemmas.Bool.Decides.{nat_tests}
+use Rattle.std.proofs.lemmas.Nat.Bits.{bit_at_above}
+use Rattle.bites_table.proofs.thread_list.has_bit.Goals as goal
+
+pub returns-else-number : goal.returns-else-number
+returns-else-number c =
+    let past : nat_lt c.args.number 64 ≡ false = grind (arith, nat_tests) in
+    past ∙ sym (ap (λ n. n == 1) (bit_at_above c.args.bits 64 c.args.number c.ranges.bits.fits c.if-number.false))

@@ -1,0 +1,50 @@
+-- The thread lists of a program, explored.
+use Rattle.std.specs.Prelude.{ℕ, ◌<◌, List, length, slice_index_or}
+use Rattle.bites_spec.specs.Program.{Program}
+use Rattle.bites_table.specs.Kinds as kinds
+use Rattle.bites_table.specs.Kinds.{kind_of, AreAlikeKinds, Classes}
+use Rattle.bites_table.specs.Takers.{AssertsAs}
+use Rattle.bites_table.specs.Transition.{Starts, everywhere, here}
+use Rattle.bites_table.specs.Graph.{Graph, IsGraph, IsRoot}
+use Rattle.bites_table.specs.Classes.{classes_of}
+use Rattle.bites_table.specs.AlikeKinds.{TellsApart}
+use Rattle.bites_table.specs.Built.{kind_as}
+use Rattle.bites_table.specs.declared.kind.Kind.{Kind}
+use Rattle.bites_table.specs.declared.kind.Kind.TheVariants.{Edge}
+use Rattle.bites_table.specs.declared.explore.roots.Roots.{Roots}
+use Rattle.bites_table.specs.declared.explore.Context.{Context}
+use Rattle.bites_table.specs.declared.explore.Explored.{Explored}
+
+-- the program of a context, and its classes
+abbrev pub program_in : Context → Program
+program_in x = x.program.now.program
+
+unfoldable pub classes_in : Context → Classes
+classes_in x = classes_of x.classes.now
+
+-- the assertions of the program hold before each class as before a byte of its kind
+abbrev pub AreAfter : Program → Classes → List Kind → Type 0
+AreAfter p k after = (b : kinds.Kind) (c : ℕ) → c < length after → AssertsAs p b (kind_as (slice_index_or after c Edge)) (k.member c)
+
+-- what a context says of kinds is true of its program and classes
+pub record IsContext (x : Context) : Type 0 where
+  pub alike : TellsApart (program_in x) x.kinds
+  pub after : AreAfter (program_in x) (classes_in x) x.after.now
+
+-- the number of the list for a kind of the byte before
+abbrev pub number_in : Roots → kinds.Kind → ℕ
+number_in r kinds.edge = r.edge
+number_in r kinds.line_feed = r.line_feed
+number_in r kinds.carriage_return = r.carriage_return
+number_in r kinds.word_byte = r.word_byte
+number_in r kinds.other = r.other
+
+-- each is one that walks the start so
+abbrev pub AreRoots : Program → Graph → Starts → Roots → Type 0
+AreRoots p g starts r = (b : kinds.Kind) → IsRoot p g b starts (number_in r b)
+
+-- a graph of the program, with its roots
+pub record IsExplored (p : Program) (k : Classes) (e : Explored) : Type 0 where
+  pub graph : IsGraph p k e.graph
+  pub walked_everywhere : AreRoots p e.graph everywhere e.everywhere
+  pub walked_here : AreRoots p e.graph here e.here

@@ -1,0 +1,107 @@
+-- What stays true while a graph of thread lists is laid out.
+use Rattle.std.specs.Prelude.{◌≡◌, ◌≢◌, ℕ, suc, ◌+◌, ◌*◌, ◌<◌, ◌≤◌, Bool, true, false, ◌||◌, nat_le, List, map, drop, length, Option, Some, None, IfSome, option_map, slice_get, slice_range, bit_and}
+use Rattle.bites_spec.specs.Walks.{Among}
+use Rattle.bites_machine.specs.declared.vm.resume.RegisterThread.{RegisterThread}
+use Rattle.bites_machine.specs.Bits.{has_bit}
+use Rattle.bites_table.specs.Sources as sources
+use Rattle.bites_table.specs.Transition.{ThreadList, is_walked, source_at}
+use Rattle.bites_table.specs.Table.{list_at}
+use Rattle.bites_table.specs.Built.{source_of, starts_as}
+use Rattle.bites_table.specs.Graph.{NumberedList, Outcome, Graph, table_of}
+use Rattle.bites_table.specs.Stored.{cell_of}
+use Rattle.bites_table.specs.Steps.{MakeMoves}
+use Rattle.bites_table.specs.Packed.{Packed, stride, mask_of, is_dead, IsPartOf}
+use Rattle.bites_table.specs.Layout.{Tell}
+use Rattle.bites_table.specs.declared.thread_list.Thread.{Thread}
+use Rattle.bites_table.specs.declared.thread_list.Source.{Source}
+use Rattle.bites_table.specs.declared.thread_list.Frame.{Frame}
+use Rattle.bites_table.specs.declared.explore.graph.Cell as made
+use Rattle.bites_table.specs.declared.steps.Step.{Step}
+use Rattle.bites_table.specs.declared.table.ListEntry.{ListEntry}
+use Rattle.bites_table.specs.declared.table.act.Act.{Act}
+use Rattle.bites_table.specs.declared.table.cell.Cell.{Cell}
+
+-- a thread as the Pike VM takes it over
+abbrev pub register_thread : Thread → RegisterThread
+register_thread t = record { state = t.state; register = t.register }
+
+abbrev pub AreHeldBelow : ℕ → List RegisterThread → Type 0
+AreHeldBelow n ts = (t : RegisterThread) → Among ts t → t.register < n
+
+-- an entry of a list, from which nothing is skipped
+pub record IsEntryOf (threads : List RegisterThread) (l : NumberedList) (e : ListEntry) : Type 0 where
+  pub part : IsPartOf (length threads) e.threads
+  pub threads_are : slice_range threads e.threads.from e.threads.to ≡ map register_thread l.threads
+  pub walks_start : e.walks_start ≡ is_walked (starts_as l.starts)
+  pub skip : e.skip ≡ None
+  pub rest : e.rest ≡ None
+
+-- the entries of the first lists
+abbrev pub AreEntries : Graph → List RegisterThread → List ListEntry → Type 0
+AreEntries g threads entries =
+    (n : ℕ) (l : NumberedList) (e : ListEntry) → slice_get g.lists n ≡ Some l → slice_get entries n ≡ Some e → IsEntryOf threads l e
+
+-- the slots of a mask, and those that no bit stands for
+abbrev pub masked : ℕ → ℕ → Bool
+masked mask k = has_bit mask k || nat_le 64 k
+
+-- a source is the row of the register, in which no slot of the mask is written
+pub record IsOwn (register mask : ℕ) (s : Source) : Type 0 where
+  pub register_is : s.register ≡ Some register
+  pub unwritten : (k : ℕ) → masked mask k ≡ true → has_bit s.writes k ≡ false
+
+-- a thread has the row of the register of its own number, and no slot of the mask is written there
+pub record IsKept (moves : List Source) (mask : ℕ) (t : Thread) : Type 0 where
+  pub register : (source_at (map source_of moves) t.register).register ≡ Some t.register
+  pub unwritten : (k : ℕ) → masked mask k ≡ true → (source_at (map source_of moves) t.register).writes k ≡ false
+
+-- nobody comes to a match, the search is not over, and each thread has its own row in so many slots
+pub record DoesQuietly (o : Outcome) (next : ThreadList) (width : ℕ) : Type 0 where
+  pub hit : o.hit ≡ None
+  pub alive : is_dead next ≡ false
+  pub kept : 0 < width → (u : sources.Thread ℕ) → Among next.threads u → (source_at (map source_of o.moves) u.row).register ≡ Some u.row
+  pub unwritten : (u : sources.Thread ℕ) → Among next.threads u → (k : ℕ) → k < width → (source_at (map source_of o.moves) u.row).writes k ≡ false
+
+-- for the widths whose bits are not set it does so
+abbrev pub DoesByBits : Outcome → ThreadList → ℕ → Type 0
+DoesByBits o next doing = (width : ℕ) → bit_and doing (mask_of width) ≡ 0 → DoesQuietly o next width
+
+-- the row of a hit comes from a register that is there, if it comes from one
+abbrev pub IsHeldHit : Option Frame → Type 0
+IsHeldHit hit = IfSome hit (λ f. IfSome f.source.register (λ r. r < 32))
+
+abbrev pub AreHeldHits : List Act → Type 0
+AreHeldHits acts = (i : ℕ) (a : Act) → slice_get acts i ≡ Some a → IsHeldHit a.hit
+
+-- what an outcome does
+pub record IsAct (steps : List Step) (o : Outcome) (next : ThreadList) (a : Act) : Type 0 where
+  pub hit : a.hit ≡ o.hit
+  pub list : a.next ≡ o.next
+  pub over : a.is_over ≡ is_dead next
+  pub part : IsPartOf (length steps) a.steps
+  pub moves : a.doing ≢ 255 → MakeMoves (slice_range steps a.steps.from a.steps.to) (map source_of o.moves)
+  pub held : a.doing ≢ 255 → (u : sources.Thread ℕ) → Among next.threads u → u.row < length o.moves
+  pub few : a.doing ≢ 255 → length o.moves ≤ 32
+  pub quiet : DoesByBits o next a.doing
+
+pub record IsActOf (g : Graph) (steps : List Step) (o : Outcome) (a : Act) : Type 0 where
+  pub within : o.next < length g.lists
+  pub act : IsAct steps o (list_at (table_of g) o.next) a
+
+-- what the first outcomes do
+abbrev pub AreActs : Graph → List Step → List Act → Type 0
+AreActs g steps acts = (i : ℕ) (o : Outcome) (a : Act) → slice_get g.outcomes i ≡ Some o → slice_get acts i ≡ Some a → IsActOf g steps o a
+
+-- the table has these acts and rows as long as that, for the classes of its graph
+pub record Fits (x : Packed) (acts : List Act) (cells_of_row : ℕ) : Type 0 where
+  pub acts_are : x.acts ≡ acts
+  pub count : length x.acts ≡ length x.graph.outcomes
+  pub acts_do : AreActs x.graph x.steps x.acts
+  pub stride_is : cells_of_row ≡ stride x
+  pub classes : suc x.graph.classes ≡ stride x
+
+-- the cells before those of a list and a class are laid out, and these transitions are left
+pub record AreLaid (x : Packed) (n c : ℕ) (left : List (Option made.Cell)) (cells : List Cell) : Type 0 where
+  pub left_is : map (option_map cell_of) left ≡ drop (n * x.graph.classes + c) x.graph.cells
+  pub len : length cells ≡ n * stride x + c
+  pub told : Tell x cells

@@ -1,0 +1,144 @@
+-- A table as a search reads it.
+use Rattle.std.specs.Prelude.{◌≡◌, ℕ, suc, ◌*◌, ◌<◌, ◌≤◌, Bool, true, false, ◌&&◌, not, List, length, reverse, Some, None, option_map, if◌then◌else◌, ◌==◌, slice_get, slice_range, slice_index_or, bit_and}
+use Rattle.bites_spec.specs.Walks.{Among}
+use Rattle.bites_spec.specs.Program.{Program}
+use Rattle.bites_machine.specs.declared.vm.resume.RegisterThread.{RegisterThread}
+use Rattle.bites_table.specs.Kinds as kinds
+use Rattle.bites_table.specs.Kinds.{AreClasses}
+use Rattle.bites_table.specs.Sources.{Thread}
+use Rattle.bites_table.specs.Transition.{everywhere, here, is_walked, ThreadList, Transition, source_at}
+use Rattle.bites_table.specs.Table.{Table, IsTable, list_at, is_empty}
+use Rattle.bites_table.specs.Built.{frame_of}
+use Rattle.bites_table.specs.Graph.{Graph, table_of}
+use Rattle.bites_table.specs.Classes.{Intervals, classes_of}
+use Rattle.bites_table.specs.Explored.{AreRoots}
+use Rattle.bites_table.specs.Steps.{MakeMoves}
+use Rattle.bites_table.specs.declared.explore.roots.Roots.{Roots}
+use Rattle.bites_table.specs.declared.steps.Step.{Step}
+use Rattle.bites_table.specs.declared.table.act.Act.{Act}
+use Rattle.bites_table.specs.declared.table.act.Part.{Part}
+use Rattle.bites_table.specs.declared.table.cell.Cell.{Cell}
+use Rattle.bites_table.specs.declared.table.skip.Skip.{Skip}
+use Rattle.bites_table.specs.declared.table.skip.Rest.{Rest}
+
+-- classes of characters, thread lists with their transitions, the lists where searches begin, what transitions do, and all their
+-- steps
+pub record Packed : Type 0 where
+  pub intervals : Intervals
+  pub graph : Graph
+  pub everywhere : Roots
+  pub here : Roots
+  pub acts : List Act
+  pub steps : List Step
+
+abbrev pub table_in : Packed → Table
+table_in x = table_of x.graph
+
+abbrev pub classes_in : Packed → kinds.Classes
+classes_in x = classes_of x.intervals
+
+-- the number of thread lists
+abbrev pub lists_in : Packed → ℕ
+lists_in x = length x.graph.lists
+
+-- the number of cells of a row: one for each class, and one for all bytes past ASCII
+abbrev pub stride : Packed → ℕ
+stride x = suc (classes_in x).len
+
+-- the place of the first cell of a thread list
+abbrev pub row_of : Packed → ℕ → ℕ
+row_of x n = n * stride x
+
+-- the row is that of a thread list
+pub record IsRow (x : Packed) (row : ℕ) : Type 0 where
+  pub number : ℕ
+  pub within : number < lists_in x
+  pub is : row ≡ row_of x number
+
+-- the bit of a search for so many slots
+abbrev pub mask_of : ℕ → ℕ
+mask_of width = if width == 0 then 1 else if width == 2 then 2 else 4
+
+-- the bit of what is not known
+abbrev pub unknown : ℕ
+unknown = 8
+
+-- no thread is left and none begins
+abbrev pub is_dead : ThreadList → Bool
+is_dead l = not (is_walked l.starts) && is_empty l.threads
+
+-- Nobody comes to a match, the search is not over, and each thread that comes next has the row of the register of its own number, in
+-- so many slots.
+pub record IsQuiet (tab : Table) (width : ℕ) (t : Transition ℕ) : Type 0 where
+  pub hit : t.hit ≡ None
+  pub alive : is_dead (list_at tab t.next) ≡ false
+  pub kept : 0 < width → (u : Thread ℕ) → Among (list_at tab t.next).threads u → (source_at t.moves u.row).register ≡ Some u.row
+  pub unwritten : (u : Thread ℕ) → Among (list_at tab t.next).threads u → (k : ℕ) → k < width → (source_at t.moves u.row).writes k ≡ false
+
+-- the cell stands for the transition of a list over a class
+pub record IsCell (x : Packed) (n c : ℕ) (a : Cell) (t : Transition ℕ) : Type 0 where
+  pub transition : (table_in x).transition n c ≡ Some t
+  pub next : a.next ≡ row_of x t.next
+  pub within : t.next < lists_in x
+  pub seen : t.seen ≡ reverse a.seen.value.items
+  pub looks : t.looks ≡ a.looks.value
+  pub act : Act
+  pub named : slice_get x.acts a.act ≡ Some act
+  pub hit : t.hit ≡ option_map frame_of act.hit
+  pub list : act.next ≡ t.next
+  pub over : act.is_over ≡ is_dead (list_at (table_in x) t.next)
+  pub moves : MakeMoves (slice_range x.steps act.steps.from act.steps.to) t.moves
+  pub held : (u : Thread ℕ) → Among (list_at (table_in x) t.next).threads u → u.row < length t.moves
+  pub few : length t.moves ≤ 32
+
+-- the cell stands for a transition that is known
+abbrev pub IsKnown : Packed → ℕ → ℕ → Cell → Type 0
+IsKnown x n c a = (t : Transition ℕ) × IsCell x n c a t
+
+-- what the bits of a cell say of the list and the class
+pub record Tells (x : Packed) (n c : ℕ) (a : Cell) : Type 0 where
+  pub known : bit_and a.doing unknown ≡ 0 → IsKnown x n c a
+  pub quiet : (width : ℕ) → bit_and a.doing (mask_of width) ≡ 0 → (t : Transition ℕ) × IsCell x n c a t × IsQuiet (table_in x) width t
+
+-- The list leads over the class back to itself, quietly for all slots, with these visits and looks.
+pub record Stays (x : Packed) (n c : ℕ) (seen : List ℕ) (looks : ℕ) : Type 0 where
+  pub transition : Transition ℕ
+  pub known : (table_in x).transition n c ≡ Some transition
+  pub next : transition.next ≡ n
+  pub quiet : (width : ℕ) → IsQuiet (table_in x) width transition
+  pub seen_is : transition.seen ≡ seen
+  pub looks_is : transition.looks ≡ looks
+
+-- each byte of the set is of ASCII, and the list leads over it back to itself
+pub record IsSkip (x : Packed) (n : ℕ) (s : Skip) : Type 0 where
+  pub ascii : (b : ℕ) → slice_index_or s.set b false ≡ true → b < 128
+  pub stays : (b : ℕ) → slice_index_or s.set b false ≡ true → Stays x n ((classes_in x).class_of (Some b)) (reverse s.seen.value.items) s.looks.value
+
+-- over the end nobody comes to a match, with these visits and looks
+pub record EndsQuietly (x : Packed) (n : ℕ) (seen : List ℕ) (looks : ℕ) : Type 0 where
+  pub transition : Transition ℕ
+  pub known : (table_in x).transition n ((classes_in x).class_of None) ≡ Some transition
+  pub hit : transition.hit ≡ None
+  pub seen_is : transition.seen ≡ seen
+  pub looks_is : transition.looks ≡ looks
+
+-- over each character the list leads back to itself, and at the end nobody comes to a match
+pub record IsRest (x : Packed) (n : ℕ) (r : Rest) : Type 0 where
+  pub stays : (ch : ℕ) → Stays x n ((classes_in x).class_of (Some ch)) (reverse r.seen.value.items) r.looks.value
+  pub ends : EndsQuietly x n (reverse r.seen.value.items) r.looks.value
+
+-- the part lies in a list of this length
+abbrev pub IsPartOf : ℕ → Part → Type 0
+IsPartOf len part = (part.from ≤ part.to) × (part.to ≤ len)
+
+-- a thread as the Pike VM takes it over
+abbrev pub thread_with_register : RegisterThread → Thread ℕ
+thread_with_register t = record { state = t.state; row = t.register }
+
+-- the table is one for the program, with the lists where searches begin
+pub record IsTableOf (p : Program) (x : Packed) : Type 0 where
+  pub classes : AreClasses p (classes_in x)
+  pub table : IsTable p (classes_in x) (table_in x)
+  pub len : x.graph.classes ≡ (classes_in x).len
+  pub everywhere : AreRoots p x.graph everywhere x.everywhere
+  pub here : AreRoots p x.graph here x.here

@@ -1,0 +1,77 @@
+-- One search of the code by a table.
+use Rattle.std.specs.Prelude.{◌≡◌, ℕ, ◌<◌, Bool, List, length, reverse, Option, Some, None, bit_and}
+use Rattle.bites_spec.specs.Walks.{AllApart}
+use Rattle.bites_machine.specs.Inputs.{is_earliest}
+use Rattle.bites_machine.specs.Trace.{after_place}
+use Rattle.bites_table.specs.Transition.{Transition}
+use Rattle.bites_table.specs.Packed.{table_in, Tells}
+use Rattle.bites_table.specs.Standing.{Asked, IsAsked, IsAtRow, IsOver}
+use Rattle.bites_table.specs.declared.table.cell.Cell.{Cell}
+use Rattle.bites_table.specs.declared.search.record.Search.{Search}
+use Rattle.bites_table.specs.declared.search.record.Lent.{Lent}
+use Rattle.bites_table.specs.declared.search.record.Standing.{Standing}
+use Rattle.bites_table.specs.declared.search.record.Turn.{Turn}
+use Rattle.bites_table.specs.declared.search.record.Turn.TheVariants.{Goes, Ends, Leaves}
+
+-- what is searched, with the slots as the search began
+abbrev pub asked : Search → List (Option ℕ) → Asked
+asked a before = record {
+  program = a.program.now.program;
+  table = a.table.now;
+  input = record {
+    hay = a.input.now.haystack.now;
+    start = a.input.now.start;
+    width = length before;
+    anchored = a.input.now.anchored;
+    earliest = is_earliest a.input.now.kind;
+  };
+  slots = before;
+}
+
+-- the same is searched
+pub record IsSame (a b : Search) : Type 0 where
+  pub program : b.program ≡ a.program
+  pub table : b.table ≡ a.table
+  pub input : b.input ≡ a.input
+  pub states : b.counted.states ≡ a.counted.states
+
+-- What a function knows of a search that only goes on: the slots as it began, the words of the registers, whether something was found,
+-- and the slots now.
+pub record Held : Type 0 where
+  pub before : List (Option ℕ)
+  pub words : List ℕ
+  pub is_found : Bool
+  pub slots : List (Option ℕ)
+
+-- the search stands there
+abbrev pub StandsAt : Search → List (Option ℕ) → Standing → List ℕ → Bool → List (Option ℕ) → Type 0
+StandsAt a before at words is_found slots = IsAtRow (asked a before) at.place at.row words is_found slots a.counted.walked
+
+-- what is held of a search that stands there
+pub record IsHeldAt (a : Search) (at : Standing) (h : Held) : Type 0 where
+  pub is_asked : IsAsked (asked a h.before)
+  pub stands : StandsAt a h.before at h.words h.is_found h.slots
+
+-- a transition of the list over the class was lent, whose cell has none of these bits
+pub record IsLent (a b : Search) (n c : ℕ) (unless place : ℕ) (l : Lent) : Type 0 where
+  pub cell : Cell
+  pub tells : Tells a.table.now n c cell
+  pub bits : bit_and cell.doing unless ≡ 0
+  pub next : l.next ≡ cell.next
+  pub act : l.act ≡ cell.act
+  pub walked : b.counted.walked ≡ after_place (reverse cell.seen.value.items) cell.looks.value place a.counted.walked
+
+-- a transition of the list over the class visits nothing that was visited, if it is known
+abbrev pub IsFresh : Search → ℕ → ℕ → ℕ → Type 0
+IsFresh a n c place = (t : Transition ℕ) → (table_in a.table.now).transition n c ≡ Some t → AllApart (after_place t.seen t.looks place a.counted.walked).visits
+
+-- what comes after a place
+abbrev pub TurnsTo : Search → List (Option ℕ) → Standing → List ℕ → Bool → List (Option ℕ) → Turn → Type 0
+TurnsTo a before at words was_found slots (Goes to is_found) = StandsAt a before to words is_found slots × (at.place < to.place)
+TurnsTo a before at words was_found slots (Ends is_found) = IsOver (asked a before) is_found slots a.counted.walked
+TurnsTo a before at words was_found slots Leaves = StandsAt a before at words was_found slots
+
+-- how a part of the search stops: at a place, or where the search is over
+abbrev pub StopsSo : Search → List (Option ℕ) → List ℕ → List (Option ℕ) → Bool → Option Standing → Type 0
+StopsSo a before words slots is_found None = IsOver (asked a before) is_found slots a.counted.walked
+StopsSo a before words slots is_found (Some at) = StandsAt a before at words is_found slots

@@ -1,0 +1,45 @@
+-- Steps that move the rows of registers, one after another. One register more than thread lists have is spare.
+use Rattle.std.specs.Prelude.{◌≡◌, ℕ, ◌<◌, List, [], ◌∷◌, map, length, slice_set}
+use Rattle.std.specs.List.{range_with_len}
+use Rattle.bites_spec.specs.Walks.{Among}
+use Rattle.bites_machine.specs.Resume.{row_in}
+use Rattle.bites_table.specs.Sources.{Source, unwritten, row_of_register, write, row_at}
+use Rattle.bites_table.specs.Transition.{source_at}
+use Rattle.bites_table.specs.declared.steps.Step.{Step}
+use Rattle.bites_table.specs.declared.steps.Step.TheVariants.{Copy, Blank, Write}
+
+-- the number of registers with the spare one
+abbrev pub with_spare : ℕ
+with_spare = 33
+
+-- each register with its own row
+unfoldable pub own_rows : List Source
+own_rows = map row_of_register (range_with_len 0 with_spare)
+
+-- what a step leaves in the registers
+abbrev pub after_step : Step → List Source → List Source
+after_step (Copy to from) ss = slice_set ss to (source_at ss from)
+after_step (Blank to) ss = slice_set ss to unwritten
+after_step (Write register slot) ss = slice_set ss register (write slot (source_at ss register))
+
+abbrev pub after_steps : List Step → List Source → List Source
+after_steps [] ss = ss
+after_steps (s ∷ steps) ss = after_steps steps (after_step s ss)
+
+-- the registers that a step names are there
+abbrev pub NamesRegisters : Step → Type 0
+NamesRegisters (Copy to from) = (to < with_spare) × (from < with_spare)
+NamesRegisters (Blank to) = to < with_spare
+NamesRegisters (Write register slot) = register < with_spare
+
+abbrev pub NameRegisters : List Step → Type 0
+NameRegisters steps = (s : Step) → Among steps s → NamesRegisters s
+
+-- the steps leave in each register what the moves say of it
+abbrev pub MakeMoves : List Step → List Source → Type 0
+MakeMoves steps moves = (r : ℕ) → r < length moves → source_at (after_steps steps own_rows) r ≡ source_at moves r
+
+-- the words of all registers are the rows of these sources, over the words before
+abbrev pub AreRows : List ℕ → ℕ → ℕ → List Source → List ℕ → Type 0
+AreRows before width place ss words =
+    (r : ℕ) → r < with_spare → row_in words width r ≡ row_at width place (row_in before width) (source_at ss r)

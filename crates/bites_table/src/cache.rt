@@ -1,0 +1,170 @@
+//! The working memory of searches by a table, allocated once.
+
+ghost use Rattle.std.specs.Prelude.{◌≡◌, ◌≤◌, ◌↔◌, ◌⊎◌, ℕ, suc, false, true, List, [], IfOk, IfSome, IsTrue, Option, None, length};
+ghost use Rattle.bites_spec.specs.Counts.{fit_of, fit_with, HasRoomFor, IsBounded, VisitedBy};
+ghost use Rattle.bites_spec.specs.Run.{Run, Answered, LeastEnd, first_run, longest_run};
+ghost use Rattle.bites_machine.specs.Sweep.{SearchResult, frames_for, rows_for};
+ghost use Rattle.bites_machine.specs.Trace.{ReadsVisits};
+ghost use Rattle.bites_machine.specs.Inputs.{is_longest, is_earliest, starts_of};
+ghost use Rattle.bites_machine.specs.declared.vm.MatchKind.TheVariants.{First, Earliest, Longest};
+ghost use Rattle.bites_table.specs.Packed.{IsTableOf};
+
+use crate::search::record::Search;
+use crate::steps::{NO_SLOT, REGISTERS};
+use crate::table::Table;
+use bites_machine::program::Program;
+use bites_machine::vm::{self, Input, MatchKind};
+use std::alloc::AllocError;
+use std::marker::Model;
+
+/// The working memory for searches of a program, or of others with as many states, slots and targets: that of the Pike VM,
+/// and the rows of a table's registers. No search allocates more.
+#[derive(Drop)]
+pub struct Cache {
+    machine: vm::Cache,
+    registers: Vec<usize>,
+}
+
+impl Model for Cache {
+    ghost use Rattle.bites_spec.specs.Counts.{Room};
+    ghost use Rattle.std.specs.Prelude.{◌≡◌, ◌*◌, length};
+    ghost use Rattle.bites_table.specs.Steps.{with_spare};
+
+    ghost Value = { Room };
+
+    ghost view = { λ a. a.machine };
+
+    ghost invariant = { λ a. length a.registers.items ≡ with_spare * a.machine.fits.slots };
+}
+
+impl Cache {
+    /// Allocates a cache for searches of the program. The error is out of memory.
+    ///
+    /// Takes as much as the cache of the Pike VM, and for each slot 264 bytes more.
+    pub fn new(program: &Program) -> Result<Cache, AllocError>
+        ensures { IfOk result (λ cache. cache.fits ≡ fit_of program.now.program) }
+    {
+        Cache::for_slots(program, program.slots())
+    }
+
+    /// Allocates a cache for searches of the program that ask for at most so many slots. The error is out of memory.
+    pub fn for_slots(program: &Program, slots: usize) -> Result<Cache, AllocError>
+        ensures { IfOk result (λ cache. cache.fits ≡ fit_with program.now.program slots) }
+    {
+        let len = slots.checked_mul(REGISTERS).ok_or(AllocError)?;
+        let machine = vm::Cache::for_slots(program, slots)?;
+        let registers = vec![in program.alloc(); NO_SLOT; len]?;
+        Ok(Cache { machine, registers })
+    }
+
+    /// Returns the number of rows of slots of the Pike VM: two for each state, one for each target, and two more. No search
+    /// changes it.
+    pub fn rows(&self) -> usize
+        ensures { result ≡ rows_for self.now.fits }
+    {
+        self.machine.rows()
+    }
+
+    /// Returns the number of frames that the stack of a closure holds: one for each target, and one more. No search
+    /// changes it.
+    pub fn frames(&self) -> usize
+        ensures { result ≡ frames_for self.now.fits }
+    {
+        self.machine.frames()
+    }
+
+    /// Returns whether the cache was made for a program with as many states, slots and targets.
+    pub fn fits_program(&self, program: &Program) -> bool
+        ensures { IsTrue result ↔ (self.now.fits ≡ fit_of program.now.program) }
+    {
+        self.machine.fits_program(program)
+    }
+
+    /// Finds the match that the input asks for, as `search_input` does. The cache may have been made for fewer slots than
+    /// the program has, if it was made for as many as the slice has.
+    pub fn search(
+        &mut self,
+        program: &Program,
+        table: Option<&Table>,
+        input: &Input<'_>,
+        slots: &mut [Option<usize>],
+    ) -> bool
+        requires fits { HasRoomFor self.old.fits program.now.program (length slots.old) }
+        requires slots { (length slots.old ≡ 0) ⊎ (length slots.old ≡ 2)
+            ⊎ (length slots.old ≡ program.now.program.slots) }
+        requires table { IfSome table (λ t. IsTableOf program.now.program t.now) }
+        ensures first { input.now.kind ≡ First → Answered program.now.program
+            (first_run program.now.program input.now.haystack.now
+            (starts_of input.now.haystack.now input.now.anchored input.now.start))
+            result slots.old slots.new }
+        ensures least { input.now.kind ≡ Earliest → (o : Option Run)
+            × LeastEnd program.now.program input.now.haystack.now
+            (starts_of input.now.haystack.now input.now.anchored input.now.start) o
+            × Answered program.now.program o result slots.old slots.new }
+        ensures longest { input.now.kind ≡ Longest → Answered program.now.program
+            (longest_run program.now.program input.now.haystack.now
+            (starts_of input.now.haystack.now input.now.anchored input.now.start))
+            result slots.old slots.new }
+        ensures fits { self.new.fits ≡ self.old.fits }
+        ensures bounded { IsBounded program.now.program input.now.haystack.now input.now.start
+            self.new.walked }
+        ensures visited { VisitedBy program.now.program input.now.haystack.now
+            (starts_of input.now.haystack.now input.now.anchored input.now.start)
+            result self.new.walked }
+        ensures read { table.entry ≡ None → self.new.walked.read ≡ self.new.walked.visits }
+        ensures searches { self.new.searches ≡ suc self.old.searches }
+        ensures searched { input.now.start ≤ length input.now.haystack.now →
+            SearchResult program.now.program input.now.haystack.now (is_longest input.now.kind)
+            input.now.anchored (is_earliest input.now.kind) input.now.start result slots.old slots.new
+            self.new.walked }
+    {
+        // For proofs: a program is well-formed.
+        let _ = program.start();
+        match table {
+            Some(table) if serves(input) => self.search_by_table(program, table, input, slots),
+            _ => self.machine.search(program, input, slots),
+        }
+    }
+
+    // Finds the match that the input asks for by a table.
+    fn search_by_table(
+        &mut self,
+        program: &Program,
+        table: &Table,
+        input: &Input<'_>,
+        slots: &mut [Option<usize>],
+    ) -> bool
+        requires fits { HasRoomFor self.old.fits program.now.program (length slots.old) }
+        requires slots { (length slots.old ≡ 0) ⊎ (length slots.old ≡ 2)
+            ⊎ (length slots.old ≡ program.now.program.slots) }
+        requires table { IsTableOf program.now.program table.now }
+        requires within { input.now.start ≤ length input.now.haystack.now }
+        requires longest { is_longest input.now.kind ≡ false }
+        ensures searched { SearchResult program.now.program input.now.haystack.now false input.now.anchored
+            (is_earliest input.now.kind) input.now.start result slots.old slots.new self.new.walked }
+        ensures reads { ReadsVisits self.new.walked }
+        ensures fits { self.new.fits ≡ self.old.fits }
+        ensures searches { self.new.searches ≡ suc self.old.searches }
+    {
+        // For proofs: a program is well-formed, and has two slots at least.
+        let _ = program.start();
+        let mut search = Search {
+            program,
+            table,
+            input,
+            counted: self.machine.begin(program),
+        };
+        let is_found = search.run(&mut self.machine, &mut self.registers, slots);
+        let Search { counted, .. } = search;
+        self.machine.finish(counted);
+        is_found
+    }
+}
+
+// Returns whether a table serves such a search: it finds no longest match, and a start past the end finds nothing.
+fn serves(input: &Input<'_>) -> bool
+    ensures within { result ≡ true → input.now.start ≤ length input.now.haystack.now }
+    ensures longest { result ≡ true → is_longest input.now.kind ≡ false }
+{
+    input.start <= input.haystack.len() && !matches!(input.kind, MatchKind::Longest)
+}

@@ -1,0 +1,261 @@
+//! Makes the thread lists of a program and the transitions between them, before any search.
+
+ghost use Rattle.std.specs.Prelude.{◌≡◌, ◌<◌, length, IfSome, IfOk};
+ghost use Rattle.bites_spec.specs.Program.{IsWellFormed};
+ghost use Rattle.bites_table.specs.Classes.{classes_of};
+ghost use Rattle.bites_table.specs.Built.{starts_as};
+ghost use Rattle.bites_table.specs.Made.{Grows, IsMade, IsRow, IsOutcome};
+ghost use Rattle.bites_table.specs.Explored.{program_in, classes_in, IsContext, IsExplored};
+
+pub(crate) mod after;
+pub(crate) mod graph;
+pub(crate) mod index;
+pub(crate) mod roots;
+
+use crate::alike_kinds::AlikeKinds;
+use crate::classes::Classes;
+use crate::explore::after::kinds_after;
+use crate::explore::graph::{Cell, Graph, Outcome};
+use crate::explore::roots::{Roots, add_roots};
+use crate::kind::Kind;
+use crate::registers::Assigned;
+use crate::thread_list::{Starts, ThreadList};
+use crate::walk::{self, Walk};
+use bites_machine::program::Program;
+use std::alloc::{AllocError, Global};
+use std::snapshot::Snapshot;
+
+// How many looks at states a table may take, for each state of the program and in all.
+const LOOKS_OF_A_STATE: usize = 75;
+
+const MOST_LOOKS: usize = 1 << 20;
+
+// No graph has more lists.
+const MOST_LISTS: usize = 1 << 32;
+
+const KINDS: [Kind; 5] = [
+    Kind::Edge,
+    Kind::LineFeed,
+    Kind::CarriageReturn,
+    Kind::WordByte,
+    Kind::Other,
+];
+
+/// How much may be taken to explore a program.
+#[derive(Clone, Copy, Drop)]
+pub struct Budget {
+    /// The number of looks at states.
+    pub looks: usize,
+    /// The number of bytes from which on no more transitions are made.
+    pub bytes: usize,
+}
+
+impl Budget {
+    /// Returns a budget with so many bytes, and looks in proportion to the states of the program.
+    pub fn new(program: &Program, bytes: usize) -> Budget {
+        let looks = program.len().saturating_mul(LOOKS_OF_A_STATE);
+        Budget {
+            looks: looks.min(MOST_LOOKS),
+            bytes,
+        }
+    }
+}
+
+/// How much of a graph was made.
+#[derive(Clone, Copy, PartialEq, Eq, Debug)]
+pub enum Extent {
+    /// Each transition is known.
+    Whole,
+    /// The budget or the memory was used up before.
+    Partial,
+}
+
+/// The thread lists of a program with the transitions between them.
+#[derive(Drop)]
+pub(crate) struct Explored {
+    pub graph: Graph,
+    /// The lists that walk the start at each place.
+    pub everywhere: Roots,
+    /// The lists that walk the start at one place alone.
+    pub here: Roots,
+    pub extent: Extent,
+}
+
+// What transitions are made of.
+#[derive(Clone, Copy, Drop)]
+struct Context<'a> {
+    program: &'a Program,
+    classes: &'a Classes,
+    kinds: AlikeKinds,
+    // For each class the kind before which assertions hold as before it.
+    after: &'a [Kind],
+}
+
+// The memory that is kept from one transition to the next, and what is left of the budget.
+#[derive(Drop)]
+struct Memory {
+    walk: Walk,
+    assigned: Assigned,
+    budget: Budget,
+}
+
+/// Makes the thread lists that searches of the program come to, and the transitions between them, breadth first, as far as the
+/// budget and the memory go. The error is out of memory for the first lists.
+pub(crate) fn explore(
+    alloc: Global,
+    program: &Program,
+    classes: &Classes,
+    budget: Budget,
+) -> Result<Explored, AllocError>
+    ensures { IfOk result (λ e. IsExplored program.now.program (classes_of classes.now) e) }
+{
+    let kinds = AlikeKinds::of(program);
+    let after = kinds_after(alloc, classes, kinds)?;
+    let context = Context {
+        program,
+        classes,
+        kinds,
+        after: &after,
+    };
+    let mut memory = Memory {
+        walk: Walk::new(alloc, program)?,
+        assigned: Assigned::new(alloc),
+        budget,
+    };
+    let mut graph = Graph::new(alloc, after.len());
+    let Some(everywhere) = add_roots(&mut graph, kinds, Starts::Everywhere) else {
+        return Err(AllocError);
+    };
+    let done = follow(&context, &mut memory, &mut graph, 0);
+    let Some(here) = add_roots(&mut graph, kinds, Starts::Here) else {
+        return Err(AllocError);
+    };
+    let done = follow(&context, &mut memory, &mut graph, done);
+    let extent = if done == graph.lists() {
+        Extent::Whole
+    } else {
+        Extent::Partial
+    };
+    Ok(Explored {
+        graph,
+        everywhere,
+        here,
+        extent,
+    })
+}
+
+// Makes the transitions of all lists from this number on, also of those that are added meanwhile. Returns the number of the
+// first list whose transitions are not all made.
+fn follow(context: &Context<'_>, memory: &mut Memory, graph: &mut Graph, first: usize) -> usize
+    requires context { IsContext context.now }
+    requires classes { graph.old.classes ≡ length context.now.after.now }
+    requires made { IsMade (program_in context.now) (classes_in context.now) graph.old }
+    ensures made { IsMade (program_in context.now) (classes_in context.now) graph.new }
+    ensures grows { Grows graph.old graph.new }
+{
+    for number in first..MOST_LISTS {
+        if number >= graph.lists()
+            || graph.bytes() >= memory.budget.bytes
+            || make_row(context, memory, graph, number).is_none()
+        {
+            return number;
+        }
+    }
+    first
+}
+
+// Makes the transitions of a list. Returns `None` if the budget or the memory was used up before.
+fn make_row(
+    context: &Context<'_>,
+    memory: &mut Memory,
+    graph: &mut Graph,
+    number: usize,
+) -> Option<()>
+    requires context { IsContext context.now }
+    requires classes { graph.old.classes ≡ length context.now.after.now }
+    requires made { IsMade (program_in context.now) (classes_in context.now) graph.old }
+    requires within { number < length graph.old.lists }
+    ensures made { IsMade (program_in context.now) (classes_in context.now) graph.new }
+    ensures grows { Grows graph.old graph.new }
+{
+    let first = graph.add_row(number)?;
+    for kind in KINDS {
+        if context.after.contains(&kind) {
+            make_cells(context, memory, graph, number, first, kind)?;
+        }
+    }
+    Some(())
+}
+
+// Makes the transitions of a list over the classes of one kind. Returns `None` if the budget or the memory was used up
+// before.
+fn make_cells(
+    context: &Context<'_>,
+    memory: &mut Memory,
+    graph: &mut Graph,
+    number: usize,
+    first: usize,
+    kind: Kind,
+) -> Option<()>
+    requires context { IsContext context.now }
+    requires classes { graph.old.classes ≡ length context.now.after.now }
+    requires made { IsMade (program_in context.now) (classes_in context.now) graph.old }
+    requires within { number < length graph.old.lists }
+    requires row { IsRow graph.old number first }
+    ensures made { IsMade (program_in context.now) (classes_in context.now) graph.new }
+    ensures grows { Grows graph.old graph.new }
+    ensures len { length graph.new.cells ≡ length graph.old.cells }
+{
+    let list = graph.list(number);
+    let budget = memory.budget.looks;
+    let looks = walk::walk_list(&mut memory.walk, context.program, &list, kind, budget)?;
+    memory.budget.looks = budget - looks;
+    let starts = list.starts.after(memory.walk.hit.is_some());
+    for class in 0..context.after.len() {
+        if context.after[class] == kind {
+            let outcome = add_outcome(context, memory, graph, starts, class)?;
+            let cell = Cell {
+                outcome,
+                seen: memory.walk.visited.states(),
+                looks: Snapshot::of(&looks),
+            };
+            graph.set(first.checked_add(class)?, cell);
+        }
+    }
+    Some(())
+}
+
+// Adds the outcome of a walk over a class. Returns its number.
+fn add_outcome(
+    context: &Context<'_>,
+    memory: &mut Memory,
+    graph: &mut Graph,
+    starts: Starts,
+    class: usize,
+) -> Option<u32>
+    requires well_formed { IsWellFormed (program_in context.now) }
+    requires context { IsContext context.now }
+    requires made { IsMade (program_in context.now) (classes_in context.now) graph.old }
+    ensures made { IsMade (program_in context.now) (classes_in context.now) graph.new }
+    ensures grows { Grows graph.old graph.new }
+    ensures cells { graph.new.cells ≡ graph.old.cells }
+    ensures walk { memory.new.walk ≡ memory.old.walk }
+    ensures outcome { IfSome result (IsOutcome (program_in context.now) (classes_in context.now) graph.new class memory.old.walk
+        (starts_as starts)) }
+{
+    let ch = context.classes.member(class);
+    memory
+        .assigned
+        .assign(context.program, &memory.walk.takers, ch)?;
+    let next = ThreadList {
+        threads: &memory.assigned.threads,
+        starts,
+        kind: context.kinds.first_before(Kind::of(ch)),
+    };
+    let next = graph.add_list(&next, memory.assigned.moves.len())?;
+    graph.add_outcome(&Outcome {
+        next,
+        moves: &memory.assigned.moves,
+        hit: memory.walk.hit,
+    })
+}

@@ -1,0 +1,28 @@
+//! The kinds before which assertions hold as before each class.
+
+ghost use Rattle.std.specs.Prelude.{IfOk};
+ghost use Rattle.bites_spec.specs.Program.{Program};
+ghost use Rattle.bites_table.specs.Classes.{classes_of};
+ghost use Rattle.bites_table.specs.AlikeKinds.{TellsApart};
+ghost use Rattle.bites_table.specs.Explored.{AreAfter};
+
+use crate::alike_kinds::AlikeKinds;
+use crate::classes::Classes;
+use crate::kind::Kind;
+use std::alloc::{AllocError, Global};
+
+/// Returns for each class the first kind before which assertions hold as before the class. The error is out of memory.
+pub(crate) fn kinds_after(
+    alloc: Global,
+    classes: &Classes,
+    kinds: AlikeKinds,
+) -> Result<Vec<Kind>, AllocError>
+    ensures { IfOk result (λ after. (p : Program) → TellsApart p kinds → AreAfter p (classes_of classes.now) after.items) }
+{
+    let mut after = Vec::new(alloc);
+    for class in 0..classes.len() {
+        let kind = kinds.first_after(Kind::of(classes.member(class)));
+        after.push(kind)?;
+    }
+    Ok(after)
+}

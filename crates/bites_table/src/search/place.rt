@@ -1,0 +1,49 @@
+//! What stands at a place of a haystack, as a table sees it.
+
+ghost use Rattle.std.specs.Prelude.{◌≡◌, ◌+◌, ◌≤◌, ◌<◌, length};
+ghost use Rattle.bites_spec.specs.Look.{before};
+ghost use Rattle.bites_spec.specs.Utf8.{piece};
+ghost use Rattle.bites_machine.specs.Ends.{next_character};
+ghost use Rattle.bites_table.specs.Kinds.{kind_of};
+ghost use Rattle.bites_table.specs.Built.{kind_as};
+ghost use Rattle.bites_table.specs.Packed.{classes_in, stride};
+
+use crate::kind::Kind;
+use crate::table::Table;
+use bites_text::utf8::decode_lossy;
+
+/// The class of a character or of the end, and the number of its bytes.
+#[derive(Clone, Copy, Drop)]
+pub(crate) struct Piece {
+    pub class: usize,
+    pub len: usize,
+}
+
+/// Returns the class of what stands at a place.
+#[inline(always)]
+#[tactic(auto, unfolding(bites_spec::specs::Utf8::piece))]
+pub(crate) fn piece_at(table: &Table, haystack: &[u8], place: usize) -> Piece
+    requires { place ≤ length haystack.now }
+    ensures class { result.class ≡ (classes_in table.now).class_of (next_character haystack.now place) }
+    ensures within { result.class < stride table.now }
+    ensures len { result.len ≡ (piece haystack.now place).len }
+    ensures inside { place + result.len ≤ length haystack.now }
+{
+    let (ch, len) = decode_lossy(&haystack[place..]);
+    let ch = if len > 0 { Some(ch) } else { None };
+    Piece {
+        class: table.class_of(ch),
+        len,
+    }
+}
+
+/// Returns the kind of the byte before a place.
+pub(crate) fn kind_before(haystack: &[u8], place: usize) -> Kind
+    requires { place ≤ length haystack.now }
+    ensures { kind_as result ≡ kind_of (before haystack.now place) }
+{
+    if place == 0 {
+        return Kind::Edge;
+    }
+    Kind::of(Some(char::from(haystack[place - 1])))
+}

@@ -1,0 +1,339 @@
+//! One search by a table, with the record of what it visits.
+
+ghost use Rattle.std.specs.Prelude.{[], not, if◌then◌else◌, ◌≡◌, ◌*◌, ◌<◌, ◌≤◌, ◌||◌, ◌&&◌, ◌==◌, ℕ, true, false, Bool, List, Option, Some, None, IfSome, IfNone, length, is_some, option_map, bit_and, slice_get};
+ghost use Rattle.bites_spec.specs.Counts.{HasRoomFor};
+ghost use Rattle.bites_spec.specs.Walks.{Among};
+ghost use Rattle.bites_machine.specs.Inputs.{is_earliest, is_longest};
+ghost use Rattle.bites_machine.specs.States.{states_of};
+ghost use Rattle.bites_table.specs.Kinds.{kind_of};
+ghost use Rattle.bites_table.specs.Steps.{with_spare};
+ghost use Rattle.bites_table.specs.Built.{frame_of};
+ghost use Rattle.bites_table.specs.Packed.{Packed, IsRow, IsKnown, Tells, row_of, lists_in, stride, mask_of, IsPartOf, unknown};
+ghost use Rattle.bites_table.specs.Standing.{IsAsked, IsOver, slots_after};
+ghost use Rattle.bites_table.specs.Searches.{asked, IsSame, Held, IsHeldAt, StandsAt, IsLent, IsFresh, TurnsTo, StopsSo};
+ghost use Rattle.bites_spec.specs.Look.{before};
+ghost use Rattle.bites_table.specs.Explored.{number_in};
+ghost use Rattle.bites_table.specs.declared.table.cell.Cell as cell;
+
+use crate::search::place::{kind_before, piece_at};
+use crate::steps::{run_steps, write_row};
+use crate::table::Table;
+use crate::table::act::Act;
+use crate::table::cell::{Cell, UNKNOWN, mask};
+use bites_machine::program::Program;
+use bites_machine::vm::{self, Counted, Input, MatchKind, Resumed};
+
+// How often one search goes on as the Pike VM before it does so to its end.
+const MOST_LEAVES: usize = 32;
+
+/// What is searched by which table, and the record of what was visited.
+///
+/// A search reads the transitions through it alone. It lends one at a place, at most once, and records what it visits.
+#[derive(Drop)]
+pub(crate) struct Search<'a> {
+    pub program: &'a Program,
+    pub table: &'a Table,
+    pub input: &'a Input<'a>,
+    pub counted: Counted<'a>,
+}
+
+/// A search between two places: the place, and where the cells of its thread list begin.
+#[derive(Clone, Copy, Drop)]
+pub(crate) struct Standing {
+    pub place: usize,
+    pub row: usize,
+}
+
+// A transition that was lent: where the cells of the next thread list begin, and the number of what it does.
+#[derive(Clone, Copy, Drop)]
+struct Lent {
+    next: usize,
+    act: usize,
+}
+
+// What comes after a place.
+#[derive(Clone, Copy, Drop)]
+enum Turn {
+    // The search goes on at the next place.
+    Goes { to: Standing, is_found: bool },
+    // The search is over.
+    Ends { is_found: bool },
+    // The transition is not known.
+    Leaves,
+}
+
+impl Search<'_> {
+    // Lends the transition of a thread list over a class, and records that it was made at the place, unless it does
+    // something of these kinds.
+    #[inline(always)]
+    fn lend(&mut self, at: Standing, class: usize, unless: u8) -> Option<Lent>
+        requires row { IsRow self.old.table.now at.row }
+        requires class { class < stride self.old.table.now }
+        requires unless { (x : Packed) (n c : ℕ) (a : cell.Cell) → Tells x n c a → bit_and a.doing unless ≡ 0 → IsKnown x n c a }
+        requires fresh { (n : ℕ) → at.row ≡ row_of self.old.table.now n → IsFresh self.old n class at.place }
+        ensures lent { IfSome result (λ l. (n : ℕ) → at.row ≡ row_of self.old.table.now n →
+            IsLent self.old self.new n class unless at.place l) }
+        ensures kept { IfNone result (self.new.counted.walked ≡ self.old.counted.walked) }
+        ensures same { IsSame self.old self.new }
+    {
+        let cell = self.table.cell(at.row, class);
+        if cell.doing & unless != 0 {
+            return None;
+        }
+        self.counted
+            .record_transition(&cell.seen, &cell.looks, at.place);
+        Some(Lent {
+            next: cell.next as usize,
+            act: cell.act as usize,
+        })
+    }
+
+    // Goes on over bytes that leave the search at its thread list, which has this number.
+    #[inline(always)]
+    fn skip(&mut self, at: Standing, number: usize) -> Standing
+        requires number { at.row ≡ row_of self.old.table.now number }
+        requires within { number < lists_in self.old.table.now }
+        requires stands { (h : Held) × IsHeldAt self.old at h }
+        ensures stands { (h : Held) → IsHeldAt self.old at h → IsHeldAt self.new result h }
+        ensures onward { at.place ≤ result.place }
+        ensures same { IsSame self.old self.new }
+    {
+        let Some(skip) = self.table.skip(number) else {
+            return at;
+        };
+        let place = skip.set.skip_while(self.input.haystack, at.place);
+        self.counted
+            .record_transitions(&skip.seen, &skip.looks, at.place, place - at.place);
+        Standing { place, row: at.row }
+    }
+
+    // Goes on while nothing is to be done at a place but to go on.
+    #[inline(always)]
+    fn pass(&mut self, from: Standing, mask: u8) -> Standing
+        requires stands { (h : Held) × IsHeldAt self.old from h × (mask ≡ mask_of (length h.before)) }
+        ensures stands { (h : Held) → IsHeldAt self.old from h → mask ≡ mask_of (length h.before) →
+            IsHeldAt self.new result h }
+        ensures onward { from.place ≤ result.place }
+        ensures same { IsSame self.old self.new }
+    {
+        let haystack = self.input.haystack;
+        let mut at = from;
+        'places: while at.place < haystack.len() {
+            let class = self.table.class_of_byte(haystack[at.place]);
+            let Some(lent) = self.lend(at, class, mask) else {
+                break;
+            };
+            at = Standing {
+                place: at.place + 1,
+                row: lent.next,
+            };
+        }
+        at
+    }
+
+    // Goes on over one place.
+    #[inline(always)]
+    fn step(
+        &mut self,
+        at: Standing,
+        registers: &mut [usize],
+        was_found: bool,
+        slots: &mut [Option<usize>],
+    ) -> Turn
+        ghost before: { List (Option ℕ) }
+        requires asked { IsAsked (asked self.old before) }
+        requires stands { StandsAt self.old before at registers.old was_found slots.old }
+        requires width { length slots.old ≡ length before }
+        requires room { with_spare * length slots.old ≤ length registers.old }
+        ensures turns { TurnsTo self.new before at registers.new was_found slots.new result }
+        ensures same { IsSame self.old self.new }
+    {
+        let piece = piece_at(self.table, self.input.haystack, at.place);
+        let Some(lent) = self.lend(at, piece.class, UNKNOWN) else {
+            return Turn::Leaves;
+        };
+        let act = self.table.act(lent.act);
+        let is_found = keep_hit(act, registers, at.place, was_found, slots);
+        if self.is_over(act, piece.len, is_found) {
+            return Turn::Ends { is_found };
+        }
+        run_steps(self.table.steps(act.steps), registers, slots.len(), at.place);
+        let to = Standing {
+            place: at.place + piece.len,
+            row: lent.next,
+        };
+        let to = self.skip(to, act.next as usize);
+        Turn::Goes { to, is_found }
+    }
+
+    // Returns whether the search is over after a place.
+    #[inline(always)]
+    fn is_over(&self, act: &Act, len: usize, is_found: bool) -> bool
+        ensures { result ≡ ((len == 0) || (act.now.is_over || (is_found && is_earliest self.now.input.now.kind))) }
+    {
+        len == 0 || act.is_over || is_found && matches!(self.input.kind, MatchKind::Earliest)
+    }
+
+    // Goes on by the table until the search is over, or to a place whose transition is not known.
+    #[inline(never)]
+    fn go_on(
+        &mut self,
+        from: Standing,
+        registers: &mut [usize],
+        was_found: bool,
+        slots: &mut [Option<usize>],
+    ) -> (bool, Option<Standing>)
+        ghost before: { List (Option ℕ) }
+        requires asked { IsAsked (asked self.old before) }
+        requires stands { StandsAt self.old before from registers.old was_found slots.old }
+        requires width { length slots.old ≡ length before }
+        requires room { with_spare * length slots.old ≤ length registers.old }
+        ensures stops { StopsSo self.new before registers.new slots.new result.0 result.1 }
+        ensures same { IsSame self.old self.new }
+    {
+        let mask = mask(slots.len());
+        let mut at = from;
+        let mut is_found = was_found;
+        'places: loop {
+            at = self.pass(at, mask);
+            match self.step(at, registers, is_found, slots) {
+                Turn::Goes { to, is_found: found } => {
+                    at = to;
+                    is_found = found;
+                }
+                Turn::Ends { is_found } => return (is_found, None),
+                Turn::Leaves => return (is_found, Some(at)),
+            }
+        }
+    }
+
+    // Returns where the table begins at a place where no thread is left and the start is walked.
+    fn root(&self, place: usize) -> (Standing, usize)
+        requires { place ≤ length self.now.input.now.haystack.now }
+        ensures place { result.0.place ≡ place }
+        ensures row { result.0.row ≡ row_of self.now.table.now result.1 }
+        ensures number { result.1 ≡ number_in (if self.now.input.now.anchored then self.now.table.now.here else self.now.table.now.everywhere)
+            (kind_of (before self.now.input.now.haystack.now place)) }
+        ensures within { result.1 < lists_in self.now.table.now }
+    {
+        let kind = kind_before(self.input.haystack, place);
+        let number = self.table.root(self.input.anchored, kind);
+        let row = self.table.row(number);
+        (Standing { place, row }, number)
+    }
+
+    // Returns whether the start is walked at a place: until something is found, and at the first place alone if the search is
+    // anchored.
+    fn starts_at(&self, place: usize, is_found: bool) -> bool
+        ensures { result ≡ (not is_found && (not self.now.input.now.anchored || (place == self.now.input.now.start))) }
+    {
+        !is_found && (!self.input.anchored || place == self.input.start)
+    }
+
+    // Goes on as the Pike VM, until the search is over or comes back to the table.
+    #[inline(never)]
+    fn leave(
+        &mut self,
+        cache: &mut vm::Cache,
+        at: Standing,
+        registers: &[usize],
+        is_found: bool,
+        until_idle: bool,
+        slots: &mut [Option<usize>],
+    ) -> (bool, Option<Standing>)
+        ghost before: { List (Option ℕ) }
+        requires asked { IsAsked (asked self.old before) }
+        requires stands { StandsAt self.old before at registers.now is_found slots.old }
+        requires width { length slots.old ≡ length before }
+        requires room { with_spare * length slots.old ≤ length registers.now }
+        requires states { states_of self.old.counted.states.now ≡ self.old.program.now.program.states }
+        requires longest { is_longest self.old.input.now.kind ≡ false }
+        requires fits { HasRoomFor cache.old.fits self.old.program.now.program (length slots.old) }
+        ensures stops { StopsSo self.new before registers.now slots.new result.0 result.1 }
+        ensures whole { until_idle ≡ false → result.1 ≡ None }
+        ensures same { IsSame self.old self.new }
+        ensures fits { cache.new.fits ≡ cache.old.fits }
+        ensures searches { cache.new.searches ≡ cache.old.searches }
+    {
+        let number = self.table.number(at.row);
+        let from = Resumed {
+            place: at.place,
+            starts: self.starts_at(at.place, is_found),
+            is_found,
+            threads: self.table.threads(number),
+            registers,
+            until_idle,
+        };
+        let first = self.program.start();
+        let stopped = cache.resume(&mut self.counted, first, self.input, &from, slots);
+        let Some(place) = stopped.idle else {
+            return (stopped.is_found, None);
+        };
+        let (at, number) = self.root(place);
+        (stopped.is_found, Some(self.skip(at, number)))
+    }
+
+    /// Searches, and returns whether something was found.
+    pub(crate) fn run(
+        &mut self,
+        cache: &mut vm::Cache,
+        registers: &mut [usize],
+        slots: &mut [Option<usize>],
+    ) -> bool
+        ghost before: { List (Option ℕ) }
+        requires asked { IsAsked (asked self.old before) }
+        requires begun { slots.old ≡ before }
+        requires room { with_spare * length slots.old ≤ length registers.old }
+        requires states { states_of self.old.counted.states.now ≡ self.old.program.now.program.states }
+        requires longest { is_longest self.old.input.now.kind ≡ false }
+        requires fits { HasRoomFor cache.old.fits self.old.program.now.program (length slots.old) }
+        requires visits { self.old.counted.walked.visits ≡ [] }
+        requires looks { self.old.counted.walked.looks ≡ 0 }
+        ensures over { IsOver (asked self.new before) result slots.new self.new.counted.walked }
+        ensures same { IsSame self.old self.new }
+        ensures fits { cache.new.fits ≡ cache.old.fits }
+        ensures searches { cache.new.searches ≡ cache.old.searches }
+    {
+        let (at, number) = self.root(self.input.start);
+        let mut at = self.skip(at, number);
+        let mut is_found = false;
+        let mut leaves = 0;
+        'leaves: loop {
+            let (found, left) = self.go_on(at, registers, is_found, slots);
+            let Some(place) = left else {
+                return found;
+            };
+            leaves += 1;
+            let until_idle = leaves < MOST_LEAVES;
+            let (found, back) = self.leave(cache, place, registers, found, until_idle, slots);
+            let Some(place) = back else {
+                return found;
+            };
+            at = place;
+            is_found = found;
+        }
+    }
+}
+
+// Keeps the slots of a thread that comes to a match. Returns whether something is found.
+#[inline(always)]
+fn keep_hit(
+    act: &Act,
+    registers: &[usize],
+    place: usize,
+    was_found: bool,
+    slots: &mut [Option<usize>],
+) -> bool
+    requires register { IfSome act.now.hit (λ f. IfSome f.source.register (λ r. r < 32)) }
+    requires room { with_spare * length slots.old ≤ length registers.now }
+    ensures slots { slots.new ≡ slots_after (length slots.old) place registers.now (option_map frame_of act.now.hit) slots.old }
+    ensures found { result ≡ (is_some act.now.hit || was_found) }
+{
+    match &act.hit {
+        None => was_found,
+        Some(hit) => {
+            write_row(&hit.source, registers, place, slots);
+            true
+        }
+    }
+}

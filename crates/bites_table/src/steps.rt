@@ -1,0 +1,139 @@
+//! Steps that move the rows of registers.
+
+ghost use Rattle.std.specs.Prelude.{◌≡◌, ◌≢◌, ◌*◌, ◌+◌, ◌<◌, ◌≤◌, ℕ, List, Some, None, IfSome, length, replicate, slice_index, if◌then◌else◌};
+ghost use Rattle.bites_machine.specs.SlotTable.{no_slot, slot_of};
+ghost use Rattle.bites_machine.specs.Bits.{has_bit};
+ghost use Rattle.std.specs.Option.{option_map_or};
+ghost use Rattle.bites_machine.specs.Resume.{row_in};
+ghost use Rattle.bites_table.specs.Sources as sources;
+ghost use Rattle.bites_table.specs.Sources.{row_at};
+ghost use Rattle.bites_table.specs.Transition.{source_at};
+ghost use Rattle.bites_table.specs.Built.{source_of};
+ghost use Rattle.bites_table.specs.Steps.{with_spare, own_rows, after_step, after_steps, NamesRegisters, NameRegisters, AreRows};
+
+use crate::thread_list::Source;
+
+/// The greatest number of registers of a thread list.
+pub const MOST_REGISTERS: usize = 32;
+
+/// The number of registers of a search: those of a thread list, and a spare one.
+pub const REGISTERS: usize = 33;
+
+/// A word that stands for a slot in which nothing is written.
+pub const NO_SLOT: usize = usize::MAX;
+
+/// A step that changes the row of one register.
+#[derive(Clone, Copy, PartialEq, Eq, Drop)]
+pub enum Step {
+    /// The row of a register becomes that of another.
+    Copy { to: u8, from: u8 },
+    /// Nothing is written in the row of a register.
+    Blank { to: u8 },
+    /// The place is written to a slot of the row of a register.
+    Write { register: u8, slot: u8 },
+}
+
+/// Runs the steps at a place, on the rows of all registers, one after another. A slot that rows of this width don't have is
+/// not written.
+#[inline(always)]
+pub fn run_steps(steps: &[Step], registers: &mut [usize], width: usize, place: usize)
+    requires names { NameRegisters steps.now }
+    requires room { with_spare * width ≤ length registers.old }
+    requires place { place < no_slot }
+    ensures { (r : ℕ) → r < with_spare → row_in registers.new width r
+        ≡ row_at width place (row_in registers.old width) (source_at (after_steps steps.now own_rows) r) }
+{
+    for step in steps {
+        run_step(*step, registers, width, place);
+    }
+}
+
+// Runs one step.
+#[inline(always)]
+fn run_step(step: Step, registers: &mut [usize], width: usize, place: usize)
+    requires names { NamesRegisters step }
+    requires room { with_spare * width ≤ length registers.old }
+    requires place { place < no_slot }
+    ensures { (ss : List sources.Source) → length ss ≡ with_spare → (words : List ℕ) → AreRows words width place ss registers.old →
+        AreRows words width place (after_step step ss) registers.new }
+{
+    match step {
+        Step::Copy { to, from } => copy_row(registers, width, to, from),
+        Step::Blank { to } => blank_row(registers, width, to),
+        Step::Write { register, slot } => {
+            if (slot as usize) < width {
+                registers[register as usize * width + slot as usize] = place;
+            }
+        }
+    }
+}
+
+// Copies the row of a register to another.
+#[inline(always)]
+fn copy_row(registers: &mut [usize], width: usize, to: u8, from: u8)
+    requires room { with_spare * width ≤ length registers.old }
+    requires to { to < with_spare }
+    requires from { from < with_spare }
+    ensures copied { row_in registers.new width to ≡ row_in registers.old width from }
+    ensures others { (r : ℕ) → r < with_spare → r ≢ to → row_in registers.new width r ≡ row_in registers.old width r }
+{
+    let first = to as usize * width;
+    let source = from as usize * width;
+    for slot in 0..width {
+        registers[first + slot] = registers[source + slot];
+    }
+}
+
+// Writes to no slot of the row of a register.
+#[inline(always)]
+fn blank_row(registers: &mut [usize], width: usize, to: u8)
+    requires room { with_spare * width ≤ length registers.old }
+    requires to { to < with_spare }
+    ensures blank { row_in registers.new width to ≡ replicate width None }
+    ensures others { (r : ℕ) → r < with_spare → r ≢ to → row_in registers.new width r ≡ row_in registers.old width r }
+{
+    let first = to as usize * width;
+    for slot in 0..width {
+        registers[first + slot] = NO_SLOT;
+    }
+}
+
+/// Writes the row that a source stands for at a place into as many slots.
+pub fn write_row(source: &Source, registers: &[usize], place: usize, slots: &mut [Option<usize>])
+    requires register { IfSome source.now.register (λ r. r * length slots.old + length slots.old ≤ length registers.now) }
+    ensures { slots.new ≡ row_at (length slots.old) place (row_in registers.now (length slots.old)) (source_of source.now) }
+{
+    let width = slots.len();
+    for slot in 0..width {
+        slots[slot] = slot_at(source, registers, width, slot, place);
+    }
+}
+
+// Returns a slot of the row.
+fn slot_at(
+    source: &Source,
+    registers: &[usize],
+    width: usize,
+    slot: usize,
+    place: usize,
+) -> Option<usize>
+    requires register { IfSome source.now.register (λ r. r * width + width ≤ length registers.now) }
+    requires within { slot < width }
+    ensures { result ≡ (if has_bit source.now.writes slot then Some place else
+        option_map_or (λ r. slot_of (slice_index registers.now (r * width + slot))) source.now.register None) }
+{
+    if source.has_written(slot) {
+        return Some(place);
+    }
+    match source.register {
+        None => None,
+        Some(register) => slot_of(registers[register as usize * width + slot]),
+    }
+}
+
+// Returns the slot that a word stands for.
+fn slot_of(word: usize) -> Option<usize>
+    ensures { result ≡ slot_of word }
+{
+    if word == NO_SLOT { None } else { Some(word) }
+}

@@ -1,0 +1,248 @@
+//! A table of thread lists as a search reads it.
+
+ghost use Rattle.std.specs.Prelude.{◌≡◌, ◌<◌, ◌≤◌, ◌*◌, ℕ, Some, IfSome, length, map, slice_get, slice_range, if◌then◌else◌};
+ghost use Rattle.bites_spec.specs.Walks.{Among};
+ghost use Rattle.bites_machine.specs.declared.vm.resume.RegisterThread.{RegisterThread};
+ghost use Rattle.bites_table.specs.Built.{kind_as};
+ghost use Rattle.bites_table.specs.Table.{list_at};
+ghost use Rattle.bites_table.specs.Transition.{is_walked};
+ghost use Rattle.bites_table.specs.Explored.{number_in};
+ghost use Rattle.bites_table.specs.Steps.{NameRegisters};
+ghost use Rattle.bites_table.specs.Packed.{table_in, classes_in, lists_in, stride, row_of, IsRow, Tells, IsSkip, IsRest, IsPartOf, thread_with_register, IsTableOf};
+
+pub mod act;
+pub mod cell;
+mod layout;
+mod sequence;
+pub mod skip;
+#[cfg(test)]
+mod tests;
+
+use crate::classes::Classes;
+use crate::explore::graph::Graph;
+use crate::explore::roots::Roots;
+use crate::explore::{Budget, explore};
+use crate::kind::Kind;
+use crate::steps::Step;
+use crate::table::act::{Act, Part, part_of};
+use crate::table::cell::Cell;
+use crate::table::layout::lay_out;
+use crate::table::skip::{Rest, Skip};
+use bites_machine::program::Program;
+use bites_machine::vm::RegisterThread;
+use std::alloc::Global;
+use std::marker::Model;
+use std::snapshot::Snapshot;
+
+// What a search asks of a thread list, besides its cells: where its threads stand, whether the start is walked, the number of
+// what is skipped from it, and what is visited from it if nothing is found any more.
+#[derive(Drop)]
+pub(crate) struct ListEntry {
+    pub threads: Part,
+    pub walks_start: bool,
+    pub skip: Option<u32>,
+    pub rest: Option<Rest>,
+}
+
+/// How large a table is.
+#[derive(Clone, Copy, PartialEq, Eq, Debug)]
+pub struct TableSize {
+    /// The number of its thread lists.
+    pub lists: usize,
+    /// The number of bytes that it takes.
+    pub bytes: usize,
+    /// Whether each of its transitions is known.
+    pub is_whole: bool,
+}
+
+/// The thread lists of a program and the transitions between them, made before a search. It is never changed.
+///
+/// For proofs: a contract sees the classes, the graph of thread lists, where searches begin, and what transitions do.
+#[derive(Drop)]
+pub struct Table {
+    classes: Classes,
+    stride: usize,
+    cells: Vec<Cell>,
+    acts: Vec<Act>,
+    steps: Vec<Step>,
+    lists: Vec<ListEntry>,
+    threads: Vec<RegisterThread>,
+    skips: Vec<Skip>,
+    everywhere: Roots,
+    here: Roots,
+    is_whole: bool,
+    graph: Snapshot<Graph>,
+}
+
+impl Model for Table {
+    ghost use Rattle.bites_table.specs.Packed.{Packed};
+
+    ghost Value = { Packed };
+
+    ghost use Rattle.bites_table.specs.Layout.{packed_in, IsLaidOut};
+
+    ghost view = { packed_in };
+
+    ghost invariant = { IsLaidOut };
+}
+
+impl Table {
+    /// Makes the table of a program, within so many bytes and a number of looks at states that is linear in the program. What
+    /// is not made is unknown.
+    ///
+    /// Returns `None` if the limit is too small, if the program tells too many classes apart, or if memory runs out.
+    pub fn new(alloc: Global, program: &Program, limit: usize) -> Option<Table>
+        ensures { IfSome result (IsTableOf program.now.program) }
+    {
+        if limit == 0 {
+            return None;
+        }
+        let classes = Classes::new(alloc, program)?;
+        let budget = Budget::new(program, limit);
+        let Ok(explored) = explore(alloc, program, &classes, budget) else {
+            return None;
+        };
+        let table = lay_out(alloc, classes, explored)?;
+        Some(table)
+    }
+
+    /// Returns how large the table is.
+    pub fn size(&self) -> TableSize
+        ensures { result.lists ≡ lists_in self.now }
+    {
+        let cells = self.cells.len().saturating_mul(size_of::<Cell>());
+        let acts = self.acts.len().saturating_mul(size_of::<Act>());
+        let steps = self.steps.len().saturating_mul(size_of::<Step>());
+        let lists = self.lists.len().saturating_mul(size_of::<ListEntry>());
+        let threads = self
+            .threads
+            .len()
+            .saturating_mul(size_of::<RegisterThread>());
+        let skips = self.skips.len().saturating_mul(size_of::<Skip>());
+        TableSize {
+            lists: self.lists.len(),
+            bytes: cells
+                .saturating_add(acts)
+                .saturating_add(steps)
+                .saturating_add(lists)
+                .saturating_add(threads)
+                .saturating_add(skips),
+            is_whole: self.is_whole,
+        }
+    }
+
+    /// Returns the class of a byte of ASCII. Each other byte gives the column in which nothing is known.
+    #[inline(always)]
+    pub fn class_of_byte(&self, byte: u8) -> usize
+        ensures ascii { byte < 128 → result ≡ (classes_in self.now).class_of (Some byte) }
+        ensures past { 128 ≤ byte → result ≡ (classes_in self.now).len }
+        ensures within { result < stride self.now }
+    {
+        self.classes.of_byte(byte) as usize
+    }
+
+    /// Returns the class of a character, or of the end.
+    pub fn class_of(&self, ch: Option<char>) -> usize
+        ensures class { result ≡ (classes_in self.now).class_of ch }
+        ensures within { result < stride self.now }
+    {
+        self.classes.of(ch)
+    }
+
+    /// Returns the number of the thread list where a search begins behind a byte of this kind.
+    pub fn root(&self, anchored: bool, kind: Kind) -> usize
+        ensures number { result ≡ number_in (if anchored then self.now.here else self.now.everywhere) (kind_as kind) }
+        ensures within { result < lists_in self.now }
+    {
+        let roots = if anchored { self.here } else { self.everywhere };
+        roots.of(kind) as usize
+    }
+
+    /// Returns the place of the first cell of a thread list.
+    #[inline(always)]
+    pub fn row(&self, number: usize) -> usize
+        requires { number < lists_in self.now }
+        ensures { result ≡ row_of self.now number }
+    {
+        number * self.stride
+    }
+
+    /// Returns the number of the thread list whose first cell stands there.
+    pub fn number(&self, row: usize) -> usize
+        requires { IsRow self.now row }
+        ensures number { row ≡ row_of self.now result }
+        ensures within { result < lists_in self.now }
+    {
+        row / self.stride
+    }
+
+    /// Returns the cell of a thread list, by the place of its first cell, and a class.
+    #[inline(always)]
+    pub fn cell(&self, row: usize, class: usize) -> &Cell
+        requires row { IsRow self.now row }
+        requires class { class < stride self.now }
+        ensures { (n : ℕ) → row ≡ row_of self.now n → Tells self.now n class result.now }
+    {
+        &self.cells[row + class]
+    }
+
+    /// Returns what a transition does.
+    #[inline(always)]
+    pub fn act(&self, number: usize) -> &Act
+        requires { number < length self.now.acts }
+        ensures act { slice_get self.now.acts number ≡ Some result.now }
+        ensures steps { IsPartOf (length self.now.steps) result.now.steps }
+        ensures held { IfSome result.now.hit (λ f. IfSome f.source.register (λ r. r < 32)) }
+    {
+        &self.acts[number]
+    }
+
+    /// Returns the steps of a part.
+    #[inline(always)]
+    pub fn steps(&self, part: Part) -> &[Step]
+        requires { IsPartOf (length self.now.steps) part }
+        ensures steps { result.now ≡ slice_range self.now.steps part.from part.to }
+        ensures names { NameRegisters result.now }
+    {
+        part_of(&self.steps, part)
+    }
+
+    /// Returns the threads of a thread list, in order of preference, each with its register.
+    pub fn threads(&self, number: usize) -> &[RegisterThread]
+        requires { number < lists_in self.now }
+        ensures threads { map thread_with_register result.now ≡ (list_at (table_in self.now) number).threads }
+        ensures held { (t : RegisterThread) → Among result.now t → t.register < 32 }
+    {
+        part_of(&self.threads, self.lists[number].threads)
+    }
+
+    /// Returns whether the start is walked at a thread list, after its threads.
+    pub fn walks_start(&self, number: usize) -> bool
+        requires { number < lists_in self.now }
+        ensures { result ≡ is_walked (list_at (table_in self.now) number).starts }
+    {
+        self.lists[number].walks_start
+    }
+
+    /// Returns the bytes that may be skipped from a thread list, if there are many.
+    #[inline(always)]
+    pub fn skip(&self, number: usize) -> Option<&Skip>
+        requires { number < lists_in self.now }
+        ensures { IfSome result (λ s. IsSkip self.now number s.now) }
+    {
+        let skip = self.lists[number].skip? as usize;
+        if skip >= self.skips.len() {
+            return None;
+        }
+        Some(&self.skips[skip])
+    }
+
+    /// Returns what is visited at each place from there on, if nothing is found from a thread list any more.
+    #[inline(always)]
+    pub fn rest(&self, number: usize) -> Option<&Rest>
+        requires { number < lists_in self.now }
+        ensures { IfSome result (λ r. IsRest self.now number r.now) }
+    {
+        self.lists[number].rest.as_ref()
+    }
+}

@@ -1,0 +1,41 @@
+//! The cells of a table, one for each thread list and class.
+
+ghost use Rattle.std.specs.Prelude.{◌≡◌};
+ghost use Rattle.bites_table.specs.Packed.{mask_of};
+
+use std::snapshot::Snapshot;
+
+/// The bit of a cell that is not known.
+pub const UNKNOWN: u8 = 8;
+
+/// All bits: a search of any width has to look.
+pub const ALL: u8 = 255;
+
+/// A transition as a search reads it first. It takes 8 bytes.
+#[derive(Drop)]
+pub struct Cell {
+    /// The place of the first cell of the next thread list.
+    pub next: u32,
+    /// The number of what the transition does.
+    pub act: u16,
+    /// A bit for each width of a search that has to look at what the transition does, and one for what is not known.
+    pub doing: u8,
+    /// For proofs, the states that the transition visits.
+    pub seen: Snapshot<Vec<u32>>,
+    /// For proofs, the number of its looks.
+    pub looks: Snapshot<usize>,
+}
+
+const _: () = prove!(size_of::<Cell>() == 8);
+
+/// Returns the bit of a search for so many slots.
+#[inline(always)]
+pub const fn mask(width: usize) -> u8
+    ensures { result ≡ mask_of width }
+{
+    match width {
+        0 => 1,
+        2 => 2,
+        _ => 4,
+    }
+}

@@ -1,0 +1,433 @@
+//! Lays a graph of thread lists out as a table.
+
+ghost use Rattle.std.specs.Prelude.{◌≡◌, ◌<◌, ◌+◌, ◌*◌, ◌++◌, ℕ, suc, List, Option, true, false, None, Some, IfSome, length, map, option_map, drop, slice_get};
+ghost use Rattle.std.specs.Option.{option_flatten};
+ghost use Rattle.std.specs.Vec.Iter.{into_iter_items, into_iter_len};
+ghost use Rattle.bites_spec.specs.Walks.{Among};
+ghost use Rattle.bites_machine.specs.Bits.{has_bit};
+ghost use Rattle.bites_table.specs.Built.{list_of};
+ghost use Rattle.bites_table.specs.Graph.{cell_at, AreHeld};
+ghost use Rattle.bites_table.specs.Graph as graphs;
+ghost use Rattle.bites_table.specs.Stored.{outcome_of, cell_of};
+ghost use Rattle.bites_table.specs.Steps.{NameRegisters};
+ghost use Rattle.bites_table.specs.Packed.{Packed, classes_in, is_dead, Tells};
+ghost use Rattle.bites_table.specs.LaidOut.{register_thread, AreHeldBelow, AreEntries, IsHeldHit, AreHeldHits, masked, IsOwn, IsKept, DoesByBits, IsAct, AreActs, Fits, AreLaid};
+ghost use Rattle.bites_table.specs.Layout.{AreCells, AreWithin};
+ghost use Rattle.bites_table.specs.declared.thread_list.Thread.{Thread};
+ghost use Rattle.bites_table.specs.declared.steps.Step.{Step};
+
+use crate::classes::Classes;
+use crate::explore::graph::{Cell as GraphCell, Graph, Outcome};
+use crate::explore::roots::Roots;
+use crate::explore::{Explored, Extent};
+use crate::steps::{MOST_REGISTERS, Step};
+use crate::table::act::{Act, Part};
+use crate::table::cell::{ALL, Cell};
+use crate::table::sequence::push_steps;
+use crate::table::{ListEntry, Table};
+use crate::thread_list::{Frame, Source, Starts, Thread, ThreadList};
+use bites_machine::vm::RegisterThread;
+use std::alloc::Global;
+use std::snapshot::Snapshot;
+use std::vec::IntoIter;
+
+// The bits of the searches that look at what a transition does: all, those for slots, and those for more slots than the
+// first two.
+const EACH: u8 = 7;
+
+const FOR_SLOTS: u8 = 6;
+
+const FOR_MORE_SLOTS: u8 = 4;
+
+// The bits of the first two slots.
+const FIRST_SLOTS: u64 = 3;
+
+/// Lays out the graph of thread lists. Returns `None` if it doesn't fit, or if memory runs out.
+pub(super) fn lay_out(alloc: Global, classes: Classes, explored: Explored) -> Option<Table>
+    ensures intervals { IfSome result (λ t. t.intervals ≡ classes) }
+    ensures graph { IfSome result (λ t. t.graph ≡ explored.graph) }
+    ensures everywhere { IfSome result (λ t. t.everywhere ≡ explored.everywhere) }
+    ensures here { IfSome result (λ t. t.here ≡ explored.here) }
+    ensures classes { IfSome result (λ t. t.graph.classes ≡ (classes_in t).len) }
+{
+    let Explored {
+        graph,
+        everywhere,
+        here,
+        extent,
+    } = explored;
+    let lists = graph.lists();
+    if graph.classes() != classes.len()
+        || !are_within(everywhere, lists)
+        || !are_within(here, lists)
+    {
+        return None;
+    }
+    let value = Snapshot::of(&graph);
+    let Lists { entries, threads } = lists_of(alloc, &graph)?;
+    let Acts { acts, steps, .. } = acts_of(alloc, &graph)?;
+    let stride = classes.len() + 1;
+    let cells = cells_of(alloc, graph, &acts, stride)?;
+    Some(Table {
+        classes,
+        stride,
+        cells,
+        acts,
+        steps,
+        lists: entries,
+        threads,
+        skips: Vec::new(alloc),
+        everywhere,
+        here,
+        is_whole: extent == Extent::Whole,
+        graph: value,
+    })
+}
+
+// Returns whether the lists of the roots are there.
+fn are_within(roots: Roots, lists: usize) -> bool
+    ensures { result ≡ true → AreWithin lists roots }
+{
+    (roots.edge as usize) < lists
+        && (roots.line_feed as usize) < lists
+        && (roots.carriage_return as usize) < lists
+        && (roots.word_byte as usize) < lists
+        && (roots.other as usize) < lists
+}
+
+// Entries of lists, and the threads of all.
+#[derive(Drop)]
+struct Lists {
+    entries: Vec<ListEntry>,
+    threads: Vec<RegisterThread>,
+}
+
+fn lists_of(alloc: Global, graph: &Graph) -> Option<Lists>
+    ensures count { IfSome result (λ l. length l.entries.items ≡ length graph.now.lists) }
+    ensures entries { IfSome result (λ l. AreEntries graph.now l.threads.items l.entries.items) }
+    ensures held { IfSome result (λ l. AreHeldBelow 32 l.threads.items) }
+{
+    let mut lists = Lists {
+        entries: Vec::new(alloc),
+        threads: Vec::new(alloc),
+    };
+    for number in 0..graph.lists() {
+        push_list(&mut lists, graph, number)?;
+    }
+    Some(lists)
+}
+
+// Adds the entry of a list.
+fn push_list(lists: &mut Lists, graph: &Graph, number: usize) -> Option<()>
+    requires within { number < length graph.now.lists }
+    requires count { length lists.old.entries.items ≡ number }
+    requires entries { AreEntries graph.now lists.old.threads.items lists.old.entries.items }
+    requires held { AreHeldBelow 32 lists.old.threads.items }
+    ensures count { IfSome result (λ _. length lists.new.entries.items ≡ number + 1) }
+    ensures entries { IfSome result (λ _. AreEntries graph.now lists.new.threads.items lists.new.entries.items) }
+    ensures held { IfSome result (λ _. AreHeldBelow 32 lists.new.threads.items) }
+{
+    let list = graph.list(number);
+    let from = u32::try_from(lists.threads.len()).ok()?;
+    push_threads(&mut lists.threads, list.threads)?;
+    let to = u32::try_from(lists.threads.len()).ok()?;
+    let entry = ListEntry {
+        threads: Part { from, to },
+        walks_start: list.starts.is_walked(),
+        skip: None,
+        rest: None,
+    };
+    lists.entries.push(entry).ok()?;
+    Some(())
+}
+
+fn push_threads(all: &mut Vec<RegisterThread>, threads: &[Thread]) -> Option<()>
+    ensures threads { IfSome result (λ _. all.new.items ≡ all.old.items ++ map register_thread threads.now) }
+    ensures held { IfSome result (λ _. AreHeldBelow 32 all.old.items → AreHeldBelow 32 all.new.items) }
+{
+    for thread in threads {
+        let Thread { state, register } = *thread;
+        if register as usize >= MOST_REGISTERS {
+            return None;
+        }
+        all.push(RegisterThread { state, register }).ok()?;
+    }
+    Some(())
+}
+
+// What outcomes do, with the steps of all, and memory in which steps are found.
+#[derive(Drop)]
+struct Acts {
+    acts: Vec<Act>,
+    steps: Vec<Step>,
+    found: Vec<Step>,
+}
+
+fn acts_of(alloc: Global, graph: &Graph) -> Option<Acts>
+    ensures count { IfSome result (λ a. length a.acts.items ≡ length graph.now.outcomes) }
+    ensures acts { IfSome result (λ a. AreActs graph.now a.steps.items a.acts.items) }
+    ensures hits { IfSome result (λ a. AreHeldHits a.acts.items) }
+    ensures names { IfSome result (λ a. NameRegisters a.steps.items) }
+{
+    let mut acts = Acts {
+        acts: Vec::new(alloc),
+        steps: Vec::new(alloc),
+        found: Vec::new(alloc),
+    };
+    for number in 0..graph.outcomes() {
+        push_act(&mut acts, graph, number)?;
+    }
+    Some(acts)
+}
+
+// Adds what an outcome does.
+fn push_act(acts: &mut Acts, graph: &Graph, number: usize) -> Option<()>
+    requires within { number < length graph.now.outcomes }
+    requires count { length acts.old.acts.items ≡ number }
+    requires acts { AreActs graph.now acts.old.steps.items acts.old.acts.items }
+    requires hits { AreHeldHits acts.old.acts.items }
+    requires names { NameRegisters acts.old.steps.items }
+    ensures count { IfSome result (λ _. length acts.new.acts.items ≡ number + 1) }
+    ensures acts { IfSome result (λ _. AreActs graph.now acts.new.steps.items acts.new.acts.items) }
+    ensures hits { IfSome result (λ _. AreHeldHits acts.new.acts.items) }
+    ensures names { IfSome result (λ _. NameRegisters acts.new.steps.items) }
+{
+    let outcome = graph.outcome(number);
+    if outcome.next as usize >= graph.lists() || !has_register(outcome.hit) {
+        return None;
+    }
+    let next = graph.list(outcome.next as usize);
+    let act = act_of(&mut acts.steps, &mut acts.found, &outcome, &next);
+    acts.acts.push(act).ok()?;
+    Some(())
+}
+
+// Returns whether the row of a hit comes from a register that is there, if it comes from one.
+fn has_register(hit: Option<Frame>) -> bool
+    ensures { result ≡ true → IsHeldHit hit }
+{
+    let Some(frame) = hit else {
+        return true;
+    };
+    match frame.source.register {
+        None => true,
+        Some(register) => (register as usize) < MOST_REGISTERS,
+    }
+}
+
+// Returns what an outcome does. If no steps make its moves, it is not known.
+fn act_of(
+    steps: &mut Vec<Step>,
+    found: &mut Vec<Step>,
+    outcome: &Outcome<'_>,
+    next: &ThreadList<'_>,
+) -> Act
+    ensures grows { (more : List Step) × (steps.new.items ≡ steps.old.items ++ more) }
+    ensures names { NameRegisters steps.old.items → NameRegisters steps.new.items }
+    ensures act { IsAct steps.new.items (outcome_of outcome.now) (list_of next.now) result }
+{
+    if !are_held(next.threads, outcome.moves.len()) {
+        return act_with(outcome, next, Part { from: 0, to: 0 }, ALL);
+    }
+    match push_steps(steps, found, outcome.moves) {
+        Some(part) => act_with(outcome, next, part, doing_of(outcome, next)),
+        None => act_with(outcome, next, Part { from: 0, to: 0 }, ALL),
+    }
+}
+
+// Returns whether each thread has one of so many registers.
+fn are_held(threads: &[Thread], registers: usize) -> bool
+    ensures { result ≡ true → AreHeld registers threads.now }
+{
+    for thread in threads {
+        if thread.register as usize >= registers {
+            return false;
+        }
+    }
+    true
+}
+
+fn act_with(outcome: &Outcome<'_>, next: &ThreadList<'_>, steps: Part, doing: u8) -> Act
+    ensures { result ≡ record { hit = outcome.now.hit; steps = steps; next = outcome.now.next; is_over = is_dead (list_of next.now); doing = doing } }
+{
+    Act {
+        hit: outcome.hit,
+        steps,
+        next: outcome.next,
+        is_over: is_dead(next),
+        doing,
+    }
+}
+
+// Returns whether no thread is left and none begins.
+fn is_dead(list: &ThreadList<'_>) -> bool
+    ensures { result ≡ is_dead (list_of list.now) }
+{
+    list.starts == Starts::Nowhere && list.threads.is_empty()
+}
+
+// Returns the bits of the searches that have to look at what an outcome does.
+fn doing_of(outcome: &Outcome<'_>, next: &ThreadList<'_>) -> u8
+    ensures { DoesByBits (outcome_of outcome.now) (list_of next.now) result }
+{
+    if outcome.hit.is_some() || is_dead(next) {
+        return EACH;
+    }
+    if are_kept(next.threads, outcome.moves, u64::MAX) {
+        0
+    } else if are_kept(next.threads, outcome.moves, FIRST_SLOTS) {
+        FOR_MORE_SLOTS
+    } else {
+        FOR_SLOTS
+    }
+}
+
+// Returns whether each thread has the row of the register of its own number, and no slot of the mask is written there.
+fn are_kept(threads: &[Thread], moves: &[Source], mask: u64) -> bool
+    ensures { result ≡ true → (t : Thread) → Among threads.now t → IsKept moves.now mask t }
+{
+    for thread in threads {
+        if !is_kept(*thread, moves, mask) {
+            return false;
+        }
+    }
+    true
+}
+
+fn is_kept(thread: Thread, moves: &[Source], mask: u64) -> bool
+    ensures { result ≡ true → IsKept moves.now mask thread }
+{
+    let register = thread.register;
+    if register as usize >= moves.len() {
+        return false;
+    }
+    is_own(moves[register as usize], register, mask)
+}
+
+// Returns whether the source is the row of the register, in which no slot of the mask is written.
+fn is_own(source: Source, register: u32, mask: u64) -> bool
+    ensures { result ≡ true → IsOwn register mask source }
+{
+    source.register == Some(register) && is_clear(source.writes, mask)
+}
+
+// Returns whether no slot of the mask is written.
+fn is_clear(writes: u64, mask: u64) -> bool
+    ensures { result ≡ true → (k : ℕ) → masked mask k ≡ true → has_bit writes k ≡ false }
+{
+    writes & mask == 0
+}
+
+// Returns the cells of all lists, row after row. Each row has one more, in which nothing is known.
+fn cells_of(alloc: Global, graph: Graph, acts: &[Act], stride: usize) -> Option<Vec<Cell>>
+    ensures { IfSome result (λ cells. (x : Packed) → x.graph ≡ graph → Fits x acts.now stride → AreCells x cells.items) }
+{
+    let lists = graph.lists();
+    let classes = graph.classes();
+    let mut left = graph.into_cells().into_iter();
+    let mut cells = Vec::new(alloc);
+    for _ in 0..lists {
+        push_row(alloc, &mut cells, &mut left, classes, acts, stride)?;
+    }
+    Some(cells)
+}
+
+// Adds the row of a list.
+fn push_row(
+    alloc: Global,
+    cells: &mut Vec<Cell>,
+    left: &mut IntoIter<Option<GraphCell>>,
+    classes: usize,
+    acts: &[Act],
+    stride: usize,
+) -> Option<()>
+    requires { into_iter_len left.old ≡ length (into_iter_items left.old) }
+    ensures len { IfSome result (λ _. into_iter_len left.new ≡ length (into_iter_items left.new)) }
+    ensures row { IfSome result (λ _. (x : Packed) (n : ℕ) → x.graph.classes ≡ classes → Fits x acts.now stride →
+        AreLaid x n 0 (into_iter_items left.old) cells.old.items →
+        AreLaid x (suc n) 0 (into_iter_items left.new) cells.new.items) }
+{
+    for _ in 0..classes {
+        let cell = next_cell(left);
+        cells.push(packed(alloc, cell, acts, stride)).ok()?;
+    }
+    cells.push(unknown(alloc)).ok()?;
+    Some(())
+}
+
+// Returns the next transition, if it is known.
+fn next_cell(left: &mut IntoIter<Option<GraphCell>>) -> Option<GraphCell>
+    requires { into_iter_len left.old ≡ length (into_iter_items left.old) }
+    ensures len { into_iter_len left.new ≡ length (into_iter_items left.new) }
+    ensures next { (cells : List (Option graphs.Cell)) (k : ℕ) → map (option_map cell_of) (into_iter_items left.old) ≡ drop k cells →
+        (option_map cell_of result ≡ option_flatten (slice_get cells k))
+        × (map (option_map cell_of) (into_iter_items left.new) ≡ drop (suc k) cells) }
+{
+    match left.next() {
+        Some(cell) => cell,
+        None => None,
+    }
+}
+
+// Returns the cell of a transition, in which nothing is known if the transition isn't, or if a number doesn't fit.
+fn packed(alloc: Global, cell: Option<GraphCell>, acts: &[Act], stride: usize) -> Cell
+    ensures { (x : Packed) (n c : ℕ) → Fits x acts.now stride → cell_at x.graph n c ≡ option_map cell_of cell → Tells x n c result }
+{
+    let Some(cell) = cell else {
+        return unknown(alloc);
+    };
+    match known(cell, acts, stride) {
+        Some(cell) => cell,
+        None => unknown(alloc),
+    }
+}
+
+// Returns the cell of a transition, or `None` if a number doesn't fit.
+fn known(cell: GraphCell, acts: &[Act], stride: usize) -> Option<Cell>
+    ensures { IfSome result (λ a. (x : Packed) (n c : ℕ) → Fits x acts.now stride → cell_at x.graph n c ≡ Some (cell_of cell) →
+        Tells x n c a) }
+{
+    let GraphCell {
+        outcome,
+        seen,
+        looks,
+    } = cell;
+    let number = short(outcome)?;
+    if number as usize >= acts.len() {
+        return None;
+    }
+    let act = acts[number as usize];
+    let next = row_of(act.next, stride)?;
+    Some(Cell {
+        next,
+        act: number,
+        doing: act.doing,
+        seen,
+        looks,
+    })
+}
+
+fn short(number: u32) -> Option<u16>
+    ensures { IfSome result (λ n. n ≡ number) }
+{
+    u16::try_from(number).ok()
+}
+
+fn row_of(list: u32, stride: usize) -> Option<u32>
+    ensures { IfSome result (λ row. row ≡ list * stride) }
+{
+    u32::try_from((list as usize).checked_mul(stride)?).ok()
+}
+
+// Returns a cell in which nothing is known.
+fn unknown(alloc: Global) -> Cell
+    ensures { (x : Packed) (n c : ℕ) → Tells x n c result }
+{
+    Cell {
+        next: 0,
+        act: 0,
+        doing: ALL,
+        seen: Snapshot::of(&Vec::new(alloc)),
+        looks: Snapshot::of(&0),
+    }
+}

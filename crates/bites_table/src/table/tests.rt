@@ -1,0 +1,43 @@
+use super::{Table, TableSize};
+use bites_machine::program::{Program, compile};
+use bites_syntax::parse::{Flags, parse};
+use bites_text::error::Error;
+use std::alloc::Global;
+
+fn program(alloc: Global, pattern: &str) -> Result<Program, Error> {
+    let tree = parse(alloc, pattern, Flags::default(), 50)?;
+    compile(alloc, &tree, pattern, 1 << 20)
+}
+
+/// Each row has a pattern, a limit in bytes, the number of thread lists, and whether the table is whole. All were worked out
+/// by hand: with a limit of one byte only the lists where searches begin are made.
+#[test]
+fn lists_counted_by_hand(rt: HostRuntime) -> Result<(), Error> {
+    for (pattern, limit, lists, is_whole) in &[
+        ("a", 1 << 20, 5, true),
+        ("a", 1, 2, false),
+        ("^a", 1 << 20, 8, true),
+        ("^a", 1, 4, false),
+    ] {
+        let program = program(rt.alloc(), pattern)?;
+        let found = Table::new(rt.alloc(), &program, *limit);
+        let Some(table) = found else {
+            return Err(Error::Memory);
+        };
+        let TableSize {
+            lists: made,
+            is_whole: is_made_whole,
+            ..
+        } = table.size();
+        assert_eq!(rt; made, *lists);
+        assert_eq!(rt; is_made_whole, *is_whole);
+    }
+    Ok(())
+}
+
+#[test]
+fn no_table_without_bytes(rt: HostRuntime) -> Result<(), Error> {
+    let program = program(rt.alloc(), "a")?;
+    assert!(rt; Table::new(rt.alloc(), &program, 0).is_none());
+    Ok(())
+}

@@ -1,0 +1,64 @@
+//! The states in the order in which people read them.
+
+use bites_machine::program::{Program, State};
+use std::alloc::{AllocError, Global};
+
+/// The states that a run can come to, each once: from the start on, and behind each state those that it leads to, the
+/// preferred one first.
+#[derive(Drop)]
+pub(crate) struct Order {
+    states: Vec<u32>,
+    // The index of each state of the program in `states`.
+    numbers: Vec<Option<usize>>,
+}
+
+impl Order {
+    /// Returns the order of the states of a program. The error is out of memory.
+    pub(crate) fn of(alloc: Global, program: &Program) -> Result<Order, AllocError> {
+        let mut order = Order {
+            states: Vec::new(alloc),
+            numbers: vec![in alloc; None; program.len()]?,
+        };
+        let mut left = vec![in alloc; program.start()]?;
+        for _ in 0..=program.targets() {
+            let Some(number) = left.pop() else { break };
+            if order.list(number)?
+                && let Some(state) = program.states().get(number as usize)
+            {
+                push_targets(state, &mut left)?;
+            }
+        }
+        Ok(order)
+    }
+
+    // Lists a state, if it is not listed yet. Returns whether it was not. The error is out of memory.
+    fn list(&mut self, state: u32) -> Result<bool, AllocError> {
+        let number = self.states.len();
+        match self.numbers.get_mut(state as usize) {
+            Some(listed) if listed.is_none() => {
+                *listed = Some(number);
+                self.states.push(state)?;
+                Ok(true)
+            }
+            _ => Ok(false),
+        }
+    }
+
+    /// Returns the states in this order, by their numbers in the program.
+    pub(crate) fn states(&self) -> &[u32] {
+        &self.states
+    }
+
+    /// Returns the number of a state in this order, if a run can come to it.
+    pub(crate) fn number(&self, state: u32) -> Option<usize> {
+        *self.numbers.get(state as usize)?
+    }
+}
+
+// Puts the targets of a state on the stack, the preferred one uppermost.
+fn push_targets(state: &State, left: &mut Vec<u32>) -> Result<(), AllocError> {
+    for number in 0..state.edges() {
+        left.push(state.target(state.edges() - 1 - number))?;
+    }
+    Ok(())
+}

@@ -1,0 +1,130 @@
+//! The page: one HTML file that needs nothing else.
+
+mod escape;
+mod haystack;
+mod matches;
+mod parts;
+mod program;
+mod script;
+mod style;
+mod tree;
+
+use crate::options::Options;
+use crate::report_json;
+use crate::searches::Report;
+use escape::write_shown;
+use script::SCRIPT;
+use std::alloc::Global;
+use std::io::{self, Write};
+use style::STYLE;
+
+/// Writes the page of a report. The error is that of the writer, or out of memory.
+pub(crate) fn write_report<W: Write>(
+    alloc: Global,
+    report: &Report<'_>,
+    out: &mut W,
+) -> io::Result<()> {
+    write_head(report.options, out)?;
+    haystack::write_haystack(report, out)?;
+    out.write_all(STEPS.as_bytes())?;
+    program::write_program(&report.subject.program, &report.order, out)?;
+    out.write_all(TREE.as_bytes())?;
+    tree::write_tree(&report.subject.tree, out)?;
+    out.write_all(b"</ul></section>\n")?;
+    matches::write_matches(alloc, report, out)?;
+    out.write_all(ABOUT.as_bytes())?;
+    out.write_all(b"<script type=\"application/json\" id=\"data\">")?;
+    report_json::write_report(report, out)?;
+    out.write_all(b"</script>\n<script>")?;
+    out.write_all(SCRIPT.as_bytes())?;
+    out.write_all(b"</script>\n</body>\n</html>\n")
+}
+
+/// Writes the page of a pattern that is refused.
+pub(crate) fn write_refused<W: Write>(
+    options: &Options<'_>,
+    message: &str,
+    out: &mut W,
+) -> io::Result<()> {
+    write_head(options, out)?;
+    out.write_all(b"<p id=\"fault\">The pattern is refused: ")?;
+    write_shown(message, out)?;
+    out.write_all(b".</p>\n</main>\n</body>\n</html>\n")
+}
+
+// Writes the page up to its first section.
+fn write_head<W: Write>(options: &Options<'_>, out: &mut W) -> io::Result<()> {
+    out.write_all(HEAD.as_bytes())?;
+    out.write_all(STYLE.as_bytes())?;
+    out.write_all(b"</style>\n</head>\n<body>\n<main>\n<h1>A search, place by place</h1>\n")?;
+    out.write_all(b"<p>Pattern: <code class=\"text\" id=\"pattern\">")?;
+    write_shown(options.pattern, out)?;
+    let kind = if options.longest {
+        "longest"
+    } else {
+        "preferred"
+    };
+    write!(
+        out,
+        "</code></p>\n<p>Each search looks for the {kind} one of the leftmost matches."
+    )?;
+    let flags = options.flags;
+    write_flag(flags.case_insensitive, "Letters match in both cases.", out)?;
+    write_flag(flags.multi_line, "^ and $ match at lines.", out)?;
+    write_flag(flags.dot_matches_new_line, ". matches line feeds.", out)?;
+    write_flag(flags.crlf, "Carriage returns end lines.", out)?;
+    write_flag(flags.swap_greed, "Repetitions are lazy.", out)?;
+    write_flag(flags.ignore_whitespace, "White space means nothing.", out)?;
+    out.write_all(b"</p>\n")
+}
+
+// Writes the words of a flag, if it is set.
+fn write_flag<W: Write>(is_set: bool, words: &str, out: &mut W) -> io::Result<()> {
+    if is_set {
+        write!(out, " {words}")?;
+    }
+    Ok(())
+}
+
+// What stands before the style.
+static HEAD: &str = r#"<!doctype html>
+<html lang="en">
+<head>
+<meta charset="utf-8">
+<meta name="viewport" content="width=device-width, initial-scale=1">
+<meta name="color-scheme" content="light dark">
+<meta http-equiv="Content-Security-Policy" content="default-src 'none'; style-src 'unsafe-inline'; script-src 'unsafe-inline'">
+<title>explain: a search, place by place</title>
+<style>
+"#;
+
+// The section that the script fills.
+static STEPS: &str =
+    r#"<section aria-labelledby="steps-title" id="steps"><h2 id="steps-title">Places</h2>
+<noscript><p>To step from place to place needs scripts. All else on this page does not.</p></noscript>
+<div id="stepper" hidden>
+<p class="controls"><button type="button" id="first">First</button> <button type="button" id="back">Back</button>
+<input type="range" id="place" min="0" value="0" step="1" aria-label="place">
+<button type="button" id="next">Next</button> <button type="button" id="last">Last</button></p>
+<pre class="text" id="window" aria-hidden="true"></pre>
+<div id="said" role="status"></div>
+<div class="wide" id="threads-box" tabindex="0" role="region" aria-labelledby="threads-title">
+<table id="threads"><caption id="threads-title">Threads, in order of preference</caption><thead></thead><tbody></tbody></table></div>
+<p>The arrow keys step too. A thread has already taken the character before this place.</p>
+</div></section>
+"#;
+
+static TREE: &str = r#"<section aria-labelledby="tree-title"><h2 id="tree-title">Tree</h2>
+<p>What the pattern is read as. The reader keeps no offsets, so no part shows where it stands in the pattern.</p>
+<ul class="tree">"#;
+
+// What the page rests on.
+static ABOUT: &str =
+    r#"<section aria-labelledby="about-title"><h2 id="about-title">What this page rests on</h2>
+<p>The tree, the program, the matches and what is done at each place come from calls of the engine that are proved. Proved too: the tree is
+what the grammar reads the pattern as, the program is built from it, and a search visits no state twice at a place. The places come from
+a call that does the steps of the machine of the definitions, and not from the searches that found the matches, which do the same steps.</p>
+<p>Only drawn: the numbers of the states, which count from the start on in order of preference; words for parts and states; characters
+that can't be seen as <i>\n</i>, <i>\u{200B}</i> or, where the bytes are no UTF-8, <i>\xFF</i>.</p></section>
+</main>
+"#;

@@ -1,0 +1,66 @@
+//! Texts of a page.
+
+use crate::haystack::Piece;
+use std::io::{self, Write};
+
+/// Writes a text so that each of its characters can be seen.
+pub(super) fn write_shown<W: Write>(text: &str, out: &mut W) -> io::Result<()> {
+    for c in text.chars() {
+        write_shown_char(c, out)?;
+    }
+    Ok(())
+}
+
+/// Writes the pieces so that each can be seen.
+pub(super) fn write_pieces<W: Write>(pieces: &[Piece<'_>], out: &mut W) -> io::Result<()> {
+    for piece in pieces {
+        write_piece(piece, out)?;
+    }
+    Ok(())
+}
+
+/// Writes a piece so that it can be seen. Bytes that are no character are written by their numbers.
+pub(super) fn write_piece<W: Write>(piece: &Piece<'_>, out: &mut W) -> io::Result<()> {
+    if let Some(c) = piece.decoded {
+        return write_shown_char(c, out);
+    }
+    out.write_all(b"<i>")?;
+    for byte in piece.bytes {
+        write!(out, "\\x{byte:02X}")?;
+    }
+    out.write_all(b"</i>")
+}
+
+/// Writes a character so that it can be seen.
+pub(super) fn write_shown_char<W: Write>(c: char, out: &mut W) -> io::Result<()> {
+    match c {
+        '\n' => out.write_all(b"<i>\\n</i>"),
+        '\r' => out.write_all(b"<i>\\r</i>"),
+        '\t' => out.write_all(b"<i>\\t</i>"),
+        _ if is_hidden(c) => write!(out, "<i>\\u{{{:X}}}</i>", c as u32),
+        _ => write_char(c, out),
+    }
+}
+
+// Returns whether a character can't be seen, or changes how others are seen.
+fn is_hidden(c: char) -> bool {
+    matches!(c, '\0'..='\x1F' | '\x7F'..='\u{A0}' | '\u{AD}' | '\u{34F}' | '\u{61C}' | '\u{115F}'..='\u{1160}')
+        || matches!(c, '\u{1680}' | '\u{17B4}'..='\u{17B5}' | '\u{180B}'..='\u{180F}' | '\u{2000}'..='\u{200F}')
+        || matches!(c, '\u{2028}'..='\u{202F}' | '\u{205F}'..='\u{206F}' | '\u{3000}' | '\u{3164}')
+        || matches!(c, '\u{E000}'..='\u{F8FF}' | '\u{FE00}'..='\u{FE0F}' | '\u{FEFF}' | '\u{FFA0}')
+        || matches!(c, '\u{FFF0}'..='\u{FFFB}' | '\u{FFFE}'..='\u{FFFF}' | '\u{E0000}'..='\u{10FFFF}')
+}
+
+// Writes a character: visible ASCII as it is, but for the marks of HTML, and any other character by its number.
+fn write_char<W: Write>(c: char, out: &mut W) -> io::Result<()> {
+    if is_plain(c) {
+        out.write_all(&[(c as u32 % 128) as u8])
+    } else {
+        write!(out, "&#{};", c as u32)
+    }
+}
+
+// Returns whether the character is visible, of ASCII, and means nothing in HTML.
+fn is_plain(c: char) -> bool {
+    matches!(c, ' '..='~') && !matches!(c, '"' | '<' | '>' | '&' | '\'')
+}

@@ -1,0 +1,61 @@
+//! The haystack with its matches.
+
+use super::escape::write_piece;
+use crate::haystack::Piece;
+use crate::searches::Report;
+use std::io::{self, Write};
+
+/// Writes the haystack, in which the matches are marked.
+pub(super) fn write_haystack<W: Write>(report: &Report<'_>, out: &mut W) -> io::Result<()> {
+    out.write_all(
+        b"<section aria-labelledby=\"haystack-title\"><h2 id=\"haystack-title\">Haystack</h2>\n",
+    )?;
+    let (bytes, matches) = (report.haystack.len(), report.spans.len());
+    write!(
+        out,
+        "<p>{bytes} bytes. Matches: <span id=\"count\">{matches}</span>.</p>\n"
+    )?;
+    out.write_all(
+        b"<pre class=\"text\" id=\"haystack\" tabindex=\"0\" aria-labelledby=\"haystack-title\">",
+    )?;
+    let mut next = 0;
+    for piece in &report.pieces {
+        next = write_marked(piece, &report.spans, next, out)?;
+    }
+    if next < report.spans.len() {
+        out.write_all(b"<mark></mark>")?;
+    }
+    out.write_all(b"</pre></section>\n")
+}
+
+// Writes a piece, and before and after it the marks of the matches that begin and end there. `next` is the number of the
+// first match that has not ended. Returns that number after the piece.
+fn write_marked<W: Write>(
+    piece: &Piece<'_>,
+    spans: &[(usize, usize)],
+    next: usize,
+    out: &mut W,
+) -> io::Result<usize> {
+    let mut next = next;
+    if let Some((start, end)) = spans.get(next)
+        && *start == piece.start
+    {
+        out.write_all(b"<mark>")?;
+        if start == end {
+            out.write_all(b"</mark>")?;
+            next = next.saturating_add(1);
+        }
+    }
+    write_piece(piece, out)?;
+    if piece.decoded == Some('\n') {
+        out.write_all(b"\n")?;
+    }
+    if let Some((start, end)) = spans.get(next)
+        && start < end
+        && *end == piece.end()
+    {
+        out.write_all(b"</mark>")?;
+        next = next.saturating_add(1);
+    }
+    Ok(next)
+}

@@ -1,0 +1,86 @@
+//! The tree of a pattern, as lists in lists.
+
+use super::escape::write_shown;
+use super::parts::{look_words, write_character, write_class};
+use bites_syntax::tree::{Kind, Name, Tree};
+use std::io::{self, Write};
+
+/// Writes the item of a tree.
+#[cycle(write_tree)]
+pub(super) fn write_tree<W: Write>(tree: &Tree, out: &mut W) -> io::Result<()> {
+    match tree.kind() {
+        Kind::Empty => out.write_all(b"<li class=\"empty\"><span>the empty text</span></li>"),
+        Kind::Char(c) => {
+            out.write_all(b"<li class=\"char\"><span>")?;
+            write_character(*c, out)?;
+            out.write_all(b"</span></li>")
+        }
+        Kind::Class(class) => {
+            out.write_all(b"<li class=\"char\"><span>")?;
+            write_class(class.ranges(), out)?;
+            out.write_all(b"</span></li>")
+        }
+        Kind::Look(look) => {
+            write!(
+                out,
+                "<li class=\"look\"><span>{}</span></li>",
+                look_words(look)
+            )
+        }
+        Kind::Repetition {
+            min,
+            max,
+            greedy,
+            sub,
+        } => {
+            write_bounds(*min, *max, *greedy, out)?;
+            write_tree(sub, out)?;
+            out.write_all(b"</ul></li>")
+        }
+        Kind::Capture { index, name, sub } => {
+            write_opening(*index, name.as_ref(), out)?;
+            write_tree(sub, out)?;
+            out.write_all(b"</ul></li>")
+        }
+        Kind::Concat(parts) => {
+            out.write_all(b"<li class=\"sequence\"><span>one after another</span><ol>")?;
+            write_trees(parts, out)
+        }
+        Kind::Alternation(parts) => {
+            out.write_all(b"<li class=\"choice\"><span>one of, the first preferred</span><ol>")?;
+            write_trees(parts, out)
+        }
+    }
+}
+
+// Writes the items of a list of trees, and its end.
+#[cycle(write_tree)]
+fn write_trees<W: Write>(parts: &[Tree], out: &mut W) -> io::Result<()> {
+    for part in parts {
+        write_tree(part, out)?;
+    }
+    out.write_all(b"</ol></li>")
+}
+
+// Writes a repetition up to its tree.
+fn write_bounds<W: Write>(min: u32, max: Option<u32>, greedy: bool, out: &mut W) -> io::Result<()> {
+    write!(out, "<li class=\"repetition\"><span>{min} times")?;
+    match max {
+        Some(max) if max == min => {}
+        Some(max) => write!(out, " to {max} times")?,
+        None => out.write_all(b" or more")?,
+    }
+    let preferred = if greedy { "more" } else { "fewer" };
+    write!(out, ", {preferred} preferred</span><ul>")
+}
+
+// Writes a group up to its tree.
+fn write_opening<W: Write>(index: u32, name: Option<&Name>, out: &mut W) -> io::Result<()> {
+    write!(out, "<li class=\"group\"><span>group {index}")?;
+    if let Some(name) = name {
+        out.write_all(b" <b>")?;
+        write_shown(name.as_str(), out)?;
+        out.write_all(b"</b>")?;
+    }
+    out.write_all(b"</span><ul>")
+}

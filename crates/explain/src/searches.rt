@@ -1,0 +1,147 @@
+//! The searches for the successive matches, each traced place by place.
+
+use crate::haystack::{Piece, pieces_of};
+use crate::options::Options;
+use crate::order::Order;
+use crate::subject::Subject;
+use bites_bytes::bytes::Regex;
+use bites_machine::program::Program;
+use bites_machine::vm::traced::TracedSearch;
+use bites_machine::vm::{Input, trace};
+use bites_text::error::Error;
+use bites_text::utf8::decode;
+use std::alloc::{AllocError, Global};
+
+/// How many slots of threads are traced at most, if each state had a thread at each place.
+const ROOM: usize = 1 << 23;
+
+/// A search that is traced.
+#[derive(Drop)]
+pub(crate) struct Search {
+    /// The offset that it began at, in bytes.
+    pub(crate) start: usize,
+    pub(crate) traced: TracedSearch,
+    /// Whether it found an empty match where the last one ended. That is no successive match.
+    pub(crate) is_repeated: bool,
+}
+
+/// All that is shown of a pattern and a haystack.
+#[derive(Drop)]
+pub(crate) struct Report<'a> {
+    pub(crate) options: &'a Options<'a>,
+    pub(crate) haystack: &'a [u8],
+    pub(crate) pieces: Vec<Piece<'a>>,
+    pub(crate) subject: Subject,
+    /// The states of its program in the order in which people read them.
+    pub(crate) order: Order,
+    /// Where the successive matches begin and end, in order.
+    pub(crate) spans: Vec<(usize, usize)>,
+    /// The searches for the successive matches, in order.
+    pub(crate) searches: Vec<Search>,
+}
+
+impl<'a> Report<'a> {
+    /// Reads the pattern and searches the haystack. The error is the message of the pattern's first fault, or out of
+    /// memory.
+    pub(crate) fn new(
+        alloc: Global,
+        options: &'a Options<'a>,
+        haystack: &'a [u8],
+    ) -> Result<Report<'a>, Error> {
+        let subject = Subject::read(alloc, options)?;
+        let order = Order::of(alloc, &subject.program)?;
+        let spans = spans_of(alloc, &subject.regex, haystack)?;
+        let searches = searches(alloc, &subject, haystack)?;
+        Ok(Report {
+            options,
+            haystack,
+            pieces: pieces_of(alloc, haystack)?,
+            subject,
+            order,
+            spans,
+            searches,
+        })
+    }
+}
+
+// Returns where the successive matches begin and end.
+fn spans_of(
+    alloc: Global,
+    regex: &Regex,
+    haystack: &[u8],
+) -> Result<Vec<(usize, usize)>, AllocError> {
+    let mut spans = Vec::new(alloc);
+    for found in regex.find_iter(haystack)? {
+        spans.push((found.start(), found.end()))?;
+    }
+    Ok(spans)
+}
+
+// Traces the searches for the successive matches, until no more places may be traced.
+fn searches(alloc: Global, subject: &Subject, haystack: &[u8]) -> Result<Vec<Search>, AllocError> {
+    let mut searches = Vec::new(alloc);
+    let mut most = most_places(&subject.program);
+    let mut next = Some(0);
+    let mut last = None;
+    while let Some(start) = next
+        && most > 0
+    {
+        let input = Input {
+            haystack,
+            start,
+            anchored: false,
+            kind: subject.kind,
+        };
+        let traced = trace(alloc, &subject.program, &input, most)?;
+        most = most.saturating_sub(traced.places.len().max(1));
+        let found = span_of(&traced);
+        let is_repeated = is_empty_at(found, last);
+        next = next_start(haystack, found, is_repeated);
+        if let Some((_, end)) = found {
+            last = Some(end);
+        }
+        searches.push(Search {
+            start,
+            traced,
+            is_repeated,
+        })?;
+    }
+    Ok(searches)
+}
+
+// Returns how many places are traced at most.
+fn most_places(program: &Program) -> usize {
+    let slots = program.slots().saturating_add(1);
+    ROOM / program.len().saturating_mul(slots).max(1)
+}
+
+// Returns where the match of a search that is over begins and ends.
+fn span_of(traced: &TracedSearch) -> Option<(usize, usize)> {
+    if !traced.is_over {
+        return None;
+    }
+    match traced.best.as_ref()?.slots() {
+        [Some(start), Some(end), ..] => Some((*start, *end)),
+        _ => None,
+    }
+}
+
+// Returns whether an empty match was found where the last match ended.
+fn is_empty_at(found: Option<(usize, usize)>, last: Option<usize>) -> bool {
+    match (found, last) {
+        (Some((start, end)), Some(last)) => start == end && end == last,
+        _ => false,
+    }
+}
+
+// Returns where the next search begins: where the match ended, or one character later if that was no successive match.
+fn next_start(haystack: &[u8], found: Option<(usize, usize)>, is_repeated: bool) -> Option<usize> {
+    let (_, end) = found?;
+    if !is_repeated {
+        return Some(end);
+    }
+    match decode(haystack.get(end..)?) {
+        (_, 0) => None,
+        (_, len) => end.checked_add(len),
+    }
+}
