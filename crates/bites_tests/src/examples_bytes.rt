@@ -105,7 +105,9 @@ fn at_find_with(rt: HostRuntime) -> Result<(), Fail> {
 fn at_find_next_with(rt: HostRuntime) -> Result<(), Fail> {
     let regex = Regex::new(rt.alloc(), "a*")?;
     let mut cache = regex.cache()?;
-    let next = regex.find_next_with(&mut cache, b"ab", Some(1)).ok_or("no match")?;
+    let next = regex
+        .find_next_with(&mut cache, b"ab", Some(1))
+        .ok_or("no match")?;
     assert_eq!(rt; next.range(), 2..2);
     assert_eq!(rt; regex.find_next_with(&mut cache, b"ab", Some(2)), None);
     Ok(())
@@ -220,7 +222,9 @@ fn at_set(rt: HostRuntime) -> Result<(), Fail> {
 
 #[test]
 fn at_set_new(rt: HostRuntime) -> Result<(), Fail> {
-    let error = RegexSet::new(rt.alloc(), &["a", "(b"]).err().ok_or("no error")?;
+    let error = RegexSet::new(rt.alloc(), &["a", "(b"])
+        .err()
+        .ok_or("no error")?;
     assert_eq!(rt; error.index(), 1);
     assert_eq!(rt; error.error(), Error::UnclosedGroup);
     Ok(())

@@ -157,7 +157,12 @@ impl Search<'_> {
         if self.is_over(act, piece.len, is_found) {
             return Turn::Ends { is_found };
         }
-        run_steps(self.table.steps(act.steps), registers, slots.len(), at.place);
+        run_steps(
+            self.table.steps(act.steps),
+            registers,
+            slots.len(),
+            at.place,
+        );
         let to = Standing {
             place: at.place + piece.len,
             row: lent.next,
@@ -197,7 +202,10 @@ impl Search<'_> {
         'places: loop {
             at = self.pass(at, mask);
             match self.step(at, registers, is_found, slots) {
-                Turn::Goes { to, is_found: found } => {
+                Turn::Goes {
+                    to,
+                    is_found: found,
+                } => {
                     at = to;
                     is_found = found;
                 }

@@ -10,4 +10,5 @@ returns-then-not-fits c = (
       let room = c.index-caches-number.result in
       let lt : c.loop-number.number < length c.args.regexes.now = omega (arith, c.loop-number-test.true) in
       let fit = fit_at c.args.caches.now c.args.regexes.now c.loop-number.number room c.index-regexes-number.result e lt c.index-regexes-number.is in
-    absurd (true≢false (sym (c.fits.ensures.1 (ap (λ (x : Room). x.fits) c.index-caches-number.is ∙ fit)) ∙ c.if-not-fits.true)))
+      absurd (true≢false (sym (c.fits.ensures.1 (ap (λ (x : Room). x.fits) c.index-caches-number.is ∙ fit)) ∙ c.if-not-fits.true)),
+)

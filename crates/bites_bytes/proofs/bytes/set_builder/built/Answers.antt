@@ -15,8 +15,8 @@ returns-in-Err-clause-refused c =
     let ne_e = subst (λ x. x ≢ Memory) c.of.ensures.error ne in
     let bytes = string_bytes p in
     let at : slice_get (map string_bytes patterns) l.index ≡ Some bytes =
-      slice_get-map string_bytes patterns l.index
-      ∙ ap (option_map string_bytes) (slice_get_read patterns (length patterns) l.index p refl (omega (arith, c.loop-index-test.true)) c.index-patterns-index.is) in
+    slice_get-map string_bytes patterns l.index
+    ∙ ap (option_map string_bytes) (slice_get_read patterns (length patterns) l.index p refl (omega (arith, c.loop-index-test.true)) c.index-patterns-index.is) in
     refused_at s (map string_bytes patterns) l.index bytes e c.of.result c.of.ensures.index c.of.ensures.error at
     (rw (← c.as_str.ensures.value) (c.in-Err.ensures.refused ne_e)) (rw (← c.as_str.ensures.value) (c.in-Err.ensures.message ne_e))
     l.regexes.items (subst (λ ps. AreBuilt (set_settings ps s) l.regexes.items) (sym (take-map string_bytes l.index patterns)) l.invariant)

@@ -15,8 +15,7 @@ did : (c : After-slots-1) → Did c.args.program.now.program c.args.input.now.ha
 did c =
     let input = c.args.input.now in
     let within = c.serves.ensures.within c.if-serves.true in
-    let longest : is_longest input.kind ≡ false = c.serves.ensures.longest c.if-serves.true in
-    (
+    let longest : is_longest input.kind ≡ false = c.serves.ensures.longest c.if-serves.true in (
       λ _.
           subst (λ (b : Bool). SearchResult c.args.program.now.program input.haystack.now b input.anchored (is_earliest input.kind) input.start c.search_by_table.result c.args.slots.now c.search_by_table.new.slots c.search_by_table.new.self.walked)
           (sym longest) c.search_by_table.ensures.searched,

@@ -11,8 +11,7 @@ run-is_found-requires c =
     let fit : HasRoomFor c.begin.new.self.fits p n =
     subst (λ (f : Fit). HasRoomFor f p n) (sym (c.begin.ensures.fits ∙ ap (λ (r : Room). r.fits) c.self.view_is)) c.requires.fits in
     let wide : length c.deref_mut.result.now ≡ with_spare * c.self.inside.machine.fits.slots = ap length c.deref_mut.ensures.value ∙ c.self.invariant in
-    let most : n ≤ c.self.inside.machine.fits.slots = subst (λ (f : Fit). n ≤ f.slots) c.begin.ensures.fits fit.slots in
-    (
+    let most : n ≤ c.self.inside.machine.fits.slots = subst (λ (f : Fit). n ≤ f.slots) c.begin.ensures.fits fit.slots in (
       record {
         table = c.requires.table;
         well = c.start.ensures.well_formed;

@@ -18,8 +18,7 @@ resume-stopped-requires-clause-reached g c =
     let reached : HasReached p now.input.now.haystack.now (is_longest now.input.now.kind) now.input.now.anchored (is_earliest now.input.now.kind) now.input.now.start g.before c.args.at.place c.starts_at.result c.args.is_found
     now.counted.walked (map (thread_in c.args.registers.now (length c.args.slots.now)) c.threads.result.now) c.args.slots.now =
     handed now g.before r.0 longest c.args.at c.args.registers.now c.args.is_found c.args.slots.now r.1.0 c.number-number.result c.number-number.ensures.number
-    (length c.args.slots.now) wide refl c.threads.result.now c.threads.ensures.threads c.starts_at.result c.starts_at.ensures in
-    (
+    (length c.args.slots.now) wide refl c.threads.result.now c.threads.ensures.threads c.starts_at.result c.starts_at.ensures in (
       p,
       is,
       r.1.1.1.1.1.1,
@@ -84,8 +83,7 @@ skip-requires-clause-stands g c =
     let back : HasReached p now.input.now.haystack.now (is_longest now.input.now.kind) now.input.now.anchored (is_earliest now.input.now.kind) now.input.now.start g.before c.in-Some.place true c.resume-stopped.result.is_found
     c.resume-stopped.new.counted.walked [] c.resume-stopped.new.slots =
     subst (λ (o : Option ℕ). StopsAt p now.input.now.haystack.now (is_longest now.input.now.kind) now.input.now.anchored (is_earliest now.input.now.kind) now.input.now.start g.before c.resume-stopped.result.is_found o c.resume-stopped.new.slots c.resume-stopped.new.counted.walked)
-    c.in-Some.is stopped in
-    (
+    c.in-Some.is stopped in (
       record { before = g.before; words = c.args.registers.now; is_found = c.resume-stopped.result.is_found; slots = c.resume-stopped.new.slots },
       comes_to (record { program = now.program; table = now.table; input = now.input; counted = c.resume-stopped.new.counted }) g.before r.0 longest c.in-Some.place c.resume-stopped.result.is_found c.resume-stopped.new.slots back
           c.args.registers.now c.root-number.result.0 c.root-number.result.1 c.root-number.ensures.place c.root-number.ensures.row c.root-number.ensures.number c.root-number.ensures.within,

@@ -17,7 +17,7 @@ skip-at-requires-clause-stands g c = (
 pub leaves-init : goal.leaves-init
 leaves-init g c =
     let begun = begins_at c.args.self.now g.before c.requires.0 c.requires.1.1.1.1.0 c.args.registers.now c.root-number.result.0 c.root-number.result.1
-      c.root-number.ensures.place c.root-number.ensures.row c.root-number.ensures.number c.root-number.ensures.within c.requires.1.1.1.1.1.1.0 c.requires.1.1.1.1.1.1.1 in
+    c.root-number.ensures.place c.root-number.ensures.row c.root-number.ensures.number c.root-number.ensures.within c.requires.1.1.1.1.1.1.0 c.requires.1.1.1.1.1.1.1 in
     record {
       same = c.skip-at.ensures.same;
       stands =

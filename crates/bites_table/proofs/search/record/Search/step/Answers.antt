@@ -60,7 +60,7 @@ skip-to-requires-clause-within g c =
 pub skip-to-requires-clause-stands : goal.skip-to-requires-clause-stands
 skip-to-requires-clause-stands g c = (
   record { before = g.before; words = c.run_steps.new.registers; is_found = c.keep_hit-is_found.result; slots = c.keep_hit-is_found.new.slots },
-      let now = c.args.self.now in
+  let now = c.args.self.now in
       let at = c.requires.1.0 in
       let place = c.args.at.place in
       let act = c.act-act.result.now in
@@ -105,7 +105,7 @@ returns-clause-turns g c =
     c.is_over.result c.is_over.ensures c.if-is_over.false in
     let onward : c.args.at.place + c.piece_at-piece.result.len ≤ c.skip-to.result.place = c.skip-to.ensures.onward in (
       (c.skip-to.ensures.stands
-        (record { before = g.before; words = c.run_steps.new.registers; is_found = c.keep_hit-is_found.result; slots = c.keep_hit-is_found.new.slots })
-        there).stands,
+          (record { before = g.before; words = c.run_steps.new.registers; is_found = c.keep_hit-is_found.result; slots = c.keep_hit-is_found.new.slots })
+          there).stands,
       omega arith,
     )
