@@ -10,7 +10,7 @@ use Rattle.bites_spec.specs.Class.{ListsOnce}
 use Rattle.bites_spec.specs.EscapedLaws.{EscapedIsText, EscapedFindsText, EscapedIsAccepted, EscapedIsFlat, EscapedIsRead, EscapedMatchesText}
 use Rattle.bites_spec.specs.Found.{parse_to}
 use Rattle.bites_spec.specs.FoundLaws.{AnswersBeginAlike, FoundLies, StartsFind, LeastEndIsAtMost, StaticLenIsLeast}
-use Rattle.bites_spec.specs.GrammarLaws.{FaultsOnce, ListsAll, ReadIsCompilable, ReadOrRefused, ReaderReads, ReaderRefuses, ReadsOnce, RefusedHasNoTree, StuckBracketIsNotRead}
+use Rattle.bites_spec.specs.GrammarLaws.{FaultsHavePlaces, FaultsOnce, ListsAll, PlacesOnce, ReadIsCompilable, ReadOrRefused, ReaderReads, ReaderRefuses, ReaderRefusesAt, ReadsOnce, RefusedHasNoTree, StuckBracketIsNotRead}
 use Rattle.bites_spec.specs.GroupLaws.{DroppedHaveNoPlace, KeptAnswerAlike, LeftAreKept, OpenedAreKept, OpenedOnce}
 use Rattle.bites_spec.specs.Iteration.{CapturesHaveSpans}
 use Rattle.bites_spec.specs.Laws.{AnsweredKeepsLength, FirstRunIsFirst, FirstRunIsFound, FirstRunIsOne, FoundIsSome, LeastEndIsLeast, LongestIsFound, MatchIsParse, ParsesAreListed, ParsesEndAtMatches, PlainRunsAreSimple, ReplacesOnce, RunsAreParses, StaticCountIsLeast}
@@ -74,6 +74,7 @@ use Rattle.bites_spec.proofs.parses.TextMatches
 use Rattle.bites_spec.proofs.parses.TextPlaces
 use Rattle.bites_spec.proofs.regex.TwinRuns
 use Rattle.bites_spec.proofs.runs.ValueLemmas
+use Rattle.bites_spec.proofs.grammar.PlaceLaws
 use Rattle.bites_spec.proofs.grammar.WholeLaws
 use Rattle.bites_spec.proofs.grammar.WholeOnce
 use Rattle.bites_spec.proofs.regex.WrappedLemmas
@@ -217,6 +218,15 @@ reader_reads = WholeLaws.reader_reads
 
 pub reader_refuses : ReaderRefuses
 reader_refuses = WholeLaws.reader_refuses
+
+pub faults_have_places : FaultsHavePlaces
+faults_have_places = PlaceLaws.faults_have_places
+
+pub patterns_have_one_offset : PlacesOnce
+patterns_have_one_offset = PlaceLaws.places_once
+
+pub reader_refuses_at : ReaderRefusesAt
+reader_refuses_at = PlaceLaws.reader_refuses_at
 
 pub stuck_brackets_are_not_read : StuckBracketIsNotRead
 stuck_brackets_are_not_read = λ flags t rest place ranges m stuck reads. BracketLemmas.bracket_not_both stuck reads

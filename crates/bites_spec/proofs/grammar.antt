@@ -17,3 +17,4 @@ pub mod WholeRanks
 pub mod PlaceLemmas
 pub mod WholeLaws
 pub mod WholeOnce
+pub mod PlaceLaws

@@ -1,5 +1,5 @@
 -- Laws of the grammar and its faults.
-use Rattle.std.specs.Prelude.{◌≡◌, ℕ, ◌⊎◌, ◌↔◌, List, Result, Ok, Err}
+use Rattle.std.specs.Prelude.{◌≡◌, ℕ, ◌⊎◌, ◌↔◌, List, ◌++◌, length, encode_utf8_all, Option, Some, None, Result, Ok, Err}
 use Rattle.bites_spec.specs.Range.{Range}
 use Rattle.bites_spec.specs.Class.{Set, Lists}
 use Rattle.bites_spec.specs.Tree.{Tree}
@@ -12,7 +12,7 @@ use Rattle.bites_spec.specs.Grammar.{Reads}
 use Rattle.bites_spec.specs.Measure.{Limits, IsTooTall}
 use Rattle.bites_spec.specs.RangesOf.{ranges_of}
 use Rattle.bites_spec.specs.Reader.{Stop, read}
-use Rattle.bites_spec.specs.Fault.{Fault}
+use Rattle.bites_spec.specs.Fault.{Fault, FaultAt}
 
 -- each set of characters has a list of ranges
 abbrev pub ListsAll : Type 0
@@ -52,6 +52,31 @@ abbrev pub ReaderRefuses : Type 0
 ReaderRefuses =
     (pattern : Text) (flags : Flags) (nest_limit : ℕ) (m : Message) →
     Fault pattern flags nest_limit m ↔ IsRefusedBy nest_limit m (read ranges_of nest_limit pattern flags)
+
+-- a pattern has a message exactly if it has that message at an offset, or at none
+abbrev pub FaultsHavePlaces : Type 0
+FaultsHavePlaces =
+    (pattern : Text) (flags : Flags) (nest_limit : ℕ) (m : Message) →
+    Fault pattern flags nest_limit m ↔ ((offset : Option ℕ) × FaultAt pattern flags nest_limit m offset)
+
+-- a pattern has at most one message, at most at one offset
+abbrev pub PlacesOnce : Type 0
+PlacesOnce =
+    (pattern : Text) (flags : Flags) (nest_limit : ℕ) (m k : Message) (offset other : Option ℕ) →
+    FaultAt pattern flags nest_limit m offset → FaultAt pattern flags nest_limit k other → (m ≡ k) × (offset ≡ other)
+
+-- a result of the function refuses the pattern by this message at this offset: what stands before its stop has so many
+-- bytes, or its tree is too tall
+abbrev pub IsRefusedAt : ℕ → Text → Message → Option ℕ → Result Tree Stop → Type 0
+IsRefusedAt nest_limit pattern m offset (Ok t) = IsTooTall nest_limit t × (m ≡ too_much_nesting) × (offset ≡ None)
+IsRefusedAt nest_limit pattern m offset (Err e) =
+    (m ≡ e.message) × ((before : Text) × (pattern ≡ before ++ e.place) × (offset ≡ Some (length (encode_utf8_all before))))
+
+-- the grammar's function refuses a pattern by a message at an offset exactly if the pattern has that message there
+abbrev pub ReaderRefusesAt : Type 0
+ReaderRefusesAt =
+    (pattern : Text) (flags : Flags) (nest_limit : ℕ) (m : Message) (offset : Option ℕ) →
+    FaultAt pattern flags nest_limit m offset ↔ IsRefusedAt nest_limit pattern m offset (read ranges_of nest_limit pattern flags)
 
 -- a program can hold the tree of a pattern
 abbrev pub ReadIsCompilable : Type 0

@@ -15,7 +15,7 @@ ghost use Rattle.bites_spec.specs.AllMatches.{FindsAreSuccessive, GroupsAreSucce
 ghost use Rattle.bites_spec.specs.Refutations.{BoundsAreReached, SearchesReachBounds, BoundsRefuse, VisitsRefuse, AnsweredRefuses, FoundRefuses, PreferredRefuses, LeftmostRefuses, SpansRefuse, LeavingOutRefuses, BordersRefuse, ParticipantsRefuse, ItsGroupsRefuse, AppendsRefuse};
 ghost use Rattle.bites_spec.specs.CallerLaws.{NamesAreAscii, StartIsPlace, StartIsAlone, SearchesHaveStarts, AnchoredIsRead, AnchoredIsBegun, AnchoredIsWhole, AnchoredMatchesWhole, LiteralIsRead, UnionsAreListed, RangesAreListed, EachParticipates};
 ghost use Rattle.bites_spec.specs.Refused.{IterationsEnd};
-ghost use Rattle.bites_spec.specs.GrammarLaws.{ListsAll, ReadIsCompilable, ReadsOnce, FaultsOnce, RefusedHasNoTree, ReadOrRefused, ReaderReads, ReaderRefuses, StuckBracketIsNotRead};
+ghost use Rattle.bites_spec.specs.GrammarLaws.{ListsAll, ReadIsCompilable, ReadsOnce, FaultsOnce, FaultsHavePlaces, PlacesOnce, RefusedHasNoTree, ReadOrRefused, ReaderReads, ReaderRefuses, ReaderRefusesAt, StuckBracketIsNotRead};
 ghost use Rattle.bites_spec.specs.GroupLaws.{OpenedOnce, OpenedAreKept, LeftAreKept, DroppedHaveNoPlace, KeptAnswerAlike};
 ghost use Rattle.bites_spec.specs.RangesOf.{RangesOfList};
 ghost use Rattle.bites_spec.specs.EscapedLaws.{EscapedIsText, EscapedIsRead, EscapedIsFlat, EscapedIsAccepted, EscapedMatchesText, EscapedFindsText};
@@ -185,6 +185,18 @@ pub fn reader_reads()
 
 pub fn reader_refuses()
     ensures { ReaderRefuses }
+{}
+
+pub fn faults_have_places()
+    ensures { FaultsHavePlaces }
+{}
+
+pub fn patterns_have_one_offset()
+    ensures { PlacesOnce }
+{}
+
+pub fn reader_refuses_at()
+    ensures { ReaderRefusesAt }
 {}
 
 pub fn stuck_brackets_are_not_read()

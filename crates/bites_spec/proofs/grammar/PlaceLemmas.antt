@@ -1,5 +1,5 @@
 -- Each text that the reader comes to is a rest of the text that it began with.
-use Rattle.std.proofs.Common.{◌≡◌, ℕ, zero, suc, Bool, true, false, ◌||◌, ◌==◌, List, [], ◌∷◌, ◌++◌, length, drop, refl, sym, ap, subst, ◌∙◌, ⊎_elim, Option, Some, None, Result, Ok, Err}
+use Rattle.std.proofs.Common.{◌≡◌, ℕ, zero, suc, Bool, true, false, ◌||◌, ◌==◌, List, [], ◌∷◌, ◌++◌, length, drop, refl, ap, subst, ◌∙◌, ⊎_elim, Option, Some, None, Result, Ok, Err}
 use Rattle.std.specs.Prelude.{nat_lt, nat_le, not, codes, ◌+◌, if◌then◌else◌}
 use Rattle.std.specs.Char.{is_whitespace, is_ascii_digit}
 use Rattle.bites_spec.specs.Code.{code}
