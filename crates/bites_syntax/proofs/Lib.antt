@@ -22,3 +22,4 @@ pub mod BranchLemmas
 pub mod ProgressLemmas
 pub mod ReachedLemmas
 pub mod ParseLemmas
+pub mod PlacedLemmas

@@ -10,6 +10,7 @@ pub mod Operators
 pub mod Openings
 pub mod Ranges
 pub mod Parts
+pub mod Placed
 pub mod Progress
 pub mod Sets
 pub mod Steps

@@ -22,4 +22,5 @@ pub(crate) mod operator;
 pub mod parse;
 pub mod range_list;
 pub(crate) mod refusal;
+pub mod syntax_error;
 pub mod tree;
