@@ -6,6 +6,7 @@ mod matches;
 mod parts;
 mod program;
 mod script;
+mod spans;
 mod style;
 mod tree;
 
@@ -14,6 +15,7 @@ use crate::report_json;
 use crate::searches::Report;
 use escape::write_shown;
 use script::SCRIPT;
+use spans::SPANS;
 use std::alloc::Global;
 use std::io::{self, Write};
 use style::STYLE;
@@ -35,6 +37,8 @@ pub(crate) fn write_report<W: Write>(
     out.write_all(ABOUT.as_bytes())?;
     out.write_all(b"<script type=\"application/json\" id=\"data\">")?;
     report_json::write_report(report, out)?;
+    out.write_all(b"</script>\n<script>")?;
+    out.write_all(SPANS.as_bytes())?;
     out.write_all(b"</script>\n<script>")?;
     out.write_all(SCRIPT.as_bytes())?;
     out.write_all(b"</script>\n</body>\n</html>\n")
@@ -115,7 +119,7 @@ static STEPS: &str =
 "#;
 
 static TREE: &str = r#"<section aria-labelledby="tree-title"><h2 id="tree-title">Tree</h2>
-<p>What the pattern is read as. The reader keeps no offsets, so no part shows where it stands in the pattern.</p>
+<p>What the pattern is read as. With scripts, each item shows its part of the pattern.</p>
 <ul class="tree">"#;
 
 // What the page rests on.
@@ -124,7 +128,8 @@ static ABOUT: &str =
 <p>The tree, the program, the matches and what is done at each place come from calls of the engine that are proved. Proved too: the tree is
 what the grammar reads the pattern as, the program is built from it, and a search visits no state twice at a place. The places come from
 a call that does the steps of the machine of the definitions, and not from the searches that found the matches, which do the same steps.</p>
-<p>Only drawn: the numbers of the states, which count from the start on in order of preference; words for parts and states; characters
+<p>Only drawn: where the parts of the tree stand in the pattern, which the page reads once more and shows only if it comes to this tree;
+the numbers of the states, which count from the start on in order of preference; words for parts and states; characters
 that can't be seen as <i>\n</i>, <i>\u{200B}</i> or, where the bytes are no UTF-8, <i>\xFF</i>.</p></section>
 </main>
 "#;

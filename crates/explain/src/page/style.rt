@@ -32,8 +32,10 @@ tr.visited { background: var(--here); }
 tr.visited th { color: inherit; }
 .tree, .tree ul, .tree ol { list-style: none; margin: 0; padding-left: 1.25rem; border-left: 1px solid var(--line); }
 .tree { padding-left: 0; border: 0; }
-.char > span { color: var(--char); } .look > span { color: var(--look); } .repetition > span { color: var(--repetition); }
-.group > span { color: var(--group); } .choice > span { color: var(--choice); }
+.char > span, #pattern .char { color: var(--char); } .look > span, #pattern .look { color: var(--look); }
+.repetition > span, #pattern .repetition { color: var(--repetition); } .group > span, #pattern .group { color: var(--group); }
+.choice > span, #pattern .choice { color: var(--choice); } .sequence > span, #pattern .sequence { color: var(--ink); }
+#pattern { overflow-wrap: anywhere; } .part { margin-left: 0.5rem; overflow-wrap: anywhere; } .marked { background: var(--here); }
 .controls { display: flex; flex-wrap: wrap; gap: 0.5rem; align-items: center; }
 .controls input { flex: 1 1 12rem; min-width: 8rem; }
 button { font: inherit; color: inherit; background: transparent; border: 1px solid var(--line); border-radius: 0.25rem; padding: 0.25rem 0.75rem; }
