@@ -25,6 +25,7 @@ mod set_patterns;
 mod shortest;
 mod split;
 
+pub use bites_syntax::syntax_error::SyntaxError;
 pub use bites_text::error::Error;
 pub use builder::RegexBuilder;
 pub use cache::Cache;

@@ -253,3 +253,12 @@ fn at_set_matches_iter(rt: HostRuntime) -> Result<(), Fail> {
     assert_eq!(rt; matches.iter().last(), Some(2));
     Ok(())
 }
+
+#[test]
+fn at_syntax_error(rt: HostRuntime) -> Result<(), Fail> {
+    let builder = RegexBuilder::new(rt.alloc(), "a(b|*)")?;
+    let fault = builder.syntax_error()?.ok_or("no error")?;
+    assert_eq!(rt; *fault.error(), Error::NothingToRepeat);
+    assert_eq!(rt; fault.offset(), Some(4));
+    Ok(())
+}

@@ -261,3 +261,12 @@ fn at_set_builder(rt: HostRuntime) -> Result<(), Fail> {
     assert!(rt; set.is_match("xBAR")?);
     Ok(())
 }
+
+#[test]
+fn at_syntax_error(rt: HostRuntime) -> Result<(), Fail> {
+    let builder = RegexBuilder::new(rt.alloc(), "a(b|*)")?;
+    let fault = builder.syntax_error()?.ok_or("no error")?;
+    assert_eq!(rt; *fault.error(), Error::NothingToRepeat);
+    assert_eq!(rt; fault.offset(), Some(4));
+    Ok(())
+}

@@ -120,6 +120,7 @@
 //! - [`RegexBuilder::leftmost_longest`] and [`RegexBuilder::keep_dropped_groups`] are new. So are the searches for a
 //!   match that begins at one offset ([`Regex::find_anchored_at`], [`Regex::captures_anchored_at`]) and for a match of
 //!   the whole haystack ([`Regex::is_full_match`], [`Regex::captures_full`]).
+//!   [`RegexBuilder::syntax_error`] says where a pattern is refused.
 //! - Some faults of the Rust code are fixed: `docs/DIFFERENCES.md` names them all, each with the smallest input that
 //!   shows it.
 //!
@@ -132,11 +133,11 @@ pub mod string;
 pub use bites_bytes::bytes;
 pub use bites_machine::{interpolate, program, vm};
 pub use bites_syntax::tree::escape;
-pub use bites_syntax::{parse, tree};
+pub use bites_syntax::{parse, syntax_error, tree};
 pub use bites_text::error::Error;
 pub use bites_text::{error, utf8};
 pub use string::{
     Cache, CaptureLocations, CaptureMatches, CaptureNames, Captures, Match, Matches, NoExpand,
     Regex, RegexBuilder, RegexSet, RegexSetBuilder, Replacer, ReplacerRef, SetCache, SetError,
-    SetMatches, SetMatchesIter, SetPatterns, Split, SplitN, SubCaptureMatches, With,
+    SetMatches, SetMatchesIter, SetPatterns, Split, SplitN, SubCaptureMatches, SyntaxError, With,
 };

@@ -22,7 +22,9 @@ mod set_builder;
 mod shortest;
 mod split;
 
-pub use bites_bytes::bytes::{CaptureNames, SetError, SetMatches, SetMatchesIter, SetPatterns};
+pub use bites_bytes::bytes::{
+    CaptureNames, SetError, SetMatches, SetMatchesIter, SetPatterns, SyntaxError,
+};
 pub use bites_text::error::Error;
 pub use builder::RegexBuilder;
 pub use cache::Cache;

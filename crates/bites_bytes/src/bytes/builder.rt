@@ -1,6 +1,6 @@
 //! The builder of regexes.
 
-ghost use Rattle.std.specs.Prelude.{◌≡◌, ◌≢◌, ◌*◌, IfOk, IfErr, OnOk, chars, length, string_bytes};
+ghost use Rattle.std.specs.Prelude.{◌≡◌, ◌≢◌, ◌*◌, IfOk, IfErr, MatchOption, OnOk, chars, length, string_bytes};
 ghost use Rattle.bites_spec.specs.Measure as measure;
 ghost use Rattle.bites_spec.specs.Measure.{HasItsGroups, TreeLimitsWith, groups_opened, static_captures_len};
 ghost use Rattle.bites_spec.specs.Grammar.{Reading};
@@ -9,13 +9,15 @@ ghost use Rattle.bites_spec.specs.Program.{IsWellFormed};
 ghost use Rattle.bites_machine.specs.Compiled as compiled;
 ghost use Rattle.bites_spec.specs.Tree.{Tree};
 ghost use Rattle.bites_spec.specs.Settings.{Accepts, by_default};
+ghost use Rattle.bites_syntax.specs.Placed.{RefusesAt};
 ghost use Rattle.bites_bytes.specs.Settings.{Refuses};
 ghost use Rattle.bites_bytes.specs.Parts.{chosen};
 
-use crate::bytes::Regex;
+use crate::bytes::{Regex, SyntaxError};
 use bites_machine::program::{Program, compile, compile_with_groups};
 use bites_syntax::groups::Groups;
 use bites_syntax::parse::{Flags, parse_with_groups};
+use bites_syntax::syntax_error::syntax_error;
 use bites_syntax::tree as syntax;
 use bites_text::error::Error;
 use std::alloc::{AllocError, Global};
@@ -264,6 +266,29 @@ impl RegexBuilder {
     {
         let (tree, groups) = self.read()?;
         self.compiled(&tree, &groups)
+    }
+
+    /// Returns where the pattern is refused and with which message, or None if the grammar reads it within the nesting
+    /// limit. The error is out of memory. The work is that of reading the pattern.
+    ///
+    /// The message is the one that [`RegexBuilder::build`] returns. None is also returned where a build exceeds one of
+    /// the limits on the program: its size, its states or its groups.
+    ///
+    /// ```rust
+    /// let builder = RegexBuilder::new(rt.alloc(), "a(b|*)")?;
+    /// let fault = builder.syntax_error()?.ok_or("no error")?;
+    /// assert_eq!(rt; *fault.error(), Error::NothingToRepeat);
+    /// assert_eq!(rt; fault.offset(), Some(4));
+    /// ```
+    ///
+    /// For proofs: there is none exactly if the grammar reads the pattern as a tree within its limits, unless memory
+    /// runs out. The offset is that of the first fault.
+    pub fn syntax_error(&self) -> Result<Option<SyntaxError>, AllocError>
+        ensures { IfOk result (λ found. MatchOption found
+            ((t : Tree) × measure.Limits (chars self.now.pattern) self.now.flags self.now.nest_limit t)
+            (RefusesAt (chars self.now.pattern) self.now.flags self.now.nest_limit)) }
+    {
+        syntax_error(self.alloc, &self.pattern, self.flags, self.limits.nest)
     }
 
     // Reads the pattern. Returns its tree, and all groups that it opens.

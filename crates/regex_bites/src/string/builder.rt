@@ -1,14 +1,16 @@
 //! The builder of regexes.
 
-ghost use Rattle.std.specs.Prelude.{◌≡◌, ◌≢◌, IfOk, IfErr};
+ghost use Rattle.std.specs.Prelude.{◌≡◌, ◌≢◌, IfOk, IfErr, MatchOption, chars};
+ghost use Rattle.bites_spec.specs.Measure.{Limits};
 ghost use Rattle.bites_spec.specs.Tree.{Tree};
 ghost use Rattle.bites_spec.specs.Settings.{Accepts, by_default};
+ghost use Rattle.bites_syntax.specs.Placed.{RefusesAt};
 ghost use Rattle.bites_bytes.specs.Settings.{Refuses};
 
-use crate::string::Regex;
+use crate::string::{Regex, SyntaxError};
 use bites_bytes::bytes;
 use bites_text::error::Error;
-use std::alloc::Global;
+use std::alloc::{AllocError, Global};
 use std::fmt;
 use std::marker::Model;
 
@@ -194,6 +196,29 @@ impl RegexBuilder {
     {
         let regex = self.builder.build()?;
         Ok(Regex::from_bytes(self.alloc, regex))
+    }
+
+    /// Returns where the pattern is refused and with which message, or None if the grammar reads it within the nesting
+    /// limit. The error is out of memory. The work is that of reading the pattern.
+    ///
+    /// The message is the one that [`RegexBuilder::build`] returns. None is also returned where a build exceeds one of
+    /// the limits on the program: its size, its states or its groups.
+    ///
+    /// ```rust
+    /// let builder = RegexBuilder::new(rt.alloc(), "a(b|*)")?;
+    /// let fault = builder.syntax_error()?.ok_or("no error")?;
+    /// assert_eq!(rt; *fault.error(), Error::NothingToRepeat);
+    /// assert_eq!(rt; fault.offset(), Some(4));
+    /// ```
+    ///
+    /// For proofs: there is none exactly if the grammar reads the pattern as a tree within its limits, unless memory
+    /// runs out. The offset is that of the first fault.
+    pub fn syntax_error(&self) -> Result<Option<SyntaxError>, AllocError>
+        ensures { IfOk result (λ found. MatchOption found
+            ((t : Tree) × Limits (chars self.now.pattern) self.now.flags self.now.nest_limit t)
+            (RefusesAt (chars self.now.pattern) self.now.flags self.now.nest_limit)) }
+    {
+        self.builder.syntax_error()
     }
 }
 
