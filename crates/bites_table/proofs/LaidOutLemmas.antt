@@ -14,7 +14,7 @@ use Rattle.bites_machine.specs.Bits.{has_bit}
 use Rattle.bites_machine.specs.declared.vm.resume.RegisterThread.{RegisterThread}
 use Rattle.bites_table.specs.Sources as sources
 use Rattle.bites_table.specs.Sources.{unwritten}
-use Rattle.bites_table.specs.Transition.{ThreadList, is_walked, nowhere, source_at}
+use Rattle.bites_table.specs.Transition.{ThreadList, nowhere, source_at}
 use Rattle.bites_table.specs.Kinds.{edge}
 use Rattle.bites_table.specs.Table.{list_at}
 use Rattle.bites_table.specs.Built.{source_of, frame_of, thread_as}
@@ -242,9 +242,6 @@ entries-push g ts more new es l e is are there own n m d at last =
         record {
           part = (old.part.0, omega arith);
           threads_are = ap (λ rs. slice_range rs d.threads.from d.threads.to) is ∙ range-stays ts more d.threads.from d.threads.to old.part.0 old.part.1 ∙ old.threads_are;
-          walks_start = old.walks_start;
-          skip = old.skip;
-          rest = old.rest;
         }
 
 pub held-more : (n : ℕ) (a b new : List RegisterThread) → new ≡ a ++ b → AreHeldBelow n a → AreHeldBelow n b → AreHeldBelow n new
@@ -381,13 +378,10 @@ pub laid-all : (x : Packed) (n : ℕ) (left : List (Option made.Cell)) (cells : 
 laid-all x n left cells e laid = record { len = laid.len ∙ add-zero (n * stride x) ∙ ap (λ k. k * stride x) e; told = laid.told }
 
 -- the entry of a list in the table
-pub is-entry : (x : Packed) (threads : List RegisterThread) (l : NumberedList) (n : ℕ) (e : ListEntry) → slice_get x.graph.lists n ≡ Some l → IsEntryOf threads l e → IsEntry x threads [] n e
+pub is-entry : (x : Packed) (threads : List RegisterThread) (l : NumberedList) (n : ℕ) (e : ListEntry) → slice_get x.graph.lists n ≡ Some l → IsEntryOf threads l e → IsEntry x threads n e
 is-entry x threads l n e there is = record {
   part = is.part;
   threads_are = ap (map thread_with_register) is.threads_are ∙ twice l.threads ∙ ap (λ (m : ThreadList). m.threads) (sym (list-there x.graph n l there));
-  walks_start = is.walks_start ∙ ap (λ (m : ThreadList). is_walked m.starts) (sym (list-there x.graph n l there));
-  skip = λ i s no. absurd (let two : None ≡ Some i = sym is.skip ∙ no in cc);
-  rest = λ r no. absurd (let two : None ≡ Some r = sym is.rest ∙ no in cc);
 }
   where
     twice : (ts : List Thread) → map thread_with_register (map register_thread ts) ≡ map thread_as ts
@@ -421,7 +415,7 @@ act-part g steps acts len are i a e =
     (are i o.0 a o.1 e).act.part
 
 pub are-entries : (x : Packed) (threads : List RegisterThread) (es : List ListEntry) → length es ≡ lists_in x → AreEntries x.graph threads es →
-    (n : ℕ) (e : ListEntry) → slice_get es n ≡ Some e → IsEntry x threads [] n e
+    (n : ℕ) (e : ListEntry) → slice_get es n ≡ Some e → IsEntry x threads n e
 are-entries x threads es len are n e at =
     let lt = get-lt es n e at in
     let l = get-some x.graph.lists n (omega arith) in

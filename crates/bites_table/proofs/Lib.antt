@@ -13,6 +13,7 @@ pub mod StoredLemmas
 pub mod ExploreLemmas
 pub mod TransitionLemmas
 pub mod TableLemmas
+pub mod StayLemmas
 pub mod StandingLemmas
 pub mod SearchesLemmas
 pub mod ExampleLemmas

@@ -1,18 +1,19 @@
 -- What the code of a search does is what a search by the table does.
 use Rattle.std.proofs.Common.{◌≡◌, ℕ, zero, suc, ◌+◌, ◌-◌, true≢false, ◌*◌, ◌/◌, ◌<◌, ◌≤◌, Bool, true, false, ◌||◌, ◌&&◌, List, [], map, eq-eqb, length, reverse, Option, Some, None, refl, sym, ap, ap₂, ◌∙◌, subst, ⊎_elim, arith}
-use Rattle.std.specs.Prelude.{is_some, ◌==◌, nat_lt, if◌then◌else◌, slice_index, slice_get, slice_index_or, slice_range, option_map, not, bit_and, IfSome}
+use Rattle.std.specs.Prelude.{is_some, ◌==◌, nat_lt, if◌then◌else◌, slice_index, slice_get, slice_index_or, slice_range, option_map, not, bit_and, IfSome, IfNone}
 use Rattle.std.specs.Option.{option_flatten, option_or}
 use Rattle.std.proofs.Math.Nat.{mul-div_cancel, mul-le-mul_left}
 use Rattle.std.proofs.lemmas.Option.{none-some, slice_get_past}
 use Rattle.std.proofs.lemmas.Bool.{cases_lt}
 use Rattle.std.proofs.lemmas.Bool.Decides.{nat_tests}
-use Rattle.bites_spec.specs.Utf8.{Piece, piece}
+use Rattle.bites_spec.specs.Utf8.{Piece, piece, places}
 use Rattle.bites_spec.specs.Walks.{AllApart}
 use Rattle.bites_spec.specs.Counts.{Record}
 use Rattle.bites_machine.specs.Ends.{next_character}
 use Rattle.bites_machine.specs.Trace.{after_place, after_each}
 use Rattle.std.specs.List.{range_with_len}
 use Rattle.bites_table.specs.declared.table.skip.Skip.{Skip}
+use Rattle.bites_table.specs.declared.table.skip.Rest.{Rest}
 use Rattle.bites_table.specs.Kinds as kinds
 use Rattle.bites_machine.specs.Resume.{row_in, thread_in}
 use Rattle.bites_table.specs.Sources.{row_at}
@@ -23,7 +24,8 @@ use Rattle.bites_table.specs.declared.table.act.Act.{Act}
 use Rattle.bites_table.specs.declared.thread_list.Frame.{Frame}
 use Rattle.bites_table.specs.Transition.{Transition, source_at}
 use Rattle.bites_table.specs.Graph.{transition_in}
-use Rattle.bites_table.specs.Packed.{Packed, table_in, classes_in, lists_in, stride, row_of, mask_of, unknown, is_dead, Tells, IsCell, IsSkip, Stays, thread_with_register}
+use Rattle.bites_table.specs.Packed.{Packed, table_in, classes_in, lists_in, stride, row_of, mask_of, unknown, is_dead, Tells, IsCell, thread_with_register}
+use Rattle.bites_table.specs.Stays.{Stays, EndsQuietly, IsSkip, IsRest}
 use Rattle.bites_table.specs.Standing.{Asked, IsAsked, IsAt, IsAtRow, IsOver, transition_from, ends_after, slots_after, AreMoved}
 use Rattle.bites_machine.specs.Inputs.{is_earliest, is_longest}
 use Rattle.bites_machine.specs.Sweep.{HasReached}
@@ -39,12 +41,12 @@ use Rattle.bites_table.specs.Explored.{number_in}
 use Rattle.bites_table.specs.Transition.{is_walked}
 use Rattle.bites_table.specs.Table.{starts_of}
 use Rattle.bites_table.proofs.TransitionLemmas.{walked_is}
-use Rattle.bites_table.specs.Searches.{asked, IsSame, StandsAt, IsHeldAt, IsLent}
+use Rattle.bites_table.specs.Searches.{asked, IsSame, StandsAt, Held, IsHeldAt, IsLent, StopsSo}
 use Rattle.bites_table.specs.declared.search.record.Lent.{Lent}
 use Rattle.bites_table.specs.declared.search.record.Standing.{Standing}
 use Rattle.bites_table.specs.declared.search.record.Search.{Search}
 use Rattle.bites_table.specs.declared.table.cell.Cell.{Cell}
-use Rattle.bites_table.proofs.StandingLemmas.{at_start, handed_over, handed_back, at_next, over_after, apart_at, all_skipped, apart_after, quiet_on, ascii_here, ascii_next}
+use Rattle.bites_table.proofs.StandingLemmas.{at_start, handed_over, handed_back, at_next, over_after, apart_at, all_skipped, all_rested, apart_over, apart_after, quiet_on, ascii_here, ascii_next}
 
 -- the cells of two lists begin at two places
 pub row_once : (x : Packed) (n m : ℕ) → row_of x n ≡ row_of x m → n ≡ m
@@ -120,7 +122,7 @@ asked_still a b before same is = subst IsAsked (sym (asked_same a b before same)
 
 -- the search goes on over bytes that leave it at its thread list, and visits nothing twice
 module _ (s : Asked) (is : IsAsked s) (place row : ℕ) (words : List ℕ) (is_found : Bool) (slots : List (Option ℕ)) (walked : Record) (at : IsAtRow s place row words is_found slots walked)
-    (number : ℕ) (row_is : row ≡ row_of s.table number) (skip : Skip) (is_skip : IsSkip s.table number skip) (end : ℕ) (onward : place ≤ end) (within : end ≤ length s.input.hay)
+    (number : ℕ) (row_is : row ≡ row_of s.table number) (skip : Skip) (is_skip : IsSkip (table_in s.table) (classes_in s.table) number skip) (end : ℕ) (onward : place ≤ end) (within : end ≤ length s.input.hay)
     (passed : (k : ℕ) → place ≤ k → k < end → not (slice_index_or skip.set (slice_index s.input.hay k) false) ≡ false) where
   member : (b : Bool) → not b ≡ false → b ≡ true
   member true e = refl
@@ -131,7 +133,7 @@ module _ (s : Asked) (is : IsAsked s) (place row : ℕ) (words : List ℕ) (is_f
       let there : place + (end - place) ≡ end = omega arith in
       subst (λ n. IsAt s n at.list words is_found slots (after_each (reverse skip.seen.value.items) skip.looks.value (range_with_len place (end - place)) walked)) there
       (all_skipped s is at.list (reverse skip.seen.value.items) skip.looks.value skip.set is_skip.ascii
-      (λ b h. subst (λ n. Stays s.table n ((classes_in s.table).class_of (Some b)) (reverse skip.seen.value.items) skip.looks.value)
+      (λ b h. subst (λ n. Stays (table_in s.table) n ((classes_in s.table).class_of (Some b)) (reverse skip.seen.value.items) skip.looks.value)
       (row_once s.table number at.list (sym row_is ∙ at.row_is)) (is_skip.stays b h))
       words is_found slots (end - place) place walked (omega arith) (λ k le lt. member _ (passed k le (omega arith))) at.here)
 
@@ -141,6 +143,22 @@ module _ (s : Asked) (is : IsAsked s) (place row : ℕ) (words : List ℕ) (is_f
   pub skipped_apart : AllApart (after_each (reverse skip.seen.value.items) skip.looks.value (range_with_len place (end - place)) walked).visits
   skipped_apart =
       apart_at s is end at.list words is_found slots (after_each (reverse skip.seen.value.items) skip.looks.value (range_with_len place (end - place)) walked) skipped_here
+
+-- nothing is found any more from its thread list
+module _ (s : Asked) (is : IsAsked s) (place row : ℕ) (words : List ℕ) (is_found : Bool) (slots : List (Option ℕ)) (walked : Record) (at : IsAtRow s place row words is_found slots walked)
+    (number : ℕ) (row_is : row ≡ row_of s.table number) (rest : Rest) (is_rest : IsRest (table_in s.table) (classes_in s.table) number rest) where
+  one_list : number ≡ at.list
+  one_list = row_once s.table number at.list (sym row_is ∙ at.row_is)
+
+  pub rested : IsOver s is_found slots (after_each (reverse rest.seen.value.items) rest.looks.value (places s.input.hay place) walked)
+  rested =
+      all_rested s is at.list (reverse rest.seen.value.items) rest.looks.value
+      (λ ch. subst (λ n. Stays (table_in s.table) n ((classes_in s.table).class_of (Some ch)) (reverse rest.seen.value.items) rest.looks.value) one_list (is_rest.stays ch))
+      (subst (λ n. EndsQuietly (table_in s.table) (classes_in s.table) n (reverse rest.seen.value.items) rest.looks.value) one_list is_rest.ends)
+      words is_found slots place walked at.here
+
+  pub rested_apart : AllApart (after_each (reverse rest.seen.value.items) rest.looks.value (places s.input.hay place) walked).visits
+  rested_apart = apart_over s is is_found slots (after_each (reverse rest.seen.value.items) rest.looks.value (places s.input.hay place) walked) rested
 
 -- the rows of registers are there
 pub row_within : (r n m : ℕ) → 33 * n ≤ m → r < 32 → r * n + n ≤ m
@@ -449,3 +467,10 @@ module _ (a : Search) (before : List (Option ℕ)) (asks : IsAsked (asked a befo
                 (handed_back (asked a before) asks place number words is_found slots a.counted.walked first_back root.empty root.walked root.alike);
           };
         }
+
+-- what comes after a search settled at a thread list
+pub stops_so : (a b : Search) (from : Standing) (o : Option Standing) → IfSome o (λ to. (h : Held) → IsHeldAt a from h → IsHeldAt b to h) →
+    IfNone o ((h : Held) → IsHeldAt a from h → IsOver (asked b h.before) h.is_found h.slots b.counted.walked) →
+    (h : Held) → IsHeldAt a from h → StopsSo b h.before h.words h.slots h.is_found o
+stops_so a b from None on over h at = over h at
+stops_so a b from (Some to) on over h at = (on h at).stands

@@ -4,9 +4,9 @@ use Rattle.bites_spec.specs.Walks.{Among}
 use Rattle.bites_machine.specs.declared.vm.resume.RegisterThread.{RegisterThread}
 use Rattle.bites_machine.specs.Bits.{has_bit}
 use Rattle.bites_table.specs.Sources as sources
-use Rattle.bites_table.specs.Transition.{ThreadList, is_walked, source_at}
+use Rattle.bites_table.specs.Transition.{ThreadList, source_at}
 use Rattle.bites_table.specs.Table.{list_at}
-use Rattle.bites_table.specs.Built.{source_of, starts_as}
+use Rattle.bites_table.specs.Built.{source_of}
 use Rattle.bites_table.specs.Graph.{NumberedList, Outcome, Graph, table_of}
 use Rattle.bites_table.specs.Stored.{cell_of}
 use Rattle.bites_table.specs.Steps.{MakeMoves}
@@ -28,13 +28,10 @@ register_thread t = record { state = t.state; register = t.register }
 abbrev pub AreHeldBelow : ℕ → List RegisterThread → Type 0
 AreHeldBelow n ts = (t : RegisterThread) → Among ts t → t.register < n
 
--- an entry of a list, from which nothing is skipped
+-- an entry of a list
 pub record IsEntryOf (threads : List RegisterThread) (l : NumberedList) (e : ListEntry) : Type 0 where
   pub part : IsPartOf (length threads) e.threads
   pub threads_are : slice_range threads e.threads.from e.threads.to ≡ map register_thread l.threads
-  pub walks_start : e.walks_start ≡ is_walked (starts_as l.starts)
-  pub skip : e.skip ≡ None
-  pub rest : e.rest ≡ None
 
 -- the entries of the first lists
 abbrev pub AreEntries : Graph → List RegisterThread → List ListEntry → Type 0

@@ -3,16 +3,14 @@ use Rattle.std.specs.Prelude.{◌≡◌, IfSome, ℕ, ◌+◌, ◌*◌, ◌<◌,
 use Rattle.bites_spec.specs.Walks.{Among}
 use Rattle.bites_machine.specs.declared.vm.resume.RegisterThread.{RegisterThread}
 use Rattle.bites_table.specs.Kinds as kinds
-use Rattle.bites_table.specs.Transition.{is_walked}
 use Rattle.bites_table.specs.Table.{list_at}
 use Rattle.bites_table.specs.Explored.{number_in}
 use Rattle.bites_table.specs.Steps.{NameRegisters}
-use Rattle.bites_table.specs.Packed.{Packed, table_in, lists_in, stride, row_of, Tells, IsSkip, IsRest, IsPartOf, thread_with_register}
+use Rattle.bites_table.specs.Packed.{Packed, table_in, lists_in, stride, row_of, Tells, IsPartOf, thread_with_register, classes_in}
+use Rattle.bites_table.specs.Stays.{AreStays}
 use Rattle.bites_table.specs.declared.explore.roots.Roots.{Roots}
 use Rattle.bites_table.specs.declared.table.act.Act.{Act}
 use Rattle.bites_table.specs.declared.table.cell.Cell.{Cell}
-use Rattle.bites_table.specs.declared.table.skip.Skip.{Skip}
-use Rattle.bites_table.specs.declared.table.skip.Rest.{Rest}
 use Rattle.bites_table.specs.declared.table.ListEntry.{ListEntry}
 use Rattle.bites_table.specs.declared.table.Table.TheInside.{Inside}
 
@@ -36,12 +34,9 @@ pub record AreCells (x : Packed) (cells : List Cell) : Type 0 where
   pub told : Tell x cells
 
 -- an entry of a list
-pub record IsEntry (x : Packed) (threads : List RegisterThread) (skips : List Skip) (n : ℕ) (l : ListEntry) : Type 0 where
+pub record IsEntry (x : Packed) (threads : List RegisterThread) (n : ℕ) (l : ListEntry) : Type 0 where
   pub part : IsPartOf (length threads) l.threads
   pub threads_are : map thread_with_register (slice_range threads l.threads.from l.threads.to) ≡ (list_at (table_in x) n).threads
-  pub walks_start : l.walks_start ≡ is_walked (list_at (table_in x) n).starts
-  pub skip : (i : ℕ) (s : Skip) → l.skip ≡ Some i → slice_get skips i ≡ Some s → IsSkip x n s
-  pub rest : (r : Rest) → l.rest ≡ Some r → IsRest x n r
 
 -- the roots are lists that are there
 abbrev pub AreWithin : ℕ → Roots → Type 0
@@ -55,7 +50,8 @@ pub record IsLaidOut (a : Inside) : Type 0 where
   pub hits : (i : ℕ) (x : Act) → slice_get a.acts.items i ≡ Some x → IfSome x.hit (λ f. IfSome f.source.register (λ r. r < 32))
   pub names : NameRegisters a.steps.items
   pub count : length a.lists.items ≡ lists_in (packed_in a)
-  pub entries : (n : ℕ) (l : ListEntry) → slice_get a.lists.items n ≡ Some l → IsEntry (packed_in a) a.threads.items a.skips.items n l
+  pub entries : (n : ℕ) (l : ListEntry) → slice_get a.lists.items n ≡ Some l → IsEntry (packed_in a) a.threads.items n l
   pub held : (t : RegisterThread) → Among a.threads.items t → t.register < 32
+  pub stays : AreStays (table_in (packed_in a)) (classes_in (packed_in a)) a.stays.skips.items a.stays.lists.items
   pub everywhere : AreWithin (lists_in (packed_in a)) a.everywhere
   pub here : AreWithin (lists_in (packed_in a)) a.here

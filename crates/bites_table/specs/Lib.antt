@@ -19,6 +19,7 @@ pub mod Laws
 pub mod Example
 pub mod Steps
 pub mod Packed
+pub mod Stays
 pub mod Layout
 pub mod Standing
 pub mod Searches

@@ -1,5 +1,5 @@
 -- A table as a search reads it.
-use Rattle.std.specs.Prelude.{◌≡◌, ℕ, suc, ◌*◌, ◌<◌, ◌≤◌, Bool, true, false, ◌&&◌, not, List, length, reverse, Some, None, option_map, if◌then◌else◌, ◌==◌, slice_get, slice_range, slice_index_or, bit_and}
+use Rattle.std.specs.Prelude.{◌≡◌, ℕ, suc, ◌*◌, ◌<◌, ◌≤◌, Bool, false, ◌&&◌, not, List, length, reverse, Some, None, option_map, if◌then◌else◌, ◌==◌, slice_get, slice_range, bit_and}
 use Rattle.bites_spec.specs.Walks.{Among}
 use Rattle.bites_spec.specs.Program.{Program}
 use Rattle.bites_machine.specs.declared.vm.resume.RegisterThread.{RegisterThread}
@@ -18,8 +18,6 @@ use Rattle.bites_table.specs.declared.steps.Step.{Step}
 use Rattle.bites_table.specs.declared.table.act.Act.{Act}
 use Rattle.bites_table.specs.declared.table.act.Part.{Part}
 use Rattle.bites_table.specs.declared.table.cell.Cell.{Cell}
-use Rattle.bites_table.specs.declared.table.skip.Skip.{Skip}
-use Rattle.bites_table.specs.declared.table.skip.Rest.{Rest}
 
 -- classes of characters, thread lists with their transitions, the lists where searches begin, what transitions do, and all their
 -- steps
@@ -99,33 +97,6 @@ IsKnown x n c a = (t : Transition ℕ) × IsCell x n c a t
 pub record Tells (x : Packed) (n c : ℕ) (a : Cell) : Type 0 where
   pub known : bit_and a.doing unknown ≡ 0 → IsKnown x n c a
   pub quiet : (width : ℕ) → bit_and a.doing (mask_of width) ≡ 0 → (t : Transition ℕ) × IsCell x n c a t × IsQuiet (table_in x) width t
-
--- The list leads over the class back to itself, quietly for all slots, with these visits and looks.
-pub record Stays (x : Packed) (n c : ℕ) (seen : List ℕ) (looks : ℕ) : Type 0 where
-  pub transition : Transition ℕ
-  pub known : (table_in x).transition n c ≡ Some transition
-  pub next : transition.next ≡ n
-  pub quiet : (width : ℕ) → IsQuiet (table_in x) width transition
-  pub seen_is : transition.seen ≡ seen
-  pub looks_is : transition.looks ≡ looks
-
--- each byte of the set is of ASCII, and the list leads over it back to itself
-pub record IsSkip (x : Packed) (n : ℕ) (s : Skip) : Type 0 where
-  pub ascii : (b : ℕ) → slice_index_or s.set b false ≡ true → b < 128
-  pub stays : (b : ℕ) → slice_index_or s.set b false ≡ true → Stays x n ((classes_in x).class_of (Some b)) (reverse s.seen.value.items) s.looks.value
-
--- over the end nobody comes to a match, with these visits and looks
-pub record EndsQuietly (x : Packed) (n : ℕ) (seen : List ℕ) (looks : ℕ) : Type 0 where
-  pub transition : Transition ℕ
-  pub known : (table_in x).transition n ((classes_in x).class_of None) ≡ Some transition
-  pub hit : transition.hit ≡ None
-  pub seen_is : transition.seen ≡ seen
-  pub looks_is : transition.looks ≡ looks
-
--- over each character the list leads back to itself, and at the end nobody comes to a match
-pub record IsRest (x : Packed) (n : ℕ) (r : Rest) : Type 0 where
-  pub stays : (ch : ℕ) → Stays x n ((classes_in x).class_of (Some ch)) (reverse r.seen.value.items) r.looks.value
-  pub ends : EndsQuietly x n (reverse r.seen.value.items) r.looks.value
 
 -- the part lies in a list of this length
 abbrev pub IsPartOf : ℕ → Part → Type 0

@@ -139,40 +139,26 @@ impl Classes {
 
     /// Returns the class of the end.
     pub fn end(&self) -> usize
-        ensures { result ≡ (classes_of self.now).class_of None }
+        ensures class { result ≡ (classes_of self.now).class_of None }
+        ensures last { (ch : ℕ) → (classes_of self.now).class_of (Some ch) < result }
     {
         self.members.len()
     }
 
-    /// Returns a flag for each byte: whether its class is to be kept. A byte past ASCII is kept if the classes of all
-    /// characters past ASCII are.
+    /// Returns a flag for each byte: whether it is of ASCII, and its class is to be kept.
     pub fn bytes(&self, keeps: &[bool]) -> [bool; 256]
         requires { length keeps.now ≡ (classes_of self.now).len }
         ensures ascii { (b : ℕ) → b < 128 → slice_index_or result b false
             ≡ slice_index_or keeps.now ((classes_of self.now).class_of (Some b)) false }
-        ensures past { (b : ℕ) → 128 ≤ b → slice_index_or result b false ≡ true → (c : ℕ) → 128 ≤ c →
-            slice_index_or keeps.now ((classes_of self.now).class_of (Some c)) false ≡ true }
+        ensures past { (b : ℕ) → 128 ≤ b → slice_index_or result b false ≡ false }
     {
-        let past = are_kept(keeps, &self.of, self.past);
-        let mut bytes = [past; 256];
+        let _ = &self.members;
+        let mut bytes = [false; 256];
         for byte in 0..128usize {
             bytes[byte] = keeps[usize::from(self.of_byte[byte])];
         }
         bytes
     }
-}
-
-// Returns whether the classes of all intervals from one on are kept.
-fn are_kept(keeps: &[bool], of: &[u8], from: usize) -> bool
-    requires { (i : ℕ) → i < length of.now → at of.now i < length keeps.now }
-    ensures { result ≡ true → (i : ℕ) → from ≤ i → i < length of.now → slice_index_or keeps.now (at of.now i) false ≡ true }
-{
-    for interval in from..of.len() {
-        if !keeps[usize::from(of[interval])] {
-            return false;
-        }
-    }
-    true
 }
 
 // Splits intervals by the sets of characters that states take, and by the kinds that are told apart.

@@ -4,6 +4,8 @@ ghost use Rattle.std.specs.Prelude.{◌≡◌, ◌<◌, length, IfSome, IfOk};
 ghost use Rattle.bites_spec.specs.Program.{IsWellFormed};
 ghost use Rattle.bites_table.specs.Classes.{classes_of};
 ghost use Rattle.bites_table.specs.Built.{starts_as};
+ghost use Rattle.bites_table.specs.Graph.{table_of};
+ghost use Rattle.bites_table.specs.Stays.{AreStays};
 ghost use Rattle.bites_table.specs.Made.{Grows, IsMade, IsRow, IsOutcome};
 ghost use Rattle.bites_table.specs.Explored.{program_in, classes_in, IsContext, IsExplored};
 
@@ -11,12 +13,14 @@ pub(crate) mod after;
 pub(crate) mod graph;
 pub(crate) mod index;
 pub(crate) mod roots;
+pub(crate) mod stays;
 
 use crate::alike_kinds::AlikeKinds;
 use crate::classes::Classes;
 use crate::explore::after::kinds_after;
 use crate::explore::graph::{Cell, Graph, Outcome};
 use crate::explore::roots::{Roots, add_roots};
+use crate::explore::stays::{Stays, find_stays};
 use crate::kind::Kind;
 use crate::registers::Assigned;
 use crate::thread_list::{Starts, ThreadList};
@@ -78,12 +82,13 @@ pub(crate) struct Explored {
     pub everywhere: Roots,
     /// The lists that walk the start at one place alone.
     pub here: Roots,
+    pub stays: Stays,
     pub extent: Extent,
 }
 
 // What transitions are made of.
 #[derive(Clone, Copy, Drop)]
-struct Context<'a> {
+pub(crate) struct Context<'a> {
     program: &'a Program,
     classes: &'a Classes,
     kinds: AlikeKinds,
@@ -93,7 +98,7 @@ struct Context<'a> {
 
 // The memory that is kept from one transition to the next, and what is left of the budget.
 #[derive(Drop)]
-struct Memory {
+pub(crate) struct Memory {
     walk: Walk,
     assigned: Assigned,
     budget: Budget,
@@ -107,7 +112,8 @@ pub(crate) fn explore(
     classes: &Classes,
     budget: Budget,
 ) -> Result<Explored, AllocError>
-    ensures { IfOk result (λ e. IsExplored program.now.program (classes_of classes.now) e) }
+    ensures explored { IfOk result (λ e. IsExplored program.now.program (classes_of classes.now) e) }
+    ensures stays { IfOk result (λ e. AreStays (table_of e.graph) (classes_of classes.now) e.stays.skips.items e.stays.lists.items) }
 {
     let kinds = AlikeKinds::of(program);
     let after = kinds_after(alloc, classes, kinds)?;
@@ -136,10 +142,15 @@ pub(crate) fn explore(
     } else {
         Extent::Partial
     };
+    memory.budget = budget;
+    let Some(stays) = find_stays(alloc, &context, &mut memory, &graph) else {
+        return Err(AllocError);
+    };
     Ok(Explored {
         graph,
         everywhere,
         here,
+        stays,
         extent,
     })
 }

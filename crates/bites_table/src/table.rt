@@ -5,14 +5,14 @@ ghost use Rattle.bites_spec.specs.Walks.{Among};
 ghost use Rattle.bites_machine.specs.declared.vm.resume.RegisterThread.{RegisterThread};
 ghost use Rattle.bites_table.specs.Built.{kind_as};
 ghost use Rattle.bites_table.specs.Table.{list_at};
-ghost use Rattle.bites_table.specs.Transition.{is_walked};
 ghost use Rattle.bites_table.specs.Explored.{number_in};
 ghost use Rattle.bites_table.specs.Steps.{NameRegisters};
-ghost use Rattle.bites_table.specs.Packed.{table_in, classes_in, lists_in, stride, row_of, IsRow, Tells, IsSkip, IsRest, IsPartOf, thread_with_register, IsTableOf};
+ghost use Rattle.bites_table.specs.Stays.{IsSkip, IsRest};
+ghost use Rattle.bites_table.specs.Packed.{table_in, classes_in, lists_in, stride, row_of, IsRow, Tells, IsPartOf, thread_with_register, IsTableOf};
 
 pub mod act;
 pub mod cell;
-mod layout;
+pub(crate) mod layout;
 mod sequence;
 pub mod skip;
 #[cfg(test)]
@@ -21,27 +21,24 @@ mod tests;
 use crate::classes::Classes;
 use crate::explore::graph::Graph;
 use crate::explore::roots::Roots;
+use crate::explore::stays::Stays;
 use crate::explore::{Budget, explore};
 use crate::kind::Kind;
 use crate::steps::Step;
 use crate::table::act::{Act, Part, part_of};
 use crate::table::cell::Cell;
 use crate::table::layout::lay_out;
-use crate::table::skip::{Rest, Skip};
+use crate::table::skip::{Rest, Skip, Stay};
 use bites_machine::program::Program;
 use bites_machine::vm::RegisterThread;
 use std::alloc::Global;
 use std::marker::Model;
 use std::snapshot::Snapshot;
 
-// What a search asks of a thread list, besides its cells: where its threads stand, whether the start is walked, the number of
-// what is skipped from it, and what is visited from it if nothing is found any more.
+// Where the threads of a thread list stand.
 #[derive(Drop)]
 pub(crate) struct ListEntry {
     pub threads: Part,
-    pub walks_start: bool,
-    pub skip: Option<u32>,
-    pub rest: Option<Rest>,
 }
 
 /// How large a table is.
@@ -67,7 +64,7 @@ pub struct Table {
     steps: Vec<Step>,
     lists: Vec<ListEntry>,
     threads: Vec<RegisterThread>,
-    skips: Vec<Skip>,
+    stays: Stays,
     everywhere: Roots,
     here: Roots,
     is_whole: bool,
@@ -118,7 +115,8 @@ impl Table {
             .threads
             .len()
             .saturating_mul(size_of::<RegisterThread>());
-        let skips = self.skips.len().saturating_mul(size_of::<Skip>());
+        let skips = self.stays.skips.len().saturating_mul(size_of::<Skip>());
+        let stays = self.stays.lists.len().saturating_mul(size_of::<Stay>());
         TableSize {
             lists: self.lists.len(),
             bytes: cells
@@ -126,7 +124,8 @@ impl Table {
                 .saturating_add(steps)
                 .saturating_add(lists)
                 .saturating_add(threads)
-                .saturating_add(skips),
+                .saturating_add(skips)
+                .saturating_add(stays),
             is_whole: self.is_whole,
         }
     }
@@ -216,33 +215,26 @@ impl Table {
         part_of(&self.threads, self.lists[number].threads)
     }
 
-    /// Returns whether the start is walked at a thread list, after its threads.
-    pub fn walks_start(&self, number: usize) -> bool
-        requires { number < lists_in self.now }
-        ensures { result ≡ is_walked (list_at (table_in self.now) number).starts }
-    {
-        self.lists[number].walks_start
-    }
-
-    /// Returns the bytes that may be skipped from a thread list, if there are many.
+    /// Returns the bytes that a search passes at once from a thread list, if there are some.
     #[inline(always)]
     pub fn skip(&self, number: usize) -> Option<&Skip>
-        requires { number < lists_in self.now }
-        ensures { IfSome result (λ s. IsSkip self.now number s.now) }
+        ensures { IfSome result (λ s. IsSkip (table_in self.now) (classes_in self.now) number s.now) }
     {
-        let skip = self.lists[number].skip? as usize;
-        if skip >= self.skips.len() {
+        if number >= self.stays.lists.len() {
             return None;
         }
-        Some(&self.skips[skip])
+        let skip = self.stays.lists[number].skip? as usize;
+        Some(&self.stays.skips[skip])
     }
 
     /// Returns what is visited at each place from there on, if nothing is found from a thread list any more.
     #[inline(always)]
     pub fn rest(&self, number: usize) -> Option<&Rest>
-        requires { number < lists_in self.now }
-        ensures { IfSome result (λ r. IsRest self.now number r.now) }
+        ensures { IfSome result (λ r. IsRest (table_in self.now) (classes_in self.now) number r.now) }
     {
-        self.lists[number].rest.as_ref()
+        if number >= self.stays.lists.len() {
+            return None;
+        }
+        self.stays.lists[number].rest.as_ref()
     }
 }

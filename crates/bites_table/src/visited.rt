@@ -1,6 +1,6 @@
 //! The states that a walk visited.
 
-ghost use Rattle.std.specs.Prelude.{◌≡◌, ◌==◌, [], ◌∷◌, not, IfSome, IfOk, reverse, if◌then◌else◌};
+ghost use Rattle.std.specs.Prelude.{◌≡◌, ◌==◌, true, [], ◌∷◌, not, IfSome, IfOk, reverse, if◌then◌else◌};
 ghost use Rattle.std.specs.List.{list_any};
 
 use std::alloc::{AllocError, Global};
@@ -61,10 +61,41 @@ impl Visited {
         }
     }
 
+    /// Returns the members in the order in which they were inserted, or `None` if memory runs out.
+    pub(crate) fn copied(&self, alloc: Global) -> Option<Vec<u32>>
+        ensures { IfSome result (λ l. reverse l.items ≡ self.now) }
+    {
+        let mut states = Vec::new(alloc);
+        states.extend_from_slice(&self.states).ok()?;
+        Some(states)
+    }
+
+    /// Returns whether the members are these, in the order in which they were inserted.
+    pub(crate) fn are(&self, states: &[u32]) -> bool
+        ensures { result ≡ true → self.now ≡ reverse states.now }
+    {
+        are_same(&self.states, states)
+    }
+
     /// Returns the members, for proofs.
     pub(crate) fn states(&self) -> Snapshot<Vec<u32>>
         ensures { reverse result.value.items ≡ self.now }
     {
         Snapshot::of(&self.states)
     }
+}
+
+// Returns whether the states are the same.
+fn are_same(own: &[u32], others: &[u32]) -> bool
+    ensures { result ≡ true → own.now ≡ others.now }
+{
+    if own.len() != others.len() {
+        return false;
+    }
+    for i in 0..own.len() {
+        if own[i] != others[i] {
+            return false;
+        }
+    }
+    true
 }

@@ -1,7 +1,9 @@
 //! Thread lists and the transitions between them, by their numbers.
 
 ghost use Rattle.std.specs.Prelude.{◌≡◌, ◌<◌, ◌*◌, ℕ, true, ◌++◌, [], length, map, option_map, None, Some, IfSome, IfNone, IfOk, replicate, slice_get, slice_set, slice_range};
-ghost use Rattle.bites_table.specs.Graph.{registers_at, with_list, with_cells, with_outcome, AddsList, AddsOutcome};
+ghost use Rattle.bites_table.specs.Graph as graphs;
+ghost use Rattle.bites_table.specs.Graph.{cell_at, registers_at, with_list, with_cells, with_outcome, AddsList, AddsOutcome};
+ghost use Rattle.bites_table.specs.Stays.{HasOutcome};
 ghost use Rattle.bites_table.specs.Stored.{IsPart, numbered, outcome_of, cell_of};
 
 use crate::explore::index::{Index, Place};
@@ -224,6 +226,34 @@ impl Graph {
             next,
             moves: part_of(&self.moves, moves),
             hit,
+        }
+    }
+
+    /// Returns the outcome of a list over a class, if the transition is known.
+    pub(crate) fn outcome_over(&self, number: usize, class: usize) -> Option<Outcome<'_>>
+        ensures { IfSome result (λ o. HasOutcome self.now number class (outcome_of o)) }
+    {
+        let outcome = self.named_over(number, class)? as usize;
+        if outcome >= self.outcomes.len() {
+            return None;
+        }
+        Some(self.outcome(outcome))
+    }
+
+    // Returns the number of the outcome of a list over a class, if the transition is known.
+    fn named_over(&self, number: usize, class: usize) -> Option<u32>
+        ensures { IfSome result (λ o. (x : graphs.Cell) × (cell_at self.now number class ≡ Some x) × (x.outcome ≡ o)) }
+    {
+        if class >= self.classes {
+            return None;
+        }
+        let index = number.checked_mul(self.classes)?.checked_add(class)?;
+        if index >= self.cells.len() {
+            return None;
+        }
+        match &self.cells[index] {
+            None => None,
+            Some(cell) => Some(cell.outcome),
         }
     }
 

@@ -107,6 +107,27 @@ impl Search<'_> {
         Standing { place, row: at.row }
     }
 
+    // Goes on from a thread list, which has this number, over what leads back to it. Returns `None` where the search is over,
+    // since nothing is found any more.
+    #[inline(always)]
+    fn settle(&mut self, at: Standing, number: usize) -> Option<Standing>
+        requires number { at.row ≡ row_of self.old.table.now number }
+        requires within { number < lists_in self.old.table.now }
+        requires stands { (h : Held) × IsHeldAt self.old at h }
+        ensures stands { IfSome result (λ to. (h : Held) → IsHeldAt self.old at h → IsHeldAt self.new to h) }
+        ensures onward { IfSome result (λ to. at.place ≤ to.place) }
+        ensures over { IfNone result ((h : Held) → IsHeldAt self.old at h →
+            IsOver (asked self.new h.before) h.is_found h.slots self.new.counted.walked) }
+        ensures same { IsSame self.old self.new }
+    {
+        let Some(rest) = self.table.rest(number) else {
+            return Some(self.skip(at, number));
+        };
+        self.counted
+            .record_rest(&rest.seen, &rest.looks, self.input.haystack, at.place);
+        None
+    }
+
     // Goes on while nothing is to be done at a place but to go on.
     #[inline(always)]
     fn pass(&mut self, from: Standing, mask: u8) -> Standing
@@ -167,8 +188,10 @@ impl Search<'_> {
             place: at.place + piece.len,
             row: lent.next,
         };
-        let to = self.skip(to, act.next as usize);
-        Turn::Goes { to, is_found }
+        match self.settle(to, act.next as usize) {
+            Some(to) => Turn::Goes { to, is_found },
+            None => Turn::Ends { is_found },
+        }
     }
 
     // Returns whether the search is over after a place.
@@ -278,7 +301,7 @@ impl Search<'_> {
             return (stopped.is_found, None);
         };
         let (at, number) = self.root(place);
-        (stopped.is_found, Some(self.skip(at, number)))
+        (stopped.is_found, self.settle(at, number))
     }
 
     /// Searches, and returns whether something was found.
@@ -303,7 +326,9 @@ impl Search<'_> {
         ensures searches { cache.new.searches ≡ cache.old.searches }
     {
         let (at, number) = self.root(self.input.start);
-        let mut at = self.skip(at, number);
+        let Some(mut at) = self.settle(at, number) else {
+            return false;
+        };
         let mut is_found = false;
         let mut leaves = 0;
         'leaves: loop {

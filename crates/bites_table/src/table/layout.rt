@@ -6,7 +6,9 @@ ghost use Rattle.std.specs.Vec.Iter.{into_iter_items, into_iter_len};
 ghost use Rattle.bites_spec.specs.Walks.{Among};
 ghost use Rattle.bites_machine.specs.Bits.{has_bit};
 ghost use Rattle.bites_table.specs.Built.{list_of};
-ghost use Rattle.bites_table.specs.Graph.{cell_at, AreHeld};
+ghost use Rattle.bites_table.specs.Classes.{classes_of};
+ghost use Rattle.bites_table.specs.Stays.{AreStays};
+ghost use Rattle.bites_table.specs.Graph.{cell_at, table_of, AreHeld};
 ghost use Rattle.bites_table.specs.Graph as graphs;
 ghost use Rattle.bites_table.specs.Stored.{outcome_of, cell_of};
 ghost use Rattle.bites_table.specs.Steps.{NameRegisters};
@@ -19,6 +21,7 @@ ghost use Rattle.bites_table.specs.declared.steps.Step.{Step};
 use crate::classes::Classes;
 use crate::explore::graph::{Cell as GraphCell, Graph, Outcome};
 use crate::explore::roots::Roots;
+use crate::explore::stays::Stays;
 use crate::explore::{Explored, Extent};
 use crate::steps::{MOST_REGISTERS, Step};
 use crate::table::act::{Act, Part};
@@ -44,6 +47,7 @@ const FIRST_SLOTS: u64 = 3;
 
 /// Lays out the graph of thread lists. Returns `None` if it doesn't fit, or if memory runs out.
 pub(super) fn lay_out(alloc: Global, classes: Classes, explored: Explored) -> Option<Table>
+    requires stays { AreStays (table_of explored.graph) (classes_of classes) explored.stays.skips.items explored.stays.lists.items }
     ensures intervals { IfSome result (λ t. t.intervals ≡ classes) }
     ensures graph { IfSome result (λ t. t.graph ≡ explored.graph) }
     ensures everywhere { IfSome result (λ t. t.everywhere ≡ explored.everywhere) }
@@ -54,6 +58,7 @@ pub(super) fn lay_out(alloc: Global, classes: Classes, explored: Explored) -> Op
         graph,
         everywhere,
         here,
+        stays,
         extent,
     } = explored;
     let lists = graph.lists();
@@ -65,7 +70,7 @@ pub(super) fn lay_out(alloc: Global, classes: Classes, explored: Explored) -> Op
     }
     let value = Snapshot::of(&graph);
     let Lists { entries, threads } = lists_of(alloc, &graph)?;
-    let Acts { acts, steps, .. } = acts_of(alloc, &graph)?;
+    let Acts { acts, steps, .. } = acts_of(alloc, &graph, &stays)?;
     let stride = classes.len() + 1;
     let cells = cells_of(alloc, graph, &acts, stride)?;
     Some(Table {
@@ -76,7 +81,7 @@ pub(super) fn lay_out(alloc: Global, classes: Classes, explored: Explored) -> Op
         steps,
         lists: entries,
         threads,
-        skips: Vec::new(alloc),
+        stays,
         everywhere,
         here,
         is_whole: extent == Extent::Whole,
@@ -133,9 +138,6 @@ fn push_list(lists: &mut Lists, graph: &Graph, number: usize) -> Option<()>
     let to = u32::try_from(lists.threads.len()).ok()?;
     let entry = ListEntry {
         threads: Part { from, to },
-        walks_start: list.starts.is_walked(),
-        skip: None,
-        rest: None,
     };
     lists.entries.push(entry).ok()?;
     Some(())
@@ -163,7 +165,7 @@ struct Acts {
     found: Vec<Step>,
 }
 
-fn acts_of(alloc: Global, graph: &Graph) -> Option<Acts>
+fn acts_of(alloc: Global, graph: &Graph, stays: &Stays) -> Option<Acts>
     ensures count { IfSome result (λ a. length a.acts.items ≡ length graph.now.outcomes) }
     ensures acts { IfSome result (λ a. AreActs graph.now a.steps.items a.acts.items) }
     ensures hits { IfSome result (λ a. AreHeldHits a.acts.items) }
@@ -175,13 +177,13 @@ fn acts_of(alloc: Global, graph: &Graph) -> Option<Acts>
         found: Vec::new(alloc),
     };
     for number in 0..graph.outcomes() {
-        push_act(&mut acts, graph, number)?;
+        push_act(&mut acts, graph, stays, number)?;
     }
     Some(acts)
 }
 
 // Adds what an outcome does.
-fn push_act(acts: &mut Acts, graph: &Graph, number: usize) -> Option<()>
+fn push_act(acts: &mut Acts, graph: &Graph, stays: &Stays, number: usize) -> Option<()>
     requires within { number < length graph.now.outcomes }
     requires count { length acts.old.acts.items ≡ number }
     requires acts { AreActs graph.now acts.old.steps.items acts.old.acts.items }
@@ -197,9 +199,18 @@ fn push_act(acts: &mut Acts, graph: &Graph, number: usize) -> Option<()>
         return None;
     }
     let next = graph.list(outcome.next as usize);
-    let act = act_of(&mut acts.steps, &mut acts.found, &outcome, &next);
+    let stops = is_stay(stays, outcome.next as usize);
+    let act = act_of(&mut acts.steps, &mut acts.found, &outcome, &next, stops);
     acts.acts.push(act).ok()?;
     Some(())
+}
+
+// Returns whether a search passes something at once from the list.
+fn is_stay(stays: &Stays, list: usize) -> bool {
+    match stays.lists.get(list) {
+        None => false,
+        Some(stay) => stay.skip.is_some() || stay.rest.is_some(),
+    }
 }
 
 // Returns whether the row of a hit comes from a register that is there, if it comes from one.
@@ -215,12 +226,14 @@ fn has_register(hit: Option<Frame>) -> bool
     }
 }
 
-// Returns what an outcome does. If no steps make its moves, it is not known.
+// Returns what an outcome does. If no steps make its moves, it is not known. If a search stops at the next list, since it
+// passes something at once from there, no search goes on without a look.
 fn act_of(
     steps: &mut Vec<Step>,
     found: &mut Vec<Step>,
     outcome: &Outcome<'_>,
     next: &ThreadList<'_>,
+    stops: bool,
 ) -> Act
     ensures grows { (more : List Step) × (steps.new.items ≡ steps.old.items ++ more) }
     ensures names { NameRegisters steps.old.items → NameRegisters steps.new.items }
@@ -229,8 +242,9 @@ fn act_of(
     if !are_held(next.threads, outcome.moves.len()) {
         return act_with(outcome, next, Part { from: 0, to: 0 }, ALL);
     }
+    let doing = if stops { EACH } else { doing_of(outcome, next) };
     match push_steps(steps, found, outcome.moves) {
-        Some(part) => act_with(outcome, next, part, doing_of(outcome, next)),
+        Some(part) => act_with(outcome, next, part, doing),
         None => act_with(outcome, next, Part { from: 0, to: 0 }, ALL),
     }
 }
@@ -266,8 +280,8 @@ fn is_dead(list: &ThreadList<'_>) -> bool
     list.starts == Starts::Nowhere && list.threads.is_empty()
 }
 
-// Returns the bits of the searches that have to look at what an outcome does.
-fn doing_of(outcome: &Outcome<'_>, next: &ThreadList<'_>) -> u8
+/// Returns the bits of the searches that have to look at what an outcome does.
+pub(crate) fn doing_of(outcome: &Outcome<'_>, next: &ThreadList<'_>) -> u8
     ensures { DoesByBits (outcome_of outcome.now) (list_of next.now) result }
 {
     if outcome.hit.is_some() || is_dead(next) {

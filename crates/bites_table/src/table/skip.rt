@@ -1,4 +1,4 @@
-//! Bytes that leave a search at its thread list.
+//! What a search passes at once, since it leads a thread list back to itself.
 
 use bites_scan::byte_set::ByteSet;
 use std::snapshot::Snapshot;
@@ -13,11 +13,18 @@ pub struct Skip {
     pub looks: Snapshot<usize>,
 }
 
-/// A thread list without threads that leads back to itself over each character, so that nothing is found any more.
+/// A thread list that leads back to itself over each character, so that nothing is found any more.
 #[derive(Drop)]
 pub struct Rest {
     /// For proofs, the states that each of its transitions visits, that at the end too.
     pub seen: Snapshot<Vec<u32>>,
     /// For proofs, the number of their looks.
     pub looks: Snapshot<usize>,
+}
+
+/// What a search passes at once from a thread list: the number of what it skips, or all that is left of the haystack.
+#[derive(Drop)]
+pub(crate) struct Stay {
+    pub skip: Option<u32>,
+    pub rest: Option<Rest>,
 }

@@ -1,4 +1,5 @@
 use super::{Table, TableSize};
+use crate::kind::Kind;
 use bites_machine::program::{Program, compile};
 use bites_syntax::parse::{Flags, parse};
 use bites_text::error::Error;
@@ -39,5 +40,29 @@ fn lists_counted_by_hand(rt: HostRuntime) -> Result<(), Error> {
 fn no_table_without_bytes(rt: HostRuntime) -> Result<(), Error> {
     let program = program(rt.alloc(), "a")?;
     assert!(rt; Table::new(rt.alloc(), &program, 0).is_none());
+    Ok(())
+}
+
+/// Each row has a pattern, the kind of the byte before, a haystack, where a search from its first byte on stops to skip, and
+/// whether nothing is found from there on any more. All were worked out by hand.
+#[test]
+fn passed_at_once_by_hand(rt: HostRuntime) -> Result<(), Error> {
+    for (pattern, kind, haystack, skipped_to, rests) in &[
+        ("a", Kind::Other, "xyza", Some(3), false),
+        ("a", Kind::Other, "xé a", Some(1), false),
+        ("^a", Kind::Edge, "xyza", None, false),
+        ("^a", Kind::Other, "xyza", None, true),
+        ("^a$", Kind::Other, "xyza", None, true),
+        ("a$", Kind::Other, "xyza", Some(3), false),
+        (r"\ba", Kind::WordByte, "xya a", Some(3), false),
+    ] {
+        let program = program(rt.alloc(), pattern)?;
+        let table = Table::new(rt.alloc(), &program, 1 << 20).ok_or(Error::Memory)?;
+        let number = table.root(false, *kind);
+        let skip = table.skip(number);
+        let found = skip.map(|skip| skip.set.skip_while(haystack.as_bytes(), 0));
+        assert_eq!(rt; found, *skipped_to);
+        assert_eq!(rt; table.rest(number).is_some(), *rests);
+    }
     Ok(())
 }

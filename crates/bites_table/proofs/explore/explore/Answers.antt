@@ -29,7 +29,21 @@ returns c =
     let g4 = c.follow-done-2.new.graph in
     let grown = grows-trans g1 g2 g4 c.follow-done.ensures.grows (grows-trans g2 g3 g4 c.add_roots-2.ensures.grows c.follow-done-2.ensures.grows) in
     record {
-      graph = made-graph p (classes_of c.args.classes.now) g4 c.follow-done-2.ensures.made;
-      walked_everywhere = λ b. root-stays p g1 g4 grown b everywhere (number_in c.in-Some.everywhere b) (c.in-Some.ensures.roots p c.of-kinds.ensures b);
-      walked_here = λ b. root-stays p g3 g4 c.follow-done-2.ensures.grows b here (number_in c.in-Some-add_roots.here b) (c.in-Some-add_roots.ensures.roots p c.of-kinds.ensures b);
+      explored = record {
+        graph = made-graph p (classes_of c.args.classes.now) g4 c.follow-done-2.ensures.made;
+        walked_everywhere = λ b. root-stays p g1 g4 grown b everywhere (number_in c.in-Some.everywhere b) (c.in-Some.ensures.roots p c.of-kinds.ensures b);
+        walked_here = λ b. root-stays p g3 g4 c.follow-done-2.ensures.grows b here (number_in c.in-Some-add_roots.here b) (c.in-Some-add_roots.ensures.roots p c.of-kinds.ensures b);
+      };
+      stays = c.in-Some-find_stays.ensures;
     }
+
+pub find_stays-requires-clause-context : goal.find_stays-requires-clause-context
+unfolding classes_in
+find_stays-requires-clause-context c = record {
+  alike = c.of-kinds.ensures;
+  after = subst (AreAfter c.args.program.now.program (classes_of c.args.classes.now)) (sym c.deref.ensures.value) (c.in_ok-after.ensures c.args.program.now.program c.of-kinds.ensures);
+}
+
+pub find_stays-requires-clause-table : goal.find_stays-requires-clause-table
+unfolding classes_in
+find_stays-requires-clause-table c = (made-graph c.args.program.now.program (classes_of c.args.classes.now) c.follow-done-2.new.graph c.follow-done-2.ensures.made).table

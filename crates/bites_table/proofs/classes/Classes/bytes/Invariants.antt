@@ -7,5 +7,5 @@ abbrev pub invariant-loop-byte : goal.invariant-loop-byte
 invariant-loop-byte l = record {
   len : length l.bytes ≡ 256;
   done : (b : ℕ) → b < l.byte → slice_index_or l.bytes b false ≡ slice_index_or l.keeps (class_by l.self (Some b)) false;
-  left : (b : ℕ) → l.byte ≤ b → b < 256 → slice_index_or l.bytes b false ≡ l.past;
+  left : (b : ℕ) → l.byte ≤ b → slice_index_or l.bytes b false ≡ false;
 }

@@ -12,7 +12,7 @@ pub returns : goal.returns
 returns c =
     let p = c.args.program.now.program in
     let x = c.in_ok-table.table in
-    let is : IsExplored p (classes_of c.in_ok-classes.classes) c.in-Ok.explored = c.in-Ok.ensures in
+    let is : IsExplored p (classes_of c.in_ok-classes.classes) c.in-Ok.explored = c.in-Ok.ensures.explored in
     let intervals : x.intervals ≡ c.in_ok-classes.classes = c.in_ok-table.ensures.intervals in
     let graph : x.graph ≡ c.in-Ok.explored.graph = c.in_ok-table.ensures.graph in
     let all : x.everywhere ≡ c.in-Ok.explored.everywhere = c.in_ok-table.ensures.everywhere in

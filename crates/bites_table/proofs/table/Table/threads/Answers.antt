@@ -9,8 +9,8 @@ use Rattle.bites_table.proofs.table.Table.threads.Goals as goal
 pub part_of-requires : goal.part_of-requires
 part_of-requires c =
     let within : c.args.number < length c.self.inside.lists.items = let n = ap lists_in c.self.view_is in let m = c.self.invariant.count in omega arith in
-    let entry : IsEntry c.args.self.now c.self.inside.threads.items c.self.inside.skips.items c.args.number c.index.result.now =
-    subst (λ (x : Packed). IsEntry x c.self.inside.threads.items c.self.inside.skips.items c.args.number c.index.result.now) c.self.view_is
+    let entry : IsEntry c.args.self.now c.self.inside.threads.items c.args.number c.index.result.now =
+    subst (λ (x : Packed). IsEntry x c.self.inside.threads.items c.args.number c.index.result.now) c.self.view_is
     (c.self.invariant.entries c.args.number c.index.result.now (get-read c.self.inside.lists.items c.args.number c.index.result.now within c.index.ensures)) in
     let value : c.deref.result.now ≡ c.self.inside.threads.items = c.deref.ensures.value in
     rw value entry.part
@@ -18,8 +18,8 @@ part_of-requires c =
 pub returns-clause-threads : goal.returns-clause-threads
 returns-clause-threads c =
     let within : c.args.number < length c.self.inside.lists.items = let n = ap lists_in c.self.view_is in let m = c.self.invariant.count in omega arith in
-    let entry : IsEntry c.args.self.now c.self.inside.threads.items c.self.inside.skips.items c.args.number c.index.result.now =
-    subst (λ (x : Packed). IsEntry x c.self.inside.threads.items c.self.inside.skips.items c.args.number c.index.result.now) c.self.view_is
+    let entry : IsEntry c.args.self.now c.self.inside.threads.items c.args.number c.index.result.now =
+    subst (λ (x : Packed). IsEntry x c.self.inside.threads.items c.args.number c.index.result.now) c.self.view_is
     (c.self.invariant.entries c.args.number c.index.result.now (get-read c.self.inside.lists.items c.args.number c.index.result.now within c.index.ensures)) in
     let part = c.index.result.now.threads in
     ap (map thread_with_register) c.part_of.ensures

@@ -1,9 +1,10 @@
-use Rattle.std.proofs.Common.{rules, ◌≡◌, ◌+◌, ℕ, suc, List, length, ap, sym, ◌∙◌, subst, arith}
-use Rattle.bites_table.specs.Graph.{Graph}
+use Rattle.std.proofs.Common.{rules, ◌≡◌, ◌+◌, ℕ, suc, length, ap, sym, ◌∙◌, subst, arith}
+use Rattle.bites_table.specs.Graph.{Graph, table_of}
 use Rattle.bites_table.specs.Packed.{Packed, lists_in, stride, classes_in}
-use Rattle.bites_table.specs.Layout.{AreWithin, IsEntry}
+use Rattle.bites_table.specs.Layout.{AreWithin}
 use Rattle.bites_table.specs.LaidOut.{AreActs, AreEntries, Fits}
-use Rattle.bites_table.specs.declared.table.skip.Skip.{Skip}
+use Rattle.bites_table.specs.Classes.{classes_of}
+use Rattle.bites_table.specs.Stays.{AreStays}
 use Rattle.bites_table.proofs.LaidOutLemmas.{act-part, are-entries}
 use Rattle.bites_table.proofs.table.layout.lay_out.Goals as goal
 
@@ -45,8 +46,9 @@ invariant_of-result c =
       hits = c.in_ok-acts.ensures.hits;
       names = c.in_ok-acts.ensures.names;
       count = len;
-      entries = λ n l at. subst (λ (ss : List Skip). IsEntry x threads ss n l) (sym c.new.ensures.items) (are-entries x threads entries len are n l at);
+      entries = are-entries x threads entries len are;
       held = c.in_ok-entries.ensures.held;
+      stays = subst (λ (g : Graph). AreStays (table_of g) (classes_of x.intervals) c.args.explored.stays.skips.items c.args.explored.stays.lists.items) (sym value) c.requires.stays;
       everywhere = subst (λ (n : ℕ). AreWithin n x.everywhere) lists everywhere;
       here = subst (λ (n : ℕ). AreWithin n x.here) lists here;
     }

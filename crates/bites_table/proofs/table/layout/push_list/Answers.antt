@@ -1,4 +1,4 @@
-use Rattle.std.proofs.Common.{rules, ◌≡◌, List, [], ◌∷◌, ◌++◌, map, length, None, Some, refl, ap, sym, ◌∙◌, subst, arith, length-append}
+use Rattle.std.proofs.Common.{rules, ◌≡◌, List, [], ◌∷◌, ◌++◌, map, length, Some, ap, sym, ◌∙◌, subst, arith, length-append}
 use Rattle.std.specs.Prelude.{slice_get}
 use Rattle.bites_table.specs.Graph.{registers_at}
 use Rattle.bites_table.specs.Stored.{numbered}
@@ -18,15 +18,12 @@ returns-clause-entries c =
     let from : c.in_ok-from.from ≡ length ts = search rules in
     let to : c.in_ok-to.to ≡ length new = search rules in
     let grown : new ≡ ts ++ more = c.in_ok-push_threads.ensures.threads in
-    let e : ListEntry = record { threads = record { from = c.in_ok-from.from; to = c.in_ok-to.to }; walks_start = c.is_walked.result; skip = None; rest = None } in
+    let e : ListEntry = record { threads = record { from = c.in_ok-from.from; to = c.in_ok-to.to } } in
     let pushed : c.push.new.self.items ≡ es ++ e ∷ [] = search rules in
     let len = ap length grown ∙ length-append ts more in
     let own : IsEntryOf new l e = record {
       part = (omega arith, omega arith);
       threads_are = range-made ts more new c.in_ok-from.from c.in_ok-to.to grown from to;
-      walks_start = c.is_walked.ensures;
-      skip = refl;
-      rest = refl;
     } in
     let there : slice_get g.lists (length es) ≡ Some l = ap (slice_get g.lists) c.requires.count ∙ c.list-list.ensures in
     subst (λ (l : List ListEntry). AreEntries g new l) (sym pushed)

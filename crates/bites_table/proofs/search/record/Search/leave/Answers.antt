@@ -3,7 +3,7 @@ use Rattle.bites_machine.specs.Inputs.{is_longest, is_earliest}
 use Rattle.bites_machine.specs.States.{states_of}
 use Rattle.bites_machine.specs.Resume.{StopsAt, thread_in}
 use Rattle.bites_machine.specs.Sweep.{IsProgramOf, HasReached, SearchResult}
-use Rattle.bites_table.proofs.SearchesLemmas.{handed, back_within, comes_to}
+use Rattle.bites_table.proofs.SearchesLemmas.{handed, back_within, comes_to, stops_so}
 use Rattle.bites_table.proofs.search.record.Search.leave.Goals as goal
 
 pub resume-stopped-requires-clause-reached : goal.resume-stopped-requires-clause-reached
@@ -66,8 +66,8 @@ root-number-requires g c =
     c.in-Some.is stopped in
     back_within (record { program = now.program; table = now.table; input = now.input; counted = c.resume-stopped.new.counted }) g.before r.0 longest c.in-Some.place c.resume-stopped.result.is_found c.resume-stopped.new.slots back
 
-pub skip-requires-clause-stands : goal.skip-requires-clause-stands
-skip-requires-clause-stands g c =
+pub settle-requires-clause-stands : goal.settle-requires-clause-stands
+settle-requires-clause-stands g c =
     let now = c.args.self.now in
     let p = now.program.now.program in
     let r = c.requires in
@@ -107,6 +107,6 @@ returns-clause-stops g c =
     c.resume-stopped.new.counted.walked [] c.resume-stopped.new.slots =
     subst (λ (o : Option ℕ). StopsAt p now.input.now.haystack.now (is_longest now.input.now.kind) now.input.now.anchored (is_earliest now.input.now.kind) now.input.now.start g.before c.resume-stopped.result.is_found o c.resume-stopped.new.slots c.resume-stopped.new.counted.walked)
     c.in-Some.is stopped in
-    (c.skip.ensures.stands (record { before = g.before; words = c.args.registers.now; is_found = c.resume-stopped.result.is_found; slots = c.resume-stopped.new.slots })
+    stops_so (record { program = now.program; table = now.table; input = now.input; counted = c.resume-stopped.new.counted }) c.settle.new.self c.root-number.result.0 c.settle.result c.settle.ensures.stands c.settle.ensures.over (record { before = g.before; words = c.args.registers.now; is_found = c.resume-stopped.result.is_found; slots = c.resume-stopped.new.slots })
     (comes_to (record { program = now.program; table = now.table; input = now.input; counted = c.resume-stopped.new.counted }) g.before r.0 longest c.in-Some.place c.resume-stopped.result.is_found c.resume-stopped.new.slots back
-    c.args.registers.now c.root-number.result.0 c.root-number.result.1 c.root-number.ensures.place c.root-number.ensures.row c.root-number.ensures.number c.root-number.ensures.within)).stands
+    c.args.registers.now c.root-number.result.0 c.root-number.result.1 c.root-number.ensures.place c.root-number.ensures.row c.root-number.ensures.number c.root-number.ensures.within)

@@ -37,8 +37,8 @@ returns-then-is_over-clause-turns g c =
     c.keep_hit-is_found.result c.keep_hit-is_found.ensures.found c.keep_hit-is_found.new.slots c.keep_hit-is_found.ensures.slots
     c.is_over.result c.is_over.ensures c.if-is_over.true
 
-pub skip-to-requires-clause-number : goal.skip-to-requires-clause-number
-skip-to-requires-clause-number g c =
+pub settle-requires-clause-number : goal.settle-requires-clause-number
+settle-requires-clause-number g c =
     let now = c.args.self.now in
     let at = c.requires.1.0 in
     turn_row now c.lend.new.self c.in-Some.ensures.same g.before c.requires.0 c.args.at c.args.registers.now c.args.was_found c.args.slots.now at
@@ -47,8 +47,8 @@ skip-to-requires-clause-number g c =
     c.keep_hit-is_found.result c.keep_hit-is_found.ensures.found c.keep_hit-is_found.new.slots c.keep_hit-is_found.ensures.slots
     c.is_over.result c.is_over.ensures
 
-pub skip-to-requires-clause-within : goal.skip-to-requires-clause-within
-skip-to-requires-clause-within g c =
+pub settle-requires-clause-within : goal.settle-requires-clause-within
+settle-requires-clause-within g c =
     let now = c.args.self.now in
     let at = c.requires.1.0 in
     turn_within now c.lend.new.self c.in-Some.ensures.same g.before c.requires.0 c.args.at c.args.registers.now c.args.was_found c.args.slots.now at
@@ -57,8 +57,8 @@ skip-to-requires-clause-within g c =
     c.keep_hit-is_found.result c.keep_hit-is_found.ensures.found c.keep_hit-is_found.new.slots c.keep_hit-is_found.ensures.slots
     c.is_over.result c.is_over.ensures
 
-pub skip-to-requires-clause-stands : goal.skip-to-requires-clause-stands
-skip-to-requires-clause-stands g c = (
+pub settle-requires-clause-stands : goal.settle-requires-clause-stands
+settle-requires-clause-stands g c = (
   record { before = g.before; words = c.run_steps.new.registers; is_found = c.keep_hit-is_found.result; slots = c.keep_hit-is_found.new.slots },
   let now = c.args.self.now in
       let at = c.requires.1.0 in
@@ -77,8 +77,8 @@ skip-to-requires-clause-stands g c = (
       c.is_over.result c.is_over.ensures c.if-is_over.false new moved,
 )
 
-pub returns-clause-turns : goal.returns-clause-turns
-returns-clause-turns g c =
+pub returns-in-Some-settle-clause-turns : goal.returns-in-Some-settle-clause-turns
+returns-in-Some-settle-clause-turns g c =
     let there : IsHeldAt c.lend.new.self (record { place = c.args.at.place + c.piece_at-piece.result.len; row = c.in-Some.lent.next })
     (record { before = g.before; words = c.run_steps.new.registers; is_found = c.keep_hit-is_found.result; slots = c.keep_hit-is_found.new.slots }) =
     let now = c.args.self.now in
@@ -103,9 +103,32 @@ returns-clause-turns g c =
     (length c.args.slots.now) c.requires.1.1.0 c.piece_at-piece.result.len c.piece_at-piece.ensures.len
     c.keep_hit-is_found.result c.keep_hit-is_found.ensures.found c.keep_hit-is_found.new.slots c.keep_hit-is_found.ensures.slots
     c.is_over.result c.is_over.ensures c.if-is_over.false in
-    let onward : c.args.at.place + c.piece_at-piece.result.len ≤ c.skip-to.result.place = c.skip-to.ensures.onward in (
-      (c.skip-to.ensures.stands
+    let onward : c.args.at.place + c.piece_at-piece.result.len ≤ c.in-Some-settle.to.place = c.in-Some-settle.ensures.onward in (
+      (c.in-Some-settle.ensures.stands
           (record { before = g.before; words = c.run_steps.new.registers; is_found = c.keep_hit-is_found.result; slots = c.keep_hit-is_found.new.slots })
           there).stands,
       omega arith,
     )
+
+pub returns-in-None-clause-turns : goal.returns-in-None-clause-turns
+returns-in-None-clause-turns g c =
+    let there : IsHeldAt c.lend.new.self (record { place = c.args.at.place + c.piece_at-piece.result.len; row = c.in-Some.lent.next })
+    (record { before = g.before; words = c.run_steps.new.registers; is_found = c.keep_hit-is_found.result; slots = c.keep_hit-is_found.new.slots }) =
+    let now = c.args.self.now in
+    let at = c.requires.1.0 in
+    let place = c.args.at.place in
+    let act = c.act-act.result.now in
+    let new = c.run_steps.new.registers in
+    let width = length c.args.slots.now in
+    let same_width : length c.keep_hit-is_found.new.slots ≡ length c.args.slots.now = c.keep_hit-is_found.auto.slots in
+    let moved : (r : ℕ) → r < 33 → row_in new width r ≡ row_at width place (row_in c.args.registers.now width) (source_at (after_steps (slice_range c.lend.new.self.table.now.steps act.steps.from act.steps.to) own_rows) r) =
+    subst (λ (l : List Step). (r : ℕ) → r < 33 → row_in new width r ≡ row_at width place (row_in c.args.registers.now width) (source_at (after_steps l own_rows) r)) c.steps.ensures.steps
+    (subst (λ n. (r : ℕ) → r < 33 → row_in new n r ≡ row_at n place (row_in c.args.registers.now n) (source_at (after_steps c.steps.result.now own_rows) r)) same_width c.run_steps.ensures) in
+    turn_goes now c.lend.new.self c.in-Some.ensures.same g.before c.requires.0 c.args.at c.args.registers.now c.args.was_found c.args.slots.now at
+    c.piece_at-piece.result.class c.piece_at-piece.ensures.class c.in-Some.lent (c.in-Some.ensures.lent at.list at.row_is) c.act-act.result.now c.act-act.ensures.act
+    (length c.args.slots.now) c.requires.1.1.0 c.piece_at-piece.result.len c.piece_at-piece.ensures.len
+    c.keep_hit-is_found.result c.keep_hit-is_found.ensures.found c.keep_hit-is_found.new.slots c.keep_hit-is_found.ensures.slots
+    c.is_over.result c.is_over.ensures c.if-is_over.false new moved in
+    c.in-None.ensures.over
+    (record { before = g.before; words = c.run_steps.new.registers; is_found = c.keep_hit-is_found.result; slots = c.keep_hit-is_found.new.slots })
+    there

@@ -1,0 +1,163 @@
+-- Lists that lead back to themselves.
+use Rattle.std.proofs.Common.{◌≡◌, ℕ, zero, suc, ◌+◌, ◌*◌, ◌<◌, inl, inr, Bool, true, false, List, [], ◌∷◌, ◌++◌, map, length, Option, Some, None, option_map, refl, sym, ap, ◌∙◌, subst, ⊎_elim, arith, length-append}
+use Rattle.std.specs.Prelude.{slice_get, slice_index_or}
+use Rattle.std.specs.Option.{option_flatten}
+use Rattle.std.specs.Int.Bits.{and_zero_l}
+use Rattle.bites_spec.specs.Walks.{Among}
+use Rattle.bites_spec.specs.Program.{Program}
+use Rattle.bites_spec.specs.Closure.{Walking}
+use Rattle.bites_table.specs.Kinds.{Kind, leads_by, Classes}
+use Rattle.bites_table.specs.Sources.{Thread, Source, threads_by}
+use Rattle.bites_table.specs.Takers.{over, AssertsAs}
+use Rattle.bites_table.specs.Transition.{ThreadList, Transition, IsTransition, begun}
+use Rattle.bites_table.specs.Table.{Table, IsTable, list_at, with_list}
+use Rattle.bites_table.specs.Built.{frame_of, kind_as, walking_of}
+use Rattle.bites_table.specs.Graph.{Outcome, Cell, Graph, cell_at, table_of, transition_in, transition_with}
+use Rattle.bites_table.specs.Stored.{cell_of}
+use Rattle.bites_table.specs.declared.explore.graph.Cell as made
+use Rattle.bites_table.specs.Packed.{mask_of, IsQuiet}
+use Rattle.bites_table.specs.LaidOut.{DoesQuietly, DoesByBits}
+use Rattle.bites_table.specs.Explored.{AreAfter}
+use Rattle.bites_table.specs.Stays.{LeadsBack, Stays, EndsQuietly, IsStay, AreStays, HasOutcome, WalksSo, AllWalkSo, IsKept}
+use Rattle.bites_table.specs.declared.kind.Kind as code
+use Rattle.bites_table.specs.declared.kind.Kind.TheVariants.{Edge}
+use Rattle.bites_table.specs.declared.table.skip.Skip.{Skip}
+use Rattle.bites_table.specs.declared.table.skip.Stay.{Stay}
+use Rattle.bites_table.proofs.LaidOutLemmas.{get-push, cell-there}
+use Rattle.bites_table.proofs.RowLemmas.{among-more}
+use Rattle.bites_table.proofs.TakerLemmas.{walks_over}
+use Rattle.bites_table.proofs.WalkLemmas.{one_end}
+
+-- a transition visits what a walk of its list visits before a byte of a kind, before which assertions hold as over its class
+module _ (p : Program) (k : Classes) (tab : Table) (is : IsTable p k tab) (n c : ℕ) (t : Transition ℕ) (known : tab.transition n c ≡ Some t)
+    (a : Kind) (asserts : AssertsAs p (list_at tab n).kind a (k.member c)) (seen : List ℕ) (looks : ℕ) (so : WalksSo p (list_at tab n) a seen looks) where
+  abbrev own : IsTransition p (leads_by (list_at tab n).kind (k.member c)) (list_at tab n) (with_list tab t)
+  own = is.transition n c t known
+
+  last-is : own.last ≡ over p (k.member c) (walking_of so.walk looks)
+  last-is =
+      one_end p (threads_by (leads_by (list_at tab n).kind (k.member c))) (begun p (list_at tab n)) own.last (over p (k.member c) (walking_of so.walk looks)) own.walks own.over
+      (walks_over p (list_at tab n).kind a (k.member c) asserts (begun p (list_at tab n)) (walking_of so.walk looks) so.walked.walks)
+      (ap (map frame_of) so.walked.over)
+
+  pub seen-same : t.seen ≡ seen
+  seen-same = sym own.seen ∙ ap (λ (w : Walking (Thread Source)). w.seen) last-is ∙ so.seen_is
+
+  pub looks-same : t.looks ≡ looks
+  looks-same = sym own.looks ∙ ap (λ (w : Walking (Thread Source)). w.looks) last-is
+
+-- an outcome that does nothing but lead back
+pub leads-back : (g : Graph) (n c : ℕ) (o : Outcome) → HasOutcome g n c o → o.next ≡ n → DoesByBits o (list_at (table_of g) n) 0 → LeadsBack (table_of g) n c
+leads-back g n c o has next does = record {
+  transition = transition_with has.cell o;
+  known = ap (transition_in g.outcomes) has.known ∙ ap (option_map (transition_with has.cell)) has.named;
+  next = next;
+  quiet = λ width.
+      let own = does width (and_zero_l (mask_of width)) in
+      let P : ℕ → Type 0 = λ m. DoesQuietly o (list_at (table_of g) m) width in
+      quiet-of width (subst P (sym next) own);
+}
+  where
+    quiet-of : (width : ℕ) → DoesQuietly o (list_at (table_of g) o.next) width → IsQuiet (table_of g) width (transition_with has.cell o)
+    quiet-of width own = record {
+      hit = ap (option_map frame_of) own.hit;
+      alive = own.alive;
+      kept = own.kept;
+      unwritten = own.unwritten;
+    }
+
+-- over the classes that are kept a list stays
+pub stays-over : (p : Program) (k : Classes) (tab : Table) → IsTable p k tab → (n : ℕ) (leads : List Bool) (kinds after : List code.Kind) (keeps : List Bool) → ((c : ℕ) → slice_index_or keeps c false ≡ true → IsKept leads kinds after c) →
+    ((c : ℕ) → slice_index_or leads c false ≡ true → LeadsBack tab n c) → AreAfter p k after → (seen : List ℕ) (looks : ℕ) → AllWalkSo p (list_at tab n) kinds seen looks →
+    (c : ℕ) → slice_index_or keeps c false ≡ true → Stays tab n c seen looks
+stays-over p k tab is n leads kinds after keeps kept backs are seen looks all c e =
+    let own = kept c e in
+    let back = backs c own.leads_back in
+    let kind = slice_index_or after c Edge in
+    let asserts = are (list_at tab n).kind c own.within in
+    let so = all kind own.walked in
+    record {
+      back = back;
+      seen_is = seen-same p k tab is n c back.transition back.known (kind_as kind) asserts seen looks so;
+      looks_is = looks-same p k tab is n c back.transition back.known (kind_as kind) asserts seen looks so;
+    }
+
+-- the end of a list that comes to no match
+pub ends-so : (p : Program) (k : Classes) (g : Graph) → IsTable p k (table_of g) → (n : ℕ) (end : ℕ) → end ≡ k.class_of None → (o : Outcome) → HasOutcome g n end o → o.hit ≡ None →
+    (kind : code.Kind) → AssertsAs p (list_at (table_of g) n).kind (kind_as kind) (k.member end) →
+    (seen : List ℕ) (looks : ℕ) → WalksSo p (list_at (table_of g) n) (kind_as kind) seen looks → EndsQuietly (table_of g) k n seen looks
+ends-so p k g is n end last o has hit kind asserts seen looks so =
+    let t = transition_with has.cell o in
+    let known : (table_of g).transition n end ≡ Some t = ap (transition_in g.outcomes) has.known ∙ ap (option_map (transition_with has.cell)) has.named in
+    record {
+      transition = t;
+      known = ap ((table_of g).transition n) (sym last) ∙ known;
+      hit = ap (option_map frame_of) hit;
+      seen_is = seen-same p k (table_of g) is n end t known (kind_as kind) asserts seen looks so;
+      looks_is = looks-same p k (table_of g) is n end t known (kind_as kind) asserts seen looks so;
+    }
+
+-- one more kind
+pub walk-push : (p : Program) (l : ThreadList) (kinds : List code.Kind) (k : code.Kind) (new : List code.Kind) (seen : List ℕ) (looks : ℕ) → new ≡ kinds ++ k ∷ [] →
+    AllWalkSo p l kinds seen looks → WalksSo p l (kind_as k) seen looks → AllWalkSo p l new seen looks
+walk-push p l kinds k new seen looks e all own a is =
+    ⊎_elim (all a) (λ last. ⊎_elim (λ same. subst (λ (b : code.Kind). WalksSo p l (kind_as b) seen looks) same own) (λ none. absurd none) last)
+    (among-more kinds (k ∷ []) a (let P : List code.Kind → Type 0 = λ ks. Among ks a in subst P e is))
+
+-- an item at an index
+pub among-at : {X : Type 0} (xs : List X) (i : ℕ) (d : X) → i < length xs → Among xs (slice_index_or xs i d)
+among-at [] i d lt = absurd (omega arith)
+among-at (x ∷ xs) zero d lt = inl refl
+among-at (x ∷ xs) (suc i) d lt = inr (among-at xs i d (omega arith))
+
+-- one more flag
+flags-last : (P : ℕ → Type 0) (xs : List Bool) (b : Bool) → ((c : ℕ) → slice_index_or xs c false ≡ true → P c) → (b ≡ true → P (length xs)) →
+    (c : ℕ) → slice_index_or (xs ++ b ∷ []) c false ≡ true → P c
+flags-last P [] b all own zero e = own e
+flags-last P [] b all own (suc c) e = absurd (let no : false ≡ true = e in cc)
+flags-last P (x ∷ xs) b all own zero e = all zero e
+flags-last P (x ∷ xs) b all own (suc c) e = flags-last (λ m. P (suc m)) xs b (λ m h. all (suc m) h) own c e
+
+pub flags-push : (P : ℕ → Type 0) (xs : List Bool) (b : Bool) (new : List Bool) → new ≡ xs ++ b ∷ [] → (n : ℕ) → length xs ≡ n → ((c : ℕ) → slice_index_or xs c false ≡ true → P c) → (b ≡ true → P n) →
+    (c : ℕ) → slice_index_or new c false ≡ true → P c
+flags-push P xs b new e n len all own c is =
+    flags-last P xs b all (λ t. subst P (sym len) (own t)) c (subst (λ (l : List Bool). slice_index_or l c false ≡ true) e is)
+
+-- the outcome of a list over a class is named by its cell
+get-map : {X Y : Type 0} (f : X → Y) (xs : List X) (i : ℕ) → slice_get (map f xs) i ≡ option_map f (slice_get xs i)
+get-map f [] i = refl
+get-map f (x ∷ xs) zero = refl
+get-map f (x ∷ xs) (suc i) = get-map f xs i
+
+pub named-over : (g : Graph) (cells : List (Option made.Cell)) (n c i : ℕ) (m : made.Cell) → g.cells ≡ map (option_map cell_of) cells → c < g.classes → i ≡ n * g.classes + c →
+    slice_get cells i ≡ Some (Some m) → (x : Cell) × (cell_at g n c ≡ Some x) × (x.outcome ≡ m.outcome)
+named-over g cells n c i m are lt at there = (
+  cell_of m,
+  cell-there g n c (Some (cell_of m)) lt
+      (sym (ap option_flatten (ap (λ l. slice_get l (n * g.classes + c)) are ∙ ap (slice_get (map (option_map cell_of) cells)) (sym at) ∙ get-map (option_map cell_of) cells i ∙ ap (option_map (option_map cell_of)) there))),
+  refl,
+)
+
+-- a stay is one of more skips
+pub stay-more : (tab : Table) (k : Classes) (skips more : List Skip) (n : ℕ) (e : Stay) → IsStay tab k skips n e → IsStay tab k (skips ++ more) n e
+stay-more tab k skips more n e is = record {
+  within = λ i at. let lt = is.within i at in let len = length-append skips more in omega arith;
+  skip = λ i s at there. is.skip i s at (left skips more i s (is.within i at) there);
+  rest = is.rest;
+}
+  where
+    left : (xs ys : List Skip) (i : ℕ) (s : Skip) → i < length xs → slice_get (xs ++ ys) i ≡ Some s → slice_get xs i ≡ Some s
+    left [] ys i s lt at = absurd (omega arith)
+    left (x ∷ xs) ys zero s lt at = at
+    left (x ∷ xs) ys (suc i) s lt at = left xs ys i s (omega arith) at
+
+-- one more list
+pub stays-push : (tab : Table) (k : Classes) (skips more new : List Skip) (lists : List Stay) (e : Stay) → new ≡ skips ++ more → IsStay tab k new (length lists) e → AreStays tab k skips lists →
+    AreStays tab k new (lists ++ e ∷ [])
+stays-push tab k skips more new lists e is own are n d at =
+    ⊎_elim (λ before. let P : List Skip → Type 0 = λ l. IsStay tab k l n d in subst P (sym is) (stay-more tab k skips more n d (are n d before)))
+    (λ (last : (n ≡ length lists) × (e ≡ d)).
+    let P : ℕ → Type 0 = λ m. IsStay tab k new m e in
+    let Q : Stay → Type 0 = λ s. IsStay tab k new n s in
+    subst Q last.1 (subst P (sym last.0) own))
+    (get-push lists e n d at)

@@ -1,0 +1,92 @@
+-- Thread lists that lead back to themselves.
+use Rattle.std.specs.Prelude.{◌≡◌, ℕ, ◌<◌, Bool, true, false, List, length, reverse, Some, None, slice_get, slice_index_or}
+use Rattle.bites_spec.specs.Walks.{Among}
+use Rattle.bites_spec.specs.Program.{Program}
+use Rattle.bites_table.specs.Kinds.{Kind, Classes}
+use Rattle.bites_table.specs.Transition.{ThreadList, Transition}
+use Rattle.bites_table.specs.Table.{Table}
+use Rattle.bites_table.specs.Graph.{Outcome, Cell, Graph, cell_at}
+use Rattle.bites_table.specs.Built.{kind_as}
+use Rattle.bites_table.specs.Made.{IsWalked}
+use Rattle.bites_table.specs.Packed.{IsQuiet}
+use Rattle.bites_table.specs.declared.kind.Kind as code
+use Rattle.bites_table.specs.declared.kind.Kind.TheVariants.{Edge}
+use Rattle.bites_table.specs.declared.walk.Walk.{Walk}
+use Rattle.bites_table.specs.declared.table.skip.Skip.{Skip}
+use Rattle.bites_table.specs.declared.table.skip.Rest.{Rest}
+use Rattle.bites_table.specs.declared.table.skip.Stay.{Stay}
+use Rattle.bites_table.specs.declared.explore.stays.Over.{Over}
+use Rattle.bites_table.specs.declared.explore.stays.Found as found
+
+-- the list leads over the class back to itself, quietly for all slots
+pub record LeadsBack (tab : Table) (n c : ℕ) : Type 0 where
+  pub transition : Transition ℕ
+  pub known : tab.transition n c ≡ Some transition
+  pub next : transition.next ≡ n
+  pub quiet : (width : ℕ) → IsQuiet tab width transition
+
+-- it does so with these visits and looks
+pub record Stays (tab : Table) (n c : ℕ) (seen : List ℕ) (looks : ℕ) : Type 0 where
+  pub back : LeadsBack tab n c
+  pub seen_is : back.transition.seen ≡ seen
+  pub looks_is : back.transition.looks ≡ looks
+
+-- each byte of the set is of ASCII, and the list leads over it back to itself
+pub record IsSkip (tab : Table) (k : Classes) (n : ℕ) (s : Skip) : Type 0 where
+  pub ascii : (b : ℕ) → slice_index_or s.set b false ≡ true → b < 128
+  pub stays : (b : ℕ) → slice_index_or s.set b false ≡ true → Stays tab n (k.class_of (Some b)) (reverse s.seen.value.items) s.looks.value
+
+-- over the end nobody comes to a match, with these visits and looks
+pub record EndsQuietly (tab : Table) (k : Classes) (n : ℕ) (seen : List ℕ) (looks : ℕ) : Type 0 where
+  pub transition : Transition ℕ
+  pub known : tab.transition n (k.class_of None) ≡ Some transition
+  pub hit : transition.hit ≡ None
+  pub seen_is : transition.seen ≡ seen
+  pub looks_is : transition.looks ≡ looks
+
+-- over each character the list leads back to itself, and at the end nobody comes to a match
+pub record IsRest (tab : Table) (k : Classes) (n : ℕ) (r : Rest) : Type 0 where
+  pub stays : (ch : ℕ) → Stays tab n (k.class_of (Some ch)) (reverse r.seen.value.items) r.looks.value
+  pub ends : EndsQuietly tab k n (reverse r.seen.value.items) r.looks.value
+
+-- what a search passes at once from the list: a skip of this list of skips, or all that is left
+pub record IsStay (tab : Table) (k : Classes) (skips : List Skip) (n : ℕ) (e : Stay) : Type 0 where
+  pub within : (i : ℕ) → e.skip ≡ Some i → i < length skips
+  pub skip : (i : ℕ) (s : Skip) → e.skip ≡ Some i → slice_get skips i ≡ Some s → IsSkip tab k n s
+  pub rest : (r : Rest) → e.rest ≡ Some r → IsRest tab k n r
+
+abbrev pub AreStays : Table → Classes → List Skip → List Stay → Type 0
+AreStays tab k skips stays = (n : ℕ) (e : Stay) → slice_get stays n ≡ Some e → IsStay tab k skips n e
+
+-- what was found for a list
+abbrev pub IsFound : Table → Classes → ℕ → found.Found → Type 0
+IsFound tab k n found.Found.Nothing = Unit {0}
+IsFound tab k n (found.Found.Skips s) = IsSkip tab k n s
+IsFound tab k n (found.Found.Rests r) = IsRest tab k n r
+
+-- the outcome of a list over a class
+pub record HasOutcome (g : Graph) (n c : ℕ) (o : Outcome) : Type 0 where
+  pub cell : Cell
+  pub known : cell_at g n c ≡ Some cell
+  pub named : slice_get g.outcomes cell.outcome ≡ Some o
+
+-- the walk of the list before a byte of the kind visits these states, with so many looks
+pub record WalksSo (p : Program) (l : ThreadList) (after : Kind) (seen : List ℕ) (looks : ℕ) : Type 0 where
+  pub walk : Walk
+  pub walked : IsWalked p l after walk looks
+  pub seen_is : walk.visited ≡ seen
+
+-- before bytes of these kinds it does so
+abbrev pub AllWalkSo : Program → ThreadList → List code.Kind → List ℕ → ℕ → Type 0
+AllWalkSo p l kinds seen looks = (a : code.Kind) → Among kinds a → WalksSo p l (kind_as a) seen looks
+
+-- over the classes that are kept the list stays, and at the end it does so if that is said
+pub record StaysOver (tab : Table) (k : Classes) (n : ℕ) (o : Over) : Type 0 where
+  pub stays : (c : ℕ) → slice_index_or o.keeps.items c false ≡ true → Stays tab n c (reverse o.seen.value.items) o.looks.value
+  pub ends : o.ends ≡ true → EndsQuietly tab k n (reverse o.seen.value.items) o.looks.value
+
+-- the class leads back, and it is one before whose kind the list was walked
+pub record IsKept (leads : List Bool) (kinds after : List code.Kind) (c : ℕ) : Type 0 where
+  pub leads_back : slice_index_or leads c false ≡ true
+  pub within : c < length after
+  pub walked : Among kinds (slice_index_or after c Edge)

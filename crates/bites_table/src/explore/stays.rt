@@ -1,0 +1,397 @@
+//! Lists that lead back to themselves, which a search leaves at once.
+
+ghost use Rattle.std.specs.Prelude.{◌≡◌, ◌<◌, ◌+◌, ◌++◌, ℕ, List, false, true, length, IfSome, reverse, slice_index_or};
+ghost use Rattle.bites_spec.specs.Walks.{Among};
+ghost use Rattle.bites_table.specs.Kinds.{Classes};
+ghost use Rattle.bites_table.specs.Table.{Table, IsTable, list_at};
+ghost use Rattle.bites_table.specs.Graph.{table_of};
+ghost use Rattle.bites_table.specs.Built.{kind_as};
+ghost use Rattle.bites_table.specs.Made.{IsWalked};
+ghost use Rattle.bites_table.specs.Explored.{program_in, classes_in, IsContext};
+ghost use Rattle.bites_table.specs.Stays.{LeadsBack, EndsQuietly, IsStay, AreStays, IsFound, WalksSo, AllWalkSo, StaysOver, IsKept};
+ghost use Rattle.bites_table.specs.declared.kind.Kind.TheVariants.{Edge};
+ghost use Rattle.bites_table.specs.declared.table.skip.Skip.{Skip};
+
+use crate::explore::graph::Graph;
+use crate::explore::{Context, KINDS, Memory};
+use crate::kind::Kind;
+use crate::table::layout::doing_of;
+use crate::table::skip::{Rest, Skip, Stay};
+use crate::walk;
+use bites_scan::byte_set::ByteSet;
+use std::alloc::Global;
+use std::snapshot::Snapshot;
+
+// How many of the small letters and the blank a set must have, so that a search stops to skip its bytes.
+const MOST_LETTERS: u32 = 20;
+
+/// What a search passes at once from each list, by their numbers.
+#[derive(Drop)]
+pub(crate) struct Stays {
+    pub skips: Vec<Skip>,
+    pub lists: Vec<Stay>,
+}
+
+// What is passed at once from one list.
+#[derive(Drop)]
+enum Found {
+    Nothing,
+    Skips(Skip),
+    Rests(Rest),
+}
+
+// The classes over which a list stays with the same visits and looks, and whether the end is like that.
+#[derive(Drop)]
+struct Over {
+    keeps: Vec<bool>,
+    ends: bool,
+    seen: Snapshot<Vec<u32>>,
+    looks: Snapshot<usize>,
+}
+
+// The states that a walk visited, in order, and the number of its looks.
+#[derive(Drop)]
+struct Walked {
+    states: Vec<u32>,
+    looks: usize,
+}
+
+/// Finds what a search passes at once from each list. Returns `None` if memory runs out.
+pub(crate) fn find_stays(
+    alloc: Global,
+    context: &Context<'_>,
+    memory: &mut Memory,
+    graph: &Graph,
+) -> Option<Stays>
+    requires context { IsContext context.now }
+    requires classes { graph.now.classes ≡ length context.now.after.now }
+    requires table { IsTable (program_in context.now) (classes_in context.now) (table_of graph.now) }
+    ensures { IfSome result (λ s. AreStays (table_of graph.now) (classes_in context.now) s.skips.items s.lists.items) }
+{
+    let mut stays = Stays {
+        skips: Vec::new(alloc),
+        lists: Vec::new(alloc),
+    };
+    for number in 0..graph.lists() {
+        let found = find_stay(alloc, context, memory, graph, number);
+        stays.add(found)?;
+    }
+    Some(stays)
+}
+
+impl Stays {
+    // Adds what was found for the next list.
+    fn add(&mut self, found: Found) -> Option<()>
+        ensures added { IfSome result (λ _. (tab : Table) (k : Classes) → IsFound tab k (length self.old.lists.items) found →
+            AreStays tab k self.old.skips.items self.old.lists.items → AreStays tab k self.new.skips.items self.new.lists.items) }
+        ensures len { IfSome result (λ _. length self.new.lists.items ≡ length self.old.lists.items + 1) }
+    {
+        let stay = self.stay_of(found)?;
+        self.lists.push(stay).ok()?;
+        Some(())
+    }
+
+    // Returns what was found for a list, with the number of its skip.
+    fn stay_of(&mut self, found: Found) -> Option<Stay>
+        ensures stay { IfSome result (λ e. (tab : Table) (k : Classes) (n : ℕ) → IsFound tab k n found → IsStay tab k self.new.skips.items n e) }
+        ensures grows { IfSome result (λ _. (more : List Skip) × (self.new.skips.items ≡ self.old.skips.items ++ more)) }
+        ensures lists { self.new.lists ≡ self.old.lists }
+    {
+        match found {
+            Found::Nothing => Some(Stay {
+                skip: None,
+                rest: None,
+            }),
+            Found::Skips(skip) => {
+                let number = u32::try_from(self.skips.len()).ok()?;
+                self.skips.push(skip).ok()?;
+                Some(Stay {
+                    skip: Some(number),
+                    rest: None,
+                })
+            }
+            Found::Rests(rest) => Some(Stay {
+                skip: None,
+                rest: Some(rest),
+            }),
+        }
+    }
+}
+
+// Finds what a search passes at once from a list.
+fn find_stay(
+    alloc: Global,
+    context: &Context<'_>,
+    memory: &mut Memory,
+    graph: &Graph,
+    number: usize,
+) -> Found
+    requires context { IsContext context.now }
+    requires classes { graph.now.classes ≡ length context.now.after.now }
+    requires table { IsTable (program_in context.now) (classes_in context.now) (table_of graph.now) }
+    requires within { number < length graph.now.lists }
+    ensures { IsFound (table_of graph.now) (classes_in context.now) number result }
+{
+    let Some(over) = find_over(alloc, context, memory, graph, number) else {
+        return Found::Nothing;
+    };
+    let classes = context.classes;
+    if over.ends && are_kept(&over.keeps, classes.end()) {
+        let Over { seen, looks, .. } = over;
+        return Found::Rests(Rest { seen, looks });
+    }
+    if over.keeps.len() != classes.len() {
+        return Found::Nothing;
+    }
+    let flags = classes.bytes(&over.keeps);
+    if !are_common(&flags) {
+        return Found::Nothing;
+    }
+    let set = ByteSet::new(&flags);
+    let Over { seen, looks, .. } = over;
+    Found::Skips(Skip { set, seen, looks })
+}
+
+// Returns whether most letters of a text, and blanks, are in the set. Else a search would stop to skip again and again.
+fn are_common(flags: &[bool; 256]) -> bool {
+    let mut count = u32::from(flags[usize::from(b' ')]);
+    for letter in b'a'..=b'z' {
+        if flags[usize::from(letter)] {
+            count = count.wrapping_add(1);
+        }
+    }
+    count >= MOST_LETTERS
+}
+
+// Returns whether all classes before this one are kept.
+fn are_kept(keeps: &[bool], end: usize) -> bool
+    ensures { result ≡ true → (c : ℕ) → c < end → slice_index_or keeps.now c false ≡ true }
+{
+    if end > keeps.len() {
+        return false;
+    }
+    for class in 0..end {
+        if !keeps[class] {
+            return false;
+        }
+    }
+    true
+}
+
+// Finds the classes over which a list stays. Returns `None` if there are none, or if memory or the budget runs out.
+fn find_over(
+    alloc: Global,
+    context: &Context<'_>,
+    memory: &mut Memory,
+    graph: &Graph,
+    number: usize,
+) -> Option<Over>
+    requires context { IsContext context.now }
+    requires classes { graph.now.classes ≡ length context.now.after.now }
+    requires table { IsTable (program_in context.now) (classes_in context.now) (table_of graph.now) }
+    requires within { number < length graph.now.lists }
+    ensures { IfSome result (StaysOver (table_of graph.now) (classes_in context.now) number) }
+{
+    let leads = leading(alloc, graph, number)?;
+    let first = first_kind(&leads, context.after)?;
+    let walked = walk_once(alloc, context, memory, graph, number, first)?;
+    let kinds = alike_kinds(alloc, context, memory, graph, number, first, &walked)?;
+    let keeps = kept_by(alloc, &leads, &kinds, context.after)?;
+    let ends = ends_quietly(context, graph, number, &kinds);
+    Some(Over {
+        keeps,
+        ends,
+        seen: Snapshot::of(&walked.states),
+        looks: Snapshot::of(&walked.looks),
+    })
+}
+
+// Returns for each class whether the list leads over it back to itself quietly.
+fn leading(alloc: Global, graph: &Graph, number: usize) -> Option<Vec<bool>>
+    requires { number < length graph.now.lists }
+    ensures { IfSome result (λ l. (c : ℕ) → slice_index_or l.items c false ≡ true → LeadsBack (table_of graph.now) number c) }
+{
+    let mut leads = Vec::new(alloc);
+    for class in 0..graph.classes() {
+        let is_back = leads_back(graph, number, class);
+        leads.push(is_back).ok()?;
+    }
+    Some(leads)
+}
+
+// Returns whether the list leads over the class back to itself quietly.
+fn leads_back(graph: &Graph, number: usize, class: usize) -> bool
+    requires { number < length graph.now.lists }
+    ensures { result ≡ true → LeadsBack (table_of graph.now) number class }
+{
+    let Some(outcome) = graph.outcome_over(number, class) else {
+        return false;
+    };
+    let list = graph.list(number);
+    outcome.next as usize == number && doing_of(&outcome, &list) == 0
+}
+
+// Returns the kind after which the first class is walked that leads back.
+fn first_kind(leads: &[bool], after: &[Kind]) -> Option<Kind> {
+    for class in 0..leads.len() {
+        if leads[class] {
+            return after.get(class).copied();
+        }
+    }
+    None
+}
+
+// Walks a list before a byte of the kind, and returns what that visits.
+fn walk_once(
+    alloc: Global,
+    context: &Context<'_>,
+    memory: &mut Memory,
+    graph: &Graph,
+    number: usize,
+    kind: Kind,
+) -> Option<Walked>
+    requires { number < length graph.now.lists }
+    ensures { IfSome result (λ w. WalksSo (program_in context.now) (list_at (table_of graph.now) number) (kind_as kind)
+        (reverse w.states.items) w.looks) }
+{
+    let looks = walk_again(context, memory, graph, number, kind)?;
+    let states = memory.walk.visited.copied(alloc)?;
+    Some(Walked { states, looks })
+}
+
+// Walks a list before a byte of the kind. Returns the number of looks.
+fn walk_again(
+    context: &Context<'_>,
+    memory: &mut Memory,
+    graph: &Graph,
+    number: usize,
+    kind: Kind,
+) -> Option<usize>
+    requires { number < length graph.now.lists }
+    ensures { IfSome result (IsWalked (program_in context.now) (list_at (table_of graph.now) number) (kind_as kind) memory.new.walk) }
+{
+    let list = graph.list(number);
+    let budget = memory.budget.looks;
+    let looks = walk::walk_list(&mut memory.walk, context.program, &list, kind, budget)?;
+    memory.budget.looks = budget - looks;
+    Some(looks)
+}
+
+// Returns the kinds before which the walk of the list is the same.
+fn alike_kinds(
+    alloc: Global,
+    context: &Context<'_>,
+    memory: &mut Memory,
+    graph: &Graph,
+    number: usize,
+    first: Kind,
+    walked: &Walked,
+) -> Option<Vec<Kind>>
+    requires within { number < length graph.now.lists }
+    requires walked { WalksSo (program_in context.now) (list_at (table_of graph.now) number) (kind_as first)
+        (reverse walked.now.states.items) walked.now.looks }
+    ensures { IfSome result (λ ks. AllWalkSo (program_in context.now) (list_at (table_of graph.now) number) ks.items
+        (reverse walked.now.states.items) walked.now.looks) }
+{
+    let mut kinds = Vec::new(alloc);
+    kinds.push(first).ok()?;
+    for kind in KINDS {
+        add_alike(context, memory, graph, number, kind, walked, &mut kinds)?;
+    }
+    Some(kinds)
+}
+
+// Adds a kind of some class, if it is new, and if the walk of the list before it is the same.
+fn add_alike(
+    context: &Context<'_>,
+    memory: &mut Memory,
+    graph: &Graph,
+    number: usize,
+    kind: Kind,
+    walked: &Walked,
+    kinds: &mut Vec<Kind>,
+) -> Option<()>
+    requires { number < length graph.now.lists }
+    ensures { IfSome result (λ _. AllWalkSo (program_in context.now) (list_at (table_of graph.now) number) kinds.old.items
+        (reverse walked.now.states.items) walked.now.looks →
+        AllWalkSo (program_in context.now) (list_at (table_of graph.now) number) kinds.new.items
+        (reverse walked.now.states.items) walked.now.looks) }
+{
+    if has_kind(kinds, kind)
+        || !context.after.contains(&kind)
+        || !is_walked_so(context, memory, graph, number, kind, walked)
+    {
+        return Some(());
+    }
+    kinds.push(kind).ok()?;
+    Some(())
+}
+
+// Returns whether the walk of the list before a byte of the kind is the same.
+fn is_walked_so(
+    context: &Context<'_>,
+    memory: &mut Memory,
+    graph: &Graph,
+    number: usize,
+    kind: Kind,
+    walked: &Walked,
+) -> bool
+    requires { number < length graph.now.lists }
+    ensures { result ≡ true → WalksSo (program_in context.now) (list_at (table_of graph.now) number) (kind_as kind)
+        (reverse walked.now.states.items) walked.now.looks }
+{
+    let Some(looks) = walk_again(context, memory, graph, number, kind) else {
+        return false;
+    };
+    looks == walked.looks && memory.walk.visited.are(&walked.states)
+}
+
+// Returns for each class whether it leads back, and the walk before it is one of those kinds.
+fn kept_by(alloc: Global, leads: &[bool], kinds: &[Kind], after: &[Kind]) -> Option<Vec<bool>>
+    ensures { IfSome result (λ k. (c : ℕ) → slice_index_or k.items c false ≡ true → IsKept leads.now kinds.now after.now c) }
+{
+    let mut keeps = Vec::new(alloc);
+    for class in 0..leads.len() {
+        let is_kept = leads[class] && is_among(kinds, after, class);
+        keeps.push(is_kept).ok()?;
+    }
+    Some(keeps)
+}
+
+// Returns whether the kind after which the class is walked is one of these.
+fn is_among(kinds: &[Kind], after: &[Kind], class: usize) -> bool
+    ensures within { result ≡ true → class < length after.now }
+    ensures among { result ≡ true → Among kinds.now (slice_index_or after.now class Edge) }
+{
+    if class >= after.len() {
+        return false;
+    }
+    has_kind(kinds, after[class])
+}
+
+// Returns whether the kind is one of these.
+fn has_kind(kinds: &[Kind], kind: Kind) -> bool
+    ensures { result ≡ true → Among kinds.now kind }
+{
+    for own in kinds {
+        if *own == kind {
+            return true;
+        }
+    }
+    false
+}
+
+// Returns whether nobody comes to a match at the end, after the same walk.
+fn ends_quietly(context: &Context<'_>, graph: &Graph, number: usize, kinds: &[Kind]) -> bool
+    requires context { IsContext context.now }
+    requires table { IsTable (program_in context.now) (classes_in context.now) (table_of graph.now) }
+    ensures { result ≡ true → (seen : List ℕ) (looks : ℕ) →
+        AllWalkSo (program_in context.now) (list_at (table_of graph.now) number) kinds.now seen looks →
+        EndsQuietly (table_of graph.now) (classes_in context.now) number seen looks }
+{
+    let end = context.classes.end();
+    let Some(outcome) = graph.outcome_over(number, end) else {
+        return false;
+    };
+    outcome.hit.is_none() && is_among(kinds, context.after, end)
+}
