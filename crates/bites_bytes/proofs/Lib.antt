@@ -11,3 +11,4 @@ pub mod ReplacedLemmas
 pub mod CountLemmas
 pub mod PartLemmas
 pub mod SetLemmas
+pub mod SearcherLemmas

@@ -11,3 +11,7 @@ pub mod Split
 pub mod ReplaceLimit
 pub mod Replacing
 pub mod Set
+pub mod Searcher
+pub mod NextCaptured
+pub mod SearcherCaptures
+pub mod SearcherSplit

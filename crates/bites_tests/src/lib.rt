@@ -26,6 +26,8 @@ mod examples;
 #[cfg(test)]
 mod examples_bytes;
 #[cfg(test)]
+mod examples_searchers;
+#[cfg(test)]
 mod examples_texts;
 #[cfg(test)]
 mod faults;

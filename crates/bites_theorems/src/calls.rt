@@ -3,3 +3,4 @@
 
 pub mod over_bytes;
 pub mod over_texts;
+pub mod searchers;

@@ -1,8 +1,9 @@
 -- What searches of a text return begins and ends at borders.
-use Rattle.std.proofs.Common.{◌≡◌, ℕ, zero, suc, ◌+◌, ◌≤◌, Bool, true, false, cond, List, [], ◌∷◌, map, length, Option, Some, None, option_map, refl, sym, subst, ⊎_elim, arith, ltb, ltb-true, ltb-false, IsUtf8, IsCharBoundary}
+use Rattle.std.proofs.Common.{◌≡◌, ℕ, zero, suc, ◌+◌, ◌≤◌, Bool, true, false, cond, List, [], ◌∷◌, map, length, Option, Some, None, Result, Ok, option_map, refl, sym, subst, ⊎_elim, arith, ltb, ltb-true, ltb-false, IsUtf8, IsCharBoundary}
 use Rattle.std.proofs.lemmas.Option.{same_Some}
 use Rattle.std.specs.Prelude.{IfSome, unwrap_or, option_and_then}
 use Rattle.std.specs.List.{AllByRecursion}
+use Rattle.std.specs.Option.{ForSome}
 use Rattle.std.proofs.lemmas.Str.{IsCharBoundary-start}
 use Rattle.std.proofs.lemmas.Bool.{cases_Bool}
 use Rattle.bites_spec.specs.Utf8.{piece, places, step_len, AreStarts}
@@ -17,7 +18,9 @@ use Rattle.bites_spec.specs.Regex.{Regex, IsCompiled, run_at, span_at, slots_at}
 use Rattle.bites_spec.specs.Captured.{Excerpt, excerpt, Captured, captured}
 use Rattle.bites_spec.specs.Full.{FoundFull, full_run, full_slots}
 use Rattle.bites_spec.specs.Pieces.{AreInOrder}
-use Rattle.bites_spec.specs.Iteration.{spans_in, captured_by, captures_in}
+use Rattle.bites_spec.specs.Iteration.{spans_in, spans_after, captured_by, captures_in, captures_after}
+use Rattle.bites_bytes.specs.Calls.{FindsNext}
+use Rattle.bites_bytes.specs.NextCaptured.{IsNextCaptured, FindsNextCaptured}
 use Rattle.bites_spec.proofs.utf8.PieceLemmas.{piece_some}
 use Rattle.bites_spec.proofs.utf8.StartLemmas.{start_lies, all_are_starts}
 use Rattle.bites_spec.proofs.parses.TextPlaces.{border_behind}
@@ -79,6 +82,11 @@ module _ (hay : List ℕ) (utf8 : IsUtf8 hay) where
     pub each_successive : AllByRecursion P (successive span_of hay A)
     unfolding successive successive_after
     each_successive = each_followed (some_after span_of hay A (length hay)) (A 0) (answers 0 may_start) (each_after (length hay))
+
+    -- and those after one that ends at a border
+    pub each_successive_after : (e : ℕ) → IsCharBoundary hay e → AllByRecursion P (successive_after span_of hay A e)
+    unfolding successive_after
+    each_successive_after = each_after (length hay)
 
   -- the least end of a match is a border
   pub end_border : (t : Tree) (s : ℕ) (ps : List ℕ) → AreStarts hay s ps → MayStart hay s → (o : Option ℕ) → IsLeastEnd t hay ps o → IfSome o (IsCharBoundary hay)
@@ -161,11 +169,18 @@ module _ (hay : List ℕ) (utf8 : IsUtf8 hay) where
     parts [] h = tt
     parts (s ∷ ss) h = ((refl, h.0), parts ss h.1)
 
+    found_span : (s : ℕ) → MayStart hay s → (g : Span) → span_at r hay (places hay s) ≡ Some g → HasBorders hay g × IsCharBoundary hay g.end
+    found_span s may g e = let b = span_borders s _ (all_are_starts hay s) may g e in (b, b.1)
+
+    found_run : (s : ℕ) → MayStart hay s → (x : Run) → run_at r hay (places hay s) ≡ Some x →
+        HaveBorders hay (slots r.program x) × IsCharBoundary hay (span_of_run x).end
+    found_run s may x e = let b = run_borders s _ (all_are_starts hay s) may x e in (b.1, b.0.1)
+
     -- all matches are parts of the text
     pub spans_parts : AllByRecursion (IsPart hay) (map (excerpt hay) (spans_in r hay))
     spans_parts =
         parts (spans_in r hay)
-        (each_successive (λ s. s) (λ s. span_at r hay (places hay s)) (HasBorders hay) (λ s may g e. let b = span_borders s _ (all_are_starts hay s) may g e in (b, b.1)))
+        (each_successive (λ s. s) (λ s. span_at r hay (places hay s)) (HasBorders hay) found_span)
 
     groups_of_all : (xs : List Run) → AllByRecursion (λ x. HaveBorders hay (slots r.program x)) xs → AllByRecursion (AreGroupsOf hay) (map (captured_by r hay) xs)
     groups_of_all [] h = tt
@@ -175,8 +190,36 @@ module _ (hay : List ℕ) (utf8 : IsUtf8 hay) where
     pub captures_groups : AllByRecursion (AreGroupsOf hay) (captures_in r hay)
     captures_groups =
         groups_of_all (successive span_of_run hay (λ s. run_at r hay (places hay s)))
-        (each_successive span_of_run (λ s. run_at r hay (places hay s)) (λ x. HaveBorders hay (slots r.program x))
-        (λ s may x e. let b = run_borders s _ (all_are_starts hay s) may x e in (b.1, b.0.1)))
+        (each_successive span_of_run (λ s. run_at r hay (places hay s)) (λ x. HaveBorders hay (slots r.program x)) found_run)
+
+    -- the matches after one that ends at a border begin and end at borders
+    spans_after_borders : (last : Option ℕ) → ForSome last (IsCharBoundary hay) → AllByRecursion (HasBorders hay) (spans_after r hay last)
+    spans_after_borders None border = each_successive (λ s. s) (λ s. span_at r hay (places hay s)) (HasBorders hay) found_span
+    spans_after_borders (Some e) border =
+        each_successive_after (λ s. s) (λ s. span_at r hay (places hay s)) (HasBorders hay) found_span e (border e refl)
+
+    -- the next match is a part of the text
+    pub next_part : {M : Type 0} (f : M → Excerpt) (last : Option ℕ) → ForSome last (IsCharBoundary hay) → (o : Option M) →
+        FindsNext r hay last (option_map f o) → (m : M) → o ≡ Some m → IsPart hay (f m)
+    next_part f last border None next m is = none_some m is
+    next_part f last border (Some n) next m is =
+        subst (λ k. IsPart hay (f k)) (same_Some n m is)
+        (next.haystack, (subst (AllByRecursion (HasBorders hay)) next.follow (spans_after_borders last border)).0)
+
+    captures_after_groups : (last : Option ℕ) → ForSome last (IsCharBoundary hay) → AllByRecursion (AreGroupsOf hay) (captures_after r hay last)
+    captures_after_groups None border = captures_groups
+    captures_after_groups (Some e) border =
+        groups_of_all (successive_after span_of_run hay (λ s. run_at r hay (places hay s)) e)
+        (each_successive_after span_of_run (λ s. run_at r hay (places hay s)) (λ x. HaveBorders hay (slots r.program x)) found_run e (border e refl))
+
+    -- the groups of the next match are those of a match in the text
+    next_groups : (last : Option ℕ) → ForSome last (IsCharBoundary hay) → (c : Captured) → IsNextCaptured r hay last c → AreGroupsOf hay c
+    next_groups last border c next = (subst (AllByRecursion (AreGroupsOf hay)) next.follow (captures_after_groups last border)).0
+
+    pub found_next_groups : {E : Type 0} (last : Option ℕ) → ForSome last (IsCharBoundary hay) → (o : Result Captured E) → FindsNextCaptured r hay last (Some o) →
+        (c : Captured) → o ≡ Ok c → AreGroupsOf hay c
+    found_next_groups {E} last border o next c is =
+        next_groups last border c (subst (λ (x : Result Captured E). FindsNextCaptured r hay last (Some x)) is next)
 
     begin_from : (len e : ℕ) (ss : List Span) → AreInOrder len e (map (λ s. s) ss) → BeginFrom e (map (λ e. e.span) (map (excerpt hay) ss))
     begin_from len e [] h = tt

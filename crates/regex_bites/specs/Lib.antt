@@ -7,3 +7,6 @@ pub mod CapturesLeft
 pub mod Split
 pub mod ReplacedText
 pub mod Replaced
+pub mod Searcher
+pub mod SearcherCaptures
+pub mod SearcherSplit

@@ -97,9 +97,20 @@
 //! assert_eq!(rt; builder.build().err(), Some(Error::TooBig));
 //! ```
 //!
-//! A search without a cache allocates one, and its error is out of memory. For many haystacks make a cache once and
-//! reuse it by the methods whose names end in `_with`. Of these, only those that return [`Captures`] or a replaced
-//! haystack allocate. The others cannot fail.
+//! # Many haystacks
+//!
+//! A search of a [`Regex`] allocates a cache, and its error is out of memory. A [`Searcher`] keeps one for all its
+//! searches, so make it before a loop. Of its calls only those that return [`Captures`] allocate, these groups alone.
+//!
+//! ```rust
+//! let mut dates = Searcher::new(Regex::new(rt.alloc(), r"(?<year>\d{4})-(?<month>\d{2})")?)?;
+//! let captures = dates.captures("on 2010-03-14")?.ok_or("no match")?;
+//! let year = captures.name("year").ok_or("no year")?;
+//! assert_eq!(rt; year.as_str(), "2010");
+//! ```
+//!
+//! The methods whose names end in `_with` take a cache of the caller, for a cache that several regexes share one after
+//! another, as those with equal programs may ([`Cache::fits`]).
 //!
 //! ```rust
 //! let regex = Regex::new(rt.alloc(), "a+")?;
@@ -112,8 +123,8 @@
 //!
 //! - A function that allocates returns a `Result`, and one that makes an object is given an allocator. An [`Error`] may
 //!   also be out of memory.
-//! - There is no pool of caches: each search allocates a cache, or is given one. A regex and its clones share the
-//!   program by `Arc`, so a clone may go to another thread.
+//! - There is no pool of caches: each search allocates a cache, or is given one, or a [`Searcher`] keeps it. A regex
+//!   and its clones share the program by `Arc`, so a clone may go to another thread.
 //! - No call panics. A start within a text must be at a character boundary. Captures are not indexed: `part` requires
 //!   that the group participates. A caller proves such a condition, or tests it.
 //! - A function that replaces is wrapped in `With`.
@@ -138,6 +149,7 @@ pub use bites_text::error::Error;
 pub use bites_text::{error, utf8};
 pub use string::{
     Cache, CaptureLocations, CaptureMatches, CaptureNames, Captures, Match, Matches, NoExpand,
-    Regex, RegexBuilder, RegexSet, RegexSetBuilder, Replacer, ReplacerRef, SetCache, SetError,
-    SetMatches, SetMatchesIter, SetPatterns, Split, SplitN, SubCaptureMatches, SyntaxError, With,
+    Regex, RegexBuilder, RegexSet, RegexSetBuilder, Replacer, ReplacerRef, Searcher, SetCache,
+    SetError, SetMatches, SetMatchesIter, SetPatterns, Split, SplitN, SubCaptureMatches,
+    SyntaxError, With,
 };

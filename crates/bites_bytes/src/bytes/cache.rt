@@ -58,12 +58,7 @@ impl Cache {
 
     // Searches as the input asks, and returns whether it finds a match. Writes the slots of the match, as many as are
     // given; without a match they are unchanged.
-    fn search(
-        &mut self,
-        regex: &Regex,
-        input: &Input<'_>,
-        slots: &mut [Option<usize>],
-    ) -> bool
+    fn search(&mut self, regex: &Regex, input: &Input<'_>, slots: &mut [Option<usize>]) -> bool
         requires fits { self.old.fits ≡ fit_of regex.now.program }
         requires slots { IsSlotCount regex.now.program (length slots.old) }
         ensures { IsSearched regex.now input.now result slots.old slots.new self.old self.new }

@@ -41,7 +41,7 @@ impl Model for Compiled {
     ghost use Rattle.bites_syntax.specs.TreeCode.{tree_code};
     ghost use Rattle.bites_spec.specs.Regex as spec;
     ghost use Rattle.bites_bytes.specs.NextMatch.{kind_of};
-ghost use Rattle.bites_bytes.specs.Parts.{regex_of};
+    ghost use Rattle.bites_bytes.specs.Parts.{regex_of};
 
     ghost Value = { spec.Regex };
 

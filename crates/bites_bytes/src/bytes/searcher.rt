@@ -1,0 +1,231 @@
+//! A regex with the cache for its searches.
+
+ghost use Rattle.std.specs.Prelude.{◌≡◌, ◌↔◌, [], option_map, IfOk, IsTrue};
+ghost use Rattle.std.specs.Cow.{cow_slice_items, IsBorrowedSlice};
+ghost use Rattle.bites_spec.specs.Found.{HasMatch};
+ghost use Rattle.bites_spec.specs.Full.{IsFullMatch};
+ghost use Rattle.bites_spec.specs.Captured.{FindsMatch};
+ghost use Rattle.bites_spec.specs.Iteration.{captures_in};
+ghost use Rattle.bites_spec.specs.Replaced.{ReplacesIn};
+ghost use Rattle.bites_spec.specs.Utf8.{places, start_alone};
+ghost use Rattle.bites_bytes.specs.Matched.{excerpt_of};
+ghost use Rattle.bites_bytes.specs.Calls.{FindsCaptured, FindsCapturedFull, FindsNext};
+ghost use Rattle.bites_bytes.specs.NextCaptured.{FindsNextCaptured};
+
+mod capture_matches;
+mod matches;
+mod split;
+
+use crate::bytes::{Cache, CaptureLocations, Captures, Match, Regex, Replacer};
+pub use capture_matches::CaptureMatches;
+pub use matches::Matches;
+pub use split::Split;
+use std::alloc::AllocError;
+use std::borrow::CowSlice;
+use std::fmt;
+use std::marker::Model;
+
+/// A regex with the memory for its searches.
+///
+/// It searches like [`Regex`], and no search allocates a cache. So make one before a loop over many haystacks. Each
+/// thread takes one of its own, made of a clone of the regex.
+///
+/// ```rust
+/// let mut searcher = Searcher::new(Regex::new(rt.alloc(), r"\d+")?)?;
+/// assert!(rt; searcher.is_match(b"in 2010"));
+/// assert!(rt; !searcher.is_match(b"in\xFF"));
+/// ```
+///
+/// For proofs: a contract sees the regex, which no search changes. That the cache fits is an invariant of the type.
+#[derive(Drop)]
+pub struct Searcher {
+    regex: Regex,
+    cache: Cache,
+    // The offsets of the groups of a match, for `captures_next`.
+    locations: CaptureLocations,
+}
+
+impl Model for Searcher {
+    ghost use Rattle.std.specs.Coded.{codes};
+    ghost use Rattle.std.specs.Prelude.{◌≡◌, length};
+    ghost use Rattle.bites_syntax.specs.TreeCode.{tree_code};
+    ghost use Rattle.bites_spec.specs.Regex as spec;
+    ghost use Rattle.bites_spec.specs.Counts.{fit_of};
+
+    ghost Value = { spec.Regex };
+
+    ghost coded = { Prim.hlevel (codes, tree_code) };
+
+    ghost view = { λ a. a.regex };
+
+    ghost invariant = { λ a. (a.cache.fits ≡ fit_of a.regex.program) × (length a.locations ≡ a.regex.program.slots) };
+}
+
+impl Searcher {
+    /// Returns a searcher for the regex. The error is out of memory.
+    pub fn new(regex: Regex) -> Result<Searcher, AllocError>
+        ensures { IfOk result (λ s. s ≡ regex) }
+    {
+        let cache = regex.cache()?;
+        let locations = regex.capture_locations()?;
+        Ok(Searcher {
+            regex,
+            cache,
+            locations,
+        })
+    }
+
+    /// Returns the regex.
+    pub fn regex(&self) -> &Regex
+        ensures { result.now ≡ self.now }
+    {
+        &self.regex
+    }
+
+    /// Returns whether the pattern matches anywhere in the haystack, like [`Regex::is_match`]. It allocates nothing.
+    ///
+    /// The search stops at the first end of a match, and visits each state of the program at most once at each
+    /// offset.
+    pub fn is_match(&mut self, haystack: &[u8]) -> bool
+        ensures found { IsTrue result ↔ HasMatch self.old.tree haystack.now (places haystack.now 0) }
+        ensures same { self.new ≡ self.old }
+    {
+        self.regex.is_match_with(&mut self.cache, haystack)
+    }
+
+    /// Returns whether a match is the whole haystack, like [`Regex::is_full_match`]. It allocates nothing.
+    ///
+    /// The search visits each state of the program at most once at each offset.
+    pub fn is_full_match(&mut self, haystack: &[u8]) -> bool
+        ensures found { IsTrue result ↔ IsFullMatch self.old.tree haystack.now }
+        ensures same { self.new ≡ self.old }
+    {
+        self.regex.is_full_match_with(&mut self.cache, haystack)
+    }
+
+    /// Returns the leftmost match in the haystack, like [`Regex::find`]. It allocates nothing.
+    ///
+    /// The search visits each state of the program at most once at each offset.
+    pub fn find<'h>(&mut self, haystack: &'h [u8]) -> Option<Match<'h>>
+        ensures found { FindsMatch self.old haystack.now (places haystack.now 0) (option_map excerpt_of result) }
+        ensures same { self.new ≡ self.old }
+    {
+        self.regex.find_with(&mut self.cache, haystack)
+    }
+
+    /// Returns the leftmost match at or after `start`, an offset in bytes, like [`Regex::find_at`]. It allocates
+    /// nothing.
+    ///
+    /// The search visits each state of the program at most once at each offset.
+    pub fn find_at<'h>(&mut self, haystack: &'h [u8], start: usize) -> Option<Match<'h>>
+        ensures found { FindsMatch self.old haystack.now (places haystack.now start) (option_map excerpt_of result) }
+        ensures same { self.new ≡ self.old }
+    {
+        self.regex.find_at_with(&mut self.cache, haystack, start)
+    }
+
+    /// Returns the match that begins at `start`, an offset in bytes, like [`Regex::find_anchored_at`]. It allocates
+    /// nothing.
+    ///
+    /// The search stops when no match that begins there can continue.
+    pub fn find_anchored_at<'h>(&mut self, haystack: &'h [u8], start: usize) -> Option<Match<'h>>
+        ensures found { FindsMatch self.old haystack.now (start_alone haystack.now start)
+            (option_map excerpt_of result) }
+        ensures same { self.new ≡ self.old }
+    {
+        self.regex
+            .find_anchored_at_with(&mut self.cache, haystack, start)
+    }
+
+    /// Returns the first match after one that ends at `last`, an offset in bytes, or the first of all for `None`, like
+    /// [`Regex::find_next_with`]. It allocates nothing.
+    pub fn find_next<'h>(&mut self, haystack: &'h [u8], last: Option<usize>) -> Option<Match<'h>>
+        ensures next { FindsNext self.old haystack.now last (option_map excerpt_of result) }
+        ensures same { self.new ≡ self.old }
+    {
+        self.regex.find_next_with(&mut self.cache, haystack, last)
+    }
+
+    /// Returns the groups of the leftmost match in the haystack, like [`Regex::captures`]. It allocates the groups
+    /// alone, and the error is out of memory.
+    ///
+    /// At worst a search for groups takes time that grows with states times slots times characters.
+    pub fn captures<'h>(&mut self, haystack: &'h [u8]) -> Result<Option<Captures<'h>>, AllocError>
+        ensures found { IfOk result (FindsCaptured self.old haystack.now (places haystack.now 0)) }
+        ensures same { self.new ≡ self.old }
+    {
+        self.regex.captures_with(&mut self.cache, haystack)
+    }
+
+    /// Returns the groups of the first match after one that ends at `last`, an offset in bytes, or of the first of all
+    /// for `None`. It allocates the groups alone. In their place the error is out of memory.
+    pub fn captures_next<'h>(
+        &mut self,
+        haystack: &'h [u8],
+        last: Option<usize>,
+    ) -> Option<Result<Captures<'h>, AllocError>>
+        ensures next { FindsNextCaptured self.old haystack.now last result }
+        ensures same { self.new ≡ self.old }
+    {
+        self.regex
+            .captures_read_next_with(&mut self.cache, &mut self.locations, haystack, last)?;
+        Some(Captures::of(&self.regex, haystack, &self.locations))
+    }
+
+    /// Returns the groups of a match that is the whole haystack, like [`Regex::captures_full`]. It allocates the groups
+    /// alone, and the error is out of memory.
+    pub fn captures_full<'h>(
+        &mut self,
+        haystack: &'h [u8],
+    ) -> Result<Option<Captures<'h>>, AllocError>
+        ensures found { IfOk result (FindsCapturedFull self.old haystack.now) }
+        ensures same { self.new ≡ self.old }
+    {
+        self.regex.captures_full_with(&mut self.cache, haystack)
+    }
+
+    /// Returns the haystack with all its matches replaced, like [`Regex::replace_all`]. The error is out of memory.
+    ///
+    /// It allocates only the new bytes, and the groups if the replacer asks for them. The haystack is borrowed exactly
+    /// if nothing matches.
+    pub fn replace_all<'h, R: Replacer + Drop>(
+        &mut self,
+        haystack: &'h [u8],
+        replacer: R,
+    ) -> Result<CowSlice<'h, u8>, AllocError>
+        requires { (state : R) → R.can_replace state }
+        ensures replaces { IfOk result (λ bytes. (end : R) × ReplacesIn R.replaces R.answers
+            self.old haystack.now 0 replacer (cow_slice_items bytes) end) }
+        ensures borrowed { IfOk result (λ bytes. IsBorrowedSlice bytes ↔ captures_in self.old haystack.now ≡ []) }
+        ensures same { self.new ≡ self.old }
+    {
+        self.replacen(haystack, 0, replacer)
+    }
+
+    /// Returns the haystack with its first `limit` matches replaced, or all of them if `limit` is 0, like
+    /// [`Regex::replacen`]. The error is out of memory.
+    ///
+    /// It allocates only the new bytes, and the groups if the replacer asks for them. The haystack is borrowed exactly
+    /// if nothing matches.
+    pub fn replacen<'h, R: Replacer + Drop>(
+        &mut self,
+        haystack: &'h [u8],
+        limit: usize,
+        replacer: R,
+    ) -> Result<CowSlice<'h, u8>, AllocError>
+        requires { (state : R) → R.can_replace state }
+        ensures replaces { IfOk result (λ bytes. (end : R) × ReplacesIn R.replaces R.answers
+            self.old haystack.now limit replacer (cow_slice_items bytes) end) }
+        ensures borrowed { IfOk result (λ bytes. IsBorrowedSlice bytes ↔ captures_in self.old haystack.now ≡ []) }
+        ensures same { self.new ≡ self.old }
+    {
+        self.regex
+            .replacen_with(&mut self.cache, haystack, limit, replacer)
+    }
+}
+
+impl fmt::Debug for Searcher {
+    fn fmt<W: fmt::Write>(&self, f: &mut fmt::Formatter<W>) -> fmt::Result {
+        f.debug_tuple("Searcher").field(&self.regex).finish()
+    }
+}

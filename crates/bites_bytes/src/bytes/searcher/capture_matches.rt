@@ -1,0 +1,111 @@
+//! The groups of the successive matches in a haystack, by the memory of a searcher.
+
+ghost use Rattle.std.specs.Prelude.{◌≡◌, IfSome, length, None};
+ghost use Rattle.bites_spec.specs.Iteration.{captures_in};
+ghost use Rattle.bites_spec.specs.Replaced.{span_in};
+
+use crate::bytes::{Captures, Searcher};
+use std::alloc::AllocError;
+use std::fmt;
+use std::iter::FusedIterator;
+
+/// An iterator over the groups of the successive matches, from left to right. [`Searcher::captures_iter`] makes it.
+///
+/// An item is an error if memory runs out for its groups. No item comes after an error.
+#[derive(Drop)]
+pub struct CaptureMatches<'s, 'h> {
+    searcher: &'s mut Searcher,
+    haystack: &'h [u8],
+    // Where the last match ended, if there was one.
+    last: Option<usize>,
+    // Whether memory ran out.
+    refused: bool,
+}
+
+// Returns where the match ends whose groups these are.
+fn end_of(captures: &Captures<'_>) -> usize
+    ensures { result ≡ (span_in captures.now).end }
+{
+    // For the proof: its contract says that group 0 participates.
+    captures.len();
+    captures.get(0).unwrap().end()
+}
+
+impl<'s, 'h> Iterator for CaptureMatches<'s, 'h> {
+    ghost use Rattle.std.specs.Iterator.{at_most, Count, UpTo, item_count};
+    ghost use Rattle.std.specs.Iterator.SizeHint.{IsWithinCount};
+    ghost use Rattle.bites_bytes.specs.SearcherCaptures.{Steps, captures_left};
+
+    type Item = Result<Captures<'h>, AllocError>;
+
+    ghost next_gives = { Steps };
+
+    ghost remaining = { item_count captures_left };
+
+    fn next(&mut self) -> Option<Result<Captures<'h>, AllocError>> {
+        if self.refused {
+            return None;
+        }
+        match self.searcher.captures_next(self.haystack, self.last)? {
+            Ok(captures) => {
+                self.last = Some(end_of(&captures));
+                Some(Ok(captures))
+            }
+            Err(refusal) => {
+                self.refused = true;
+                Some(Err(refusal))
+            }
+        }
+    }
+
+    fn size_hint(&self) -> (usize, Option<usize>)
+        ensures lower { IsWithinCount result.0 (item_count captures_left self.now) }
+        ensures upper { IfSome result.1 (UpTo (item_count captures_left self.now)) }
+        ensures value { result ≡ (0, None) }
+    {
+        (0, None)
+    }
+}
+
+impl<'s, 'h> FusedIterator for CaptureMatches<'s, 'h> {}
+
+impl Searcher {
+    ghost use Rattle.bites_bytes.specs.SearcherCaptures.{captures_left, lender, KeepsAlong};
+
+    /// Returns an iterator over the groups of the successive matches, like [`Regex::captures_iter`]. It allocates
+    /// nothing; each item allocates its groups.
+    ///
+    /// ```rust
+    /// let mut searcher = Searcher::new(Regex::new(rt.alloc(), "a(b)?")?)?;
+    /// let mut participates = Vec::new(rt.alloc());
+    /// for captures in searcher.captures_iter(b"ab a") {
+    ///     participates.push(captures?.get(1).is_some())?;
+    /// }
+    /// assert_eq!(rt; participates.as_slice(), [true, false].as_slice());
+    /// ```
+    ///
+    /// For proofs: the searcher is the same after the iterator as before it, by the clauses `same_reference` and
+    /// `stays`.
+    pub fn captures_iter<'s, 'h>(&'s mut self, haystack: &'h [u8]) -> CaptureMatches<'s, 'h>
+        ensures rest { captures_left result ≡ captures_in self.old haystack.now }
+        ensures same_reference { lender result ≡ self.entry.ghost_name }
+        ensures stays { KeepsAlong result self.old }
+    {
+        CaptureMatches {
+            searcher: self,
+            haystack,
+            last: None,
+            refused: false,
+        }
+    }
+}
+
+impl<'s, 'h> fmt::Debug for CaptureMatches<'s, 'h> {
+    fn fmt<W: fmt::Write>(&self, f: &mut fmt::Formatter<W>) -> fmt::Result {
+        f.debug_struct("CaptureMatches")
+            .field("haystack", &self.haystack)
+            .field("last", &self.last)
+            .field("refused", &self.refused)
+            .finish_non_exhaustive()
+    }
+}

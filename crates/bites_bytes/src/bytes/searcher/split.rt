@@ -1,0 +1,94 @@
+//! The pieces of a haystack between its matches, by the memory of a searcher.
+
+ghost use Rattle.std.specs.Prelude.{◌≡◌, IfSome, length, None};
+ghost use Rattle.bites_spec.specs.Iteration.{pieces_in};
+
+use crate::bytes::Searcher;
+use crate::bytes::searcher::Matches;
+use std::iter::FusedIterator;
+
+/// An iterator over the pieces between the successive matches. [`Searcher::split`] makes it.
+///
+/// There is one more piece than there are matches.
+#[derive(Debug, Drop)]
+pub struct Split<'s, 'h> {
+    matches: Matches<'s, 'h>,
+    // Whether the last piece was returned.
+    done: bool,
+}
+
+impl<'s, 'h> Split<'s, 'h> {
+    ghost use Rattle.bites_bytes.specs.SearcherSplit.{Steps};
+
+    // Returns the next piece.
+    fn step(&mut self) -> Option<&'h [u8]>
+        ensures { Steps self.old result self.new }
+    {
+        if self.done {
+            return None;
+        }
+        let haystack = self.matches.haystack();
+        let begin = self.matches.end_of_last();
+        match self.matches.step() {
+            Some(found) => Some(&haystack[begin..found.start()]),
+            None => {
+                self.done = true;
+                Some(&haystack[begin..haystack.len()])
+            }
+        }
+    }
+}
+
+impl<'s, 'h> Iterator for Split<'s, 'h> {
+    ghost use Rattle.std.specs.Iterator.{at_most, Count, UpTo, item_count};
+    ghost use Rattle.std.specs.Iterator.SizeHint.{IsWithinCount};
+    ghost use Rattle.bites_bytes.specs.SearcherSplit.{Steps, pieces_left};
+
+    type Item = &'h [u8];
+
+    ghost next_gives = { Steps };
+
+    ghost remaining = { item_count pieces_left };
+
+    fn next(&mut self) -> Option<&'h [u8]> {
+        self.step()
+    }
+
+    fn size_hint(&self) -> (usize, Option<usize>)
+        ensures lower { IsWithinCount result.0 (item_count pieces_left self.now) }
+        ensures upper { IfSome result.1 (UpTo (item_count pieces_left self.now)) }
+        ensures value { result ≡ (0, None) }
+    {
+        (0, None)
+    }
+}
+
+impl<'s, 'h> FusedIterator for Split<'s, 'h> {}
+
+impl Searcher {
+    ghost use Rattle.bites_bytes.specs.SearcherSplit.{pieces_left, lender, KeepsAlong};
+
+    /// Returns an iterator over the pieces between the matches, like [`Regex::split`]. It allocates nothing.
+    ///
+    /// ```rust
+    /// let mut searcher = Searcher::new(Regex::new(rt.alloc(), ",")?)?;
+    /// let mut lengths = Vec::new(rt.alloc());
+    /// for piece in searcher.split(b"ab,,\xFF") {
+    ///     lengths.push(piece.len())?;
+    /// }
+    /// assert_eq!(rt; lengths.as_slice(), [2, 0, 1].as_slice());
+    /// ```
+    ///
+    /// For proofs: the searcher is the same after the iterator as before it, by the clauses `same_reference` and
+    /// `stays`.
+    pub fn split<'s, 'h>(&'s mut self, haystack: &'h [u8]) -> Split<'s, 'h>
+        ensures rest { pieces_left result ≡ pieces_in self.old haystack.now }
+        ensures same_reference { lender result ≡ self.entry.ghost_name }
+        ensures stays { KeepsAlong result self.old }
+    {
+        Split {
+            matches: Matches::new(self, haystack),
+            done: false,
+        }
+    }
+}

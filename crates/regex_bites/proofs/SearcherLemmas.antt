@@ -1,0 +1,66 @@
+-- The steps of a searcher's iterators.
+use Rattle.std.proofs.Common.{◌≡◌, ℕ, true, false, cond, List, [], ◌∷◌, map, length, Result, refl, sym, ap, ap₂, ◌∙◌, subst}
+use Rattle.std.specs.Prelude.{slice_range}
+use Rattle.std.specs.Borrow.{Bor}
+use Rattle.std.specs.Iterator.{Yields}
+use Rattle.std.specs.declared.alloc.AllocError.{AllocError}
+use Rattle.bites_spec.specs.Match.{Span}
+use Rattle.bites_spec.specs.Pieces.{gaps_from, text_at}
+use Rattle.bites_spec.specs.Captured.{Excerpt, Captured, excerpt}
+use Rattle.regex_bites.specs.Matched.{excerpt_of}
+use Rattle.regex_bites.specs.Searcher as matches
+use Rattle.regex_bites.specs.SearcherCaptures as groups
+use Rattle.regex_bites.specs.SearcherSplit as split
+use Rattle.regex_bites.specs.declared.string.matched.Match.{Match}
+use Rattle.regex_bites.specs.declared.string.searcher.matches.Matches.{Matches}
+use Rattle.regex_bites.specs.declared.string.searcher.capture_matches.CaptureMatches.{CaptureMatches}
+use Rattle.regex_bites.specs.declared.string.searcher.split.Split.{Split}
+use Rattle.regex_bites.proofs.SplitLemmas.{spans_of}
+
+-- what each step keeps, all of them keep
+pub matches_keep : (first : Matches) (items : List Match) (later : Matches) → Yields matches.Steps first items later → matches.Keeps first later
+matches_keep first [] later run = subst (matches.Keeps first) run (refl, refl)
+matches_keep first (item ∷ items) later run =
+    let step = run.1.1 in let rest = matches_keep run.0 items later run.2 in (rest.0 ∙ step.0, rest.1 ∙ step.1)
+
+pub captures_keep : (first : CaptureMatches) (items : List (Result Captured AllocError)) (later : CaptureMatches) → Yields groups.Steps first items later →
+    groups.Keeps first later
+captures_keep first [] later run = subst (groups.Keeps first) run (refl, refl)
+captures_keep first (item ∷ items) later run =
+    let step = run.1.1 in let rest = captures_keep run.0 items later run.2 in (rest.0 ∙ step.0, rest.1 ∙ step.1)
+
+pub split_keeps : (first : Split) (items : List (Bor (List ℕ))) (later : Split) → Yields split.Steps first items later → split.Keeps first later
+split_keeps first [] later run = subst (split.Keeps first) run (refl, refl)
+split_keeps first (item ∷ items) later run =
+    let step = run.1.1 in let rest = split_keeps run.0 items later run.2 in (rest.0 ∙ step.0, rest.1 ∙ step.1)
+
+-- the pieces from a place on, between these spans
+abbrev pieces : List ℕ → ℕ → List Span → List (List ℕ)
+pieces hay e ss = map (text_at hay) (gaps_from (length hay) e ss)
+
+open_by : (s : Split) → s.done ≡ false → split.pieces_left s ≡ pieces s.matches.haystack.now s.begin (matches.spans_left s.matches)
+open_by s more = ap (λ b. cond b [] (pieces s.matches.haystack.now s.begin (matches.spans_left s.matches))) more
+
+-- a step to a match returns the piece before it
+pub split_some : (s : Split) (t : Matches) (begin : ℕ) (m : Match) (piece : List ℕ) → s.done ≡ false →
+    matches.matches_left s.matches ≡ excerpt_of m ∷ matches.matches_left t → begin ≡ (excerpt_of m).span.end →
+    matches.haystack_of t ≡ matches.haystack_of s.matches → slice_range s.matches.haystack.now s.begin (excerpt_of m).span.start ≡ piece →
+    split.pieces_left s ≡ piece ∷ cond s.done [] (pieces t.haystack.now begin (matches.spans_left t))
+split_some s t begin m piece more left last same is =
+    let hay = s.matches.haystack.now in
+    let rest = matches.spans_left t in
+    let spans : matches.spans_left s.matches ≡ (excerpt_of m).span ∷ rest =
+    sym (spans_of hay (matches.spans_left s.matches)) ∙ ap (map (λ (e : Excerpt). e.span)) left
+    ∙ ap (λ ss. (excerpt_of m).span ∷ ss) (spans_of t.haystack.now rest) in
+    open_by s more ∙ ap (pieces hay s.begin) spans
+    ∙ ap₂ (λ a b. a ∷ b) is
+    (ap (λ (k : ℕ). pieces hay k rest) (sym last) ∙ ap (λ h. pieces h begin rest) (sym same)
+    ∙ sym (ap (λ b. cond b [] (pieces t.haystack.now begin rest)) more))
+
+-- where nothing matches any more the rest is a piece
+pub split_none : (s : Split) (piece : List ℕ) → s.done ≡ false → matches.matches_left s.matches ≡ [] →
+    slice_range s.matches.haystack.now s.begin (length s.matches.haystack.now) ≡ piece → split.pieces_left s ≡ piece ∷ []
+split_none s piece more none is =
+    let spans : matches.spans_left s.matches ≡ [] =
+    sym (spans_of s.matches.haystack.now (matches.spans_left s.matches)) ∙ ap (map (λ (e : Excerpt). e.span)) none in
+    open_by s more ∙ ap (pieces s.matches.haystack.now s.begin) spans ∙ ap (λ x. x ∷ []) is

@@ -1,0 +1,14 @@
+use Rattle.std.proofs.Common.{◌∙◌, ap, subst, sym, IsCharBoundary}
+use Rattle.std.specs.Prelude.{unwrap_or}
+use Rattle.std.proofs.lemmas.Str.{IsCharBoundary-start}
+use Rattle.regex_bites.proofs.SearcherLemmas.{split_keeps}
+use Rattle.regex_bites.proofs.string.searcher.Searcher.split.Goals as goal
+
+pub invariant_of-result : goal.invariant_of-result
+invariant_of-result c = record {
+  border = subst (λ h. IsCharBoundary h 0) (sym c.new.ensures.haystack) (IsCharBoundary-start c.args.haystack.now c.utf8.haystack);
+  behind = sym (ap (λ o. unwrap_or o 0) c.new.ensures.last);
+}
+
+pub returns-clause-stays : goal.returns-clause-stays
+returns-clause-stays c items later run = let kept = split_keeps _ items later run in (kept.0, kept.1 ∙ c.new.ensures.searcher)
