@@ -1,0 +1,19 @@
+//! Writes the month and the year of the first date in each line of standard input that has one.
+#![tactic(auto)]
+
+use regex_bites::{Regex, Searcher};
+
+fn main(rt: HostRuntime) -> anyhow::Result<()> {
+    let mut dates = Searcher::new(Regex::new(rt.alloc(), r"(?<year>\d{4})-(?<month>\d{2})")?)?;
+    for line in rt.lines(rt.alloc()) {
+        let line = line?;
+        if let Some(date) = dates.captures(&line)? {
+            let text = |name: &str| match date.name(name) {
+                Some(group) => group.as_str(),
+                None => "",
+            };
+            println!(rt; "month {} of {}", text("month"), text("year"))?;
+        }
+    }
+    Ok(())
+}
