@@ -42,6 +42,8 @@ class Browser:
         self.session = self.ask("Target.attachToTarget", {"targetId": target, "flatten": True}, session=None)["sessionId"]
         for domain in ("Page", "Runtime", "Log", "Network", "Accessibility"):
             self.ask(domain + ".enable")
+        # Without a window no element would get the events of the focus.
+        self.ask("Emulation.setFocusEmulationEnabled", {"enabled": True})
 
     def close(self):
         try:
