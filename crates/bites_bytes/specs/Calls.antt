@@ -17,7 +17,7 @@ pub record Searched (p : Program) (hay : List ℕ) (s : ℕ) (starts : List ℕ)
   pub fits : new.fits ≡ old.fits
   pub walked : IsWalked p hay s starts found new.walked
 
--- the same, of which only the bounds are known
+-- the same, where only the bounds are known
 pub record SearchedWithin (p : Program) (hay : List ℕ) (s : ℕ) (old new : Room) : Type 0 where
   pub fits : new.fits ≡ old.fits
   pub bounded : IsBounded p hay s new.walked

@@ -16,7 +16,7 @@ use Rattle.bites_machine.specs.declared.vm.counted.Begun.TheFolds.{fold-Begun}
 abbrev pub after_place : List ℕ → ℕ → ℕ → Record → Record
 after_place seen looks i r = record { visits = map (λ q. at q i) seen ++ r.visits; read = r.read; looks = looks + r.looks }
 
--- the record after some places, at each of which it did so
+-- the record after it did so at each of some places
 abbrev pub after_each : List ℕ → ℕ → List ℕ → Record → Record
 after_each seen looks [] r = r
 after_each seen looks (i ∷ places) r = after_each seen looks places (after_place seen looks i r)

@@ -54,7 +54,7 @@ word_at c =
     low_line : (c : ℕ) → (c == 95) ≡ (nat_le 95 c && nat_le c 95)
     low_line c = grind (arith, nat_tests)
 
--- kinds of characters of which the same ranges hold
+-- kinds of characters in the same ranges
 pub seen_alike : (d : Distinctions) (c e : ℕ) → (d.line ≡ true → in_ranges line_feeds c ≡ in_ranges line_feeds e) →
     (d.carriage_return ≡ true → in_ranges carriage_returns c ≡ in_ranges carriage_returns e) →
     (d.word ≡ true → in_ranges word_bytes c ≡ in_ranges word_bytes e) → seen d (kind_of_byte c) ≡ seen d (kind_of_byte e)

@@ -1,4 +1,4 @@
--- Kinds of which the same is seen are alike for all assertions that these distinctions cover.
+-- Kinds that show the same are alike for all assertions that these distinctions cover.
 use Rattle.std.proofs.Common.{◌≡◌, ℕ, Bool, true, false, cond, ◌&&◌, ◌||◌, not, ◌+◌, ◌<◌, ◌≤◌, List, [], ◌∷◌, length, Option, Some, None, refl, sym, ap, ap₂, ◌∙◌, subst, ⊎_elim, ◌⊎◌, arith}
 use Rattle.std.proofs.lemmas.List.{get_or_past}
 use Rattle.bites_spec.specs.Look.{Look, start, end, start_lf, end_lf, start_crlf, end_crlf, word, word_negate, word_start, word_end, word_start_half, word_end_half, is_byte, is_word}
@@ -81,7 +81,7 @@ before_is (capture q slot) d within k l same o = refl
 before_is fail d within k l same o = refl
 before_is match d within k l same o = refl
 
--- kinds of the byte before of which the same is seen are alike
+-- kinds of the byte before that show the same are alike
 pub kinds_alike_before : (p : Program) (d : Distinctions) → CoverBefore d p.states → (k l : Kind) → seen d k ≡ seen d l → AreAlikeKinds p k l
 kinds_alike_before p d cover k l same o q = before_is (state_at p.states q) d (cover q) k l same o
 

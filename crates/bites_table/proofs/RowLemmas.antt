@@ -98,7 +98,7 @@ other-row words width r q slot place room more lt ne =
         (λ (after : r < q). let far = rows-apart r q width after in absurd (omega arith))
         (either q r ne)
 
--- words from a place on, one more of which is written
+-- words from a place on, with one more written
 pub written-more : (ws : List ℕ) (first n v : ℕ) (source : ℕ → ℕ) → first + n < length ws → v ≡ source n →
     ((k : ℕ) → k < n → get_or ws (first + k) 0 ≡ source k) → (k : ℕ) → k < n + 1 → get_or (set ws (first + n) v) (first + k) 0 ≡ source k
 written-more ws first n v source lt e before =

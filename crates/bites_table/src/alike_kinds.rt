@@ -51,7 +51,7 @@ impl AlikeKinds {
     }
 }
 
-// Returns the first kind of which no more is seen than of this one.
+// Returns the first kind that shows no more than this one does.
 fn first_seen_alike(all: Distinctions, kind: Kind) -> Kind
     ensures { seen all (kind_as result) ≡ seen all (kind_as kind) }
 {

@@ -26,7 +26,7 @@ enum History {
     Step {
         earlier: Snapshot<History>,
     },
-    // Places one byte each, at each of which a transition visited the same states.
+    // Places of one byte each. A transition visited the same states at each of them.
     Transitions {
         earlier: Snapshot<History>,
         seen: Snapshot<Snapshot<Vec<u32>>>,
@@ -34,7 +34,7 @@ enum History {
         place: usize,
         count: usize,
     },
-    // All places from one on, at each of which a transition visited the same states.
+    // All places from one on. A transition visited the same states at each of them.
     Rest {
         earlier: Snapshot<History>,
         seen: Snapshot<Snapshot<Vec<u32>>>,

@@ -328,7 +328,7 @@ impl Graph {
         self.cells
     }
 
-    /// Adds the transitions of a list, none of which is known yet. Returns the index of the first of them, or `None` if those
+    /// Adds the transitions of a list. None of them is known yet. Returns the index of the first of them, or `None` if those
     /// of a list before it were not added, those of this list were, or memory runs out.
     pub(crate) fn add_row(&mut self, number: usize) -> Option<usize>
         ensures added { (n : ℕ) × (self.new ≡ with_cells self.old (self.old.cells ++ replicate n None))
