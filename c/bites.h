@@ -3,7 +3,9 @@
  * Handles. A `bites` holds a compiled regex, and a `bites_cache` holds the memory that its searches use. Initialize each with
  * {0}, which holds nothing, and free each after use. Freeing a handle that holds nothing does nothing. A call that makes a
  * regex or a cache frees what `out` held and puts the new one into `out`. Never write `at`, and never copy a handle that holds
- * something: use bites_clone. Never pass one handle twice in one call, except that bites_clone(&r, &r) leaves `r` unchanged.
+ * something: use bites_clone. Never pass one handle twice in one call, except that bites_clone(&r, &r) leaves `r` unchanged, and
+ * that bites_prepare(&r, limit, &r) gives `r` a table, or leaves it unchanged if there is no memory for the handle. So does
+ * bites_set_prepare(&s, limit, &s) for a set.
  *
  * Sets. A `bites_set` holds several compiled patterns and the memory that its searches use, so it needs no cache. All that is
  * said of a `bites` holds of it too.
@@ -67,9 +69,11 @@ enum {
     BITES_TEXT = 256                 /* haystacks are texts: each call checks that they are UTF-8 */
 };
 
-/* The default limits: of the size of a compiled program, roughly in bytes, and of the nesting depth of a pattern. */
+/* The default limits: of the size of a compiled program, roughly in bytes, of the nesting depth of a pattern, and of the bytes of
+ * a table (bites_prepare). */
 #define BITES_SIZE_LIMIT ((size_t)10485760)
 #define BITES_NEST_LIMIT ((uint32_t)50)
+#define BITES_DFA_SIZE_LIMIT ((size_t)1048576)
 
 /* Both offsets of a group that does not participate, and `last` before the first match. */
 #define BITES_NONE SIZE_MAX
@@ -79,6 +83,7 @@ typedef struct { void *at; } bites_cache;
 typedef struct { void *at; } bites_set;
 typedef struct { size_t start, end; } bites_span;
 typedef struct { uint32_t code; size_t size; } bites_size;
+typedef struct { size_t lists, bytes; uint32_t is_whole; } bites_table;
 
 /* Returns the version of this library: major << 16 | minor << 8 | patch. */
 uint32_t bites_version(void);
@@ -87,11 +92,35 @@ uint32_t bites_version(void);
  * BITES_NO_MEMORY, BITES_NOT_UTF8, or BITES_EMPTY_HANDLE if `out` is NULL. If it does not return BITES_DONE, `out` holds nothing. */
 uint32_t bites_new(const uint8_t *pattern, size_t len, uint32_t flags, size_t size_limit, uint32_t nest_limit, bites *out);
 
+/* Finds the message that refuses the pattern, and puts the number of bytes before the place that it is about into `offset`. Returns
+ * the number 1 to 54 of the message, BITES_DONE if the pattern is read, BITES_NO_MEMORY or BITES_NOT_UTF8. Unless a message is
+ * about a place, `offset` is BITES_NONE: so it is if the syntax tree is too tall. The numbers 55 to 57 of bites_new are about the
+ * compiled program, and about no place. */
+uint32_t bites_error_at(const uint8_t *pattern, size_t len, uint32_t flags, uint32_t nest_limit, size_t *offset);
+
 /* Puts a regex that shares the program of `regex` into `out`. Returns BITES_DONE, BITES_NO_MEMORY, or BITES_EMPTY_HANDLE if
  * `regex` holds nothing. If it does not return BITES_DONE, `out` holds nothing. */
 uint32_t bites_clone(bites *regex, bites *out);
 
 void bites_free(bites *regex);
+
+/* Puts the same regex with a table into `out`. Its searches return the same, and mostly much sooner. Making a table takes longer
+ * than making the regex, so prepare a regex that searches much. bites_new makes no table. If each match holds a literal, the
+ * searches of `out` look for it first, many bytes at a time. Searches at one offset do not. bites_new makes regexes that never do.
+ *
+ * The table takes at most `dfa_size_limit` bytes, and bites_table_size says how many it takes. What it has no room for is left to
+ * the search. There is no table with limit 0, or if the limit is too small for where searches begin. The literal is looked for
+ * then too.
+ *
+ * `out` shares the program of `regex`, and clones of `out` share its table too. A cache of one fits the other. `regex` is
+ * unchanged, with its table if it has one. With BITES_LEFTMOST_LONGEST no table is made, nor if the pattern tells too many classes
+ * of characters apart. Returns what bites_clone returns. BITES_NO_MEMORY says that there was no memory for the handle. If there is
+ * none for the table, `out` holds the regex without one, and the call returns BITES_DONE. */
+uint32_t bites_prepare(bites *regex, size_t dfa_size_limit, bites *out);
+
+/* Puts how large the table of the regex is into `out`: the number of its thread lists, its bytes, and 1 if it knows all that a
+ * search can come to, else 0. All are 0 if there is no table. Returns BITES_DONE, or BITES_EMPTY_HANDLE and `out` is unchanged. */
+uint32_t bites_table_size(bites *regex, bites_table *out);
 
 /* Makes a cache for searches with the regex and its clones, one search at a time, and puts it into `out`. Returns what
  * bites_clone returns. */
@@ -193,7 +222,7 @@ bites_size bites_expand(bites *regex, const uint8_t *haystack, size_t len, const
  * pattern. If the code is BITES_DONE, `size` is `count`. Else `size` is the number of the first pattern that the code is about,
  * and `out` holds nothing. The code is then the number 1 to 57 of the message that refuses the pattern, BITES_NO_MEMORY, BITES_NOT_UTF8,
  * BITES_BAD_SPAN if ends[k] is below the end before it or above `len`, or BITES_EMPTY_HANDLE if `out` is NULL. The first pattern
- * that is not UTF-8 or has a wrong end is named before any that a message refuses. */
+ * that is not UTF-8 or has a wrong end is named before any that a message refuses. No tables are made (bites_set_prepare). */
 bites_size bites_set_new(const uint8_t *patterns, size_t len, const size_t *ends, size_t count, uint32_t flags, size_t size_limit, uint32_t nest_limit, bites_set *out);
 
 /* Puts a set that shares the programs of `set` into `out`. It has memory of its own for searches. Returns what bites_clone
@@ -201,6 +230,20 @@ bites_size bites_set_new(const uint8_t *patterns, size_t len, const size_t *ends
 uint32_t bites_set_clone(bites_set *set, bites_set *out);
 
 void bites_set_free(bites_set *set);
+
+/* Puts the same set with a table for each pattern into `out`, as bites_prepare does for one regex. Its searches look for literals
+ * first too. The tables of all patterns
+ * together take at most `dfa_size_limit` bytes: each pattern's table may take what those of the patterns before it leave. A pattern
+ * for which too little is left, or for whose table there is no memory, has none.
+ *
+ * `out` shares the programs of `set`, and clones of `out` share its tables too. `set` is unchanged. Returns what bites_clone
+ * returns. BITES_NO_MEMORY says that there was no memory for the handle or for what its searches need. */
+uint32_t bites_set_prepare(bites_set *set, size_t dfa_size_limit, bites_set *out);
+
+/* Puts how large the tables of all patterns are together into `out`, as bites_table_size does: the number of their thread lists,
+ * their bytes, and 1 if each pattern has a table that knows all, else 0. All are 0 if no pattern has a table. Returns what
+ * bites_table_size returns. */
+uint32_t bites_set_table_size(bites_set *set, bites_table *out);
 
 /* Returns the number of patterns as `size`, with the code BITES_DONE, or the code BITES_EMPTY_HANDLE. */
 bites_size bites_set_len(bites_set *set);
@@ -251,6 +294,10 @@ static inline uint32_t bites_checked_new(const uint8_t *pattern, size_t len, uin
     return bites_new(bites_bytes(pattern, len), len, flags, size_limit, nest_limit, out);
 }
 
+static inline uint32_t bites_checked_error_at(const uint8_t *pattern, size_t len, uint32_t flags, uint32_t nest_limit, size_t *offset) {
+    return bites_error_at(bites_bytes(pattern, len), len, flags, nest_limit, offset);
+}
+
 static inline uint32_t bites_checked_clone(bites *regex, bites *out) {
     if (!regex || !out) return BITES_EMPTY_HANDLE;
     if (regex == out) return regex->at ? BITES_DONE : BITES_EMPTY_HANDLE;
@@ -259,6 +306,23 @@ static inline uint32_t bites_checked_clone(bites *regex, bites *out) {
 
 static inline void bites_checked_free(bites *regex) {
     if (regex) bites_free(regex);
+}
+
+static inline uint32_t bites_checked_prepare(bites *regex, size_t dfa_size_limit, bites *out) {
+    bites made = {0};
+    uint32_t code;
+    if (!regex || !out) return BITES_EMPTY_HANDLE;
+    if (regex != out) return bites_prepare(regex, dfa_size_limit, out);
+    code = bites_prepare(regex, dfa_size_limit, &made);
+    if (code != BITES_DONE) return code;
+    bites_free(regex);
+    *regex = made;
+    return code;
+}
+
+static inline uint32_t bites_checked_table_size(bites *regex, bites_table *out) {
+    if (!regex || !out) return BITES_EMPTY_HANDLE;
+    return bites_table_size(regex, out);
 }
 
 static inline uint32_t bites_checked_cache_new(bites *regex, bites_cache *out) {
@@ -384,6 +448,23 @@ static inline void bites_checked_set_free(bites_set *set) {
     if (set) bites_set_free(set);
 }
 
+static inline uint32_t bites_checked_set_prepare(bites_set *set, size_t dfa_size_limit, bites_set *out) {
+    bites_set made = {0};
+    uint32_t code;
+    if (!set || !out) return BITES_EMPTY_HANDLE;
+    if (set != out) return bites_set_prepare(set, dfa_size_limit, out);
+    code = bites_set_prepare(set, dfa_size_limit, &made);
+    if (code != BITES_DONE) return code;
+    bites_set_free(set);
+    *set = made;
+    return code;
+}
+
+static inline uint32_t bites_checked_set_table_size(bites_set *set, bites_table *out) {
+    if (!set || !out) return BITES_EMPTY_HANDLE;
+    return bites_set_table_size(set, out);
+}
+
 static inline bites_size bites_checked_set_len(bites_set *set) {
     if (!set) return bites_only(BITES_EMPTY_HANDLE);
     return bites_set_len(set);
@@ -418,8 +499,11 @@ static inline uint32_t bites_compile(const char *pattern, bites *out) {
 #endif
 
 #define bites_new bites_checked_new
+#define bites_error_at bites_checked_error_at
 #define bites_clone bites_checked_clone
 #define bites_free bites_checked_free
+#define bites_prepare bites_checked_prepare
+#define bites_table_size bites_checked_table_size
 #define bites_cache_new bites_checked_cache_new
 #define bites_cache_free bites_checked_cache_free
 #define bites_is_match bites_checked_is_match
@@ -444,6 +528,8 @@ static inline uint32_t bites_compile(const char *pattern, bites *out) {
 #define bites_set_new bites_checked_set_new
 #define bites_set_clone bites_checked_set_clone
 #define bites_set_free bites_checked_set_free
+#define bites_set_prepare bites_checked_set_prepare
+#define bites_set_table_size bites_checked_set_table_size
 #define bites_set_len bites_checked_set_len
 #define bites_set_is_match_at bites_checked_set_is_match_at
 #define bites_set_matches_at bites_checked_set_matches_at

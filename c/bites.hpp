@@ -63,6 +63,20 @@ public:
         bites_free(&regex);
     }
 
+    // Makes a table with this limit, as bites_prepare does. Searches return the same, and mostly much sooner. They look for a
+    // literal first, if each match holds one. Copies share the table. Throws BitesError if out of memory, and the regex is unchanged.
+    void prepare(size_t dfa_size_limit = BITES_DFA_SIZE_LIMIT) {
+        uint32_t code = bites_prepare(&regex, dfa_size_limit, &regex);
+        if (code != BITES_DONE) throw BitesError(code);
+    }
+
+    // Returns how large the table is, as bites_table_size does: all zeros without one.
+    bites_table table_size() {
+        bites_table size = {0, 0, 0};
+        bites_table_size(&regex, &size);
+        return size;
+    }
+
     // Returns whether a match begins at or after `start`.
     bool is_match(std::string_view haystack, size_t start = 0) {
         return found(bites_is_match_at(&regex, &cache, bytes(haystack), haystack.size(), start));

@@ -291,6 +291,46 @@ static void handles(void) {
     bites_free(&other);
 }
 
+/* The pattern of the partial table has about two to the twelfth lists. */
+static void tables(void) {
+    bites regex = {0}, prepared = {0}, copy = {0};
+    bites_cache cache = {0};
+    bites_table size = {7, 7, 7};
+    bites_span groups[2];
+    CHECK(bites_prepare(&regex, BITES_DFA_SIZE_LIMIT, &prepared) == BITES_EMPTY_HANDLE && !prepared.at);
+    CHECK(bites_table_size(&regex, &size) == BITES_EMPTY_HANDLE && size.lists == 7 && size.bytes == 7 && size.is_whole == 7);
+    CHECK(bites_new(BYTES("x(b+)"), 0, LIMITS, &regex) == BITES_DONE && bites_cache_new(&regex, &cache) == BITES_DONE);
+    /* none is made by bites_new, and with limit 0 */
+    CHECK(bites_table_size(&regex, &size) == BITES_DONE && size.lists == 0 && size.bytes == 0 && size.is_whole == 0);
+    CHECK(bites_prepare(&regex, 0, &prepared) == BITES_DONE && bites_table_size(&prepared, &size) == BITES_DONE && size.lists == 0);
+    /* a whole one; the other regex has none still, and the cache of that one fits */
+    CHECK(bites_prepare(&regex, BITES_DFA_SIZE_LIMIT, &prepared) == BITES_DONE);
+    CHECK(bites_table_size(&prepared, &size) == BITES_DONE && size.lists > 1 && size.bytes > size.lists && size.is_whole == 1);
+    CHECK(bites_table_size(&regex, &size) == BITES_DONE && size.lists == 0);
+    CHECK(bites_captures_at(&prepared, &cache, BYTES("abxbbc"), 0, groups, 2).code == BITES_MATCH);
+    CHECK(groups[0].start == 2 && groups[0].end == 5 && groups[1].start == 3 && groups[1].end == 5);
+    /* a clone shares it, also after what it was made from is freed */
+    CHECK(bites_clone(&prepared, &copy) == BITES_DONE);
+    bites_free(&prepared);
+    bites_free(&regex);
+    CHECK(bites_table_size(&copy, &size) == BITES_DONE && size.is_whole == 1 && bites_is_match(&copy, &cache, BYTES("axbc")) == BITES_MATCH);
+    /* in place, and back to none */
+    CHECK(bites_prepare(&copy, 0, &copy) == BITES_DONE && bites_table_size(&copy, &size) == BITES_DONE && size.lists == 0);
+    CHECK(bites_prepare(&copy, BITES_DFA_SIZE_LIMIT, &copy) == BITES_DONE && bites_table_size(&copy, &size) == BITES_DONE && size.is_whole == 1);
+    CHECK(bites_prepare(&regex, 0, &regex) == BITES_EMPTY_HANDLE && bites_prepare(NULL, 0, &copy) == BITES_EMPTY_HANDLE);
+    CHECK(bites_prepare(&copy, 0, NULL) == BITES_EMPTY_HANDLE && bites_table_size(NULL, &size) == BITES_EMPTY_HANDLE);
+    CHECK(bites_table_size(&copy, NULL) == BITES_EMPTY_HANDLE);
+    /* a part of one, and none for searches that find the longest match */
+    CHECK(bites_new(BYTES("[ab]*a[ab]{12}c"), 0, LIMITS, &regex) == BITES_DONE && bites_prepare(&regex, 4096, &prepared) == BITES_DONE);
+    CHECK(bites_table_size(&prepared, &size) == BITES_DONE && size.lists > 0 && size.is_whole == 0);
+    CHECK(bites_new(BYTES("a"), BITES_LEFTMOST_LONGEST, LIMITS, &regex) == BITES_DONE);
+    CHECK(bites_prepare(&regex, BITES_DFA_SIZE_LIMIT, &prepared) == BITES_DONE && bites_table_size(&prepared, &size) == BITES_DONE && size.lists == 0);
+    bites_cache_free(&cache);
+    bites_free(&copy);
+    bites_free(&prepared);
+    bites_free(&regex);
+}
+
 static void refusals(void) {
     bites regex = {0};
     uint8_t text[128];
@@ -311,6 +351,16 @@ static void refusals(void) {
     CHECK(bites_compile("(a", &regex) == code && bites_compile("\xff", NULL) == BITES_EMPTY_HANDLE);
     CHECK(bites_compile("x", &regex) == BITES_DONE && bites_captures_len(&regex) == 1);
     bites_free(&regex);
+    size_t offset = 7;
+    CHECK(bites_error_at(BYTES("a(b|*)"), 0, BITES_NEST_LIMIT, &offset) == 32 && offset == 4);
+    CHECK(bites_error_at(BYTES("a #)"), BITES_IGNORE_WHITESPACE, BITES_NEST_LIMIT, &offset) == BITES_DONE && offset == BITES_NONE);
+    CHECK(bites_error_at(BYTES("(a)"), 0, 0, &offset) == 1 && offset == 1);
+    CHECK(bites_error_at(BYTES("a|b"), 0, 0, &offset) == 1 && offset == BITES_NONE);
+    offset = 7;
+    CHECK(bites_error_at(BYTES("(?:a{1000}){1000}"), 0, BITES_NEST_LIMIT, &offset) == BITES_DONE && offset == BITES_NONE);
+    offset = 7;
+    CHECK(bites_error_at(BYTES("(\xff"), 0, BITES_NEST_LIMIT, &offset) == BITES_NOT_UTF8 && offset == BITES_NONE);
+    CHECK(bites_error_at(NULL, 0, 0, 0, &offset) == BITES_DONE && offset == BITES_NONE);
     CHECK(bites_error_text(BITES_NO_MEMORY, text, 3) > 3 && bites_error_text(0, text, 3) == 0 && bites_error_text(59, text, 3) == 0);
 }
 
@@ -532,6 +582,54 @@ static void sets(void) {
     CHECK(!copy.at && !set.at);
 }
 
+/* Writes how large the tables of these two patterns are, each by itself. */
+static bites_table sizes_of_both(const char *first, const char *second) {
+    const char *patterns[] = {first, second};
+    bites_table both = {0, 0, 1}, size;
+    for (int k = 0; k < 2; k++) {
+        bites regex = {0};
+        CHECK(bites_compile(patterns[k], &regex) == BITES_DONE && bites_prepare(&regex, BITES_DFA_SIZE_LIMIT, &regex) == BITES_DONE);
+        CHECK(bites_table_size(&regex, &size) == BITES_DONE);
+        both.lists += size.lists, both.bytes += size.bytes, both.is_whole &= size.is_whole;
+        bites_free(&regex);
+    }
+    return both;
+}
+
+/* the tables of a set are bounded together, and searches return the same with any of them */
+static void tables_of_sets(void) {
+    static const size_t ends[] = {5, 8};
+    bites_set set = {0}, prepared = {0}, copy = {0};
+    bites_table size = {7, 7, 7}, both = sizes_of_both("(b+)c", "^ad");
+    uint8_t m[2];
+    CHECK(bites_set_prepare(&set, BITES_DFA_SIZE_LIMIT, &prepared) == BITES_EMPTY_HANDLE && !prepared.at);
+    CHECK(bites_set_table_size(&set, &size) == BITES_EMPTY_HANDLE && size.lists == 7 && size.bytes == 7 && size.is_whole == 7);
+    CHECK(bites_set_new(BYTES("(b+)c^ad"), ends, 2, 0, LIMITS, &set).code == BITES_DONE);
+    CHECK(bites_set_table_size(&set, &size) == BITES_DONE && size.lists == 0 && size.bytes == 0 && size.is_whole == 0);
+    for (size_t limit = 0; limit < both.bytes + 64; limit += 32) {
+        CHECK(bites_set_prepare(&set, limit, &prepared) == BITES_DONE && bites_set_table_size(&prepared, &size) == BITES_DONE && size.bytes <= limit);
+        CHECK(bites_set_matches_at(&prepared, BYTES("xabbc"), 0, m, 2).code == BITES_MATCH && m[0] == 1 && m[1] == 0);
+        CHECK(bites_set_matches_at(&prepared, BYTES("adb"), 0, m, 2).code == BITES_MATCH && m[0] == 0 && m[1] == 1);
+    }
+    CHECK(bites_set_prepare(&set, BITES_DFA_SIZE_LIMIT, &prepared) == BITES_DONE && bites_set_table_size(&prepared, &size) == BITES_DONE);
+    CHECK(size.lists == both.lists && size.bytes == both.bytes && both.is_whole == 1 && size.is_whole == 1);
+    /* a clone shares the tables, and outlives the set */
+    CHECK(bites_set_clone(&prepared, &copy) == BITES_DONE);
+    bites_set_free(&prepared);
+    CHECK(bites_set_table_size(&copy, &size) == BITES_DONE && size.bytes == both.bytes && bites_set_is_match_at(&copy, BYTES("bc"), 0) == BITES_MATCH);
+    /* a set that is prepared into itself */
+    CHECK(bites_set_prepare(&copy, 0, &copy) == BITES_DONE && bites_set_table_size(&copy, &size) == BITES_DONE && size.lists == 0);
+    CHECK(bites_set_prepare(&copy, BITES_DFA_SIZE_LIMIT, &copy) == BITES_DONE && bites_set_table_size(&copy, &size) == BITES_DONE && size.is_whole == 1);
+    CHECK(bites_set_prepare(&prepared, 0, &prepared) == BITES_EMPTY_HANDLE && bites_set_prepare(NULL, 0, &copy) == BITES_EMPTY_HANDLE);
+    CHECK(bites_set_prepare(&copy, 0, NULL) == BITES_EMPTY_HANDLE && bites_set_table_size(NULL, &size) == BITES_EMPTY_HANDLE);
+    CHECK(bites_set_table_size(&copy, NULL) == BITES_EMPTY_HANDLE && bites_set_is_match_at(&copy, BYTES("ad"), 0) == BITES_MATCH);
+    /* a set without patterns has no table */
+    CHECK(bites_set_new(NULL, 0, NULL, 0, 0, LIMITS, &set).code == BITES_DONE && bites_set_prepare(&set, BITES_DFA_SIZE_LIMIT, &set) == BITES_DONE);
+    CHECK(bites_set_table_size(&set, &size) == BITES_DONE && size.lists == 0 && size.is_whole == 0);
+    bites_set_free(&copy);
+    bites_set_free(&set);
+}
+
 /* what refuses a set, and the number of its pattern; flags, and searches of texts */
 static void refused_sets(void) {
     static const size_t ends[] = {1, 3, 5}, falling[] = {1, 3, 2}, late[] = {1, 3, 6};
@@ -592,6 +690,7 @@ static void no_handles(void) {
 int main(void) {
     searches();
     limits_of_searches();
+    tables();
     anchored();
     successive();
     pieces();
@@ -609,6 +708,7 @@ int main(void) {
     expanded_texts();
     replaced_texts();
     sets();
+    tables_of_sets();
     refused_sets();
     nulls();
     no_handles();

@@ -57,6 +57,17 @@ static void copies() {
     CHECK(two.is_match("a") && copy.is_match("a"));
 }
 
+static void tables() {
+    BitesRegex regex("(a+)b");
+    CHECK(regex.table_size().lists == 0);
+    regex.prepare();
+    CHECK(regex.table_size().lists > 0 && regex.table_size().bytes > 0 && regex.table_size().is_whole == 1);
+    BitesRegex copy(regex);
+    CHECK(copy.table_size().lists > 0 && copy.captures("xaab")[1]->end == 3);
+    copy.prepare(0);
+    CHECK(copy.table_size().lists == 0 && regex.table_size().lists > 0 && copy.find("xaab")->end == 4);
+}
+
 static uint32_t refusal(const std::string &pattern, uint32_t flags, const std::string &haystack) {
     try {
         BitesRegex regex(pattern, flags);
@@ -83,6 +94,7 @@ int main() {
     empty_matches();
     replacements();
     copies();
+    tables();
     refusals();
     return 0;
 }

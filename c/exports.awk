@@ -13,6 +13,7 @@ function c_types(type) {
     if (type == "&mut BitesCache") return " bites_cache*"
     if (type == "&mut BitesSet") return " bites_set*"
     if (type == "&mut BitesSpan") return " bites_span*"
+    if (type == "&mut BitesTable") return " bites_table*"
     if (type == "&[u8]") return " const_uint8_t* size_t"
     if (type == "&mut [u8]") return " uint8_t* size_t"
     if (type == "&[usize]") return " const_size_t* size_t"

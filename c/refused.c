@@ -1,7 +1,8 @@
 /* Refuses each request for memory of each call of bites.h that allocates: the first, the second and each further one, until a
  * run has none refused. Then it does all of that again with the requests after the refused one refused too. A refused call must
- * return BITES_NO_MEMORY. Its handles must still work, `out` of a call that makes something must hold nothing, other memory that
- * it writes to must be unchanged, and all that it allocated must be freed. Searches must not allocate at all. */
+ * return BITES_NO_MEMORY. But bites_prepare and bites_set_prepare may be done if only tables were refused memory, and what they
+ * made must work then. The handles of a refused call must still work, `out` of a call that makes something must hold nothing, other
+ * memory that it writes to must be unchanged, and all that it allocated must be freed. Searches must not allocate at all. */
 #include "bites.h"
 #include "refusing.h"
 
@@ -42,11 +43,17 @@ static bites_size new(struct given *given) { return only(bites_new(PATTERN, BITE
 
 static bites_size clone(struct given *given) { return only(bites_clone(&given->regex, &given->made)); }
 
+static bites_size prepare(struct given *given) { return only(bites_prepare(&given->regex, BITES_DFA_SIZE_LIMIT, &given->made)); }
+
 static bites_size cache_new(struct given *given) { return only(bites_cache_new(&given->regex, &given->made_cache)); }
 
 static bites_size new_set(struct given *given) { return bites_set_new(SET, BITES_TEXT, LIMITS, &given->made_set); }
 
 static bites_size clone_set(struct given *given) { return only(bites_set_clone(&given->set, &given->made_set)); }
+
+static bites_size prepare_set(struct given *given) {
+    return only(bites_set_prepare(&given->set, BITES_DFA_SIZE_LIMIT, &given->made_set));
+}
 
 static bites_size escape(struct given *given) { return bites_escape(BYTES("a.b*c[d] and more, to grow: (((((((((())))))))))"), given->out, ROOM); }
 
@@ -62,12 +69,22 @@ static bites_size expand(struct given *given) {
     return bites_expand(&given->regex, HAYSTACK, given->groups, 3, LONG_TEMPLATE, given->out, ROOM);
 }
 
+static bites_size error_at(struct given *given) {
+    size_t offset = 0;
+    uint32_t code = bites_error_at(BYTES("(?<name>[a-z])(?<name>)"), 0, BITES_NEST_LIMIT, &offset);
+    (void)given;
+    return only((code == BITES_NO_MEMORY ? offset == BITES_NONE : offset == 22) ? code : UINT32_MAX);
+}
+
 static const struct call calls[] = {
     {"bites_new", NULL, BITES_DONE, new},
+    {"bites_error_at", "", 3, error_at},
     {"bites_clone", NULL, BITES_DONE, clone},
+    {"bites_prepare", NULL, BITES_DONE, prepare},
     {"bites_cache_new", NULL, BITES_DONE, cache_new},
     {"bites_set_new", NULL, BITES_DONE, new_set},
     {"bites_set_clone", NULL, BITES_DONE, clone_set},
+    {"bites_set_prepare", NULL, BITES_DONE, prepare_set},
     {"bites_escape", "a\\.b\\*c\\[d\\] and more, to grow: \\(\\(\\(\\(\\(\\(\\(\\(\\(\\(\\)\\)\\)\\)\\)\\)\\)\\)\\)\\)", BITES_DONE, escape},
     {"bites_replace", "-- <some42> <words>, and 137 others", BITES_MATCH, replace},
     {"bites_replace_literal", "-- $word $word, $word $word", BITES_MATCH, replace_literal},
@@ -111,7 +128,9 @@ static bool set_searches_well(bites_set *set) {
     return right && matched[0] == 1 && matched[1] == 1 && matched[2] == 0 && requests == before;
 }
 
-static bool makes_set(const struct call *call) { return call->ask == new_set || call->ask == clone_set; }
+static bool makes_set(const struct call *call) { return call->ask == new_set || call->ask == clone_set || call->ask == prepare_set; }
+
+static bool makes_tables(const struct call *call) { return call->ask == prepare || call->ask == prepare_set; }
 
 static bool set_up(struct given *given) {
     *given = (struct given){0};
@@ -164,8 +183,9 @@ static bool run(const struct call *call, size_t number, bool rest, size_t *neede
     bites_size answer = call->ask(&given);
     refuse_at = 0;
     *needed = requests;
-    bool right = refusals > 0 ? is_kept(call, &given, answer, number)
-                              : is_done(call, &given, answer) || complain(call->name, number, "a wrong answer");
+    bool lacks_table = makes_tables(call) && answer.code == BITES_DONE;
+    bool right = refusals > 0 && !lacks_table ? is_kept(call, &given, answer, number)
+                                               : is_done(call, &given, answer) || complain(call->name, number, "a wrong answer");
     bites_set_free(&given.made_set);
     bites_set_free(&given.set);
     bites_free(&given.made);

@@ -107,7 +107,10 @@ size_t bites_bench(uint32_t job, const uint8_t *pattern, size_t pattern_len, con
         if (bites_new(pattern, pattern_len, job == TEXTS ? BITES_TEXT : 0, BITES_SIZE_LIMIT, BITES_NEST_LIMIT, &work.regex) != BITES_DONE)
             return SIZE_MAX;
     if (job == MAKE) answer = bites_captures_len(&work.regex);
-    else bites_cache_new(&work.regex, &work.cache);
+    else {
+        bites_prepare(&work.regex, BITES_DFA_SIZE_LIMIT, &work.regex);
+        bites_cache_new(&work.regex, &work.cache);
+    }
     for (size_t time = 0; job != MAKE && time < times; time++) answer = jobs[job](&work);
     bites_cache_free(&work.cache);
     bites_free(&work.regex);

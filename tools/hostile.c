@@ -149,7 +149,7 @@ static _Noreturn void end_with_span(const struct row *row, uint32_t code, bites_
     end(row, code == BITES_MATCH || code == BITES_NO_MATCH ? answer : "a fault");
 }
 
-/* Makes a regex and a cache for it. If the pattern is refused, the message is the answer. */
+/* Makes a regex with its table, and a cache for it. If the pattern is refused, the message is the answer. */
 static void make(const struct row *row, const char *pattern, size_t len, bites *regex, bites_cache *cache) {
     bool has_limits = strcmp(row->job, "limits") != 0;
     uint32_t flags = strstr(row->job, ", text") != NULL ? BITES_TEXT : 0;
@@ -158,6 +158,7 @@ static void make(const struct row *row, const char *pattern, size_t len, bites *
     char message[200] = "";
     if (code != BITES_DONE) bites_error_text(code, (uint8_t *)message, sizeof message - 1);
     if (code != BITES_DONE) end(row, message);
+    if (bites_prepare(regex, BITES_DFA_SIZE_LIMIT, regex) != BITES_DONE) exit(2);
     if (bites_cache_new(regex, cache) != BITES_DONE) exit(2);
 }
 

@@ -23,6 +23,18 @@ macro_rules! regex_builder {
                 let engine = Engine::new(pattern, settings)?;
                 Ok(Regex { engine })
             }
+
+            /// Returns how large the table is that searches use, or `None` before they have made one, and if there is none.
+            ///
+            /// ```
+            /// let regex = regex_bites::Regex::new("a+").unwrap();
+            /// assert_eq!(None, regex.table_size());
+            /// assert_eq!(1000, regex.find_iter(&"a ".repeat(1000)).count());
+            /// assert!(regex.table_size().is_some_and(|table| table.is_whole));
+            /// ```
+            pub fn table_size(&self) -> Option<TableSize> {
+                self.engine.program().table_size()
+            }
         }
 
         impl RegexBuilder {
@@ -150,14 +162,18 @@ macro_rules! regex_builder {
                 self
             }
 
-            /// Is for programs that were written for Rust's `regex`: a limit in bytes on the memory that searches keep. Searches have
-            /// no such table yet, so the limit changes nothing.
+            /// Sets the limit on the bytes of the table that searches make once they have read some hundred bytes. The default is
+            /// 1048576, which ordinary patterns stay far below. With 0 no table is made. The limit changes the time that searches
+            /// take, and never what they return.
             ///
             /// ```
             /// let mut builder = regex_bites::RegexBuilder::new("a+");
-            /// assert!(builder.dfa_size_limit(1 << 20).build().is_ok());
+            /// let regex = builder.dfa_size_limit(0).build().unwrap();
+            /// assert_eq!(1000, regex.find_iter(&"a ".repeat(1000)).count());
+            /// assert_eq!(None, regex.table_size());
             /// ```
-            pub fn dfa_size_limit(&mut self, _limit: usize) -> &mut RegexBuilder {
+            pub fn dfa_size_limit(&mut self, limit: usize) -> &mut RegexBuilder {
+                self.settings.set_dfa_size_limit(limit);
                 self
             }
 

@@ -1,4 +1,4 @@
-use crate::engine;
+use crate::engine::{self, Settings};
 use std::fmt;
 
 /// Why a pattern was refused.
@@ -9,11 +9,22 @@ use std::fmt;
 /// let error = regex_bites::Regex::new("a(b").unwrap_err();
 /// assert_eq!("found open group without closing ')'", error.to_string());
 /// ```
-#[derive(Clone, Eq, PartialEq)]
+///
+/// [`Debug`](fmt::Debug) writes the pattern too, with a caret below the place that the message is about, as Rust's `regex` does.
+/// Errors are equal if their messages and the numbers of their patterns are.
+#[derive(Clone)]
 pub struct Error {
     reason: Reason,
     /// The number of the pattern of a set.
     pattern: Option<usize>,
+    refused: Option<Refused>,
+}
+
+/// The pattern that a message is about, and how it was read.
+#[derive(Clone)]
+struct Refused {
+    pattern: Box<str>,
+    settings: Settings,
 }
 
 #[derive(Clone, Eq, PartialEq)]
@@ -55,6 +66,7 @@ impl Error {
         Error {
             reason,
             pattern: None,
+            refused: None,
         }
     }
 
@@ -75,7 +87,30 @@ impl Error {
         Error {
             reason,
             pattern: None,
+            refused: None,
         }
+    }
+
+    /// The same error, about this pattern. Where the message is about is found when someone asks.
+    pub(crate) fn about(self, pattern: &str, settings: Settings) -> Error {
+        let refused = Some(Refused {
+            pattern: pattern.into(),
+            settings,
+        });
+        Error { refused, ..self }
+    }
+
+    /// Returns the number of bytes of the pattern before the place that the message is about. Returns None if it is about no place:
+    /// if the pattern is too large or too tall, or if a switch of the builder is not supported. Neither Rust crate has such a call.
+    ///
+    /// It reads the pattern once more.
+    ///
+    /// ```
+    /// let error = regex_bites::Regex::new("a(b|*)").unwrap_err();
+    /// assert_eq!(Some(4), error.offset());
+    /// ```
+    pub fn offset(&self) -> Option<usize> {
+        self.refused.as_ref()?.offset()
     }
 
     /// Returns the number of the pattern that is refused, if it is one of a set. Patterns are numbered from 0 on. Neither Rust crate
@@ -105,10 +140,46 @@ impl fmt::Display for Error {
 
 impl fmt::Debug for Error {
     fn fmt(&self, f: &mut fmt::Formatter<'_>) -> fmt::Result {
-        f.debug_struct("Error")
-            .field("msg", &self.message())
-            .finish()
+        let refused = self.refused.as_ref();
+        let Some((refused, offset)) = refused.and_then(|own| Some((own, own.offset()?))) else {
+            return f
+                .debug_struct("Error")
+                .field("msg", &self.message())
+                .finish();
+        };
+        let rule = "~".repeat(79);
+        writeln!(f, "Syntax(\n{rule}\nregex parse error:")?;
+        refused.write_pattern(offset, f)?;
+        write!(f, "error: {}\n{rule}\n)", self.message())
     }
 }
+
+impl Refused {
+    fn offset(&self) -> Option<usize> {
+        engine::error_at(&self.pattern, self.settings)
+    }
+
+    /// Writes the lines of the pattern, and a caret below the place.
+    fn write_pattern(&self, offset: usize, f: &mut fmt::Formatter<'_>) -> fmt::Result {
+        let before = &self.pattern[..offset];
+        let line = before.matches('\n').count();
+        let column = before.chars().rev().take_while(|c| *c != '\n').count();
+        for (number, text) in self.pattern.split('\n').enumerate() {
+            writeln!(f, "    {text}")?;
+            if number == line {
+                writeln!(f, "    {}^", " ".repeat(column))?;
+            }
+        }
+        Ok(())
+    }
+}
+
+impl PartialEq for Error {
+    fn eq(&self, other: &Error) -> bool {
+        (&self.reason, self.pattern) == (&other.reason, other.pattern)
+    }
+}
+
+impl Eq for Error {}
 
 impl std::error::Error for Error {}

@@ -23,7 +23,7 @@ macro_rules! iterators {
             #[inline]
             pub(super) fn new(regex: &'r Regex, haystack: &'h $haystack) -> Matches<'r, 'h> {
                 Matches {
-                    searches: regex.engine.searches(),
+                    searches: regex.engine.searches(haystack.len()),
                     haystack,
                     last: sys::NONE,
                 }
@@ -59,7 +59,7 @@ macro_rules! iterators {
             pub(super) fn new(regex: &'r Regex, haystack: &'h $haystack) -> CaptureMatches<'r, 'h> {
                 CaptureMatches {
                     regex,
-                    searches: regex.engine.searches(),
+                    searches: regex.engine.searches(haystack.len()),
                     haystack,
                     last: sys::NONE,
                 }
@@ -110,7 +110,7 @@ macro_rules! iterators {
             #[inline]
             pub(super) fn new(regex: &'r Regex, haystack: &'h $haystack) -> Split<'r, 'h> {
                 Split {
-                    searches: regex.engine.searches(),
+                    searches: regex.engine.searches(haystack.len()),
                     haystack,
                     last: sys::NONE,
                     is_done: false,

@@ -273,6 +273,19 @@ macro_rules! regex_set {
                 self.patterns().is_empty()
             }
 
+            /// Returns how large the tables of all patterns are together, or `None` before searches have made them, and if no
+            /// pattern has one. A new set has none: searches make them once they have read some thousand bytes.
+            ///
+            /// ```
+            /// let set = regex_bites::RegexSet::new(["a+", "b"]).unwrap();
+            /// assert_eq!(None, set.table_size());
+            /// assert!(!set.is_match(&"c".repeat(10_000)));
+            /// assert!(set.table_size().is_some_and(|table| table.is_whole));
+            /// ```
+            pub fn table_size(&self) -> Option<TableSize> {
+                self.engine.table_size()
+            }
+
             /// Returns the patterns, in the order in which they were given.
             ///
             /// ```
@@ -453,14 +466,18 @@ macro_rules! regex_set {
                 self
             }
 
-            /// Is for programs that were written for Rust's `regex`: a limit in bytes on the memory that searches keep. Searches have
-            /// no such table yet, so the limit changes nothing.
+            /// Sets the limit on the bytes of all tables together that searches make once they have read some thousand bytes. Each
+            /// pattern's table may take what those of the patterns before it leave. The default is 1048576, and with 0 no table is
+            /// made. The limit changes the time that searches take, and never what they return.
             ///
             /// ```
-            /// let mut builder = regex_bites::RegexSetBuilder::new(["a+"]);
-            /// assert!(builder.dfa_size_limit(1 << 20).build().is_ok());
+            /// let mut builder = regex_bites::RegexSetBuilder::new(["a+", "b"]);
+            /// let set = builder.dfa_size_limit(0).build().unwrap();
+            /// assert!(!set.is_match(&"c".repeat(10_000)));
+            /// assert_eq!(None, set.table_size());
             /// ```
-            pub fn dfa_size_limit(&mut self, _limit: usize) -> &mut RegexSetBuilder {
+            pub fn dfa_size_limit(&mut self, limit: usize) -> &mut RegexSetBuilder {
+                self.settings.set_dfa_size_limit(limit);
                 self
             }
 

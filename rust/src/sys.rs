@@ -30,6 +30,7 @@ pub(crate) const TEXT: u32 = 256;
 
 pub(crate) const SIZE_LIMIT: usize = 10_485_760;
 pub(crate) const NEST_LIMIT: u32 = 50;
+pub(crate) const DFA_SIZE_LIMIT: usize = 1_048_576;
 
 /// Both offsets of a group that did not participate, and the end of the previous match if there is none.
 pub(crate) const NONE: usize = usize::MAX;
@@ -86,6 +87,23 @@ pub(crate) struct BitesSize {
     pub(crate) size: usize,
 }
 
+/// `bites_table`: how large a table is.
+#[repr(C)]
+#[derive(Clone, Copy)]
+pub(crate) struct BitesTable {
+    pub(crate) lists: usize,
+    pub(crate) bytes: usize,
+    pub(crate) is_whole: u32,
+}
+
+impl BitesTable {
+    pub(crate) const NONE: BitesTable = BitesTable {
+        lists: 0,
+        bytes: 0,
+        is_whole: 0,
+    };
+}
+
 extern "C" {
     /// Only a test asks for this.
     #[allow(dead_code)]
@@ -100,9 +118,21 @@ extern "C" {
         out: *mut Bites,
     ) -> u32;
 
+    pub(crate) fn bites_error_at(
+        pattern: *const u8,
+        len: usize,
+        flags: u32,
+        nest_limit: u32,
+        offset: *mut usize,
+    ) -> u32;
+
     pub(crate) fn bites_clone(regex: *mut Bites, out: *mut Bites) -> u32;
 
     pub(crate) fn bites_free(regex: *mut Bites);
+
+    pub(crate) fn bites_prepare(regex: *mut Bites, dfa_size_limit: usize, out: *mut Bites) -> u32;
+
+    pub(crate) fn bites_table_size(regex: *mut Bites, out: *mut BitesTable) -> u32;
 
     pub(crate) fn bites_cache_new(regex: *mut Bites, out: *mut BitesCache) -> u32;
 
@@ -275,6 +305,14 @@ extern "C" {
     pub(crate) fn bites_set_clone(set: *mut BitesSet, out: *mut BitesSet) -> u32;
 
     pub(crate) fn bites_set_free(set: *mut BitesSet);
+
+    pub(crate) fn bites_set_prepare(
+        set: *mut BitesSet,
+        dfa_size_limit: usize,
+        out: *mut BitesSet,
+    ) -> u32;
+
+    pub(crate) fn bites_set_table_size(set: *mut BitesSet, out: *mut BitesTable) -> u32;
 
     /// A set of this crate has its patterns, so nothing calls this.
     #[allow(dead_code)]

@@ -41,10 +41,15 @@ fn a_regex_is_made_of_texts_in_each_way() -> Result<(), Box<dyn std::error::Erro
 fn an_error_tells_its_text() {
     let error: Error = Regex::new("a(b").expect_err("the pattern is refused");
     assert_eq!(error.to_string(), "found open group without closing ')'");
+    let rule = "~".repeat(79);
     assert_eq!(
         format!("{error:?}"),
-        "Error { msg: \"found open group without closing ')'\" }"
+        format!(
+            "Syntax(\n{rule}\nregex parse error:\n    a(b\n       ^\n\
+            error: found open group without closing ')'\n{rule}\n)"
+        )
     );
+    assert_eq!(error.offset(), Some(3));
     assert_eq!(
         Err(error.clone()),
         RegexBuilder::new("a(b").build().map(|_| ())

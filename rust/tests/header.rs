@@ -70,6 +70,7 @@ fn type_of_c(kind: &str, pointer: bool) -> String {
         "bites_set" => "BitesSet",
         "bites_span" => "BitesSpan",
         "bites_size" => "BitesSize",
+        "bites_table" => "BitesTable",
         other => panic!("no type {other}"),
     };
     match (pointer, is_const) {
@@ -137,5 +138,5 @@ fn the_numbers_are_those_of_the_header() {
         assert_eq!(wanted[name].replace('_', ""), value, "{name}");
         count += 1;
     }
-    assert_eq!(count, 20);
+    assert_eq!(count, 21);
 }

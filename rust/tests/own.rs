@@ -1,6 +1,6 @@
 //! What differs from the Rust crate.
 
-use regex_bites::{bytes, Regex, RegexBuilder};
+use regex_bites::{bytes, Regex, RegexBuilder, RegexSetBuilder};
 use std::ops::Range;
 use std::time::{Duration, Instant};
 
@@ -13,6 +13,32 @@ fn the_names_tell_how_many_they_are() {
     assert_eq!(names.len(), 2);
     let captures = regex.captures("xy").expect("a match");
     assert_eq!(captures.iter().len(), 3);
+}
+
+#[test]
+fn an_error_tells_the_place_that_it_is_about() {
+    let offset = |pattern| Regex::new(pattern).expect_err("a refused pattern").offset();
+    assert_eq!(offset("é+)"), Some(3));
+    assert_eq!(offset("a{6,5}b"), Some(6));
+    assert_eq!(offset("(?:a{1000}){1000}"), None);
+    let tall = RegexBuilder::new("a|b").nest_limit(0).build();
+    assert_eq!(tall.expect_err("a tree that is too tall").offset(), None);
+}
+
+#[test]
+fn a_caret_stands_in_the_line_of_the_place() {
+    let error = bytes::Regex::new("(?x)é\n  é*)b\nc").expect_err("a refused pattern");
+    let text = format!("{error:?}");
+    assert_eq!(
+        text.lines().skip(2).take(5).collect::<Vec<_>>(),
+        [
+            "regex parse error:",
+            "    (?x)é",
+            "      é*)b",
+            "        ^",
+            "    c"
+        ]
+    );
 }
 
 #[test]
@@ -38,6 +64,53 @@ fn groups_that_are_repeated_0_times_may_be_kept() {
         names(builder.keep_dropped_groups(true)),
         [None, Some("a".into()), Some("b".into())]
     );
+}
+
+/// The limits are those of no table, of tables that know a part, and of a whole one. Each word of the haystack is a match.
+#[test]
+fn a_table_is_made_once_searches_have_read_enough() {
+    let text = "baa ".repeat(100);
+    for limit in [0, 64, 512, 4096, 1 << 20] {
+        let mut builder = RegexBuilder::new("b(a+)|c");
+        let regex = builder.dfa_size_limit(limit).build().expect("accepted");
+        assert!(regex.is_match(&text[..40]));
+        assert_eq!(regex.table_size(), None);
+        for _ in 0..4 {
+            let starts = regex.captures_iter(&text).map(|found| {
+                let group = found.get(1).expect("a group");
+                assert_eq!(group.len(), 2);
+                group.start()
+            });
+            assert!(starts.eq((0..100).map(|word| 4 * word + 1)));
+        }
+        assert_eq!(regex.clone().table_size(), regex.table_size());
+        if limit == 0 {
+            assert_eq!(regex.table_size(), None);
+        }
+        if limit == 1 << 20 {
+            let size = regex.table_size().expect("a table");
+            assert!(size.is_whole && size.lists > 1 && size.bytes > size.lists);
+            assert!(format!("{size:?}").starts_with("TableSize { lists: "));
+        }
+    }
+}
+
+/// All patterns of a set share the limit.
+#[test]
+fn tables_of_a_set_are_made_once_searches_have_read_enough() {
+    let text = "baa ".repeat(100);
+    for limit in [0, 64, 512, 4096, 1 << 20] {
+        let mut builder = RegexSetBuilder::new(["b(a+)", "x", "a{2} "]);
+        let set = builder.dfa_size_limit(limit).build().expect("accepted");
+        assert!(set.is_match(&text[..40]));
+        assert_eq!(set.table_size(), None);
+        for _ in 0..20 {
+            assert!(set.matches(&text).iter().eq([0, 2]));
+        }
+        assert_eq!(set.clone().table_size(), set.table_size());
+        assert!(set.table_size().map_or(true, |size| size.bytes <= limit));
+        assert!(limit < 1 << 20 || set.table_size().is_some_and(|size| size.is_whole));
+    }
 }
 
 /// The expected groups are those that the Rust crate writes. It only has room for the first ones.

@@ -116,6 +116,8 @@ module _ (q : Question) where
     static_captures_len = static_captures_len t;
     keep_dropped_groups = q.keep_dropped_groups;
     leftmost_longest = q.leftmost_longest;
+    has_table = false;
+    prefilter = false;
   }
 
   -- what is asked of the regex, if the pattern is read

@@ -3,6 +3,7 @@ pub mod SlotLemmas
 pub mod SearchLemmas
 pub mod NextLemmas
 pub mod FullLemmas
+pub mod LaterLemmas
 pub mod MatchLemmas
 pub mod SplitLemmas
 pub mod ReplacingLemmas

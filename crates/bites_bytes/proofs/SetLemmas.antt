@@ -11,7 +11,7 @@ use Rattle.bites_spec.specs.Settings.{Settings, Accepts}
 use Rattle.bites_spec.specs.Set.{HasMatchOf, HasMatchOfAny, AreMatched, AreBuilt, IsBuilt, with_pattern, set_settings, numbers_from, fits_of, fits_for}
 use Rattle.bites_spec.specs.Tree.{Tree}
 use Rattle.bites_text.specs.declared.error.Error.{Error}
-use Rattle.bites_bytes.specs.Set.{Refusal, IsRefused}
+use Rattle.bites_bytes.specs.Set.{Refusal, IsRefused, with_prefilters, without_tables}
 use Rattle.bites_bytes.specs.Settings.{Refuses}
 
 -- as many rooms as regexes, where each fits
@@ -31,6 +31,20 @@ fit_at rooms regexes n d r e lt is =
     slice_get-map (λ q. fit_of q.program) regexes n
     ∙ ap (option_map (λ (q : Regex). fit_of q.program)) (slice_get_read regexes (length regexes) n r refl lt is) in
     same_Some (get_or rooms n d).fits (fit_of r.program) (sym in_rooms ∙ ap (λ fs. slice_get fs n) e ∙ in_regexes)
+
+fits_bare : (regexes : List Regex) → fits_for (without_tables regexes) ≡ fits_for regexes
+fits_bare [] = refl
+fits_bare (r ∷ rs) = ap (λ fs. fit_of r.program ∷ fs) (fits_bare rs)
+
+fits_switched : (prefilter : Bool) (regexes : List Regex) → fits_for (with_prefilters prefilter regexes) ≡ fits_for regexes
+fits_switched prefilter [] = refl
+fits_switched prefilter (r ∷ rs) = ap (λ fs. fit_of r.program ∷ fs) (fits_switched prefilter rs)
+
+-- a room for regexes that are the same but for their tables and their switches fits both
+pub fits_prepared : (prefilter : Bool) (before after : List Regex) → without_tables after ≡ without_tables (with_prefilters prefilter before) →
+    fits_for after ≡ fits_for before
+fits_prepared prefilter before after same =
+    sym (fits_bare after) ∙ ap fits_for same ∙ fits_bare (with_prefilters prefilter before) ∙ fits_switched prefilter before
 
 -- a room that fits as before is put where it stood
 pub fits_kept : (rooms : List Room) (n : ℕ) (new d : Room) → new.fits ≡ (get_or rooms n d).fits → fits_of (slice_set rooms n new) ≡ fits_of rooms

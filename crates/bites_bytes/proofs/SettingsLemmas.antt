@@ -5,7 +5,7 @@ use Rattle.bites_spec.specs.Tree.{Tree, captures_len}
 use Rattle.bites_spec.specs.Program.{IsWellFormed}
 use Rattle.bites_spec.specs.Built.{Built, IsCompilable}
 use Rattle.bites_spec.specs.Contents.{Contents}
-use Rattle.bites_spec.specs.Regex.{Regex, IsCompiled, NamesAreKept}
+use Rattle.bites_spec.specs.Regex.{Regex, IsCompiled, NamesAreKept, with_prefilter, with_table}
 use Rattle.bites_spec.proofs.regex.LeftLemmas.{length-left}
 use Rattle.bites_spec.specs.Pattern.{Text, Flags}
 use Rattle.bites_spec.specs.Grammar.{Reading}
@@ -15,7 +15,9 @@ use Rattle.bites_text.specs.declared.error.Error.{Error}
 use Rattle.bites_text.specs.declared.error.Error.TheVariants.{TooBig, TooManyStates, TooManySlots, Memory}
 use Rattle.bites_machine.specs.Compiled as compiled
 use Rattle.bites_spec.specs.Settings.{Settings, Accepts}
+use Rattle.bites_spec.specs.Set.{IsBuilt}
 use Rattle.bites_bytes.specs.Parts.{chosen, regex_of}
+use Rattle.bites_bytes.specs.Settings.{Refuses, fault, limit}
 
 -- what holds of an error holds of the result that passes it on
 pub handed_on : {B : Type 0} (r : Result B Error) (e : Error) (P : Error → Type 0) → IsErrAnd r (λ f. f ≡ e) → P e → IfErr r P
@@ -55,21 +57,12 @@ chosen_kept true groups r same = same
 chosen_kept false groups r same = refl
 
 -- what a builder returns, from what the parser and the compiler returned
-accepted_of : (s : Settings) (t : Tree) (groups : List (Option (List ℕ))) (read : Limits (chars s.pattern) s.flags s.nest_limit t) →
+pub accepted_of : (s : Settings) (t : Tree) (groups : List (Option (List ℕ))) (read : Limits (chars s.pattern) s.flags s.nest_limit t) →
     groups ≡ groups_opened read.reading → TreeLimitsWith s.size_limit (chosen s.keep_dropped_groups groups t) t → Accepts s t
 accepted_of s t groups read same small = record {
   read = read;
   small = subst (λ gs. TreeLimitsWith s.size_limit gs t) (chosen_kept s.keep_dropped_groups groups read.reading same) small;
 }
-
--- a result that is this regex is of an accepted tree
-pub accepted_clause : (s : Settings) (t : Tree) (groups : List (Option (List ℕ))) (read : Limits (chars s.pattern) s.flags s.nest_limit t) →
-    groups ≡ groups_opened read.reading → TreeLimitsWith s.size_limit (chosen s.keep_dropped_groups groups t) t →
-    (o : Result Regex Error) (x : Regex) → x.tree ≡ t → IfOk o (λ r. r ≡ x) → IfOk o (λ r. Accepts s r.tree)
-accepted_clause s t groups read same small (Ok r) x is made =
-    let P : Tree → Type 0 = λ u. Accepts s u in
-    subst P (sym is ∙ ap (λ (y : Regex). y.tree) (sym made)) (accepted_of s t groups read same small)
-accepted_clause s t groups read same small (Err e) x is made = made
 
 -- the groups of a limit that is exceeded are those that are kept
 pub refused_kept : (s : Settings) (t : Tree) (groups : List (Option (List ℕ))) (read : Limits (chars s.pattern) s.flags s.nest_limit t) →
@@ -77,6 +70,43 @@ pub refused_kept : (s : Settings) (t : Tree) (groups : List (Option (List ℕ)))
     compiled.RefusesTree s.size_limit (groups_kept s.keep_dropped_groups read.reading) t e
 refused_kept s t groups read same e refused =
     subst (λ gs. compiled.RefusesTree s.size_limit gs t e) (chosen_kept s.keep_dropped_groups groups read.reading same) refused
+
+-- the limit on a table changes neither what is accepted nor what is refused
+accepts_with_table : (s : Settings) (n : ℕ) (t : Tree) → Accepts (record s { dfa_size_limit = n }) t → Accepts s t
+accepts_with_table s n t a = record { read = a.read; small = a.small }
+
+accepts_by_table : (s : Settings) (n : ℕ) (t : Tree) → Accepts s t → Accepts (record s { dfa_size_limit = n }) t
+accepts_by_table s n t a = record { read = a.read; small = a.small }
+
+refuses_with_table : (s : Settings) (n : ℕ) (e : Error) → Refuses (record s { dfa_size_limit = n }) e → Refuses s e
+refuses_with_table s n e (fault m is same) = fault m is same
+refuses_with_table s n e (limit t read is) = limit t read is
+
+-- so what is built, or not, with a limit of its own is so with that of the settings
+pub built_with_table : (s : Settings) (n : ℕ) (o : Result Regex Error) →
+    IfOk o (λ r. (r.pattern ≡ s.pattern) × (r.flags ≡ s.flags) × (r.keep_dropped_groups ≡ s.keep_dropped_groups) × (r.leftmost_longest ≡ s.leftmost_longest)
+    × (r.prefilter ≡ s.prefilter)) →
+    IfOk o (λ r. Accepts (record s { dfa_size_limit = n }) r.tree) → IfOk o (IsBuilt s)
+built_with_table s n (Ok r) kept accepted = record {
+  pattern = kept.0;
+  flags = kept.1;
+  keep_dropped_groups = kept.2;
+  leftmost_longest = kept.3;
+  prefilter = kept.4;
+  accepted = accepts_with_table s n r.tree accepted;
+}
+built_with_table s n (Err e) kept accepted = kept
+
+pub refused_with_table : {B : Type 0} (s : Settings) (n : ℕ) (o : Result B Error) →
+    IfErr o (λ e. e ≢ Memory → (t : Tree) → Accepts (record s { dfa_size_limit = n }) t → ⊥) →
+    IfErr o (λ e. e ≢ Memory → (t : Tree) → Accepts s t → ⊥)
+refused_with_table s n (Ok r) refused = refused
+refused_with_table s n (Err e) refused = λ ne t a. refused ne t (accepts_by_table s n t a)
+
+pub message_with_table : {B : Type 0} (s : Settings) (n : ℕ) (o : Result B Error) →
+    IfErr o (λ e. e ≢ Memory → Refuses (record s { dfa_size_limit = n }) e) → IfErr o (λ e. e ≢ Memory → Refuses s e)
+message_with_table s n (Ok r) message = message
+message_with_table s n (Err e) message = λ ne. refuses_with_table s n e (message ne)
 
 -- a regex of a program that was made with these groups
 pub compiled_of : (flags : Flags) (t : Tree) (keep longest : Bool) (p : Contents) (pattern : List ℕ) (groups : List (Option (List ℕ)))
@@ -103,3 +133,18 @@ names_are_kept r is = record { kept = λ reading. is.names ∙ kept_once r.keep_
 -- and as many as the tree has groups, where dropped ones are not kept
 pub left_captures : (r : Regex) → IsCompiled r → r.keep_dropped_groups ≡ false → length r.names ≡ captures_len r.tree
 left_captures r is off = ap length (is.names ∙ ap (λ keep. groups_kept keep is.reads) off) ∙ length-left r.tree
+
+-- neither a table nor a search for a literal changes anything of this
+pub compiled_with : (f b : Bool) (r : Regex) → IsCompiled r → IsCompiled (with_prefilter f (with_table b r))
+compiled_with f b r is = record {
+  reads = is.reads;
+  compilable = is.compilable;
+  built = is.built;
+  well_formed = is.well_formed;
+  names = is.names;
+  slots = is.slots;
+  static = is.static;
+}
+
+pub kept_with : (f b : Bool) (r : Regex) → NamesAreKept r → NamesAreKept (with_prefilter f (with_table b r))
+kept_with f b r are = record { kept = are.kept }

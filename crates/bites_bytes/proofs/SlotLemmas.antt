@@ -68,11 +68,11 @@ starts_are i = by i.anchored
 -- the run that the regex asks for is what the search found
 pub answered : (r : Regex) (i : Input) (found : Bool) (old new : List (Option ℕ)) (before after : Room) → IsSearched r i found old new before after →
     i.kind ≡ kind_of r → Answered r.program (run_at r i.haystack.now (starts_in i)) found old new
-answered r i found old new before after s kind = by r.leftmost_longest kind
+answered r i found old new before after search kind = by r.leftmost_longest kind
   where
     by : (b : Bool) → i.kind ≡ (if b then Longest else First) → Answered r.program (chosen_run b r.program i.haystack.now (starts_in i)) found old new
-    by true e = s.longest e
-    by false e = s.first e
+    by true e = search.answered.longest e
+    by false e = search.answered.first e
 
 -- a slice of two slots, or of all, has two
 pub two_at_least : (r : Regex) → IsCompiled r → (n : ℕ) → (n ≡ 2) ⊎ (n ≡ r.program.slots) → 2 ≤ n

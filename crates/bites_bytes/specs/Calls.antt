@@ -1,8 +1,9 @@
 -- What the calls of a regex promise: a word for each promise.
-use Rattle.std.specs.Prelude.{◌≡◌, ℕ, Bool, List, [], ◌∷◌, Option, Some, None, option_map, unwrap_or, length, IfSome, MatchOption}
-use Rattle.bites_spec.specs.Match.{Span}
-use Rattle.bites_spec.specs.Program.{Program}
-use Rattle.bites_spec.specs.Counts.{Room, IsBounded, IsWalked}
+use Rattle.std.specs.Prelude.{◌≡◌, ℕ, ◌<◌, ◌⊎◌, Bool, false, List, [], ◌∷◌, Option, Some, None, option_map, unwrap_or, length, IfSome, MatchOption}
+use Rattle.bites_spec.specs.Walks.{Among}
+use Rattle.bites_spec.specs.Utf8.{places}
+use Rattle.bites_spec.specs.Match.{Span, Matches}
+use Rattle.bites_spec.specs.Counts.{Room, Record, IsBounded, IsWalked}
 use Rattle.bites_spec.specs.Slots.{group_in}
 use Rattle.bites_spec.specs.Spans.{LiesFrom}
 use Rattle.bites_spec.specs.Found.{NoMatch}
@@ -11,16 +12,40 @@ use Rattle.bites_spec.specs.Captured.{Excerpt, Captured, captured, AreGroups, Ar
 use Rattle.bites_spec.specs.Full.{full_slots, FindsGroupsFull}
 use Rattle.bites_spec.specs.Iteration.{spans_after, captures_after}
 
--- a search from s that may begin at these starts was made with the room: it fits the same programs as before, and shows what
--- the search visited
-pub record Searched (p : Program) (hay : List ℕ) (s : ℕ) (starts : List ℕ) (found : Bool) (old new : Room) : Type 0 where
-  pub fits : new.fits ≡ old.fits
-  pub walked : IsWalked p hay s starts found new.walked
+-- where the regex has no table, each visit was a reading of a state
+abbrev pub ReadsEach : Regex → Record → Type 0
+ReadsEach r c = r.has_table ≡ false → c.read ≡ c.visits
 
--- the same, where only the bounds are known
-pub record SearchedWithin (p : Program) (hay : List ℕ) (s : ℕ) (old new : Room) : Type 0 where
+-- a search of the regex from s that may begin at these starts was made with the room: it fits the same programs as before, and
+-- shows what the search visited
+pub record Searched (r : Regex) (hay : List ℕ) (s : ℕ) (starts : List ℕ) (found : Bool) (old new : Room) : Type 0 where
   pub fits : new.fits ≡ old.fits
-  pub bounded : IsBounded p hay s new.walked
+  pub walked : IsWalked r.program hay s starts found new.walked
+  pub read : ReadsEach r new.walked
+
+-- a search from s may explore from p on: the tree matches from no place before p. Where searches look for no literal, p is s.
+pub record BeginsAt (r : Regex) (hay : List ℕ) (s p : ℕ) : Type 0 where
+  pub place : Among (places hay s) p ⊎ (length hay < p)
+  pub none_before : (i : ℕ) → Among (places hay s) i → i < p → (j : ℕ) → Matches hay r.tree i j → ⊥
+  pub plain : r.prefilter ≡ false → p ≡ s
+
+-- a search of the regex from s on explored from such a place on: it kept the bounds from there, and visited what it had to
+pub record WalkedFrom (r : Regex) (hay : List ℕ) (s : ℕ) (found : Bool) (c : Record) : Type 0 where
+  pub place : ℕ
+  pub begins : BeginsAt r hay s place
+  pub walked : IsWalked r.program hay place (places hay place) found c
+
+-- it was made with the room
+pub record SearchedFrom (r : Regex) (hay : List ℕ) (s : ℕ) (found : Bool) (old new : Room) : Type 0 where
+  pub fits : new.fits ≡ old.fits
+  pub walked : WalkedFrom r hay s found new.walked
+  pub read : ReadsEach r new.walked
+
+-- the same, of which only the bounds are known
+pub record SearchedWithin (r : Regex) (hay : List ℕ) (s : ℕ) (old new : Room) : Type 0 where
+  pub fits : new.fits ≡ old.fits
+  pub bounded : IsBounded r.program hay s new.walked
+  pub read : ReadsEach r new.walked
 
 -- a search of the regex from these starts finds these groups, or none
 pub record FindsCaptured (r : Regex) (hay starts : List ℕ) (c : Option Captured) : Type 0 where

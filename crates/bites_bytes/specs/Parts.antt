@@ -7,7 +7,7 @@ use Rattle.bites_spec.specs.Regex.{Regex}
 use Rattle.bites_spec.specs.Contents.{Contents}
 
 -- the regex of these flags, this tree, whether dropped groups are kept, whether searches return the longest match, and what is in
--- the tree's program
+-- the tree's program; no table was made for it, and its searches look for no literal
 abbrev pub regex_of : Flags → Tree → Bool → Bool → Contents → Regex
 regex_of flags tree keep_dropped_groups leftmost_longest contents = record {
   pattern = contents.pattern;
@@ -18,6 +18,8 @@ regex_of flags tree keep_dropped_groups leftmost_longest contents = record {
   static_captures_len = contents.static_captures_len;
   keep_dropped_groups = keep_dropped_groups;
   leftmost_longest = leftmost_longest;
+  has_table = false;
+  prefilter = false;
 }
 
 -- all of these groups, or those that are left in the tree

@@ -1,6 +1,8 @@
--- What builders of sets return where they build none, and what an iterator over the numbers of patterns has left.
-use Rattle.std.specs.Prelude.{◌≡◌, ℕ, ◌<◌, List, slice_get, Some}
+-- What builders of sets return where they build none, sets with tables, and what an iterator over the numbers of patterns has left.
+use Rattle.std.specs.Prelude.{◌≡◌, ℕ, ◌<◌, Bool, false, List, map, slice_get, Some}
+use Rattle.std.specs.List.{list_any}
 use Rattle.std.specs.Borrow.{Bor}
+use Rattle.bites_spec.specs.Regex.{Regex, with_prefilter, with_table}
 use Rattle.bites_spec.specs.Tree.{Tree}
 use Rattle.bites_spec.specs.Settings.{Accepts}
 use Rattle.bites_spec.specs.Set.{SetSettings, with_pattern}
@@ -19,6 +21,24 @@ pub record IsRefused (s : SetSettings) (refusal : Refusal) : Type 0 where
   pub none : (t : Tree) → Accepts (with_pattern s.all pattern) t → ⊥
   pub message : Refuses (with_pattern s.all pattern) refusal.error
   pub first : (k : ℕ) (p : List ℕ) → k < refusal.index → slice_get s.patterns k ≡ Some p → (t : Tree) × Accepts (with_pattern s.all p) t
+
+-- the regexes, each without a table
+abbrev pub without_tables : List Regex → List Regex
+without_tables = map (with_table false)
+
+-- the regexes, each with this switch
+abbrev pub with_prefilters : Bool → List Regex → List Regex
+with_prefilters prefilter = map (with_prefilter prefilter)
+
+-- each regex after is the one before with this switch and with a table or without one, in the same order; with the limit 0 none
+-- has a table
+pub record ArePrepared (limit : ℕ) (prefilter : Bool) (before after : List Regex) : Type 0 where
+  pub same : without_tables after ≡ without_tables (with_prefilters prefilter before)
+  pub none : limit ≡ 0 → after ≡ without_tables (with_prefilters prefilter before)
+
+-- whether any of the regexes has a table
+abbrev pub has_any_table : List Regex → Bool
+has_any_table = list_any (λ r. r.has_table)
 
 -- all numbers that are left
 abbrev pub every_number : List ℕ → List ℕ

@@ -27,6 +27,7 @@ mod shortest;
 mod split;
 
 pub use bites_syntax::syntax_error::SyntaxError;
+pub use bites_table::table::TableSize;
 pub use bites_text::error::Error;
 pub use builder::RegexBuilder;
 pub use cache::Cache;

@@ -3,6 +3,8 @@ use denote.Param.Send.{IsSend, IsSync, sendable}
 use Rattle.std.proofs.Crossing.{crosses}
 use Rattle.bites_syntax.proofs.flags.Flags.TheSendSync as flags
 use Rattle.bites_syntax.proofs.tree.Tree.TheLaws.TheKnot.{crosses as tree_crosses}
+use Rattle.bites_scan.specs.contracts.literal.Literal as Literal
+use Rattle.bites_literals.proofs.prefilter.Prefilter.TheSendSync as prefilter
 use Rattle.bites_machine.proofs.state.State.TheSendSync as state
 use Rattle.bites_machine.proofs.vm.threads.Threads.TheSendSync as threads
 use Rattle.bites_machine.proofs.vm.closure.Scratch.TheSendSync as scratch
@@ -12,6 +14,16 @@ use Rattle.bites_machine.specs.contracts.vm.cache.Cache as MachineCache
 use Rattle.bites_machine.specs.contracts.vm.cache.Cache.TheInside as MachineFields
 use Rattle.bites_machine.specs.contracts.vm.counted.Searches as Searches
 use Rattle.bites_machine.specs.contracts.vm.counted.Trace as Trace
+use Rattle.bites_machine.proofs.vm.resume.RegisterThread.TheSendSync as register_thread
+use Rattle.bites_table.proofs.classes.Classes.TheSendSync as classes
+use Rattle.bites_table.proofs.steps.Step.TheSendSync as step
+use Rattle.bites_table.proofs.table.ListEntry.TheSendSync as list_entry
+use Rattle.bites_table.proofs.table.act.Act.TheSendSync as act
+use Rattle.bites_table.specs.contracts.cache.Cache as TableCache
+use Rattle.bites_table.specs.contracts.cache.Cache.TheInside as TableCacheFields
+use Rattle.bites_table.specs.contracts.table.Table as Table
+use Rattle.bites_table.specs.contracts.table.Table.TheInside as TableFields
+use Rattle.bites_table.specs.contracts.table.cell.Cell as Cell
 use Rattle.bites_bytes.proofs.bytes.locations.CaptureLocations.TheSendSync as locations
 use Rattle.bites_bytes.specs.contracts.bytes.cache.Cache as Cache
 use Rattle.bites_bytes.specs.contracts.bytes.regex.Compiled as Compiled
@@ -28,14 +40,38 @@ program_send = search (sendable, crosses, group_names.the_send, state.the_send) 
 program_sync : IsSync Program.the_row
 program_sync = search (sendable, crosses, group_names.the_sync, state.the_sync) depth 30
 
+literal_send : IsSend Literal.the_row
+literal_send = search (sendable, crosses) depth 20
+
+literal_sync : IsSync Literal.the_row
+literal_sync = search (sendable, crosses) depth 20
+
 compiled_send : IsSend Compiled.the_row
-compiled_send = search (sendable, crosses, tree_crosses, flags.the_field_send, program_send) depth 20
+compiled_send = search (sendable, crosses, tree_crosses, flags.the_field_send, program_send, literal_send, prefilter.the_send) depth 40
 
 compiled_sync : IsSync Compiled.the_row
-compiled_sync = search (sendable, crosses, tree_crosses, flags.the_field_sync, program_sync) depth 20
+compiled_sync = search (sendable, crosses, tree_crosses, flags.the_field_sync, program_sync, literal_sync, prefilter.the_sync) depth 40
+
+cell_send : IsSend Cell.the_row
+cell_send = search (sendable, crosses) depth 20
+
+cell_sync : IsSync Cell.the_row
+cell_sync = search (sendable, crosses) depth 20
+
+table_fields_send : IsSend TableFields.the_row
+table_fields_send = search (sendable, crosses, classes.the_send, cell_send, act.the_send, step.the_send, list_entry.the_send, register_thread.the_send) depth 80 fits 100000
+
+table_fields_sync : IsSync TableFields.the_row
+table_fields_sync = search (sendable, crosses, classes.the_sync, cell_sync, act.the_sync, step.the_sync, list_entry.the_sync, register_thread.the_sync) depth 80 fits 100000
+
+table_send : IsSend Table.the_row
+table_send = search (sendable, table_fields_send) depth 20
+
+table_sync : IsSync Table.the_row
+table_sync = search (sendable, table_fields_sync) depth 20
 
 regex_send : IsSend Regex.the_row
-regex_send = search (sendable, crosses, compiled_send, compiled_sync) depth 20
+regex_send = search (sendable, crosses, compiled_send, compiled_sync, table_send, table_sync) depth 20
 
 pub held_send : IsSend Held.the_row
 held_send = search (sendable, regex_send) depth 20
@@ -53,8 +89,14 @@ machine_fields_send = search (sendable, threads.the_send, scratch.the_send, scra
 machine_send : IsSend MachineCache.the_row
 machine_send = search (sendable, machine_fields_send) depth 20
 
+table_cache_fields_send : IsSend TableCacheFields.the_row
+table_cache_fields_send = search (sendable, crosses, machine_send) depth 20
+
+table_cache_send : IsSend TableCache.the_row
+table_cache_send = search (sendable, table_cache_fields_send) depth 20
+
 cache_send : IsSend Cache.the_row
-cache_send = search (sendable, machine_send) depth 20
+cache_send = search (sendable, table_cache_send) depth 20
 
 pub room_send : IsSend Room.the_row
 room_send = search (sendable, cache_send, locations.the_send) depth 20

@@ -1,4 +1,5 @@
 pub mod Codes
+pub mod Errors
 pub mod Holding
 pub mod Made
 pub mod Put

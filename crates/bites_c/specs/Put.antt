@@ -9,6 +9,11 @@ use Rattle.bites_text.specs.Texts.{code_of}
 use Rattle.bites_c.specs.Codes.{matched, not_matched, done, too_small, no_name}
 use Rattle.bites_c.specs.declared.text.BitesSize.{BitesSize}
 use Rattle.bites_c.specs.declared.span.BitesSpan.{BitesSpan}
+use Rattle.bites_c.specs.declared.table.BitesTable.{BitesTable}
+
+-- the size of no table
+abbrev pub no_table : BitesTable
+no_table = record { lists = 0; bytes = 0; is_whole = 0 }
 
 -- a span, or the greatest number twice
 abbrev pub span_for_c : Option Span → BitesSpan

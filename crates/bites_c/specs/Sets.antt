@@ -1,7 +1,8 @@
 -- Sets for C: what a handle holds, the patterns that it is made of, and what a search puts.
-use Rattle.std.specs.Prelude.{◌≡◌, ◌<◌, ◌≤◌, ℕ, Bool, cond, List, [], ◌∷◌, ◌++◌, length, map, drop, slice_get, slice_range, Option, Some, None, IsUtf8, ⊤}
+use Rattle.std.specs.Prelude.{◌≡◌, ◌<◌, ◌≤◌, ℕ, Bool, cond, List, [], ◌∷◌, ◌++◌, length, map, drop, slice_get, slice_range, Option, Some, None, IsUtf8, ⊤, true}
 use Rattle.bites_spec.specs.Regex.{Regex}
 use Rattle.bites_spec.specs.Set.{SetSettings, set_settings, AreMatched, HasMatchOfAny}
+use Rattle.bites_bytes.specs.Set.{ArePrepared}
 use Rattle.bites_c.specs.Codes.{empty_handle, too_small}
 use Rattle.bites_c.specs.Searched.{AnswersIf}
 use Rattle.bites_c.specs.Texts.{AsksFrom}
@@ -15,6 +16,12 @@ pub record SetHeld : Type 0 where
 -- the same by its parts
 abbrev pub set_held : List Regex → Bool → SetHeld
 set_held regexes is_text = record { regexes = regexes; is_text = is_text }
+
+-- the second holds the regexes of the first, each with a table or without one, and none with one if the limit is 0; their searches
+-- look for literals first
+pub record IsPreparedSet (limit : ℕ) (before after : SetHeld) : Type 0 where
+  pub regexes : ArePrepared limit true before.regexes after.regexes
+  pub is_text : after.is_text ≡ before.is_text
 
 -- the patterns that stand one after another in some bytes: each ends at its offset, and the first begins at `start`
 abbrev pub cut_from : List ℕ → ℕ → List ℕ → List (List ℕ)

@@ -1,5 +1,5 @@
 -- What a word of flags asks for.
-use Rattle.std.specs.Prelude.{ℕ, List, Bool, bit_and, nat_eq, not}
+use Rattle.std.specs.Prelude.{ℕ, List, Bool, false, bit_and, nat_eq, not}
 use Rattle.bites_spec.specs.Pattern.{Flags}
 use Rattle.bites_spec.specs.Settings.{Settings, settings}
 
@@ -29,6 +29,6 @@ keeps_in word = has_bit word 128
 abbrev pub text_in : ℕ → Bool
 text_in word = has_bit word 256
 
--- the settings that a pattern, a word and two limits ask for
+-- the settings that a pattern, a word and two limits ask for: no table is made, and searches look for no literal
 abbrev pub asked : List ℕ → ℕ → ℕ → ℕ → Settings
-asked pattern word size_limit nest_limit = settings pattern (flags_in word) size_limit nest_limit (keeps_in word) (longest_in word)
+asked pattern word size_limit nest_limit = settings pattern (flags_in word) size_limit nest_limit 0 (keeps_in word) (longest_in word) false

@@ -1,13 +1,14 @@
 //! What a handle of a set holds.
 
-ghost use Rattle.std.specs.Prelude.{◌≡◌, ◌↔◌, ◌++◌, ◌≤◌, ℕ, true, length, map, drop, slice_get, IsTrue, IfOk, Some};
+ghost use Rattle.std.specs.Prelude.{◌≡◌, ◌↔◌, ◌++◌, ◌≤◌, ℕ, true, length, map, drop, slice_get, is_some, IsTrue, IfOk, Some};
 ghost use Rattle.bites_spec.specs.Set.{HasMatchOfAny};
 ghost use Rattle.bites_spec.specs.Utf8.{places};
-ghost use Rattle.bites_c.specs.Sets.{PutsMatchedIn, byte_of, set_held};
+ghost use Rattle.bites_bytes.specs.Set.{has_any_table};
+ghost use Rattle.bites_c.specs.Sets.{IsPreparedSet, PutsMatchedIn, byte_of, set_held};
 
 use crate::codes::{MATCH, NO_MATCH, TOO_SMALL};
 use crate::text::BitesSize;
-use bites_bytes::bytes::{RegexSet, SetCache};
+use bites_bytes::bytes::{RegexSet, SetCache, TableSize};
 use std::alloc::{AllocError, Global};
 use std::marker::Model;
 
@@ -57,6 +58,25 @@ impl HeldSet {
         ensures { IfOk result (λ h. h ≡ self.now) }
     {
         HeldSet::new(alloc, self.set.clone()?, self.is_text)
+    }
+
+    /// Returns the same set with tables of at most so many bytes together. Its searches look for literals first. The error is
+    /// out of memory.
+    pub(crate) fn prepared(
+        &self,
+        alloc: Global,
+        dfa_size_limit: usize,
+    ) -> Result<HeldSet, AllocError>
+        ensures { IfOk result (IsPreparedSet dfa_size_limit self.now) }
+    {
+        HeldSet::new(alloc, self.set.prepared(dfa_size_limit, true)?, self.is_text)
+    }
+
+    /// Returns how large the tables of all patterns are together, if any has one.
+    pub(crate) fn table_size(&self) -> Option<TableSize>
+        ensures { is_some result ≡ has_any_table self.now.regexes }
+    {
+        self.set.table_size()
     }
 
     /// Returns whether searches are over texts.

@@ -10,7 +10,7 @@
 //! texts.
 #![tactic(auto)]
 
-ghost use Rattle.std.specs.Prelude.{◌≡◌, ◌≢◌, ◌↔◌, IsSomeAnd, IfSome, IsUtf8, length, option_map, unwrap_or, ⊤};
+ghost use Rattle.std.specs.Prelude.{◌≡◌, ◌≢◌, ◌↔◌, false, IsSomeAnd, IfSome, IsUtf8, length, option_map, unwrap_or, ⊤};
 ghost use Rattle.std.specs.declared.option.Option.TheVariants.{None};
 ghost use Rattle.bites_spec.specs.Counts.{fit_of};
 ghost use Rattle.bites_spec.specs.Captured.{FindsSpan};
@@ -24,13 +24,14 @@ ghost use Rattle.bites_text.specs.declared.error.Error.TheVariants.{Memory};
 ghost use Rattle.bites_bytes.specs.Settings.{Refuses};
 ghost use Rattle.bites_text.specs.Texts.{code_of};
 ghost use Rattle.bites_c.specs.Codes.{done, not_utf8, empty_handle};
-ghost use Rattle.bites_c.specs.Made.{IsMadeBy};
-ghost use Rattle.bites_c.specs.Put.{Puts, PutsSpan, last_for_c};
+ghost use Rattle.bites_c.specs.Made.{IsMadeBy, IsPrepared};
+ghost use Rattle.bites_c.specs.Put.{Puts, PutsSpan, last_for_c, no_table};
 ghost use Rattle.bites_c.specs.Searched.{AnswersIf, AnswersPiece, AnswersPlace, AnswersSpan, FindsNext, PutsCaptures, PutsNextCaptures, SearchedAfter, SearchedFrom};
 ghost use Rattle.bites_c.specs.Words.{asked, text_in};
 
 mod cache;
 mod codes;
+mod error_calls;
 mod handle;
 mod held;
 mod held_set;
@@ -43,6 +44,7 @@ mod search;
 mod set;
 mod set_calls;
 mod span;
+mod table;
 mod text;
 mod text_calls;
 mod texts;
@@ -53,6 +55,7 @@ pub use handle::Bites;
 pub use set::BitesSet;
 pub use span::BitesSpan;
 use std::alloc::Global;
+pub use table::BitesTable;
 pub use text::BitesSize;
 
 /// Compiles the pattern, and puts the regex into `out` instead of the one that it held.
@@ -122,6 +125,60 @@ pub extern "C" fn bites_clone(alloc: Global, regex: &mut Bites, out: &mut Bites)
         }
         None => NO_MEMORY,
     }
+}
+
+/// Puts the regex into `out` with a table of at most so many bytes, which its searches use, instead of the regex that `out`
+/// held. Its searches look for a literal first, if each match holds one. Both share the program, and caches of the one fit
+/// the other.
+///
+/// Returns 0, also if there was no memory for the table, 58 for out of memory for the handle, or 103 if `regex` holds
+/// nothing. Unless it returns 0, `out` holds nothing.
+#[unsafe(no_mangle)]
+pub extern "C" fn bites_prepare(
+    alloc: Global,
+    regex: &mut Bites,
+    dfa_size_limit: usize,
+    out: &mut Bites,
+) -> u32
+    ensures same { regex.new.held ≡ regex.old.held }
+    ensures made { result ≡ done → IsSomeAnd regex.old.held (λ h.
+        IsSomeAnd out.new.held (IsPrepared dfa_size_limit h)) }
+    ensures refused { result ≢ done → out.new.held ≡ None }
+    ensures empty { result ≡ empty_handle ↔ regex.old.held ≡ None }
+    ensures known { result ≢ done → result ≢ empty_handle → result ≡ code_of Memory }
+{
+    *out = Bites::empty(alloc);
+    let Some(source) = std::mem::replace(regex, Bites::empty(alloc)).into_box() else {
+        return EMPTY_HANDLE;
+    };
+    let made = make::prepared(alloc, &source, dfa_size_limit);
+    *regex = Bites::of(source);
+    match made {
+        Some(made) => {
+            *out = made;
+            DONE
+        }
+        None => NO_MEMORY,
+    }
+}
+
+/// Puts how large the table of the regex is into `out`; it is all zeros if there is none.
+///
+/// Returns 0, or 103 if `regex` holds nothing. Then `out` is unchanged.
+#[unsafe(no_mangle)]
+pub extern "C" fn bites_table_size(alloc: Global, regex: &mut Bites, out: &mut BitesTable) -> u32
+    ensures same { regex.new.held ≡ regex.old.held }
+    ensures none { IfSome regex.old.held (λ h. h.regex.has_table ≡ false → out.new ≡ no_table) }
+    ensures empty { result ≡ empty_handle ↔ regex.old.held ≡ None }
+    ensures unchanged { result ≡ empty_handle → out.new ≡ out.old }
+{
+    let Some(held) = std::mem::replace(regex, Bites::empty(alloc)).into_box() else {
+        return EMPTY_HANDLE;
+    };
+    let size = BitesTable::of(held.regex.table_size());
+    *regex = Bites::of(held);
+    *out = size;
+    DONE
 }
 
 /// Makes a cache for searches with the regex, and puts it into `out` instead of the one that it held.

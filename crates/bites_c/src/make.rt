@@ -1,24 +1,27 @@
 //! Making what C holds.
 
-ghost use Rattle.std.specs.Prelude.{◌≡◌, ◌≢◌, ◌↔◌, IfOk, IfErr, IfSome, IsSomeAnd, IsUtf8};
+ghost use Rattle.std.specs.Prelude.{◌≡◌, ◌≢◌, ◌↔◌, IfOk, IfErr, IfSome, IsSomeAnd, IsUtf8, MatchOption, chars};
 ghost use Rattle.std.specs.declared.option.Option.TheVariants.{Some};
 ghost use Rattle.bites_spec.specs.Counts.{fit_of};
+ghost use Rattle.bites_spec.specs.Measure.{Limits};
+ghost use Rattle.bites_spec.specs.Tree.{Tree};
+ghost use Rattle.bites_syntax.specs.Placed.{RefusesAt};
 ghost use Rattle.bites_text.specs.declared.error.Error.{Error as Fault};
 ghost use Rattle.bites_text.specs.declared.error.Error.TheVariants.{Memory};
 ghost use Rattle.bites_bytes.specs.Settings.{Refuses};
 ghost use Rattle.bites_text.specs.Texts.{code_of};
 ghost use Rattle.bites_c.specs.Codes.{done, not_utf8};
-ghost use Rattle.bites_c.specs.Made.{IsMadeBy};
-ghost use Rattle.bites_c.specs.Words.{asked, text_in};
+ghost use Rattle.bites_c.specs.Made.{IsMadeBy, IsPrepared};
+ghost use Rattle.bites_c.specs.Words.{asked, flags_in, text_in};
 
 use crate::cache::BitesCache;
 use crate::codes::{NO_MEMORY, NOT_UTF8};
 use crate::handle::Bites;
 use crate::held::Held;
 use crate::room::Room;
-use bites_bytes::bytes::{Regex, RegexBuilder};
+use bites_bytes::bytes::{Regex, RegexBuilder, SyntaxError};
 use bites_text::error::{Error, number};
-use std::alloc::Global;
+use std::alloc::{AllocError, Global};
 
 /// Compiles the pattern, and returns a handle of the regex. The error is the number for C.
 pub(crate) fn regex(
@@ -66,6 +69,23 @@ fn build(
     configured(alloc, pattern, flags, size_limit, nest_limit)?.into_regex()
 }
 
+/// Returns where the pattern is refused, if the grammar refuses it. The error is out of memory.
+pub(crate) fn syntax_error(
+    alloc: Global,
+    pattern: &str,
+    flags: u32,
+    nest_limit: u32,
+) -> Result<Option<SyntaxError>, AllocError>
+    ensures { IfOk result (λ found. MatchOption found
+        ((t : Tree) × Limits (chars pattern.now) (flags_in flags) nest_limit t)
+        (RefusesAt (chars pattern.now) (flags_in flags) nest_limit)) }
+{
+    let Ok(builder) = configured(alloc, pattern, flags, 0, nest_limit) else {
+        return Err(AllocError);
+    };
+    builder.syntax_error()
+}
+
 fn configured(
     alloc: Global,
     pattern: &str,
@@ -87,6 +107,7 @@ fn configured(
     builder.keep_dropped_groups(flags & 128 != 0);
     builder.size_limit(size_limit);
     builder.nest_limit(nest_limit);
+    builder.dfa_size_limit(0);
     Ok(builder)
 }
 
@@ -96,6 +117,21 @@ pub(crate) fn copy(alloc: Global, held: &Held) -> Option<Bites>
 {
     let is_text = held.is_text;
     match held.regex.clone() {
+        Ok(regex) => match Box::new(alloc, Held { regex, is_text }) {
+            Ok(boxed) => Some(Bites::of(boxed)),
+            Err(_) => None,
+        },
+        Err(_) => None,
+    }
+}
+
+/// Returns a handle of the same regex with a table of at most so many bytes, or `None` for out of memory. If there is
+/// no memory for the table, the regex has none. Its searches look for a literal first.
+pub(crate) fn prepared(alloc: Global, held: &Held, dfa_size_limit: usize) -> Option<Bites>
+    ensures { IfSome result (λ b. IsSomeAnd b.held (IsPrepared dfa_size_limit held.now)) }
+{
+    let is_text = held.is_text;
+    match held.regex.prepared(dfa_size_limit, true) {
         Ok(regex) => match Box::new(alloc, Held { regex, is_text }) {
             Ok(boxed) => Some(Bites::of(boxed)),
             Err(_) => None,

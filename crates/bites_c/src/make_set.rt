@@ -8,7 +8,7 @@ ghost use Rattle.bites_text.specs.declared.error.Error.TheVariants.{Memory};
 ghost use Rattle.bites_text.specs.Texts.{code_of};
 ghost use Rattle.bites_bytes.specs.Set.{IsRefused, refusal};
 ghost use Rattle.bites_c.specs.Codes.{bad_span, done, not_utf8};
-ghost use Rattle.bites_c.specs.Sets.{AreEnds, IsNoText, cut_from, set_asked};
+ghost use Rattle.bites_c.specs.Sets.{AreEnds, IsNoText, IsPreparedSet, cut_from, set_asked};
 ghost use Rattle.bites_c.specs.Words.{text_in};
 
 use crate::codes::{BAD_SPAN, NO_MEMORY, NOT_UTF8};
@@ -130,6 +130,7 @@ fn configured(
     builder.keep_dropped_groups(flags & 128 != 0);
     builder.size_limit(size_limit);
     builder.nest_limit(nest_limit);
+    builder.dfa_size_limit(0);
     Ok(builder)
 }
 
@@ -148,6 +149,17 @@ pub(crate) fn copy(alloc: Global, held: &HeldSet) -> Option<BitesSet>
     ensures { IfSome result (λ b. b.held ≡ Some held.now) }
 {
     match held.copy(alloc) {
+        Ok(held) => boxed(alloc, held),
+        Err(_) => None,
+    }
+}
+
+/// Returns a handle of the same set with tables of at most so many bytes together, or `None` for out of memory. A pattern
+/// has no table if there is no memory for it.
+pub(crate) fn prepared(alloc: Global, held: &HeldSet, dfa_size_limit: usize) -> Option<BitesSet>
+    ensures { IfSome result (λ b. IsSomeAnd b.held (IsPreparedSet dfa_size_limit held.now)) }
+{
+    match held.prepared(alloc, dfa_size_limit) {
         Ok(held) => boxed(alloc, held),
         Err(_) => None,
     }

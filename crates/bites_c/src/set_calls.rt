@@ -1,21 +1,23 @@
 //! The exports about sets.
 
-ghost use Rattle.std.specs.Prelude.{◌≡◌, ◌≢◌, ◌↔◌, IsSomeAnd, length, ⊤};
+ghost use Rattle.std.specs.Prelude.{◌≡◌, ◌≢◌, ◌↔◌, false, IfSome, IsSomeAnd, length, ⊤};
 ghost use Rattle.std.specs.declared.option.Option.TheVariants.{None};
 ghost use Rattle.bites_spec.specs.Set.{AreBuilt, HasMatchOfAny};
 ghost use Rattle.bites_spec.specs.Utf8.{places};
 ghost use Rattle.bites_text.specs.declared.error.Error.{Error as Fault};
 ghost use Rattle.bites_text.specs.declared.error.Error.TheVariants.{Memory};
 ghost use Rattle.bites_text.specs.Texts.{code_of};
-ghost use Rattle.bites_bytes.specs.Set.{IsRefused, refusal};
+ghost use Rattle.bites_bytes.specs.Set.{IsRefused, has_any_table, refusal};
 ghost use Rattle.bites_c.specs.Codes.{bad_span, done, not_utf8, empty_handle};
+ghost use Rattle.bites_c.specs.Put.{no_table};
 ghost use Rattle.bites_c.specs.Searched.{AnswersIf};
-ghost use Rattle.bites_c.specs.Sets.{AreEnds, IsNoText, PutsMatchedIn, SearchedSet, cut_from, set_asked};
+ghost use Rattle.bites_c.specs.Sets.{AreEnds, IsNoText, IsPreparedSet, PutsMatchedIn, SearchedSet, cut_from, set_asked};
 ghost use Rattle.bites_c.specs.Words.{text_in};
 
 use crate::codes::{DONE, EMPTY_HANDLE, MATCH, NO_MATCH, NO_MEMORY};
 use crate::make_set;
 use crate::set::BitesSet;
+use crate::table::BitesTable;
 use crate::text::BitesSize;
 use crate::texts::fault_from;
 use std::alloc::Global;
@@ -98,6 +100,65 @@ pub extern "C" fn bites_set_clone(alloc: Global, set: &mut BitesSet, out: &mut B
         }
         None => NO_MEMORY,
     }
+}
+
+/// Puts the set into `out` with tables of at most so many bytes together, which its searches use, instead of the set that
+/// `out` held. Each pattern's table may take what those of the patterns before it leave. Searches of a pattern look for a
+/// literal first, if each of its matches holds one. Both sets share the programs.
+///
+/// Returns 0, also if there was no memory for a table, 58 for out of memory for the handle and what it holds, or 103 if
+/// `set` holds nothing. Unless it returns 0, `out` holds nothing.
+#[unsafe(no_mangle)]
+pub extern "C" fn bites_set_prepare(
+    alloc: Global,
+    set: &mut BitesSet,
+    dfa_size_limit: usize,
+    out: &mut BitesSet,
+) -> u32
+    ensures same { set.new.held ≡ set.old.held }
+    ensures made { result ≡ done → IsSomeAnd set.old.held (λ h.
+        IsSomeAnd out.new.held (IsPreparedSet dfa_size_limit h)) }
+    ensures refused { result ≢ done → out.new.held ≡ None }
+    ensures empty { result ≡ empty_handle ↔ set.old.held ≡ None }
+    ensures known { result ≢ done → result ≢ empty_handle → result ≡ code_of Memory }
+{
+    *out = BitesSet::empty(alloc);
+    let Some(held) = std::mem::replace(set, BitesSet::empty(alloc)).into_box() else {
+        return EMPTY_HANDLE;
+    };
+    let made = make_set::prepared(alloc, &held, dfa_size_limit);
+    *set = BitesSet::of(held);
+    match made {
+        Some(made) => {
+            *out = made;
+            DONE
+        }
+        None => NO_MEMORY,
+    }
+}
+
+/// Puts how large the tables of all patterns are together into `out`; it is all zeros if there are none. They are whole if
+/// each pattern has a table and each transition of each table is known.
+///
+/// Returns 0, or 103 if `set` holds nothing. Then `out` is unchanged.
+#[unsafe(no_mangle)]
+pub extern "C" fn bites_set_table_size(
+    alloc: Global,
+    set: &mut BitesSet,
+    out: &mut BitesTable,
+) -> u32
+    ensures same { set.new.held ≡ set.old.held }
+    ensures none { IfSome set.old.held (λ h. has_any_table h.regexes ≡ false → out.new ≡ no_table) }
+    ensures empty { result ≡ empty_handle ↔ set.old.held ≡ None }
+    ensures unchanged { result ≡ empty_handle → out.new ≡ out.old }
+{
+    let Some(held) = std::mem::replace(set, BitesSet::empty(alloc)).into_box() else {
+        return EMPTY_HANDLE;
+    };
+    let size = BitesTable::of(held.table_size());
+    *set = BitesSet::of(held);
+    *out = size;
+    DONE
 }
 
 /// Returns the number of patterns as the size, with code 0, or the code 103 if `set` holds nothing.

@@ -1,7 +1,7 @@
 -- Matches replaced by a template, on the tree.
-use Rattle.std.proofs.Common.{◌≡◌, ◌≢◌, ℕ, zero, suc, Bool, true, false, not, cond, List, [], ◌∷◌, map, Option, Some, None, refl, ap, ◌∙◌, subst, inl, inr, eq-eqb, ◌⊎◌}
+use Rattle.std.proofs.Common.{◌≡◌, ◌≢◌, ℕ, zero, suc, true, false, not, cond, List, [], ◌∷◌, map, Option, Some, None, refl, ap, ◌∙◌, subst, inl, inr, eq-eqb}
 use Rattle.std.proofs.lemmas.Bool.{cases_Bool, and_parts}
-use Rattle.std.specs.Prelude.{◌==◌, flat_map, ◌&&◌}
+use Rattle.std.specs.Prelude.{◌==◌, flat_map}
 use Rattle.bites_spec.specs.Code.{code}
 use Rattle.bites_spec.specs.Found.{NoMatch}
 use Rattle.bites_spec.specs.Regex.{Regex, IsCompiled}

@@ -1,18 +1,23 @@
 //! Why a program ends before its input does.
 
 use crate::help::Help;
+use crate::refused::Refused;
 use bites_text::error::Error;
 use std::alloc::{AllocError, Global};
 use std::io::{ErrorKind, Write};
 use std::{fmt, io};
 
-/// A fault. Its text is one line of standard error, without the program's name.
+/// A fault. Its text is one line of standard error, without the program's name. If a pattern is refused and its message is
+/// about one place, two more lines follow: the pattern, and a caret below the place. A pattern with a control character
+/// has neither.
 #[derive(Drop)]
 pub enum Fault {
     /// The words after the program's name are not those that it takes. The text is the usage.
     Usage(&'static Help),
     /// The pattern is not accepted, or the program is out of memory.
     Pattern(Error),
+    /// The pattern of the command line is not accepted.
+    Refused(Refused),
     /// A line of a table is not a rule. The first line has number 1.
     Rule { line: u64, fault: RuleFault },
     /// The file of this name can't be opened or read.
@@ -32,21 +37,27 @@ pub enum RuleFault {
     NotUtf8,
     /// No space stands in it, so it has no pattern.
     NoPattern,
-    /// Its pattern is not accepted, or the program is out of memory.
-    Pattern(Error),
+    /// Its pattern is not accepted.
+    Refused(Refused),
 }
 
 impl RuleFault {
     /// Returns the fault of a table that has this line.
     pub fn at_line(self, line: u64) -> Fault {
-        match self {
-            RuleFault::Pattern(Error::Memory) => Fault::Pattern(Error::Memory),
-            fault => Fault::Rule { line, fault },
-        }
+        Fault::Rule { line, fault: self }
     }
 }
 
 impl Fault {
+    /// Returns the fault of a table that has the pattern of this fault in the line of this number. It is this fault itself
+    /// if that is not about a pattern.
+    pub fn at_line(self, line: u64) -> Fault {
+        match self {
+            Fault::Refused(refused) => RuleFault::Refused(refused).at_line(line),
+            fault => fault,
+        }
+    }
+
     /// Returns why the input could not be read.
     pub fn of_reading(error: io::Error) -> Fault {
         if error.kind() == ErrorKind::OutOfMemory {
@@ -81,13 +92,13 @@ impl Fault {
         }
     }
 
-    /// Writes the line of the fault. Returns the status of the program, which is 2. For [`Fault::Closed`] it writes
+    /// Writes the text of the fault. Returns the status of the program, which is 2. For [`Fault::Closed`] it writes
     /// nothing and returns 0.
     pub fn tell<E: Write>(&self, program: &str, err: &mut E) -> u8 {
         if let Fault::Closed = self {
             return 0;
         }
-        // The status is 2 even if the line can't be written.
+        // The status is 2 even if the text can't be written.
         let _written = writeln!(err, "{program}: {self}");
         2
     }
@@ -101,6 +112,7 @@ impl fmt::Display for Fault {
                 write!(f, "usage: {program} {usage}; {program} --help says more")
             }
             Fault::Pattern(error) => write!(f, "{error}"),
+            Fault::Refused(refused) => write!(f, "{refused}"),
             Fault::Rule { line, fault } => write!(f, "line {line} of the table {fault}"),
             Fault::File { name, error } => write!(f, "cannot read {name}: {error}"),
             Fault::Read(error) => write!(f, "cannot read standard input: {error}"),
@@ -115,14 +127,8 @@ impl fmt::Display for RuleFault {
         match self {
             RuleFault::NotUtf8 => f.write_str("is not UTF-8"),
             RuleFault::NoPattern => f.write_str("has no pattern"),
-            RuleFault::Pattern(error) => write!(f, "has a pattern that is refused: {error}"),
+            RuleFault::Refused(refused) => write!(f, "has a pattern that is refused: {refused}"),
         }
-    }
-}
-
-impl From<Error> for RuleFault {
-    fn from(error: Error) -> RuleFault {
-        RuleFault::Pattern(error)
     }
 }
 

@@ -3,12 +3,14 @@
 
 ghost use Rattle.std.specs.Prelude.{◌≡◌, ◌<◌, ◌≤◌, ℕ, List, true, false, length, All, IfOk, MatchOption};
 ghost use Rattle.std.specs.Io.BufRead.{strip_last};
+ghost use Rattle.bites_spec.specs.Settings.{settings, no_flags};
 ghost use Rattle.bites_filter.specs.Table.{IsRule, IsEntry, AreEntries, says_nothing, is_blank, IsReach, IsFurthest, ReadingsAreOneList, name_at, without_end};
 ghost use Rattle.bites_filter.specs.Lines.{lines_of};
 
 use crate::fault::{Fault, RuleFault};
 use crate::lines::next_line;
-use bites_bytes::bytes::{Cache, Error, Regex, RegexBuilder};
+use crate::refused::build;
+use bites_bytes::bytes::{Error, RegexBuilder, Searcher};
 use std::alloc::Global;
 use std::marker::Model;
 use std::rt::Files;
@@ -19,50 +21,54 @@ pub trait Entry: Sized {
     /// Relates a name, a pattern and the entry of both.
     ghost is: { List ℕ → List ℕ → Self → Type 0 };
 
-    /// Makes the entry of a name and a pattern. The error is that the pattern is not accepted, or out of memory.
-    fn read(alloc: Global, name: &str, pattern: &str) -> Result<Self, Error>
+    /// Makes the entry of a name and a pattern. The fault is that the pattern is not accepted, or out of memory.
+    fn read(alloc: Global, name: &str, pattern: &str) -> Result<Self, Fault>
         ensures { IfOk result (is name.now pattern.now) };
 }
 
-/// A named pattern, with one cache for all its searches.
+/// A named pattern.
 ///
 /// A contract sees the name and the regex.
 #[derive(Drop)]
 pub struct Rule {
     name: String,
-    regex: Regex,
-    cache: Cache,
+    searcher: Searcher,
 }
 
 impl Model for Rule {
     ghost use Rattle.std.specs.Coded.{codes};
-    ghost use Rattle.std.specs.Prelude.{◌≡◌, string_bytes};
+    ghost use Rattle.std.specs.Prelude.{string_bytes};
     ghost use Rattle.bites_syntax.specs.TreeCode.{tree_code};
-    ghost use Rattle.bites_spec.specs.Counts.{fit_of};
     ghost use Rattle.bites_filter.specs.Table.{NamedRegex, named};
 
     ghost Value = { NamedRegex };
 
     ghost coded = { Prim.hlevel (codes, tree_code) };
 
-    ghost view = { λ a. named (string_bytes a.name) a.regex };
-
-    ghost invariant = { λ a. a.cache.fits ≡ fit_of a.regex.program };
+    ghost view = { λ a. named (string_bytes a.name) a.searcher };
 }
 
 impl Entry for Rule {
     ghost is = { IsRule };
 
-    fn read(alloc: Global, name: &str, pattern: &str) -> Result<Rule, Error> {
-        let mut builder = RegexBuilder::new(alloc, pattern)?;
-        let regex = builder.leftmost_longest(true).build()?;
-        let cache = regex.cache()?;
+    fn read(alloc: Global, name: &str, pattern: &str) -> Result<Rule, Fault> {
+        let builder = longest(alloc, pattern)?;
+        let regex = build(alloc, &builder, pattern)?;
+        let searcher = Searcher::new(regex)?;
         Ok(Rule {
             name: String::from_str(alloc, name)?,
-            regex,
-            cache,
+            searcher,
         })
     }
+}
+
+// Returns the builder of a regex that searches for the longest match.
+fn longest(alloc: Global, pattern: &str) -> Result<RegexBuilder, Error>
+    ensures { IfOk result (λ b. b ≡ settings pattern.now no_flags 10485760 50 1048576 false true false) }
+{
+    let mut builder = RegexBuilder::new(alloc, pattern)?;
+    builder.leftmost_longest(true);
+    Ok(builder)
 }
 
 impl Rule {
@@ -85,10 +91,7 @@ impl Rule {
         bites_spec::finds_some();
         bites_spec::searches_have_starts();
         bites_spec::start_is_alone();
-        match self
-            .regex
-            .find_anchored_at_with(&mut self.cache, text, start)
-        {
+        match self.searcher.find_anchored_at(text, start) {
             Some(found) => found.end(),
             None => start,
         }
@@ -133,10 +136,8 @@ fn read_line<E: Entry>(alloc: Global, number: u64, line: &[u8]) -> Result<Option
     if says_nothing(line) {
         return Ok(None);
     }
-    match read_entry(alloc, line) {
-        Ok(entry) => Ok(Some(entry)),
-        Err(fault) => Err(fault.at_line(number)),
-    }
+    let entry = read_entry(alloc, number, line)?;
+    Ok(Some(entry))
 }
 
 // Returns whether the line is blank, or begins with `#`.
@@ -156,18 +157,20 @@ fn is_blank(line: &[u8]) -> bool
     line.iter().all(|byte| *byte == b' ' || *byte == b'\t')
 }
 
-// Reads the entry of a line that has no line end.
-fn read_entry<E: Entry>(alloc: Global, line: &[u8]) -> Result<E, RuleFault>
+// Reads the entry of the line of this number, which has no line end.
+fn read_entry<E: Entry>(alloc: Global, number: u64, line: &[u8]) -> Result<E, Fault>
     ensures { IfOk result (IsEntry E.is line.now) }
 {
     let Ok(text) = str::from_utf8(line) else {
-        return Err(RuleFault::NotUtf8);
+        return Err(RuleFault::NotUtf8.at_line(number));
     };
     let Some((name, pattern)) = text.split_once(' ') else {
-        return Err(RuleFault::NoPattern);
+        return Err(RuleFault::NoPattern.at_line(number));
     };
-    let entry = E::read(alloc, name, pattern)?;
-    Ok(entry)
+    match E::read(alloc, name, pattern) {
+        Ok(entry) => Ok(entry),
+        Err(fault) => Err(fault.at_line(number)),
+    }
 }
 
 // Returns the line without the line feed that ends it, and without a carriage return before that.

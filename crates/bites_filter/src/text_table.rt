@@ -6,9 +6,9 @@ ghost use Rattle.bites_filter.specs.Lines.{lines_of};
 ghost use Rattle.bites_filter.specs.Table.{IsTextRule, AreEntries, NoneMatches, IsFirst, name_at};
 
 use crate::fault::Fault;
+use crate::refused::build_text;
 use crate::table::{Entry, read_table};
-use crate::text_searcher::TextSearcher;
-use regex_bites::{Captures, Error, Regex};
+use regex_bites::{Captures, RegexBuilder, Searcher};
 use std::alloc::{AllocError, Global};
 use std::marker::Model;
 use std::str;
@@ -19,7 +19,7 @@ use std::str;
 #[derive(Drop)]
 pub struct TextRule {
     name: String,
-    searcher: TextSearcher,
+    searcher: Searcher,
 }
 
 impl Model for TextRule {
@@ -38,11 +38,12 @@ impl Model for TextRule {
 impl Entry for TextRule {
     ghost is = { IsTextRule };
 
-    fn read(alloc: Global, name: &str, pattern: &str) -> Result<TextRule, Error> {
-        let regex = Regex::new(alloc, pattern)?;
+    fn read(alloc: Global, name: &str, pattern: &str) -> Result<TextRule, Fault> {
+        let builder = RegexBuilder::new(alloc, pattern)?;
+        let regex = build_text(alloc, &builder, pattern)?;
         Ok(TextRule {
             name: String::from_str(alloc, name)?,
-            searcher: TextSearcher::new(regex)?,
+            searcher: Searcher::new(regex)?,
         })
     }
 }

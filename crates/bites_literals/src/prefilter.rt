@@ -7,7 +7,7 @@ ghost use Rattle.bites_literals.specs.Begins.{BeginsBy, IsPrefilter, IsBackAtAsc
 #[cfg(test)]
 mod tests;
 
-use crate::tree::facts_of;
+use crate::tree::{facts_of, may_pay};
 use bites_scan::literal::{Literal, Outcome};
 use bites_syntax::tree::Tree;
 
@@ -46,6 +46,9 @@ impl Prefilter {
     pub fn of(tree: &Tree) -> Option<Prefilter>
         ensures { IfSome result (λ prefilter. IsPrefilter tree.now prefilter) }
     {
+        if !may_pay(tree) {
+            return None;
+        }
         let facts = facts_of(tree);
         let needed = facts.rarest()?;
         if needed.text.len() == 0 || needed.cost() > COMMON {

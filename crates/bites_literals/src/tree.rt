@@ -5,6 +5,7 @@ ghost use Rattle.bites_literals.specs.Facts.{AreFacts};
 
 use crate::class::{facts_of_char, facts_of_class};
 use crate::facts::Facts;
+use bites_syntax::look::Look;
 use bites_syntax::tree::{Kind, Tree};
 
 /// Returns what is known of each match of the tree.
@@ -45,4 +46,42 @@ fn facts_of_alternation(parts: &[Tree]) -> Facts
         facts = facts_of(&parts[i]).or(&facts);
     }
     facts
+}
+
+// How deep a tree is looked into before it is said to be worth a search for a literal.
+const MOST_DEPTH: u32 = 100;
+
+/// Returns whether no literal can be known of each match, since the tree is a choice.
+fn is_choice(tree: &Tree) -> bool {
+    let mut part = tree;
+    for _ in 0..MOST_DEPTH {
+        match part.kind() {
+            Kind::Capture { sub, .. } => part = sub,
+            Kind::Alternation(_) => return true,
+            _ => return false,
+        }
+    }
+    false
+}
+
+/// Returns whether matches begin at the start of the haystack alone, where a search ends soon by itself.
+fn is_at_start(tree: &Tree) -> bool {
+    let mut part = tree;
+    for _ in 0..MOST_DEPTH {
+        match part.kind() {
+            Kind::Look(Look::Start) => return true,
+            Kind::Capture { sub, .. } => part = sub,
+            Kind::Concat(parts) => match parts.first() {
+                Some(first) => part = first,
+                None => return false,
+            },
+            _ => return false,
+        }
+    }
+    false
+}
+
+/// Returns whether a search for a literal of the tree may take less time than one without.
+pub(crate) fn may_pay(tree: &Tree) -> bool {
+    !is_choice(tree) && !is_at_start(tree)
 }

@@ -3,8 +3,9 @@
 use crate::ask::{Answers, ask_each};
 use crate::call::{Call, Question, Search};
 use crate::fault::Fault;
+use crate::place::place_of;
 use crate::question::{Asked, asked_by};
-use crate::settings::{Maker, Settings};
+use crate::settings::{Limit, Maker, Settings};
 use crate::told::push_refusal;
 use crate::{bytes, pattern, texts};
 use regex_bites::Error;
@@ -13,11 +14,16 @@ use std::alloc::{AllocError, Global};
 /// The number of the column of the answer, counted from 0.
 const ANSWER: usize = 10;
 
+/// The number of the column that says where the pattern is refused, which few rows have.
+const PLACE: usize = 12;
+
 /// What the rows of a table share.
 #[derive(Drop)]
 pub struct Table {
     /// How often a call that takes no memory is asked.
     pub times: usize,
+    /// The limits on tables that a search is asked with.
+    limits: &'static [Limit],
     /// The cache and the locations of the row before, which this one uses if they fit.
     bytes: Option<bytes::Room>,
     texts: Option<texts::Room>,
@@ -25,9 +31,10 @@ pub struct Table {
 
 impl Table {
     /// Returns what the first row has.
-    pub fn new(times: usize) -> Table {
+    pub fn new(times: usize, limits: &'static [Limit]) -> Table {
         Table {
             times,
+            limits,
             bytes: None,
             texts: None,
         }
@@ -46,13 +53,25 @@ pub fn answered(alloc: Global, table: &mut Table, line: &str) -> Result<String, 
         if number > 0 {
             row.push('\t')?;
         }
-        row.push_str(if number == ANSWER { &answer } else { column })?;
+        match number {
+            ANSWER => row.push_str(&answer)?,
+            PLACE => row.push_str(&place_to(alloc, &columns)?)?,
+            _ => row.push_str(column)?,
+        }
     }
     Ok(row)
 }
 
+fn place_to(alloc: Global, columns: &[&str]) -> Result<String, AllocError> {
+    match asked_by(alloc, columns, 1) {
+        Ok(asked) => place_of(alloc, &asked),
+        Err(Fault::NoRow) => String::from_str(alloc, "no row"),
+        Err(Fault::Memory) => Err(AllocError),
+    }
+}
+
 fn answer_to(alloc: Global, table: &mut Table, columns: &[&str]) -> Result<String, AllocError> {
-    let asked = match asked_by(alloc, columns, table.times) {
+    let mut asked = match asked_by(alloc, columns, table.times) {
         Ok(asked) => asked,
         Err(Fault::NoRow) => return String::from_str(alloc, "no row"),
         Err(Fault::Memory) => return Err(AllocError),
@@ -60,7 +79,14 @@ fn answer_to(alloc: Global, table: &mut Table, columns: &[&str]) -> Result<Strin
     let mut answers = Answers::new(alloc);
     match asked.call {
         Call::Pattern(question) => ask_pattern(alloc, &asked, question, &mut answers)?,
-        Call::Search(search) => ask_search(alloc, table, &asked, search, &mut answers)?,
+        Call::Search(search) => {
+            for (name, limit, prefilter) in table.limits {
+                answers.limit = *name;
+                asked.settings.dfa_size_limit = *limit;
+                asked.settings.prefilter = *prefilter;
+                ask_search(alloc, table, &asked, search, &mut answers)?;
+            }
+        }
     }
     Ok(answers.all)
 }

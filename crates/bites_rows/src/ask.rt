@@ -25,6 +25,8 @@ pub struct Answers {
     first: String,
     /// The first answer, and each other one with the name of its way.
     pub all: String,
+    /// The limit on the table that searches are asked with.
+    pub limit: &'static str,
 }
 
 impl Answers {
@@ -33,6 +35,7 @@ impl Answers {
         Answers {
             first: String::new(alloc),
             all: String::new(alloc),
+            limit: "",
         }
     }
 
@@ -45,7 +48,8 @@ impl Answers {
         if answer == self.first.as_str() {
             return Ok(());
         }
-        write!(self.all, ", but {way}{call}: {answer}")
+        let limit = self.limit;
+        write!(self.all, ", but {limit}{way}{call}: {answer}")
     }
 }
 

@@ -9,6 +9,7 @@ pub enum Question {
     LeastSize,
     Escape,
     Program,
+    Table,
 }
 
 impl Question {
@@ -122,13 +123,14 @@ pub enum Call {
 }
 
 /// Each call by its word.
-const CALLS: [(&str, Call); 28] = [
+const CALLS: [(&str, Call); 29] = [
     ("message", Call::Pattern(Question::Message)),
     ("tree", Call::Pattern(Question::Tree)),
     ("build", Call::Pattern(Question::Build)),
     ("least_size", Call::Pattern(Question::LeastSize)),
     ("escape", Call::Pattern(Question::Escape)),
     ("program", Call::Pattern(Question::Program)),
+    ("table", Call::Pattern(Question::Table)),
     ("is", Call::Search(Search::Is)),
     ("shortest", Call::Search(Search::Shortest)),
     ("find_at", Call::Search(Search::FindAt)),

@@ -5,15 +5,14 @@ use std::alloc::{AllocError, Global};
 use std::fmt::Write;
 
 /// Returns a report on a table: the rows whose answer is not the expected one, with the engine's answers, and the
-/// number of rows.
+/// number of rows. `shared` is what its first row has.
 pub fn compared(
     alloc: Global,
     name: &str,
     table: &str,
-    times: usize,
+    mut shared: Table,
 ) -> Result<String, AllocError> {
     let mut report = String::new(alloc);
-    let mut shared = Table::new(times);
     let (mut rows, mut wrong) = (0usize, 0usize);
     for line in table.lines() {
         if line.is_empty() || line.starts_with('#') {

@@ -3,7 +3,8 @@
 //!
 //! With words, which are names of tables, it prints the rows whose answer is not the expected one, and how many rows
 //! each table has. A word that is a number says how often a row asks a call that takes no memory; without one it does
-//! so once. `data/README.md` says what a row is. A line that is empty or begins with `#` is printed unchanged. A row is
+//! so once. With the word `limits` each search is asked with each limit on its table, and else with the default alone.
+//! `data/README.md` says what a row is. A line that is empty or begins with `#` is printed unchanged. A row is
 //! asked in each way that can ask it: over bytes, over texts, over both with `keep_dropped_groups`, and by each call
 //! that must give the same answer. An answer that differs from the first one follows it with the name of its way. A
 //! line that is not a row has the answer `no row`.
@@ -18,6 +19,7 @@ mod escaped;
 mod fault;
 mod others;
 mod pattern;
+mod place;
 mod question;
 mod served;
 mod settings;
@@ -25,25 +27,32 @@ mod texts;
 mod told;
 mod words;
 
+use crate::answer::Table;
+use crate::settings::{ALL_LIMITS, ONE_LIMIT};
 use std::{env, fs, io};
 
 fn main(rt: HostRuntime) -> io::Result<()> {
     let mut times = 1;
+    let mut limits = ONE_LIMIT;
     let mut has_tables = false;
     for word in env::args(&rt)?.skip(1) {
         if let Ok(number) = word.parse() {
             times = number;
             continue;
         }
+        if word.as_str() == "limits" {
+            limits = ALL_LIMITS;
+            continue;
+        }
         has_tables = true;
         let table = fs::read_to_string(&rt, &word)?;
-        let report = compare::compared(rt.alloc(), &word, &table, times)?;
+        let report = compare::compared(rt.alloc(), &word, &table, Table::new(times, limits))?;
         print!(rt; "{report}")?;
     }
     if has_tables {
         return Ok(());
     }
-    let mut table = answer::Table::new(times);
+    let mut table = Table::new(times, limits);
     for line in rt.lines(rt.alloc()) {
         let row = answer::answered(rt.alloc(), &mut table, line?.as_str())?;
         println!(rt; "{row}")?;

@@ -1,4 +1,4 @@
-//! Answers to questions about patterns alone: trees, builds, messages, sizes, programs and escaped texts.
+//! Answers to questions about patterns alone: trees, builds, messages, sizes, programs, tables and escaped texts.
 
 use crate::call::Question;
 use crate::escaped::push_escaped;
@@ -33,6 +33,10 @@ pub fn push_answer(
         Question::Build => push_build(alloc, pattern, settings, is_text, text),
         Question::Tree => push_tree(alloc, pattern, settings, text),
         Question::Program => push_program(alloc, pattern, settings, text),
+        Question::Table => {
+            let limited = settings.with_table_of(asked.argument);
+            push_table(alloc, pattern, limited, is_text, text)
+        }
         Question::Escape => push_escaped_pattern(alloc, pattern, text),
     };
     match told {
@@ -65,6 +69,27 @@ fn push_program(
     let program = compile(alloc, &tree, pattern, settings.size_limit)?;
     let (states, slots, targets) = (program.len(), program.slots(), program.targets());
     Ok(write!(text, "{states} {slots} {targets}")?)
+}
+
+// Adds how much is known of the table: the whole, a part, or none.
+fn push_table(
+    alloc: Global,
+    pattern: &str,
+    settings: Settings,
+    is_text: bool,
+    text: &mut String,
+) -> Result<(), Error> {
+    let size = if is_text {
+        settings.texts(alloc, pattern)?.table_size()
+    } else {
+        settings.bytes(alloc, pattern)?.table_size()
+    };
+    let word = match size {
+        Some(size) if size.is_whole => "whole",
+        Some(_) => "part",
+        None => "none",
+    };
+    Ok(text.push_str(word)?)
 }
 
 fn push_escaped_pattern(alloc: Global, pattern: &str, text: &mut String) -> Result<(), Error> {

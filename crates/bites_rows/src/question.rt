@@ -6,7 +6,7 @@ use crate::fault::Fault;
 use crate::settings::{Settings, number_or, settings_of};
 use std::alloc::Global;
 
-/// How many columns a row has.
+/// How many columns a row has. One more says where its pattern is refused.
 const COLUMNS: usize = 12;
 
 /// What a row asks.
@@ -29,7 +29,7 @@ pub struct Asked<'r> {
 
 /// Reads the columns of a row.
 pub fn asked_by<'r>(alloc: Global, columns: &[&'r str], times: usize) -> Result<Asked<'r>, Fault> {
-    if columns.len() != COLUMNS {
+    if columns.len() != COLUMNS && columns.len() != COLUMNS + 1 {
         return Err(Fault::NoRow);
     }
     let call = call_of(columns[1]).ok_or(Fault::NoRow)?;

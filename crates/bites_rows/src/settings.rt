@@ -11,6 +11,24 @@ const SIZE_LIMIT: usize = 10485760;
 
 const NEST_LIMIT: usize = 50;
 
+const DFA_SIZE_LIMIT: usize = 1048576;
+
+/// How a search is called, a limit on the bytes of its table, and whether it looks for a literal first.
+pub type Limit = (&'static str, usize, bool);
+
+/// The default, with a literal.
+pub const ONE_LIMIT: &[Limit] = &[("", DFA_SIZE_LIMIT, true)];
+
+/// The default, no table, and tables that mostly are parts, with a literal and without one.
+pub const ALL_LIMITS: &[Limit] = &[
+    ("", DFA_SIZE_LIMIT, true),
+    ("without a table ", 0, false),
+    ("by a literal and without a table ", 0, true),
+    ("with a table of 64 bytes ", 64, false),
+    ("with a table of 512 bytes ", 512, true),
+    ("with a table of 4096 bytes ", 4096, false),
+];
+
 /// The letters that may stand in the column of flags.
 const LETTERS: &str = "-imsURxLK";
 
@@ -33,6 +51,8 @@ pub struct Settings {
     pub keep_dropped_groups: bool,
     pub size_limit: usize,
     pub nest_limit: u32,
+    pub dfa_size_limit: usize,
+    pub prefilter: bool,
 }
 
 /// Reads the settings from the three columns of a row.
@@ -50,6 +70,8 @@ pub fn settings_of(letters: &str, size: &str, nest: &str) -> Result<Settings, Fa
         keep_dropped_groups: letters.contains('K'),
         size_limit,
         nest_limit: u32::try_from(nest_limit).unwrap_or(u32::MAX),
+        dfa_size_limit: DFA_SIZE_LIMIT,
+        prefilter: false,
     })
 }
 
@@ -101,11 +123,25 @@ impl Settings {
         Settings { size_limit, ..self }
     }
 
+    /// Returns these settings with another limit on the bytes of a table.
+    pub fn with_table_of(self, dfa_size_limit: usize) -> Settings {
+        Settings {
+            dfa_size_limit,
+            ..self
+        }
+    }
+
     /// Builds a regex over bytes with these settings.
     pub fn bytes(self, alloc: Global, pattern: &str) -> Result<bytes::Regex, Error> {
-        if matches!(self.maker, Maker::New) {
-            return bytes::Regex::new(alloc, pattern);
+        match self.maker {
+            Maker::New => bytes::Regex::new(alloc, pattern),
+            Maker::Build => self.bytes_builder(alloc, pattern)?.build(),
+            Maker::IntoRegex => self.bytes_builder(alloc, pattern)?.into_regex(),
         }
+    }
+
+    /// Makes a builder over bytes with these settings.
+    pub fn bytes_builder(self, alloc: Global, pattern: &str) -> Result<bytes::RegexBuilder, Error> {
         let flags = self.flags;
         let mut builder = bytes::RegexBuilder::new(alloc, pattern)?;
         builder.case_insensitive(flags.case_insensitive);
@@ -118,10 +154,9 @@ impl Settings {
         builder.keep_dropped_groups(self.keep_dropped_groups);
         builder.size_limit(self.size_limit);
         builder.nest_limit(self.nest_limit);
-        if matches!(self.maker, Maker::IntoRegex) {
-            return builder.into_regex();
-        }
-        builder.build()
+        builder.dfa_size_limit(self.dfa_size_limit);
+        builder.prefilter(self.prefilter);
+        Ok(builder)
     }
 
     /// Builds a regex over texts with these settings.
@@ -129,6 +164,11 @@ impl Settings {
         if matches!(self.maker, Maker::New) {
             return Regex::new(alloc, pattern);
         }
+        self.texts_builder(alloc, pattern)?.build()
+    }
+
+    /// Makes a builder over texts with these settings.
+    pub fn texts_builder(self, alloc: Global, pattern: &str) -> Result<RegexBuilder, Error> {
         let flags = self.flags;
         let mut builder = RegexBuilder::new(alloc, pattern)?;
         builder.case_insensitive(flags.case_insensitive);
@@ -141,6 +181,8 @@ impl Settings {
         builder.keep_dropped_groups(self.keep_dropped_groups);
         builder.size_limit(self.size_limit);
         builder.nest_limit(self.nest_limit);
-        builder.build()
+        builder.dfa_size_limit(self.dfa_size_limit);
+        builder.prefilter(self.prefilter);
+        Ok(builder)
     }
 }

@@ -11,8 +11,8 @@ use Rattle.bites_spec.specs.Run.{Run, slots, chosen_run}
 use Rattle.bites_spec.specs.Slots.{span_of_run}
 
 -- the bytes of the pattern, the flags that it was read under, its tree, the program of that tree, the names of its groups, how
--- many of them participate in every match if that is known, whether groups that the tree dropped are kept, and whether searches
--- return the longest match
+-- many of them participate in every match if that is known, whether groups that the tree dropped are kept, whether searches
+-- return the longest match, whether a table of thread lists was made for them, and whether they look for a literal first
 pub record Regex : Type 0 where
   pub pattern : List ℕ
   pub flags : Flags
@@ -22,6 +22,16 @@ pub record Regex : Type 0 where
   pub static_captures_len : Option ℕ
   pub keep_dropped_groups : Bool
   pub leftmost_longest : Bool
+  pub has_table : Bool
+  pub prefilter : Bool
+
+-- the regex with a table, or without one
+abbrev pub with_table : Bool → Regex → Regex
+with_table b r = record r { has_table = b }
+
+-- the regex whose searches look for a literal first, or don't
+abbrev pub with_prefilter : Bool → Regex → Regex
+with_prefilter b r = record r { prefilter = b }
 
 -- the tree is what the pattern is read as, and the program is built from it, with two slots for each group that is kept
 pub record IsCompiled (regex : Regex) : Type 0 where

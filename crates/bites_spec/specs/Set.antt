@@ -28,6 +28,7 @@ pub record IsBuilt (s : Settings) (r : Regex) : Type 0 where
   pub flags : r.flags ≡ s.flags
   pub keep_dropped_groups : r.keep_dropped_groups ≡ s.keep_dropped_groups
   pub leftmost_longest : r.leftmost_longest ≡ s.leftmost_longest
+  pub prefilter : r.prefilter ≡ s.prefilter
   pub accepted : Accepts s r.tree
 
 -- there is a regex for each pattern, built under the settings of all

@@ -15,30 +15,34 @@ no_flags = record {
   ignore_whitespace = false;
 }
 
--- the bytes of a pattern, flags, limits, whether groups that the tree drops are kept, and whether searches return the longest
--- match
+-- the bytes of a pattern, flags, limits, whether groups that the tree drops are kept, whether searches return the longest match,
+-- and whether they look for a literal first. The last limit is that of the bytes of a table of thread lists.
 pub record Settings : Type 0 where
   pub pattern : List ℕ
   pub flags : Flags
   pub size_limit : ℕ
   pub nest_limit : ℕ
+  pub dfa_size_limit : ℕ
   pub keep_dropped_groups : Bool
   pub leftmost_longest : Bool
+  pub prefilter : Bool
 
 -- settings by their parts
-abbrev pub settings : List ℕ → Flags → ℕ → ℕ → Bool → Bool → Settings
-settings pattern flags size_limit nest_limit keep_dropped_groups leftmost_longest = record {
+abbrev pub settings : List ℕ → Flags → ℕ → ℕ → ℕ → Bool → Bool → Bool → Settings
+settings pattern flags size_limit nest_limit dfa_size_limit keep_dropped_groups leftmost_longest prefilter = record {
   pattern = pattern;
   flags = flags;
   size_limit = size_limit;
   nest_limit = nest_limit;
+  dfa_size_limit = dfa_size_limit;
   keep_dropped_groups = keep_dropped_groups;
   leftmost_longest = leftmost_longest;
+  prefilter = prefilter;
 }
 
 -- the settings that a builder of this pattern begins with
 abbrev pub by_default : List ℕ → Settings
-by_default pattern = settings pattern no_flags 10485760 50 false false
+by_default pattern = settings pattern no_flags 10485760 50 1048576 false false false
 
 -- the grammar reads the pattern as this tree, and all limits hold, with the groups that are kept
 pub record Accepts (s : Settings) (t : Tree) : Type 0 where

@@ -22,9 +22,9 @@ use Rattle.bites_table.specs.Graph as graphs
 use Rattle.bites_table.specs.Graph.{NumberedList, Outcome, Graph, AreHeld, list_as, transition_with, transition_in, cell_at, table_of}
 use Rattle.bites_table.specs.Stored.{cell_of}
 use Rattle.bites_table.specs.Steps.{MakeMoves}
-use Rattle.bites_table.specs.Packed.{Packed, table_in, lists_in, stride, row_of, mask_of, is_dead, IsQuiet, IsCell, Tells, IsPartOf, thread_with_register}
+use Rattle.bites_table.specs.Packed.{Packed, table_in, lists_in, stride, row_of, mask_of, is_dead, BeginsRow, IsPassed, IsCell, Tells, IsPartOf, thread_with_register}
 use Rattle.bites_table.specs.Layout.{Tell, AreCells, IsEntry}
-use Rattle.bites_table.specs.LaidOut.{IsHeldHit, AreHeldHits, register_thread, AreHeldBelow, IsEntryOf, AreEntries, masked, IsOwn, IsKept, DoesQuietly, DoesByBits, IsAct, IsActOf, AreActs, Fits, AreLaid}
+use Rattle.bites_table.specs.LaidOut.{IsHeldHit, AreHeldHits, register_thread, AreHeldBelow, IsEntryOf, AreEntries, masked, IsOwn, IsKept, IsBegun, IsKeptOrBegun, DoesQuietly, DoesByBits, DoesPass, PassesByBits, IsAct, IsActOf, AreActs, Fits, AreLaid}
 use Rattle.bites_table.specs.declared.thread_list.Thread.{Thread}
 use Rattle.bites_table.specs.declared.thread_list.Source.{Source}
 use Rattle.bites_table.specs.declared.explore.graph.Cell as made
@@ -80,6 +80,16 @@ own-kept moves mask t d lt own =
       unwritten = λ k masks. ap (λ (s : sources.Source). s.writes k) is ∙ own.unwritten k masks;
     }
 
+pub own-begun : (moves : List Source) (t : Thread) (d : Source) → t.register < length moves → (slice_index_or moves t.register d).register ≡ None →
+    has_bit (slice_index_or moves t.register d).writes 0 ≡ true → has_bit (slice_index_or moves t.register d).writes 1 ≡ false → IsBegun moves t
+own-begun moves t d lt none first second =
+    let is : source_at (map source_of moves) t.register ≡ source_of (slice_index_or moves t.register d) = get_or-map source_of moves t.register d unwritten lt in
+    record {
+      register = ap (λ (s : sources.Source). s.register) is ∙ none;
+      first = ap (λ (s : sources.Source). s.writes 0) is ∙ first;
+      second = ap (λ (s : sources.Source). s.writes 1) is ∙ second;
+    }
+
 -- the bits of the widths
 widths : (width : ℕ) → (width ≡ 0) ⊎ ((width ≡ 2) ⊎ (mask_of width ≡ 4))
 widths width =
@@ -113,6 +123,19 @@ do-each o l width e =
     (λ (z : mask_of width ≡ 4). let no : 4 ≡ 0 = at-mask 7 width 4 z e in absurd (omega arith)))
     (widths width)
 
+-- what is done quietly is passed, and no row begins
+pub passes-quietly : (o : Outcome) (l : ThreadList) (doing : ℕ) → ((u : sources.Thread ℕ) → Among l.threads u → u.row < 32) → DoesByBits o l doing → PassesByBits o l 32 doing
+passes-quietly o l doing held does width e =
+    let q = does width e in
+    record {
+      hit = q.hit;
+      alive = q.alive;
+      register = omega arith;
+      kept = λ lt u at other. q.kept lt u at;
+      unwritten = λ u at other k lt. q.unwritten u at k lt;
+      begun = λ two u at is. let lt = held u at in absurd (omega arith);
+    }
+
 -- nobody comes to a match, and the search is not over
 module _ (o : Outcome) (l : ThreadList) (hit : o.hit ≡ None) (alive : is_dead l ≡ false) where
   no-width : (width : ℕ) → width ≡ 0 → DoesQuietly o l width
@@ -137,6 +160,42 @@ module _ (o : Outcome) (l : ThreadList) (hit : o.hit ≡ None) (alive : is_dead 
         among-map : (ts : List Thread) (u : sources.Thread ℕ) → Among (map thread_as ts) u → (t : Thread) × Among ts t × (thread_as t ≡ u)
         among-map [] u at = absurd at
         among-map (t ∷ ts) u at = ⊎_elim (λ e. (t, inl refl, e)) (λ later. let own = among-map ts u later in (own.0, inr own.1, own.2)) at
+
+    -- in the first two slots one row begins
+    module _ (begins : ℕ) (there : begins < 33) (does : (t : Thread) → Among threads t → IsKeptOrBegun o.moves begins t) where
+      two-slots : (width : ℕ) → width ≡ 2 → DoesPass o l width begins
+      two-slots width two = record {
+        hit = hit;
+        alive = alive;
+        register = there;
+        kept = λ lt u at other. let own = thread-of u at in
+            let P : sources.Thread ℕ → Type 0 = λ v. v.row ≢ begins → (source_at (map source_of o.moves) v.row).register ≡ Some v.row in
+            subst P own.2 (λ ne. ((does own.0 own.1).kept ne).register) (other two);
+        unwritten = λ u at other k lt. let own = thread-of u at in
+            let P : sources.Thread ℕ → Type 0 = λ v. v.row ≢ begins → (source_at (map source_of o.moves) v.row).writes k ≡ false in
+            subst P own.2 (λ ne. ((does own.0 own.1).kept ne).unwritten k (of-first k (omega arith))) (other two);
+        begun = λ same u at is. let own = thread-of u at in
+            let P : sources.Thread ℕ → Type 0 = λ v. v.row ≡ begins → BeginsRow (source_at (map source_of o.moves) v.row) in
+            subst P own.2 (does own.0 own.1).begun is;
+      }
+        where
+          of-first : (k : ℕ) → k < 2 → masked 3 k ≡ true
+          of-first zero lt = refl
+          of-first (suc zero) lt = refl
+          of-first (suc (suc k)) lt = absurd (omega arith)
+
+      pub passes-begun : PassesByBits o l begins 4
+      passes-begun width e =
+          ⊎_elim (λ (z : width ≡ 0). record {
+            hit = hit;
+            alive = alive;
+            register = there;
+            kept = λ lt u at other. absurd (omega arith);
+            unwritten = λ u at other k lt. absurd (omega arith);
+            begun = λ two u at is. absurd (omega arith);
+          })
+          (⊎_elim (λ (z : width ≡ 2). two-slots width z) (λ (z : mask_of width ≡ 4). let no : 4 ≡ 0 = at-mask 4 width 4 z e in absurd (omega arith)))
+          (widths width)
 
     module _ (mask : ℕ) (kept : (t : Thread) → Among threads t → IsKept o.moves mask t) where
       in-width : (width : ℕ) → ((k : ℕ) → k < width → masked mask k ≡ true) → DoesQuietly o l width
@@ -198,7 +257,7 @@ act-grows steps more new o l a e is =
       moves = λ other. subst P (sym same) (is.moves other);
       held = is.held;
       few = is.few;
-      quiet = is.quiet;
+      passes = is.passes;
     }
 
 pub acts-push : (g : Graph) (steps more new : List Step) (acts : List Act) (o : Outcome) (a : Act) → new ≡ steps ++ more → AreActs g steps acts →
@@ -271,7 +330,7 @@ module _ (x : Packed) (acts : List Act) (w : ℕ) (fits : Fits x acts w) (n c : 
     is-transition : (table_in x).transition n c ≡ Some (transition_with (cell_of m) o)
     is-transition = ap (transition_in x.graph.outcomes) known ∙ ap (option_map (transition_with (cell_of m))) (ap (slice_get x.graph.outcomes) (sym same) ∙ there)
 
-    is-cell : a.doing ≢ 255 → IsCell x n c (record { next = r; act = number; doing = a.doing; seen = m.seen; looks = m.looks }) (transition_with (cell_of m) o)
+    is-cell : a.doing ≢ 255 → IsCell x n c (record { next = r; act = number; doing = a.doing; begins = a.begins; seen = m.seen; looks = m.looks }) (transition_with (cell_of m) o)
     is-cell other = record {
       transition = is-transition;
       next = row ∙ ap (λ k. k * w) own.act.list ∙ ap (λ s. o.next * s) fits.stride_is;
@@ -288,21 +347,23 @@ module _ (x : Packed) (acts : List Act) (w : ℕ) (fits : Fits x acts w) (n c : 
       few = let le = own.act.few other in let len = length-map o.moves source_of in omega arith;
     }
 
-    is-quiet : (width : ℕ) → DoesQuietly o (list_at (table_of x.graph) o.next) width → IsQuiet (table_in x) width (transition_with (cell_of m) o)
-    is-quiet width does = record {
+    is-passed : (width : ℕ) → DoesPass o (list_at (table_of x.graph) o.next) width a.begins → IsPassed (table_in x) width a.begins (transition_with (cell_of m) o)
+    is-passed width does = record {
       hit = ap (option_map frame_of) does.hit;
       alive = does.alive;
+      register = does.register;
       kept = does.kept;
       unwritten = does.unwritten;
+      begun = does.begun;
     }
 
-    tells-of : Tells x n c (record { next = r; act = number; doing = a.doing; seen = m.seen; looks = m.looks })
+    tells-of : Tells x n c (record { next = r; act = number; doing = a.doing; begins = a.begins; seen = m.seen; looks = m.looks })
     tells-of = record {
       known = λ z. (transition_with (cell_of m) o, is-cell (λ e. let no : 8 ≡ 0 = ap (λ d. bit_and d 8) (sym e) ∙ z in omega arith));
-      quiet = λ width z. (transition_with (cell_of m) o, is-cell (λ e. all-set width (ap (λ d. bit_and d (mask_of width)) (sym e) ∙ z)), is-quiet width (own.act.quiet width z));
+      passed = λ width z. (transition_with (cell_of m) o, is-cell (λ e. all-set width (ap (λ d. bit_and d (mask_of width)) (sym e) ∙ z)), is-passed width (own.act.passes width z));
     }
 
-  pub tells : Tells x n c (record { next = r; act = number; doing = a.doing; seen = m.seen; looks = m.looks })
+  pub tells : Tells x n c (record { next = r; act = number; doing = a.doing; begins = a.begins; seen = m.seen; looks = m.looks })
   tells =
       let lt = get-lt acts number a at in
       let len = ap length fits.acts_are in
@@ -313,7 +374,7 @@ module _ (x : Packed) (acts : List Act) (w : ℕ) (fits : Fits x acts w) (n c : 
 pub tells-nothing : (x : Packed) (n c : ℕ) (a : Cell) → a.doing ≡ 255 → Tells x n c a
 tells-nothing x n c a e = record {
   known = λ z. absurd (let no : 8 ≡ 0 = ap (λ d. bit_and d 8) (sym e) ∙ z in omega arith);
-  quiet = λ width z. absurd (all-set width (ap (λ d. bit_and d (mask_of width)) (sym e) ∙ z));
+  passed = λ width z. absurd (all-set width (ap (λ d. bit_and d (mask_of width)) (sym e) ∙ z));
 }
 
 -- the next of what is left

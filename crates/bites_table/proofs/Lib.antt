@@ -14,6 +14,7 @@ pub mod ExploreLemmas
 pub mod TransitionLemmas
 pub mod TableLemmas
 pub mod StayLemmas
+pub mod RestLemmas
 pub mod StandingLemmas
 pub mod SearchesLemmas
 pub mod ExampleLemmas

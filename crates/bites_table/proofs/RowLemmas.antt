@@ -98,6 +98,37 @@ other-row words width r q slot place room more lt ne =
         (λ (after : r < q). let far = rows-apart r q width after in absurd (omega arith))
         (either q r ne)
 
+-- the words of two slots of a row, where one row begins
+abbrev pub with_begun : List ℕ → (r place : ℕ) → List ℕ
+with_begun words r place = slice_set (slice_set words (r * 2) place) (r * 2 + 1) no_slot
+
+module _ (words : List ℕ) (r place : ℕ) (room : r * 2 + 2 ≤ length words) where
+  len_begun : length (with_begun words r place) ≡ length words
+  len_begun = length-set (slice_set words (r * 2) place) (r * 2 + 1) no_slot ∙ length-set words (r * 2) place
+
+  pub begun-row : (place == no_slot) ≡ false → row_in (with_begun words r place) 2 r ≡ Some place ∷ None ∷ []
+  begun-row some =
+      ap (map slot_of) (ext_get_or 0 (take 2 (drop (r * 2) (with_begun words r place))) (place ∷ no_slot ∷ [])
+      (part-length (with_begun words r place) (r * 2) 2 (let l = len_begun in omega arith)) (λ k lt. word-at k (let l = part-length (with_begun words r place) (r * 2) 2 (let l = len_begun in omega arith) in omega arith)))
+      ∙ ap (λ b. cond b None (Some place) ∷ None ∷ []) some
+    where
+      word-at : (k : ℕ) → k < 2 → get_or (take 2 (drop (r * 2) (with_begun words r place))) k 0 ≡ get_or (place ∷ no_slot ∷ []) k 0
+      word-at zero lt =
+          part-at (with_begun words r place) (r * 2) 2 0 lt ∙ ap (λ n. get_or (with_begun words r place) n 0) (add-zero (r * 2))
+          ∙ get_or-set_other (slice_set words (r * 2) place) (r * 2 + 1) (r * 2) no_slot 0 (λ same. absurd (omega arith))
+          ∙ get_or-set_same words (r * 2) place 0 (omega arith)
+      word-at (suc zero) lt =
+          part-at (with_begun words r place) (r * 2) 2 1 lt
+          ∙ get_or-set_same (slice_set words (r * 2) place) (r * 2 + 1) no_slot 0 (let l = length-set words (r * 2) place in omega arith)
+      word-at (suc (suc k)) lt = absurd (omega arith)
+
+  pub begun-others : (q : ℕ) → q * 2 + 2 ≤ length words → q ≢ r → row_in (with_begun words r place) 2 q ≡ row_in words 2 q
+  begun-others q more ne =
+      let l = length-set words (r * 2) place in
+      other-row (slice_set words (r * 2) place) 2 r q 1 no_slot (omega arith) (omega arith) (omega arith) ne
+      ∙ ap (λ n. row_in (slice_set words n place) 2 q) (sym (add-zero (r * 2)))
+      ∙ other-row words 2 r q 0 place room more (omega arith) ne
+
 -- words from a place on, with one more written
 pub written-more : (ws : List ℕ) (first n v : ℕ) (source : ℕ → ℕ) → first + n < length ws → v ≡ source n →
     ((k : ℕ) → k < n → get_or ws (first + k) 0 ≡ source k) → (k : ℕ) → k < n + 1 → get_or (set ws (first + n) v) (first + k) 0 ≡ source k

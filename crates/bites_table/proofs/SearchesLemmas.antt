@@ -1,5 +1,5 @@
 -- What the code of a search does is what a search by the table does.
-use Rattle.std.proofs.Common.{◌≡◌, ℕ, zero, suc, ◌+◌, ◌-◌, true≢false, ◌*◌, ◌/◌, ◌<◌, ◌≤◌, Bool, true, false, ◌||◌, ◌&&◌, List, [], map, eq-eqb, length, reverse, Option, Some, None, refl, sym, ap, ap₂, ◌∙◌, subst, ⊎_elim, arith}
+use Rattle.std.proofs.Common.{◌≡◌, ◌≢◌, ℕ, zero, suc, ◌+◌, ◌-◌, true≢false, ◌*◌, ◌/◌, ◌<◌, ◌≤◌, Bool, true, false, ◌||◌, ◌&&◌, List, [], ◌∷◌, map, eq-eqb, length, reverse, Option, Some, None, refl, sym, ap, ap₂, ◌∙◌, subst, ⊎_elim, arith}
 use Rattle.std.specs.Prelude.{is_some, ◌==◌, nat_lt, if◌then◌else◌, slice_index, slice_get, slice_index_or, slice_range, option_map, not, bit_and, IfSome, IfNone}
 use Rattle.std.specs.Option.{option_flatten, option_or}
 use Rattle.std.proofs.Math.Nat.{mul-div_cancel, mul-le-mul_left}
@@ -7,7 +7,7 @@ use Rattle.std.proofs.lemmas.Option.{none-some, slice_get_past}
 use Rattle.std.proofs.lemmas.Bool.{cases_lt}
 use Rattle.std.proofs.lemmas.Bool.Decides.{nat_tests}
 use Rattle.bites_spec.specs.Utf8.{Piece, piece, places}
-use Rattle.bites_spec.specs.Walks.{AllApart}
+use Rattle.bites_spec.specs.Walks.{Among, AllApart}
 use Rattle.bites_spec.specs.Counts.{Record}
 use Rattle.bites_machine.specs.Ends.{next_character}
 use Rattle.bites_machine.specs.Trace.{after_place, after_each}
@@ -16,8 +16,8 @@ use Rattle.bites_table.specs.declared.table.skip.Skip.{Skip}
 use Rattle.bites_table.specs.declared.table.skip.Rest.{Rest}
 use Rattle.bites_table.specs.Kinds as kinds
 use Rattle.bites_machine.specs.Resume.{row_in, thread_in}
-use Rattle.bites_table.specs.Sources.{row_at}
-use Rattle.bites_table.specs.Steps.{own_rows, after_steps}
+use Rattle.bites_table.specs.Sources.{Thread, row_at}
+use Rattle.bites_table.specs.Steps.{with_spare, own_rows, after_steps}
 use Rattle.bites_table.specs.Built.{frame_of}
 use Rattle.bites_table.specs.Table.{list_at}
 use Rattle.bites_table.specs.declared.table.act.Act.{Act}
@@ -25,7 +25,7 @@ use Rattle.bites_table.specs.declared.thread_list.Frame.{Frame}
 use Rattle.bites_table.specs.Transition.{Transition, source_at}
 use Rattle.bites_table.specs.Graph.{transition_in}
 use Rattle.bites_table.specs.Packed.{Packed, table_in, classes_in, lists_in, stride, row_of, mask_of, unknown, is_dead, Tells, IsCell, thread_with_register}
-use Rattle.bites_table.specs.Stays.{Stays, EndsQuietly, IsSkip, IsRest}
+use Rattle.bites_table.specs.Stays.{Stays, IsSkip, IsRest}
 use Rattle.bites_table.specs.Standing.{Asked, IsAsked, IsAt, IsAtRow, IsOver, transition_from, ends_after, slots_after, AreMoved}
 use Rattle.bites_machine.specs.Inputs.{is_earliest, is_longest}
 use Rattle.bites_machine.specs.Sweep.{HasReached}
@@ -46,7 +46,7 @@ use Rattle.bites_table.specs.declared.search.record.Lent.{Lent}
 use Rattle.bites_table.specs.declared.search.record.Standing.{Standing}
 use Rattle.bites_table.specs.declared.search.record.Search.{Search}
 use Rattle.bites_table.specs.declared.table.cell.Cell.{Cell}
-use Rattle.bites_table.proofs.StandingLemmas.{at_start, handed_over, handed_back, at_next, over_after, apart_at, all_skipped, all_rested, apart_over, apart_after, quiet_on, ascii_here, ascii_next}
+use Rattle.bites_table.proofs.StandingLemmas.{at_start, handed_over, handed_back, at_next, over_after, apart_at, all_skipped, all_rested, apart_over, apart_after, passed_rows, moved_over, ascii_here, ascii_next}
 
 -- the cells of two lists begin at two places
 pub row_once : (x : Packed) (n m : ℕ) → row_of x n ≡ row_of x m → n ≡ m
@@ -84,23 +84,33 @@ fresh_at s is place row words is_found slots walked at n row_is t known =
     apart_after s is place at.list words is_found slots walked at.here t
     (subst (λ m. transition_from s m place ≡ Some t) (row_once s.table n at.list (sym row_is ∙ at.row_is)) known)
 
--- the search goes on over a place where nothing is to be done
+-- the search goes on over a place where nothing is to be done, but that a row of two slots may begin
 pub passed_on : (s : Asked) → IsAsked s → (place row : ℕ) (words : List ℕ) (is_found : Bool) (slots : List (Option ℕ)) (walked : Record) → (at : IsAtRow s place row words is_found slots walked) →
     (class : ℕ) → place < length s.input.hay →
     (slice_index s.input.hay place < 128 → class ≡ (classes_in s.table).class_of (Some (slice_index s.input.hay place))) →
     (128 ≤ slice_index s.input.hay place → class ≡ (classes_in s.table).len) →
     (cell : Cell) → Tells s.table at.list class cell → bit_and cell.doing (mask_of s.input.width) ≡ 0 →
-    IsAtRow s (place + 1) cell.next words is_found slots (after_place (reverse cell.seen.value.items) cell.looks.value place walked)
-passed_on s is place row words is_found slots walked at class within low high cell tells bits =
-    let q = tells.quiet s.input.width bits in
+    (new : List ℕ) → (s.input.width ≡ 2 → row_in new 2 cell.begins ≡ Some place ∷ None ∷ []) →
+    ((r : ℕ) → r < with_spare → (s.input.width ≡ 2 → r ≢ cell.begins) → row_in new s.input.width r ≡ row_in words s.input.width r) →
+    IsAtRow s (place + 1) cell.next new is_found slots (after_place (reverse cell.seen.value.items) cell.looks.value place walked)
+passed_on s is place row words is_found slots walked at class within low high cell tells bits new begun others =
+    let q = tells.passed s.input.width bits in
     let t = q.0 in
-    let by = known_by_byte s is place class within low high at.list t q.1.transition in record {
+    let by = known_by_byte s is place class within low high at.list t q.1.transition in
+    let held : (u : Thread ℕ) → Among (list_at (table_in s.table) t.next).threads u → u.row < with_spare = λ u among. let lt = q.1.held u among in let few = q.1.few in omega arith in
+    let moved = passed_rows (table_in s.table) s.input.width cell.begins place words new t q.2 held begun others in
+    record {
       list = t.next;
       within = q.1.within;
       row_is = q.1.next;
-      here = subst (λ w. IsAt s (place + 1) t.next words is_found slots w) (ap₂ (λ l n. after_place l n place walked) q.1.seen q.1.looks)
-          (quiet_on s is place at.list words is_found slots walked at.here t by.0 q.2 by.1);
+      here = subst (λ w. IsAt s (place + 1) t.next new is_found slots w) (ap₂ (λ l n. after_place l n place walked) q.1.seen q.1.looks)
+          (subst (λ n. IsAt s (place + n) t.next new is_found slots (after_place t.seen t.looks place walked)) by.1
+          (moved_over s is place at.list words is_found slots walked at.here t by.0 q.2.hit q.2.alive (let one = by.1 in omega arith) new moved));
     }
+
+-- the register whose row begins is there
+pub begins_there : (s : Asked) (n class width : ℕ) (cell : Cell) → Tells s.table n class cell → bit_and cell.doing (mask_of width) ≡ 0 → cell.begins < with_spare
+begins_there s n class width cell tells bits = (tells.passed width bits).2.register
 
 -- what is searched stays the same
 pub asked_same : (a b : Search) (before : List (Option ℕ)) → IsSame a b → asked b before ≡ asked a before
@@ -152,10 +162,8 @@ module _ (s : Asked) (is : IsAsked s) (place row : ℕ) (words : List ℕ) (is_f
 
   pub rested : IsOver s is_found slots (after_each (reverse rest.seen.value.items) rest.looks.value (places s.input.hay place) walked)
   rested =
-      all_rested s is at.list (reverse rest.seen.value.items) rest.looks.value
-      (λ ch. subst (λ n. Stays (table_in s.table) n ((classes_in s.table).class_of (Some ch)) (reverse rest.seen.value.items) rest.looks.value) one_list (is_rest.stays ch))
-      (subst (λ n. EndsQuietly (table_in s.table) (classes_in s.table) n (reverse rest.seen.value.items) rest.looks.value) one_list is_rest.ends)
-      words is_found slots place walked at.here
+      all_rested s is is_rest.lists (reverse rest.seen.value.items) rest.looks.value is_rest.calm is_rest.closed words is_found slots
+      place at.list walked (subst (λ n. Among is_rest.lists n) one_list is_rest.own) at.here
 
   pub rested_apart : AllApart (after_each (reverse rest.seen.value.items) rest.looks.value (places s.input.hay place) walked).visits
   rested_apart = apart_over s is is_found slots (after_each (reverse rest.seen.value.items) rest.looks.value (places s.input.hay place) walked) rested

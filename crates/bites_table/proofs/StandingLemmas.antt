@@ -1,17 +1,17 @@
 -- A search by a table goes from place to place.
-use Rattle.std.proofs.Common.{◌≡◌, ℕ, zero, suc, ◌+◌, ◌<◌, ◌≤◌, Bool, true, false, ◌||◌, ◌&&◌, List, [], ◌∷◌, map, length, Option, Some, None, option_map, refl, sym, ap, ap₂, ◌∙◌, subst, ⊎_elim, drop, take, replicate, cond, add-zero, ◌*◌, arith}
+use Rattle.std.proofs.Common.{◌≡◌, ◌≢◌, ℕ, zero, suc, ◌+◌, ◌<◌, ◌≤◌, Bool, true, false, ◌||◌, ◌&&◌, List, [], ◌∷◌, map, length, Option, Some, None, option_map, refl, sym, ap, ap₂, ◌∙◌, subst, ⊎_elim, drop, take, replicate, cond, add-zero, ◌*◌, arith}
 use Rattle.std.specs.Prelude.{is_some, not, ◌==◌, if◌then◌else◌, nat_lt, nat_le, max, slice_index, slice_index_or}
 use Rattle.std.specs.List.{range_with_len}
 use Rattle.std.proofs.Math.Seq.{drop-cons}
 use Rattle.std.specs.Option.{option_or, option_map_or}
 use Rattle.std.proofs.lemmas.List.{length-map, length-take}
 use Rattle.bites_machine.specs.SlotTable.{slot_of}
-use Rattle.std.proofs.lemmas.Bool.{cases_Bool, cases_lt}
+use Rattle.std.proofs.lemmas.Bool.{cases_Bool, cases_lt, cases_eq}
 use Rattle.std.proofs.lemmas.Bool.Decides.{nat_tests}
 use Rattle.bites_spec.specs.Look.{before}
 use Rattle.bites_spec.specs.Utf8.{Piece, piece, front_piece, character, places, places_within, step_len}
 use Rattle.bites_spec.proofs.utf8.PieceLemmas.{piece_some, piece_none, step_some}
-use Rattle.bites_spec.specs.Walks.{AllApart}
+use Rattle.bites_spec.specs.Walks.{Among, AllApart}
 use Rattle.bites_spec.specs.Program.{Configuration}
 use Rattle.bites_spec.specs.Counts.{Record}
 use Rattle.bites_spec.specs.PikeVm as vm
@@ -30,8 +30,9 @@ use Rattle.bites_table.specs.Sources.{Thread, Source, slots_from, row_at, thread
 use Rattle.bites_table.specs.Transition.{is_walked, Transition, source_at}
 use Rattle.bites_table.specs.Kinds.{kind_of, AreAlikeKinds}
 use Rattle.bites_table.specs.Table.{Table, starts_of, list_at, TableSearch, search_after, is_over, is_empty, Reached}
-use Rattle.bites_table.specs.Packed.{table_in, classes_in, is_dead, thread_with_register, IsQuiet}
-use Rattle.bites_table.specs.Stays.{Stays, EndsQuietly}
+use Rattle.bites_table.specs.Packed.{table_in, classes_in, is_dead, thread_with_register, IsQuiet, BeginsRow, IsPassed}
+use Rattle.bites_table.specs.Steps.{with_spare}
+use Rattle.bites_table.specs.Stays.{Stays, LeadsAmong, IsCalm}
 use Rattle.bites_table.specs.Standing.{Asked, IsAsked, search_at, IsAt, IsOver, transition_from, ends_after, slots_after, AreMoved}
 use Rattle.bites_table.proofs.TableLemmas.{rows_alike, begins, comes_back, runs, ends}
 use Rattle.bites_table.proofs.TransitionLemmas.{walked_is}
@@ -220,22 +221,52 @@ pub quiet_rows : (tab : Table) (width place : ℕ) (words : List ℕ) (t : Trans
 quiet_rows tab width place words t quiet u h =
     sym (quiet_row width place words (source_at t.moves u.row) u.row (λ some. quiet.kept some u h) (λ k lt. quiet.unwritten u h k lt))
 
+-- the rows after a transition that a search passes: one of them may have begun
+pub passed_rows : (tab : Table) (width begins place : ℕ) (words new : List ℕ) (t : Transition ℕ) → IsPassed tab width begins t →
+    ((u : Thread ℕ) → Among (list_at tab t.next).threads u → u.row < with_spare) → (width ≡ 2 → row_in new 2 begins ≡ Some place ∷ None ∷ []) →
+    ((r : ℕ) → r < with_spare → (width ≡ 2 → r ≢ begins) → row_in new width r ≡ row_in words width r) → AreMoved width place (list_at tab t.next).threads t.moves words new
+passed_rows tab width begins place words new t passed held begun others u at =
+    ⊎_elim
+    (λ (two : width ≡ 2). ⊎_elim
+    (λ (own : u.row ≡ begins). subst (λ w. row_in new w u.row ≡ row_at w place (row_in words w) (source_at t.moves u.row)) (sym two)
+    (ap (row_in new 2) own ∙ begun two ∙ sym (begun_row place (row_in words 2) (source_at t.moves u.row) (passed.begun two u at own))))
+    (λ (other : u.row ≢ begins). stays (λ e. other)) (cases_eq u.row begins))
+    (λ (wide : width ≢ 2). stays (λ two. absurd (wide two))) (cases_eq width 2)
+  where
+    stays : (width ≡ 2 → u.row ≢ begins) → row_in new width u.row ≡ row_at width place (row_in words width) (source_at t.moves u.row)
+    stays other =
+        others u.row (held u at) other
+        ∙ sym (quiet_row width place words (source_at t.moves u.row) u.row (λ some. passed.kept some u at other) (λ k lt. passed.unwritten u at other k lt))
+
+    begun_row : (place : ℕ) (rows : ℕ → List (Option ℕ)) (source : Source) → BeginsRow source → row_at 2 place rows source ≡ Some place ∷ None ∷ []
+    begun_row place rows source is =
+        ap (λ o. slots_from place source.writes 0 (option_map_or rows o (replicate 2 None))) is.register
+        ∙ ap₂ (λ a b. cond a (Some place) None ∷ cond b (Some place) None ∷ []) is.first is.second
+
+-- the search goes on over a character where only rows are moved
+pub moved_over : (s : Asked) → IsAsked s → (place list : ℕ) (words : List ℕ) (is_found : Bool) (slots : List (Option ℕ)) (walked : Record) → IsAt s place list words is_found slots walked →
+    (t : Transition ℕ) → transition_from s list place ≡ Some t → t.hit ≡ None → is_dead (list_at (table_in s.table) t.next) ≡ false → 0 < (piece s.input.hay place).len →
+    (new : List ℕ) → AreMoved s.input.width place (list_at (table_in s.table) t.next).threads t.moves words new →
+    IsAt s (place + (piece s.input.hay place).len) t.next new is_found slots (after_place t.seen t.looks place walked)
+moved_over s is place list words is_found slots walked here t known hit alive some new moved =
+    let open_ = open_at s is place list words is_found slots walked here in
+    let goes : ends_after s place t.next (is_some t.hit || is_found) ≡ false =
+    ap₂ (λ z f. z || ((s.input.earliest && f) || is_dead (list_at (table_in s.table) t.next))) (not_zero (piece s.input.hay place).len some) (ap (λ h. is_some h || is_found) hit)
+    ∙ ap₂ (λ e d. e || d) open_ alive in
+    let on = at_next s is place list words is_found slots walked here t known goes new moved in
+    subst (λ f. IsAt s (place + (piece s.input.hay place).len) t.next new f slots (after_place t.seen t.looks place walked)) (ap (λ h. is_some h || is_found) hit)
+    (subst (λ l. IsAt s (place + (piece s.input.hay place).len) t.next new (is_some t.hit || is_found) l (after_place t.seen t.looks place walked))
+    (ap (λ h. slots_after s.input.width place words h slots) hit) on)
+  where
+    not_zero : (n : ℕ) → 0 < n → (n == 0) ≡ false
+    not_zero n lt = grind (arith, nat_tests)
+
 -- the search goes on over a character where nothing is to be done
 pub quiet_over : (s : Asked) → IsAsked s → (place list : ℕ) (words : List ℕ) (is_found : Bool) (slots : List (Option ℕ)) (walked : Record) → IsAt s place list words is_found slots walked →
     (t : Transition ℕ) → transition_from s list place ≡ Some t → IsQuiet (table_in s.table) s.input.width t → 0 < (piece s.input.hay place).len →
     IsAt s (place + (piece s.input.hay place).len) t.next words is_found slots (after_place t.seen t.looks place walked)
 quiet_over s is place list words is_found slots walked here t known quiet some =
-    let open_ = open_at s is place list words is_found slots walked here in
-    let goes : ends_after s place t.next (is_some t.hit || is_found) ≡ false =
-    ap₂ (λ z f. z || ((s.input.earliest && f) || is_dead (list_at (table_in s.table) t.next))) (not_zero (piece s.input.hay place).len some) (ap (λ h. is_some h || is_found) quiet.hit)
-    ∙ ap₂ (λ e d. e || d) open_ quiet.alive in
-    let on = at_next s is place list words is_found slots walked here t known goes words (quiet_rows (table_in s.table) s.input.width place words t quiet) in
-    subst (λ f. IsAt s (place + (piece s.input.hay place).len) t.next words f slots (after_place t.seen t.looks place walked)) (ap (λ h. is_some h || is_found) quiet.hit)
-    (subst (λ l. IsAt s (place + (piece s.input.hay place).len) t.next words (is_some t.hit || is_found) l (after_place t.seen t.looks place walked))
-    (ap (λ h. slots_after s.input.width place words h slots) quiet.hit) on)
-  where
-    not_zero : (n : ℕ) → 0 < n → (n == 0) ≡ false
-    not_zero n lt = grind (arith, nat_tests)
+    moved_over s is place list words is_found slots walked here t known quiet.hit quiet.alive some words (quiet_rows (table_in s.table) s.input.width place words t quiet)
 
 -- the search goes on over a place where nothing is to be done
 pub quiet_on : (s : Asked) → IsAsked s → (place list : ℕ) (words : List ℕ) (is_found : Bool) (slots : List (Option ℕ)) (walked : Record) → IsAt s place list words is_found slots walked →
@@ -278,33 +309,43 @@ apart_at s is place list words is_found slots walked here =
     subst (λ (vs : List Configuration). AllApart vs) here.reached.in_step.visits
     (searched_visits s.program s.input.hay is.well false s.input.width is.fits s.input.anchored s.input.earliest s.input.start is.within here.places here.reached.search here.reached.searched).0
 
--- nothing is found any more from a list that leads back to itself over each character
-module _ (s : Asked) (is : IsAsked s) (list : ℕ) (seen : List ℕ) (looks : ℕ) (stays : (ch : ℕ) → Stays (table_in s.table) list ((classes_in s.table).class_of (Some ch)) seen looks)
-    (ends_so : EndsQuietly (table_in s.table) (classes_in s.table) list seen looks) (words : List ℕ) (is_found : Bool) (slots : List (Option ℕ)) where
+-- nothing is found any more from a list of a set that each of its lists leads into over each character
+module _ (s : Asked) (is : IsAsked s) (lists : List ℕ) (seen : List ℕ) (looks : ℕ) (calm : (m : ℕ) → Among lists m → IsCalm (table_in s.table) (classes_in s.table) m seen looks)
+    (closed : (m : ℕ) → Among lists m → (ch : ℕ) → LeadsAmong (table_in s.table) lists m ((classes_in s.table).class_of (Some ch))) (words : List ℕ) (is_found : Bool) (slots : List (Option ℕ)) where
   next_is : (place : ℕ) (b : Bool) → nat_lt 0 (piece s.input.hay place).len ≡ b → next_character s.input.hay place ≡ (if b then Some (character (piece s.input.hay place)) else None)
   next_is place b e = ap (λ (c : Bool). if c then Some (character (piece s.input.hay place)) else None) e
 
-  one_rested : (place : ℕ) (walked : Record) → 0 < (piece s.input.hay place).len → IsAt s place list words is_found slots walked →
-      IsAt s (place + (piece s.input.hay place).len) list words is_found slots (after_place seen looks place walked)
-  one_rested place walked some here =
-      let over = stays (character (piece s.input.hay place)) in
-      let t = over.back.transition in
-      let known : transition_from s list place ≡ Some t =
-      ap (λ o. (table_in s.table).transition list ((classes_in s.table).class_of o)) (next_is place true (is_some_len (piece s.input.hay place).len some)) ∙ over.back.known in
-      let on = quiet_over s is place list words is_found slots walked here t known (over.back.quiet s.input.width) some in
-      subst (λ w. IsAt s (place + (piece s.input.hay place).len) list words is_found slots w) (ap₂ (λ l n. after_place l n place walked) over.seen_is over.looks_is)
-      (subst (λ n. IsAt s (place + (piece s.input.hay place).len) n words is_found slots (after_place t.seen t.looks place walked)) over.back.next on)
+  -- the search stands at a list of the set
+  record IsWithin (place : ℕ) (walked : Record) : Type 0 where
+    list : ℕ
+    among : Among lists list
+    here : IsAt s place list words is_found slots walked
+
+  one_rested : (place : ℕ) (walked : Record) → 0 < (piece s.input.hay place).len → IsWithin place walked → IsWithin (place + (piece s.input.hay place).len) (after_place seen looks place walked)
+  one_rested place walked some at =
+      let ch = character (piece s.input.hay place) in
+      let own = calm at.list at.among in
+      let over = own.over ch in
+      let t = over.transition in
+      let known : transition_from s at.list place ≡ Some t =
+      ap (λ o. (table_in s.table).transition at.list ((classes_in s.table).class_of o)) (next_is place true (is_some_len (piece s.input.hay place).len some)) ∙ over.known in
+      let on = quiet_over s is place at.list words is_found slots walked at.here t known (over.quiet s.input.width) some in
+      record {
+        list = t.next;
+        among = closed at.list at.among ch t over.known;
+        here = subst (λ w. IsAt s (place + (piece s.input.hay place).len) t.next words is_found slots w) (ap₂ (λ l n. after_place l n place walked) (own.seen_is ch) (own.looks_is ch)) on;
+      }
     where
       is_some_len : (n : ℕ) → 0 < n → nat_lt 0 n ≡ true
       is_some_len n lt = grind (arith, nat_tests)
 
-  ended_quietly : (place : ℕ) (walked : Record) → (piece s.input.hay place).len ≡ 0 → IsAt s place list words is_found slots walked →
-      IsOver s is_found slots (after_place seen looks place walked)
-  ended_quietly place walked none here =
+  ended_quietly : (place : ℕ) (walked : Record) → (piece s.input.hay place).len ≡ 0 → IsWithin place walked → IsOver s is_found slots (after_place seen looks place walked)
+  ended_quietly place walked none at =
+      let ends_so = (calm at.list at.among).ends in
       let t = ends_so.transition in
-      let known : transition_from s list place ≡ Some t =
-      ap (λ o. (table_in s.table).transition list ((classes_in s.table).class_of o)) (next_is place false (is_no_len (piece s.input.hay place).len none)) ∙ ends_so.known in
-      let over = over_after s is place list words is_found slots walked here t known
+      let known : transition_from s at.list place ≡ Some t =
+      ap (λ o. (table_in s.table).transition at.list ((classes_in s.table).class_of o)) (next_is place false (is_no_len (piece s.input.hay place).len none)) ∙ ends_so.known in
+      let over = over_after s is place at.list words is_found slots walked at.here t known
       (ap (λ n. (n == 0) || ((s.input.earliest && (is_some t.hit || is_found)) || is_dead (list_at (table_in s.table) t.next))) none) in
       subst (λ w. IsOver s is_found slots w) (ap₂ (λ l n. after_place l n place walked) ends_so.seen_is ends_so.looks_is)
       (subst (λ l. IsOver s is_found l (after_place t.seen t.looks place walked)) (ap (λ h. slots_after s.input.width place words h slots) ends_so.hit)
@@ -316,21 +357,21 @@ module _ (s : Asked) (is : IsAsked s) (list : ℕ) (seen : List ℕ) (looks : �
   abbrev left_over : ℕ → ℕ → Record → Bool → Record
   left_over n place walked b = after_each seen looks (if b then place ∷ places_within n s.input.hay (place + step_len s.input.hay place) else []) walked
 
-  rested_within : (n place : ℕ) (walked : Record) → length s.input.hay < place + n → IsAt s place list words is_found slots walked →
+  rested_within : (n place : ℕ) (walked : Record) → length s.input.hay < place + n → IsWithin place walked →
       IsOver s is_found slots (after_each seen looks (places_within n s.input.hay place) walked)
-  rested_within zero place walked far here = absurd (let le = here.reached.in_step.within in omega arith)
-  rested_within (suc n) place walked far here =
-      subst (λ b. IsOver s is_found slots (left_over n place walked b)) (sym (is_inside place (length s.input.hay) here.reached.in_step.within))
+  rested_within zero place walked far at = absurd (let le = at.here.reached.in_step.within in omega arith)
+  rested_within (suc n) place walked far at =
+      subst (λ b. IsOver s is_found slots (left_over n place walked b)) (sym (is_inside place (length s.input.hay) at.here.reached.in_step.within))
       (⊎_elim
       (λ (lt : place < length s.input.hay).
       let some = piece_some s.input.hay place lt in
       let step : step_len s.input.hay place ≡ (piece s.input.hay place).len = most (piece s.input.hay place).len some in
       subst (λ m. IsOver s is_found slots (after_each seen looks (places_within n s.input.hay (place + m)) (after_place seen looks place walked))) (sym step)
-      (rested_within n (place + (piece s.input.hay place).len) (after_place seen looks place walked) (omega arith) (one_rested place walked some here)))
+      (rested_within n (place + (piece s.input.hay place).len) (after_place seen looks place walked) (omega arith) (one_rested place walked some at)))
       (λ (le : length s.input.hay ≤ place).
       let none = piece_none s.input.hay place le in
       subst (λ l. IsOver s is_found slots (after_each seen looks l (after_place seen looks place walked))) (sym (none_past n (place + step_len s.input.hay place) (let pos = step_some s.input.hay place in omega arith)))
-      (ended_quietly place walked none here))
+      (ended_quietly place walked none at))
       (cases_lt place (length s.input.hay)))
     where
       is_inside : (a b : ℕ) → a ≤ b → nat_le a b ≡ true
@@ -346,9 +387,9 @@ module _ (s : Asked) (is : IsAsked s) (list : ℕ) (seen : List ℕ) (looks : �
       none_past zero place lt = refl
       none_past (suc n) place lt = ap (λ b. cond b (place ∷ places_within n s.input.hay (place + step_len s.input.hay place)) []) (is_outside place (length s.input.hay) lt)
 
-  pub all_rested : (place : ℕ) (walked : Record) → IsAt s place list words is_found slots walked → IsOver s is_found slots (after_each seen looks (places s.input.hay place) walked)
+  pub all_rested : (place list : ℕ) (walked : Record) → Among lists list → IsAt s place list words is_found slots walked → IsOver s is_found slots (after_each seen looks (places s.input.hay place) walked)
   unfolding places
-  all_rested place walked here = rested_within (suc (length s.input.hay)) place walked (omega arith) here
+  all_rested place list walked among here = rested_within (suc (length s.input.hay)) place walked (omega arith) (record { list = list; among = among; here = here })
 
 -- what a search that is over visited, it visited once
 pub apart_over : (s : Asked) → IsAsked s → (is_found : Bool) (slots : List (Option ℕ)) (walked : Record) → IsOver s is_found slots walked → AllApart walked.visits

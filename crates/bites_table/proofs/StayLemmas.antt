@@ -18,7 +18,7 @@ use Rattle.bites_table.specs.declared.explore.graph.Cell as made
 use Rattle.bites_table.specs.Packed.{mask_of, IsQuiet}
 use Rattle.bites_table.specs.LaidOut.{DoesQuietly, DoesByBits}
 use Rattle.bites_table.specs.Explored.{AreAfter}
-use Rattle.bites_table.specs.Stays.{LeadsBack, Stays, EndsQuietly, IsStay, AreStays, HasOutcome, WalksSo, AllWalkSo, IsKept}
+use Rattle.bites_table.specs.Stays.{LeadsBack, LeadsQuietly, Stays, EndsQuietly, IsStay, AreStays, HasOutcome, WalksSo, AllWalkSo, IsKept}
 use Rattle.bites_table.specs.declared.kind.Kind as code
 use Rattle.bites_table.specs.declared.kind.Kind.TheVariants.{Edge}
 use Rattle.bites_table.specs.declared.table.skip.Skip.{Skip}
@@ -65,6 +65,21 @@ leads-back g n c o has next does = record {
       kept = own.kept;
       unwritten = own.unwritten;
     }
+
+-- an outcome that does nothing but lead on
+pub leads-quietly : (g : Graph) (n c : ℕ) (o : Outcome) → HasOutcome g n c o → DoesByBits o (list_at (table_of g) o.next) 0 → LeadsQuietly (table_of g) n c
+leads-quietly g n c o has does = record {
+  transition = transition_with has.cell o;
+  known = ap (transition_in g.outcomes) has.known ∙ ap (option_map (transition_with has.cell)) has.named;
+  quiet = λ width.
+      let own = does width (and_zero_l (mask_of width)) in
+      record {
+        hit = ap (option_map frame_of) own.hit;
+        alive = own.alive;
+        kept = own.kept;
+        unwritten = own.unwritten;
+      };
+}
 
 -- over the classes that are kept a list stays
 pub stays-over : (p : Program) (k : Classes) (tab : Table) → IsTable p k tab → (n : ℕ) (leads : List Bool) (kinds after : List code.Kind) (keeps : List Bool) → ((c : ℕ) → slice_index_or keeps c false ≡ true → IsKept leads kinds after c) →

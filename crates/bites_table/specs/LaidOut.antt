@@ -9,8 +9,8 @@ use Rattle.bites_table.specs.Table.{list_at}
 use Rattle.bites_table.specs.Built.{source_of}
 use Rattle.bites_table.specs.Graph.{NumberedList, Outcome, Graph, table_of}
 use Rattle.bites_table.specs.Stored.{cell_of}
-use Rattle.bites_table.specs.Steps.{MakeMoves}
-use Rattle.bites_table.specs.Packed.{Packed, stride, mask_of, is_dead, IsPartOf}
+use Rattle.bites_table.specs.Steps.{MakeMoves, with_spare}
+use Rattle.bites_table.specs.Packed.{Packed, stride, mask_of, is_dead, IsPartOf, BeginsRow}
 use Rattle.bites_table.specs.Layout.{Tell}
 use Rattle.bites_table.specs.declared.thread_list.Thread.{Thread}
 use Rattle.bites_table.specs.declared.thread_list.Source.{Source}
@@ -59,7 +59,29 @@ pub record DoesQuietly (o : Outcome) (next : ThreadList) (width : ℕ) : Type 0 
   pub kept : 0 < width → (u : sources.Thread ℕ) → Among next.threads u → (source_at (map source_of o.moves) u.row).register ≡ Some u.row
   pub unwritten : (u : sources.Thread ℕ) → Among next.threads u → (k : ℕ) → k < width → (source_at (map source_of o.moves) u.row).writes k ≡ false
 
+-- the row of the thread begins at the place
+abbrev pub IsBegun : List Source → Thread → Type 0
+IsBegun moves t = BeginsRow (source_at (map source_of moves) t.register)
+
+-- it does if the thread has this register; else the thread has the row of the register of its own number in the first two slots
+pub record IsKeptOrBegun (moves : List Source) (register : ℕ) (t : Thread) : Type 0 where
+  pub begun : t.register ≡ register → IsBegun moves t
+  pub kept : t.register ≢ register → IsKept moves 3 t
+
+-- the same, but with two slots the row of one register may begin
+pub record DoesPass (o : Outcome) (next : ThreadList) (width begins : ℕ) : Type 0 where
+  pub hit : o.hit ≡ None
+  pub alive : is_dead next ≡ false
+  pub register : begins < with_spare
+  pub kept : 0 < width → (u : sources.Thread ℕ) → Among next.threads u → (width ≡ 2 → u.row ≢ begins) → (source_at (map source_of o.moves) u.row).register ≡ Some u.row
+  pub unwritten : (u : sources.Thread ℕ) → Among next.threads u → (width ≡ 2 → u.row ≢ begins) → (k : ℕ) → k < width → (source_at (map source_of o.moves) u.row).writes k ≡ false
+  pub begun : width ≡ 2 → (u : sources.Thread ℕ) → Among next.threads u → u.row ≡ begins → BeginsRow (source_at (map source_of o.moves) u.row)
+
 -- for the widths whose bits are not set it does so
+abbrev pub PassesByBits : Outcome → ThreadList → (begins doing : ℕ) → Type 0
+PassesByBits o next begins doing = (width : ℕ) → bit_and doing (mask_of width) ≡ 0 → DoesPass o next width begins
+
+-- for the widths whose bits are not set it does all of this quietly
 abbrev pub DoesByBits : Outcome → ThreadList → ℕ → Type 0
 DoesByBits o next doing = (width : ℕ) → bit_and doing (mask_of width) ≡ 0 → DoesQuietly o next width
 
@@ -79,7 +101,7 @@ pub record IsAct (steps : List Step) (o : Outcome) (next : ThreadList) (a : Act)
   pub moves : a.doing ≢ 255 → MakeMoves (slice_range steps a.steps.from a.steps.to) (map source_of o.moves)
   pub held : a.doing ≢ 255 → (u : sources.Thread ℕ) → Among next.threads u → u.row < length o.moves
   pub few : a.doing ≢ 255 → length o.moves ≤ 32
-  pub quiet : DoesByBits o next a.doing
+  pub passes : PassesByBits o next a.begins a.doing
 
 pub record IsActOf (g : Graph) (steps : List Step) (o : Outcome) (a : Act) : Type 0 where
   pub within : o.next < length g.lists

@@ -1,18 +1,18 @@
 -- A table as a search reads it.
-use Rattle.std.specs.Prelude.{◌≡◌, ℕ, suc, ◌*◌, ◌<◌, ◌≤◌, Bool, false, ◌&&◌, not, List, length, reverse, Some, None, option_map, if◌then◌else◌, ◌==◌, slice_get, slice_range, bit_and}
+use Rattle.std.specs.Prelude.{◌≡◌, ◌≢◌, ℕ, suc, ◌*◌, ◌<◌, ◌≤◌, Bool, true, false, ◌&&◌, not, List, length, reverse, Some, None, option_map, if◌then◌else◌, ◌==◌, slice_get, slice_range, bit_and}
 use Rattle.bites_spec.specs.Walks.{Among}
 use Rattle.bites_spec.specs.Program.{Program}
 use Rattle.bites_machine.specs.declared.vm.resume.RegisterThread.{RegisterThread}
 use Rattle.bites_table.specs.Kinds as kinds
 use Rattle.bites_table.specs.Kinds.{AreClasses}
-use Rattle.bites_table.specs.Sources.{Thread}
+use Rattle.bites_table.specs.Sources.{Thread, Source}
 use Rattle.bites_table.specs.Transition.{everywhere, here, is_walked, ThreadList, Transition, source_at}
 use Rattle.bites_table.specs.Table.{Table, IsTable, list_at, is_empty}
 use Rattle.bites_table.specs.Built.{frame_of}
 use Rattle.bites_table.specs.Graph.{Graph, table_of}
 use Rattle.bites_table.specs.Classes.{Intervals, classes_of}
 use Rattle.bites_table.specs.Explored.{AreRoots}
-use Rattle.bites_table.specs.Steps.{MakeMoves}
+use Rattle.bites_table.specs.Steps.{MakeMoves, with_spare}
 use Rattle.bites_table.specs.declared.explore.roots.Roots.{Roots}
 use Rattle.bites_table.specs.declared.steps.Step.{Step}
 use Rattle.bites_table.specs.declared.table.act.Act.{Act}
@@ -73,6 +73,22 @@ pub record IsQuiet (tab : Table) (width : ℕ) (t : Transition ℕ) : Type 0 whe
   pub kept : 0 < width → (u : Thread ℕ) → Among (list_at tab t.next).threads u → (source_at t.moves u.row).register ≡ Some u.row
   pub unwritten : (u : Thread ℕ) → Among (list_at tab t.next).threads u → (k : ℕ) → k < width → (source_at t.moves u.row).writes k ≡ false
 
+-- of the row's first two slots the place is written to the first alone, and nothing was written before
+pub record BeginsRow (s : Source) : Type 0 where
+  pub register : s.register ≡ None
+  pub first : s.writes 0 ≡ true
+  pub second : s.writes 1 ≡ false
+
+-- Nobody comes to a match, the search is not over, and each thread that comes next has the row of the register of its own number, in
+-- so many slots. But with two slots the row of one register may begin.
+pub record IsPassed (tab : Table) (width begins : ℕ) (t : Transition ℕ) : Type 0 where
+  pub hit : t.hit ≡ None
+  pub alive : is_dead (list_at tab t.next) ≡ false
+  pub register : begins < with_spare
+  pub kept : 0 < width → (u : Thread ℕ) → Among (list_at tab t.next).threads u → (width ≡ 2 → u.row ≢ begins) → (source_at t.moves u.row).register ≡ Some u.row
+  pub unwritten : (u : Thread ℕ) → Among (list_at tab t.next).threads u → (width ≡ 2 → u.row ≢ begins) → (k : ℕ) → k < width → (source_at t.moves u.row).writes k ≡ false
+  pub begun : width ≡ 2 → (u : Thread ℕ) → Among (list_at tab t.next).threads u → u.row ≡ begins → BeginsRow (source_at t.moves u.row)
+
 -- the cell stands for the transition of a list over a class
 pub record IsCell (x : Packed) (n c : ℕ) (a : Cell) (t : Transition ℕ) : Type 0 where
   pub transition : (table_in x).transition n c ≡ Some t
@@ -96,7 +112,7 @@ IsKnown x n c a = (t : Transition ℕ) × IsCell x n c a t
 -- what the bits of a cell say of the list and the class
 pub record Tells (x : Packed) (n c : ℕ) (a : Cell) : Type 0 where
   pub known : bit_and a.doing unknown ≡ 0 → IsKnown x n c a
-  pub quiet : (width : ℕ) → bit_and a.doing (mask_of width) ≡ 0 → (t : Transition ℕ) × IsCell x n c a t × IsQuiet (table_in x) width t
+  pub passed : (width : ℕ) → bit_and a.doing (mask_of width) ≡ 0 → (t : Transition ℕ) × IsCell x n c a t × IsPassed (table_in x) width a.begins t
 
 -- the part lies in a list of this length
 abbrev pub IsPartOf : ℕ → Part → Type 0

@@ -43,6 +43,10 @@ pub record Held : Type 0 where
   pub is_found : Bool
   pub slots : List (Option ℕ)
 
+-- the same with other words in the registers
+abbrev pub with_words : List ℕ → Held → Held
+with_words words h = record { before = h.before; words = words; is_found = h.is_found; slots = h.slots }
+
 -- the search stands there
 abbrev pub StandsAt : Search → List (Option ℕ) → Standing → List ℕ → Bool → List (Option ℕ) → Type 0
 StandsAt a before at words is_found slots = IsAtRow (asked a before) at.place at.row words is_found slots a.counted.walked
@@ -59,6 +63,7 @@ pub record IsLent (a b : Search) (n c : ℕ) (unless place : ℕ) (l : Lent) : T
   pub bits : bit_and cell.doing unless ≡ 0
   pub next : l.next ≡ cell.next
   pub act : l.act ≡ cell.act
+  pub begins : l.begins ≡ cell.begins
   pub walked : b.counted.walked ≡ after_place (reverse cell.seen.value.items) cell.looks.value place a.counted.walked
 
 -- a transition of the list over the class visits nothing that was visited, if it is known

@@ -1,5 +1,5 @@
--- Thread lists that lead back to themselves.
-use Rattle.std.specs.Prelude.{◌≡◌, ℕ, ◌<◌, Bool, true, false, List, length, reverse, Some, None, slice_get, slice_index_or}
+-- Thread lists that lead back to themselves, or from which nothing is found any more.
+use Rattle.std.specs.Prelude.{◌≡◌, ℕ, ◌<◌, Bool, true, false, List, length, reverse, Option, Some, None, slice_get, slice_index_or}
 use Rattle.bites_spec.specs.Walks.{Among}
 use Rattle.bites_spec.specs.Program.{Program}
 use Rattle.bites_table.specs.Kinds.{Kind, Classes}
@@ -16,6 +16,7 @@ use Rattle.bites_table.specs.declared.table.skip.Skip.{Skip}
 use Rattle.bites_table.specs.declared.table.skip.Rest.{Rest}
 use Rattle.bites_table.specs.declared.table.skip.Stay.{Stay}
 use Rattle.bites_table.specs.declared.explore.stays.Over.{Over}
+use Rattle.bites_table.specs.declared.explore.stays.Walked.{Walked}
 use Rattle.bites_table.specs.declared.explore.stays.Found as found
 
 -- the list leads over the class back to itself, quietly for all slots
@@ -44,10 +45,29 @@ pub record EndsQuietly (tab : Table) (k : Classes) (n : ℕ) (seen : List ℕ) (
   pub seen_is : transition.seen ≡ seen
   pub looks_is : transition.looks ≡ looks
 
--- over each character the list leads back to itself, and at the end nobody comes to a match
+-- the list leads over the class quietly for all slots
+pub record LeadsQuietly (tab : Table) (n c : ℕ) : Type 0 where
+  pub transition : Transition ℕ
+  pub known : tab.transition n c ≡ Some transition
+  pub quiet : (width : ℕ) → IsQuiet tab width transition
+
+-- over each character it does so, and over the end nobody comes to a match, each time with these visits and looks
+pub record IsCalm (tab : Table) (k : Classes) (n : ℕ) (seen : List ℕ) (looks : ℕ) : Type 0 where
+  pub over : (ch : ℕ) → LeadsQuietly tab n (k.class_of (Some ch))
+  pub seen_is : (ch : ℕ) → (over ch).transition.seen ≡ seen
+  pub looks_is : (ch : ℕ) → (over ch).transition.looks ≡ looks
+  pub ends : EndsQuietly tab k n seen looks
+
+-- the list leads over the class to one of these lists
+abbrev pub LeadsAmong : Table → List ℕ → ℕ → ℕ → Type 0
+LeadsAmong tab lists n c = (t : Transition ℕ) → tab.transition n c ≡ Some t → Among lists t.next
+
+-- the list is one of a set of lists that lead over each character into the set, and that are calm with the same visits and looks
 pub record IsRest (tab : Table) (k : Classes) (n : ℕ) (r : Rest) : Type 0 where
-  pub stays : (ch : ℕ) → Stays tab n (k.class_of (Some ch)) (reverse r.seen.value.items) r.looks.value
-  pub ends : EndsQuietly tab k n (reverse r.seen.value.items) r.looks.value
+  pub lists : List ℕ
+  pub own : Among lists n
+  pub calm : (m : ℕ) → Among lists m → IsCalm tab k m (reverse r.seen.value.items) r.looks.value
+  pub closed : (m : ℕ) → Among lists m → (ch : ℕ) → LeadsAmong tab lists m (k.class_of (Some ch))
 
 -- what a search passes at once from the list: a skip of this list of skips, or all that is left
 pub record IsStay (tab : Table) (k : Classes) (skips : List Skip) (n : ℕ) (e : Stay) : Type 0 where
@@ -80,13 +100,16 @@ pub record WalksSo (p : Program) (l : ThreadList) (after : Kind) (seen : List �
 abbrev pub AllWalkSo : Program → ThreadList → List code.Kind → List ℕ → ℕ → Type 0
 AllWalkSo p l kinds seen looks = (a : code.Kind) → Among kinds a → WalksSo p l (kind_as a) seen looks
 
--- over the classes that are kept the list stays, and at the end it does so if that is said
-pub record StaysOver (tab : Table) (k : Classes) (n : ℕ) (o : Over) : Type 0 where
+-- over the classes that are kept the list stays
+pub record StaysOver (tab : Table) (n : ℕ) (o : Over) : Type 0 where
   pub stays : (c : ℕ) → slice_index_or o.keeps.items c false ≡ true → Stays tab n c (reverse o.seen.value.items) o.looks.value
-  pub ends : o.ends ≡ true → EndsQuietly tab k n (reverse o.seen.value.items) o.looks.value
 
 -- the class leads back, and it is one before whose kind the list was walked
 pub record IsKept (leads : List Bool) (kinds after : List code.Kind) (c : ℕ) : Type 0 where
   pub leads_back : slice_index_or leads c false ≡ true
   pub within : c < length after
   pub walked : Among kinds (slice_index_or after c Edge)
+
+-- the lists with a walk are calm with its visits and looks
+abbrev pub AreCalm : Table → Classes → List (Option Walked) → Type 0
+AreCalm tab k calms = (n : ℕ) (w : Walked) → slice_get calms n ≡ Some (Some w) → IsCalm tab k n (reverse w.states.items) w.looks

@@ -12,6 +12,7 @@ ghost use Rattle.bites_table.specs.Explored.{program_in, classes_in, IsContext, 
 pub(crate) mod after;
 pub(crate) mod graph;
 pub(crate) mod index;
+pub(crate) mod rests;
 pub(crate) mod roots;
 pub(crate) mod stays;
 
@@ -166,7 +167,7 @@ fn follow(context: &Context<'_>, memory: &mut Memory, graph: &mut Graph, first: 
 {
     for number in first..MOST_LISTS {
         if number >= graph.lists()
-            || graph.bytes() >= memory.budget.bytes
+            || graph.bytes_with_row() > memory.budget.bytes
             || make_row(context, memory, graph, number).is_none()
         {
             return number;

@@ -1,6 +1,6 @@
 //! Steps that move the rows of registers.
 
-ghost use Rattle.std.specs.Prelude.{◌≡◌, ◌≢◌, ◌*◌, ◌+◌, ◌<◌, ◌≤◌, ℕ, List, Some, None, IfSome, length, replicate, slice_index, if◌then◌else◌};
+ghost use Rattle.std.specs.Prelude.{◌≡◌, ◌≢◌, ◌*◌, ◌+◌, ◌<◌, ◌≤◌, ℕ, List, [], ◌∷◌, Some, None, IfSome, length, replicate, slice_index, if◌then◌else◌};
 ghost use Rattle.bites_machine.specs.SlotTable.{no_slot, slot_of};
 ghost use Rattle.bites_machine.specs.Bits.{has_bit};
 ghost use Rattle.std.specs.Option.{option_map_or};
@@ -18,6 +18,9 @@ pub const MOST_REGISTERS: usize = 32;
 
 /// The number of registers of a search: those of a thread list, and a spare one.
 pub const REGISTERS: usize = 33;
+
+/// The register that no thread has.
+pub const SPARE: u8 = 32;
 
 /// A word that stands for a slot in which nothing is written.
 pub const NO_SLOT: usize = usize::MAX;
@@ -95,6 +98,24 @@ fn blank_row(registers: &mut [usize], width: usize, to: u8)
     let first = to as usize * width;
     for slot in 0..width {
         registers[first + slot] = NO_SLOT;
+    }
+}
+
+/// Begins the row of a register at a place if rows have two slots: the place is written to the first of them, and nothing to the
+/// second. Other rows stay as they are.
+#[inline(always)]
+pub fn begin_row(registers: &mut [usize], width: usize, register: u8, place: usize)
+    requires room { with_spare * width ≤ length registers.old }
+    requires register { register < with_spare }
+    requires place { place < no_slot }
+    ensures begun { width ≡ 2 → row_in registers.new 2 register ≡ Some place ∷ None ∷ [] }
+    ensures others { (r : ℕ) → r < with_spare → (width ≡ 2 → r ≢ register) →
+        row_in registers.new width r ≡ row_in registers.old width r }
+{
+    if width == 2 {
+        let first = register as usize * 2;
+        registers[first] = place;
+        registers[first + 1] = NO_SLOT;
     }
 }
 

@@ -46,7 +46,7 @@ pub(crate) struct ListEntry {
 pub struct TableSize {
     /// The number of its thread lists.
     pub lists: usize,
-    /// The number of bytes that it takes.
+    /// The number of bytes that its lists and transitions take.
     pub bytes: usize,
     /// Whether each of its transitions is known.
     pub is_whole: bool,
@@ -84,10 +84,11 @@ impl Model for Table {
 }
 
 impl Table {
-    /// Makes the table of a program, within so many bytes and a number of looks at states that is linear in the program. What
-    /// is not made is unknown.
+    /// Makes the table of a program, of at most so many bytes and with a number of looks at states that is linear in the
+    /// program. What is not made is unknown.
     ///
-    /// Returns `None` if the limit is too small, if the program tells too many classes apart, or if memory runs out.
+    /// Returns `None` if the limit is too small for the lists where searches begin, if the program tells too many classes
+    /// apart, or if memory runs out.
     pub fn new(alloc: Global, program: &Program, limit: usize) -> Option<Table>
         ensures { IfSome result (IsTableOf program.now.program) }
     {
@@ -100,6 +101,9 @@ impl Table {
             return None;
         };
         let table = lay_out(alloc, classes, explored)?;
+        if table.size().bytes > limit {
+            return None;
+        }
         Some(table)
     }
 

@@ -85,8 +85,8 @@ impl Visited {
     }
 }
 
-// Returns whether the states are the same.
-fn are_same(own: &[u32], others: &[u32]) -> bool
+/// Returns whether the states are the same.
+pub(crate) fn are_same(own: &[u32], others: &[u32]) -> bool
     ensures { result ≡ true → own.now ≡ others.now }
 {
     if own.len() != others.len() {

@@ -238,6 +238,15 @@ fn at_set_patterns(rt: HostRuntime) -> Result<(), Fail> {
 }
 
 #[test]
+fn at_set_prepared(rt: HostRuntime) -> Result<(), Fail> {
+    let set = RegexSet::new(rt.alloc(), &["a+", "b"])?;
+    let bare = set.prepared(0, false)?;
+    assert!(rt; set.table_size().is_some() && bare.table_size().is_none());
+    assert!(rt; bare.is_match(b"caa")?);
+    Ok(())
+}
+
+#[test]
 fn at_set_builder(rt: HostRuntime) -> Result<(), Fail> {
     let mut builder = RegexSetBuilder::new(rt.alloc(), &["foo", "bar"])?;
     builder.case_insensitive(true);

@@ -44,6 +44,59 @@ mod over_bytes {
         assert_eq!(rt; lengths.as_slice(), [2, 0, 1].as_slice());
         Ok(())
     }
+
+    #[test]
+    fn at_is_match_at(rt: HostRuntime) -> Result<(), Fail> {
+        let mut searcher = Searcher::new(Regex::new(rt.alloc(), r"\bb")?)?;
+        assert!(rt; searcher.is_match_at(b"b\xFFab b", 1));
+        assert!(rt; !searcher.is_match_at(b"b\xFFab", 1));
+        Ok(())
+    }
+
+    #[test]
+    fn at_shortest_match(rt: HostRuntime) -> Result<(), Fail> {
+        let mut searcher = Searcher::new(Regex::new(rt.alloc(), "a+")?)?;
+        assert_eq!(rt; searcher.shortest_match(b"\xFFaaa"), Some(2));
+        Ok(())
+    }
+
+    #[test]
+    fn at_captures_at(rt: HostRuntime) -> Result<(), Fail> {
+        let mut searcher = Searcher::new(Regex::new(rt.alloc(), "a(.)")?)?;
+        let captures = searcher.captures_at(b"ab ac", 1)?.ok_or("no match")?;
+        let group = captures.get(1).ok_or("no group")?;
+        assert_eq!(rt; group.range(), 4..5);
+        Ok(())
+    }
+
+    #[test]
+    fn at_captures_anchored_at(rt: HostRuntime) -> Result<(), Fail> {
+        let mut searcher = Searcher::new(Regex::new(rt.alloc(), "([a-z]+)(=?)")?)?;
+        let captures = searcher
+            .captures_anchored_at(b"\xFFx=1", 1)?
+            .ok_or("no match")?;
+        let name = captures.get(1).ok_or("no name")?;
+        assert_eq!(rt; name.range(), 1..2);
+        assert!(rt; searcher.captures_anchored_at(b"1x", 0)?.is_none());
+        Ok(())
+    }
+
+    #[test]
+    fn at_captures_read(rt: HostRuntime) -> Result<(), Fail> {
+        let mut searcher = Searcher::new(Regex::new(rt.alloc(), "a(b)?")?)?;
+        let mut locations = searcher.regex().capture_locations()?;
+        assert!(rt; searcher.captures_read(&mut locations, b"\xFFab").is_some());
+        assert_eq!(rt; locations.get(1), Some((2, 3)));
+        Ok(())
+    }
+
+    #[test]
+    fn at_replace(rt: HostRuntime) -> Result<(), Fail> {
+        let mut searcher = Searcher::new(Regex::new(rt.alloc(), r"\d+")?)?;
+        let hidden = searcher.replace(b"1 and 2", b"n".as_slice())?;
+        assert_eq!(rt; hidden.as_slice(), b"n and 2".as_slice());
+        Ok(())
+    }
 }
 
 mod over_texts {
@@ -97,6 +150,91 @@ mod over_texts {
             lengths.push(piece.len())?;
         }
         assert_eq!(rt; lengths.as_slice(), [1, 2, 0, 0].as_slice());
+        Ok(())
+    }
+
+    #[test]
+    fn at_is_match_at(rt: HostRuntime) -> Result<(), Fail> {
+        let mut searcher = Searcher::new(Regex::new(rt.alloc(), r"\bb")?)?;
+        assert!(rt; searcher.is_match_at("bab b", 1));
+        assert!(rt; !searcher.is_match_at("bab", 1));
+        Ok(())
+    }
+
+    #[test]
+    fn at_shortest_match(rt: HostRuntime) -> Result<(), Fail> {
+        let mut searcher = Searcher::new(Regex::new(rt.alloc(), "a+")?)?;
+        assert_eq!(rt; searcher.shortest_match("xaaa"), Some(2));
+        Ok(())
+    }
+
+    #[test]
+    fn at_find_next(rt: HostRuntime) -> Result<(), Fail> {
+        let mut searcher = Searcher::new(Regex::new(rt.alloc(), "a*")?)?;
+        let next = searcher.find_next("ab", Some(1)).ok_or("no match")?;
+        assert_eq!(rt; next.range(), 2..2);
+        assert_eq!(rt; searcher.find_next("ab", Some(2)), None);
+        Ok(())
+    }
+
+    #[test]
+    fn at_captures_at(rt: HostRuntime) -> Result<(), Fail> {
+        let mut searcher = Searcher::new(Regex::new(rt.alloc(), "a(.)")?)?;
+        let captures = searcher.captures_at("ab ac", 1)?.ok_or("no match")?;
+        let group = captures.get(1).ok_or("no group")?;
+        assert_eq!(rt; group.as_str(), "c");
+        Ok(())
+    }
+
+    #[test]
+    fn at_captures_anchored_at(rt: HostRuntime) -> Result<(), Fail> {
+        let mut searcher = Searcher::new(Regex::new(rt.alloc(), "([a-z]+)(=?)")?)?;
+        let captures = searcher.captures_anchored_at("x=1", 0)?.ok_or("no match")?;
+        let name = captures.get(1).ok_or("no name")?;
+        assert_eq!(rt; name.as_str(), "x");
+        assert!(rt; searcher.captures_anchored_at("1x", 0)?.is_none());
+        Ok(())
+    }
+
+    #[test]
+    fn at_captures_next(rt: HostRuntime) -> Result<(), Fail> {
+        let mut searcher = Searcher::new(Regex::new(rt.alloc(), "(a)|b")?)?;
+        let captures = searcher.captures_next("ab", Some(1)).ok_or("no match")??;
+        assert!(rt; captures.get(1).is_none());
+        assert!(rt; searcher.captures_next("ab", Some(2)).is_none());
+        Ok(())
+    }
+
+    #[test]
+    fn at_captures_read(rt: HostRuntime) -> Result<(), Fail> {
+        let mut searcher = Searcher::new(Regex::new(rt.alloc(), "a(b)?")?)?;
+        let mut locations = searcher.regex().capture_locations()?;
+        assert!(rt; searcher.captures_read(&mut locations, "xab").is_some());
+        assert_eq!(rt; locations.get(1), Some((2, 3)));
+        Ok(())
+    }
+
+    #[test]
+    fn at_replace(rt: HostRuntime) -> Result<(), Fail> {
+        let mut searcher = Searcher::new(Regex::new(rt.alloc(), r"(\w+), (\w+)")?)?;
+        let turned = searcher.replace("Curie, Marie", "$2 $1")?;
+        assert_eq!(rt; turned.as_str(), "Marie Curie");
+        Ok(())
+    }
+
+    #[test]
+    fn at_replace_all(rt: HostRuntime) -> Result<(), Fail> {
+        let mut spaces = Searcher::new(Regex::new(rt.alloc(), r"\s+")?)?;
+        let narrow = spaces.replace_all("a  b   c", " ")?;
+        assert_eq!(rt; narrow.as_str(), "a b c");
+        Ok(())
+    }
+
+    #[test]
+    fn at_replacen(rt: HostRuntime) -> Result<(), Fail> {
+        let mut searcher = Searcher::new(Regex::new(rt.alloc(), "a")?)?;
+        let replaced = searcher.replacen("aaaa", 2, "b")?;
+        assert_eq!(rt; replaced.as_str(), "bbaa");
         Ok(())
     }
 }

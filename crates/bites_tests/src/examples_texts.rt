@@ -244,6 +244,15 @@ fn at_set(rt: HostRuntime) -> Result<(), Fail> {
 }
 
 #[test]
+fn at_set_prepared(rt: HostRuntime) -> Result<(), Fail> {
+    let set = RegexSet::new(rt.alloc(), &["a+", "b"])?;
+    let bare = set.prepared(0, false)?;
+    assert!(rt; set.table_size().is_some() && bare.table_size().is_none());
+    assert!(rt; bare.is_match("caa")?);
+    Ok(())
+}
+
+#[test]
 fn at_set_cache(rt: HostRuntime) -> Result<(), Fail> {
     let set = RegexSet::new(rt.alloc(), &["a", "b"])?;
     let mut cache = set.cache()?;

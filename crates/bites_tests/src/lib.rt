@@ -6,6 +6,7 @@
 //! - patterns of a million characters
 //! - programs made by hand
 //! - caches that are used more than once, and groups that outlive their regex
+//! - how large the tables of a set are
 //! - what the program `bites` writes, even if its streams fail
 //!
 //! The libraries have no tests of their own, so that each is proved once; only `bites_machine` has one. No expected
@@ -37,6 +38,8 @@ mod hostile;
 mod shown;
 #[cfg(test)]
 mod states;
+#[cfg(test)]
+mod tables;
 #[cfg(test)]
 mod utf8;
 #[cfg(test)]

@@ -1,7 +1,7 @@
-//! The text of `Debug` of a regex, a match and captures.
+//! The text of `Debug` of a regex, a match, captures and the size of a table.
 
 use bites_bytes::bytes;
-use regex_bites::{Error, Regex};
+use regex_bites::{Error, Regex, TableSize};
 use std::alloc::Global;
 
 fn of_bytes(alloc: Global, pattern: &str, haystack: &[u8]) -> Result<String, Error> {
@@ -27,6 +27,19 @@ fn debug_shows_pattern_places_and_groups(rt: HostRuntime) -> Result<(), Error> {
     let shown = of_texts(rt.alloc(), "(?<x>a)|b", "b")?;
     let wanted = "Regex(\"(?<x>a)|b\") Some(Match { start: 0, end: 1, string: \"b\" }) \
         Some(Captures({0: 0..1/\"b\", 1/\"x\": None}))";
+    assert_eq!(rt; shown.as_str(), wanted);
+    Ok(())
+}
+
+#[test]
+fn debug_shows_the_size_of_a_table(rt: HostRuntime) -> Result<(), Error> {
+    let size = TableSize {
+        lists: 5,
+        bytes: 300,
+        is_whole: true,
+    };
+    let shown = format!(in rt.alloc(); "{size:?}")?;
+    let wanted = "TableSize { lists: 5, bytes: 300, is_whole: true }";
     assert_eq!(rt; shown.as_str(), wanted);
     Ok(())
 }

@@ -32,7 +32,7 @@ Example:
   $ printf 'b' | explain --json 'a)'
   {"pattern":"a)",
   "flags":{"i":false,"l":false,"m":false,"R":false,"s":false,"U":false,"x":false},
-  "fault":{"message":"found closing \u0027)\u0027 without matching \u0027(\u0027"}}
+  "fault":{"message":"found closing \u0027)\u0027 without matching \u0027(\u0027","offset":1}}
 
 Status:
   0 if the pattern is accepted or nobody reads the output any more, 1 if the

@@ -26,6 +26,7 @@ use searches::Report;
 use std::alloc::Global;
 use std::io::{self, BufWriter, Write};
 use std::process::ExitCode;
+use subject::Refusal;
 
 fn main(rt: HostRuntime) -> ExitCode {
     status(HELP.program, run(&rt), &mut rt.stderr())
@@ -47,8 +48,8 @@ fn run(rt: &HostRuntime) -> Result<u8, Fault> {
         Ok(report) => (write_report(rt.alloc(), &report, &mut out), 0),
         Err(Error::Memory) => return Err(Fault::Pattern(Error::Memory)),
         Err(error) => {
-            let message = error.to_string(rt.alloc())?;
-            (write_refused(&options, message.as_str(), &mut out), 1)
+            let refusal = Refusal::of(rt.alloc(), &options, error)?;
+            (write_refused(&options, &refusal, &mut out), 1)
         }
     };
     match written {
@@ -67,9 +68,13 @@ fn write_report<W: Write>(alloc: Global, report: &Report<'_>, out: &mut W) -> io
 }
 
 // Writes that the pattern is refused, in the form that is asked for.
-fn write_refused<W: Write>(options: &Options<'_>, message: &str, out: &mut W) -> io::Result<()> {
+fn write_refused<W: Write>(
+    options: &Options<'_>,
+    refusal: &Refusal,
+    out: &mut W,
+) -> io::Result<()> {
     match options.form {
-        Form::Page => page::write_refused(options, message, out),
-        Form::Json => report_json::write_refused(options, message, out),
+        Form::Page => page::write_refused(options, refusal, out),
+        Form::Json => report_json::write_refused(options, refusal, out),
     }
 }

@@ -13,12 +13,16 @@ mod tree;
 use crate::options::Options;
 use crate::report_json;
 use crate::searches::Report;
-use escape::write_shown;
+use crate::subject::Refusal;
+use escape::{write_shown, write_shown_char};
 use script::SCRIPT;
 use spans::SPANS;
 use std::alloc::Global;
 use std::io::{self, Write};
 use style::STYLE;
+
+/// What stands at the place where a pattern is refused. The style draws it as a bar.
+const MARK: &[u8] = b"<b class=\"place\"></b>";
 
 /// Writes the page of a report. The error is that of the writer, or out of memory.
 pub(crate) fn write_report<W: Write>(
@@ -47,13 +51,38 @@ pub(crate) fn write_report<W: Write>(
 /// Writes the page of a pattern that is refused.
 pub(crate) fn write_refused<W: Write>(
     options: &Options<'_>,
-    message: &str,
+    refusal: &Refusal,
     out: &mut W,
 ) -> io::Result<()> {
     write_head(options, out)?;
     out.write_all(b"<p id=\"fault\">The pattern is refused: ")?;
-    write_shown(message, out)?;
-    out.write_all(b".</p>\n</main>\n</body>\n</html>\n")
+    write_shown(refusal.message.as_str(), out)?;
+    out.write_all(b".</p>\n")?;
+    if let Some(offset) = refusal.offset {
+        write!(
+            out,
+            "<p>At offset {offset}: <code class=\"text\" id=\"read\">"
+        )?;
+        write_marked(options.pattern, offset, out)?;
+        out.write_all(b"</code></p>\n")?;
+    }
+    out.write_all(b"</main>\n</body>\n</html>\n")
+}
+
+// Writes the pattern with a mark at this offset.
+fn write_marked<W: Write>(pattern: &str, offset: usize, out: &mut W) -> io::Result<()> {
+    let mut at = 0usize;
+    for c in pattern.chars() {
+        if at == offset {
+            out.write_all(MARK)?;
+        }
+        write_shown_char(c, out)?;
+        at = at.saturating_add(c.len_utf8());
+    }
+    if at == offset {
+        out.write_all(MARK)?;
+    }
+    Ok(())
 }
 
 // Writes the page up to its first section.

@@ -5,6 +5,7 @@ use crate::json::{write_comma, write_numbers, write_offset};
 use crate::options::Options;
 use crate::program_json::write_program;
 use crate::searches::{Report, Search};
+use crate::subject::Refusal;
 use crate::text::{write_lossy, write_text};
 use crate::tree_json::write_tree;
 use bites_bytes::bytes::{Captures, Regex};
@@ -33,12 +34,14 @@ pub(crate) fn write_report<W: Write>(report: &Report<'_>, out: &mut W) -> io::Re
 /// Writes what is shown of a pattern that is refused.
 pub(crate) fn write_refused<W: Write>(
     options: &Options<'_>,
-    message: &str,
+    refusal: &Refusal,
     out: &mut W,
 ) -> io::Result<()> {
     write_options(options, out)?;
     out.write_all(b",\n\"fault\":{\"message\":")?;
-    write_text(message, out)?;
+    write_text(refusal.message.as_str(), out)?;
+    out.write_all(b",\"offset\":")?;
+    write_offset(refusal.offset, out)?;
     out.write_all(b"}}\n")
 }
 

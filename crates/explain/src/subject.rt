@@ -11,9 +11,10 @@ use bites_bytes::bytes::{Regex, RegexBuilder};
 use bites_machine::program::{Program, compile};
 use bites_machine::vm::MatchKind;
 use bites_syntax::parse::parse;
+use bites_syntax::syntax_error::syntax_error;
 use bites_syntax::tree::Tree;
 use bites_text::error::Error;
-use std::alloc::Global;
+use std::alloc::{AllocError, Global};
 
 // The limits of a `RegexBuilder` that is not told others.
 const NEST_LIMIT: u32 = 50;
@@ -50,6 +51,29 @@ impl Subject {
     }
 }
 
+/// Why a pattern is refused, and where.
+#[derive(Drop)]
+pub(crate) struct Refusal {
+    pub(crate) message: String,
+    /// The number of bytes of the pattern before the place that the message is about, if it is about one.
+    pub(crate) offset: Option<usize>,
+}
+
+impl Refusal {
+    /// Returns why and where the pattern is refused with this error.
+    pub(crate) fn of(
+        alloc: Global,
+        options: &Options<'_>,
+        error: Error,
+    ) -> Result<Refusal, AllocError> {
+        let place = syntax_error(alloc, options.pattern, options.flags, NEST_LIMIT)?;
+        Ok(Refusal {
+            message: error.to_string(alloc)?,
+            offset: place.and_then(|place| place.offset()),
+        })
+    }
+}
+
 // Returns which match each search looks for.
 fn kind_of(longest: bool) -> MatchKind
     ensures { result ≡ (if longest then Longest else First) }
@@ -64,7 +88,7 @@ fn kind_of(longest: bool) -> MatchKind
 // Returns the regex of the pattern.
 fn regex_of(alloc: Global, options: &Options<'_>) -> Result<Regex, Error>
     ensures tree { IfOk result (λ r. Accepts (settings options.now.pattern.now (flags_of options.now.flags)
-        10485760 50 false options.now.longest) r.tree) }
+        10485760 50 1048576 false options.now.longest false) r.tree) }
     ensures longest { IfOk result (λ r. r.leftmost_longest ≡ options.now.longest) }
 {
     let mut builder = RegexBuilder::new(alloc, options.pattern)?;

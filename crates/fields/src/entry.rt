@@ -1,7 +1,7 @@
 //! A line of a log in the common log format, and its fields.
 
-use bites_filter::text_searcher::TextSearcher;
-use regex_bites::{Error, Regex};
+use bites_filter::extract::extract_full_bytes;
+use regex_bites::{Error, Regex, Searcher};
 use std::alloc::{AllocError, Global};
 use std::marker::Model;
 
@@ -12,7 +12,7 @@ pub const PATTERN: &str =
 /// A reader of entries.
 #[derive(Drop)]
 pub struct Log {
-    searcher: TextSearcher,
+    searcher: Searcher,
 }
 
 impl Model for Log {
@@ -40,7 +40,7 @@ impl Log {
     pub fn new(alloc: Global) -> Result<Log, Error> {
         bites_spec::literal_is_read();
         let regex = Regex::new(alloc, PATTERN)?;
-        let searcher = TextSearcher::new(regex)?;
+        let searcher = Searcher::new(regex)?;
         Ok(Log { searcher })
     }
 
@@ -51,6 +51,6 @@ impl Log {
             ExtractsBytes entry_tree line.now found (map (λ field. field.now) into.new)) }
         ensures seven { length (map (λ field. field.now) into.new) ≡ 7 }
     {
-        self.searcher.extract_full_bytes(line, into)
+        extract_full_bytes(&mut self.searcher, line, into)
     }
 }

@@ -7,9 +7,9 @@ ghost use Rattle.lines.specs.Selected.{IsAnySelected, IsFiltered, IsSearched};
 
 use crate::options::{Format, Show};
 use crate::shown::{write_ending, write_name, write_shown};
+use bites_bytes::bytes::Searcher;
 use bites_filter::fault::Fault;
 use bites_filter::lines::{LineTask, each_line, next_line, without_line_feed};
-use bites_filter::searcher::Searcher;
 use std::alloc::Global;
 use std::io::{self, BufRead, Write};
 
@@ -46,7 +46,7 @@ impl<'n> LineTask for Filter<'n> {
         if !self.selects(line) {
             return Ok(false);
         }
-        write_shown(&self.searcher, self.format, number, line, out)?;
+        write_shown(&mut self.searcher, self.format, number, line, out)?;
         Ok(true)
     }
 }

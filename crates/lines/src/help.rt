@@ -36,7 +36,7 @@ Example:
 
 Status:
   0 if there was such a line or nobody reads the output any more, 1 if there
-  was none, 2 for a fault, which is one line on standard error. A file that
+  was none, 2 for a fault, which standard error tells. A file that
   cannot be read is a fault, and the other files are read nevertheless. With -q
   the status is 0 if there was such a line, even after a fault.
 ",

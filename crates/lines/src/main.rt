@@ -8,11 +8,11 @@ mod help;
 mod options;
 mod shown;
 
-use bites_bytes::bytes::RegexBuilder;
+use bites_bytes::bytes::{RegexBuilder, Searcher};
 use bites_filter::fault::Fault;
 use bites_filter::help::{asks_for_help, write_help};
 use bites_filter::program::{flush, open, status, words};
-use bites_filter::searcher::Searcher;
+use bites_filter::refused::build;
 use files::{STANDARD_INPUT, search_files};
 use filter::Filter;
 use help::HELP;
@@ -45,8 +45,9 @@ fn run(rt: &HostRuntime) -> Result<u8, Fault> {
 fn filter_of<'w>(alloc: Global, options: &Options<'w>) -> Result<Filter<'w>, Fault> {
     let mut builder = RegexBuilder::new(alloc, options.pattern)?;
     builder.case_insensitive(options.case_insensitive);
+    builder.prefilter(true);
     Ok(Filter {
-        searcher: Searcher::new(builder.build()?)?,
+        searcher: Searcher::new(build(alloc, &builder, options.pattern)?)?,
         invert: options.invert,
         format: Format {
             name: STANDARD_INPUT,

@@ -1,35 +1,36 @@
 //! What is written of a line that is selected.
 
-ghost use Rattle.std.specs.Prelude.{◌≡◌, ◌∷◌, ◌++◌, [], List, ℕ, Bool, cond, flat_map, decimal, IfOk};
+ghost use Rattle.std.specs.Prelude.{◌≡◌, ◌∷◌, ◌++◌, [], List, ℕ, Bool, cond, map, flat_map, decimal, IfOk};
 ghost use Rattle.std.specs.Io.KnownBytes.{Appends};
-ghost use Rattle.bites_spec.specs.Captured.{text_of};
-ghost use Rattle.bites_bytes.specs.Matches.{matches_left};
+ghost use Rattle.bites_spec.specs.Captured.{excerpt, text_of};
+ghost use Rattle.bites_spec.specs.Iteration.{spans_in};
 ghost use Rattle.lines.specs.Selected.{IsShown, name_label, label, labelled, labelled_match, ending};
 
 use crate::options::{Format, Show};
-use bites_bytes::bytes::Matches;
+use bites_bytes::bytes::Searcher;
 use bites_filter::lines::without_line_feed;
-use bites_filter::searcher::Searcher;
 use std::io::{self, Write};
 
 // Writes what is shown of the line of this number.
 pub(crate) fn write_shown<W: Write>(
-    searcher: &Searcher,
+    searcher: &mut Searcher,
     format: Format<'_>,
     number: u64,
     line: &[u8],
     out: &mut W,
 ) -> io::Result<()>
-    ensures { IfOk result (λ _. (text : List ℕ) × IsShown searcher.now format.entry format.entry.show number line.now text
+    ensures shown { IfOk result (λ _. (text : List ℕ) × IsShown searcher.old format.entry format.entry.show number line.now text
         × Appends (W.contents out.old) (W.contents out.new) text) }
+    ensures same { searcher.new ≡ searcher.old }
 {
     let text = without_line_feed(line);
     match format.show {
         Show::Lines => write_line(format, number, text, out),
         Show::Matches => {
-            let matches = searcher.find_iter(text)?;
-            write_matches(format, number, matches, out)?;
-            Ok(())
+            // The proof takes from here that the regex is compiled, and that its matches are those of its tree.
+            searcher.regex().as_str();
+            bites_spec::finds_are_successive();
+            write_matches(searcher, format, number, text, out)
         }
         Show::Count | Show::Name | Show::Nothing => Ok(()),
     }
@@ -37,15 +38,18 @@ pub(crate) fn write_shown<W: Write>(
 
 // Writes each match that is not empty on a line of its own.
 fn write_matches<W: Write>(
+    searcher: &mut Searcher,
     format: Format<'_>,
     number: u64,
-    matches: Matches<'_, '_>,
+    text: &[u8],
     out: &mut W,
 ) -> io::Result<()>
-    ensures { IfOk result (λ _. Appends (W.contents out.old) (W.contents out.new)
-        (flat_map (λ e. labelled_match (label format.entry number) (text_of e)) (matches_left matches.entry))) }
+    ensures all { IfOk result (λ _. Appends (W.contents out.old) (W.contents out.new)
+        (flat_map (λ e. labelled_match (label format.entry number) (text_of e))
+        (map (excerpt text.now) (spans_in searcher.old text.now)))) }
+    ensures same { searcher.new ≡ searcher.old }
 {
-    for found in matches {
+    for found in searcher.find_iter(text) {
         write_match(format, number, found.as_bytes(), out)?;
     }
     Ok(())

@@ -1,17 +1,33 @@
 -- A text whose matches are being replaced, step by step.
-use Rattle.std.specs.Prelude.{◌≡◌, ℕ, ◌<◌, List, [], ◌∷◌, ◌++◌, length, slice_range, string_bytes, Option, Some, unwrap_or, Result, MatchOption, MatchResult}
+use Rattle.std.specs.Prelude.{◌≡◌, ℕ, ◌<◌, List, [], ◌∷◌, ◌++◌, map, length, slice_range, string_bytes, Option, Some, unwrap_or, Result, MatchOption, MatchResult}
 use Rattle.bites_spec.specs.Match.{Span}
-use Rattle.bites_spec.specs.Captured.{Captured}
+use Rattle.bites_spec.specs.Regex.{Regex}
+use Rattle.bites_spec.specs.Captured.{Captured, Excerpt, excerpt}
+use Rattle.bites_spec.specs.Iteration.{spans_after, captures_after}
 use Rattle.bites_spec.specs.Replaced.{span_in}
+use Rattle.bites_bytes.specs.ReplaceLimit.{taken}
+use Rattle.regex_bites.specs.Matched.{excerpt_of}
+use Rattle.regex_bites.specs.declared.string.matched.Match.{Match}
 use Rattle.regex_bites.specs.declared.string.replace.ReplacedText.{ReplacedText}
 
--- the first of a list, if there is one, and those after it
-abbrev pub TakesFirst : {A B : Type 0} → (A → B) → List B → Option A → List B → Type 0
-TakesFirst view old r new = MatchOption r (old ≡ []) (λ x. old ≡ view x ∷ new)
+-- the matches after the last one
+abbrev pub matches_after : Regex → List ℕ → Option ℕ → List Excerpt
+matches_after r hay last = map (excerpt hay) (spans_after r hay last)
 
--- like `TakesFirst`, but the item may be a refusal
-abbrev pub TakesUntilRefused : {A E : Type 0} → List A → Option (Result A E) → List A → Type 0
-TakesUntilRefused old r new = MatchOption r (old ≡ []) (λ x. MatchResult x (λ c. old ≡ c ∷ new) (λ e. 0 < length old))
+-- the next match, of as many as may be replaced, and those after it
+abbrev pub TakesMatch : Regex → ReplacedText → Option ℕ → Option Match → Option ℕ → Type 0
+TakesMatch r s left m rest =
+    MatchOption m (taken left (matches_after r s.haystack.now s.last) ≡ [])
+    (λ x. taken left (matches_after r s.haystack.now s.last)
+    ≡ excerpt_of x ∷ taken rest (matches_after r s.haystack.now (Some (excerpt_of x).span.end)))
+
+-- like `TakesMatch`, but with its groups, or a refusal
+abbrev pub TakesCaptures : {E : Type 0} → Regex → ReplacedText → Option ℕ → Option (Result Captured E) → Option ℕ → Type 0
+TakesCaptures r s left m rest =
+    MatchOption m (taken left (captures_after r s.haystack.now s.last) ≡ [])
+    (λ x. MatchResult x (λ c. taken left (captures_after r s.haystack.now s.last)
+    ≡ c ∷ taken rest (captures_after r s.haystack.now (Some (span_in c).end)))
+    (λ e. 0 < length (taken left (captures_after r s.haystack.now s.last))))
 
 -- what stands before the span is written, and the haystack goes on after the span
 abbrev pub KeepsUpTo : Span → ReplacedText → ReplacedText → Type 0

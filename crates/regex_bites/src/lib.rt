@@ -123,13 +123,13 @@
 //!
 //! - A function that allocates returns a `Result`, and one that makes an object is given an allocator. An [`Error`] may
 //!   also be out of memory.
-//! - There is no pool of caches: each search allocates a cache, or is given one, or a [`Searcher`] keeps it. A regex
-//!   and its clones share the program by `Arc`, so a clone may go to another thread.
+//! - There is no pool of caches: each search allocates a cache, or is given one, or a [`Searcher`] keeps it. A regex and its clones share the
+//!   program by `Arc`, so a clone may go to another thread.
 //! - No call panics. A start within a text must be at a character boundary. Captures are not indexed: `part` requires
 //!   that the group participates. A caller proves such a condition, or tests it.
 //! - A function that replaces is wrapped in `With`.
-//! - [`RegexBuilder::leftmost_longest`] and [`RegexBuilder::keep_dropped_groups`] are new. So are the searches for a
-//!   match that begins at one offset ([`Regex::find_anchored_at`], [`Regex::captures_anchored_at`]) and for a match of
+//! - [`RegexBuilder::leftmost_longest`], [`RegexBuilder::keep_dropped_groups`], [`RegexBuilder::dfa_size_limit`] and
+//!   [`RegexBuilder::prefilter`] are new. So are `table_size` and `prepared` of [`Regex`] and of [`RegexSet`], the searches for a match that begins at one offset ([`Regex::find_anchored_at`], [`Regex::captures_anchored_at`]) and for a match of
 //!   the whole haystack ([`Regex::is_full_match`], [`Regex::captures_full`]).
 //!   [`RegexBuilder::syntax_error`] says where a pattern is refused.
 //! - Some faults of the Rust code are fixed: `docs/DIFFERENCES.md` names them all, each with the smallest input that
@@ -151,5 +151,5 @@ pub use string::{
     Cache, CaptureLocations, CaptureMatches, CaptureNames, Captures, Match, Matches, NoExpand,
     Regex, RegexBuilder, RegexSet, RegexSetBuilder, Replacer, ReplacerRef, Searcher, SetCache,
     SetError, SetMatches, SetMatchesIter, SetPatterns, Split, SplitN, SubCaptureMatches,
-    SyntaxError, With,
+    SyntaxError, TableSize, With,
 };

@@ -25,6 +25,6 @@ Example:
 
 Status:
   0 if all paths are read or nobody reads the output any more, 2 for a fault,
-  which is one line on standard error.
+  which standard error tells.
 ",
 };

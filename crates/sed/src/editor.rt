@@ -5,9 +5,10 @@ ghost use Rattle.std.specs.Io.KnownBytes.{Appends};
 ghost use Rattle.bites_filter.specs.Lines.{lines_of};
 ghost use Rattle.sed.specs.Edited.{AreEdited};
 
+use bites_bytes::bytes::Searcher;
 use bites_filter::fault::Fault;
 use bites_filter::lines::{LineTask, each_line, line_feed, without_line_feed};
-use bites_filter::searcher::Searcher;
+use bites_filter::substitute::substitute;
 use std::alloc::Global;
 use std::io::{self, BufRead, Write};
 
@@ -30,7 +31,7 @@ impl<'t> LineTask for Editor<'t> {
 
     fn line<W: Write>(&mut self, _number: u64, line: &[u8], out: &mut W) -> io::Result<bool> {
         let text = without_line_feed(line);
-        let edited = self.searcher.replacen(text, self.limit, self.template)?;
+        let edited = substitute(&mut self.searcher, text, self.limit, self.template)?;
         out.write_all(edited.as_slice())?;
         out.write_all(line_feed(line))?;
         Ok(true)

@@ -30,6 +30,6 @@ Example:
 
 Status:
   0 if all lines are written or nobody reads the output any more, 2 for a
-  fault, which is one line on standard error.
+  fault, which standard error tells.
 ",
 };

@@ -6,11 +6,11 @@ mod editor;
 mod help;
 mod options;
 
-use bites_bytes::bytes::RegexBuilder;
+use bites_bytes::bytes::{RegexBuilder, Searcher};
 use bites_filter::fault::Fault;
 use bites_filter::help::{asks_for_help, write_help};
 use bites_filter::program::{buffers, flush, status, words};
-use bites_filter::searcher::Searcher;
+use bites_filter::refused::build;
 use editor::{Editor, edit_lines};
 use help::HELP;
 use options::Options;
@@ -31,8 +31,9 @@ fn run(rt: &HostRuntime) -> Result<u8, Fault> {
     };
     let mut builder = RegexBuilder::new(rt.alloc(), options.pattern)?;
     builder.case_insensitive(options.case_insensitive);
+    builder.prefilter(true);
     let mut editor = Editor {
-        searcher: Searcher::new(builder.build()?)?,
+        searcher: Searcher::new(build(rt.alloc(), &builder, options.pattern)?)?,
         template: options.template.as_bytes(),
         limit: if options.all { 0 } else { 1 },
     };

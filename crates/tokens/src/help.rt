@@ -29,7 +29,7 @@ Example:
 
 Status:
   0 if the whole input is cut into tokens or nobody reads the output any more,
-  1 if the tokens stop before its end, 2 for a fault, which is one line on
-  standard error.
+  1 if the tokens stop before its end, 2 for a fault, which standard error
+  tells.
 ",
 };

@@ -21,6 +21,7 @@ use std::fmt;
 use std::str::FromStr;
 use std::sync::Arc;
 
+pub use crate::engine::TableSize;
 pub use crate::error::Error;
 
 mod captures;

@@ -1,5 +1,6 @@
 //! Handles of the engine, which are freed with what holds them.
 
+use super::table::Prepared;
 use super::text::{give_up, text_of, written};
 use crate::error::Error;
 use crate::sys::{self, Bites, BitesCache, BitesSpan};
@@ -11,6 +12,7 @@ pub(crate) struct Settings {
     pub(super) flags: u32,
     pub(super) size_limit: usize,
     pub(super) nest_limit: u32,
+    pub(super) dfa_size_limit: usize,
 }
 
 impl Settings {
@@ -33,6 +35,10 @@ impl Settings {
     pub(crate) fn set_nest_limit(&mut self, limit: u32) {
         self.nest_limit = limit;
     }
+
+    pub(crate) fn set_dfa_size_limit(&mut self, limit: usize) {
+        self.dfa_size_limit = limit;
+    }
 }
 
 impl Default for Settings {
@@ -41,6 +47,7 @@ impl Default for Settings {
             flags: 0,
             size_limit: sys::SIZE_LIMIT,
             nest_limit: sys::NEST_LIMIT,
+            dfa_size_limit: sys::DFA_SIZE_LIMIT,
         }
     }
 }
@@ -53,11 +60,12 @@ unsafe impl Send for Handle {}
 
 impl Handle {
     pub(super) fn new(pattern: &str, settings: Settings) -> Result<Handle, Error> {
-        let mut handle = Handle(Bites::EMPTY);
+        let mut handle = Handle::empty();
         let Settings {
             flags,
             size_limit,
             nest_limit,
+            dfa_size_limit: _,
         } = settings;
         let (text, len) = (pattern.as_ptr(), pattern.len());
         // SAFETY: the pattern is a text, and the handle an empty local.
@@ -65,17 +73,18 @@ impl Handle {
             unsafe { sys::bites_new(text, len, flags, size_limit, nest_limit, &mut handle.0) };
         match code {
             sys::DONE => Ok(handle),
-            code => Err(Error::new(code)),
+            code => Err(Error::new(code).about(pattern, settings)),
         }
     }
 
-    /// Returns another handle of this regex.
-    pub(super) fn share(&mut self) -> Handle {
-        let mut handle = Handle(Bites::EMPTY);
-        // SAFETY: both handles are borrowed exclusively, and are two.
-        let code = unsafe { sys::bites_clone(&mut self.0, &mut handle.0) };
+    pub(super) fn empty() -> Handle {
+        Handle(Bites::EMPTY)
+    }
+
+    /// Returns the handle after a call that made it.
+    pub(super) fn or_give_up(self, code: u32) -> Handle {
         match code {
-            sys::DONE => handle,
+            sys::DONE => self,
             code => give_up(code),
         }
     }
@@ -121,6 +130,8 @@ pub(super) struct Searcher {
     pub(super) cache: BitesCache,
     /// Empty memory for the groups of a match. The next search that finds one returns it.
     spare: Vec<BitesSpan>,
+    /// After how many bytes it asks for a table; `None` if it has one, or never asks.
+    bytes_left: Option<usize>,
 }
 
 // SAFETY: the header says that handles may go to another thread.
@@ -128,7 +139,7 @@ unsafe impl Send for Searcher {}
 
 impl Searcher {
     #[inline(never)]
-    pub(super) fn new(mut regex: Handle) -> Searcher {
+    pub(super) fn new(mut regex: Handle, bytes_left: Option<usize>) -> Searcher {
         let mut cache = BitesCache::EMPTY;
         // SAFETY: the handle is borrowed exclusively, and the cache an empty local.
         let code = unsafe { sys::bites_cache_new(&mut regex.0, &mut cache) };
@@ -137,6 +148,7 @@ impl Searcher {
                 regex,
                 cache,
                 spare: Vec::new(),
+                bytes_left,
             },
             code => give_up(code),
         }
@@ -144,6 +156,12 @@ impl Searcher {
 }
 
 impl Searcher {
+    /// Counts so many bytes that may be searched next, and takes the table if they are enough. The cache fits it too.
+    #[inline]
+    pub(super) fn count(&mut self, bytes: usize, prepared: &Prepared<Handle>) {
+        prepared.count(bytes, &mut self.bytes_left, &mut self.regex);
+    }
+
     /// Returns whether the call finds a match.
     #[inline]
     pub(super) fn search(&mut self, ask: impl FnOnce(&mut Bites, &mut BitesCache) -> u32) -> bool {

@@ -17,19 +17,23 @@ use crate::sys::{self, Bites, BitesCache, BitesSize, BitesSpan};
 use handle::{Handle, Searcher};
 use std::str;
 use std::sync::{Arc, Mutex, OnceLock};
+use table::{Prepared, BYTES_BEFORE};
 use text::{append, give_up, made_text, text_of, written, SHORT};
 
 mod handle;
 mod sets;
+mod table;
 mod text;
 
 pub(crate) use handle::Settings;
 pub(crate) use sets::SetEngine;
-pub(crate) use text::message;
+pub use table::TableSize;
+pub(crate) use text::{error_at, message};
 
 /// A compiled regex, which any number of threads may read.
 pub(crate) struct Program {
     handle: Mutex<Handle>,
+    prepared: Prepared<Handle>,
     pattern: Pattern,
     groups: usize,
     static_groups: OnceLock<Option<usize>>,
@@ -90,6 +94,11 @@ impl Program {
         let len = *self.static_groups.get_or_init(read);
         race::acquired(&self.static_groups);
         len
+    }
+
+    /// Returns how large the table is, if it is made.
+    pub(crate) fn table_size(&self) -> Option<TableSize> {
+        self.prepared.size()
     }
 
     #[inline]
@@ -177,6 +186,7 @@ impl Engine {
             static_groups: OnceLock::new(),
             names: Names::read(pattern, &mut handle, groups),
             handle: Mutex::new(handle),
+            prepared: Prepared::new(settings.dfa_size_limit, BYTES_BEFORE),
         };
         Ok(Engine {
             program: Arc::new(program),
@@ -192,7 +202,7 @@ impl Engine {
     pub(crate) fn is_match_at(&self, haystack: &[u8], start: usize) -> bool {
         let (text, len) = (haystack.as_ptr(), haystack.len());
         // SAFETY: both handles are borrowed exclusively, and the haystack is a slice.
-        self.search(|regex, cache| unsafe {
+        self.search(len.saturating_sub(start), |regex, cache| unsafe {
             sys::bites_is_match_at(regex, cache, text, len, start)
         })
     }
@@ -201,7 +211,7 @@ impl Engine {
         let (text, len) = (haystack.as_ptr(), haystack.len());
         let mut end = 0;
         // SAFETY: both handles are borrowed exclusively, the haystack is a slice, and `end` a local.
-        let found = self.search(|regex, cache| unsafe {
+        let found = self.search(len.saturating_sub(start), |regex, cache| unsafe {
             sys::bites_shortest_match_at(regex, cache, text, len, start, &mut end)
         });
         found.then_some(end)
@@ -211,7 +221,7 @@ impl Engine {
         let (text, len) = (haystack.as_ptr(), haystack.len());
         let mut span = ABSENT;
         // SAFETY: both handles are borrowed exclusively, the haystack is a slice, and `span` a local.
-        let found = self.search(|regex, cache| unsafe {
+        let found = self.search(len.saturating_sub(start), |regex, cache| unsafe {
             sys::bites_find_at(regex, cache, text, len, start, &mut span)
         });
         found.then_some(span)
@@ -221,7 +231,7 @@ impl Engine {
         let (text, len) = (haystack.as_ptr(), haystack.len());
         let mut span = ABSENT;
         // SAFETY: both handles are borrowed exclusively, the haystack is a slice, and `span` a local.
-        let found = self.search(|regex, cache| unsafe {
+        let found = self.search(LEXEME, |regex, cache| unsafe {
             sys::bites_find_anchored_at(regex, cache, text, len, start, &mut span)
         });
         found.then_some(span)
@@ -230,7 +240,9 @@ impl Engine {
     pub(crate) fn is_full_match(&self, haystack: &[u8]) -> bool {
         let (text, len) = (haystack.as_ptr(), haystack.len());
         // SAFETY: both handles are borrowed exclusively, and the haystack is a slice.
-        self.search(|regex, cache| unsafe { sys::bites_is_full_match(regex, cache, text, len) })
+        self.search(len, |regex, cache| unsafe {
+            sys::bites_is_full_match(regex, cache, text, len)
+        })
     }
 
     /// Returns the groups of the first match.
@@ -239,7 +251,7 @@ impl Engine {
         let count = self.program.captures_len();
         // SAFETY: both handles are borrowed exclusively, the haystack is a slice, and there is room for all groups. A match
         // writes each of them.
-        self.with_searcher(|own| unsafe {
+        self.with_searcher(len.saturating_sub(start), |own| unsafe {
             own.captures(count, |regex, cache, groups| {
                 sys::bites_captures_at(regex, cache, text, len, start, groups, count).code
             })
@@ -255,7 +267,7 @@ impl Engine {
         let (text, len) = (haystack.as_ptr(), haystack.len());
         let count = self.program.captures_len();
         // SAFETY: as in `captures_at`.
-        self.with_searcher(|own| unsafe {
+        self.with_searcher(LEXEME, |own| unsafe {
             own.captures(count, |regex, cache, groups| {
                 sys::bites_captures_anchored_at(regex, cache, text, len, start, groups, count).code
             })
@@ -277,7 +289,7 @@ impl Engine {
         let (text, len) = (haystack.as_ptr(), haystack.len());
         let (spans, count) = (groups.as_mut_ptr(), groups.len());
         // SAFETY: both handles are borrowed exclusively, and both pointers are of slices.
-        let found = self.search(|regex, cache| unsafe {
+        let found = self.search(len.saturating_sub(start), |regex, cache| unsafe {
             sys::bites_captures_at(regex, cache, text, len, start, spans, count).code
         });
         if found {
@@ -301,24 +313,35 @@ impl Engine {
         all.is_some()
     }
 
+    /// Returns whether a call finds a match that may search so many bytes.
     #[inline]
-    fn search(&self, ask: impl FnOnce(&mut Bites, &mut BitesCache) -> u32) -> bool {
-        self.with_searcher(|own| own.search(ask))
+    fn search(&self, bytes: usize, ask: impl FnOnce(&mut Bites, &mut BitesCache) -> u32) -> bool {
+        self.with_searcher(bytes, |own| own.search(ask))
     }
 
     #[inline]
-    fn with_searcher<R>(&self, work: impl FnOnce(&mut Searcher) -> R) -> R {
-        self.searchers.with(|| self.make_searcher(), work)
+    fn with_searcher<R>(&self, bytes: usize, work: impl FnOnce(&mut Searcher) -> R) -> R {
+        self.searchers.with(
+            || self.make_searcher(),
+            |own| {
+                own.count(bytes, &self.program.prepared);
+                work(own)
+            },
+        )
     }
 
-    /// Takes a searcher for all matches of a haystack.
+    /// Takes a searcher for all matches of a haystack of so many bytes.
     #[inline]
-    pub(crate) fn searches(&self) -> Searches<'_> {
-        Searches(self.searchers.take(|| self.make_searcher()))
+    pub(crate) fn searches(&self, bytes: usize) -> Searches<'_> {
+        let mut own = self.searchers.take(|| self.make_searcher());
+        own.value().count(bytes, &self.program.prepared);
+        Searches(own)
     }
 
     fn make_searcher(&self) -> Searcher {
-        Searcher::new(with_locked(&self.program.handle, Handle::share))
+        let program = &self.program;
+        let (regex, bytes_left) = program.prepared.share_either(&program.handle);
+        Searcher::new(regex, bytes_left)
     }
 }
 
@@ -448,7 +471,7 @@ impl Engine {
     ) -> Option<Vec<u8>> {
         let (text, len) = (haystack.as_ptr(), haystack.len());
         let (by, by_len) = (template.as_ptr(), template.len());
-        let mut searches = self.searches();
+        let mut searches = self.searches(len);
         let own = searches.0.value();
         let (regex, cache) = (&mut own.regex.0, &mut own.cache);
         // SAFETY: both handles are borrowed exclusively, two pointers are of slices, and the last of a buffer.
@@ -482,6 +505,9 @@ fn room_for(haystack: &[u8], limit: usize, template: &[u8], groups: usize) -> us
         .saturating_add(pieces);
     most.min(len.saturating_mul(16).saturating_add(SHORT))
 }
+
+/// How many bytes a search from one offset alone is counted as, which stops at the end of what it matches.
+const LEXEME: usize = 16;
 
 /// A group that did not participate.
 pub(crate) const ABSENT: BitesSpan = BitesSpan {

@@ -1,10 +1,11 @@
 //! The engine's calls about sets of patterns, in safe Rust.
 
 use super::handle::Settings;
+use super::table::{Prepared, TableSize, WithTable, BYTES_BEFORE_OF_SET};
 use super::text::give_up;
 use crate::error::Error;
-use crate::pool::{with_locked, Pool};
-use crate::sys::{self, BitesSet};
+use crate::pool::Pool;
+use crate::sys::{self, BitesSet, BitesTable};
 use std::sync::{Arc, Mutex};
 
 /// A handle of a set, which is freed with it.
@@ -20,6 +21,7 @@ impl SetHandle {
             flags,
             size_limit,
             nest_limit,
+            dfa_size_limit: _,
         } = settings;
         let all = patterns.concat();
         let mut end = 0;
@@ -45,18 +47,43 @@ impl SetHandle {
         };
         match answer.code {
             sys::DONE => Ok(handle),
-            code => Err(Error::of_pattern(code, answer.size)),
+            code => {
+                let refused = patterns.get(answer.size).map_or("", String::as_str);
+                let error = Error::of_pattern(code, answer.size);
+                Err(error.about(refused, settings))
+            }
         }
     }
 
-    /// Returns another handle of this set.
+    /// Returns the handle after a call that made it.
+    fn or_give_up(self, code: u32) -> SetHandle {
+        match code {
+            sys::DONE => self,
+            code => give_up(code),
+        }
+    }
+}
+
+impl WithTable for SetHandle {
     fn share(&mut self) -> SetHandle {
         let mut handle = SetHandle(BitesSet::EMPTY);
         // SAFETY: both handles are borrowed exclusively, and are two.
-        match unsafe { sys::bites_set_clone(&mut self.0, &mut handle.0) } {
-            sys::DONE => handle,
-            code => give_up(code),
-        }
+        let code = unsafe { sys::bites_set_clone(&mut self.0, &mut handle.0) };
+        handle.or_give_up(code)
+    }
+
+    fn prepared(&mut self, limit: usize) -> SetHandle {
+        let mut handle = SetHandle(BitesSet::EMPTY);
+        // SAFETY: both handles are borrowed exclusively, and are two.
+        let code = unsafe { sys::bites_set_prepare(&mut self.0, limit, &mut handle.0) };
+        handle.or_give_up(code)
+    }
+
+    fn table_size(&mut self) -> BitesTable {
+        let mut size = BitesTable::NONE;
+        // SAFETY: the handle is borrowed exclusively, and the size is a local.
+        unsafe { sys::bites_set_table_size(&mut self.0, &mut size) };
+        size
     }
 }
 
@@ -70,20 +97,28 @@ impl Drop for SetHandle {
 /// What a set shares with its clones.
 struct Programs {
     handle: Mutex<SetHandle>,
+    prepared: Prepared<SetHandle>,
     patterns: Vec<String>,
 }
 
-/// A compiled set with what its searches need. A clone shares the programs and has handles of its own.
+/// What one thread at a time searches with.
+struct SetSearcher {
+    set: SetHandle,
+    /// After how many bytes it asks for the tables; `None` if it has them, or never asks.
+    bytes_left: Option<usize>,
+}
+
+/// A compiled set with what its searches need. A clone shares the programs and has searchers of its own.
 pub(crate) struct SetEngine {
     programs: Arc<Programs>,
-    handles: Pool<SetHandle>,
+    searchers: Pool<SetSearcher>,
 }
 
 impl Clone for SetEngine {
     fn clone(&self) -> SetEngine {
         SetEngine {
             programs: Arc::clone(&self.programs),
-            handles: Pool::new(),
+            searchers: Pool::new(),
         }
     }
 }
@@ -93,11 +128,12 @@ impl SetEngine {
         let handle = SetHandle::new(&patterns, settings)?;
         let programs = Programs {
             handle: Mutex::new(handle),
+            prepared: Prepared::new(settings.dfa_size_limit, BYTES_BEFORE_OF_SET),
             patterns,
         };
         Ok(SetEngine {
             programs: Arc::new(programs),
-            handles: Pool::new(),
+            searchers: Pool::new(),
         })
     }
 
@@ -106,11 +142,17 @@ impl SetEngine {
         &self.programs.patterns
     }
 
+    /// Returns how large the tables are together, if they are made.
+    pub(crate) fn table_size(&self) -> Option<TableSize> {
+        self.programs.prepared.size()
+    }
+
     pub(crate) fn is_match_at(&self, haystack: &[u8], start: usize) -> bool {
         let (text, len) = (haystack.as_ptr(), haystack.len());
         // SAFETY: the handle is borrowed exclusively, and the haystack is a slice.
-        let code = self
-            .with_handle(|set| unsafe { sys::bites_set_is_match_at(&mut set.0, text, len, start) });
+        let code = self.with_set(len.saturating_sub(start), |set| unsafe {
+            sys::bites_set_is_match_at(set, text, len, start)
+        });
         found(code)
     }
 
@@ -120,16 +162,26 @@ impl SetEngine {
         let (text, len) = (haystack.as_ptr(), haystack.len());
         let (out, room) = (matched.as_mut_ptr(), matched.len());
         // SAFETY: the handle is borrowed exclusively, and both pointers are of slices.
-        let answer = self.with_handle(|set| unsafe {
-            sys::bites_set_matches_at(&mut set.0, text, len, start, out, room)
+        let answer = self.with_set(len.saturating_sub(start), |set| unsafe {
+            sys::bites_set_matches_at(set, text, len, start, out, room)
         });
         found(answer.code)
     }
 
+    /// Calls `work`, which may search so many bytes.
     #[inline]
-    fn with_handle<R>(&self, work: impl FnOnce(&mut SetHandle) -> R) -> R {
-        let make = || with_locked(&self.programs.handle, SetHandle::share);
-        self.handles.with(make, work)
+    fn with_set<R>(&self, bytes: usize, work: impl FnOnce(&mut BitesSet) -> R) -> R {
+        let Programs {
+            handle, prepared, ..
+        } = &*self.programs;
+        let make = || {
+            let (set, bytes_left) = prepared.share_either(handle);
+            SetSearcher { set, bytes_left }
+        };
+        self.searchers.with(make, |own| {
+            prepared.count(bytes, &mut own.bytes_left, &mut own.set);
+            work(&mut own.set.0)
+        })
     }
 }
 

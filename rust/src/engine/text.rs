@@ -1,5 +1,6 @@
 //! Texts that the engine writes, and the messages of its errors.
 
+use super::handle::Settings;
 use crate::sys::{self, BitesSize};
 use std::io::{self, Write};
 use std::mem::MaybeUninit;
@@ -87,6 +88,18 @@ pub(crate) fn message(code: u32) -> &'static str {
         })
     });
     text.map_or("", String::as_str)
+}
+
+/// Returns the number of bytes before the place that the message of a refused pattern is about, if it is about one.
+pub(crate) fn error_at(pattern: &str, settings: Settings) -> Option<usize> {
+    let mut offset = sys::NONE;
+    let (text, len) = (pattern.as_ptr(), pattern.len());
+    let Settings {
+        flags, nest_limit, ..
+    } = settings;
+    // SAFETY: the pattern is a text, and the offset a local.
+    unsafe { sys::bites_error_at(text, len, flags, nest_limit, &mut offset) };
+    (offset != sys::NONE).then_some(offset)
 }
 
 /// Writes as much of the message of an error's number as there is room for. Returns the length of the whole message.

@@ -28,6 +28,7 @@ mod replacer {
     }
 }
 
+pub use crate::engine::TableSize;
 pub use captures::{CaptureLocations, Captures, Match};
 pub use iterators::{CaptureMatches, CaptureNames, Matches, Split, SplitN, SubCaptureMatches};
 pub use replacer::{NoExpand, Replacer, ReplacerRef};

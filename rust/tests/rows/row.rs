@@ -17,6 +17,8 @@ pub struct Row {
     pub number: usize,
     pub template: Vec<u8>,
     pub wanted: String,
+    /// Where a row says that a refusal stands: an offset, or `none` or `-` for none.
+    pub offset: Option<String>,
 }
 
 /// Returns all rows of a table.
@@ -35,7 +37,8 @@ pub fn read(path: &Path) -> Vec<Row> {
 
 fn row(place: String, line: &str) -> Row {
     let columns: Vec<&str> = line.split('\t').collect();
-    let [_, call, _, flags, size, nest, pattern, haystack, number, template, wanted, _] =
+    let ([_, call, _, flags, size, nest, pattern, haystack, number, template, wanted, _]
+    | [_, call, _, flags, size, nest, pattern, haystack, number, template, wanted, _, _]) =
         columns[..]
     else {
         panic!("{place} has {} columns", columns.len());
@@ -51,6 +54,7 @@ fn row(place: String, line: &str) -> Row {
         number: number_of(number).unwrap_or(0),
         template: unescaped(template),
         wanted: wanted.into(),
+        offset: columns.get(12).map(|offset| offset.to_string()),
         place,
     }
 }

@@ -32,6 +32,19 @@ fn joined(parts: Vec<String>, by: &str) -> String {
     parts.join(by)
 }
 
+/// Returns the message of an error, with its offset if that is not the one of the row.
+fn refused(row: &Row, error: &regex_bites::Error) -> String {
+    let offset = error.offset().map(|offset| offset.to_string());
+    let wanted = row
+        .offset
+        .clone()
+        .filter(|wanted| wanted.parse::<usize>().is_ok());
+    match &row.offset {
+        Some(_) if offset != wanted => format!("err: {error}, at {offset:?}"),
+        _ => format!("err: {error}"),
+    }
+}
+
 fn new(bytes: &[u8]) -> String {
     format!("new:{}", escaped(bytes))
 }
@@ -50,7 +63,7 @@ macro_rules! surface {
                     return vec![least_size(row, pattern)];
                 }
                 match builder(row, pattern).build() {
-                    Err(error) => vec![format!("err: {error}")],
+                    Err(error) => vec![refused(row, &error)],
                     Ok(regex) => asked(row, &regex, haystack, template),
                 }
             }

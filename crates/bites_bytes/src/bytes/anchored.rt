@@ -52,7 +52,7 @@ impl Regex {
         requires { cache.old.fits ≡ fit_of self.now.program }
         ensures found { FindsMatch self.now haystack.now (start_alone haystack.now start)
             (option_map excerpt_of result) }
-        ensures searched { Searched self.now.program haystack.now start (start_alone haystack.now start)
+        ensures searched { Searched self.now haystack.now start (start_alone haystack.now start)
             (is_some result) cache.old cache.new }
     {
         let input = Input {
@@ -87,7 +87,7 @@ impl Regex {
     ) -> bool
         requires { cache.old.fits ≡ fit_of self.now.program }
         ensures found { IsTrue result ↔ HasMatch self.now.tree haystack.now (start_alone haystack.now start) }
-        ensures searched { Searched self.now.program haystack.now start (start_alone haystack.now start)
+        ensures searched { Searched self.now haystack.now start (start_alone haystack.now start)
             result cache.old cache.new }
     {
         let input = Input {
@@ -123,7 +123,7 @@ impl Regex {
     ) -> Result<Option<Captures<'h>>, AllocError>
         requires { cache.old.fits ≡ fit_of self.now.program }
         ensures found { IfOk result (FindsCaptured self.now haystack.now (start_alone haystack.now start)) }
-        ensures searched { IfOk result (λ c. Searched self.now.program haystack.now start
+        ensures searched { IfOk result (λ c. Searched self.now haystack.now start
             (start_alone haystack.now start) (is_some c) cache.old cache.new) }
         ensures fits { cache.new.fits ≡ cache.old.fits }
     {
@@ -152,7 +152,7 @@ impl Regex {
         requires locations { length locations.old ≡ self.now.program.slots }
         ensures read { ReadsGroups self.now haystack.now (start_alone haystack.now start)
             (option_map excerpt_of result) locations.old locations.new }
-        ensures searched { Searched self.now.program haystack.now start (start_alone haystack.now start)
+        ensures searched { Searched self.now haystack.now start (start_alone haystack.now start)
             (is_some result) cache.old cache.new }
     {
         let input = Input {
@@ -180,7 +180,7 @@ impl Regex {
     pub fn is_full_match_with(&self, cache: &mut Cache, haystack: &[u8]) -> bool
         requires { cache.old.fits ≡ fit_of self.now.program }
         ensures found { IsTrue result ↔ IsFullMatch self.now.tree haystack.now }
-        ensures searched { SearchedWithin self.now.program haystack.now 0 cache.old cache.new }
+        ensures searched { SearchedWithin self.now haystack.now 0 cache.old cache.new }
     {
         cache.find_full(self, haystack, &mut [None; 2])
     }
@@ -211,7 +211,7 @@ impl Regex {
     ) -> Result<Option<Captures<'h>>, AllocError>
         requires { cache.old.fits ≡ fit_of self.now.program }
         ensures found { IfOk result (FindsCapturedFull self.now haystack.now) }
-        ensures searched { OnOk result (SearchedWithin self.now.program haystack.now 0 cache.old cache.new) }
+        ensures searched { OnOk result (SearchedWithin self.now haystack.now 0 cache.old cache.new) }
         ensures fits { cache.new.fits ≡ cache.old.fits }
     {
         Captures::find_full(self, cache, haystack)

@@ -1,6 +1,6 @@
 //! The builder of regexes.
 
-ghost use Rattle.std.specs.Prelude.{◌≡◌, ◌≢◌, ◌*◌, IfOk, IfErr, MatchOption, OnOk, chars, length, string_bytes};
+ghost use Rattle.std.specs.Prelude.{◌≡◌, ◌≢◌, ◌*◌, false, IfOk, IfErr, MatchOption, OnOk, chars, length, string_bytes};
 ghost use Rattle.bites_spec.specs.Measure as measure;
 ghost use Rattle.bites_spec.specs.Measure.{HasItsGroups, TreeLimitsWith, groups_opened, static_captures_len};
 ghost use Rattle.bites_spec.specs.Grammar.{Reading};
@@ -30,11 +30,15 @@ const SIZE_LIMIT: usize = 10 * (1 << 20);
 /// The default of [`RegexBuilder::nest_limit`].
 const NEST_LIMIT: u32 = 50;
 
-// The limits on the size of a program and on the height of a tree.
+/// The default of [`RegexBuilder::dfa_size_limit`], in bytes.
+const DFA_SIZE_LIMIT: usize = 1 << 20;
+
+// The limits on the size of a program, on the height of a tree, and on the bytes of a table.
 #[derive(Clone, Copy, Debug)]
 struct Limits {
     size: usize,
     nest: u32,
+    dfa_size: usize,
 }
 
 /// A builder of regexes: a pattern with flags and limits.
@@ -55,6 +59,7 @@ pub struct RegexBuilder {
     limits: Limits,
     keep_dropped_groups: bool,
     leftmost_longest: bool,
+    prefilter: bool,
 }
 
 impl Model for RegexBuilder {
@@ -65,12 +70,12 @@ impl Model for RegexBuilder {
     ghost Value = { Settings };
 
     ghost view = { λ a. settings (string_bytes a.pattern) (flags_of a.flags)
-        a.limits.size a.limits.nest a.keep_dropped_groups a.leftmost_longest };
+        a.limits.size a.limits.nest a.limits.dfa_size a.keep_dropped_groups a.leftmost_longest a.prefilter };
 }
 
 impl RegexBuilder {
-    /// Returns a builder for this pattern, with all flags off, a size limit of 10 MiB (10485760) and a nesting limit
-    /// of 50. The pattern is not read yet.
+    /// Returns a builder for this pattern, with all flags off, a size limit of 10 MiB (10485760), a nesting limit of 50,
+    /// and a limit of 1 MiB (1048576) for the table. The pattern is not read yet.
     ///
     /// The error is out of memory for a copy of the pattern.
     pub fn new(alloc: Global, pattern: &str) -> Result<RegexBuilder, Error>
@@ -84,9 +89,11 @@ impl RegexBuilder {
             limits: Limits {
                 size: SIZE_LIMIT,
                 nest: NEST_LIMIT,
+                dfa_size: DFA_SIZE_LIMIT,
             },
             keep_dropped_groups: false,
             leftmost_longest: false,
+            prefilter: false,
         })
     }
 
@@ -179,6 +186,23 @@ impl RegexBuilder {
         self
     }
 
+    /// Sets how many bytes the table of thread lists may take that a build makes for the searches. The default is 1 MiB
+    /// (1048576), which ordinary patterns stay far below. With 0 no table is made.
+    ///
+    /// The limit changes the time of a build and of searches, and never what they return. What the table doesn't know
+    /// is explored by the search itself. If memory runs out for the table, the regex is built without one.
+    pub fn dfa_size_limit(&mut self, limit: usize) -> &mut RegexBuilder
+        ensures same { result.ghost_name ≡ self.entry.ghost_name }
+        ensures set { result.now ≡ record self.old { dfa_size_limit = limit } }
+    {
+        self.limits.dfa_size = limit;
+        self
+    }
+
+    pub(super) fn table_limit(&self) -> usize {
+        self.limits.dfa_size
+    }
+
     /// Sets whether groups are kept that the tree of the pattern drops, as it does for `(a){0}`. Off by default.
     ///
     /// A group that is kept has its number and its name, and counts for the size limit. It never participates in a
@@ -213,6 +237,19 @@ impl RegexBuilder {
         self
     }
 
+    /// Sets whether searches look for a literal first that each match holds, if the pattern has one. Off by default.
+    ///
+    /// It changes the time of searches, and never what they return. A search looks for the literal from its start on,
+    /// many bytes at a time, and explores the states of the program from the first place from which a match can hold it.
+    /// Without the literal nothing matches. Searches at one offset and for matches of the whole haystack don't look for it.
+    pub fn prefilter(&mut self, yes: bool) -> &mut RegexBuilder
+        ensures same { result.ghost_name ≡ self.entry.ghost_name }
+        ensures set { result.now ≡ record self.old { prefilter = yes } }
+    {
+        self.prefilter = yes;
+        self
+    }
+
     /// Returns a builder for another pattern, with the same flags, limits and options.
     ///
     /// The error is out of memory for a copy of the pattern.
@@ -226,11 +263,12 @@ impl RegexBuilder {
             limits: self.limits,
             keep_dropped_groups: self.keep_dropped_groups,
             leftmost_longest: self.leftmost_longest,
+            prefilter: self.prefilter,
         })
     }
 
-    /// Returns a regex of this pattern, in time linear in the pattern and the size limit, except for the sorting of
-    /// classes and of group names.
+    /// Returns a regex of this pattern, in time linear in the pattern, the size limit and the limit of the table, except
+    /// for the sorting of classes and of group names.
     ///
     /// The error is the message of the pattern's first fault, or of the first limit that the pattern exceeds, or out
     /// of memory. A refused build leaves the builder unchanged, and it may be used again.
@@ -241,7 +279,9 @@ impl RegexBuilder {
         ensures kept { IfOk result (λ r. (r.pattern ≡ self.now.pattern)
             × (r.flags ≡ self.now.flags)
             × (r.keep_dropped_groups ≡ self.now.keep_dropped_groups)
-            × (r.leftmost_longest ≡ self.now.leftmost_longest)) }
+            × (r.leftmost_longest ≡ self.now.leftmost_longest)
+            × (r.prefilter ≡ self.now.prefilter)) }
+        ensures table { IfOk result (λ r. self.now.dfa_size_limit ≡ 0 → r.has_table ≡ false) }
         ensures accepted { IfOk result (λ r. Accepts self.now r.tree) }
         ensures refused { IfErr result (λ e. e ≢ Error.Memory → (t : Tree) →
             Accepts self.now t → ⊥) }
@@ -258,7 +298,8 @@ impl RegexBuilder {
     pub fn into_regex(self) -> Result<Regex, Error>
         ensures kept { IfOk result (λ r. (r.pattern ≡ self.pattern) × (r.flags ≡ self.flags)
             × (r.keep_dropped_groups ≡ self.keep_dropped_groups)
-            × (r.leftmost_longest ≡ self.leftmost_longest)) }
+            × (r.leftmost_longest ≡ self.leftmost_longest) × (r.prefilter ≡ self.prefilter)) }
+        ensures table { IfOk result (λ r. self.dfa_size_limit ≡ 0 → r.has_table ≡ false) }
         ensures accepted { IfOk result (λ r. Accepts self r.tree) }
         ensures refused { IfErr result (λ e. e ≢ Error.Memory → (t : Tree) →
             Accepts self t → ⊥) }
@@ -320,7 +361,8 @@ impl RegexBuilder {
         requires compilable { IsCompilable tree.now }
         ensures kept { IfOk result (λ r. (r.pattern ≡ self.pattern) × (r.flags ≡ self.flags)
             × (r.keep_dropped_groups ≡ self.keep_dropped_groups)
-            × (r.leftmost_longest ≡ self.leftmost_longest)) }
+            × (r.leftmost_longest ≡ self.leftmost_longest) × (r.prefilter ≡ self.prefilter)) }
+        ensures table { IfOk result (λ r. self.dfa_size_limit ≡ 0 → r.has_table ≡ false) }
         ensures accepted { IfOk result (λ r. Accepts self r.tree) }
         ensures refused { IfErr result (λ e. e ≢ Error.Memory → (t : Tree) →
             Accepts self t → ⊥) }
@@ -333,10 +375,12 @@ impl RegexBuilder {
             limits,
             keep_dropped_groups: keep,
             leftmost_longest,
+            prefilter,
         } = self;
         let program = compile_kept(alloc, tree, groups, keep, limits.size)?;
         let program = program.with_pattern(pattern);
-        Regex::from_parts(alloc, tree, flags, keep, leftmost_longest, program)
+        let regex = Regex::from_parts(alloc, tree, flags, keep, leftmost_longest, program)?;
+        Ok(regex.with_table(limits.dfa_size).with_prefilter(prefilter))
     }
 }
 
@@ -378,6 +422,7 @@ impl fmt::Debug for RegexBuilder {
             .field("limits", &self.limits)
             .field("keep_dropped_groups", &self.keep_dropped_groups)
             .field("leftmost_longest", &self.leftmost_longest)
+            .field("prefilter", &self.prefilter)
             .finish()
     }
 }

@@ -2,7 +2,7 @@
 
 ghost use Rattle.std.specs.Prelude.{◌≡◌, ◌⊎◌, ◌↔◌, ◌≤◌, ◌<◌, ◌+◌, ◌^◌, length, option_map, is_some, IsTrue, IfOk, Some};
 ghost use Rattle.bites_spec.specs.Counts.{fit_of, IsSlotCount};
-ghost use Rattle.bites_bytes.specs.Calls.{Searched, SearchedWithin};
+ghost use Rattle.bites_bytes.specs.Calls.{SearchedWithin};
 ghost use Rattle.bites_spec.specs.Captured.{FindsMatch};
 ghost use Rattle.bites_spec.specs.Match.{span};
 ghost use Rattle.bites_spec.specs.Slots.{slot_in, group_in};
@@ -13,11 +13,13 @@ ghost use Rattle.bites_spec.specs.Full.{full_run};
 ghost use Rattle.bites_spec.specs.Utf8.{step_len};
 ghost use Rattle.bites_machine.specs.declared.vm.MatchKind.TheVariants.{Earliest};
 ghost use Rattle.bites_bytes.specs.Matched.{excerpt_of};
-ghost use Rattle.bites_bytes.specs.NextMatch.{kind_of, starts_in, FindsNextRun, IsSearched, LeavesRun};
+ghost use Rattle.bites_bytes.specs.NextMatch.{kind_of, starts_in, FindsNextRun, IsExplored, IsSearched, LeavesRun, SearchedAs};
 
 use crate::bytes::{Match, Regex};
 use bites_machine::program::Program;
-use bites_machine::vm::{self, Input, MatchKind};
+use bites_machine::vm::{Input, MatchKind};
+use bites_table::cache;
+use bites_table::search::search_input;
 use bites_text::utf8::decode_lossy;
 use std::alloc::AllocError;
 use std::fmt;
@@ -29,7 +31,7 @@ use std::marker::Model;
 ///
 /// For proofs: a contract sees which regexes it fits, and what the last search visited.
 pub struct Cache {
-    room: vm::Cache,
+    room: cache::Cache,
 }
 
 // A caller that drops one relies on this function, and on no type below it.
@@ -52,18 +54,39 @@ impl Cache {
         ensures { IfOk result (λ c. c.fits ≡ fit_of program.now.program) }
     {
         Ok(Cache {
-            room: vm::Cache::new(program)?,
+            room: cache::Cache::new(program)?,
         })
     }
 
     // Searches as the input asks, and returns whether it finds a match. Writes the slots of the match, as many as are
     // given; without a match they are unchanged.
+    //
+    // All searches after one another look at a byte for a literal once: a match from there on holds the literal, so the next
+    // search begins behind it.
     fn search(&mut self, regex: &Regex, input: &Input<'_>, slots: &mut [Option<usize>]) -> bool
         requires fits { self.old.fits ≡ fit_of regex.now.program }
         requires slots { IsSlotCount regex.now.program (length slots.old) }
         ensures { IsSearched regex.now input.now result slots.old slots.new self.old self.new }
     {
-        vm::search_input(regex.program(), &mut self.room, input, slots)
+        if input.anchored {
+            return self.explore(regex, input, slots);
+        }
+        let later = Input {
+            haystack: input.haystack,
+            start: regex.begin(input.haystack, input.start),
+            anchored: false,
+            kind: input.kind,
+        };
+        self.explore(regex, &later, slots)
+    }
+
+    // Searches from the start of the input on, with the table of the regex if there is one.
+    fn explore(&mut self, regex: &Regex, input: &Input<'_>, slots: &mut [Option<usize>]) -> bool
+        requires fits { self.old.fits ≡ fit_of regex.now.program }
+        requires slots { IsSlotCount regex.now.program (length slots.old) }
+        ensures { IsExplored regex.now input.now result slots.old slots.new self.old self.new }
+    {
+        search_input(regex.program(), regex.table(), &mut self.room, input, slots)
     }
 
     // Returns the match of the kind that the regex searches for, and writes its slots, as many as are given. Without a
@@ -82,8 +105,8 @@ impl Cache {
         ensures answered { Answered regex.now.program (run_at regex.now input.now.haystack.now (starts_in input.now))
             (is_some result) slots.old slots.new }
         ensures compiled { IsCompiled regex.now }
-        ensures searched { Searched regex.now.program input.now.haystack.now input.now.start (starts_in input.now)
-            (is_some result) self.old self.new }
+        ensures searched { SearchedAs regex.now input.now (is_some result) self.old self.new }
+        ensures fits { self.new.fits ≡ self.old.fits }
     {
         if !self.search(regex, input, slots) {
             return None;
@@ -96,8 +119,7 @@ impl Cache {
         requires fits { self.old.fits ≡ fit_of regex.now.program }
         requires kind { input.now.kind ≡ Earliest }
         ensures found { IsTrue result ↔ HasMatch regex.now.tree input.now.haystack.now (starts_in input.now) }
-        ensures searched { Searched regex.now.program input.now.haystack.now input.now.start (starts_in input.now)
-            result self.old self.new }
+        ensures searched { SearchedAs regex.now input.now result self.old self.new }
     {
         self.search(regex, input, &mut [])
     }
@@ -107,8 +129,7 @@ impl Cache {
         requires fits { self.old.fits ≡ fit_of regex.now.program }
         requires kind { input.now.kind ≡ Earliest }
         ensures least { IsLeastEnd regex.now.tree input.now.haystack.now (starts_in input.now) result }
-        ensures searched { Searched regex.now.program input.now.haystack.now input.now.start (starts_in input.now)
-            (is_some result) self.old self.new }
+        ensures searched { SearchedAs regex.now input.now (is_some result) self.old self.new }
     {
         let mut slots = [None; 2];
         if !self.search(regex, input, &mut slots) {
@@ -170,7 +191,7 @@ impl Cache {
         ensures full { LeavesRun regex.now.program (full_run regex.now haystack.now) result
             (length slots.old) slots.new }
         ensures compiled { IsCompiled regex.now }
-        ensures searched { SearchedWithin regex.now.program haystack.now 0 self.old self.new }
+        ensures searched { SearchedWithin regex.now haystack.now 0 self.old self.new }
     {
         let input = Input {
             haystack,

@@ -4,11 +4,11 @@ ghost use Rattle.std.specs.Prelude.{◌≡◌, ◌+◌, ◌/◌, length, map, ta
 ghost use Rattle.bites_spec.specs.Measure.{static_captures_len};
 ghost use Rattle.bites_spec.specs.Slots.{group_in, participating};
 ghost use Rattle.bites_spec.specs.Counts.{fit_of};
-ghost use Rattle.bites_bytes.specs.Calls.{Searched, SearchedWithin, FindsCaptured, FindsCapturedFull};
+ghost use Rattle.bites_bytes.specs.Calls.{SearchedFrom, SearchedWithin, FindsCaptured, FindsCapturedFull};
 ghost use Rattle.bites_spec.specs.Pieces.{text_at};
 ghost use Rattle.bites_spec.specs.Captured.{AreGroups, captured, excerpt};
 ghost use Rattle.bites_spec.specs.Utf8.{places};
-ghost use Rattle.bites_bytes.specs.NextMatch.{kind_of, starts_in};
+ghost use Rattle.bites_bytes.specs.NextMatch.{kind_of, starts_in, SearchedAs};
 
 use crate::bytes::regex::Compiled;
 use crate::bytes::{Cache, CaptureLocations, CaptureNames, Match, Regex, SubCaptureMatches};
@@ -18,6 +18,7 @@ use bites_machine::vm::Input;
 use std::alloc::AllocError;
 use std::fmt;
 use std::marker::Model;
+use std::snapshot::Snapshot;
 use std::sync::Arc;
 
 /// The groups of a match. Group 0 participates; any other may or may not.
@@ -29,6 +30,10 @@ pub struct Captures<'h> {
     compiled: Arc<Compiled>,
     haystack: &'h [u8],
     locations: CaptureLocations,
+    // For proofs: whether the regex has a table, and whether its searches look for a literal first. These take no memory, and
+    // only contracts speak of them.
+    has_table: Snapshot<bool>,
+    prefilter: Snapshot<bool>,
 }
 
 // A caller that drops one relies on this function, and on no type below it.
@@ -38,6 +43,8 @@ impl<'h> Drop for Captures<'h> {
             compiled: _,
             haystack: _,
             locations: _,
+            has_table: _,
+            prefilter: _,
         } = self;
     }
 }
@@ -46,14 +53,18 @@ impl<'h> Model for Captures<'h> {
     ghost use Rattle.std.specs.Coded.{codes};
     ghost use Rattle.bites_syntax.specs.TreeCode.{tree_code};
     ghost use Rattle.bites_spec.specs.Captured as spec;
+    ghost use Rattle.bites_spec.specs.Regex.{with_prefilter, with_table};
 
     ghost Value = { spec.Captured };
 
     ghost coded = { Prim.hlevel (codes, tree_code) };
 
-    ghost view = { λ a. spec.captured a.compiled.value a.haystack.now a.locations };
+    ghost view = { λ a. spec.captured (with_prefilter a.prefilter.value (with_table a.has_table.value a.compiled.value))
+        a.haystack.now a.locations };
 
-    ghost invariant = { λ a. spec.AreGroups a.compiled.value a.haystack.now a.locations };
+    ghost invariant = { λ a.
+        spec.AreGroups (with_prefilter a.prefilter.value (with_table a.has_table.value a.compiled.value))
+        a.haystack.now a.locations };
 }
 
 impl<'h> Captures<'h> {
@@ -71,8 +82,7 @@ impl<'h> Captures<'h> {
         requires fits { cache.old.fits ≡ fit_of regex.now.program }
         requires kind { input.now.kind ≡ kind_of regex.now }
         ensures found { IfOk result (FindsCaptured regex.now input.now.haystack.now (starts_in input.now)) }
-        ensures searched { IfOk result (λ c. Searched regex.now.program input.now.haystack.now input.now.start
-            (starts_in input.now) (is_some c) cache.old cache.new) }
+        ensures searched { IfOk result (λ c. SearchedAs regex.now input.now (is_some c) cache.old cache.new) }
         ensures fits { cache.new.fits ≡ cache.old.fits }
     {
         let mut locations = regex.capture_locations()?;
@@ -84,6 +94,8 @@ impl<'h> Captures<'h> {
             compiled,
             haystack: input.haystack,
             locations,
+            has_table: regex.has_table(),
+            prefilter: regex.prefilter(),
         }))
     }
 
@@ -95,7 +107,7 @@ impl<'h> Captures<'h> {
     ) -> Result<Option<Captures<'h>>, AllocError>
         requires { cache.old.fits ≡ fit_of regex.now.program }
         ensures found { IfOk result (FindsCapturedFull regex.now haystack.now) }
-        ensures searched { OnOk result (SearchedWithin regex.now.program haystack.now 0 cache.old cache.new) }
+        ensures searched { OnOk result (SearchedWithin regex.now haystack.now 0 cache.old cache.new) }
         ensures fits { cache.new.fits ≡ cache.old.fits }
     {
         let mut locations = regex.capture_locations()?;
@@ -107,6 +119,8 @@ impl<'h> Captures<'h> {
             compiled,
             haystack,
             locations,
+            has_table: regex.has_table(),
+            prefilter: regex.prefilter(),
         }))
     }
 
@@ -123,6 +137,8 @@ impl<'h> Captures<'h> {
             compiled: regex.compiled().clone()?,
             haystack,
             locations: locations.clone()?,
+            has_table: regex.has_table(),
+            prefilter: regex.prefilter(),
         })
     }
 
@@ -323,8 +339,7 @@ impl Regex {
     ) -> Result<Option<Captures<'h>>, AllocError>
         requires { cache.old.fits ≡ fit_of self.now.program }
         ensures found { IfOk result (FindsCaptured self.now haystack.now (places haystack.now 0)) }
-        ensures searched { IfOk result (λ c. Searched self.now.program haystack.now 0 (places haystack.now 0)
-            (is_some c) cache.old cache.new) }
+        ensures searched { IfOk result (λ c. SearchedFrom self.now haystack.now 0 (is_some c) cache.old cache.new) }
         ensures fits { cache.new.fits ≡ cache.old.fits }
     {
         self.captures_at_with(cache, haystack, 0)
@@ -339,8 +354,7 @@ impl Regex {
     ) -> Result<Option<Captures<'h>>, AllocError>
         requires { cache.old.fits ≡ fit_of self.now.program }
         ensures found { IfOk result (FindsCaptured self.now haystack.now (places haystack.now start)) }
-        ensures searched { IfOk result (λ c. Searched self.now.program haystack.now start (places haystack.now start)
-            (is_some c) cache.old cache.new) }
+        ensures searched { IfOk result (λ c. SearchedFrom self.now haystack.now start (is_some c) cache.old cache.new) }
         ensures fits { cache.new.fits ≡ cache.old.fits }
     {
         let input = Input {

@@ -3,7 +3,7 @@
 ghost use Rattle.std.specs.Prelude.{◌≡◌, ◌↔◌, IsTrue, IfOk};
 ghost use Rattle.bites_spec.specs.Found.{HasMatch};
 ghost use Rattle.bites_spec.specs.Counts.{fit_of};
-ghost use Rattle.bites_bytes.specs.Calls.{Searched};
+ghost use Rattle.bites_bytes.specs.Calls.{SearchedFrom};
 ghost use Rattle.bites_spec.specs.Utf8.{places};
 
 use crate::bytes::{Cache, Regex};
@@ -43,7 +43,7 @@ impl Regex {
     pub fn is_match_with(&self, cache: &mut Cache, haystack: &[u8]) -> bool
         requires { cache.old.fits ≡ fit_of self.now.program }
         ensures found { IsTrue result ↔ HasMatch self.now.tree haystack.now (places haystack.now 0) }
-        ensures searched { Searched self.now.program haystack.now 0 (places haystack.now 0) result cache.old cache.new }
+        ensures searched { SearchedFrom self.now haystack.now 0 result cache.old cache.new }
     {
         self.is_match_at_with(cache, haystack, 0)
     }
@@ -54,8 +54,7 @@ impl Regex {
     pub fn is_match_at_with(&self, cache: &mut Cache, haystack: &[u8], start: usize) -> bool
         requires { cache.old.fits ≡ fit_of self.now.program }
         ensures found { IsTrue result ↔ HasMatch self.now.tree haystack.now (places haystack.now start) }
-        ensures searched { Searched self.now.program haystack.now start (places haystack.now start)
-            result cache.old cache.new }
+        ensures searched { SearchedFrom self.now haystack.now start result cache.old cache.new }
     {
         let input = Input {
             haystack,

@@ -4,11 +4,11 @@ ghost use Rattle.std.specs.Prelude.{◌≡◌, ◌/◌, ◌↔◌, None, replica
 ghost use Rattle.bites_spec.specs.Match.{span};
 ghost use Rattle.bites_spec.specs.Slots.{group_in};
 ghost use Rattle.bites_spec.specs.Counts.{fit_of};
-ghost use Rattle.bites_bytes.specs.Calls.{Searched, SearchedWithin, ReadsGroups, ReadsNext};
+ghost use Rattle.bites_bytes.specs.Calls.{SearchedWithin, ReadsGroups, ReadsNext};
 ghost use Rattle.bites_spec.specs.Regex.{IsCompiled};
 ghost use Rattle.bites_spec.specs.Full.{full_slots};
 ghost use Rattle.bites_bytes.specs.Matched.{excerpt_of};
-ghost use Rattle.bites_bytes.specs.NextMatch.{kind_of, starts_in};
+ghost use Rattle.bites_bytes.specs.NextMatch.{kind_of, starts_in, SearchedAs};
 
 use crate::bytes::{Cache, Match, Regex};
 use bites_machine::vm::Input;
@@ -82,8 +82,8 @@ impl CaptureLocations {
         ensures read { ReadsGroups regex.now input.now.haystack.now (starts_in input.now)
             (option_map excerpt_of result) self.old self.new }
         ensures compiled { IsCompiled regex.now }
-        ensures searched { Searched regex.now.program input.now.haystack.now input.now.start (starts_in input.now)
-            (is_some result) cache.old cache.new }
+        ensures searched { SearchedAs regex.now input.now (is_some result) cache.old cache.new }
+        ensures cache { cache.new.fits ≡ cache.old.fits }
     {
         cache.find(regex, input, &mut self.slots)
     }
@@ -114,7 +114,7 @@ impl CaptureLocations {
         ensures found { result ≡ true → full_slots regex.now haystack.now ≡ Some self.new }
         ensures none { result ≡ false → full_slots regex.now haystack.now ≡ None }
         ensures compiled { IsCompiled regex.now }
-        ensures searched { SearchedWithin regex.now.program haystack.now 0 cache.old cache.new }
+        ensures searched { SearchedWithin regex.now haystack.now 0 cache.old cache.new }
     {
         cache.find_full(regex, haystack, &mut self.slots)
     }

@@ -1,21 +1,25 @@
 //! A compiled regular expression and its searches.
 
-ghost use Rattle.std.specs.Prelude.{◌≡◌, ◌≢◌, ◌<◌, ◌/◌, ◌^◌, false, IfOk, IfErr, length};
+ghost use Rattle.std.specs.Prelude.{◌≡◌, ◌≢◌, ◌<◌, ◌≤◌, ◌/◌, ◌^◌, ℕ, Bool, true, false, IfOk, IfErr, IfSome, is_some, length};
 ghost use Rattle.bites_spec.specs.Tree.{Tree, captures_len};
 ghost use Rattle.bites_spec.specs.Measure.{groups_left, static_captures_len};
-ghost use Rattle.bites_spec.specs.Regex.{IsCompiled, NamesAreKept};
+ghost use Rattle.bites_spec.specs.Regex.{IsCompiled, NamesAreKept, with_prefilter, with_table};
 ghost use Rattle.bites_spec.specs.Expansion.{index_in};
 ghost use Rattle.bites_spec.specs.Settings.{Accepts, by_default, no_flags};
+ghost use Rattle.bites_bytes.specs.Calls.{BeginsAt};
 ghost use Rattle.bites_bytes.specs.NextMatch.{kind_of};
 ghost use Rattle.bites_bytes.specs.Parts.{regex_of};
 ghost use Rattle.bites_syntax.specs.FlagsView.{flags_of};
 ghost use Rattle.bites_bytes.specs.Settings.{Refuses};
+ghost use Rattle.bites_table.specs.Packed.{IsTableOf};
 
 use crate::bytes::{CaptureNames, RegexBuilder};
+use bites_literals::prefilter::{Begin, Prefilter};
 use bites_machine::program::Program;
 use bites_machine::vm::MatchKind;
 use bites_syntax::parse::Flags;
 use bites_syntax::tree::Tree;
+use bites_table::table::{Table, TableSize};
 use bites_text::error::Error;
 use std::alloc::{AllocError, Global};
 use std::fmt;
@@ -30,6 +34,8 @@ pub(super) struct Compiled {
     program: Program,
     // Whether searches return the longest match.
     leftmost_longest: bool,
+    // A literal that each match of the tree holds. It takes no memory of its own.
+    prefilter: Option<Prefilter>,
     // For proofs: these take no memory, and only contracts speak of them.
     tree: Snapshot<Tree>,
     keep_dropped_groups: Snapshot<bool>,
@@ -40,8 +46,9 @@ impl Model for Compiled {
     ghost use Rattle.bites_syntax.specs.FlagsView.{flags_of};
     ghost use Rattle.bites_syntax.specs.TreeCode.{tree_code};
     ghost use Rattle.bites_spec.specs.Regex as spec;
-    ghost use Rattle.bites_bytes.specs.NextMatch.{kind_of};
     ghost use Rattle.bites_bytes.specs.Parts.{regex_of};
+    ghost use Rattle.bites_literals.specs.Begins.{IsPrefilter};
+    ghost use Rattle.std.specs.Prelude.{IfSome};
 
     ghost Value = { spec.Regex };
 
@@ -51,7 +58,7 @@ impl Model for Compiled {
         a.keep_dropped_groups.value a.leftmost_longest a.program };
 
     ghost invariant = { λ a. spec.IsCompiled (regex_of (flags_of a.flags) a.tree.value
-        a.keep_dropped_groups.value a.leftmost_longest a.program) };
+        a.keep_dropped_groups.value a.leftmost_longest a.program) × IfSome a.prefilter (IsPrefilter a.tree.value) };
 }
 
 impl Compiled {
@@ -63,6 +70,34 @@ impl Compiled {
         ensures compiled { IsCompiled self.now }
     {
         &self.program
+    }
+
+    // Makes a table of the program of at most so many bytes. Returns `None` for 0, if memory runs out, and if searches
+    // return the longest match, which no table finds.
+    fn make_table(&self, alloc: Global, dfa_size_limit: usize) -> Option<Arc<Table>>
+        ensures of { IfSome result (λ t. IsTableOf self.now.program t.value) }
+        ensures none { dfa_size_limit ≡ 0 → is_some result ≡ false }
+    {
+        if dfa_size_limit == 0 || self.leftmost_longest {
+            return None;
+        }
+        let table = Table::new(alloc, &self.program, dfa_size_limit)?;
+        Arc::new(alloc, table).ok()
+    }
+
+    // Returns the first place from `start` on from which the tree may match, as far as its literal shows. Past the end of the
+    // haystack nothing matches.
+    fn begin(&self, haystack: &[u8], start: usize) -> usize
+        requires { start ≤ length haystack.now }
+        ensures { BeginsAt (with_prefilter true self.now) haystack.now start result }
+    {
+        let Some(prefilter) = &self.prefilter else {
+            return start;
+        };
+        match prefilter.begin(haystack, start) {
+            Begin::From(place) => place,
+            Begin::Nowhere => haystack.len() + 1,
+        }
     }
 
     // Returns whether searches return the longest match.
@@ -105,8 +140,8 @@ impl Compiled {
     }
 }
 
-/// A compiled regular expression, which searches byte strings. A clone shares the program and may go to another
-/// thread.
+/// A compiled regular expression, which searches byte strings. A clone shares the program and its table, and may go to
+/// another thread.
 ///
 /// ```rust
 /// let regex = Regex::new(rt.alloc(), "^.!")?;
@@ -114,10 +149,13 @@ impl Compiled {
 /// assert!(rt; !regex.is_match(b"\xFF\xFF!")?);
 /// ```
 ///
-/// For proofs: a contract sees the pattern, the flags, and the tree that the grammar reads the pattern as.
+/// For proofs: a contract sees the pattern, the flags, the tree that the grammar reads the pattern as, whether there is a
+/// table, and whether searches look for a literal first.
 pub struct Regex {
     alloc: Global,
     compiled: Arc<Compiled>,
+    table: Option<Arc<Table>>,
+    prefilter: bool,
 }
 
 // A caller that drops one relies on this function, and on no type below it.
@@ -126,20 +164,26 @@ impl Drop for Regex {
         let Regex {
             alloc: _,
             compiled: _,
+            table: _,
+            prefilter: _,
         } = self;
     }
 }
 
 impl Model for Regex {
+    ghost use Rattle.std.specs.Prelude.{is_some, IfSome};
     ghost use Rattle.std.specs.Coded.{codes};
     ghost use Rattle.bites_syntax.specs.TreeCode.{tree_code};
     ghost use Rattle.bites_spec.specs.Regex as spec;
+    ghost use Rattle.bites_table.specs.Packed.{IsTableOf};
 
     ghost Value = { spec.Regex };
 
     ghost coded = { Prim.hlevel (codes, tree_code) };
 
-    ghost view = { λ a. a.compiled.value };
+    ghost view = { λ a. spec.with_prefilter a.prefilter (spec.with_table (is_some a.table) a.compiled.value) };
+
+    ghost invariant = { λ a. IfSome a.table (λ t. IsTableOf a.compiled.value.program t.value) };
 }
 
 impl Regex {
@@ -162,7 +206,7 @@ impl Regex {
         RegexBuilder::new(alloc, pattern)?.into_regex()
     }
 
-    // Returns a regex of a tree and its program.
+    // Returns a regex of a tree and its program, without a table. Its searches look for no literal.
     pub(crate) fn from_parts(
         alloc: Global,
         tree: &Tree,
@@ -180,20 +224,121 @@ impl Regex {
             flags,
             program,
             leftmost_longest,
+            prefilter: Prefilter::of(tree),
             tree: Snapshot::of(tree),
             keep_dropped_groups: Snapshot::of(&keep_dropped_groups),
         };
         Ok(Regex {
             alloc,
             compiled: Arc::new(alloc, compiled)?,
+            table: None,
+            prefilter: false,
         })
     }
 
-    // Returns what the regex shares with its clones.
+    // Returns the regex with a table of at most so many bytes, if there is memory for one. With 0 there is none. The
+    // longest match is searched for without a table.
+    pub(crate) fn with_table(self, dfa_size_limit: usize) -> Regex
+        ensures same { (b : Bool) × (result ≡ with_table b self) }
+        ensures none { dfa_size_limit ≡ 0 → result.has_table ≡ false }
+    {
+        let Regex {
+            alloc,
+            compiled,
+            table: _,
+            prefilter,
+        } = self;
+        let table = compiled.make_table(alloc, dfa_size_limit);
+        Regex {
+            alloc,
+            compiled,
+            table,
+            prefilter,
+        }
+    }
+
+    // Returns the regex whose searches look for a literal first, or don't.
+    pub(crate) fn with_prefilter(self, yes: bool) -> Regex
+        ensures { result ≡ with_prefilter yes self }
+    {
+        let Regex {
+            alloc,
+            compiled,
+            table,
+            prefilter: _,
+        } = self;
+        Regex {
+            alloc,
+            compiled,
+            table,
+            prefilter: yes,
+        }
+    }
+
+    // Returns from where a search explores that may begin at `start`.
+    pub(super) fn begin(&self, haystack: &[u8], start: usize) -> usize
+        ensures { BeginsAt self.now haystack.now start result }
+    {
+        if !self.prefilter || start > haystack.len() {
+            return start;
+        }
+        self.compiled.begin(haystack, start)
+    }
+
+    // Returns what the regex shares with its clones, but for the table and the switch of searches for a literal.
     pub(super) fn compiled(&self) -> &Arc<Compiled>
-        ensures { result.now.value ≡ self.now }
+        ensures { self.now ≡ with_prefilter self.now.prefilter (with_table self.now.has_table result.now.value) }
     {
         &self.compiled
+    }
+
+    // Returns the table, if there is one.
+    pub(super) fn table(&self) -> Option<&Table>
+        ensures is { is_some result ≡ self.now.has_table }
+        ensures of { IfSome result (λ t. IsTableOf self.now.program t.now) }
+    {
+        match &self.table {
+            Some(table) => Some(table),
+            None => None,
+        }
+    }
+
+    // For proofs: returns whether there is a table.
+    pub(super) fn has_table(&self) -> Snapshot<bool>
+        ensures { result.value ≡ self.now.has_table }
+    {
+        Snapshot::of(&self.table.is_some())
+    }
+
+    // For proofs: returns whether searches look for a literal first.
+    pub(super) fn prefilter(&self) -> Snapshot<bool>
+        ensures { result.value ≡ self.now.prefilter }
+    {
+        Snapshot::of(&self.prefilter)
+    }
+
+    /// Returns a regex with the same pattern and program, with a table of at most so many bytes as
+    /// [`RegexBuilder::dfa_size_limit`] says, and with the switch of [`RegexBuilder::prefilter`]. It finds the same, and
+    /// caches of the one fit the other.
+    ///
+    /// It shares the program with this regex. The error, out of memory, comes only if the count of clones is full. If
+    /// memory for the table runs out, there is none.
+    pub fn prepared(&self, dfa_size_limit: usize, prefilter: bool) -> Result<Regex, AllocError>
+        ensures same { IfOk result (λ r. (b : Bool) × (r ≡ with_prefilter prefilter (with_table b self.now))) }
+        ensures none { IfOk result (λ r. dfa_size_limit ≡ 0 → r.has_table ≡ false) }
+    {
+        Ok(self.clone()?.with_table(dfa_size_limit).with_prefilter(prefilter))
+    }
+
+    /// Returns how large the table is that searches use, or `None` if there is none: because the limit was 0 or too small,
+    /// because memory ran out, or because searches return the longest match.
+    pub fn table_size(&self) -> Option<TableSize>
+        ensures { is_some result ≡ self.now.has_table }
+    {
+        match self.table() {
+            Some(table) => Some(table.size()),
+            None => None,
+        }
     }
 
     pub(super) fn program(&self) -> &Program
@@ -275,6 +420,8 @@ impl Clone for Regex {
         Ok(Regex {
             alloc: self.alloc,
             compiled: self.compiled.clone()?,
+            table: self.table.clone()?,
+            prefilter: self.prefilter,
         })
     }
 }

@@ -3,7 +3,7 @@
 ghost use Rattle.std.specs.Prelude.{◌≡◌, None, replicate, length, option_map, is_some, IfOk, OnErr};
 ghost use Rattle.bites_spec.specs.Counts.{fit_of};
 ghost use Rattle.bites_spec.specs.Captured.{FindsMatch};
-ghost use Rattle.bites_bytes.specs.Calls.{Searched, ReadsGroups, FindsNext, ReadsNext};
+ghost use Rattle.bites_bytes.specs.Calls.{SearchedFrom, ReadsGroups, FindsNext, ReadsNext};
 ghost use Rattle.bites_spec.specs.Utf8.{places};
 ghost use Rattle.bites_bytes.specs.Matched.{excerpt_of};
 
@@ -84,8 +84,7 @@ impl Regex {
     pub fn find_with<'h>(&self, cache: &mut Cache, haystack: &'h [u8]) -> Option<Match<'h>>
         requires { cache.old.fits ≡ fit_of self.now.program }
         ensures found { FindsMatch self.now haystack.now (places haystack.now 0) (option_map excerpt_of result) }
-        ensures searched { Searched self.now.program haystack.now 0 (places haystack.now 0)
-            (is_some result) cache.old cache.new }
+        ensures searched { SearchedFrom self.now haystack.now 0 (is_some result) cache.old cache.new }
     {
         self.find_at_with(cache, haystack, 0)
     }
@@ -101,8 +100,7 @@ impl Regex {
     ) -> Option<Match<'h>>
         requires { cache.old.fits ≡ fit_of self.now.program }
         ensures found { FindsMatch self.now haystack.now (places haystack.now start) (option_map excerpt_of result) }
-        ensures searched { Searched self.now.program haystack.now start (places haystack.now start)
-            (is_some result) cache.old cache.new }
+        ensures searched { SearchedFrom self.now haystack.now start (is_some result) cache.old cache.new }
     {
         let input = Input {
             haystack,
@@ -122,7 +120,9 @@ impl Regex {
     /// ```rust
     /// let regex = Regex::new(rt.alloc(), "a*")?;
     /// let mut cache = regex.cache()?;
-    /// let next = regex.find_next_with(&mut cache, b"ab", Some(1)).ok_or("no match")?;
+    /// let next = regex
+    ///     .find_next_with(&mut cache, b"ab", Some(1))
+    ///     .ok_or("no match")?;
     /// assert_eq!(rt; next.range(), 2..2);
     /// assert_eq!(rt; regex.find_next_with(&mut cache, b"ab", Some(2)), None);
     /// ```
@@ -195,8 +195,7 @@ impl Regex {
         requires locations { length locations.old ≡ self.now.program.slots }
         ensures read { ReadsGroups self.now haystack.now (places haystack.now 0)
             (option_map excerpt_of result) locations.old locations.new }
-        ensures searched { Searched self.now.program haystack.now 0 (places haystack.now 0)
-            (is_some result) cache.old cache.new }
+        ensures searched { SearchedFrom self.now haystack.now 0 (is_some result) cache.old cache.new }
     {
         self.captures_read_at_with(cache, locations, haystack, 0)
     }
@@ -215,8 +214,7 @@ impl Regex {
         requires locations { length locations.old ≡ self.now.program.slots }
         ensures read { ReadsGroups self.now haystack.now (places haystack.now start)
             (option_map excerpt_of result) locations.old locations.new }
-        ensures searched { Searched self.now.program haystack.now start (places haystack.now start)
-            (is_some result) cache.old cache.new }
+        ensures searched { SearchedFrom self.now haystack.now start (is_some result) cache.old cache.new }
     {
         let input = Input {
             haystack,

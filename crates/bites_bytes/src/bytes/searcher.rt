@@ -1,15 +1,16 @@
 //! A regex with the cache for its searches.
 
-ghost use Rattle.std.specs.Prelude.{◌≡◌, ◌↔◌, [], option_map, IfOk, IsTrue};
+ghost use Rattle.std.specs.Prelude.{◌≡◌, ◌↔◌, [], length, option_map, IfOk, IsTrue};
 ghost use Rattle.std.specs.Cow.{cow_slice_items, IsBorrowedSlice};
-ghost use Rattle.bites_spec.specs.Found.{HasMatch};
+ghost use Rattle.bites_spec.specs.Counts.{fit_of};
+ghost use Rattle.bites_spec.specs.Found.{HasMatch, IsLeastEnd};
 ghost use Rattle.bites_spec.specs.Full.{IsFullMatch};
 ghost use Rattle.bites_spec.specs.Captured.{FindsMatch};
 ghost use Rattle.bites_spec.specs.Iteration.{captures_in};
 ghost use Rattle.bites_spec.specs.Replaced.{ReplacesIn};
 ghost use Rattle.bites_spec.specs.Utf8.{places, start_alone};
 ghost use Rattle.bites_bytes.specs.Matched.{excerpt_of};
-ghost use Rattle.bites_bytes.specs.Calls.{FindsCaptured, FindsCapturedFull, FindsNext};
+ghost use Rattle.bites_bytes.specs.Calls.{FindsCaptured, FindsCapturedFull, FindsNext, ReadsGroups};
 ghost use Rattle.bites_bytes.specs.NextCaptured.{FindsNextCaptured};
 
 mod capture_matches;
@@ -93,6 +94,41 @@ impl Searcher {
         self.regex.is_match_with(&mut self.cache, haystack)
     }
 
+    /// Returns whether the pattern matches at or after `start`, an offset in bytes, like [`Regex::is_match_at`]. It
+    /// allocates nothing.
+    ///
+    /// The search stops at the first end of a match, and visits each state of the program at most once at each
+    /// offset.
+    ///
+    /// ```rust
+    /// let mut searcher = Searcher::new(Regex::new(rt.alloc(), r"\bb")?)?;
+    /// assert!(rt; searcher.is_match_at(b"b\xFFab b", 1));
+    /// assert!(rt; !searcher.is_match_at(b"b\xFFab", 1));
+    /// ```
+    pub fn is_match_at(&mut self, haystack: &[u8], start: usize) -> bool
+        ensures found { IsTrue result ↔ HasMatch self.old.tree haystack.now (places haystack.now start) }
+        ensures same { self.new ≡ self.old }
+    {
+        self.regex
+            .is_match_at_with(&mut self.cache, haystack, start)
+    }
+
+    /// Returns the least offset at which any match ends, in bytes, like [`Regex::shortest_match`]. It allocates
+    /// nothing.
+    ///
+    /// The search visits each state of the program at most once at each offset.
+    ///
+    /// ```rust
+    /// let mut searcher = Searcher::new(Regex::new(rt.alloc(), "a+")?)?;
+    /// assert_eq!(rt; searcher.shortest_match(b"\xFFaaa"), Some(2));
+    /// ```
+    pub fn shortest_match(&mut self, haystack: &[u8]) -> Option<usize>
+        ensures least { IsLeastEnd self.old.tree haystack.now (places haystack.now 0) result }
+        ensures same { self.new ≡ self.old }
+    {
+        self.regex.shortest_match_with(&mut self.cache, haystack)
+    }
+
     /// Returns whether a match is the whole haystack, like [`Regex::is_full_match`]. It allocates nothing.
     ///
     /// The search visits each state of the program at most once at each offset.
@@ -157,6 +193,74 @@ impl Searcher {
         self.regex.captures_with(&mut self.cache, haystack)
     }
 
+    /// Returns the groups of the leftmost match at or after `start`, an offset in bytes, like [`Regex::captures_at`].
+    /// It allocates the groups alone, and the error is out of memory.
+    ///
+    /// ```rust
+    /// let mut searcher = Searcher::new(Regex::new(rt.alloc(), "a(.)")?)?;
+    /// let captures = searcher.captures_at(b"ab ac", 1)?.ok_or("no match")?;
+    /// let group = captures.get(1).ok_or("no group")?;
+    /// assert_eq!(rt; group.range(), 4..5);
+    /// ```
+    pub fn captures_at<'h>(
+        &mut self,
+        haystack: &'h [u8],
+        start: usize,
+    ) -> Result<Option<Captures<'h>>, AllocError>
+        ensures found { IfOk result (FindsCaptured self.old haystack.now (places haystack.now start)) }
+        ensures same { self.new ≡ self.old }
+    {
+        self.regex
+            .captures_at_with(&mut self.cache, haystack, start)
+    }
+
+    /// Returns the groups of the match that begins at `start`, an offset in bytes, like
+    /// [`Regex::captures_anchored_at`]. It allocates the groups alone, and the error is out of memory.
+    ///
+    /// ```rust
+    /// let mut searcher = Searcher::new(Regex::new(rt.alloc(), "([a-z]+)(=?)")?)?;
+    /// let captures = searcher.captures_anchored_at(b"\xFFx=1", 1)?.ok_or("no match")?;
+    /// let name = captures.get(1).ok_or("no name")?;
+    /// assert_eq!(rt; name.range(), 1..2);
+    /// assert!(rt; searcher.captures_anchored_at(b"1x", 0)?.is_none());
+    /// ```
+    pub fn captures_anchored_at<'h>(
+        &mut self,
+        haystack: &'h [u8],
+        start: usize,
+    ) -> Result<Option<Captures<'h>>, AllocError>
+        ensures found { IfOk result (FindsCaptured self.old haystack.now (start_alone haystack.now start)) }
+        ensures same { self.new ≡ self.old }
+    {
+        self.regex
+            .captures_anchored_at_with(&mut self.cache, haystack, start)
+    }
+
+    /// Returns the leftmost match, and writes the offsets of each group into `locations`, like
+    /// [`Regex::captures_read`]. It allocates nothing.
+    ///
+    /// The locations must fit the regex ([`CaptureLocations::fits`]). They are unchanged if nothing matches.
+    ///
+    /// ```rust
+    /// let mut searcher = Searcher::new(Regex::new(rt.alloc(), "a(b)?")?)?;
+    /// let mut locations = searcher.regex().capture_locations()?;
+    /// assert!(rt; searcher.captures_read(&mut locations, b"\xFFab").is_some());
+    /// assert_eq!(rt; locations.get(1), Some((2, 3)));
+    /// ```
+    pub fn captures_read<'h>(
+        &mut self,
+        locations: &mut CaptureLocations,
+        haystack: &'h [u8],
+    ) -> Option<Match<'h>>
+        requires { length locations.old ≡ self.old.program.slots }
+        ensures read { ReadsGroups self.old haystack.now (places haystack.now 0)
+            (option_map excerpt_of result) locations.old locations.new }
+        ensures same { self.new ≡ self.old }
+    {
+        self.regex
+            .captures_read_with(&mut self.cache, locations, haystack)
+    }
+
     /// Returns the groups of the first match after one that ends at `last`, an offset in bytes, or of the first of all
     /// for `None`. It allocates the groups alone. In their place the error is out of memory.
     pub fn captures_next<'h>(
@@ -168,8 +272,7 @@ impl Searcher {
         ensures same { self.new ≡ self.old }
     {
         self.regex
-            .captures_read_next_with(&mut self.cache, &mut self.locations, haystack, last)?;
-        Some(Captures::of(&self.regex, haystack, &self.locations))
+            .captures_next_with(&mut self.cache, &mut self.locations, haystack, last)
     }
 
     /// Returns the groups of a match that is the whole haystack, like [`Regex::captures_full`]. It allocates the groups
@@ -182,6 +285,30 @@ impl Searcher {
         ensures same { self.new ≡ self.old }
     {
         self.regex.captures_full_with(&mut self.cache, haystack)
+    }
+
+    /// Returns the haystack with its first match replaced, like [`Regex::replace`]. The error is out of memory.
+    ///
+    /// It allocates only the new bytes, and the groups if the replacer asks for them. The haystack is borrowed exactly
+    /// if nothing matches.
+    ///
+    /// ```rust
+    /// let mut searcher = Searcher::new(Regex::new(rt.alloc(), r"\d+")?)?;
+    /// let hidden = searcher.replace(b"1 and 2", b"n".as_slice())?;
+    /// assert_eq!(rt; hidden.as_slice(), b"n and 2".as_slice());
+    /// ```
+    pub fn replace<'h, R: Replacer + Drop>(
+        &mut self,
+        haystack: &'h [u8],
+        replacer: R,
+    ) -> Result<CowSlice<'h, u8>, AllocError>
+        requires { (state : R) → R.can_replace state }
+        ensures replaces { IfOk result (λ bytes. (end : R) × ReplacesIn R.replaces R.answers
+            self.old haystack.now 1 replacer (cow_slice_items bytes) end) }
+        ensures borrowed { IfOk result (λ bytes. IsBorrowedSlice bytes ↔ captures_in self.old haystack.now ≡ []) }
+        ensures same { self.new ≡ self.old }
+    {
+        self.replacen(haystack, 1, replacer)
     }
 
     /// Returns the haystack with all its matches replaced, like [`Regex::replace_all`]. The error is out of memory.
@@ -221,6 +348,27 @@ impl Searcher {
     {
         self.regex
             .replacen_with(&mut self.cache, haystack, limit, replacer)
+    }
+}
+
+impl Regex {
+    /// Like [`Regex::captures_read_next_with`], but returns the groups. It allocates these alone. In their place the
+    /// error is out of memory.
+    pub fn captures_next_with<'h>(
+        &self,
+        cache: &mut Cache,
+        locations: &mut CaptureLocations,
+        haystack: &'h [u8],
+        last: Option<usize>,
+    ) -> Option<Result<Captures<'h>, AllocError>>
+        requires cache { cache.old.fits ≡ fit_of self.now.program }
+        requires locations { length locations.old ≡ self.now.program.slots }
+        ensures next { FindsNextCaptured self.now haystack.now last result }
+        ensures len { length locations.new ≡ length locations.old }
+        ensures fits { cache.new.fits ≡ cache.old.fits }
+    {
+        self.captures_read_next_with(cache, locations, haystack, last)?;
+        Some(Captures::of(self, haystack, locations))
     }
 }
 

@@ -1,12 +1,13 @@
 //! A set of patterns.
 
-ghost use Rattle.std.specs.Prelude.{◌≡◌, ◌≢◌, ◌↔◌, ◌==◌, [], length, map, IsTrue, IfOk, IfErr};
+ghost use Rattle.std.specs.Prelude.{◌≡◌, ◌≢◌, ◌↔◌, ◌==◌, [], length, map, is_some, IsTrue, IfOk, IfErr};
 ghost use Rattle.bites_spec.specs.Utf8.{places};
 ghost use Rattle.bites_spec.specs.Set.{AreBuilt, AreMatched, HasMatchOfAny, set_by_default, fits_of, fits_for};
 ghost use Rattle.bites_text.specs.declared.error.Error.TheVariants.{Memory};
-ghost use Rattle.bites_bytes.specs.Set.{IsRefused};
+ghost use Rattle.bites_bytes.specs.Set.{ArePrepared, IsRefused, has_any_table};
 
-use crate::bytes::{Cache, Regex, RegexSetBuilder, SetError, SetMatches, SetPatterns};
+use crate::bytes::set_builder::table_bytes;
+use crate::bytes::{Cache, Regex, RegexSetBuilder, SetError, SetMatches, SetPatterns, TableSize};
 use std::alloc::{AllocError, Global};
 use std::fmt;
 use std::marker::Model;
@@ -95,7 +96,9 @@ impl RegexSet {
     /// that it exceeds. It may also be out of memory.
     ///
     /// ```rust
-    /// let error = RegexSet::new(rt.alloc(), &["a", "(b"]).err().ok_or("no error")?;
+    /// let error = RegexSet::new(rt.alloc(), &["a", "(b"])
+    ///     .err()
+    ///     .ok_or("no error")?;
     /// assert_eq!(rt; error.index(), 1);
     /// assert_eq!(rt; error.error(), Error::UnclosedGroup);
     /// ```
@@ -151,6 +154,43 @@ impl RegexSet {
         ensures { result ≡ map (λ r. r.pattern) self.now }
     {
         SetPatterns::new(self.regexes.as_slice())
+    }
+
+    /// Returns a set with the same patterns and programs, with tables of at most so many bytes together as
+    /// [`RegexSetBuilder::dfa_size_limit`] says, and with the switch of [`RegexSetBuilder::prefilter`]. It finds the same,
+    /// and caches of the one fit the other.
+    ///
+    /// It shares the programs with this set. The error is out of memory for the list of them. A pattern has no table if
+    /// memory for that runs out.
+    ///
+    /// ```rust
+    /// let set = RegexSet::new(rt.alloc(), &["a+", "b"])?;
+    /// let bare = set.prepared(0, false)?;
+    /// assert!(rt; set.table_size().is_some() && bare.table_size().is_none());
+    /// assert!(rt; bare.is_match(b"caa")?);
+    /// ```
+    pub fn prepared(&self, dfa_size_limit: usize, prefilter: bool) -> Result<RegexSet, AllocError>
+        ensures same { IfOk result (ArePrepared dfa_size_limit prefilter self.now) }
+        ensures fits { IfOk result (λ set. fits_for set ≡ fits_for self.now) }
+    {
+        Ok(RegexSet {
+            alloc: self.alloc,
+            regexes: prepare_each(
+                self.alloc,
+                self.regexes.as_slice(),
+                dfa_size_limit,
+                prefilter,
+            )?,
+        })
+    }
+
+    /// Returns how large the tables of all patterns are together, or `None` if no pattern has one.
+    ///
+    /// They are whole if each pattern has a table, and each transition of each table is known.
+    pub fn table_size(&self) -> Option<TableSize>
+        ensures { is_some result ≡ has_any_table self.now }
+    {
+        tables_size(self.regexes.as_slice())
     }
 
     /// Allocates a cache for the methods whose names end in `_with`. The error is out of memory.
@@ -271,6 +311,59 @@ impl RegexSet {
     {
         let caches = cache.caches.as_mut_slice();
         match_each(self.regexes.as_slice(), caches, haystack, start, matched);
+    }
+}
+
+// Returns the regexes with the switch of searches for a literal, and with tables of at most so many bytes together. Each table
+// may take what those before it leave.
+fn prepare_each(
+    alloc: Global,
+    regexes: &[Regex],
+    dfa_size_limit: usize,
+    prefilter: bool,
+) -> Result<Vec<Regex>, AllocError>
+    ensures { IfOk result (λ v. ArePrepared dfa_size_limit prefilter regexes.now v.items) }
+{
+    let mut prepared = Vec::new(alloc);
+    let mut left = dfa_size_limit;
+    for regex in regexes {
+        let made = regex.prepared(left, prefilter)?;
+        left = left.saturating_sub(table_bytes(&made));
+        prepared.push(made)?;
+    }
+    Ok(prepared)
+}
+
+// Returns how large the tables of the regexes are together, if any has one.
+fn tables_size(regexes: &[Regex]) -> Option<TableSize>
+    ensures { is_some result ≡ has_any_table regexes.now }
+{
+    let mut is_any = false;
+    let mut size = TableSize {
+        lists: 0,
+        bytes: 0,
+        is_whole: true,
+    };
+    for regex in regexes {
+        let own = regex.table_size();
+        is_any |= own.is_some();
+        size = plus(size, own);
+    }
+    if is_any { Some(size) } else { None }
+}
+
+// Returns the size of some tables and of the table of one more regex, if that has one. Without it they are not whole.
+fn plus(size: TableSize, own: Option<TableSize>) -> TableSize {
+    match own {
+        Some(own) => TableSize {
+            lists: size.lists.saturating_add(own.lists),
+            bytes: size.bytes.saturating_add(own.bytes),
+            is_whole: size.is_whole && own.is_whole,
+        },
+        None => TableSize {
+            is_whole: false,
+            ..size
+        },
     }
 }
 

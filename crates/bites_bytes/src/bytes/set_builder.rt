@@ -10,7 +10,7 @@ ghost use Rattle.bites_bytes.specs.Settings.{Refuses};
 
 use crate::bytes::{Regex, RegexBuilder, RegexSet};
 use bites_text::error::Error;
-use std::alloc::Global;
+use std::alloc::{AllocError, Global};
 use std::fmt;
 use std::marker::Model;
 
@@ -100,8 +100,8 @@ impl Model for RegexSetBuilder {
 }
 
 impl RegexSetBuilder {
-    /// Returns a builder for these patterns, with all flags off, and for each pattern a size limit of 10 MiB
-    /// (10485760) and a nesting limit of 50. The patterns are not read yet.
+    /// Returns a builder for these patterns, with all flags off, for each pattern a size limit of 10 MiB (10485760) and a
+    /// nesting limit of 50, and a limit of 1 MiB (1048576) for all tables together. The patterns are not read yet.
     ///
     /// The error is out of memory for a copy of a pattern.
     pub fn new(alloc: Global, patterns: &[&str]) -> Result<RegexSetBuilder, SetError>
@@ -215,6 +215,19 @@ impl RegexSetBuilder {
         self
     }
 
+    /// Sets how many bytes the tables of all patterns together may take, as [`RegexBuilder::dfa_size_limit`] does for one.
+    /// The default is 1 MiB (1048576), and with 0 no tables are made. Each pattern's table may take what those of the
+    /// patterns before it leave.
+    ///
+    /// Which patterns match is the same either way.
+    pub fn dfa_size_limit(&mut self, limit: usize) -> &mut RegexSetBuilder
+        ensures same { result.ghost_name ≡ self.entry.ghost_name }
+        ensures set { result.now ≡ record self.old { all = record self.old.all { dfa_size_limit = limit } } }
+    {
+        self.all.dfa_size_limit(limit);
+        self
+    }
+
     /// Sets whether groups are kept that the tree of a pattern drops, as it does for `(a){0}`. Off by default.
     ///
     /// Such a group counts for the size limit. Which patterns match is the same either way.
@@ -234,6 +247,17 @@ impl RegexSetBuilder {
         ensures set { result.now ≡ record self.old { all = record self.old.all { leftmost_longest = yes } } }
     {
         self.all.leftmost_longest(yes);
+        self
+    }
+
+    /// Sets the same switch as [`RegexBuilder::prefilter`]. Off by default.
+    ///
+    /// Which patterns match is the same either way.
+    pub fn prefilter(&mut self, yes: bool) -> &mut RegexSetBuilder
+        ensures same { result.ghost_name ≡ self.entry.ghost_name }
+        ensures set { result.now ≡ record self.old { all = record self.old.all { prefilter = yes } } }
+    {
+        self.all.prefilter(yes);
         self
     }
 
@@ -284,34 +308,58 @@ fn built(alloc: Global, all: &RegexBuilder, patterns: &[String]) -> Result<Vec<R
         IsRefused (set_settings (map string_bytes patterns.now) all.now) e) }
 {
     let mut regexes = Vec::new(alloc);
+    let mut left = all.table_limit();
     for (index, pattern) in patterns.iter().enumerate() {
-        if let Err(error) = add_regex(all, pattern.as_str(), &mut regexes) {
+        if let Err(error) = add_regex(all, pattern.as_str(), &mut left, &mut regexes) {
             return Err(SetError::of(index, error));
         }
     }
     Ok(regexes)
 }
 
-// Adds the regex of one pattern.
-fn add_regex(all: &RegexBuilder, pattern: &str, regexes: &mut Vec<Regex>) -> Result<(), Error>
+// Adds the regex of one pattern. Its table may take the bytes that are left, and those that it takes are no longer left.
+fn add_regex(
+    all: &RegexBuilder,
+    pattern: &str,
+    left: &mut usize,
+    regexes: &mut Vec<Regex>,
+) -> Result<(), Error>
     ensures added { IfOk result (λ _. (r : spec.Regex) × (regexes.new.items ≡ regexes.old.items ++ r ∷ [])
         × IsBuilt (with_pattern all.now pattern.now) r) }
     ensures refused { IfErr result (λ e. e ≢ Error.Memory → (t : Tree) →
         Accepts (with_pattern all.now pattern.now) t → ⊥) }
     ensures message { IfErr result (λ e. e ≢ Error.Memory → Refuses (with_pattern all.now pattern.now) e) }
 {
-    regexes.push(regex_of(all, pattern)?)?;
+    let regex = regex_of(all, pattern, *left)?;
+    *left = left.saturating_sub(table_bytes(&regex));
+    regexes.push(regex)?;
     Ok(())
 }
 
-// Returns the regex of one pattern.
-fn regex_of(all: &RegexBuilder, pattern: &str) -> Result<Regex, Error>
+pub(super) fn table_bytes(regex: &Regex) -> usize {
+    match regex.table_size() {
+        Some(size) => size.bytes,
+        None => 0,
+    }
+}
+
+// Returns the regex of one pattern, with a table of at most so many bytes.
+fn regex_of(all: &RegexBuilder, pattern: &str, limit: usize) -> Result<Regex, Error>
     ensures built { IfOk result (IsBuilt (with_pattern all.now pattern.now)) }
     ensures refused { IfErr result (λ e. e ≢ Error.Memory → (t : Tree) →
         Accepts (with_pattern all.now pattern.now) t → ⊥) }
     ensures message { IfErr result (λ e. e ≢ Error.Memory → Refuses (with_pattern all.now pattern.now) e) }
 {
-    all.with_pattern(pattern)?.into_regex()
+    limited(all, pattern, limit)?.into_regex()
+}
+
+// Returns the builder of one pattern, with this limit on its table.
+fn limited(all: &RegexBuilder, pattern: &str, limit: usize) -> Result<RegexBuilder, AllocError>
+    ensures { IfOk result (λ b. b ≡ record (with_pattern all.now pattern.now) { dfa_size_limit = limit }) }
+{
+    let mut builder = all.with_pattern(pattern)?;
+    builder.dfa_size_limit(limit);
+    Ok(builder)
 }
 
 impl fmt::Debug for RegexSetBuilder {

@@ -3,7 +3,7 @@
 ghost use Rattle.std.specs.Prelude.{◌≡◌, is_some, IfOk};
 ghost use Rattle.bites_spec.specs.Found.{IsLeastEnd};
 ghost use Rattle.bites_spec.specs.Counts.{fit_of};
-ghost use Rattle.bites_bytes.specs.Calls.{Searched};
+ghost use Rattle.bites_bytes.specs.Calls.{SearchedFrom};
 ghost use Rattle.bites_spec.specs.Utf8.{places};
 
 use crate::bytes::{Cache, Regex};
@@ -44,8 +44,7 @@ impl Regex {
     pub fn shortest_match_with(&self, cache: &mut Cache, haystack: &[u8]) -> Option<usize>
         requires { cache.old.fits ≡ fit_of self.now.program }
         ensures least { IsLeastEnd self.now.tree haystack.now (places haystack.now 0) result }
-        ensures searched { Searched self.now.program haystack.now 0 (places haystack.now 0)
-            (is_some result) cache.old cache.new }
+        ensures searched { SearchedFrom self.now haystack.now 0 (is_some result) cache.old cache.new }
     {
         self.shortest_match_at_with(cache, haystack, 0)
     }
@@ -61,8 +60,7 @@ impl Regex {
     ) -> Option<usize>
         requires { cache.old.fits ≡ fit_of self.now.program }
         ensures least { IsLeastEnd self.now.tree haystack.now (places haystack.now start) result }
-        ensures searched { Searched self.now.program haystack.now start (places haystack.now start)
-            (is_some result) cache.old cache.new }
+        ensures searched { SearchedFrom self.now haystack.now start (is_some result) cache.old cache.new }
     {
         let input = Input {
             haystack,

@@ -42,6 +42,9 @@ fn has_none(rt: HostRuntime) -> Result<(), Error> {
         "é",
         " ",
         r"^\b$",
+        "^zq",
+        r"(\Azq)x",
+        "(zqa|zqb)",
     ] {
         assert!(rt; prefilter(rt.alloc(), pattern)?.is_none());
     }

@@ -7,7 +7,6 @@ use Rattle.bites_spec.specs.Look.{Look, holds}
 use Rattle.bites_spec.specs.Range.{in_ranges}
 use Rattle.bites_spec.specs.Walks.{Among}
 use Rattle.bites_spec.specs.Program.{State, Configuration, at, edges, taking, looking, char, ranges, splits, goto, capture, fail, match}
-use Rattle.bites_spec.proofs.programs.SlotLemmas.{Among-left, Among-right}
 use Rattle.bites_machine.specs.Ends.{next_character, targets_over, targets_at}
 use Rattle.bites_spec.proofs.programs.BuiltLemmas.{Among-append}
 
@@ -16,13 +15,6 @@ Among-reverse [] x h = h
 Among-reverse (y ∷ xs) x h =
     ⊎_elim (λ a. inr (Among-reverse xs x a)) (⊎_elim (λ (e : y ≡ x). inl e) (λ (no : ⊥). absurd no))
     (Among-append (reverse xs) (y ∷ []) x (subst (λ l. Among l x) (reverse-cons y xs) h))
-
--- the order of a list does not matter to what is among it
-pub Among-reversed : (xs : List ℕ) (x : ℕ) → Among xs x → Among (reverse xs) x
-Among-reversed [] x h = h
-Among-reversed (y ∷ xs) x h =
-    subst (λ l. Among l x) (sym (reverse-cons y xs))
-    (⊎_elim (λ (e : y ≡ x). Among-right (reverse xs) (y ∷ []) x (inl e)) (λ later. Among-left (reverse xs) (y ∷ []) x (Among-reversed xs x later)) h)
 
 Among-place : (qs : List ℕ) (i : ℕ) (t : Configuration) → Among (map (λ q. at q i) qs) t → Among qs t.state × (t.place ≡ i)
 Among-place [] i t h = absurd h

@@ -7,7 +7,7 @@ use Rattle.bites_spec.specs.Program as program
 use Rattle.bites_spec.specs.Program.{State}
 use Rattle.bites_syntax.specs.View.{tree_of}
 use Rattle.bites_syntax.specs.declared.tree.Kind.{Kind}
-use Rattle.bites_machine.specs.Emitted.{Emitted, emitted, Emitter, pushed, in_front, again, options, bounded, loop, copies_up_to, repeated, Branches, branches, with_branch, split, emit, emit_all, emit_each}
+use Rattle.bites_machine.specs.Emitted.{Emitted, emitted, Emitter, pushed, in_front, again, options, bounded, loop, Branches, branches, with_branch, split, emit, emit_all, emit_each}
 use Rattle.bites_machine.proofs.compile.EmitLemmas.{length_pushed}
 use Rattle.bites_machine.proofs.compile.LengthLemmas.{Grows-emit, Grows-again, Grows-options, Grows-bounded, Grows-loop, Grows-emit_all, Grows-emit_each, sum_times, unbounded_size, exact_size, ranged_size, optional_size}
 use Rattle.bites_syntax.proofs.TreeParts.{parts_from, parts_end, greatest-append}
@@ -85,36 +85,6 @@ pub one_more_fits : (i n s : ℕ) → i < n → i * s + s ≤ n * s
 one_more_fits i n s h =
     let e : suc i + (n - suc i) ≡ n = omega arith in
     omega (arith, times_more i (n - suc i) s, ap (λ k. k * s) e)
-
-module _ (greedy is_empty : Bool) (body : Emitter) (to : ℕ) (ss : List State) where
-  pub repeated-loop : (n : ℕ) → 0 < n → repeated n None greedy is_empty body to ss ≡ in_front (again (n - 1) body) (loop greedy body to ss)
-  repeated-loop zero h = absurd (omega arith)
-  repeated-loop (suc n) h = let e : n ≡ suc n - 1 = omega arith in ap (λ k. in_front (again k body) (loop greedy body to ss)) e
-
-  pub repeated-exact : (n most : ℕ) → 0 < n → n ≡ most →
-      repeated n (Some most) greedy is_empty body to ss ≡ in_front (again (n - 1) body) (body to ss)
-  repeated-exact zero most h is = absurd (omega arith)
-  repeated-exact (suc n) most h is =
-      let none : most - suc n ≡ 0 = omega arith in
-      let e : n ≡ suc n - 1 = omega arith in
-      ap (λ k. copies_up_to n k greedy body to ss) none ∙ ap (λ k. in_front (again k body) (body to ss)) e
-
-  pub repeated-ranged : (n most : ℕ) → 0 < n → n < most →
-      repeated n (Some most) greedy is_empty body to ss ≡ in_front (again n body) (bounded (most - n) greedy body to ss)
-  repeated-ranged zero most h below = absurd (omega arith)
-  repeated-ranged (suc n) most h below =
-      let more : most - suc n ≡ suc (most - suc n - 1) = omega arith in
-      ap (λ k. copies_up_to n k greedy body to ss) more ∙ ap (λ k. in_front (again (suc n) body) (bounded k greedy body to ss)) (sym more)
-
-  pub repeated-several : (most : ℕ) → 1 < most →
-      repeated 0 (Some most) greedy is_empty body to ss
-      ≡ in_front (λ next states. pushed states (program.goto next None)) (bounded most greedy body to ss)
-  repeated-several zero h = absurd (omega arith)
-  repeated-several (suc zero) h = absurd (omega arith)
-  repeated-several (suc (suc m)) h = refl
-
-  pub repeated-once : (most : ℕ) → most ≡ 1 → repeated 0 (Some most) greedy is_empty body to ss ≡ bounded 1 greedy body to ss
-  repeated-once most e = ap (λ k. repeated 0 (Some k) greedy is_empty body to ss) e
 
 -- the sizes of repetitions, as their steps add to them
 module _ (is_empty : Bool) (b : Size) where

@@ -1,5 +1,5 @@
 -- What is known of the groups of a tree.
-use Rattle.std.proofs.Common.{◌≡◌, ◌≢◌, ℕ, zero, suc, ◌+◌, ◌*◌, ◌<◌, ◌≤◌, cond, List, [], ◌∷◌, ◌++◌, length, map, drop, get_or, Option, None, refl, sym, ap, ◌∙◌, subst, arith, length-append, ◌⊎◌, inl, inr, ⊎_elim, slice_set, eq-eqb, ne_eqb}
+use Rattle.std.proofs.Common.{◌≡◌, ◌≢◌, ℕ, zero, suc, ◌+◌, ◌<◌, ◌≤◌, cond, List, [], ◌∷◌, ◌++◌, length, map, drop, get_or, Option, None, refl, sym, ap, ◌∙◌, subst, arith, length-append, ◌⊎◌, inl, inr, ⊎_elim, slice_set, eq-eqb, ne_eqb}
 use Rattle.std.specs.Prelude.{replicate}
 use Rattle.std.proofs.lemmas.List.{length-set, get_or-set_same, get_or-set_other, get_or-replicate, length-replicate, ext_get_or}
 use Rattle.std.proofs.lemmas.List.FromFn.{length-map-range_with_len, get_or-map-range_with_len}
@@ -9,14 +9,8 @@ use Rattle.bites_spec.specs.Tree.{Tree, Trees, empty, char, class, look, repetit
 use Rattle.bites_spec.specs.Measure.{groups_of, name_in, group_name, groups_left, size_of}
 use Rattle.bites_machine.specs.Names.{filled}
 use Rattle.bites_spec.proofs.regex.LeftLemmas.{number, groups_in-map}
-use Rattle.bites_machine.proofs.compile.LengthLemmas.{product}
 use Rattle.bites_syntax.proofs.TreeParts.{greatest-append}
 use Rattle.bites_syntax.proofs.GroupCounts.{repeated_more}
-
--- a copy at least
-positive_times : (n s : ℕ) → 0 < n → s ≤ n * s
-positive_times zero s h = absurd (omega arith)
-positive_times (suc n) s h = omega (arith, product n s)
 
 mutual
   -- there are no more groups than states

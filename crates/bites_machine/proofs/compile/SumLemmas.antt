@@ -1,45 +1,10 @@
 -- Sums over lists without repetition, and over all states at some places.
-use Rattle.std.proofs.Common.{◌≡◌, ℕ, zero, suc, ◌+◌, ◌*◌, ◌<◌, ◌≤◌, List, [], ◌∷◌, ◌++◌, length, refl, sym, ap, ◌∙◌, subst, arith, inl, inr, ⊎_elim}
-use Rattle.std.specs.Prelude.{reverse, sum_by, flat_map}
-use Rattle.std.proofs.lemmas.List.Sums.{sum_by-cons, sum_by-append, sum_by_push}
-use mathlib.Core.List.{reverse-cons}
-use Rattle.bites_spec.specs.Walks.{Among, IsNew, AllApart}
+use Rattle.std.proofs.Common.{◌≡◌, ℕ, zero, suc, ◌+◌, ◌*◌, ◌<◌, ◌≤◌, List, [], ◌∷◌, length, refl, sym, ap, ◌∙◌, subst, arith, inl, inr, ⊎_elim}
+use Rattle.std.specs.Prelude.{sum_by, flat_map}
+use Rattle.std.proofs.lemmas.List.Sums.{sum_by-cons, sum_by-append}
+use Rattle.bites_spec.specs.Walks.{Among, AllApart}
 use Rattle.bites_spec.specs.Program.{State, Configuration, at, state_at}
 use Rattle.bites_spec.proofs.programs.SlotLemmas.{Among-left, Among-right}
-use Rattle.bites_spec.proofs.programs.BuiltLemmas.{Among-append}
-
--- the order of a list does not matter to what is among it
-pub Among-reverse : {A : Type 0} (xs : List A) (x : A) → Among (reverse xs) x → Among xs x
-Among-reverse [] x h = h
-Among-reverse (y ∷ xs) x h =
-    ⊎_elim (λ a. inr (Among-reverse xs x a)) (⊎_elim (λ (e : y ≡ x). inl e) (λ (no : ⊥). absurd no))
-    (Among-append (reverse xs) (y ∷ []) x (subst (λ l. Among l x) (reverse-cons y xs) h))
-
-pub Among-reversed : {A : Type 0} (xs : List A) (x : A) → Among xs x → Among (reverse xs) x
-Among-reversed [] x h = h
-Among-reversed (y ∷ xs) x h =
-    subst (λ l. Among l x) (sym (reverse-cons y xs))
-    (⊎_elim (λ (e : y ≡ x). Among-right (reverse xs) (y ∷ []) x (inl e)) (λ later. Among-left (reverse xs) (y ∷ []) x (Among-reversed xs x later)) h)
-
--- a new element at the end leaves all apart
-pub AllApart_push : {A : Type 0} (xs : List A) (x : A) → AllApart xs → IsNew x xs → AllApart (xs ++ x ∷ [])
-AllApart_push [] x apart new = ((λ h. h), tt)
-AllApart_push (y ∷ xs) x apart new = (
-  (λ h. ⊎_elim (λ a. apart.0 a) (⊎_elim (λ (e : x ≡ y). new (inl (sym e))) (λ (no : ⊥). no)) (Among-append xs (x ∷ []) y h)),
-  AllApart_push xs x apart.1 (λ h. new (inr h)),
-)
-
-pub AllApart-reverse : {A : Type 0} (xs : List A) → AllApart xs → AllApart (reverse xs)
-AllApart-reverse [] apart = tt
-AllApart-reverse (x ∷ xs) apart =
-    subst AllApart (sym (reverse-cons x xs))
-    (AllApart_push (reverse xs) x (AllApart-reverse xs apart.1) (λ h. apart.0 (Among-reverse xs x h)))
-
-pub sum_by-reverse : {A : Type 0} (f : A → ℕ) (xs : List A) → sum_by f (reverse xs) ≡ sum_by f xs
-sum_by-reverse f [] = refl
-sum_by-reverse f (x ∷ xs) =
-    let turned = ap (sum_by f) (reverse-cons x xs) ∙ sum_by_push f (reverse xs) x in
-    omega (arith, turned, sum_by-reverse f xs, sum_by-cons f x xs)
 
 pub sum_of_ones : {A : Type 0} (xs : List A) → sum_by (λ x. 1) xs ≡ length xs
 sum_of_ones [] = refl

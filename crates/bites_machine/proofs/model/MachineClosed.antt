@@ -41,9 +41,6 @@ module _ (p : Program) (hay : List ℕ) (longest : Bool) (width : ℕ) (starts :
     no_match : (u : Configuration) → Among visits u → matches p u ≡ false
 
   module _ (i : ℕ) (old : List Configuration) (later : List ℕ) where
-    abbrev there : ℕ
-    there = i + (piece hay i).len
-
     -- visited, or waiting at the place
     abbrev IsHere : Walking → Configuration → Type 0
     IsHere w v = Among (configurations_of i old w.seen) v ⊎ Waits w.stack i v

@@ -38,9 +38,6 @@ module _ (p : Program) (hay : List ℕ) (well : IsWellFormed p) (width : ℕ) (f
   abbrev pub pended : (Configuration → Bool) → List (Configuration × (List Configuration → Outcome)) → Option Outcome
   pended seen ws = pend p hay (matches p) (λ s e. e) seen ws
 
-  abbrev TracedAt : ℕ → List Configuration → Walking → Type 0
-  TracedAt i old w = IsTraced p hay false width starts fits i old w
-
   abbrev AllTraced : Searching → Type 0
   AllTraced s = AreTraced p hay false width starts fits s
 

@@ -1,11 +1,11 @@
 -- How much room a walk takes: for its stack, for the states that it has seen, and for the threads that took the piece.
-use Rattle.std.proofs.Common.{◌≡◌, ℕ, suc, ◌+◌, ◌*◌, ◌<◌, ◌≤◌, Bool, true, false, List, [], ◌∷◌, map, length, Some, refl, sym, ap, ◌∙◌, subst, inl, inr, ⊎_elim, true≢false, arith, length-append}
+use Rattle.std.proofs.Common.{◌≡◌, ℕ, suc, ◌+◌, ◌*◌, ◌<◌, ◌≤◌, Bool, true, false, List, [], ◌∷◌, map, length, Some, refl, sym, ap, subst, inl, inr, ⊎_elim, true≢false, arith, length-append}
 use Rattle.std.specs.Prelude.{sum_by}
 use Rattle.std.specs.Option.{option_or}
 use Rattle.std.proofs.lemmas.List.{length-map}
 use Rattle.std.proofs.lemmas.List.Sums.{sum_by-cons}
 use Rattle.bites_spec.specs.Walks.{Among, AllApart}
-use Rattle.bites_spec.specs.Program.{State, Program, Configuration, at, state_at, edges, targets, targets_of, char, ranges, splits, goto, capture, fail, match, IsWellFormed}
+use Rattle.bites_spec.specs.Program.{State, Program, Configuration, at, state_at, edges, targets_of, char, ranges, splits, goto, capture, fail, match, IsWellFormed}
 use Rattle.bites_spec.specs.Run.{leads}
 use Rattle.bites_spec.proofs.runs.RunLemmas.{inside_on}
 use Rattle.bites_spec.specs.Closure.{dropped}
@@ -43,21 +43,8 @@ module _ (p : Program) where
       let m = Among-map (λ x. at x 0) seen s h in
       subst (λ (x : Configuration). (x.state < length p.states) × Among (0 ∷ []) x.place) m.2 (inside m.0 m.1, inl refl)
 
-  sum_at : (f : Configuration → ℕ) (seen : List ℕ) → sum_by f (map (λ q. at q 0) seen) ≡ sum_by (λ q. f (at q 0)) seen
-  sum_at f [] = refl
-  sum_at f (q ∷ seen) =
-      sum_by-cons f (at q 0) (map (λ x. at x 0) seen) ∙ ap (λ (n : ℕ). f (at q 0) + n) (sum_at f seen) ∙ sym (sum_by-cons (λ (x : ℕ). f (at x 0)) q seen)
-
   times_one : (n : ℕ) → n * 1 ≡ n
   times_one n = grind arith
-
-  -- each state was seen once: all their targets are no more than those of the program
-  pub pushed_within : (seen : List ℕ) → AllApart seen → AreStatesOf seen → pushed seen ≤ targets p
-  pushed_within seen apart inside =
-      let fits = sum_of_configurations (λ (s : Configuration). length (targets_of (state_at p.states s.state))) (λ (st : State). length (targets_of st)) p.states (0 ∷ [])
-      (map (λ q. at q 0) seen) (λ q i. omega arith) (apart_at seen apart) (within_at seen inside) in
-      let same = sum_at (λ (s : Configuration). length (targets_of (state_at p.states s.state))) seen in
-      let once = times_one (targets p) in omega arith
 
   -- and there are no more of them than states
   pub seen_within : (seen : List ℕ) → AllApart seen → AreStatesOf seen → length seen ≤ length p.states

@@ -1,5 +1,5 @@
 -- Walks along edges: what they pass, and where they stay.
-use Rattle.std.proofs.Common.{◌≡◌, ℕ, ◌+◌, ◌≤◌, Bool, true, false, ◌&&◌, List, [], ◌∷◌, ◌++◌, length, Option, Some, None, refl, sym, subst, arith, ⊎_elim, cond}
+use Rattle.std.proofs.Common.{◌≡◌, ℕ, ◌+◌, ◌≤◌, Bool, true, false, ◌&&◌, List, [], ◌∷◌, ◌++◌, length, Option, Some, None, refl, sym, subst, arith, cond}
 use Rattle.std.specs.Prelude.{nat_lt, ◌==◌}
 use Rattle.std.proofs.lemmas.List.{length-map}
 use Rattle.bites_spec.specs.Utf8.{piece, character}
@@ -7,7 +7,7 @@ use Rattle.bites_spec.specs.Look.{Look, holds}
 use Rattle.bites_spec.specs.Range.{in_ranges}
 use Rattle.bites_spec.specs.Walks.{Among, Walk}
 use Rattle.bites_spec.specs.Program.{State, Program, Configuration, at, edges, looking, targets_of, char, ranges, splits, goto, capture, fail, match}
-use Rattle.bites_spec.specs.Run.{leads, Runs, Reaches}
+use Rattle.bites_spec.specs.Run.{leads}
 
 -- a state has at each place at most as many edges as targets
 taking_one : (b : Bool) (t : Configuration) → length (cond b (t ∷ []) []) ≤ 1
@@ -39,9 +39,3 @@ module _ (p : Program) (hay : List ℕ) where
       Walk (leads p hay) (λ x. x ≡ v) s (r ++ v ∷ [])
   walk_on s [] u v walk edge = (subst (λ x. Among (leads p hay x) v) (sym walk) edge, refl)
   walk_on s (q ∷ r) u v walk edge = (walk.0, walk_on q r u v walk.1 edge)
-
-  -- a run reaches each of its configurations
-  pub run_reaches : (s : Configuration) (r : List Configuration) (j : ℕ) (t : Configuration) → Runs p hay s r j → Among (s ∷ r) t → Reaches p hay s t
-  run_reaches s [] j t runs h = ⊎_elim (λ (e : s ≡ t). ([], e)) (λ (no : ⊥). absurd no) h
-  run_reaches s (q ∷ r) j t runs h =
-      ⊎_elim (λ (e : s ≡ t). ([], e)) (λ later. let on = run_reaches q r j t runs.1 later in (q ∷ on.0, (runs.0, on.1))) h

@@ -7,7 +7,7 @@ use Rattle.std.specs.Prelude.{drop, map}
 use Rattle.bites_machine.specs.Scratch.{row_of}
 use Rattle.bites_machine.specs.declared.vm.threads.Thread.{Thread}
 use Rattle.bites_machine.specs.SlotTable.{Pool, one_less}
-use Rattle.bites_machine.specs.Used.{IsUsed, slots_at}
+use Rattle.bites_machine.specs.Used.{IsUsed}
 use Rattle.bites_machine.proofs.tables.UsedLemmas.{users_more, users_same, same_or_not, length-one_less}
 
 -- a user of the row goes, the counts follow
@@ -39,16 +39,6 @@ released row users old new ref_counts rows slots_per_row used = record {
   rows = ap length rows ∙ used.rows ∙ sym (ap length ref_counts ∙ length-one_less old.ref_counts row);
   nothing = ap (λ (rs : List (List (Option ℕ))). slice_index_or rs 0 []) rows ∙ used.nothing ∙ ap (λ w. replicate w None) (sym slots_per_row);
   wide = λ r h. ap (λ (rs : List (List (Option ℕ))). length (slice_index_or rs r [])) rows ∙ used.wide r (inr h) ∙ sym slots_per_row;
-}
-
--- rows without users are used by none
-pub used_by_none : (pool : Pool) → ((r : ℕ) → r ≢ 0 → slice_index pool.ref_counts r ≡ 0) → length pool.rows ≡ length pool.ref_counts → slots_at pool 0 ≡ replicate pool.slots_per_row None → IsUsed pool []
-used_by_none pool free even nothing = record {
-  ref_counts = free;
-  known = λ r h. absurd h;
-  rows = even;
-  nothing = nothing;
-  wide = λ r h. absurd h;
 }
 
 -- after the last user every row but the first is free

@@ -1,22 +1,21 @@
 -- The threads of a place, whose closures are explored one after the other.
-use Rattle.std.proofs.Common.{◌≡◌, ℕ, zero, suc, ◌+◌, ◌<◌, ⊎_elim, inl, inr, Bool, List, [], ◌∷◌, ◌++◌, drop, map, length, Option, refl, sym, ap, ◌∙◌, subst, arith}
+use Rattle.std.proofs.Common.{◌≡◌, ℕ, zero, suc, ◌+◌, ◌<◌, ⊎_elim, inl, inr, Bool, List, [], ◌∷◌, ◌++◌, drop, map, length, Option, sym, ap, ◌∙◌, subst, arith}
 use Rattle.std.specs.Prelude.{slice_index_or}
 use Rattle.std.proofs.Math.Seq.{drop-cons}
 use Rattle.bites_spec.specs.Walks.{Among}
 use Rattle.bites_spec.proofs.programs.SlotLemmas.{Among-left, Among-right}
 use Rattle.bites_spec.specs.Program as program
-use Rattle.bites_spec.specs.Program.{Program}
 use Rattle.bites_spec.specs.Counts.{Record}
 use Rattle.bites_spec.specs.PikeVm as machine
 use Rattle.bites_spec.specs.PikeVm.{kept, WalksTo}
 use Rattle.bites_machine.specs.SlotTable.{Pool}
 use Rattle.bites_machine.specs.Used.{IsUsed}
 use Rattle.bites_machine.specs.Scratch.{thread_of, first_match_of, row_of, users_of}
-use Rattle.bites_machine.specs.Sweep.{InvariantWithinStep, ClosesThread, ClosesThreads, walking_at}
+use Rattle.bites_machine.specs.Sweep.{ClosesThread, ClosesThreads, walking_at}
 use Rattle.bites_machine.specs.declared.vm.threads.Thread.{Thread}
 use Rattle.bites_machine.specs.declared.vm.closure.Scratch.{Scratch}
 use Rattle.bites_machine.proofs.tables.ScratchLemmas.{reordered, row_kept, threads_kept, uses-cons, uses-append}
-use Rattle.bites_machine.proofs.model.MachineWalks.{walks_here, walks_through}
+use Rattle.bites_machine.proofs.model.MachineWalks.{walks_through}
 use Rattle.bites_spec.proofs.programs.BuiltLemmas.{Among-append}
 
 -- a user after others, put before them
@@ -40,20 +39,6 @@ among_at (x ∷ ts) zero t lt is = inl (sym is)
 among_at (x ∷ ts) (suc i) t lt is = inr (among_at ts i t (omega arith) is)
 
 module _ (hay : List ℕ) (longest : Bool) (place : ℕ) (states : List program.State) (threads : List Thread) where
-  -- no closure was explored yet
-  pub some_first : (was : Record) (old : Scratch) (slots : List (Option ℕ)) → InvariantWithinStep states place was old (length slots) →
-      IsUsed old.rows (map row_of old.next.threads ++ map row_of threads) → ClosesThreads hay longest place states threads threads was was old old slots slots
-  some_first was old slots within_step used = record {
-    within_step = within_step;
-    users = used;
-    before = refl;
-    read = λ all. all;
-    max_slots = refl;
-    len = refl;
-    none = λ e. (e, refl);
-    walks = λ p is tail. walks_here hay longest p place (walking_at place old slots (machine.kept hay longest (first_match_of old.first_match slots) (map (thread_of old.rows) threads ++ tail)) was);
-  }
-
   -- the first of those that are left
   pub user_first : (t : Thread) (rest : List Thread) (was now : Record) (old new : Scratch) (slots left : List (Option ℕ)) →
       ClosesThreads hay longest place states threads (t ∷ rest) was now old new slots left → IsUsed new.rows (users_of new t (map row_of rest))

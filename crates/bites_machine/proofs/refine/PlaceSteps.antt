@@ -3,14 +3,13 @@ use Rattle.std.proofs.Common.{◌≡◌, ℕ, zero, suc, ◌+◌, ◌<◌, ◌�
 use Rattle.std.specs.Prelude.{◌==◌, is_some, not, IfSome}
 use Rattle.bites_spec.specs.Utf8.{piece}
 use Rattle.bites_spec.specs.Program as program
-use Rattle.bites_spec.specs.Program.{Program, Configuration}
+use Rattle.bites_spec.specs.Program.{Program}
 use Rattle.bites_spec.specs.Counts.{Record}
 use Rattle.bites_spec.specs.PikeVm as machine
-use Rattle.bites_spec.specs.PikeVm.{Searching, Searches, SearchedTo, at_start, is_over, is_empty}
-use Rattle.bites_machine.specs.SlotTable.{Pool}
+use Rattle.bites_spec.specs.PikeVm.{Searches, at_start, is_over, is_empty}
 use Rattle.bites_machine.specs.Threads.{Listed}
 use Rattle.bites_machine.specs.Scratch.{thread_of}
-use Rattle.bites_machine.specs.Sweep.{SearchResult, InvariantBetweenSteps, HasRoom, IsProgramOf, Represents, PlaceSearched, HasReached, HasSearched, fit_in, starts_on}
+use Rattle.bites_machine.specs.Sweep.{SearchResult, InvariantBetweenSteps, IsProgramOf, Represents, PlaceSearched, HasReached, HasSearched, starts_on}
 use Rattle.bites_machine.specs.declared.vm.threads.Thread.{Thread}
 use Rattle.bites_machine.specs.declared.vm.closure.Scratch.{Scratch}
 
@@ -48,22 +47,6 @@ between_later states place later walked scratch list slots_per_row le b = record
   used = b.used;
   rows = b.rows;
   wide = b.wide;
-}
-
--- between two places there is room for other searches of the program
-pub room_between : (states : List program.State) (place : ℕ) (walked : Record) (scratch : Scratch) (list : Listed) (slots_per_row : ℕ) (rows : Pool) (empty : Listed) →
-    InvariantBetweenSteps states place walked scratch list slots_per_row → length rows.ref_counts ≡ length scratch.rows.ref_counts →
-    rows.pending ≡ scratch.rows.pending → empty.room ≡ list.room →
-    HasRoom (fit_in states) (record { visited_set = scratch.visited_set; stack = scratch.stack; rows = rows; next = scratch.next; first_match = scratch.first_match }) empty
-room_between states place walked scratch list slots_per_row rows empty b ref_counts pending room = record {
-  visited_set = b.visited_set;
-  pending_len = ap length pending ∙ b.pending_len;
-  stack = b.stack;
-  empty = b.empty;
-  next = b.more;
-  threads = room ∙ b.room;
-  rows = ref_counts ∙ b.rows;
-  max_slots = omega arith;
 }
 
 module _ (p : Program) (hay : List ℕ) (longest anchored earliest : Bool) (start : ℕ) (old : List (Option ℕ)) where

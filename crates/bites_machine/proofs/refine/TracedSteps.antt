@@ -1,9 +1,9 @@
 -- A place that is walked with threads that own their slots is walked as the machine on lists does.
-use Rattle.std.proofs.Common.{◌≡◌, ◌≢◌, ℕ, zero, suc, ◌+◌, ◌-◌, ◌<◌, ◌≤◌, ⊎_elim, Bool, true, false, cond, ◌&&◌, ◌||◌, not, List, [], ◌∷◌, ◌++◌, map, drop, reverse, replicate, length, Option, Some, None, refl, sym, ap, ◌∙◌, subst, arith, eq-eqb, ne_eqb, length-append, append-nil}
+use Rattle.std.proofs.Common.{◌≡◌, ◌≢◌, ℕ, zero, suc, ◌+◌, ◌-◌, ◌<◌, ◌≤◌, ⊎_elim, Bool, true, false, cond, ◌&&◌, ◌||◌, not, List, [], ◌∷◌, ◌++◌, map, reverse, replicate, length, Option, Some, None, refl, sym, ap, ◌∙◌, subst, arith, eq-eqb, ne_eqb, length-append, append-nil}
 use Rattle.std.specs.Prelude.{◌==◌, is_some, slice_index_or, slice_set}
 use Rattle.std.specs.Option.{option_or}
 use Rattle.std.specs.List.{filter, list_any}
-use Rattle.std.proofs.lemmas.List.{length-map, length-replicate, drop_more, reverse-append, reverse-reverse, length-set, get_or-set_same, get_or-set_other}
+use Rattle.std.proofs.lemmas.List.{length-map, length-replicate, reverse-append, reverse-reverse, length-set, get_or-set_same, get_or-set_other}
 use Rattle.bites_spec.specs.Utf8.{piece}
 use Rattle.bites_spec.specs.Walks.{Among}
 use Rattle.bites_spec.specs.Program.{State, Program, Configuration, at, state_at, targets_of, edges, splits, match, IsWellFormed}
@@ -21,17 +21,6 @@ use Rattle.bites_machine.proofs.model.PathLemmas.{edges_within}
 use Rattle.bites_machine.proofs.steps.ExploreLemmas.{edges_of_member}
 use Rattle.bites_machine.proofs.tables.UsedLemmas.{same_or_not}
 use Rattle.bites_spec.proofs.programs.BuiltLemmas.{Among-append}
-
--- one more item was put before the others
-pub one_pushed : {X Y : Type 0} (f : X → Y) (xs : List X) (x : X) (before ys : List Y) (n : ℕ) → 0 < n → n ≤ length xs → ((d : X) → x ≡ slice_index_or xs (n - 1) d) →
-    ys ≡ map f (drop n xs) ++ before → f x ∷ ys ≡ map f (drop (n - 1) xs) ++ before
-one_pushed f xs x before ys n some within is e =
-    let more : drop (n - 1) xs ≡ slice_index_or xs (n - 1) x ∷ drop (n - 1 + 1) xs = drop_more xs (n - 1) x (omega arith) in
-    let on : n - 1 + 1 ≡ n = omega arith in
-    ap (λ l. f x ∷ l) e
-    ∙ ap (λ k. f x ∷ (map f (drop k xs) ++ before)) (sym on)
-    ∙ ap (λ z. f z ∷ (map f (drop (n - 1 + 1) xs) ++ before)) (is x)
-    ∙ ap (λ l. map f l ++ before) (sym more)
 
 -- the last item of a list is the first one in reverse
 pub last_first : {X : Type 0} (front : List X) (x : X) (all : List X) → all ≡ front ++ x ∷ [] → reverse all ≡ x ∷ reverse front

@@ -8,7 +8,6 @@ use Rattle.std.proofs.lemmas.Bool.{le-leb}
 use Rattle.std.proofs.lemmas.List.Elements.{filter-append}
 use Rattle.bites_spec.specs.Walks.{Among}
 use Rattle.bites_spec.specs.Program as program
-use Rattle.bites_spec.specs.Program.{Configuration, at, is_match}
 use Rattle.bites_spec.specs.PikeVm as machine
 use Rattle.bites_spec.specs.PikeVm.{Walking, kept, moved, visited, thread_on, with_write}
 use Rattle.bites_machine.specs.SlotTable.{Pool, with_pending}

@@ -29,15 +29,6 @@ copied_more d xs from to w k source target apart lt is =
     ∙ paste_more d to (drop from d) k 0 (omega arith) len
 
 module _ (d : Cells) (from to w : ℕ) (source : from + w ≤ length d) (target : to + w ≤ length d) where
-  front : Cells
-  front = take to d
-
-  copied : Cells
-  copied = take w (drop from d)
-
-  behind : Cells
-  behind = drop (to + w) d
-
   length-front : length (take to d) ≡ to
   length-front = length-take-le to d (omega arith)
 

@@ -10,9 +10,6 @@ use Rattle.bites_machine.proofs.tables.RowLemmas.{row_fits, rows_apart}
 use Rattle.bites_machine.specs.SlotTable.{AreFree, AreTaken, no_slot, ref_counts_of, is_used, one_more, one_less}
 use Rattle.bites_spec.proofs.programs.BuiltLemmas.{Among-append}
 
-used_by : (n : ℕ) → ℕ
-used_by n = count_by is_used (n ∷ [])
-
 used_none : count_by is_used (0 ∷ []) ≡ 0
 used_none = refl
 
@@ -142,16 +139,6 @@ grown ref_counts are = record {
     first [] some is = absurd (omega arith)
     first (n ∷ ref_counts) some is = is
 
--- at first row 0 alone is taken
-pub first_taken : AreFree [] (0 ∷ [])
-first_taken = record {
-  first = refl;
-  some = omega arith;
-  known = λ r h. absurd h;
-  apart = tt;
-  number = refl;
-}
-
 -- row 0 alone is left where a search begins
 pub first_left : (free ref_counts : List ℕ) → AreFree free ref_counts → take 1 ref_counts ≡ 0 ∷ []
 first_left free ref_counts are = only ref_counts are.some are.first
@@ -174,10 +161,6 @@ none_behind (c ∷ ref_counts) n (suc row) = none_behind ref_counts n row
 -- a row that was never taken has no users
 pub count_at : (row_count : ℕ) (ref_counts : List ℕ) (row : ℕ) → slice_index (ref_counts_of row_count ref_counts) row ≡ slice_index ref_counts row
 count_at row_count ref_counts row = none_behind ref_counts (row_count - length ref_counts) row
-
--- no row has users where row 0 alone is taken
-pub no_users : (row_count row : ℕ) → slice_index (ref_counts_of row_count (0 ∷ [])) row ≡ 0
-no_users row_count row = count_at row_count (0 ∷ []) row ∙ none_at 1 row
 
 -- a row that has users was taken
 used_taken : (ref_counts : List ℕ) (row : ℕ) → 0 < slice_index ref_counts row → row < length ref_counts

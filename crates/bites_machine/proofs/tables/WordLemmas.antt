@@ -54,9 +54,6 @@ words_written w row_count taken row words cells wide known few len =
     (omega (arith, row_fits w w taken row known (omega arith), length-map cells slot_of, len)) (length-map words slot_of ∙ wide)
 
 module _ (w row_count taken row place : ℕ) (ks cells : List ℕ) (lt : place < no_slot) (known : row < taken) (len : length cells ≡ taken * w) where
-  slots : List (Option ℕ)
-  slots = map slot_of cells
-
   copied_slots : map slot_of (with_words place ks (take w (drop (row * w) cells))) ≡ with_pending place ks (take w (drop (row * w) (map slot_of cells)))
   copied_slots =
       written_slots place lt ks (take w (drop (row * w) cells))

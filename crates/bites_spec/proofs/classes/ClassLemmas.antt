@@ -142,10 +142,6 @@ lists_are_ranges_of set ranges l = lists_once set ranges (ranges_of set) l (rang
 pub lists_same : (a b : Set) (ranges : List Range) → ((c : ℕ) → is_scalar c ≡ true → a c ≡ b c) → Lists ranges a → Lists ranges b
 lists_same a b ranges same l = record { canonical = l.canonical; same = λ c scalar. l.same c scalar ∙ same c scalar }
 
--- sets with the same scalar values have the same canonical ranges
-pub ranges_of_same : (a b : Set) → ((c : ℕ) → is_scalar c ≡ true → a c ≡ b c) → ranges_of a ≡ ranges_of b
-ranges_of_same a b same = lists_are_ranges_of b (ranges_of a) (lists_same a b (ranges_of a) same (ranges_of_list a))
-
 -- a list joined of two contains what either contains
 pub in_ranges-append : (a b : List Range) (c : ℕ) → in_ranges (a ++ b) c ≡ (in_ranges a c || in_ranges b c)
 in_ranges-append a b c = list_any-append (λ r. in_range r c) a b

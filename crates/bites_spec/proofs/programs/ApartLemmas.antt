@@ -71,9 +71,6 @@ module _ (states : List State) where
   Behind-entered first rest entered from to used (mid, a, b, h, g, e) =
       subst (λ (l : List ℕ). Among l from) (sym e) (Among-left a b from (entered from mid a h))
 
-  Behind-may : (first rest : Fragment) → IsEntered first → MayBeEntered rest → MayBeEntered (Behind states first rest)
-  Behind-may first rest entered after from to used h = inl (Behind-entered first rest entered from to used h)
-
   Behind-fine : (first rest : Fragment) → IsFine first → IsFine rest → MayBeEntered rest → IsFine (Behind states first rest)
   Behind-fine first rest one two after from to used (mid, a, b, h, g, e) all new =
       subst (λ (l : List ℕ). AllFine l) (sym e) (fine_append a b (one from mid a h parts.0 new_mid) (two mid to b g parts.1 (λ x. new_both (Among-right a b to x))))

@@ -11,7 +11,7 @@ use Rattle.bites_spec.specs.Preference.{ParseTo, parses}
 use Rattle.bites_spec.specs.Program.{Program, Configuration, at, IsWellFormed}
 use Rattle.bites_spec.specs.Run.{Run, run, writes, leads, IsRun, IsSimple, NoRun, StartsFirst, FirstRun, LeastEnd, LongestRun, first_run}
 use Rattle.bites_spec.specs.Built.{Built, IsCompilable}
-use Rattle.bites_spec.specs.Found.{NoMatch, IsFirstPlace, FoundSome, Found, FoundLongest, IsLeastEnd, head_of, first_ending, parse_to}
+use Rattle.bites_spec.specs.Found.{NoMatch, IsFirstPlace, Found, FoundLongest, IsLeastEnd, head_of, first_ending, parse_to}
 use Rattle.bites_spec.specs.Slots.{HasGroups, answer_of, span_between}
 use Rattle.bites_spec.specs.RunLaws.{Group0IsSpan}
 use Rattle.bites_spec.proofs.parses.EventLemmas.{Event, opened, closed, writes_of, marks_of, Steps, Steps-Parse}
@@ -164,17 +164,6 @@ module _ (t : Tree) (p : Program) (hay : List ℕ) (fit : IsCompilable t) (built
     where
       greatest : (r : Run) → ((o : List Configuration) (j : ℕ) → IsRun p hay r.start o j → j ≤ r.end) → (l : ℕ) → Matches hay t r.start l → l ≤ r.end
       greatest r longest l matches = let m = match_is_run t p hay fit built r.start l matches in longest m.0 l m.1
-
-  -- a run from the first start that has one is some parse there
-  pub StartsFirst-FoundSome : (ps : List ℕ) (r : Run) → StartsFirst p hay ps r → FoundSome t hay ps (Some (answer_of p r))
-  StartsFirst-FoundSome ps r starts =
-      let x = run_is_parse t p hay fit built r.start r.end r.configurations starts.runs in record {
-        first = first_place ps r starts;
-        marks = x.0;
-        parse = x.1;
-        groups = same_groups r x.0 x.2;
-        chosen = tt;
-      }
 
   -- the least end of a run is the least end of a match
   pub LeastEnd-IsLeastEnd : (ps : List ℕ) (o : Option Run) → LeastEnd p hay ps o → IsLeastEnd t hay ps (option_map (λ r. r.end) o)

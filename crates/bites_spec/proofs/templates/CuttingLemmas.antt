@@ -1,23 +1,12 @@
 -- How the first part of a template is cut, by its first bytes.
-use Rattle.std.proofs.Common.{◌≡◌, ◌≢◌, ℕ, zero, suc, ◌+◌, ◌<◌, Bool, true, false, List, [], ◌∷◌, ◌++◌, length, get_or, take, drop, flat_map, refl, sym, ap, ap₂, ◌∙◌, subst, inl, inr, ⊎_elim, true≢false, arith, append_assoc, ◌-◌, length-drop, take_all}
-use Rattle.std.specs.Prelude.{IsUtf8}
-use Rattle.std.proofs.lemmas.List.{append-nil, take_more, flat_map_more}
+use Rattle.std.proofs.Common.{◌≡◌, ◌≢◌, ℕ, zero, suc, ◌+◌, ◌<◌, Bool, List, [], ◌∷◌, ◌++◌, length, get_or, take, drop, refl, sym, ap, ◌∙◌, subst, inl, inr, arith, ◌-◌}
 use Rattle.bites_spec.specs.Walks.{Among, IsNew}
-use Rattle.bites_spec.specs.Template.{Part, byte, name, Cuts, ends, plain, doubled, named, braced, alone, IsName}
+use Rattle.bites_spec.specs.Template.{byte, name, Cuts, ends, plain, doubled, named, braced, alone, IsName}
 use Rattle.bites_spec.specs.Cutting.{CutsFirst, NoName, StandsInBraces, IsWordAt, IsFirstBrace}
 
 Among-behind : (xs ys : List ℕ) (x : ℕ) → Among ys x → Among (xs ++ ys) x
 Among-behind [] ys x h = h
 Among-behind (z ∷ xs) ys x h = inr (Among-behind xs ys x h)
-
-IsNew-push : (xs : List ℕ) (x c : ℕ) → IsNew c xs → x ≢ c → IsNew c (xs ++ x ∷ [])
-IsNew-push [] x c new ne h = ⊎_elim (λ (e : x ≡ c). ne e) (λ (no : ⊥). no) h
-IsNew-push (y ∷ xs) x c new ne h =
-    ⊎_elim (λ (e : y ≡ c). new (inl e)) (λ (later : Among (xs ++ x ∷ []) c). IsNew-push xs x c (λ a. new (inr a)) ne later) h
-
--- the bytes before the next place have no closing brace, either
-pub no_brace_more : (bytes : List ℕ) (i : ℕ) → i < length bytes → IsNew 125 (take i bytes) → get_or bytes i 0 ≢ 125 → IsNew 125 (take (i + 1) bytes)
-no_brace_more bytes i lt new ne = subst (IsNew 125) (sym (take_more bytes i 0 lt)) (IsNew-push (take i bytes) (get_or bytes i 0) 125 new ne)
 
 split : (bytes : List ℕ) (i : ℕ) → i < length bytes → bytes ≡ take i bytes ++ get_or bytes i 0 ∷ drop (i + 1) bytes
 split [] i lt = absurd (omega arith)
@@ -40,31 +29,6 @@ brace_here bytes i lt new is = record {
 pub no_brace : (any : Bool) (inside : List ℕ) → IsNew 125 inside → NoName any inside
 no_brace any inside new word tail e first is_name =
     new (subst (λ l. Among l 125) (sym e) (Among-behind word (125 ∷ tail) 125 (inl refl)))
-
-same_front : (a b c d : List ℕ) → IsNew 125 a → IsNew 125 b → a ++ 125 ∷ c ≡ b ++ 125 ∷ d → a ≡ b
-same_front [] [] c d new newer e = refl
-same_front [] (y ∷ b) c d new newer e = absurd (newer (inl (head e)))
-  where
-    head : 125 ∷ c ≡ y ∷ b ++ 125 ∷ d → y ≡ 125
-    head e = cc
-same_front (x ∷ a) [] c d new newer e = absurd (new (inl (head e)))
-  where
-    head : x ∷ a ++ 125 ∷ c ≡ 125 ∷ d → x ≡ 125
-    head e = cc
-same_front (x ∷ a) (y ∷ b) c d new newer e =
-    ap₂ ◌∷◌ (head e) (same_front a b c d (λ h. new (inr h)) (λ h. newer (inr h)) (tail e))
-  where
-    head : x ∷ (a ++ 125 ∷ c) ≡ y ∷ (b ++ 125 ∷ d) → x ≡ y
-    head e = cc
-
-    tail : x ∷ (a ++ 125 ∷ c) ≡ y ∷ (b ++ 125 ∷ d) → a ++ 125 ∷ c ≡ b ++ 125 ∷ d
-    tail e = cc
-
--- if the bytes before the first closing brace are not UTF-8, and names must be, no name in braces begins
-pub bad_name : (any : Bool) (inside : List ℕ) (i : ℕ) → IsFirstBrace inside i → any ≡ false → (IsUtf8 (take i inside) → ⊥) → NoName any inside
-bad_name any inside i brace strict bad word tail e first is_name =
-    let same = same_front word (take i inside) tail (drop (i + 1) inside) first brace.first (sym e ∙ brace.whole) in
-    ⊎_elim (λ (free : any ≡ true). absurd (true≢false (sym free ∙ strict))) (λ (utf8 : IsUtf8 word). bad (subst IsUtf8 same utf8)) is_name
 
 length_take : (xs : List ℕ) (i : ℕ) → i < length xs → length (take i xs) ≡ i
 length_take [] i lt = absurd (omega arith)
@@ -132,25 +96,3 @@ cuts_named any rest word at some parts c =
 -- any other byte stands for itself
 pub cuts_plain : (any : Bool) (first : ℕ) (behind : List ℕ) → first ≢ 36 → CutsFirst any (first ∷ behind) (byte first) (drop 0 behind)
 cuts_plain any first behind ne parts c = plain first behind parts ne c
-
--- the parts found so far, followed by those of the rest, are the parts of the template
-abbrev pub Found : Bool → List ℕ → List ℕ → List Part → Type 0
-Found any template rest front = (parts : List Part) → Cuts any rest parts → Cuts any template (front ++ parts)
-
--- one part more is found
-pub found_more : (any : Bool) (template rest newer : List ℕ) (front : List Part) (part : Part) → Found any template rest front → CutsFirst any rest part newer →
-    Found any template newer (front ++ part ∷ [])
-found_more any template rest newer front part so_far cut parts c =
-    subst (Cuts any template) (sym (append_assoc front (part ∷ []) parts)) (so_far (part ∷ parts) (cut parts c))
-
-pub found_all : (any : Bool) (template rest : List ℕ) (front : List Part) → length rest ≡ 0 → Found any template rest front → Cuts any template front
-found_all any template [] front none so_far = subst (Cuts any template) (append-nil front) (so_far [] ends)
-found_all any template (b ∷ rest) front none so_far = absurd (omega arith)
-
-pub text_more : (f : Part → List ℕ) (front : List Part) (part : Part) (text newer : List ℕ) → text ≡ flat_map f front → newer ≡ text ++ f part →
-    newer ≡ flat_map f (front ++ part ∷ [])
-text_more f front part text newer so_far is = is ∙ ap (λ (l : List ℕ). l ++ f part) so_far ∙ flat_map_more f [] front part
-
--- the slice from a place to the end is the list without the bytes before it
-pub behind_is : (xs : List ℕ) (n : ℕ) → take (length xs - n) (drop n xs) ≡ drop n xs
-behind_is xs n = take_all (length xs - n) (drop n xs) (omega (arith, length-drop n xs))

@@ -10,9 +10,6 @@ use Rattle.bites_spec.specs.Utf8.{Piece, front_piece, piece_by, fitting, whole_l
 inside : (a b x : ℕ) → a ≤ x → x ≤ b → in_range (a, b) x ≡ true
 inside a b x l h = grind (arith, nat_tests)
 
-below : (a b x : ℕ) → x < a → in_range (a, b) x ≡ false
-below a b x l = grind (arith, nat_tests)
-
 above : (a b x : ℕ) → b < x → in_range (a, b) x ≡ false
 above a b x l = grind (arith, nat_tests)
 

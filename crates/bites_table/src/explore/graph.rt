@@ -366,6 +366,15 @@ impl Graph {
             .saturating_add(outcomes)
             .saturating_add(moves)
     }
+
+    /// Returns how many bytes the graph takes with a row more, if each of its transitions leads to a list that is not there
+    /// yet.
+    pub(crate) fn bytes_with_row(&self) -> usize {
+        let list = size_of::<StoredList>() + size_of::<Thread>();
+        let transition = size_of::<Option<Cell>>() + size_of::<StoredOutcome>() + list;
+        self.bytes()
+            .saturating_add(self.classes.saturating_mul(transition))
+    }
 }
 
 // Adds so many transitions that are not known.

@@ -8,11 +8,12 @@ ghost use Rattle.bites_table.specs.Graph.{table_of};
 ghost use Rattle.bites_table.specs.Built.{kind_as};
 ghost use Rattle.bites_table.specs.Made.{IsWalked};
 ghost use Rattle.bites_table.specs.Explored.{program_in, classes_in, IsContext};
-ghost use Rattle.bites_table.specs.Stays.{LeadsBack, EndsQuietly, IsStay, AreStays, IsFound, WalksSo, AllWalkSo, StaysOver, IsKept};
+ghost use Rattle.bites_table.specs.Stays.{LeadsBack, IsStay, AreStays, IsFound, WalksSo, AllWalkSo, StaysOver, IsKept, AreCalm};
 ghost use Rattle.bites_table.specs.declared.kind.Kind.TheVariants.{Edge};
 ghost use Rattle.bites_table.specs.declared.table.skip.Skip.{Skip};
 
 use crate::explore::graph::Graph;
+use crate::explore::rests::{find_calms, find_rest};
 use crate::explore::{Context, KINDS, Memory};
 use crate::kind::Kind;
 use crate::table::layout::doing_of;
@@ -22,8 +23,8 @@ use bites_scan::byte_set::ByteSet;
 use std::alloc::Global;
 use std::snapshot::Snapshot;
 
-// How many of the small letters and the blank a set must have, so that a search stops to skip its bytes.
-const MOST_LETTERS: u32 = 20;
+// How many of a thousand letters of a text may stop a skip. With more of them a transition for each byte takes less time.
+const MOST_STOPS: u32 = 100;
 
 /// What a search passes at once from each list, by their numbers.
 #[derive(Drop)]
@@ -40,20 +41,19 @@ enum Found {
     Rests(Rest),
 }
 
-// The classes over which a list stays with the same visits and looks, and whether the end is like that.
+// The classes over which a list stays with the same visits and looks.
 #[derive(Drop)]
 struct Over {
     keeps: Vec<bool>,
-    ends: bool,
     seen: Snapshot<Vec<u32>>,
     looks: Snapshot<usize>,
 }
 
-// The states that a walk visited, in order, and the number of its looks.
+/// The states that a walk visited, in order, and the number of its looks.
 #[derive(Drop)]
-struct Walked {
-    states: Vec<u32>,
-    looks: usize,
+pub(crate) struct Walked {
+    pub states: Vec<u32>,
+    pub looks: usize,
 }
 
 /// Finds what a search passes at once from each list. Returns `None` if memory runs out.
@@ -72,8 +72,9 @@ pub(crate) fn find_stays(
         skips: Vec::new(alloc),
         lists: Vec::new(alloc),
     };
+    let calms = find_calms(alloc, context, memory, graph)?;
     for number in 0..graph.lists() {
-        let found = find_stay(alloc, context, memory, graph, number);
+        let found = find_stay(alloc, context, memory, graph, &calms, number);
         stays.add(found)?;
     }
     Some(stays)
@@ -124,22 +125,23 @@ fn find_stay(
     context: &Context<'_>,
     memory: &mut Memory,
     graph: &Graph,
+    calms: &[Option<Walked>],
     number: usize,
 ) -> Found
     requires context { IsContext context.now }
     requires classes { graph.now.classes ≡ length context.now.after.now }
     requires table { IsTable (program_in context.now) (classes_in context.now) (table_of graph.now) }
     requires within { number < length graph.now.lists }
+    requires calms { AreCalm (table_of graph.now) (classes_in context.now) calms.now }
     ensures { IsFound (table_of graph.now) (classes_in context.now) number result }
 {
+    if let Some(rest) = find_rest(alloc, context, graph, calms, number) {
+        return Found::Rests(rest);
+    }
     let Some(over) = find_over(alloc, context, memory, graph, number) else {
         return Found::Nothing;
     };
     let classes = context.classes;
-    if over.ends && are_kept(&over.keeps, classes.end()) {
-        let Over { seen, looks, .. } = over;
-        return Found::Rests(Rest { seen, looks });
-    }
     if over.keeps.len() != classes.len() {
         return Found::Nothing;
     }
@@ -152,30 +154,45 @@ fn find_stay(
     Found::Skips(Skip { set, seen, looks })
 }
 
-// Returns whether most letters of a text, and blanks, are in the set. Else a search would stop to skip again and again.
+// Returns whether few bytes of an English text stop a skip over this set. Else a search would stop to skip again and again. A
+// blank ends each word, so it must not stop one.
 fn are_common(flags: &[bool; 256]) -> bool {
-    let mut count = u32::from(flags[usize::from(b' ')]);
-    for letter in b'a'..=b'z' {
-        if flags[usize::from(letter)] {
-            count = count.wrapping_add(1);
-        }
-    }
-    count >= MOST_LETTERS
-}
-
-// Returns whether all classes before this one are kept.
-fn are_kept(keeps: &[bool], end: usize) -> bool
-    ensures { result ≡ true → (c : ℕ) → c < end → slice_index_or keeps.now c false ≡ true }
-{
-    if end > keeps.len() {
+    if !flags[usize::from(b' ')] {
         return false;
     }
-    for class in 0..end {
-        if !keeps[class] {
-            return false;
+    let mut stops = 0_u32;
+    for letter in b'a'..=b'z' {
+        if !flags[usize::from(letter)] {
+            stops = stops.wrapping_add(frequency(letter));
         }
     }
-    true
+    stops <= MOST_STOPS
+}
+
+// Returns how many of a thousand letters of English texts are this small one.
+fn frequency(letter: u8) -> u32 {
+    match letter {
+        b'e' => 127,
+        b't' => 91,
+        b'a' => 82,
+        b'o' => 75,
+        b'i' => 70,
+        b'n' => 67,
+        b's' => 63,
+        b'h' => 61,
+        b'r' => 60,
+        b'd' => 43,
+        b'l' => 40,
+        b'c' | b'u' => 28,
+        b'm' | b'w' => 24,
+        b'f' => 22,
+        b'g' | b'y' => 20,
+        b'p' => 19,
+        b'b' => 15,
+        b'v' => 10,
+        b'k' => 8,
+        _ => 1,
+    }
 }
 
 // Finds the classes over which a list stays. Returns `None` if there are none, or if memory or the budget runs out.
@@ -190,17 +207,15 @@ fn find_over(
     requires classes { graph.now.classes ≡ length context.now.after.now }
     requires table { IsTable (program_in context.now) (classes_in context.now) (table_of graph.now) }
     requires within { number < length graph.now.lists }
-    ensures { IfSome result (StaysOver (table_of graph.now) (classes_in context.now) number) }
+    ensures { IfSome result (StaysOver (table_of graph.now) number) }
 {
     let leads = leading(alloc, graph, number)?;
     let first = first_kind(&leads, context.after)?;
     let walked = walk_once(alloc, context, memory, graph, number, first)?;
     let kinds = alike_kinds(alloc, context, memory, graph, number, first, &walked)?;
     let keeps = kept_by(alloc, &leads, &kinds, context.after)?;
-    let ends = ends_quietly(context, graph, number, &kinds);
     Some(Over {
         keeps,
-        ends,
         seen: Snapshot::of(&walked.states),
         looks: Snapshot::of(&walked.looks),
     })
@@ -241,8 +256,8 @@ fn first_kind(leads: &[bool], after: &[Kind]) -> Option<Kind> {
     None
 }
 
-// Walks a list before a byte of the kind, and returns what that visits.
-fn walk_once(
+/// Walks a list before a byte of the kind, and returns what that visits.
+pub(crate) fn walk_once(
     alloc: Global,
     context: &Context<'_>,
     memory: &mut Memory,
@@ -277,8 +292,8 @@ fn walk_again(
     Some(looks)
 }
 
-// Returns the kinds before which the walk of the list is the same.
-fn alike_kinds(
+/// Returns the kinds before which the walk of the list is the same.
+pub(crate) fn alike_kinds(
     alloc: Global,
     context: &Context<'_>,
     memory: &mut Memory,
@@ -358,8 +373,8 @@ fn kept_by(alloc: Global, leads: &[bool], kinds: &[Kind], after: &[Kind]) -> Opt
     Some(keeps)
 }
 
-// Returns whether the kind after which the class is walked is one of these.
-fn is_among(kinds: &[Kind], after: &[Kind], class: usize) -> bool
+/// Returns whether the kind after which the class is walked is one of these.
+pub(crate) fn is_among(kinds: &[Kind], after: &[Kind], class: usize) -> bool
     ensures within { result ≡ true → class < length after.now }
     ensures among { result ≡ true → Among kinds.now (slice_index_or after.now class Edge) }
 {
@@ -379,19 +394,4 @@ fn has_kind(kinds: &[Kind], kind: Kind) -> bool
         }
     }
     false
-}
-
-// Returns whether nobody comes to a match at the end, after the same walk.
-fn ends_quietly(context: &Context<'_>, graph: &Graph, number: usize, kinds: &[Kind]) -> bool
-    requires context { IsContext context.now }
-    requires table { IsTable (program_in context.now) (classes_in context.now) (table_of graph.now) }
-    ensures { result ≡ true → (seen : List ℕ) (looks : ℕ) →
-        AllWalkSo (program_in context.now) (list_at (table_of graph.now) number) kinds.now seen looks →
-        EndsQuietly (table_of graph.now) (classes_in context.now) number seen looks }
-{
-    let end = context.classes.end();
-    let Some(outcome) = graph.outcome_over(number, end) else {
-        return false;
-    };
-    outcome.hit.is_none() && is_among(kinds, context.after, end)
 }

@@ -10,13 +10,13 @@ ghost use Rattle.bites_table.specs.Steps.{with_spare};
 ghost use Rattle.bites_table.specs.Built.{frame_of};
 ghost use Rattle.bites_table.specs.Packed.{Packed, IsRow, IsKnown, Tells, row_of, lists_in, stride, mask_of, IsPartOf, unknown};
 ghost use Rattle.bites_table.specs.Standing.{IsAsked, IsOver, slots_after};
-ghost use Rattle.bites_table.specs.Searches.{asked, IsSame, Held, IsHeldAt, StandsAt, IsLent, IsFresh, TurnsTo, StopsSo};
+ghost use Rattle.bites_table.specs.Searches.{asked, IsSame, Held, with_words, IsHeldAt, StandsAt, IsLent, IsFresh, TurnsTo, StopsSo};
 ghost use Rattle.bites_spec.specs.Look.{before};
 ghost use Rattle.bites_table.specs.Explored.{number_in};
 ghost use Rattle.bites_table.specs.declared.table.cell.Cell as cell;
 
 use crate::search::place::{kind_before, piece_at};
-use crate::steps::{run_steps, write_row};
+use crate::steps::{begin_row, run_steps, write_row};
 use crate::table::Table;
 use crate::table::act::Act;
 use crate::table::cell::{Cell, UNKNOWN, mask};
@@ -44,11 +44,13 @@ pub(crate) struct Standing {
     pub row: usize,
 }
 
-// A transition that was lent: where the cells of the next thread list begin, and the number of what it does.
+// A transition that was lent: where the cells of the next thread list begin, the number of what it does, and the register whose
+// row begins.
 #[derive(Clone, Copy, Drop)]
 struct Lent {
     next: usize,
     act: usize,
+    begins: u8,
 }
 
 // What comes after a place.
@@ -85,6 +87,7 @@ impl Search<'_> {
         Some(Lent {
             next: cell.next as usize,
             act: cell.act as usize,
+            begins: cell.begins,
         })
     }
 
@@ -128,22 +131,25 @@ impl Search<'_> {
         None
     }
 
-    // Goes on while nothing is to be done at a place but to go on.
+    // Goes on while nothing is to be done at a place but to go on, or to begin a row of two slots.
     #[inline(always)]
-    fn pass(&mut self, from: Standing, mask: u8) -> Standing
-        requires stands { (h : Held) × IsHeldAt self.old from h × (mask ≡ mask_of (length h.before)) }
-        ensures stands { (h : Held) → IsHeldAt self.old from h → mask ≡ mask_of (length h.before) →
-            IsHeldAt self.new result h }
+    fn pass(&mut self, from: Standing, registers: &mut [usize], width: usize) -> Standing
+        requires stands { (h : Held) × IsHeldAt self.old from h × (h.words ≡ registers.old) × (width ≡ length h.before) }
+        requires room { with_spare * width ≤ length registers.old }
+        ensures stands { (h : Held) → IsHeldAt self.old from h → h.words ≡ registers.old → width ≡ length h.before →
+            IsHeldAt self.new result (with_words registers.new h) }
         ensures onward { from.place ≤ result.place }
         ensures same { IsSame self.old self.new }
     {
         let haystack = self.input.haystack;
+        let mask = mask(width);
         let mut at = from;
         'places: while at.place < haystack.len() {
             let class = self.table.class_of_byte(haystack[at.place]);
             let Some(lent) = self.lend(at, class, mask) else {
                 break;
             };
+            begin_row(registers, width, lent.begins, at.place);
             at = Standing {
                 place: at.place + 1,
                 row: lent.next,
@@ -219,11 +225,10 @@ impl Search<'_> {
         ensures stops { StopsSo self.new before registers.new slots.new result.0 result.1 }
         ensures same { IsSame self.old self.new }
     {
-        let mask = mask(slots.len());
         let mut at = from;
         let mut is_found = was_found;
         'places: loop {
-            at = self.pass(at, mask);
+            at = self.pass(at, registers, slots.len());
             match self.step(at, registers, is_found, slots) {
                 Turn::Goes {
                     to,

@@ -34,4 +34,6 @@ pub struct Act {
     pub is_over: bool,
     /// The bits of its cells.
     pub doing: u8,
+    /// The register whose row begins, for its cells.
+    pub begins: u8,
 }

@@ -20,6 +20,9 @@ pub struct Cell {
     pub act: u16,
     /// A bit for each width of a search that has to look at what the transition does, and one for what is not known.
     pub doing: u8,
+    /// The register whose row begins at the place, in a search for two slots that has not to look. It is the spare one if no
+    /// row begins.
+    pub begins: u8,
     /// For proofs, the states that the transition visits.
     pub seen: Snapshot<Vec<u32>>,
     /// For proofs, the number of its looks.

@@ -1,6 +1,6 @@
 //! Lays a graph of thread lists out as a table.
 
-ghost use Rattle.std.specs.Prelude.{◌≡◌, ◌<◌, ◌+◌, ◌*◌, ◌++◌, ℕ, suc, List, Option, true, false, None, Some, IfSome, length, map, option_map, drop, slice_get};
+ghost use Rattle.std.specs.Prelude.{◌≡◌, ◌<◌, ◌≤◌, ◌+◌, ◌*◌, ◌++◌, ℕ, suc, List, Option, true, false, None, Some, IfSome, length, map, option_map, drop, slice_get};
 ghost use Rattle.std.specs.Option.{option_flatten};
 ghost use Rattle.std.specs.Vec.Iter.{into_iter_items, into_iter_len};
 ghost use Rattle.bites_spec.specs.Walks.{Among};
@@ -13,7 +13,7 @@ ghost use Rattle.bites_table.specs.Graph as graphs;
 ghost use Rattle.bites_table.specs.Stored.{outcome_of, cell_of};
 ghost use Rattle.bites_table.specs.Steps.{NameRegisters};
 ghost use Rattle.bites_table.specs.Packed.{Packed, classes_in, is_dead, Tells};
-ghost use Rattle.bites_table.specs.LaidOut.{register_thread, AreHeldBelow, AreEntries, IsHeldHit, AreHeldHits, masked, IsOwn, IsKept, DoesByBits, IsAct, AreActs, Fits, AreLaid};
+ghost use Rattle.bites_table.specs.LaidOut.{register_thread, AreHeldBelow, AreEntries, IsHeldHit, AreHeldHits, masked, IsOwn, IsKept, IsBegun, IsKeptOrBegun, DoesByBits, PassesByBits, IsAct, AreActs, Fits, AreLaid};
 ghost use Rattle.bites_table.specs.Layout.{AreCells, AreWithin};
 ghost use Rattle.bites_table.specs.declared.thread_list.Thread.{Thread};
 ghost use Rattle.bites_table.specs.declared.steps.Step.{Step};
@@ -23,7 +23,7 @@ use crate::explore::graph::{Cell as GraphCell, Graph, Outcome};
 use crate::explore::roots::Roots;
 use crate::explore::stays::Stays;
 use crate::explore::{Explored, Extent};
-use crate::steps::{MOST_REGISTERS, Step};
+use crate::steps::{MOST_REGISTERS, SPARE, Step};
 use crate::table::act::{Act, Part};
 use crate::table::cell::{ALL, Cell};
 use crate::table::sequence::push_steps;
@@ -226,6 +226,14 @@ fn has_register(hit: Option<Frame>) -> bool
     }
 }
 
+// What a search has to look at for an outcome: the bits of the widths, and the register whose row begins where a search for two
+// slots has not to look.
+#[derive(Clone, Copy, Drop)]
+struct Looks {
+    doing: u8,
+    begins: u8,
+}
+
 // Returns what an outcome does. If no steps make its moves, it is not known. If a search stops at the next list, since it
 // passes something at once from there, no search goes on without a look.
 fn act_of(
@@ -239,14 +247,102 @@ fn act_of(
     ensures names { NameRegisters steps.old.items → NameRegisters steps.new.items }
     ensures act { IsAct steps.new.items (outcome_of outcome.now) (list_of next.now) result }
 {
+    let unknown = Part { from: 0, to: 0 };
+    let each = Looks {
+        doing: ALL,
+        begins: SPARE,
+    };
     if !are_held(next.threads, outcome.moves.len()) {
-        return act_with(outcome, next, Part { from: 0, to: 0 }, ALL);
+        return act_with(outcome, next, unknown, each);
     }
-    let doing = if stops { EACH } else { doing_of(outcome, next) };
     match push_steps(steps, found, outcome.moves) {
-        Some(part) => act_with(outcome, next, part, doing),
-        None => act_with(outcome, next, Part { from: 0, to: 0 }, ALL),
+        Some(part) => act_with(outcome, next, part, looks_of(outcome, next, stops)),
+        None => act_with(outcome, next, unknown, each),
     }
+}
+
+// Returns what a search has to look at, where each thread has one of the registers of the moves.
+fn looks_of(outcome: &Outcome<'_>, next: &ThreadList<'_>, stops: bool) -> Looks
+    requires held { AreHeld (length outcome.now.moves.now) next.now.threads.now }
+    requires few { length outcome.now.moves.now ≤ 32 }
+    ensures { PassesByBits (outcome_of outcome.now) (list_of next.now) result.begins result.doing }
+{
+    let begins = SPARE;
+    if stops {
+        return Looks {
+            doing: EACH,
+            begins,
+        };
+    }
+    let doing = doing_of(outcome, next);
+    if doing != FOR_SLOTS {
+        return Looks { doing, begins };
+    }
+    match begun_register(next.threads, outcome.moves) {
+        Some(begins) => Looks {
+            doing: FOR_MORE_SLOTS,
+            begins,
+        },
+        None => Looks { doing, begins },
+    }
+}
+
+// Returns the register whose row begins, if each other thread has the row of the register of its own number in the first two
+// slots.
+fn begun_register(threads: &[Thread], moves: &[Source]) -> Option<u8>
+    ensures few { IfSome result (λ r. r < 32) }
+    ensures begun { IfSome result (λ r. (t : Thread) → Among threads.now t → IsKeptOrBegun moves.now r t) }
+{
+    let register = first_changed(threads, moves)?;
+    if register as usize >= MOST_REGISTERS || !are_kept_or_begun(threads, moves, register) {
+        return None;
+    }
+    u8::try_from(register).ok()
+}
+
+// Returns the register of the first thread that has another row in the first two slots than that of its own register.
+fn first_changed(threads: &[Thread], moves: &[Source]) -> Option<u32> {
+    for thread in threads {
+        if !is_kept(*thread, moves, FIRST_SLOTS) {
+            return Some(thread.register);
+        }
+    }
+    None
+}
+
+// Returns whether each thread has a row that begins, if it has this register, and else in the first two slots the row of the
+// register of its own number.
+fn are_kept_or_begun(threads: &[Thread], moves: &[Source], register: u32) -> bool
+    ensures { result ≡ true → (t : Thread) → Among threads.now t → IsKeptOrBegun moves.now register t }
+{
+    for thread in threads {
+        if !is_kept_or_begun(*thread, moves, register) {
+            return false;
+        }
+    }
+    true
+}
+
+fn is_kept_or_begun(thread: Thread, moves: &[Source], register: u32) -> bool
+    ensures { result ≡ true → IsKeptOrBegun moves.now register thread }
+{
+    if thread.register == register {
+        is_begun(thread, moves)
+    } else {
+        is_kept(thread, moves, FIRST_SLOTS)
+    }
+}
+
+// Returns whether the row of the thread begins: of the first two slots the first is written, and no register is its source.
+fn is_begun(thread: Thread, moves: &[Source]) -> bool
+    ensures { result ≡ true → IsBegun moves.now thread }
+{
+    let register = thread.register as usize;
+    if register >= moves.len() {
+        return false;
+    }
+    let source = moves[register];
+    source.register.is_none() && source.has_written(0) && !source.has_written(1)
 }
 
 // Returns whether each thread has one of so many registers.
@@ -261,15 +357,16 @@ fn are_held(threads: &[Thread], registers: usize) -> bool
     true
 }
 
-fn act_with(outcome: &Outcome<'_>, next: &ThreadList<'_>, steps: Part, doing: u8) -> Act
-    ensures { result ≡ record { hit = outcome.now.hit; steps = steps; next = outcome.now.next; is_over = is_dead (list_of next.now); doing = doing } }
+fn act_with(outcome: &Outcome<'_>, next: &ThreadList<'_>, steps: Part, looks: Looks) -> Act
+    ensures { result ≡ record { hit = outcome.now.hit; steps = steps; next = outcome.now.next; is_over = is_dead (list_of next.now); doing = looks.doing; begins = looks.begins } }
 {
     Act {
         hit: outcome.hit,
         steps,
         next: outcome.next,
         is_over: is_dead(next),
-        doing,
+        doing: looks.doing,
+        begins: looks.begins,
     }
 }
 
@@ -416,6 +513,7 @@ fn known(cell: GraphCell, acts: &[Act], stride: usize) -> Option<Cell>
         next,
         act: number,
         doing: act.doing,
+        begins: act.begins,
         seen,
         looks,
     })
@@ -441,6 +539,7 @@ fn unknown(alloc: Global) -> Cell
         next: 0,
         act: 0,
         doing: ALL,
+        begins: SPARE,
         seen: Snapshot::of(&Vec::new(alloc)),
         looks: Snapshot::of(&0),
     }

@@ -13,7 +13,7 @@ pub struct Skip {
     pub looks: Snapshot<usize>,
 }
 
-/// A thread list that leads back to itself over each character, so that nothing is found any more.
+/// A thread list from which each character leads to lists that find nothing any more, with the same visits and looks.
 #[derive(Drop)]
 pub struct Rest {
     /// For proofs, the states that each of its transitions visits, that at the end too.

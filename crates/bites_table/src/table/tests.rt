@@ -10,28 +10,22 @@ fn program(alloc: Global, pattern: &str) -> Result<Program, Error> {
     compile(alloc, &tree, pattern, 1 << 20)
 }
 
-/// Each row has a pattern, a limit in bytes, the number of thread lists, and whether the table is whole. All were worked out
-/// by hand: with a limit of one byte only the lists where searches begin are made.
+/// Each row has a pattern and the number of its thread lists. All were worked out by hand.
 #[test]
 fn lists_counted_by_hand(rt: HostRuntime) -> Result<(), Error> {
-    for (pattern, limit, lists, is_whole) in &[
-        ("a", 1 << 20, 5, true),
-        ("a", 1, 2, false),
-        ("^a", 1 << 20, 8, true),
-        ("^a", 1, 4, false),
-    ] {
+    for (pattern, lists) in &[("a", 5), ("^a", 8)] {
         let program = program(rt.alloc(), pattern)?;
-        let found = Table::new(rt.alloc(), &program, *limit);
+        let found = Table::new(rt.alloc(), &program, 1 << 20);
         let Some(table) = found else {
             return Err(Error::Memory);
         };
         let TableSize {
             lists: made,
-            is_whole: is_made_whole,
+            is_whole,
             ..
         } = table.size();
         assert_eq!(rt; made, *lists);
-        assert_eq!(rt; is_made_whole, *is_whole);
+        assert!(rt; is_whole);
     }
     Ok(())
 }
@@ -40,6 +34,7 @@ fn lists_counted_by_hand(rt: HostRuntime) -> Result<(), Error> {
 fn no_table_without_bytes(rt: HostRuntime) -> Result<(), Error> {
     let program = program(rt.alloc(), "a")?;
     assert!(rt; Table::new(rt.alloc(), &program, 0).is_none());
+    assert!(rt; Table::new(rt.alloc(), &program, 1).is_none());
     Ok(())
 }
 
@@ -54,7 +49,21 @@ fn passed_at_once_by_hand(rt: HostRuntime) -> Result<(), Error> {
         ("^a", Kind::Other, "xyza", None, true),
         ("^a$", Kind::Other, "xyza", None, true),
         ("a$", Kind::Other, "xyza", Some(3), false),
-        (r"\ba", Kind::WordByte, "xya a", Some(3), false),
+        (r"\ba", Kind::WordByte, "xya a", None, false),
+        ("[etaoi]", Kind::Other, "xyza", None, false),
+        (r"^ab\b", Kind::Edge, "xyza", None, false),
+        (r"^ab\b", Kind::Other, "xyza", None, true),
+        (r"^ab\b", Kind::WordByte, "xyza", None, true),
+        (r"(?m)^a\b", Kind::Other, "xyza", None, false),
+        (r"(?m)^a\b", Kind::WordByte, "xyz a", None, false),
+        (r"(?:^|\b{start-half}^)a", Kind::Other, "xyza", None, false),
+        (
+            r"(?:^|\b{start-half}^)a",
+            Kind::WordByte,
+            "xyz a",
+            None,
+            false,
+        ),
     ] {
         let program = program(rt.alloc(), pattern)?;
         let table = Table::new(rt.alloc(), &program, 1 << 20).ok_or(Error::Memory)?;

@@ -6,10 +6,11 @@ ghost use Rattle.bites_spec.specs.Tree.{Tree};
 ghost use Rattle.bites_spec.specs.Found.{HasMatch, IsLeastEnd};
 ghost use Rattle.bites_spec.specs.Full.{IsFullMatch};
 ghost use Rattle.bites_spec.specs.Slots.{group_in};
-ghost use Rattle.bites_spec.specs.Counts.{fit_of, IsBounded, VisitedBy, IsWalked};
+ghost use Rattle.bites_spec.specs.Counts.{fit_of, IsWalked};
 ghost use Rattle.bites_spec.specs.Settings.{Accepts, by_default, no_flags};
 ghost use Rattle.bites_spec.specs.AllMatches.{AreCaptures};
 ghost use Rattle.bites_spec.specs.Utf8.{places, start_alone};
+ghost use Rattle.bites_bytes.specs.Calls.{WalkedFrom};
 ghost use Rattle.bites_bytes.specs.Settings.{Refuses};
 ghost use Rattle.bites_bytes.specs.Matched.{excerpt_of};
 ghost use Rattle.bites_theorems.specs.Headline.{MatchHeadline, Headline, AreFirstGroups, FullHeadline};
@@ -84,8 +85,7 @@ pub fn shortest_match(
 /// states times places. If nothing is found, all that can be reached was visited. Otherwise all of one run was.
 pub fn is_match_visits(regex: &Regex, cache: &mut Cache, haystack: &[u8], start: usize) -> bool
     requires { cache.old.fits ≡ fit_of regex.now.program }
-    ensures once { IsBounded regex.now.program haystack.now start cache.new.walked }
-    ensures reached { VisitedBy regex.now.program haystack.now (places haystack.now start) result cache.new.walked }
+    ensures walked { WalkedFrom regex.now haystack.now start result cache.new.walked }
 {
     regex.is_match_at_with(cache, haystack, start)
 }
@@ -98,9 +98,7 @@ pub fn shortest_match_visits(
     start: usize,
 ) -> Option<usize>
     requires { cache.old.fits ≡ fit_of regex.now.program }
-    ensures once { IsBounded regex.now.program haystack.now start cache.new.walked }
-    ensures reached { VisitedBy regex.now.program haystack.now (places haystack.now start)
-        (is_some result) cache.new.walked }
+    ensures walked { WalkedFrom regex.now haystack.now start (is_some result) cache.new.walked }
 {
     regex.shortest_match_at_with(cache, haystack, start)
 }
@@ -113,9 +111,7 @@ pub fn find_visits<'h>(
     start: usize,
 ) -> Option<Match<'h>>
     requires { cache.old.fits ≡ fit_of regex.now.program }
-    ensures once { IsBounded regex.now.program haystack.now start cache.new.walked }
-    ensures reached { VisitedBy regex.now.program haystack.now (places haystack.now start)
-        (is_some result) cache.new.walked }
+    ensures walked { WalkedFrom regex.now haystack.now start (is_some result) cache.new.walked }
 {
     regex.find_at_with(cache, haystack, start)
 }

@@ -6,9 +6,10 @@ ghost use Rattle.bites_spec.specs.Tree.{Tree};
 ghost use Rattle.bites_spec.specs.Found.{HasMatch, IsLeastEnd};
 ghost use Rattle.bites_spec.specs.Full.{IsFullMatch};
 ghost use Rattle.bites_spec.specs.Slots.{group_in};
-ghost use Rattle.bites_spec.specs.Counts.{fit_of, IsBounded, VisitedBy, IsWalked};
+ghost use Rattle.bites_spec.specs.Counts.{fit_of, IsWalked};
 ghost use Rattle.bites_spec.specs.Settings.{Accepts, by_default, no_flags};
 ghost use Rattle.bites_spec.specs.AllMatches.{AreCaptures};
+ghost use Rattle.bites_bytes.specs.Calls.{WalkedFrom};
 ghost use Rattle.bites_bytes.specs.Settings.{Refuses};
 ghost use Rattle.bites_spec.specs.TextLaws.{HasBorders};
 ghost use Rattle.bites_spec.specs.Utf8.{places, start_alone};
@@ -93,8 +94,7 @@ pub fn shortest_match(
 pub fn is_match_visits(regex: &Regex, cache: &mut Cache, haystack: &str, start: usize) -> bool
     requires border { start ≤ length haystack.now → IsCharBoundary haystack.now start }
     requires cache { cache.old.fits ≡ fit_of regex.now.program }
-    ensures once { IsBounded regex.now.program haystack.now start cache.new.walked }
-    ensures reached { VisitedBy regex.now.program haystack.now (places haystack.now start) result cache.new.walked }
+    ensures walked { WalkedFrom regex.now haystack.now start result cache.new.walked }
 {
     regex.is_match_at_with(cache, haystack, start)
 }
@@ -108,9 +108,7 @@ pub fn shortest_match_visits(
 ) -> Option<usize>
     requires border { start ≤ length haystack.now → IsCharBoundary haystack.now start }
     requires cache { cache.old.fits ≡ fit_of regex.now.program }
-    ensures once { IsBounded regex.now.program haystack.now start cache.new.walked }
-    ensures reached { VisitedBy regex.now.program haystack.now (places haystack.now start)
-        (is_some result) cache.new.walked }
+    ensures walked { WalkedFrom regex.now haystack.now start (is_some result) cache.new.walked }
 {
     regex.shortest_match_at_with(cache, haystack, start)
 }
@@ -124,9 +122,7 @@ pub fn find_visits<'h>(
 ) -> Option<Match<'h>>
     requires border { start ≤ length haystack.now → IsCharBoundary haystack.now start }
     requires cache { cache.old.fits ≡ fit_of regex.now.program }
-    ensures once { IsBounded regex.now.program haystack.now start cache.new.walked }
-    ensures reached { VisitedBy regex.now.program haystack.now (places haystack.now start)
-        (is_some result) cache.new.walked }
+    ensures walked { WalkedFrom regex.now haystack.now start (is_some result) cache.new.walked }
 {
     regex.find_at_with(cache, haystack, start)
 }

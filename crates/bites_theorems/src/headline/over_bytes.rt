@@ -4,10 +4,11 @@ ghost use Rattle.std.specs.Prelude.{◌≡◌, ◌≢◌, ◌↔◌, length, map
 ghost use Rattle.bites_spec.specs.Tree.{Tree};
 ghost use Rattle.bites_spec.specs.Found.{HasMatch};
 ghost use Rattle.bites_spec.specs.Slots.{group_in};
-ghost use Rattle.bites_spec.specs.Counts.{fit_of, IsBounded, VisitedBy};
+ghost use Rattle.bites_spec.specs.Counts.{fit_of};
 ghost use Rattle.bites_spec.specs.Settings.{Accepts};
 ghost use Rattle.bites_spec.specs.AllMatches.{AreMatches, LeaveNoneOut};
 ghost use Rattle.bites_spec.specs.Utf8.{places};
+ghost use Rattle.bites_bytes.specs.Calls.{WalkedFrom};
 ghost use Rattle.bites_bytes.specs.Settings.{Refuses};
 ghost use Rattle.bites_bytes.specs.Matched.{excerpt_of};
 ghost use Rattle.bites_theorems.specs.Headline.{AreFirstGroups};
@@ -22,7 +23,8 @@ use std::alloc::{AllocError, Global};
 pub fn build(builder: &RegexBuilder) -> Result<Regex, Error>
     ensures kept { IfOk result (λ r. (r.pattern ≡ builder.now.pattern)
         × (r.flags ≡ builder.now.flags)
-        × (r.leftmost_longest ≡ builder.now.leftmost_longest)) }
+        × (r.leftmost_longest ≡ builder.now.leftmost_longest)
+        × (r.prefilter ≡ builder.now.prefilter)) }
     ensures accepted { IfOk result (λ r. Accepts builder.now r.tree) }
     ensures refused { IfErr result (λ e. e ≢ Error.Memory → (t : Tree) → Accepts builder.now t → ⊥) }
     ensures message { IfErr result (λ e. e ≢ Error.Memory → Refuses builder.now e) }
@@ -35,7 +37,8 @@ pub fn build(builder: &RegexBuilder) -> Result<Regex, Error>
 /// if the longest match is asked for, and otherwise, if the tree is plain, of the preferred one.
 ///
 /// No state is visited twice at a place. If nothing is found, all that can be reached was visited. Otherwise all of one
-/// run was. It allocates nothing and cannot fail.
+/// run was. Where searches look for a literal first, this holds from a place on before which no match begins. It allocates
+/// nothing and cannot fail.
 pub fn search<'h>(
     regex: &Regex,
     cache: &mut Cache,
@@ -49,9 +52,7 @@ pub fn search<'h>(
     ensures whole { IfSome result (λ x. group_in locations.new 0 ≡ Some (excerpt_of x).span) }
     ensures headline { IfSome result (λ x. AreFirstGroups regex.now haystack.now
         (places haystack.now start) locations.new) }
-    ensures once { IsBounded regex.now.program haystack.now start cache.new.walked }
-    ensures reached { VisitedBy regex.now.program haystack.now (places haystack.now start)
-        (is_some result) cache.new.walked }
+    ensures walked { WalkedFrom regex.now haystack.now start (is_some result) cache.new.walked }
 {
     // For proofs: the contract of `as_str` says that the regex is compiled.
     regex.as_str();

@@ -46,4 +46,5 @@ button { font: inherit; color: inherit; background: transparent; border: 1px sol
 #said p { margin: 0.1rem 0; }
 #threads-box { overflow: auto; }
 #fault { font-size: 1.1rem; color: var(--choice); }
+#read .place { border-left: 0.2rem solid var(--choice); margin: 0 0.1rem; }
 "#;

@@ -54,7 +54,7 @@ impl Regex {
         requires fits { cache.old.fits ≡ fit_of self.now.program }
         ensures found { FindsMatch self.now haystack.now (start_alone haystack.now start)
             (option_map excerpt_of result) }
-        ensures searched { Searched self.now.program haystack.now start (start_alone haystack.now start)
+        ensures searched { Searched self.now haystack.now start (start_alone haystack.now start)
             (is_some result) cache.old cache.new }
     {
         let found = self
@@ -84,7 +84,7 @@ impl Regex {
         requires border { start ≤ length haystack.now → IsCharBoundary haystack.now start }
         requires fits { cache.old.fits ≡ fit_of self.now.program }
         ensures found { IsTrue result ↔ HasMatch self.now.tree haystack.now (start_alone haystack.now start) }
-        ensures searched { Searched self.now.program haystack.now start (start_alone haystack.now start)
+        ensures searched { Searched self.now haystack.now start (start_alone haystack.now start)
             result cache.old cache.new }
     {
         self.over_bytes()
@@ -118,7 +118,7 @@ impl Regex {
         requires border { start ≤ length haystack.now → IsCharBoundary haystack.now start }
         requires fits { cache.old.fits ≡ fit_of self.now.program }
         ensures found { IfOk result (FindsCaptured self.now haystack.now (start_alone haystack.now start)) }
-        ensures searched { IfOk result (λ c. Searched self.now.program haystack.now start
+        ensures searched { IfOk result (λ c. Searched self.now haystack.now start
             (start_alone haystack.now start) (is_some c) cache.old cache.new) }
         ensures fits { cache.new.fits ≡ cache.old.fits }
     {
@@ -149,7 +149,7 @@ impl Regex {
         ensures read { ReadsGroups self.now haystack.now (start_alone haystack.now start)
             (option_map excerpt_of result) locations.old locations.new }
         ensures borders { IfSome result (λ _. HaveBorders haystack.now locations.new) }
-        ensures searched { Searched self.now.program haystack.now start (start_alone haystack.now start)
+        ensures searched { Searched self.now haystack.now start (start_alone haystack.now start)
             (is_some result) cache.old cache.new }
     {
         let found = self.over_bytes().captures_read_anchored_at_with(
@@ -177,7 +177,7 @@ impl Regex {
     pub fn is_full_match_with(&self, cache: &mut Cache, haystack: &str) -> bool
         requires { cache.old.fits ≡ fit_of self.now.program }
         ensures found { IsTrue result ↔ IsFullMatch self.now.tree haystack.now }
-        ensures searched { SearchedWithin self.now.program haystack.now 0 cache.old cache.new }
+        ensures searched { SearchedWithin self.now haystack.now 0 cache.old cache.new }
     {
         self.over_bytes()
             .is_full_match_with(&mut cache.cache, haystack.as_bytes())
@@ -209,7 +209,7 @@ impl Regex {
     ) -> Result<Option<Captures<'h>>, AllocError>
         requires { cache.old.fits ≡ fit_of self.now.program }
         ensures found { IfOk result (FindsCapturedFull self.now haystack.now) }
-        ensures searched { OnOk result (SearchedWithin self.now.program haystack.now 0 cache.old cache.new) }
+        ensures searched { OnOk result (SearchedWithin self.now haystack.now 0 cache.old cache.new) }
         ensures fits { cache.new.fits ≡ cache.old.fits }
     {
         match self

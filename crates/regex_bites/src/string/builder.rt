@@ -1,6 +1,6 @@
 //! The builder of regexes.
 
-ghost use Rattle.std.specs.Prelude.{◌≡◌, ◌≢◌, IfOk, IfErr, MatchOption, chars};
+ghost use Rattle.std.specs.Prelude.{◌≡◌, ◌≢◌, false, IfOk, IfErr, MatchOption, chars};
 ghost use Rattle.bites_spec.specs.Measure.{Limits};
 ghost use Rattle.bites_spec.specs.Tree.{Tree};
 ghost use Rattle.bites_spec.specs.Settings.{Accepts, by_default};
@@ -39,8 +39,8 @@ impl Model for RegexBuilder {
 }
 
 impl RegexBuilder {
-    /// Returns a builder for this pattern, with all flags off, a size limit of 10 MiB (10485760) and a nesting limit
-    /// of 50. The pattern is not read yet.
+    /// Returns a builder for this pattern, with all flags off, a size limit of 10 MiB (10485760), a nesting limit of 50,
+    /// and a limit of 1 MiB (1048576) for the table. The pattern is not read yet.
     ///
     /// The error is out of memory for a copy of the pattern.
     pub fn new(alloc: Global, pattern: &str) -> Result<RegexBuilder, Error>
@@ -142,6 +142,19 @@ impl RegexBuilder {
         self
     }
 
+    /// Sets how many bytes the table of thread lists may take that a build makes for the searches. The default is 1 MiB
+    /// (1048576), which ordinary patterns stay far below. With 0 no table is made.
+    ///
+    /// The limit changes the time of a build and of searches, and never what they return. What the table doesn't know
+    /// is explored by the search itself. If memory runs out for the table, the regex is built without one.
+    pub fn dfa_size_limit(&mut self, limit: usize) -> &mut RegexBuilder
+        ensures same { result.ghost_name ≡ self.entry.ghost_name }
+        ensures set { result.now ≡ record self.old { dfa_size_limit = limit } }
+    {
+        self.builder.dfa_size_limit(limit);
+        self
+    }
+
     /// Sets whether groups are kept that the tree of the pattern drops, as it does for `(a){0}`. Off by default.
     ///
     /// A group that is kept has its number and its name, and counts for the size limit. It never participates in a
@@ -176,8 +189,21 @@ impl RegexBuilder {
         self
     }
 
-    /// Returns a regex of this pattern, in time linear in the pattern and the size limit, except for the sorting of
-    /// classes and of group names.
+    /// Sets whether searches look for a literal first that each match holds, if the pattern has one. Off by default.
+    ///
+    /// It changes the time of searches, and never what they return. A search looks for the literal from its start on,
+    /// many bytes at a time, and explores the states of the program from the first place from which a match can hold it.
+    /// Without the literal nothing matches. Searches at one offset and for matches of the whole haystack don't look for it.
+    pub fn prefilter(&mut self, yes: bool) -> &mut RegexBuilder
+        ensures same { result.ghost_name ≡ self.entry.ghost_name }
+        ensures set { result.now ≡ record self.old { prefilter = yes } }
+    {
+        self.builder.prefilter(yes);
+        self
+    }
+
+    /// Returns a regex of this pattern, in time linear in the pattern, the size limit and the limit of the table, except
+    /// for the sorting of classes and of group names.
     ///
     /// The error is the message of the pattern's first fault, or of the first limit that the pattern exceeds, or out
     /// of memory. A refused build leaves the builder unchanged, and it may be used again.
@@ -188,7 +214,9 @@ impl RegexBuilder {
         ensures kept { IfOk result (λ r. (r.pattern ≡ self.now.pattern)
             × (r.flags ≡ self.now.flags)
             × (r.keep_dropped_groups ≡ self.now.keep_dropped_groups)
-            × (r.leftmost_longest ≡ self.now.leftmost_longest)) }
+            × (r.leftmost_longest ≡ self.now.leftmost_longest)
+            × (r.prefilter ≡ self.now.prefilter)) }
+        ensures table { IfOk result (λ r. self.now.dfa_size_limit ≡ 0 → r.has_table ≡ false) }
         ensures accepted { IfOk result (λ r. Accepts self.now r.tree) }
         ensures refused { IfErr result (λ e. e ≢ Error.Memory → (t : Tree) →
             Accepts self.now t → ⊥) }

@@ -11,7 +11,6 @@ ghost use Rattle.regex_bites.specs.Order.{BeginFrom};
 
 use crate::string::{Captures, Regex};
 use bites_bytes::bytes;
-use bites_bytes::replace_limit::spend;
 use std::alloc::AllocError;
 use std::fmt;
 use std::iter::FusedIterator;
@@ -28,9 +27,7 @@ pub struct CaptureMatches<'r, 'h> {
 
 impl<'r, 'h> CaptureMatches<'r, 'h> {
     ghost use Rattle.bites_spec.specs.Refused.{YieldsUntilRefused};
-    ghost use Rattle.bites_bytes.specs.ReplaceLimit.{taken};
     ghost use Rattle.regex_bites.specs.CapturesLeft.{captures_left, haystack_of_captures};
-    ghost use Rattle.regex_bites.specs.ReplacedText.{TakesUntilRefused};
 
     pub(super) fn new(
         regex: &'r Regex,
@@ -55,22 +52,6 @@ impl<'r, 'h> CaptureMatches<'r, 'h> {
             Some(Err(refusal)) => Some(Err(refusal)),
             None => None,
         }
-    }
-
-    // Like [`CaptureMatches::step`], but takes one from `left`, and returns None if nothing is left.
-    pub(super) fn step_of(
-        &mut self,
-        left: &mut Option<usize>,
-    ) -> Option<Result<Captures<'h>, AllocError>>
-        ensures steps { TakesUntilRefused (taken left.old (captures_left self.old))
-            result (taken left.new (captures_left self.new)) }
-        ensures groups { IfSome result (λ r. IfOk r (AreGroupsOf (haystack_of_captures self.old))) }
-        ensures same { haystack_of_captures self.new ≡ haystack_of_captures self.old }
-    {
-        if !spend(left) {
-            return None;
-        }
-        self.step()
     }
 
     /// Returns the number of matches that are left, or 0 after an error. It searches for each of them, and allocates

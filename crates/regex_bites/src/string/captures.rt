@@ -8,7 +8,7 @@ ghost use Rattle.bites_spec.specs.Counts.{fit_of};
 ghost use Rattle.bites_spec.specs.Captured.{AreGroups, excerpt};
 ghost use Rattle.bites_spec.specs.Expansion.{index_in};
 ghost use Rattle.bites_spec.specs.Utf8.{places};
-ghost use Rattle.bites_bytes.specs.Calls.{Searched, FindsCaptured};
+ghost use Rattle.bites_bytes.specs.Calls.{SearchedFrom, FindsCaptured};
 
 use crate::string::{Cache, Match, Regex};
 use bites_bytes::bytes;
@@ -270,8 +270,7 @@ impl Regex {
     ) -> Result<Option<Captures<'h>>, AllocError>
         requires { cache.old.fits ≡ fit_of self.now.program }
         ensures found { IfOk result (FindsCaptured self.now haystack.now (places haystack.now 0)) }
-        ensures searched { IfOk result (λ c. Searched self.now.program haystack.now 0 (places haystack.now 0)
-            (is_some c) cache.old cache.new) }
+        ensures searched { IfOk result (λ c. SearchedFrom self.now haystack.now 0 (is_some c) cache.old cache.new) }
         ensures fits { cache.new.fits ≡ cache.old.fits }
     {
         self.captures_at_with(cache, haystack, 0)
@@ -287,8 +286,7 @@ impl Regex {
         requires border { start ≤ length haystack.now → IsCharBoundary haystack.now start }
         requires fits { cache.old.fits ≡ fit_of self.now.program }
         ensures found { IfOk result (FindsCaptured self.now haystack.now (places haystack.now start)) }
-        ensures searched { IfOk result (λ c. Searched self.now.program haystack.now start (places haystack.now start)
-            (is_some c) cache.old cache.new) }
+        ensures searched { IfOk result (λ c. SearchedFrom self.now haystack.now start (is_some c) cache.old cache.new) }
         ensures fits { cache.new.fits ≡ cache.old.fits }
     {
         match self

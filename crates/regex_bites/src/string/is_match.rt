@@ -4,7 +4,7 @@ ghost use Rattle.std.specs.Prelude.{◌≡◌, ◌↔◌, ◌≤◌, length, IsT
 ghost use Rattle.bites_spec.specs.Found.{HasMatch};
 ghost use Rattle.bites_spec.specs.Counts.{fit_of};
 ghost use Rattle.bites_spec.specs.Utf8.{places};
-ghost use Rattle.bites_bytes.specs.Calls.{Searched};
+ghost use Rattle.bites_bytes.specs.Calls.{SearchedFrom};
 
 use crate::string::{Cache, Regex};
 use std::alloc::AllocError;
@@ -44,8 +44,7 @@ impl Regex {
     pub fn is_match_with(&self, cache: &mut Cache, haystack: &str) -> bool
         requires { cache.old.fits ≡ fit_of self.now.program }
         ensures found { IsTrue result ↔ HasMatch self.now.tree haystack.now (places haystack.now 0) }
-        ensures searched { Searched self.now.program haystack.now 0 (places haystack.now 0)
-            result cache.old cache.new }
+        ensures searched { SearchedFrom self.now haystack.now 0 result cache.old cache.new }
     {
         self.is_match_at_with(cache, haystack, 0)
     }
@@ -57,8 +56,7 @@ impl Regex {
         requires fits { cache.old.fits ≡ fit_of self.now.program }
         requires border { start ≤ length haystack.now → IsCharBoundary haystack.now start }
         ensures found { IsTrue result ↔ HasMatch self.now.tree haystack.now (places haystack.now start) }
-        ensures searched { Searched self.now.program haystack.now start (places haystack.now start)
-            result cache.old cache.new }
+        ensures searched { SearchedFrom self.now haystack.now start result cache.old cache.new }
     {
         self.over_bytes()
             .is_match_at_with(&mut cache.cache, haystack.as_bytes(), start)

@@ -12,7 +12,6 @@ ghost use Rattle.regex_bites.specs.Order.{BeginFrom};
 
 use crate::string::{Match, Regex};
 use bites_bytes::bytes;
-use bites_bytes::replace_limit::spend;
 use std::alloc::AllocError;
 use std::fmt;
 use std::iter::FusedIterator;
@@ -31,9 +30,7 @@ pub struct Matches<'r, 'h> {
 impl<'r, 'h> Matches<'r, 'h> {
     ghost use Rattle.std.specs.Iterator.{YieldsFirstBy};
     ghost use Rattle.regex_bites.specs.Matched.{excerpt_of};
-    ghost use Rattle.bites_bytes.specs.ReplaceLimit.{taken};
     ghost use Rattle.regex_bites.specs.Matches.{matches_left, spans_left, haystack_of_matches};
-    ghost use Rattle.regex_bites.specs.ReplacedText.{TakesFirst};
 
     pub(super) fn new(regex: &'r Regex, haystack: &'h str) -> Result<Matches<'r, 'h>, AllocError>
         ensures left { IfOk result (λ m. matches_left m
@@ -60,19 +57,6 @@ impl<'r, 'h> Matches<'r, 'h> {
     {
         let found = self.matches.next();
         Match::of_found(self.haystack, found)
-    }
-
-    // Like [`Matches::step`], but takes one from `left`, and returns None if nothing is left.
-    pub(super) fn step_of(&mut self, left: &mut Option<usize>) -> Option<Match<'h>>
-        ensures steps { TakesFirst excerpt_of (taken left.old (matches_left self.old))
-            result (taken left.new (matches_left self.new)) }
-        ensures part { IfSome result (λ m. IsPart (haystack_of_matches self.old) (excerpt_of m)) }
-        ensures same { haystack_of_matches self.new ≡ haystack_of_matches self.old }
-    {
-        if !spend(left) {
-            return None;
-        }
-        self.step()
     }
 
     /// Returns the number of matches that are left. It searches for each of them, and allocates nothing.

@@ -1,22 +1,24 @@
 //! A compiled regular expression over texts.
 
-ghost use Rattle.std.specs.Prelude.{◌≡◌, ◌≢◌, ◌<◌, ◌^◌, false, IfOk, IfErr, length};
+ghost use Rattle.std.specs.Prelude.{◌≡◌, ◌≢◌, ◌<◌, ◌^◌, Bool, false, is_some, IfOk, IfErr, length};
 ghost use Rattle.bites_spec.specs.Tree.{Tree, captures_len};
 ghost use Rattle.bites_spec.specs.Measure.{groups_left, static_captures_len};
-ghost use Rattle.bites_spec.specs.Regex.{IsCompiled, NamesAreKept};
+ghost use Rattle.bites_spec.specs.Regex.{IsCompiled, NamesAreKept, with_prefilter, with_table};
 ghost use Rattle.bites_spec.specs.Settings.{Accepts, by_default, no_flags};
 ghost use Rattle.bites_bytes.specs.Settings.{Refuses};
 
 use bites_bytes::bytes;
-use bites_bytes::bytes::CaptureNames;
+use bites_bytes::bytes::{CaptureNames, TableSize};
 use bites_text::error::Error;
 use std::alloc::{AllocError, Global};
 use std::fmt;
 use std::marker::Model;
 
-/// A compiled regular expression, which searches texts. A clone shares the program and may go to another thread.
+/// A compiled regular expression, which searches texts. A clone shares the program and its table, and may go to another
+/// thread.
 ///
-/// For proofs: a contract sees the pattern, the flags, and the tree that the grammar reads the pattern as.
+/// For proofs: a contract sees the pattern, the flags, the tree that the grammar reads the pattern as, whether there is a
+/// table, and whether searches look for a literal first.
 pub struct Regex {
     alloc: Global,
     regex: bytes::Regex,
@@ -89,6 +91,28 @@ impl Regex {
         ensures compiled { IsCompiled self.now }
     {
         &self.regex
+    }
+
+    /// Returns a regex with the same pattern and program, with a table of at most so many bytes as
+    /// [`RegexBuilder::dfa_size_limit`] says, and with the switch of [`RegexBuilder::prefilter`]. It finds the same, and
+    /// caches of the one fit the other.
+    ///
+    /// It shares the program with this regex. The error, out of memory, comes only if the count of clones is full. If
+    /// memory for the table runs out, there is none.
+    pub fn prepared(&self, dfa_size_limit: usize, prefilter: bool) -> Result<Regex, AllocError>
+        ensures same { IfOk result (λ r. (b : Bool) × (r ≡ with_prefilter prefilter (with_table b self.now))) }
+        ensures none { IfOk result (λ r. dfa_size_limit ≡ 0 → r.has_table ≡ false) }
+    {
+        let regex = self.regex.prepared(dfa_size_limit, prefilter)?;
+        Ok(Regex::from_bytes(self.alloc, regex))
+    }
+
+    /// Returns how large the table is that searches use, or `None` if there is none: because the limit was 0 or too small,
+    /// because memory ran out, or because searches return the longest match.
+    pub fn table_size(&self) -> Option<TableSize>
+        ensures { is_some result ≡ self.now.has_table }
+    {
+        self.regex.table_size()
     }
 
     /// Returns the pattern.

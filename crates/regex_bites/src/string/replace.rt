@@ -1,7 +1,8 @@
 //! Texts with their matches replaced.
 
-ghost use Rattle.std.specs.Prelude.{◌≡◌, ◌↔◌, ◌≤◌, ◌++◌, [], ◌∷◌, None, List, IfOk, OnOk, OnErr, drop, map, string_bytes, unwrap_or, IsCharBoundary};
+ghost use Rattle.std.specs.Prelude.{◌≡◌, ◌↔◌, ◌≤◌, ◌++◌, [], ◌∷◌, None, List, IfOk, IfSome, OnOk, OnErr, drop, length, map, string_bytes, unwrap_or, IsCharBoundary};
 ghost use Rattle.std.specs.Cow.{cow_str_bytes, IsBorrowedStr};
+ghost use Rattle.bites_spec.specs.Counts.{fit_of};
 ghost use Rattle.bites_spec.specs.Pieces.{limited, replaced};
 ghost use Rattle.bites_spec.specs.Iteration.{captures_in};
 ghost use Rattle.bites_spec.specs.Captured.{Captured};
@@ -9,8 +10,8 @@ ghost use Rattle.bites_spec.specs.Replace.{Stops, GaveSome};
 ghost use Rattle.bites_spec.specs.Replaced.{span_in, ReplacesIn, IsRefusedIn};
 ghost use Rattle.regex_bites.specs.Replaced.{ReplacesEach};
 
-use crate::string::{CaptureMatches, Captures, Match, Matches, Regex, Replacer};
-use bites_bytes::replace_limit::bound;
+use crate::string::{Cache, CaptureLocations, Captures, Match, Regex, Replacer};
+use bites_bytes::replace_limit::{bound, spend};
 use std::alloc::{AllocError, Global};
 use std::borrow::CowStr;
 
@@ -29,7 +30,7 @@ struct ReplacedText<'h> {
 impl<'h> ReplacedText<'h> {
     ghost use Rattle.regex_bites.specs.Matched.{excerpt_of};
     ghost use Rattle.regex_bites.specs.Borders.{IsPart};
-    ghost use Rattle.regex_bites.specs.ReplacedText.{KeepsUpTo, Writes, WritesBy};
+    ghost use Rattle.regex_bites.specs.ReplacedText.{TakesMatch, TakesCaptures, KeepsUpTo, Writes, WritesBy};
 
     // Returns a text in which nothing is replaced yet.
     fn new(alloc: Global, haystack: &'h str) -> ReplacedText<'h>
@@ -42,6 +43,45 @@ impl<'h> ReplacedText<'h> {
             last: None,
             out: String::new(alloc),
         }
+    }
+
+    // Returns the next match, if one more may be replaced.
+    fn next_match(
+        &self,
+        regex: &Regex,
+        cache: &mut Cache,
+        left: &mut Option<usize>,
+    ) -> Option<Match<'h>>
+        requires { cache.old.fits ≡ fit_of regex.now.program }
+        ensures takes { TakesMatch regex.now self.now left.old result left.new }
+        ensures part { IfSome result (λ m. IsPart self.now.haystack.now (excerpt_of m)) }
+        ensures fits { cache.new.fits ≡ cache.old.fits }
+    {
+        if !spend(left) {
+            return None;
+        }
+        regex.find_next_with(cache, self.haystack, self.last)
+    }
+
+    // Returns the groups of the next match, if one more may be replaced, or that memory ran out for them.
+    fn next_captures(
+        &self,
+        regex: &Regex,
+        cache: &mut Cache,
+        locations: &mut CaptureLocations,
+        left: &mut Option<usize>,
+    ) -> Option<Result<Captures<'h>, AllocError>>
+        requires cache { cache.old.fits ≡ fit_of regex.now.program }
+        requires locations { length locations.old ≡ regex.now.program.slots }
+        ensures takes { TakesCaptures regex.now self.now left.old result left.new }
+        ensures haystack { IfSome result (λ r. IfOk r (λ c. c.haystack ≡ self.now.haystack.now)) }
+        ensures len { length locations.new ≡ length locations.old }
+        ensures fits { cache.new.fits ≡ cache.old.fits }
+    {
+        if !spend(left) {
+            return None;
+        }
+        regex.captures_next_with(cache, locations, self.haystack, self.last)
     }
 
     // Appends the text between the last match and this one, and goes on after it.
@@ -101,47 +141,82 @@ impl<'h> ReplacedText<'h> {
 
 impl Regex {
     // Returns the haystack with its first `limit` matches replaced by the text, or all of them if `limit` is 0.
-    fn replace_by_text<'h>(
+    // For proofs: the contract of `as_str` says that the regex is compiled.
+    pub(super) fn replace_by_text<'h>(
         &self,
+        cache: &mut Cache,
         haystack: &'h str,
         limit: usize,
         text: &str,
     ) -> Result<CowStr<'h>, AllocError>
+        requires { cache.old.fits ≡ fit_of self.now.program }
         ensures replaces { IfOk result (λ r. cow_str_bytes r ≡ replaced haystack.now limit
             (map span_in (captures_in self.now haystack.now))
             (map (λ c. text.now) (limited limit (captures_in self.now haystack.now)))) }
         ensures borrowed { IfOk result (λ r. IsBorrowedStr r ↔ captures_in self.now haystack.now ≡ []) }
+        ensures fits { cache.new.fits ≡ cache.old.fits }
     {
-        let mut matches = Matches::new(self, haystack)?;
+        self.as_str();
         let mut left = bound(limit);
         let mut out = ReplacedText::new(self.alloc(), haystack);
-        while let Some(found) = matches.step_of(&mut left) {
+        while let Some(found) = out.next_match(self, cache, &mut left) {
             out.by_text(found, text)?;
         }
         out.finish()
     }
 
     // Like [`Regex::replace_by_text`], but replaces each match by what the replacer gives for it.
-    fn replace_each<'h, R: Replacer>(
+    pub(super) fn replace_each<'h, R: Replacer>(
         &self,
+        cache: &mut Cache,
+        locations: &mut CaptureLocations,
         haystack: &'h str,
         limit: usize,
         replacer: &mut R,
     ) -> Result<CowStr<'h>, AllocError>
-        requires { (state : R) → R.can_replace state }
+        requires callable { (state : R) → R.can_replace state }
+        requires cache { cache.old.fits ≡ fit_of self.now.program }
+        requires locations { length locations.old ≡ self.now.program.slots }
         ensures replaces { IfOk result (λ r. ReplacesEach R.replaces R.answers
             self.now haystack.now limit replacer.old (cow_str_bytes r) replacer.new) }
         ensures served { OnErr result (GaveSome R.replaces R.answers R.refuses
             replacer.old (limited limit (captures_in self.now haystack.now)) replacer.new) }
         ensures borrowed { IfOk result (λ r. IsBorrowedStr r ↔ captures_in self.now haystack.now ≡ []) }
+        ensures len { length locations.new ≡ length locations.old }
+        ensures fits { cache.new.fits ≡ cache.old.fits }
     {
-        let mut matches = CaptureMatches::new(self, haystack)?;
+        self.as_str();
         let mut left = bound(limit);
         let mut out = ReplacedText::new(self.alloc(), haystack);
-        while let Some(captures) = matches.step_of(&mut left) {
+        while let Some(captures) = out.next_captures(self, cache, locations, &mut left) {
             out.by(&captures?, replacer)?;
         }
         out.finish()
+    }
+
+    // Like [`Regex::replacen`], but with a cache and locations that fit. It allocates only the new text, and the groups if
+    // the replacer asks for them.
+    pub(super) fn replacen_with<'h, R: Replacer + Drop>(
+        &self,
+        cache: &mut Cache,
+        locations: &mut CaptureLocations,
+        haystack: &'h str,
+        limit: usize,
+        mut replacer: R,
+    ) -> Result<CowStr<'h>, AllocError>
+        requires callable { (state : R) → R.can_replace state }
+        requires cache { cache.old.fits ≡ fit_of self.now.program }
+        requires locations { length locations.old ≡ self.now.program.slots }
+        ensures replaces { IfOk result (λ r. (end : R) × ReplacesIn R.replaces R.answers
+            self.now haystack.now limit replacer (cow_str_bytes r) end) }
+        ensures borrowed { IfOk result (λ r. IsBorrowedStr r ↔ captures_in self.now haystack.now ≡ []) }
+        ensures len { length locations.new ≡ length locations.old }
+        ensures fits { cache.new.fits ≡ cache.old.fits }
+    {
+        if let Some(text) = replacer.no_expansion() {
+            return self.replace_by_text(cache, haystack, limit, text);
+        }
+        self.replace_each(cache, locations, haystack, limit, &mut replacer)
     }
 
     /// Returns the haystack with its first match replaced. The error is out of memory.
@@ -233,8 +308,11 @@ impl Regex {
         ensures borrowed { IfOk result (λ r. IsBorrowedStr r ↔ captures_in self.now haystack.now ≡ []) }
     {
         if let Some(text) = replacer.no_expansion() {
-            return self.replace_by_text(haystack, limit, text);
+            let mut cache = self.cache()?;
+            return self.replace_by_text(&mut cache, haystack, limit, text);
         }
-        self.replace_each(haystack, limit, replacer)
+        let mut cache = self.cache()?;
+        let mut locations = self.capture_locations()?;
+        self.replace_each(&mut cache, &mut locations, haystack, limit, replacer)
     }
 }

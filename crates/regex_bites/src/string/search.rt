@@ -4,7 +4,7 @@ ghost use Rattle.std.specs.Prelude.{◌≡◌, ◌≤◌, length, option_map, is
 ghost use Rattle.bites_spec.specs.Counts.{fit_of};
 ghost use Rattle.bites_spec.specs.Captured.{FindsMatch};
 ghost use Rattle.bites_spec.specs.Utf8.{places};
-ghost use Rattle.bites_bytes.specs.Calls.{Searched, ReadsGroups};
+ghost use Rattle.bites_bytes.specs.Calls.{SearchedFrom, ReadsGroups};
 ghost use Rattle.regex_bites.specs.Matched.{excerpt_of};
 ghost use Rattle.regex_bites.specs.Borders.{HaveBorders};
 
@@ -68,8 +68,7 @@ impl Regex {
     pub fn find_with<'h>(&self, cache: &mut Cache, haystack: &'h str) -> Option<Match<'h>>
         requires { cache.old.fits ≡ fit_of self.now.program }
         ensures found { FindsMatch self.now haystack.now (places haystack.now 0) (option_map excerpt_of result) }
-        ensures searched { Searched self.now.program haystack.now 0 (places haystack.now 0)
-            (is_some result) cache.old cache.new }
+        ensures searched { SearchedFrom self.now haystack.now 0 (is_some result) cache.old cache.new }
     {
         self.find_at_with(cache, haystack, 0)
     }
@@ -86,8 +85,7 @@ impl Regex {
         requires border { start ≤ length haystack.now → IsCharBoundary haystack.now start }
         requires fits { cache.old.fits ≡ fit_of self.now.program }
         ensures found { FindsMatch self.now haystack.now (places haystack.now start) (option_map excerpt_of result) }
-        ensures searched { Searched self.now.program haystack.now start (places haystack.now start)
-            (is_some result) cache.old cache.new }
+        ensures searched { SearchedFrom self.now haystack.now start (is_some result) cache.old cache.new }
     {
         let found = self
             .over_bytes()
@@ -156,8 +154,7 @@ impl Regex {
         ensures read { ReadsGroups self.now haystack.now (places haystack.now 0)
             (option_map excerpt_of result) locations.old locations.new }
         ensures borders { IfSome result (λ _. HaveBorders haystack.now locations.new) }
-        ensures searched { Searched self.now.program haystack.now 0 (places haystack.now 0)
-            (is_some result) cache.old cache.new }
+        ensures searched { SearchedFrom self.now haystack.now 0 (is_some result) cache.old cache.new }
     {
         self.captures_read_at_with(cache, locations, haystack, 0)
     }
@@ -178,8 +175,7 @@ impl Regex {
         ensures read { ReadsGroups self.now haystack.now (places haystack.now start)
             (option_map excerpt_of result) locations.old locations.new }
         ensures borders { IfSome result (λ _. HaveBorders haystack.now locations.new) }
-        ensures searched { Searched self.now.program haystack.now start (places haystack.now start)
-            (is_some result) cache.old cache.new }
+        ensures searched { SearchedFrom self.now haystack.now start (is_some result) cache.old cache.new }
     {
         let found = self.over_bytes().captures_read_at_with(
             &mut cache.cache,

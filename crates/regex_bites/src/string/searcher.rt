@@ -1,25 +1,30 @@
 //! A regex over texts with the cache for its searches.
 
-ghost use Rattle.std.specs.Prelude.{◌≡◌, ◌↔◌, ◌≤◌, length, option_map, IfOk, IsTrue, IsCharBoundary};
+ghost use Rattle.std.specs.Prelude.{◌≡◌, ◌↔◌, ◌≤◌, [], length, option_map, IfOk, IfSome, IsTrue, IsCharBoundary};
 ghost use Rattle.std.specs.Option.{ForSome};
-ghost use Rattle.bites_spec.specs.Found.{HasMatch};
+ghost use Rattle.std.specs.Cow.{cow_str_bytes, IsBorrowedStr};
+ghost use Rattle.bites_spec.specs.Counts.{fit_of};
+ghost use Rattle.bites_spec.specs.Found.{HasMatch, IsLeastEnd};
 ghost use Rattle.bites_spec.specs.Full.{IsFullMatch};
 ghost use Rattle.bites_spec.specs.Captured.{FindsMatch};
+ghost use Rattle.bites_spec.specs.Iteration.{captures_in};
+ghost use Rattle.bites_spec.specs.Replaced.{ReplacesIn};
 ghost use Rattle.bites_spec.specs.Utf8.{places, start_alone};
-ghost use Rattle.bites_bytes.specs.Calls.{FindsCaptured, FindsCapturedFull, FindsNext};
+ghost use Rattle.bites_bytes.specs.Calls.{FindsCaptured, FindsCapturedFull, FindsNext, ReadsGroups};
 ghost use Rattle.bites_bytes.specs.NextCaptured.{FindsNextCaptured};
+ghost use Rattle.regex_bites.specs.Borders.{HaveBorders};
 ghost use Rattle.regex_bites.specs.Matched.{excerpt_of};
 
 mod capture_matches;
 mod matches;
 mod split;
 
-use crate::string::{Captures, Match, Regex};
-use bites_bytes::bytes;
+use crate::string::{Cache, CaptureLocations, Captures, Match, Regex, Replacer};
 pub use capture_matches::CaptureMatches;
 pub use matches::Matches;
 pub use split::Split;
 use std::alloc::AllocError;
+use std::borrow::CowStr;
 use std::fmt;
 use std::marker::Model;
 
@@ -38,14 +43,17 @@ use std::marker::Model;
 #[derive(Drop)]
 pub struct Searcher {
     regex: Regex,
-    searcher: bytes::Searcher,
+    cache: Cache,
+    // The offsets of the groups of a match, for `captures_next` and for replacement.
+    locations: CaptureLocations,
 }
 
 impl Model for Searcher {
     ghost use Rattle.std.specs.Coded.{codes};
-    ghost use Rattle.std.specs.Prelude.{◌≡◌};
+    ghost use Rattle.std.specs.Prelude.{◌≡◌, length};
     ghost use Rattle.bites_syntax.specs.TreeCode.{tree_code};
     ghost use Rattle.bites_spec.specs.Regex as spec;
+    ghost use Rattle.bites_spec.specs.Counts.{fit_of};
 
     ghost Value = { spec.Regex };
 
@@ -53,7 +61,7 @@ impl Model for Searcher {
 
     ghost view = { λ a. a.regex };
 
-    ghost invariant = { λ a. (a.searcher ≡ a.regex) × spec.IsCompiled a.regex };
+    ghost invariant = { λ a. (a.cache.fits ≡ fit_of a.regex.program) × (length a.locations ≡ a.regex.program.slots) };
 }
 
 impl Searcher {
@@ -61,8 +69,13 @@ impl Searcher {
     pub fn new(regex: Regex) -> Result<Searcher, AllocError>
         ensures { IfOk result (λ s. s ≡ regex) }
     {
-        let searcher = bytes::Searcher::new(regex.over_bytes().clone()?)?;
-        Ok(Searcher { regex, searcher })
+        let cache = regex.cache()?;
+        let locations = regex.capture_locations()?;
+        Ok(Searcher {
+            regex,
+            cache,
+            locations,
+        })
     }
 
     /// Returns the regex.
@@ -80,7 +93,44 @@ impl Searcher {
         ensures found { IsTrue result ↔ HasMatch self.old.tree haystack.now (places haystack.now 0) }
         ensures same { self.new ≡ self.old }
     {
-        self.searcher.is_match(haystack.as_bytes())
+        self.regex.is_match_with(&mut self.cache, haystack)
+    }
+
+    /// Returns whether the pattern matches at or after `start`, an offset in bytes, like [`Regex::is_match_at`]. A
+    /// start within the haystack must be at a character boundary. It allocates nothing.
+    ///
+    /// The search stops at the first end of a match, and visits each state of the program at most once at each
+    /// offset.
+    ///
+    /// ```rust
+    /// let mut searcher = Searcher::new(Regex::new(rt.alloc(), r"\bb")?)?;
+    /// assert!(rt; searcher.is_match_at("bab b", 1));
+    /// assert!(rt; !searcher.is_match_at("bab", 1));
+    /// ```
+    pub fn is_match_at(&mut self, haystack: &str, start: usize) -> bool
+        requires { start ≤ length haystack.now → IsCharBoundary haystack.now start }
+        ensures found { IsTrue result ↔ HasMatch self.old.tree haystack.now (places haystack.now start) }
+        ensures same { self.new ≡ self.old }
+    {
+        self.regex
+            .is_match_at_with(&mut self.cache, haystack, start)
+    }
+
+    /// Returns the least offset at which any match ends, in bytes, like [`Regex::shortest_match`]. It allocates
+    /// nothing.
+    ///
+    /// The search visits each state of the program at most once at each offset.
+    ///
+    /// ```rust
+    /// let mut searcher = Searcher::new(Regex::new(rt.alloc(), "a+")?)?;
+    /// assert_eq!(rt; searcher.shortest_match("xaaa"), Some(2));
+    /// ```
+    pub fn shortest_match(&mut self, haystack: &str) -> Option<usize>
+        ensures least { IsLeastEnd self.old.tree haystack.now (places haystack.now 0) result }
+        ensures border { IfSome result (IsCharBoundary haystack.now) }
+        ensures same { self.new ≡ self.old }
+    {
+        self.regex.shortest_match_with(&mut self.cache, haystack)
     }
 
     /// Returns whether a match is the whole haystack, like [`Regex::is_full_match`]. It allocates nothing.
@@ -90,7 +140,7 @@ impl Searcher {
         ensures found { IsTrue result ↔ IsFullMatch self.old.tree haystack.now }
         ensures same { self.new ≡ self.old }
     {
-        self.searcher.is_full_match(haystack.as_bytes())
+        self.regex.is_full_match_with(&mut self.cache, haystack)
     }
 
     /// Returns the leftmost match in the haystack, like [`Regex::find`]. It allocates nothing.
@@ -100,7 +150,7 @@ impl Searcher {
         ensures found { FindsMatch self.old haystack.now (places haystack.now 0) (option_map excerpt_of result) }
         ensures same { self.new ≡ self.old }
     {
-        self.find_at(haystack, 0)
+        self.regex.find_with(&mut self.cache, haystack)
     }
 
     /// Returns the leftmost match at or after `start`, an offset in bytes, like [`Regex::find_at`]. A start within the
@@ -112,8 +162,7 @@ impl Searcher {
         ensures found { FindsMatch self.old haystack.now (places haystack.now start) (option_map excerpt_of result) }
         ensures same { self.new ≡ self.old }
     {
-        let found = self.searcher.find_at(haystack.as_bytes(), start);
-        Match::of_found(haystack, found)
+        self.regex.find_at_with(&mut self.cache, haystack, start)
     }
 
     /// Returns the match that begins at `start`, an offset in bytes, like [`Regex::find_anchored_at`]. A start within
@@ -126,22 +175,27 @@ impl Searcher {
             (option_map excerpt_of result) }
         ensures same { self.new ≡ self.old }
     {
-        let found = self.searcher.find_anchored_at(haystack.as_bytes(), start);
-        Match::of_found(haystack, found)
+        self.regex
+            .find_anchored_at_with(&mut self.cache, haystack, start)
     }
 
-    // Returns the first match after one that ends at `last`, or the first of all for `None`.
-    pub(super) fn find_next<'h>(
-        &mut self,
-        haystack: &'h str,
-        last: Option<usize>,
-    ) -> Option<Match<'h>>
+    /// Returns the first match after one that ends at `last`, an offset in bytes, or the first of all for `None`. The
+    /// offset must be at a character boundary, as `str::is_char_boundary` tests. It allocates nothing.
+    ///
+    /// The matches that it returns in turn, each for the end of the one before, are those of [`Regex::find_iter`].
+    ///
+    /// ```rust
+    /// let mut searcher = Searcher::new(Regex::new(rt.alloc(), "a*")?)?;
+    /// let next = searcher.find_next("ab", Some(1)).ok_or("no match")?;
+    /// assert_eq!(rt; next.range(), 2..2);
+    /// assert_eq!(rt; searcher.find_next("ab", Some(2)), None);
+    /// ```
+    pub fn find_next<'h>(&mut self, haystack: &'h str, last: Option<usize>) -> Option<Match<'h>>
         requires { ForSome last (IsCharBoundary haystack.now) }
         ensures next { FindsNext self.old haystack.now last (option_map excerpt_of result) }
         ensures same { self.new ≡ self.old }
     {
-        let found = self.searcher.find_next(haystack.as_bytes(), last);
-        Match::of_found(haystack, found)
+        self.regex.find_next_with(&mut self.cache, haystack, last)
     }
 
     /// Returns the groups of the leftmost match in the haystack, like [`Regex::captures`]. It allocates the groups
@@ -152,15 +206,67 @@ impl Searcher {
         ensures found { IfOk result (FindsCaptured self.old haystack.now (places haystack.now 0)) }
         ensures same { self.new ≡ self.old }
     {
-        match self.searcher.captures(haystack.as_bytes())? {
-            Some(captures) => Ok(Some(Captures::of(haystack, captures))),
-            None => Ok(None),
-        }
+        self.regex.captures_with(&mut self.cache, haystack)
     }
 
-    // Returns the groups of the first match after one that ends at `last`, or of the first of all for `None`, or that
-    // memory ran out for them.
-    pub(super) fn captures_next<'h>(
+    /// Returns the groups of the leftmost match at or after `start`, an offset in bytes, like [`Regex::captures_at`]. A
+    /// start within the haystack must be at a character boundary. It allocates the groups alone, and the error is out
+    /// of memory.
+    ///
+    /// ```rust
+    /// let mut searcher = Searcher::new(Regex::new(rt.alloc(), "a(.)")?)?;
+    /// let captures = searcher.captures_at("ab ac", 1)?.ok_or("no match")?;
+    /// let group = captures.get(1).ok_or("no group")?;
+    /// assert_eq!(rt; group.as_str(), "c");
+    /// ```
+    pub fn captures_at<'h>(
+        &mut self,
+        haystack: &'h str,
+        start: usize,
+    ) -> Result<Option<Captures<'h>>, AllocError>
+        requires { start ≤ length haystack.now → IsCharBoundary haystack.now start }
+        ensures found { IfOk result (FindsCaptured self.old haystack.now (places haystack.now start)) }
+        ensures same { self.new ≡ self.old }
+    {
+        self.regex
+            .captures_at_with(&mut self.cache, haystack, start)
+    }
+
+    /// Returns the groups of the match that begins at `start`, an offset in bytes, like
+    /// [`Regex::captures_anchored_at`]. A start within the haystack must be at a character boundary. It allocates the
+    /// groups alone, and the error is out of memory.
+    ///
+    /// ```rust
+    /// let mut searcher = Searcher::new(Regex::new(rt.alloc(), "([a-z]+)(=?)")?)?;
+    /// let captures = searcher.captures_anchored_at("x=1", 0)?.ok_or("no match")?;
+    /// let name = captures.get(1).ok_or("no name")?;
+    /// assert_eq!(rt; name.as_str(), "x");
+    /// assert!(rt; searcher.captures_anchored_at("1x", 0)?.is_none());
+    /// ```
+    pub fn captures_anchored_at<'h>(
+        &mut self,
+        haystack: &'h str,
+        start: usize,
+    ) -> Result<Option<Captures<'h>>, AllocError>
+        requires { start ≤ length haystack.now → IsCharBoundary haystack.now start }
+        ensures found { IfOk result (FindsCaptured self.old haystack.now (start_alone haystack.now start)) }
+        ensures same { self.new ≡ self.old }
+    {
+        self.regex
+            .captures_anchored_at_with(&mut self.cache, haystack, start)
+    }
+
+    /// Returns the groups of the first match after one that ends at `last`, an offset in bytes, or of the first of all
+    /// for `None`. The offset must be at a character boundary. It allocates the groups alone. In their place the error
+    /// is out of memory.
+    ///
+    /// ```rust
+    /// let mut searcher = Searcher::new(Regex::new(rt.alloc(), "(a)|b")?)?;
+    /// let captures = searcher.captures_next("ab", Some(1)).ok_or("no match")??;
+    /// assert!(rt; captures.get(1).is_none());
+    /// assert!(rt; searcher.captures_next("ab", Some(2)).is_none());
+    /// ```
+    pub fn captures_next<'h>(
         &mut self,
         haystack: &'h str,
         last: Option<usize>,
@@ -169,10 +275,34 @@ impl Searcher {
         ensures next { FindsNextCaptured self.old haystack.now last result }
         ensures same { self.new ≡ self.old }
     {
-        match self.searcher.captures_next(haystack.as_bytes(), last)? {
-            Ok(captures) => Some(Ok(Captures::of(haystack, captures))),
-            Err(refusal) => Some(Err(refusal)),
-        }
+        self.regex
+            .captures_next_with(&mut self.cache, &mut self.locations, haystack, last)
+    }
+
+    /// Returns the leftmost match, and writes the offsets of each group into `locations`, like
+    /// [`Regex::captures_read`]. It allocates nothing.
+    ///
+    /// The locations must fit the regex ([`CaptureLocations::fits`]). They are unchanged if nothing matches.
+    ///
+    /// ```rust
+    /// let mut searcher = Searcher::new(Regex::new(rt.alloc(), "a(b)?")?)?;
+    /// let mut locations = searcher.regex().capture_locations()?;
+    /// assert!(rt; searcher.captures_read(&mut locations, "xab").is_some());
+    /// assert_eq!(rt; locations.get(1), Some((2, 3)));
+    /// ```
+    pub fn captures_read<'h>(
+        &mut self,
+        locations: &mut CaptureLocations,
+        haystack: &'h str,
+    ) -> Option<Match<'h>>
+        requires { length locations.old ≡ self.old.program.slots }
+        ensures read { ReadsGroups self.old haystack.now (places haystack.now 0)
+            (option_map excerpt_of result) locations.old locations.new }
+        ensures borders { IfSome result (λ _. HaveBorders haystack.now locations.new) }
+        ensures same { self.new ≡ self.old }
+    {
+        self.regex
+            .captures_read_with(&mut self.cache, locations, haystack)
     }
 
     /// Returns the groups of a match that is the whole haystack, like [`Regex::captures_full`]. It allocates the groups
@@ -184,9 +314,133 @@ impl Searcher {
         ensures found { IfOk result (FindsCapturedFull self.old haystack.now) }
         ensures same { self.new ≡ self.old }
     {
-        match self.searcher.captures_full(haystack.as_bytes())? {
-            Some(captures) => Ok(Some(Captures::of(haystack, captures))),
-            None => Ok(None),
+        self.regex.captures_full_with(&mut self.cache, haystack)
+    }
+
+    /// Returns the haystack with its first match replaced, like [`Regex::replace`]. The error is out of memory.
+    ///
+    /// It allocates only the new text, and the groups if the replacer asks for them. The haystack is borrowed exactly
+    /// if nothing matches.
+    ///
+    /// ```rust
+    /// let mut searcher = Searcher::new(Regex::new(rt.alloc(), r"(\w+), (\w+)")?)?;
+    /// let turned = searcher.replace("Curie, Marie", "$2 $1")?;
+    /// assert_eq!(rt; turned.as_str(), "Marie Curie");
+    /// ```
+    pub fn replace<'h, R: Replacer + Drop>(
+        &mut self,
+        haystack: &'h str,
+        replacer: R,
+    ) -> Result<CowStr<'h>, AllocError>
+        requires { (state : R) → R.can_replace state }
+        ensures replaces { IfOk result (λ r. (end : R) × ReplacesIn R.replaces R.answers
+            self.old haystack.now 1 replacer (cow_str_bytes r) end) }
+        ensures borrowed { IfOk result (λ r. IsBorrowedStr r ↔ captures_in self.old haystack.now ≡ []) }
+        ensures same { self.new ≡ self.old }
+    {
+        self.replacen(haystack, 1, replacer)
+    }
+
+    /// Returns the haystack with all its matches replaced, like [`Regex::replace_all`]. The error is out of memory.
+    ///
+    /// It allocates only the new text, and the groups if the replacer asks for them. The haystack is borrowed exactly
+    /// if nothing matches.
+    ///
+    /// ```rust
+    /// let mut spaces = Searcher::new(Regex::new(rt.alloc(), r"\s+")?)?;
+    /// let narrow = spaces.replace_all("a  b   c", " ")?;
+    /// assert_eq!(rt; narrow.as_str(), "a b c");
+    /// ```
+    pub fn replace_all<'h, R: Replacer + Drop>(
+        &mut self,
+        haystack: &'h str,
+        replacer: R,
+    ) -> Result<CowStr<'h>, AllocError>
+        requires { (state : R) → R.can_replace state }
+        ensures replaces { IfOk result (λ r. (end : R) × ReplacesIn R.replaces R.answers
+            self.old haystack.now 0 replacer (cow_str_bytes r) end) }
+        ensures borrowed { IfOk result (λ r. IsBorrowedStr r ↔ captures_in self.old haystack.now ≡ []) }
+        ensures same { self.new ≡ self.old }
+    {
+        self.replacen(haystack, 0, replacer)
+    }
+
+    /// Returns the haystack with its first `limit` matches replaced, or all of them if `limit` is 0, like
+    /// [`Regex::replacen`]. The error is out of memory.
+    ///
+    /// It allocates only the new text, and the groups if the replacer asks for them. So if nothing matches it
+    /// allocates nothing. The haystack is borrowed exactly then.
+    ///
+    /// ```rust
+    /// let mut searcher = Searcher::new(Regex::new(rt.alloc(), "a")?)?;
+    /// let replaced = searcher.replacen("aaaa", 2, "b")?;
+    /// assert_eq!(rt; replaced.as_str(), "bbaa");
+    /// ```
+    pub fn replacen<'h, R: Replacer + Drop>(
+        &mut self,
+        haystack: &'h str,
+        limit: usize,
+        replacer: R,
+    ) -> Result<CowStr<'h>, AllocError>
+        requires { (state : R) → R.can_replace state }
+        ensures replaces { IfOk result (λ r. (end : R) × ReplacesIn R.replaces R.answers
+            self.old haystack.now limit replacer (cow_str_bytes r) end) }
+        ensures borrowed { IfOk result (λ r. IsBorrowedStr r ↔ captures_in self.old haystack.now ≡ []) }
+        ensures same { self.new ≡ self.old }
+    {
+        self.regex.replacen_with(
+            &mut self.cache,
+            &mut self.locations,
+            haystack,
+            limit,
+            replacer,
+        )
+    }
+}
+
+impl Regex {
+    // Returns the first match after one that ends at `last`, or the first of all for `None`.
+    pub(super) fn find_next_with<'h>(
+        &self,
+        cache: &mut Cache,
+        haystack: &'h str,
+        last: Option<usize>,
+    ) -> Option<Match<'h>>
+        requires border { ForSome last (IsCharBoundary haystack.now) }
+        requires fits { cache.old.fits ≡ fit_of self.now.program }
+        ensures next { FindsNext self.now haystack.now last (option_map excerpt_of result) }
+        ensures fits { cache.new.fits ≡ cache.old.fits }
+    {
+        let found = self
+            .over_bytes()
+            .find_next_with(&mut cache.cache, haystack.as_bytes(), last);
+        Match::of_found(haystack, found)
+    }
+
+    // Returns the groups of the first match after one that ends at `last`, or of the first of all for `None`, or that
+    // memory ran out for them.
+    pub(super) fn captures_next_with<'h>(
+        &self,
+        cache: &mut Cache,
+        locations: &mut CaptureLocations,
+        haystack: &'h str,
+        last: Option<usize>,
+    ) -> Option<Result<Captures<'h>, AllocError>>
+        requires border { ForSome last (IsCharBoundary haystack.now) }
+        requires cache { cache.old.fits ≡ fit_of self.now.program }
+        requires locations { length locations.old ≡ self.now.program.slots }
+        ensures next { FindsNextCaptured self.now haystack.now last result }
+        ensures len { length locations.new ≡ length locations.old }
+        ensures fits { cache.new.fits ≡ cache.old.fits }
+    {
+        match self.over_bytes().captures_next_with(
+            &mut cache.cache,
+            &mut locations.locations,
+            haystack.as_bytes(),
+            last,
+        )? {
+            Ok(captures) => Some(Ok(Captures::of(haystack, captures))),
+            Err(refusal) => Some(Err(refusal)),
         }
     }
 }

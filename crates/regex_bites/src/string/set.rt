@@ -1,12 +1,12 @@
 //! A set of patterns over texts.
 
-ghost use Rattle.std.specs.Prelude.{◌≡◌, ◌≢◌, ◌↔◌, ◌≤◌, ◌==◌, [], length, map, IsTrue, IfOk, IfErr, IsCharBoundary};
+ghost use Rattle.std.specs.Prelude.{◌≡◌, ◌≢◌, ◌↔◌, ◌≤◌, ◌==◌, [], length, map, is_some, IsTrue, IfOk, IfErr, IsCharBoundary};
 ghost use Rattle.bites_spec.specs.Utf8.{places};
 ghost use Rattle.bites_spec.specs.Set.{AreBuilt, AreMatched, HasMatchOfAny, set_by_default, fits_of, fits_for};
 ghost use Rattle.bites_text.specs.declared.error.Error.TheVariants.{Memory};
-ghost use Rattle.bites_bytes.specs.Set.{IsRefused};
+ghost use Rattle.bites_bytes.specs.Set.{ArePrepared, IsRefused, has_any_table};
 
-use bites_bytes::bytes::{self, SetError, SetMatches, SetPatterns};
+use bites_bytes::bytes::{self, SetError, SetMatches, SetPatterns, TableSize};
 use std::alloc::{AllocError, Global};
 use std::fmt;
 use std::marker::Model;
@@ -91,7 +91,9 @@ impl RegexSet {
     /// that it exceeds. It may also be out of memory.
     ///
     /// ```rust
-    /// let error = RegexSet::new(rt.alloc(), &["a", "(b"]).err().ok_or("no error")?;
+    /// let error = RegexSet::new(rt.alloc(), &["a", "(b"])
+    ///     .err()
+    ///     .ok_or("no error")?;
     /// assert_eq!(rt; error.index(), 1);
     /// assert_eq!(rt; error.error(), Error::UnclosedGroup);
     /// ```
@@ -148,6 +150,37 @@ impl RegexSet {
         ensures { result ≡ map (λ r. r.pattern) self.now }
     {
         self.set.patterns()
+    }
+
+    /// Returns a set with the same patterns and programs, with tables of at most so many bytes together as
+    /// [`RegexSetBuilder::dfa_size_limit`] says, and with the switch of [`RegexSetBuilder::prefilter`]. It finds the same,
+    /// and caches of the one fit the other.
+    ///
+    /// It shares the programs with this set. The error is out of memory for the list of them. A pattern has no table if
+    /// memory for that runs out.
+    ///
+    /// ```rust
+    /// let set = RegexSet::new(rt.alloc(), &["a+", "b"])?;
+    /// let bare = set.prepared(0, false)?;
+    /// assert!(rt; set.table_size().is_some() && bare.table_size().is_none());
+    /// assert!(rt; bare.is_match("caa")?);
+    /// ```
+    pub fn prepared(&self, dfa_size_limit: usize, prefilter: bool) -> Result<RegexSet, AllocError>
+        ensures same { IfOk result (ArePrepared dfa_size_limit prefilter self.now) }
+        ensures fits { IfOk result (λ set. fits_for set ≡ fits_for self.now) }
+    {
+        Ok(RegexSet {
+            set: self.set.prepared(dfa_size_limit, prefilter)?,
+        })
+    }
+
+    /// Returns how large the tables of all patterns are together, or `None` if no pattern has one.
+    ///
+    /// They are whole if each pattern has a table, and each transition of each table is known.
+    pub fn table_size(&self) -> Option<TableSize>
+        ensures { is_some result ≡ has_any_table self.now }
+    {
+        self.set.table_size()
     }
 
     /// Allocates a cache for the methods whose names end in `_with`. The error is out of memory.

@@ -35,8 +35,8 @@ impl Model for RegexSetBuilder {
 }
 
 impl RegexSetBuilder {
-    /// Returns a builder for these patterns, with all flags off, and for each pattern a size limit of 10 MiB
-    /// (10485760) and a nesting limit of 50. The patterns are not read yet.
+    /// Returns a builder for these patterns, with all flags off, for each pattern a size limit of 10 MiB (10485760) and a
+    /// nesting limit of 50, and a limit of 1 MiB (1048576) for all tables together. The patterns are not read yet.
     ///
     /// The error is out of memory for a copy of a pattern.
     pub fn new(alloc: Global, patterns: &[&str]) -> Result<RegexSetBuilder, SetError>
@@ -144,6 +144,19 @@ impl RegexSetBuilder {
         self
     }
 
+    /// Sets how many bytes the tables of all patterns together may take, as [`RegexBuilder::dfa_size_limit`] does for one.
+    /// The default is 1 MiB (1048576), and with 0 no tables are made. Each pattern's table may take what those of the
+    /// patterns before it leave.
+    ///
+    /// Which patterns match is the same either way.
+    pub fn dfa_size_limit(&mut self, limit: usize) -> &mut RegexSetBuilder
+        ensures same { result.ghost_name ≡ self.entry.ghost_name }
+        ensures set { result.now ≡ record self.old { all = record self.old.all { dfa_size_limit = limit } } }
+    {
+        self.builder.dfa_size_limit(limit);
+        self
+    }
+
     /// Sets whether groups are kept that the tree of a pattern drops, as it does for `(a){0}`. Off by default.
     ///
     /// Such a group counts for the size limit. Which patterns match is the same either way.
@@ -163,6 +176,17 @@ impl RegexSetBuilder {
         ensures set { result.now ≡ record self.old { all = record self.old.all { leftmost_longest = yes } } }
     {
         self.builder.leftmost_longest(yes);
+        self
+    }
+
+    /// Sets the same switch as [`RegexBuilder::prefilter`]. Off by default.
+    ///
+    /// Which patterns match is the same either way.
+    pub fn prefilter(&mut self, yes: bool) -> &mut RegexSetBuilder
+        ensures same { result.ghost_name ≡ self.entry.ghost_name }
+        ensures set { result.now ≡ record self.old { all = record self.old.all { prefilter = yes } } }
+    {
+        self.builder.prefilter(yes);
         self
     }
 

@@ -4,7 +4,7 @@ ghost use Rattle.std.specs.Prelude.{◌≡◌, ◌≤◌, length, is_some, IfOk,
 ghost use Rattle.bites_spec.specs.Found.{IsLeastEnd};
 ghost use Rattle.bites_spec.specs.Counts.{fit_of};
 ghost use Rattle.bites_spec.specs.Utf8.{places};
-ghost use Rattle.bites_bytes.specs.Calls.{Searched};
+ghost use Rattle.bites_bytes.specs.Calls.{SearchedFrom};
 
 use crate::string::{Cache, Regex};
 use std::alloc::AllocError;
@@ -48,8 +48,7 @@ impl Regex {
         requires { cache.old.fits ≡ fit_of self.now.program }
         ensures least { IsLeastEnd self.now.tree haystack.now (places haystack.now 0) result }
         ensures border { IfSome result (IsCharBoundary haystack.now) }
-        ensures searched { Searched self.now.program haystack.now 0 (places haystack.now 0)
-            (is_some result) cache.old cache.new }
+        ensures searched { SearchedFrom self.now haystack.now 0 (is_some result) cache.old cache.new }
     {
         self.shortest_match_at_with(cache, haystack, 0)
     }
@@ -67,8 +66,7 @@ impl Regex {
         requires border { start ≤ length haystack.now → IsCharBoundary haystack.now start }
         ensures least { IsLeastEnd self.now.tree haystack.now (places haystack.now start) result }
         ensures border { IfSome result (IsCharBoundary haystack.now) }
-        ensures searched { Searched self.now.program haystack.now start (places haystack.now start)
-            (is_some result) cache.old cache.new }
+        ensures searched { SearchedFrom self.now haystack.now start (is_some result) cache.old cache.new }
     {
         self.over_bytes()
             .shortest_match_at_with(&mut cache.cache, haystack.as_bytes(), start)

@@ -1,4 +1,4 @@
-use Rattle.std.proofs.Common.{◌≡◌, None, Some, get_or, sym, subst, option_map}
+use Rattle.std.proofs.Common.{None, Some, get_or, sym, subst, option_map}
 use Rattle.bites_spec.specs.Full.{FindsGroupsFull}
 use Rattle.bites_filter.specs.Table.{NamedRegex}
 use Rattle.bites_filter.proofs.TableLemmas.{none_more, none_matches, put_back}

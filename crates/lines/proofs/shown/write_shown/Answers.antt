@@ -1,19 +1,17 @@
-use Rattle.std.proofs.Common.{◌≡◌, ◌∙◌, List, map, ap, subst}
+use Rattle.std.proofs.Common.{IfOk, map, subst}
 use Rattle.std.specs.Io.BufRead.{strip_last}
-use Rattle.bites_spec.specs.Match.{Span}
+use Rattle.std.specs.Io.KnownBytes.{Appends}
 use Rattle.bites_spec.specs.Captured.{excerpt}
-use Rattle.bites_spec.specs.AllMatches.{AreMatches}
-use Rattle.bites_bytes.specs.Matches.{matches_left}
-use Rattle.lines.proofs.ShownLemmas.{match_lines, lines_of_parts}
+use Rattle.bites_spec.specs.Iteration.{spans_in}
+use Rattle.bites_spec.specs.Regex.{Regex, IsCompiled}
+use Rattle.lines.proofs.ShownLemmas.{match_lines, matches_shown}
 use Rattle.lines.proofs.shown.write_shown.Goals as goal
 
-pub returns-in_ok-write_matches-in-Matches : goal.returns-in_ok-write_matches-in-Matches
-returns-in_ok-write_matches-in-Matches g c =
-    let f = c.args.format in let n = c.args.number in let text = strip_last 10 c.args.line.now in
-    let left = matches_left c.in_ok-matches-in-Matches.matches in
-    let found = subst (λ h. (found : List Span) × AreMatches c.args.searcher.now h found × (left ≡ map (excerpt h) found))
-    c.without_line_feed-text.ensures c.in_ok-matches-in-Matches.ensures in (
-      match_lines f n left,
-      rw c.in-Matches.is (found.0, found.1, ap (match_lines f n) found.2 ∙ lines_of_parts f n text found.0),
-      c.in_ok-write_matches-in-Matches.ensures,
-    )
+pub returns-in-Matches-clause-shown : goal.returns-in-Matches-clause-shown
+returns-in-Matches-clause-shown g c =
+    let f = c.args.format in let n = c.args.number in let r = c.args.searcher.now in let line = c.args.line.now in
+    let wrote = c.write_matches.result in let old = g.W.Write.contents c.args.out.now in let new = g.W.Write.contents c.write_matches.new.out in
+    rw c.in-Matches.is (matches_shown f n wrote r line old new
+    (c.finds_are_successive.ensures r (subst (λ (q : Regex). IsCompiled q) c.regex.ensures c.as_str.ensures.compiled) (strip_last 10 line))
+    (subst (λ h. IfOk wrote (λ x. Appends old new (match_lines f n (map (excerpt h) (spans_in r h))))) c.without_line_feed-text.ensures
+    c.write_matches.ensures.all))

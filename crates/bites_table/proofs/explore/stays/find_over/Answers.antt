@@ -3,7 +3,7 @@ use Rattle.std.specs.Prelude.{slice_index_or}
 use Rattle.bites_table.specs.Table.{list_at}
 use Rattle.bites_table.specs.Graph.{table_of}
 use Rattle.bites_table.specs.Explored.{program_in, classes_in}
-use Rattle.bites_table.specs.Stays.{Stays, EndsQuietly, AllWalkSo, IsKept}
+use Rattle.bites_table.specs.Stays.{Stays, AllWalkSo, IsKept}
 use Rattle.bites_table.specs.declared.kind.Kind as code
 use Rattle.bites_table.proofs.StayLemmas.{stays-over}
 use Rattle.bites_table.proofs.explore.stays.find_over.Goals as goal
@@ -29,7 +29,4 @@ returns c =
       stays = λ d e. subst (λ s. Stays tab n d s c.of-2.result.value) seen_is
           (subst (λ m. Stays tab n d seen m) (sym c.of-2.ensures)
           (stays-over p k tab c.requires.table n leads kinds after keeps kept c.in_ok-leads.ensures c.requires.context.after seen looks all d e));
-      ends = λ e. subst (λ s. EndsQuietly tab k n s c.of-2.result.value) seen_is
-          (subst (λ m. EndsQuietly tab k n seen m) (sym c.of-2.ensures)
-          (c.ends_quietly-ends.ensures e seen looks (subst (λ (l : List code.Kind). AllWalkSo p (list_at tab n) l seen looks) (sym c.deref-4.ensures.value) all)));
     }

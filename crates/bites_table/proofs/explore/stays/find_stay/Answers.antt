@@ -1,19 +1,8 @@
-use Rattle.std.proofs.Common.{◌≡◌, ◌<◌, ◌≤◌, ◌∙◌, ℕ, List, Bool, true, false, Some, ap, sym, subst, ⊎_elim}
+use Rattle.std.proofs.Common.{◌≡◌, ◌<◌, ◌≤◌, ◌∙◌, ℕ, List, Bool, true, false, Some, ap, sym, ⊎_elim}
 use Rattle.std.specs.Prelude.{slice_index_or}
 use Rattle.std.proofs.lemmas.Bool.{cases_lt}
 use Rattle.bites_table.specs.Explored.{classes_in}
 use Rattle.bites_table.proofs.explore.stays.find_stay.Goals as goal
-
-pub returns-then-are_kept : goal.returns-then-are_kept
-unfolding classes_in
-returns-then-are_kept c =
-    let k = classes_in c.args.context.now in
-    let kept : (d : ℕ) → d < c.end.result → slice_index_or c.in-Some.over.keeps.items d false ≡ true =
-    subst (λ (l : List Bool). (d : ℕ) → d < c.end.result → slice_index_or l d false ≡ true) c.deref.ensures.value (c.are_kept.ensures c.if-are_kept.true) in
-    record {
-      stays = λ ch. c.in-Some.ensures.stays (k.class_of (Some ch)) (kept (k.class_of (Some ch)) (c.end.ensures.last ch));
-      ends = c.in-Some.ensures.ends c.if-over.true;
-    }
 
 pub returns : goal.returns
 unfolding classes_in
@@ -26,6 +15,6 @@ returns c =
     λ b e. ⊎_elim (λ (lt : b < 128). lt) (λ (le : 128 ≤ b). absurd (let no : false ≡ true = sym (c.bytes-flags.ensures.past b le) ∙ flag b e in cc)) (cases_lt b 128) in
     record {
       ascii = ascii;
-      stays = λ b e. c.in-Some.ensures.stays (k.class_of (Some b))
-          (ap (λ (l : List Bool). slice_index_or l (k.class_of (Some b)) false) (sym c.deref-2.ensures.value) ∙ sym (c.bytes-flags.ensures.ascii b (ascii b e)) ∙ flag b e);
+      stays = λ b e. c.in-Some-find_over.ensures.stays (k.class_of (Some b))
+          (ap (λ (l : List Bool). slice_index_or l (k.class_of (Some b)) false) (sym c.deref.ensures.value) ∙ sym (c.bytes-flags.ensures.ascii b (ascii b e)) ∙ flag b e);
     }

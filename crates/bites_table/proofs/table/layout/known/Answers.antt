@@ -6,7 +6,7 @@ use Rattle.bites_table.proofs.table.layout.known.Goals as goal
 
 pub returns : goal.returns
 returns c x n k fits known =
-    let d : Act = record { hit = None; steps = record { from = 0; to = 0 }; next = 0; is_over = false; doing = 0 } in
+    let d : Act = record { hit = None; steps = record { from = 0; to = 0 }; next = 0; is_over = false; doing = 0; begins = 0 } in
     let acts = c.args.acts.now in
     let number = c.in_ok-number.number in
     tells x acts c.args.stride fits n k c.args.cell number c.in_ok-next.next (slice_index_or acts number d)

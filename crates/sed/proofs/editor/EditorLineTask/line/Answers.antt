@@ -19,7 +19,7 @@ returns g c =
     let same : NoMatch s.searcher.tree (strip_last 10 line) (places (strip_last 10 line) 0) → new ≡ strip_last 10 line =
     subst (λ h. NoMatch s.searcher.tree h (places h 0) → new ≡ h) c.without_line_feed-text.ensures c.in_ok-edited.ensures.unchanged in (
       new ++ line_feed_of line,
-      (is_edited s.searcher s.template.now s.limit line new substitutes same, same_editor s c.replacen.new.self c.replacen.ensures.same),
+      (is_edited s.searcher s.template.now s.limit line new substitutes same, same_editor s c.substitute.new.searcher c.substitute.ensures.same),
       appends_both before between (contents c.write_all-2.new.self) new (line_feed_of line)
           (subst (Appends before between) c.as_slice.ensures.value c.in_ok-write_all.ensures.bytes)
           (subst (Appends between (contents c.write_all-2.new.self)) c.line_feed.ensures c.in_ok-write_all-2.ensures.bytes),

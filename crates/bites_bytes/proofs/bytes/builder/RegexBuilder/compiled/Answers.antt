@@ -1,17 +1,18 @@
-use Rattle.std.proofs.Common.{◌≡◌, refl, sym, subst}
+use Rattle.std.proofs.Common.{◌≡◌, ◌∙◌, ap, refl, sym, subst}
 use Rattle.std.specs.Prelude.{chars, string_bytes}
 use Rattle.bites_spec.specs.Contents.{Contents}
 use Rattle.bites_spec.specs.Grammar.{Reading}
 use Rattle.bites_spec.specs.Measure.{HasItsGroups, TreeLimitsWith, groups_opened}
-use Rattle.bites_spec.specs.Regex.{IsCompiled}
-use Rattle.bites_spec.specs.Settings.{Settings}
+use Rattle.bites_spec.specs.Regex.{Regex, IsCompiled, with_prefilter, with_table}
+use Rattle.bites_spec.specs.Tree.{Tree}
+use Rattle.bites_spec.specs.Settings.{Settings, Accepts}
 use Rattle.bites_spec.proofs.regex.KeptLemmas.{opened_has_groups}
 use Rattle.bites_syntax.specs.FlagsView.{flags_of}
 use Rattle.bites_machine.specs.Compiled as compiled
 use Rattle.bites_machine.specs.Contents.{patterned}
 use Rattle.bites_bytes.specs.Parts.{chosen, regex_of}
 use Rattle.bites_bytes.specs.Settings.{limit}
-use Rattle.bites_bytes.proofs.SettingsLemmas.{handed_on, no_other_tree, accepted_clause, refused_kept, compiled_of}
+use Rattle.bites_bytes.proofs.SettingsLemmas.{handed_on, no_other_tree, accepted_of, refused_kept, compiled_of}
 use Rattle.bites_bytes.proofs.bytes.builder.RegexBuilder.compiled.Goals as goal
 
 pub compile_kept-requires-clause-groups : goal.compile_kept-requires-clause-groups
@@ -65,5 +66,8 @@ returns-clause-accepted c =
     let groups = c.args.groups.now in
     let read = c.requires.read in
     let Within : Settings → Type 0 = λ s. TreeLimitsWith s.size_limit (chosen s.keep_dropped_groups groups t) t in
-    accepted_clause c.args.self t groups read (c.requires.groups read.reading) (subst Within c.self.view_is c.in_ok-program.ensures.limits) c.from_parts.result
-    (regex_of (flags_of x.flags) t x.keep_dropped_groups x.leftmost_longest c.with_pattern-program.result) refl c.from_parts.ensures.made
+    let Accepted : Tree → Type 0 = λ u. Accepts c.args.self u in
+    let made = c.with_table.ensures.same.1 ∙ ap (with_table c.with_table.ensures.same.0) c.in_ok-regex.ensures.made in
+    let same : c.with_prefilter.result.tree ≡ t = ap (λ (r : Regex). r.tree) (c.with_prefilter.ensures ∙ ap (with_prefilter x.prefilter) made) in
+    subst Accepted (sym same)
+    (accepted_of c.args.self t groups read (c.requires.groups read.reading) (subst Within c.self.view_is c.in_ok-program.ensures.limits))

@@ -37,11 +37,11 @@ returns-clause-groups c =
 pub returns-clause-refused : goal.returns-clause-refused
 returns-clause-refused c =
     let x = c.self.inside in
-    let s = settings c.deref.result.now (flags_of x.flags) x.limits.size x.limits.nest x.keep_dropped_groups x.leftmost_longest in
+    let s = settings c.deref.result.now (flags_of x.flags) x.limits.size x.limits.nest x.limits.dfa_size x.keep_dropped_groups x.leftmost_longest x.prefilter in
     rw (← c.self.view_is, ← c.deref.ensures) (none_accepted s c.parse_with_groups.result c.parse_with_groups.ensures.refused)
 
 pub returns-clause-message : goal.returns-clause-message
 returns-clause-message c =
     let x = c.self.inside in
-    let s = settings c.deref.result.now (flags_of x.flags) x.limits.size x.limits.nest x.keep_dropped_groups x.leftmost_longest in
+    let s = settings c.deref.result.now (flags_of x.flags) x.limits.size x.limits.nest x.limits.dfa_size x.keep_dropped_groups x.leftmost_longest x.prefilter in
     rw (← c.self.view_is, ← c.deref.ensures) (refused_by_fault s c.parse_with_groups.result c.parse_with_groups.ensures.message)

@@ -1,4 +1,5 @@
-use Rattle.std.proofs.Common.{◌∙◌, None, Some, subst, sym}
+use Rattle.std.proofs.Common.{◌∙◌, None, Some, ap₂, subst, sym}
+use Rattle.bites_spec.specs.Regex.{with_prefilter, with_table}
 use Rattle.bites_spec.specs.Captured.{AreGroups, captured}
 use Rattle.bites_bytes.specs.Calls.{FindsCapturedFull}
 use Rattle.bites_spec.proofs.regex.FullLemmas.{full_slots_are_groups}
@@ -12,11 +13,11 @@ returns-then-not-find_full-clause-found c =
 pub invariant_of-result : goal.invariant_of-result
 invariant_of-result c =
     let r = c.args.regex.now in let hay = c.args.haystack.now in let e = c.find_full.ensures in
-    subst (λ q. AreGroups q hay c.find_full.new.self) (sym (c.in_ok-compiled.ensures.cases ∙ c.compiled.ensures))
+    subst (λ q. AreGroups q hay c.find_full.new.self) (c.compiled.ensures ∙ sym (ap₂ with_prefilter c.prefilter.ensures (ap₂ with_table c.has_table.ensures c.in_ok-compiled.ensures.cases)))
     (full_slots_are_groups r e.compiled hay c.find_full.new.self (e.found c.if-not-find_full.false))
 
 pub returns-clause-found : goal.returns-clause-found
 returns-clause-found c =
     let r = c.args.regex.now in let hay = c.args.haystack.now in let new = c.find_full.new.self in let e = c.find_full.ensures in
-    subst (λ q. FindsCapturedFull r hay (Some (captured q hay new))) (sym (c.in_ok-compiled.ensures.cases ∙ c.compiled.ensures))
+    subst (λ q. FindsCapturedFull r hay (Some (captured q hay new))) (c.compiled.ensures ∙ sym (ap₂ with_prefilter c.prefilter.ensures (ap₂ with_table c.has_table.ensures c.in_ok-compiled.ensures.cases)))
     (captured_full r e.compiled hay (Some new) (e.found c.if-not-find_full.false))

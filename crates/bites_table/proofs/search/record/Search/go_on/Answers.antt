@@ -1,5 +1,4 @@
-use Rattle.std.proofs.Common.{ap, ◌∙◌, arith}
-use Rattle.bites_table.specs.Packed.{mask_of}
+use Rattle.std.proofs.Common.{refl, sym, ◌∙◌, arith}
 use Rattle.bites_table.specs.Searches.{IsHeldAt}
 use Rattle.bites_table.proofs.SearchesLemmas.{asked_still}
 use Rattle.bites_table.proofs.search.record.Search.go_on.Goals as goal
@@ -9,16 +8,18 @@ pass-at-requires g c = record {
   stands = (
     record { before = g.before; words = c.places.registers; is_found = c.places.is_found; slots = c.places.slots },
     record { is_asked = asked_still c.args.self.now c.places.self g.before c.places.invariant.same c.requires.0; stands = c.places.invariant.stands },
-    c.mask-mask.ensures ∙ ap mask_of c.requires.1.1.0,
+    refl,
+    c.places.auto.slots ∙ c.requires.1.1.0,
   );
+  room = omega (arith, c.requires.1.1.1, c.places.auto.slots, c.places.auto.registers);
 }
 
 pub step-requires : goal.step-requires
 step-requires g c =
-    let there : IsHeldAt c.pass-at.new.self c.pass-at.result (record { before = g.before; words = c.places.registers; is_found = c.places.is_found; slots = c.places.slots }) =
+    let there : IsHeldAt c.pass-at.new.self c.pass-at.result (record { before = g.before; words = c.pass-at.new.registers; is_found = c.places.is_found; slots = c.places.slots }) =
     c.pass-at.ensures.stands (record { before = g.before; words = c.places.registers; is_found = c.places.is_found; slots = c.places.slots })
     (record { is_asked = asked_still c.args.self.now c.places.self g.before c.places.invariant.same c.requires.0; stands = c.places.invariant.stands })
-    (c.mask-mask.ensures ∙ ap mask_of c.requires.1.1.0) in (
+    refl (c.places.auto.slots ∙ c.requires.1.1.0) in (
       there.is_asked,
       (
         there.stands,

@@ -8,5 +8,6 @@ returns-clause-lent c n is = record {
   bits = c.if-cell-unless-ne0.false;
   next = refl;
   act = refl;
+  begins = refl;
   walked = c.record_transition.ensures.walked;
 }

@@ -1,59 +1,66 @@
-use Rattle.std.proofs.Common.{◌≡◌, ◌<◌, ◌∷◌, ◌++◌, ◌∙◌, map, length, drop, refl, sym, ap, subst, inl, string_bytes}
+use Rattle.std.proofs.Common.{◌≡◌, ◌<◌, ℕ, List, [], ◌∷◌, ◌++◌, ◌∙◌, length, drop, refl, sym, ap, subst, inl, Some, string_bytes}
 use Rattle.std.specs.Prelude.{slice_range, unwrap_or, MatchResult}
 use Rattle.bites_spec.specs.Pieces.{limited, replaced_from}
-use Rattle.bites_spec.specs.Iteration.{captures_in}
+use Rattle.bites_spec.specs.Iteration.{captures_in, captures_after}
 use Rattle.bites_spec.specs.Replace.{GaveSome, Stops}
 use Rattle.bites_spec.specs.Replaced.{span_in}
 use Rattle.bites_bytes.specs.ReplaceLimit.{taken}
-use Rattle.bites_bytes.proofs.ReplacingLemmas.{taken_limited, limited_map, some_none, some_all, serves_on}
+use Rattle.bites_bytes.proofs.ReplacingLemmas.{taken_limited, limited_map, some_none, some_all, serves_on, ServesOn}
 use Rattle.bites_bytes.proofs.ReplacedLemmas.{if_ok, on_err, limited_none}
-use Rattle.regex_bites.specs.CapturesLeft.{captures_left}
-use Rattle.regex_bites.specs.Order.{BeginFrom}
-use Rattle.regex_bites.proofs.ReplacingLemmas.{IsOn, on_start, on_step, on_end, on_borrows, begin_limited}
+use Rattle.regex_bites.proofs.ReplacingLemmas.{IsOn, on_start, on_step, on_end, on_borrows, begin_limited, captures_ordered}
 use Rattle.regex_bites.proofs.string.regex.Regex.replace_each.Goals as goal
 
 pub loop-captures-init : goal.loop-captures-init
 loop-captures-init g c =
-    let R = g.R.Replacer in let hay = c.args.haystack.now in let n = c.args.limit in let e = c.in_ok-matches.ensures in
-    let m = c.in_ok-matches.matches in let cs = captures_in c.args.self.now hay in
-    let s = c.new-out.result in let begun = c.new-out.ensures in let r = c.args.replacer.now in
-    let rest : taken c.bound-left.result (captures_left m) ≡ limited n cs =
-    ap (λ o. taken o (captures_left m)) c.bound-left.ensures ∙ taken_limited n (captures_left m) ∙ ap (limited n) e.left in
+    let R = g.R.Replacer in let hay = c.args.haystack.now in let n = c.args.limit in let q = c.args.self.now in
+    let cs = captures_in q hay in let s = c.new-out.result in let begun = c.new-out.ensures in let r = c.args.replacer.now in
+    let rest : taken c.bound-left.result (captures_after q hay s.last) ≡ limited n cs =
+    ap (λ o. taken o (captures_after q hay s.last)) c.bound-left.ensures ∙ taken_limited n (captures_after q hay s.last)
+    ∙ ap (λ l. limited n (captures_after q hay l)) begun.last in
     record {
       served = λ end some. subst (λ l. GaveSome R.replaces R.answers R.refuses r l end) rest some;
       on =
           subst (λ l. IsOn R.replaces R.answers span_in hay (limited n cs) r (string_bytes s.out) s.last l r) (sym rest)
           (on_start R.replaces R.answers span_in hay (limited n cs) r (string_bytes s.out) s.last begun.out begun.last
-          (begin_limited span_in n cs (subst (λ ds. BeginFrom 0 (map span_in ds)) e.left e.in_order)));
+          (begin_limited span_in n cs (captures_ordered hay c.utf8.haystack q c.as_str.ensures.compiled)));
       haystack = begun.haystack;
-      same = e.haystack;
+      len = refl;
+      kept = refl;
     }
 
 pub loop-captures-preserved : goal.loop-captures-preserved
 loop-captures-preserved g c =
-    let R = g.R.Replacer in let hay = c.args.haystack.now in let all = limited c.args.limit (captures_in c.args.self.now hay) in
+    let R = g.R.Replacer in let hay = c.args.haystack.now in let q = c.args.self.now in let all = limited c.args.limit (captures_in q hay) in
     let l = c.loop-captures in let s = l.out in let on = l.invariant in let t = c.by.new.self in
-    let d = c.in_ok-captures.field-0 in let r = c.args.replacer.now in
-    let cs = taken l.left (captures_left l.matches) in let rest = taken c.step_of.new.left (captures_left c.step_of.new.self) in
+    let d = c.in_ok-captures.field-0 in let r = c.args.replacer.now in let left = c.next_captures.new.left in
+    let cs = taken l.left (captures_after q hay s.last) in let rest = taken left (captures_after q hay (Some (span_in d).end)) in
+    let taken_in = λ (h : List ℕ). taken l.left (captures_after q h s.last) in
     let steps : cs ≡ d ∷ rest =
-    subst (λ x. MatchResult x (λ y. cs ≡ y ∷ rest) (λ e. 0 < length cs)) c.in_ok-captures.was c.in-Some.ensures.steps in
+    subst (λ h. taken_in h ≡ d ∷ taken left (captures_after q h (Some (span_in d).end))) on.haystack
+    (subst (λ x. MatchResult x (λ y. taken_in s.haystack.now ≡ y ∷ taken left (captures_after q s.haystack.now (Some (span_in y).end)))
+    (λ e. 0 < length (taken_in s.haystack.now))) c.in_ok-captures.was c.in-Some.ensures.takes) in
     let gave = c.in_ok-by.ensures.gives in let e = gave.2 in
     record {
-      served = serves_on R.replaces R.answers R.refuses all r cs l.replacer on.served d rest steps gave.0 c.by.new.replacer gave.1;
+      served =
+          subst (λ o. ServesOn R.replaces R.answers R.refuses all r (taken left (captures_after q hay o)) c.by.new.replacer) (sym e.1)
+          (serves_on R.replaces R.answers R.refuses all r cs l.replacer on.served d rest steps gave.0 c.by.new.replacer gave.1);
       on =
-          on_step R.replaces R.answers span_in hay all r (string_bytes s.out) s.last d rest l.replacer
+          subst (λ o. IsOn R.replaces R.answers span_in hay all r (string_bytes t.out) t.last (taken left (captures_after q hay o)) c.by.new.replacer) (sym e.1)
+          (on_step R.replaces R.answers span_in hay all r (string_bytes s.out) s.last d rest l.replacer
           (subst (λ ds. IsOn R.replaces R.answers span_in hay all r (string_bytes s.out) s.last ds l.replacer) steps on.on)
           gave.0 c.by.new.replacer gave.1 (string_bytes t.out) t.last
-          (e.2 ∙ ap (λ h. (string_bytes s.out ++ slice_range h (unwrap_or s.last 0) (span_in d).start) ++ gave.0) on.haystack) e.1;
+          (e.2 ∙ ap (λ h. (string_bytes s.out ++ slice_range h (unwrap_or s.last 0) (span_in d).start) ++ gave.0) on.haystack) e.1);
       haystack = e.0 ∙ on.haystack;
-      same = c.in-Some.ensures.same ∙ on.same;
+      len = c.in-Some.ensures.len ∙ on.len;
+      kept = c.in-Some.ensures.fits ∙ on.kept;
     }
 
 pub returns-clause-replaces : goal.returns-clause-replaces
 returns-clause-replaces g c =
     let R = g.R.Replacer in let hay = c.args.haystack.now in let cs = captures_in c.args.self.now hay in let n = c.args.limit in
     let l = c.loop-captures in let s = l.out in let on = l.invariant in
-    let end = on_end R.replaces R.answers span_in hay (limited n cs) c.args.replacer.now (string_bytes s.out) s.last _ l.replacer on.on c.in_default.ensures.steps in
+    let none = subst (λ h. taken l.left (captures_after c.args.self.now h s.last) ≡ []) on.haystack c.in_default.ensures.takes in
+    let end = on_end R.replaces R.answers span_in hay (limited n cs) c.args.replacer.now (string_bytes s.out) s.last _ l.replacer on.on none in
     if_ok c.finish.result _ _ c.finish.ensures.bytes
     (λ x written. (
       end.0,
@@ -66,38 +73,36 @@ pub returns-clause-borrowed : goal.returns-clause-borrowed
 returns-clause-borrowed g c =
     let R = g.R.Replacer in let hay = c.args.haystack.now in let cs = captures_in c.args.self.now hay in let n = c.args.limit in
     let l = c.loop-captures in let s = l.out in
+    let nothing = subst (λ h. taken l.left (captures_after c.args.self.now h s.last) ≡ []) l.invariant.haystack c.in_default.ensures.takes in
     let is =
-    on_borrows R.replaces R.answers span_in hay (limited n cs) c.args.replacer.now (string_bytes s.out) s.last _ l.replacer l.invariant.on
-    c.in_default.ensures.steps in
+    on_borrows R.replaces R.answers span_in hay (limited n cs) c.args.replacer.now (string_bytes s.out) s.last _ l.replacer l.invariant.on nothing in
     let none = limited_none n cs in
     if_ok c.finish.result _ _ c.finish.ensures.borrowed (λ x same. (λ b. none.0 (is.0 (same.0 b)), λ bare. same.1 (is.1 (none.1 bare))))
-
-pub returns-in_err-matches-clause-served : goal.returns-in_err-matches-clause-served
-returns-in_err-matches-clause-served g c =
-    let R = g.R.Replacer in let r = c.args.replacer.now in
-    on_err c.from_residual.result _
-    (some_none R.replaces R.answers R.refuses r (limited c.args.limit (captures_in c.args.self.now c.args.haystack.now)) r (inl refl))
 
 pub returns-in_err-captures-clause-served : goal.returns-in_err-captures-clause-served
 returns-in_err-captures-clause-served g c =
     let R = g.R.Replacer in let l = c.loop-captures in
-    on_err c.from_residual-in_err-captures.result _
-    (l.invariant.served l.replacer (some_none R.replaces R.answers R.refuses l.replacer (taken l.left (captures_left l.matches)) l.replacer (inl refl)))
+    on_err c.from_residual.result _
+    (l.invariant.served l.replacer (some_none R.replaces R.answers R.refuses l.replacer (taken l.left (captures_after c.args.self.now c.args.haystack.now l.out.last)) l.replacer (inl refl)))
 
 pub returns-in_err-by-clause-served : goal.returns-in_err-by-clause-served
 returns-in_err-by-clause-served g c =
-    let R = g.R.Replacer in let l = c.loop-captures in let q = c.by.new.replacer in
-    let d = c.in_ok-captures.field-0 in
-    let cs = taken l.left (captures_left l.matches) in let rest = taken c.step_of.new.left (captures_left c.step_of.new.self) in
+    let R = g.R.Replacer in let hay = c.args.haystack.now in let q = c.args.self.now in
+    let l = c.loop-captures in let s = l.out in let end = c.by.new.replacer in let d = c.in_ok-captures.field-0 in
+    let left = c.next_captures.new.left in let taken_in = λ (h : List ℕ). taken l.left (captures_after q h s.last) in
+    let cs = taken l.left (captures_after q hay s.last) in let rest = taken left (captures_after q hay (Some (span_in d).end)) in
     let steps : cs ≡ d ∷ rest =
-    subst (λ x. MatchResult x (λ y. cs ≡ y ∷ rest) (λ e. 0 < length cs)) c.in_ok-captures.was c.in-Some.ensures.steps in
+    subst (λ h. taken_in h ≡ d ∷ taken left (captures_after q h (Some (span_in d).end))) l.invariant.haystack
+    (subst (λ x. MatchResult x (λ y. taken_in s.haystack.now ≡ y ∷ taken left (captures_after q s.haystack.now (Some (span_in y).end)))
+    (λ e. 0 < length (taken_in s.haystack.now))) c.in_ok-captures.was c.in-Some.ensures.takes) in
     on_err c.from_residual-in_err-by.result _
-    (l.invariant.served q (some_none R.replaces R.answers R.refuses l.replacer cs q
-    (subst (λ ds. Stops R.replaces R.answers R.refuses l.replacer ds q) (sym steps) (c.in_err-by.ensures.stops rest))))
+    (l.invariant.served end (some_none R.replaces R.answers R.refuses l.replacer cs end
+    (subst (λ ds. Stops R.replaces R.answers R.refuses l.replacer ds end) (sym steps) (c.in_err-by.ensures.stops rest))))
 
 pub returns-clause-served : goal.returns-clause-served
 returns-clause-served g c =
     let R = g.R.Replacer in let hay = c.args.haystack.now in let cs = limited c.args.limit (captures_in c.args.self.now hay) in
     let l = c.loop-captures in let s = l.out in
-    let end = on_end R.replaces R.answers span_in hay cs c.args.replacer.now (string_bytes s.out) s.last _ l.replacer l.invariant.on c.in_default.ensures.steps in
+    let none = subst (λ h. taken l.left (captures_after c.args.self.now h s.last) ≡ []) l.invariant.haystack c.in_default.ensures.takes in
+    let end = on_end R.replaces R.answers span_in hay cs c.args.replacer.now (string_bytes s.out) s.last _ l.replacer l.invariant.on none in
     on_err c.finish.result _ (some_all R.replaces R.answers R.refuses c.args.replacer.now cs end.0 l.replacer end.1)

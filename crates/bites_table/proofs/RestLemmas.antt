@@ -1,0 +1,128 @@
+-- Lists from which nothing is found any more.
+use Rattle.std.proofs.Common.{◌≡◌, ℕ, zero, suc, ◌+◌, ◌<◌, ◌≤◌, inl, inr, List, [], ◌∷◌, ◌++◌, length, Option, Some, refl, sym, ap, ◌∙◌, subst, ⊎_elim, arith, option_map}
+use Rattle.std.specs.Prelude.{IfSome, reverse, slice_get, slice_index_or}
+use Rattle.std.proofs.lemmas.Bool.{cases_lt}
+use Rattle.bites_spec.specs.Walks.{Among}
+use Rattle.bites_spec.specs.Program.{Program}
+use Rattle.bites_table.specs.Kinds.{Classes}
+use Rattle.bites_table.specs.Transition.{Transition}
+use Rattle.bites_table.specs.Table.{Table, IsTable, list_at}
+use Rattle.bites_table.specs.Built.{kind_as}
+use Rattle.bites_table.specs.Graph.{Outcome, Graph, table_of, transition_in, transition_with}
+use Rattle.bites_table.specs.Explored.{AreAfter}
+use Rattle.bites_table.specs.Stays.{LeadsQuietly, LeadsAmong, EndsQuietly, IsCalm, AreCalm, HasOutcome, AllWalkSo}
+use Rattle.bites_table.specs.declared.kind.Kind as code
+use Rattle.bites_table.specs.declared.kind.Kind.TheVariants.{Edge}
+use Rattle.bites_table.specs.declared.explore.stays.Walked.{Walked}
+use Rattle.bites_table.proofs.LaidOutLemmas.{get-push}
+use Rattle.bites_table.proofs.StayLemmas.{seen-same, looks-same}
+
+-- a list that leads quietly over each character, with the walk before a byte of each of these kinds
+pub is-calm : (p : Program) (k : Classes) (tab : Table) → IsTable p k tab → (n end : ℕ) → ((ch : ℕ) → k.class_of (Some ch) < end) → ((c : ℕ) → c < end → LeadsQuietly tab n c) →
+    (kinds after : List code.Kind) → ((c : ℕ) → c < end → (c < length after) × Among kinds (slice_index_or after c Edge)) → AreAfter p k after →
+    (seen : List ℕ) (looks : ℕ) → AllWalkSo p (list_at tab n) kinds seen looks → EndsQuietly tab k n seen looks → IsCalm tab k n seen looks
+is-calm p k tab is n end below quiet kinds after among are seen looks all ends = record {
+  over = λ ch. quiet (k.class_of (Some ch)) (below ch);
+  seen_is = λ ch.
+      let c = k.class_of (Some ch) in
+      let lead = quiet c (below ch) in
+      let own = among c (below ch) in
+      let kind = slice_index_or after c Edge in
+      seen-same p k tab is n c lead.transition lead.known (kind_as kind) (are (list_at tab n).kind c own.0) seen looks (all kind own.1);
+  looks_is = λ ch.
+      let c = k.class_of (Some ch) in
+      let lead = quiet c (below ch) in
+      let own = among c (below ch) in
+      let kind = slice_index_or after c Edge in
+      looks-same p k tab is n c lead.transition lead.known (kind_as kind) (are (list_at tab n).kind c own.0) seen looks (all kind own.1);
+  ends = ends;
+}
+
+-- what is among some is among more
+pub among-left : {X : Type 0} (xs ys : List X) (x : X) → Among xs x → Among (xs ++ ys) x
+among-left [] ys x is = absurd is
+among-left (z ∷ xs) ys x is = ⊎_elim (λ e. inl e) (λ later. inr (among-left xs ys x later)) is
+
+pub among-last : {X : Type 0} (xs : List X) (x : X) → Among (xs ++ x ∷ []) x
+among-last [] x = inl refl
+among-last (z ∷ xs) x = inr (among-last xs x)
+
+-- the index of an item
+index-of : {X : Type 0} (xs : List X) (x : X) → Among xs x → (i : ℕ) × (i < length xs) × (slice_get xs i ≡ Some x)
+index-of [] x is = absurd is
+index-of (z ∷ xs) x is =
+    ⊎_elim (λ e. (0, omega arith, ap (λ y. Some y) e)) (λ later. let own = index-of xs x later in (suc own.0, let lt = own.1 in omega arith, own.2)) is
+
+get-left : {X : Type 0} (xs ys : List X) (i : ℕ) (x : X) → i < length xs → slice_get (xs ++ ys) i ≡ Some x → slice_get xs i ≡ Some x
+get-left [] ys i x lt at = absurd (omega arith)
+get-left (y ∷ xs) ys zero x lt at = at
+get-left (y ∷ xs) ys (suc i) x lt at = get-left xs ys i x (omega arith) at
+
+get-same : {X : Type 0} (xs : List X) (i : ℕ) (x y : X) → slice_get xs i ≡ Some x → slice_get xs i ≡ Some y → y ≡ x
+get-same xs i x y a b = let same : Some x ≡ Some y = sym a ∙ b in let one : x ≡ y = cc in sym one
+
+-- the list is calm, and leads over the classes before this one to these lists
+pub record IsDone (tab : Table) (k : Classes) (end : ℕ) (seen : List ℕ) (looks : ℕ) (lists : List ℕ) (m : ℕ) : Type 0 where
+  pub calm : IsCalm tab k m seen looks
+  pub closed : (c : ℕ) → c < end → LeadsAmong tab lists m c
+
+-- the first lists are so
+abbrev pub AreDone : Table → Classes → ℕ → List ℕ → ℕ → List ℕ → ℕ → Type 0
+AreDone tab k end seen looks lists i = (j m : ℕ) → j < i → slice_get lists j ≡ Some m → IsDone tab k end seen looks lists m
+
+module _ (tab : Table) (k : Classes) (end : ℕ) (seen : List ℕ) (looks : ℕ) (lists : List ℕ) (i : ℕ) (done : AreDone tab k end seen looks lists i) where
+  -- one more list
+  pub done-next : i < length lists → (more new : List ℕ) → new ≡ lists ++ more → (m : ℕ) → slice_get lists i ≡ Some m → IsCalm tab k m seen looks →
+      ((c : ℕ) → c < end → LeadsAmong tab new m c) → AreDone tab k end seen looks new (i + 1)
+  done-next within more new e m at calm closed j q lt there =
+      let before : slice_get lists j ≡ Some q = get-left lists more j q (omega arith) (subst (λ (l : List ℕ). slice_get l j ≡ Some q) e there) in
+      ⊎_elim
+      (λ (less : j < i). let own = done j q less before in record {
+        calm = own.calm;
+        closed = λ c below t known. subst (λ (l : List ℕ). Among l t.next) (sym e) (among-left lists more t.next (own.closed c below t known));
+      })
+      (λ (le : i ≤ j).
+      let same : j ≡ i = omega arith in
+      let one : q ≡ m = get-same lists i m q at (subst (λ n. slice_get lists n ≡ Some q) same before) in
+      subst (λ n. IsDone tab k end seen looks new n) (sym one) (record { calm = calm; closed = closed }))
+      (cases_lt j i)
+
+  -- all lists
+  pub all-done : length lists ≤ i → (m : ℕ) → Among lists m → IsDone tab k end seen looks lists m
+  all-done le m is = let at = index-of lists m is in done at.0 m (let lt = at.1 in omega arith) at.2
+
+-- an outcome leads to its next list
+pub leads-one : (g : Graph) (n c : ℕ) (o : Outcome) → HasOutcome g n c o → (lists : List ℕ) → Among lists o.next → LeadsAmong (table_of g) lists n c
+leads-one g n c o has lists is t known =
+    let own : (table_of g).transition n c ≡ Some (transition_with has.cell o) = ap (transition_in g.outcomes) has.known ∙ ap (option_map (transition_with has.cell)) has.named in
+    let both : Some t ≡ Some (transition_with has.cell o) = sym known ∙ own in
+    let same : t ≡ transition_with has.cell o = cc in
+    subst (λ (u : Transition ℕ). Among lists u.next) (sym same) is
+
+-- one more class
+pub leads-next : (tab : Table) (n c : ℕ) (lists more new : List ℕ) → new ≡ lists ++ more → ((d : ℕ) → d < c → LeadsAmong tab lists n d) → LeadsAmong tab new n c →
+    (d : ℕ) → d < c + 1 → LeadsAmong tab new n d
+leads-next tab n c lists more new e before own d lt =
+    ⊎_elim (λ (less : d < c). λ t known. subst (λ (l : List ℕ). Among l t.next) (sym e) (among-left lists more t.next (before d less t known)))
+    (λ (le : c ≤ d). let same : c ≡ d = omega arith in subst (LeadsAmong tab new n) same own)
+    (cases_lt d c)
+
+-- one more list with or without a walk
+pub calms-push : (tab : Table) (k : Classes) (calms : List (Option Walked)) (calm : Option Walked) (new : List (Option Walked)) → new ≡ calms ++ calm ∷ [] → (n : ℕ) → length calms ≡ n →
+    IfSome calm (λ w. IsCalm tab k n (reverse w.states.items) w.looks) → AreCalm tab k calms → AreCalm tab k new
+calms-push tab k calms calm new e n len own are m w there =
+    ⊎_elim (λ before. are m w before)
+    (λ (last : (m ≡ length calms) × (calm ≡ Some w)).
+    let at : n ≡ m = sym len ∙ sym last.0 in
+    let P : Option Walked → Type 0 = λ o. IfSome o (λ v. IsCalm tab k n (reverse v.states.items) v.looks) in
+    let Q : ℕ → Type 0 = λ j. IsCalm tab k j (reverse w.states.items) w.looks in
+    subst Q at (subst P last.1 own))
+    (get-push calms calm m (Some w) (let R : List (Option Walked) → Type 0 = λ l. slice_get l m ≡ Some (Some w) in subst R e there))
+
+-- what grows twice
+pub grows-on : (old lists new a : List ℕ) → lists ≡ old ++ a → (b : List ℕ) → new ≡ lists ++ b → (more : List ℕ) × (new ≡ old ++ more)
+grows-on old lists new a first b then = (a ++ b, then ∙ ap (λ l. l ++ b) first ∙ append_assoc old a b)
+  where
+    append_assoc : (xs ys zs : List ℕ) → (xs ++ ys) ++ zs ≡ xs ++ (ys ++ zs)
+    append_assoc [] ys zs = refl
+    append_assoc (x ∷ xs) ys zs = ap (λ l. x ∷ l) (append_assoc xs ys zs)

@@ -1,0 +1,221 @@
+//! Lists from which nothing is found any more, where a search ends at once.
+
+ghost use Rattle.std.specs.Prelude.{◌≡◌, ◌<◌, ◌++◌, ℕ, List, true, Some, IfSome, length, reverse, slice_get, slice_index_or};
+ghost use Rattle.bites_spec.specs.Walks.{Among};
+ghost use Rattle.bites_table.specs.Table.{IsTable, list_at};
+ghost use Rattle.bites_table.specs.Graph.{table_of};
+ghost use Rattle.bites_table.specs.Explored.{program_in, classes_in, IsContext};
+ghost use Rattle.bites_table.specs.Stays.{LeadsQuietly, LeadsAmong, EndsQuietly, IsCalm, AreCalm, IsRest, AllWalkSo};
+ghost use Rattle.bites_table.specs.declared.kind.Kind.TheVariants.{Edge};
+ghost use Rattle.bites_table.specs.declared.explore.stays.Walked.{Walked};
+
+use crate::explore::graph::Graph;
+use crate::explore::stays::{Walked, alike_kinds, is_among, walk_once};
+use crate::explore::{Context, Memory};
+use crate::kind::Kind;
+use crate::table::layout::doing_of;
+use crate::table::skip::Rest;
+use crate::visited::are_same;
+use std::alloc::Global;
+use std::snapshot::Snapshot;
+
+// A set of lists from which nothing is found any more has fewer lists than this.
+const MOST_TOGETHER: usize = 8;
+
+/// Returns for each list its walk, if it is the same before each character and before the end, and nothing is found over any
+/// of them. Returns `None` if memory runs out.
+pub(crate) fn find_calms(
+    alloc: Global,
+    context: &Context<'_>,
+    memory: &mut Memory,
+    graph: &Graph,
+) -> Option<Vec<Option<Walked>>>
+    requires context { IsContext context.now }
+    requires table { IsTable (program_in context.now) (classes_in context.now) (table_of graph.now) }
+    ensures { IfSome result (λ l. AreCalm (table_of graph.now) (classes_in context.now) l.items) }
+{
+    let mut calms = Vec::new(alloc);
+    for number in 0..graph.lists() {
+        let calm = find_calm(alloc, context, memory, graph, number);
+        calms.push(calm).ok()?;
+    }
+    Some(calms)
+}
+
+// Returns the walk of a list, if it is the same before each character and before the end, and nothing is found over any of
+// them. Returns `None` too if memory or the budget runs out.
+fn find_calm(
+    alloc: Global,
+    context: &Context<'_>,
+    memory: &mut Memory,
+    graph: &Graph,
+    number: usize,
+) -> Option<Walked>
+    requires context { IsContext context.now }
+    requires table { IsTable (program_in context.now) (classes_in context.now) (table_of graph.now) }
+    requires within { number < length graph.now.lists }
+    ensures { IfSome result (λ w. IsCalm (table_of graph.now) (classes_in context.now) number (reverse w.states.items) w.looks) }
+{
+    let end = context.classes.end();
+    if !are_quiet(graph, number, end) || !has_no_hit(graph, number, end) {
+        return None;
+    }
+    let first = context.after.first().copied()?;
+    let walked = walk_once(alloc, context, memory, graph, number, first)?;
+    let kinds = alike_kinds(alloc, context, memory, graph, number, first, &walked)?;
+    if !are_all_among(&kinds, context.after, end) || !ends_quietly(context, graph, number, &kinds) {
+        return None;
+    }
+    Some(walked)
+}
+
+// Returns whether the list leads quietly over each class before this one.
+fn are_quiet(graph: &Graph, number: usize, end: usize) -> bool
+    ensures { result ≡ true → (c : ℕ) → c < end → LeadsQuietly (table_of graph.now) number c }
+{
+    for class in 0..end {
+        if !is_quiet(graph, number, class) {
+            return false;
+        }
+    }
+    true
+}
+
+// Returns whether the list leads quietly over the class.
+fn is_quiet(graph: &Graph, number: usize, class: usize) -> bool
+    ensures { result ≡ true → LeadsQuietly (table_of graph.now) number class }
+{
+    let Some(outcome) = graph.outcome_over(number, class) else {
+        return false;
+    };
+    let next = outcome.next as usize;
+    if next >= graph.lists() {
+        return false;
+    }
+    let list = graph.list(next);
+    doing_of(&outcome, &list) == 0
+}
+
+// Returns whether the list comes to no match over the class.
+fn has_no_hit(graph: &Graph, number: usize, class: usize) -> bool {
+    let Some(outcome) = graph.outcome_over(number, class) else {
+        return false;
+    };
+    outcome.hit.is_none()
+}
+
+// Returns whether the kinds after which the classes before this one are walked are all among these.
+fn are_all_among(kinds: &[Kind], after: &[Kind], end: usize) -> bool
+    ensures { result ≡ true → (c : ℕ) → c < end → (c < length after.now) × Among kinds.now (slice_index_or after.now c Edge) }
+{
+    for class in 0..end {
+        if !is_among(kinds, after, class) {
+            return false;
+        }
+    }
+    true
+}
+
+// Returns whether nobody comes to a match at the end, after the same walk.
+fn ends_quietly(context: &Context<'_>, graph: &Graph, number: usize, kinds: &[Kind]) -> bool
+    requires context { IsContext context.now }
+    requires table { IsTable (program_in context.now) (classes_in context.now) (table_of graph.now) }
+    ensures { result ≡ true → (seen : List ℕ) (looks : ℕ) →
+        AllWalkSo (program_in context.now) (list_at (table_of graph.now) number) kinds.now seen looks →
+        EndsQuietly (table_of graph.now) (classes_in context.now) number seen looks }
+{
+    let end = context.classes.end();
+    let Some(outcome) = graph.outcome_over(number, end) else {
+        return false;
+    };
+    outcome.hit.is_none() && is_among(kinds, context.after, end)
+}
+
+/// Finds whether nothing is found any more from a list: whether all lists that it leads to have the same walk, and nothing is
+/// found from them. Returns `None` too if memory runs out, or if these lists are many.
+pub(crate) fn find_rest(
+    alloc: Global,
+    context: &Context<'_>,
+    graph: &Graph,
+    calms: &[Option<Walked>],
+    number: usize,
+) -> Option<Rest>
+    requires { AreCalm (table_of graph.now) (classes_in context.now) calms.now }
+    ensures { IfSome result (IsRest (table_of graph.now) (classes_in context.now) number) }
+{
+    let own = calm_at(calms, number)?;
+    let end = context.classes.end();
+    let mut lists = Vec::new(alloc);
+    lists.push(number).ok()?;
+    for i in 0..MOST_TOGETHER {
+        if i >= lists.len() {
+            return Some(Rest {
+                seen: Snapshot::of(&own.states),
+                looks: Snapshot::of(&own.looks),
+            });
+        }
+        let list = lists[i];
+        if !is_alike(calms, own, list) {
+            return None;
+        }
+        add_next(graph, list, end, &mut lists)?;
+    }
+    None
+}
+
+// Returns the walk of a list, if it has one.
+fn calm_at(calms: &[Option<Walked>], number: usize) -> Option<&Walked>
+    ensures { IfSome result (λ w. slice_get calms.now number ≡ Some (Some w.now)) }
+{
+    if number >= calms.len() {
+        return None;
+    }
+    calms[number].as_ref()
+}
+
+// Returns whether a list has the same walk.
+fn is_alike(calms: &[Option<Walked>], own: &Walked, number: usize) -> bool
+    ensures { result ≡ true → (w : Walked) × (slice_get calms.now number ≡ Some (Some w))
+        × (w.states.items ≡ own.now.states.items) × (w.looks ≡ own.now.looks) }
+{
+    let Some(walked) = calm_at(calms, number) else {
+        return false;
+    };
+    walked.looks == own.looks && are_same(&walked.states, &own.states)
+}
+
+// Adds the lists that a list leads to over the classes before this one. Returns `None` if a transition is not known, or if
+// memory runs out.
+fn add_next(graph: &Graph, number: usize, end: usize, lists: &mut Vec<usize>) -> Option<()>
+    ensures grows { (more : List ℕ) × (lists.new.items ≡ lists.old.items ++ more) }
+    ensures closed { IfSome result (λ _. (c : ℕ) → c < end → LeadsAmong (table_of graph.now) lists.new.items number c) }
+{
+    for class in 0..end {
+        let next = graph.outcome_over(number, class)?.next as usize;
+        add_list(lists, next)?;
+    }
+    Some(())
+}
+
+// Adds a list, unless it is there.
+fn add_list(lists: &mut Vec<usize>, number: usize) -> Option<()>
+    ensures grows { (more : List ℕ) × (lists.new.items ≡ lists.old.items ++ more) }
+    ensures added { IfSome result (λ _. Among lists.new.items number) }
+{
+    if !has_list(lists, number) {
+        lists.push(number).ok()?;
+    }
+    Some(())
+}
+
+// Returns whether the list is one of these.
+fn has_list(lists: &[usize], number: usize) -> bool
+    ensures { result ≡ true → Among lists.now number }
+{
+    for own in lists {
+        if *own == number {
+            return true;
+        }
+    }
+    false
+}

@@ -1,0 +1,164 @@
+//! The table of a regex, and the tables of a set, which searches make once they have read enough.
+
+use super::handle::Handle;
+use crate::pool::with_locked;
+use crate::race;
+use crate::sys::{self, BitesTable};
+use std::sync::atomic::{AtomicU8, Ordering};
+use std::sync::{Mutex, OnceLock};
+
+/// After how many bytes a thread asks for the table of a regex. To make a table takes about as long as to search so many bytes
+/// without it, so a regex takes at most about twice the time of the better way.
+pub(super) const BYTES_BEFORE: usize = 512;
+
+/// The same for all tables of a set. For 5, 50 and 500 patterns (`bench/sets.rs`), to make them took as long as to search 2,000 to
+/// 5,000 bytes without them.
+pub(super) const BYTES_BEFORE_OF_SET: usize = 4096;
+
+/// How large a table is, or all tables of a set together.
+#[derive(Clone, Copy, Debug, PartialEq, Eq)]
+#[non_exhaustive]
+pub struct TableSize {
+    /// The number of its lists of threads.
+    pub lists: usize,
+    /// The number of bytes that it takes.
+    pub bytes: usize,
+    /// Whether it knows all that a search can come to. For a set: whether each pattern has a table that does.
+    pub is_whole: bool,
+}
+
+/// The state while no thread has asked for the table.
+const NOT_ASKED: u8 = 0;
+
+/// The state while a thread makes the table.
+const ASKED: u8 = 1;
+
+/// The state once there is a handle with the table.
+const MADE: u8 = 2;
+
+/// A handle of a regex or of a set, which may have a table.
+pub(super) trait WithTable: Sized {
+    /// Returns another handle of the same, with the same table.
+    fn share(&mut self) -> Self;
+
+    /// Returns another handle of the same, with a table of at most so many bytes. Its searches look for a literal first.
+    fn prepared(&mut self, limit: usize) -> Self;
+
+    /// Returns how large the table is: all zeros if there is none.
+    fn table_size(&mut self) -> BitesTable;
+}
+
+/// The handle of a regex or of a set with its table, once there is one.
+pub(super) struct Prepared<H> {
+    limit: usize,
+    /// After how many bytes of haystacks the table is asked for.
+    bytes_before: usize,
+    /// [`NOT_ASKED`], [`ASKED`] or [`MADE`].
+    state: AtomicU8,
+    handle: OnceLock<Mutex<H>>,
+}
+
+impl<H: WithTable> Prepared<H> {
+    /// A table of at most so many bytes, which is made after so many bytes of haystacks.
+    pub(super) const fn new(limit: usize, bytes_before: usize) -> Prepared<H> {
+        Prepared {
+            limit,
+            bytes_before,
+            state: AtomicU8::new(NOT_ASKED),
+            handle: OnceLock::new(),
+        }
+    }
+
+    /// Returns a handle with the table if that is made, and else another one of `plain`; and after how many bytes of haystacks the
+    /// table is asked for, or `None` if never.
+    pub(super) fn share_either(&self, plain: &Mutex<H>) -> (H, Option<usize>) {
+        match self.share() {
+            Some(handle) => (handle, None),
+            None => {
+                let bytes_before = (self.limit != 0).then_some(self.bytes_before);
+                (with_locked(plain, H::share), bytes_before)
+            }
+        }
+    }
+
+    /// Counts so many bytes that may be searched next, of the bytes that are left before the table is asked for. If they are
+    /// enough, the handle becomes one with the table, unless another thread makes it meanwhile.
+    #[inline]
+    pub(super) fn count(&self, bytes: usize, bytes_left: &mut Option<usize>, handle: &mut H) {
+        let Some(left) = *bytes_left else {
+            return;
+        };
+        *bytes_left = Some(left.saturating_sub(bytes));
+        if bytes >= left {
+            if let Some(prepared) = self.share_or_make(handle) {
+                *handle = prepared;
+                *bytes_left = None;
+            }
+        }
+    }
+
+    /// Returns the handle with the table, if that is made.
+    fn made(&self) -> Option<&Mutex<H>> {
+        if self.state.load(Ordering::Acquire) != MADE {
+            return None;
+        }
+        race::acquired(&self.handle);
+        self.handle.get()
+    }
+
+    /// Returns another handle with the table, if that is made.
+    fn share(&self) -> Option<H> {
+        Some(with_locked(self.made()?, H::share))
+    }
+
+    /// Like [`Prepared::share`], but the first thread that asks makes the table. All others go on without it meanwhile.
+    #[cold]
+    fn share_or_make(&self, plain: &mut H) -> Option<H> {
+        let claim =
+            self.state
+                .compare_exchange(NOT_ASKED, ASKED, Ordering::Relaxed, Ordering::Relaxed);
+        if claim.is_err() {
+            return self.share();
+        }
+        let mut made = plain.prepared(self.limit);
+        let own = made.share();
+        // No other thread sets it.
+        let _ = self.handle.set(Mutex::new(made));
+        race::released(&self.handle);
+        self.state.store(MADE, Ordering::Release);
+        Some(own)
+    }
+
+    /// Returns how large the table is, if it is made.
+    pub(super) fn size(&self) -> Option<TableSize> {
+        let size = with_locked(self.made()?, H::table_size);
+        (size.lists != 0).then_some(TableSize {
+            lists: size.lists,
+            bytes: size.bytes,
+            is_whole: size.is_whole != 0,
+        })
+    }
+}
+
+impl WithTable for Handle {
+    fn share(&mut self) -> Handle {
+        let mut handle = Handle::empty();
+        // SAFETY: both handles are borrowed exclusively, and are two.
+        let code = unsafe { sys::bites_clone(&mut self.0, &mut handle.0) };
+        handle.or_give_up(code)
+    }
+
+    fn prepared(&mut self, limit: usize) -> Handle {
+        let mut handle = Handle::empty();
+        // SAFETY: both handles are borrowed exclusively, and are two.
+        let code = unsafe { sys::bites_prepare(&mut self.0, limit, &mut handle.0) };
+        handle.or_give_up(code)
+    }
+
+    fn table_size(&mut self) -> BitesTable {
+        let mut size = BitesTable::NONE;
+        // SAFETY: the handle is borrowed exclusively, and the size is a local.
+        unsafe { sys::bites_table_size(&mut self.0, &mut size) };
+        size
+    }
+}
