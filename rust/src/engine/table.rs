@@ -7,8 +7,8 @@ use crate::sys::{self, BitesTable};
 use std::sync::atomic::{AtomicU8, Ordering};
 use std::sync::{Mutex, OnceLock};
 
-/// After how many bytes a thread asks for the table of a regex. To make a table takes about as long as to search so many bytes
-/// without it, so a regex takes at most about twice the time of the better way.
+/// After how many bytes a thread asks for the table of a regex. To make the table of a common pattern takes about as long as to search
+/// so many bytes without it. A pattern whose table is large takes longer.
 pub(super) const BYTES_BEFORE: usize = 512;
 
 /// The same for all tables of a set. For 5, 50 and 500 patterns (`bench/sets.rs`), to make them took as long as to search 2,000 to
