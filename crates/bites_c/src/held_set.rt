@@ -69,7 +69,11 @@ impl HeldSet {
     ) -> Result<HeldSet, AllocError>
         ensures { IfOk result (IsPreparedSet dfa_size_limit self.now) }
     {
-        HeldSet::new(alloc, self.set.prepared(dfa_size_limit, true)?, self.is_text)
+        HeldSet::new(
+            alloc,
+            self.set.prepared(dfa_size_limit, true)?,
+            self.is_text,
+        )
     }
 
     /// Returns how large the tables of all patterns are together, if any has one.

@@ -327,7 +327,11 @@ impl Regex {
         ensures same { IfOk result (λ r. (b : Bool) × (r ≡ with_prefilter prefilter (with_table b self.now))) }
         ensures none { IfOk result (λ r. dfa_size_limit ≡ 0 → r.has_table ≡ false) }
     {
-        Ok(self.clone()?.with_table(dfa_size_limit).with_prefilter(prefilter))
+        Ok(
+            self.clone()?
+                .with_table(dfa_size_limit)
+                .with_prefilter(prefilter),
+        )
     }
 
     /// Returns how large the table is that searches use, or `None` if there is none: because the limit was 0 or too small,
