@@ -108,9 +108,9 @@ void bites_free(bites *regex);
  * than making the regex, so prepare a regex that searches much. bites_new makes no table. If each match holds a literal, the
  * searches of `out` look for it first, many bytes at a time. Searches at one offset do not. bites_new makes regexes that never do.
  *
- * The table takes at most `dfa_size_limit` bytes, and bites_table_size says how many it takes. What it has no room for is left to
- * the search. There is no table with limit 0, or if the limit is too small for where searches begin. The literal is looked for
- * then too.
+ * The thread lists and transitions of the table take at most `dfa_size_limit` bytes, and bites_table_size says how many. Its classes
+ * of characters, at most 22 KB, are not counted. What it has no room for is left to the search. There is no table with limit 0, or if
+ * the limit is too small for where searches begin. The literal is looked for then too.
  *
  * `out` shares the program of `regex`, and clones of `out` share its table too. A cache of one fits the other. `regex` is
  * unchanged, with its table if it has one. With BITES_LEFTMOST_LONGEST no table is made, nor if the pattern tells too many classes
