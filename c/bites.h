@@ -106,7 +106,8 @@ void bites_free(bites *regex);
 
 /* Puts the same regex with a table into `out`. Its searches return the same, and mostly much sooner. Making a table takes longer
  * than making the regex, so prepare a regex that searches much. bites_new makes no table. If each match holds a literal, the
- * searches of `out` look for it first, many bytes at a time. Searches at one offset do not. bites_new makes regexes that never do.
+ * searches of `out` look for it first, many bytes at a time. If each match ends at the end of the haystack, they explore only the
+ * places near the end. Searches at one offset do neither. bites_new makes regexes that never do.
  *
  * The thread lists and transitions of the table take at most `dfa_size_limit` bytes, and bites_table_size says how many. Its classes
  * of characters, at most 22 KB, are not counted. What it has no room for is left to the search. There is no table with limit 0, or if
@@ -115,7 +116,7 @@ void bites_free(bites *regex);
  * `out` shares the program of `regex`, and clones of `out` share its table too. A cache of one fits the other. `regex` is
  * unchanged, with its table if it has one. With BITES_LEFTMOST_LONGEST no table is made, nor if the pattern tells too many classes
  * of characters apart. Returns what bites_clone returns. BITES_NO_MEMORY says that there was no memory for the handle. If there is
- * none for the table, `out` holds the regex without one, and the call returns BITES_DONE. */
+ * none for the table or to find the literal, `out` holds the regex without it, and the call returns BITES_DONE. */
 uint32_t bites_prepare(bites *regex, size_t dfa_size_limit, bites *out);
 
 /* Puts how large the table of the regex is into `out`: the number of its thread lists, its bytes, and 1 if it knows all that a

@@ -1,8 +1,9 @@
 /* Refuses each request for memory of each call of bites.h that allocates: the first, the second and each further one, until a
  * run has none refused. Then it does all of that again with the requests after the refused one refused too. A refused call must
- * return BITES_NO_MEMORY. But bites_prepare and bites_set_prepare may be done if only tables were refused memory, and what they
- * made must work then. The handles of a refused call must still work, `out` of a call that makes something must hold nothing, other
- * memory that it writes to must be unchanged, and all that it allocated must be freed. Searches must not allocate at all. */
+ * return BITES_NO_MEMORY. But bites_prepare and bites_set_prepare may be done if only tables and literals were refused memory, and
+ * what they made must work then. The handles of a refused call must still work, `out` of a call that makes something must hold
+ * nothing, other memory that it writes to must be unchanged, and all that it allocated must be freed. Searches must not allocate
+ * at all. */
 #include "bites.h"
 #include "refusing.h"
 

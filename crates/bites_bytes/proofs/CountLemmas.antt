@@ -1,5 +1,5 @@
 -- How many items iterators have left.
-use Rattle.std.proofs.Common.{◌≡◌, ℕ, zero, suc, ◌≤◌, Bool, true, false, cond, List, [], map, length, take, Option, Some, None, refl, sym, ap, ◌∙◌, true≢false, arith}
+use Rattle.std.proofs.Common.{◌≡◌, ℕ, zero, suc, ◌≤◌, Bool, true, false, cond, List, [], length, take, Option, Some, None, refl, sym, ap, ◌∙◌, true≢false, arith}
 use Rattle.std.specs.Prelude.{is_some, unwrap_or}
 use Rattle.std.specs.Iterator.{YieldsFirstBy}
 use Rattle.std.proofs.lemmas.List.{length-map, length-take}
@@ -14,9 +14,10 @@ use Rattle.bites_spec.specs.Iteration.{spans_after, captured_by, captures_after}
 use Rattle.bites_spec.proofs.iteration.PieceTextLemmas.{length-gaps_from}
 use Rattle.bites_spec.proofs.iteration.SuccessiveLemmas.{successive-length, successive_after-length, mapped_after, mapped_successive}
 use Rattle.bites_bytes.specs.Matches.{spans_left, matches_left, captures_to_come}
-use Rattle.bites_bytes.specs.Split.{pieces_by, pieces_left, at_most_left}
+use Rattle.bites_bytes.specs.Split.{pieces_left, at_most_left}
 use Rattle.bites_bytes.specs.declared.bytes.matches.Matches.{Matches}
 use Rattle.bites_bytes.specs.declared.bytes.split.Split.{Split}
+use Rattle.bites_bytes.proofs.SplitLemmas.{pieces}
 
 module _ {S A B : Type 0} (view : A → B) (left : S → List B) where
   -- a step that gives an item takes one
@@ -55,30 +56,26 @@ captures_spans r hay (Some e) =
 pub length-captures : (s : Matches) → length (captures_to_come s.cursor) ≡ length (matches_left s)
 length-captures s = captures_spans s.cursor.regex.now s.cursor.haystack.now s.cursor.last ∙ sym (length-matches s)
 
-length-by : (s : Split) (ss : List Span) (done : Bool) → s.done ≡ done → length (pieces_by s ss) ≡ cond done 0 (suc (length ss))
-length-by s ss done is =
-    let hay = s.matches.cursor.haystack.now in let gaps = gaps_from (length hay) (unwrap_or s.matches.cursor.last 0) ss in
-    ap (λ b. length (cond b [] (map (text_at hay) gaps))) is ∙ each done
-  where
-    each : (b : Bool) → length (cond b [] (map (text_at s.matches.cursor.haystack.now) (gaps_from (length s.matches.cursor.haystack.now) (unwrap_or s.matches.cursor.last 0) ss))) ≡ cond b 0 (suc (length ss))
-    each true = refl
-    each false =
-        length-map (gaps_from (length s.matches.cursor.haystack.now) (unwrap_or s.matches.cursor.last 0) ss) (text_at s.matches.cursor.haystack.now)
-        ∙ length-gaps_from (length s.matches.cursor.haystack.now) (unwrap_or s.matches.cursor.last 0) ss
+-- how many pieces are left, between these spans
+pub length-open : (hay : List ℕ) (begin : ℕ) (ss : List Span) (done : Bool) → done ≡ false → length (cond done [] (pieces hay begin ss)) ≡ suc (length ss)
+length-open hay begin ss done more =
+    ap (λ b. length (cond b [] (pieces hay begin ss))) more ∙ length-map (gaps_from (length hay) begin ss) (text_at hay)
+    ∙ length-gaps_from (length hay) begin ss
 
-pub no_pieces : (s : Split) → s.done ≡ true → length (pieces_left s) ≡ 0
-no_pieces s is = length-by s (spans_left s.matches.cursor) true is
+-- and between the first n of them
+pub length-limited : (hay : List ℕ) (begin n : ℕ) (ss : List Span) (done : Bool) → length (cond done [] (pieces hay begin (take n ss))) ≤ suc n
+length-limited hay begin n ss true = omega arith
+length-limited hay begin n ss false =
+    let e = length-open hay begin (take n ss) false refl in let l = length-take n ss in omega (arith, e, l)
 
 -- one more piece is left than there are matches
 pub length-pieces : (s : Split) → s.done ≡ false → length (pieces_left s) ≡ suc (length (matches_left s.matches))
-length-pieces s is = length-by s (spans_left s.matches.cursor) false is ∙ ap suc (sym (length-matches s.matches))
-
-limited_by : (n : ℕ) (s : Split) (done : Bool) → s.done ≡ done → length (pieces_by s (take n (spans_left s.matches.cursor))) ≤ suc n
-limited_by n s true is = let e = length-by s (take n (spans_left s.matches.cursor)) true is in omega (arith, e)
-limited_by n s false is =
-    let e = length-by s (take n (spans_left s.matches.cursor)) false is in let l = length-take n (spans_left s.matches.cursor) in omega (arith, e, l)
+length-pieces s more =
+    length-open s.matches.cursor.haystack.now (unwrap_or s.matches.cursor.last 0) (spans_left s.matches.cursor) s.done more
+    ∙ ap suc (sym (length-matches s.matches))
 
 -- no more pieces are left than may come
 pub limited_bound : (n : ℕ) (s : Split) → length (at_most_left n s) ≤ n
 limited_bound zero s = omega arith
-limited_bound (suc n) s = limited_by n s s.done refl
+limited_bound (suc n) s =
+    length-limited s.matches.cursor.haystack.now (unwrap_or s.matches.cursor.last 0) n (spans_left s.matches.cursor) s.done

@@ -1,7 +1,7 @@
 -- What a search for a match of the whole haystack leaves in slots, and says of a regex's tree.
 use Rattle.std.proofs.Common.{◌≡◌, ℕ, ◌≤◌, Bool, true, false, List, ◌++◌, length, take, drop, Option, Some, None, option_map, refl, sym, ap, ◌∙◌, subst, true≢false, arith}
 use Rattle.std.proofs.lemmas.Option.{same_Some}
-use Rattle.std.specs.Prelude.{◌↔◌, IsTrue, is_some, IfSome}
+use Rattle.std.specs.Prelude.{◌↔◌, IsTrue, is_some}
 use Rattle.std.proofs.lemmas.List.{take_all}
 use Rattle.bites_spec.specs.Utf8.{start_alone}
 use Rattle.bites_spec.specs.Run.{Run, Answered, longest_run, slots}
@@ -16,7 +16,7 @@ use Rattle.bites_spec.proofs.regex.AlikeLemmas.{chosen_run_lies}
 use Rattle.bites_spec.proofs.regex.FullLemmas.{longest_full, longest_not_full, full_run_is_found, full_finds_some}
 use Rattle.bites_bytes.specs.NextMatch.{LeavesRun}
 use Rattle.bites_bytes.proofs.SearchLemmas.{known_end}
-use Rattle.bites_bytes.proofs.SlotLemmas.{length-slots, front_group, slots_of, written_over}
+use Rattle.bites_bytes.proofs.SlotLemmas.{length-slots, front_group, slots_of, regex_of, haystack_of, written_over}
 
 module _ (r : Regex) (is : IsCompiled r) (hay : List ℕ) where
   -- the captures of a match of the whole haystack, by what stands in the slots
@@ -24,17 +24,9 @@ module _ (r : Regex) (is : IsCompiled r) (hay : List ℕ) where
   captured_full o e = record {
     found = ap (option_map (captured r hay)) (sym e);
     on_tree = subst (FindsGroupsFull r hay) (e ∙ slots_of r hay o) (full_run_is_found r is hay).1;
-    regex = same_regex o;
-    haystack = same_haystack o;
+    regex = regex_of r hay o;
+    haystack = haystack_of r hay o;
   }
-    where
-      same_regex : (o : Option (List (Option ℕ))) → IfSome (option_map (captured r hay) o) (λ x. x.regex ≡ r)
-      same_regex None = tt
-      same_regex (Some l) = refl
-
-      same_haystack : (o : Option (List (Option ℕ))) → IfSome (option_map (captured r hay) o) (λ x. x.haystack ≡ hay)
-      same_haystack None = tt
-      same_haystack (Some l) = refl
 
   -- where nothing begins at 0, nothing matches the whole haystack
   pub full_missing : (found : Bool) (n : ℕ) (old new : List (Option ℕ)) → found ≡ false → Answered r.program (longest_run r.program hay (start_alone hay 0)) found old new →

@@ -1,12 +1,12 @@
 -- A search that explores from a later place finds what one from the start finds.
-use Rattle.std.proofs.Common.{◌≡◌, ℕ, ◌+◌, ◌<◌, ◌≤◌, Bool, true, false, List, [], ◌∷◌, ◌++◌, length, Option, Some, None, refl, sym, ap, ◌∙◌, subst, ◌⊎◌, inl, inr, ⊎_elim, arith, leb-true, leb-false, true≢false}
+use Rattle.std.proofs.Common.{◌≡◌, ℕ, ◌+◌, ◌<◌, Bool, true, false, List, [], ◌∷◌, ◌++◌, length, Option, Some, None, refl, sym, ◌∙◌, subst, ◌⊎◌, inl, inr, ⊎_elim, arith, leb-true, leb-false, true≢false}
 use Rattle.std.specs.Prelude.{nat_le}
 use Rattle.bites_spec.specs.Walks.{Among}
-use Rattle.bites_spec.specs.Utf8.{places, start_alone}
+use Rattle.bites_spec.specs.Utf8.{places}
 use Rattle.bites_spec.specs.Program.{Configuration}
 use Rattle.bites_spec.specs.Run.{Run, Answered, IsRun, StartsFirst, FirstRun, LongestRun, LeastEnd, first_run, longest_run}
 use Rattle.bites_spec.specs.Counts.{Room}
-use Rattle.bites_spec.specs.Regex.{Regex, IsCompiled, with_prefilter}
+use Rattle.bites_spec.specs.Regex.{Regex, IsCompiled}
 use Rattle.bites_spec.proofs.utf8.StartLemmas.{all_are_starts}
 use Rattle.bites_spec.proofs.utf8.PieceLemmas.{Among-places}
 use Rattle.bites_spec.proofs.runs.PlaceLemmas.{places-past}
@@ -35,8 +35,8 @@ begins_here r hay s = record {
     by false e = inr (leb-false s (length hay) e)
 
 -- a regex that looks for a literal explores from where the literal says
-pub begins_later : (r : Regex) (hay : List ℕ) (s p : ℕ) → NoneBefore r.tree hay s p → BeginsAt (with_prefilter true r) hay s p
-begins_later r hay s p none = record { place = inl none.place; none_before = none.none_before; plain = λ off. absurd (true≢false off) }
+pub begins_later : (r : Regex) (hay : List ℕ) (s p : ℕ) → r.prefilter ≡ true → NoneBefore r.tree hay s p → BeginsAt r hay s p
+begins_later r hay s p on none = record { place = inl none.place; none_before = none.none_before; plain = λ off. absurd (true≢false (sym on ∙ off)) }
 
 among_back : (front rest : List ℕ) (i : ℕ) → Among rest i → Among (front ++ rest) i
 among_back [] rest i h = h

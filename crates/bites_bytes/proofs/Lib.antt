@@ -13,3 +13,4 @@ pub mod CountLemmas
 pub mod PartLemmas
 pub mod SetLemmas
 pub mod SearcherLemmas
+pub mod TracedLemmas

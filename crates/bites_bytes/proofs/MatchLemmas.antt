@@ -1,15 +1,13 @@
 -- Iterators over matches, step by step.
-use Rattle.std.proofs.Common.{◌≡◌, ℕ, ◌≤◌, ◌+◌, Bool, true, false, cond, List, [], ◌∷◌, ◌++◌, map, length, take, drop, Option, Some, None, option_map, refl, sym, ap, ap₂, ◌∙◌, subst, true≢false, arith}
+use Rattle.std.proofs.Common.{◌≡◌, ℕ, ◌+◌, Bool, true, false, cond, List, [], ◌∷◌, ◌++◌, map, length, take, drop, Option, Some, None, option_map, refl, sym, ap, ap₂, ◌∙◌, subst, arith}
 use Rattle.std.specs.Prelude.{unwrap_or, is_some}
 use Rattle.std.proofs.lemmas.List.{take_all}
-use Rattle.std.specs.Iterator.{YieldsFirstBy}
 use Rattle.bites_spec.specs.Utf8.{step_len, places}
-use Rattle.bites_spec.specs.Match.{Span}
 use Rattle.bites_spec.specs.Run.{Run, slots}
 use Rattle.bites_spec.specs.Slots.{group_in, span_of_run}
 use Rattle.bites_spec.specs.Spans.{IsNextAfter, is_empty_at, next_after, followed, successive_after, successive, LiesFrom}
 use Rattle.bites_spec.specs.Regex.{Regex, IsCompiled, run_at}
-use Rattle.bites_spec.specs.Captured.{Excerpt, excerpt, captured, AreGroups}
+use Rattle.bites_spec.specs.Captured.{Excerpt, captured, AreGroups}
 use Rattle.bites_spec.specs.Iteration.{spans_after, captured_by, captures_after}
 use Rattle.bites_bytes.specs.Calls.{FindsNext, ReadsNext}
 use Rattle.bites_spec.proofs.utf8.StartLemmas.{all_are_starts}
@@ -18,7 +16,7 @@ use Rattle.bites_spec.proofs.iteration.SpanLemmas.{next_lies}
 use Rattle.bites_spec.proofs.iteration.SuccessiveLemmas.{next_after-IsNextAfter, goes_on, mapped_after, mapped_successive}
 use Rattle.bites_bytes.specs.NextMatch.{next_run, FindsNextRun}
 use Rattle.bites_bytes.specs.Matched.{excerpt_of}
-use Rattle.bites_bytes.specs.Matches.{IsSameSearch, Moves, left_from, captures_to_come, CapturesCome}
+use Rattle.bites_bytes.specs.Matches.{IsSameSearch, Moves, captures_to_come, CapturesCome}
 use Rattle.bites_bytes.specs.declared.bytes.matched.Match.{Match}
 use Rattle.bites_bytes.specs.declared.bytes.matches.Cursor.{Cursor}
 use Rattle.bites_bytes.proofs.SlotLemmas.{length-slots, written_over}
@@ -115,24 +113,6 @@ module _ (r : Regex) (is : IsCompiled r) (hay : List ℕ) where
       subst (λ l. ReadsNext r hay last (Some m) l)
       (sym (written_over n new items (ap length is_new ∙ length-slots r.program h.0 ∙ sym all ∙ ap length same) (len ∙ ap length same)))
       (next_reads last (Some m) (length now) new h all)
-
--- what is left where the search goes on
-moved_left : (s t : Cursor) (last : Option ℕ) → IsSameSearch s t → t.last ≡ last →
-    left_from t ≡ map (excerpt s.haystack.now) (spans_after s.regex.now s.haystack.now last)
-moved_left s t last same is =
-    ap (λ h. map (excerpt h) (spans_after t.regex.now h t.last)) same.1
-    ∙ ap (λ r. map (excerpt s.haystack.now) (spans_after r s.haystack.now t.last)) same.0
-    ∙ ap (λ l. map (excerpt s.haystack.now) (spans_after s.regex.now s.haystack.now l)) is
-
--- a step to the next match is that of an iterator over the matches that are left
-pub step_yields : (s t : Cursor) (m : Option Match) → FindsNext s.regex.now s.haystack.now s.last (option_map excerpt_of m) → IsSameSearch s t →
-    Moves s m t → YieldsFirstBy excerpt_of left_from s m t
-step_yields s t None next same moves =
-    let none = ap (map (excerpt s.haystack.now)) next in (none, moved_left s t s.last same moves ∙ none)
-step_yields s t (Some m) next same moves =
-    let hay = s.haystack.now in
-    ap (map (excerpt hay)) next.follow
-    ∙ ap₂ (λ h xs. excerpt h (excerpt_of m).span ∷ xs) (sym next.haystack) (sym (moved_left s t (Some (excerpt_of m).span.end) same moves.1))
 
 moved_captures : (s t : Cursor) (last : Option ℕ) → IsSameSearch s t → t.last ≡ last → captures_to_come t ≡ captures_after s.regex.now s.haystack.now last
 moved_captures s t last same is =

@@ -1,13 +1,12 @@
 -- The run of the next match.
-use Rattle.std.proofs.Common.{◌≡◌, ℕ, ◌≤◌, ◌+◌, Bool, true, false, cond, List, take, length, Option, Some, None, option_map, refl, sym, ap, ◌∙◌, subst, true≢false, arith, eq-eqb, ne_eqb}
+use Rattle.std.proofs.Common.{◌≡◌, ℕ, ◌+◌, Bool, true, false, cond, List, take, length, Option, Some, None, option_map, refl, sym, ap, ◌∙◌, subst, arith, eq-eqb, ne_eqb}
 use Rattle.std.specs.Prelude.{is_some, unwrap_or, ◌==◌}
 use Rattle.std.proofs.lemmas.Option.{same_Some}
 use Rattle.std.proofs.lemmas.Bool.{and_from, and_right}
 use Rattle.bites_spec.specs.Utf8.{step_len, places}
-use Rattle.bites_spec.specs.Match.{Span}
 use Rattle.bites_spec.specs.Run.{Run, Answered, slots}
 use Rattle.bites_spec.specs.Slots.{span_of_run}
-use Rattle.bites_spec.specs.Spans.{is_empty_at, next_after, LiesFrom}
+use Rattle.bites_spec.specs.Spans.{is_empty_at, next_after}
 use Rattle.bites_spec.specs.Regex.{Regex, IsCompiled, run_at}
 use Rattle.bites_spec.specs.Captured.{Excerpt, excerpt, FindsMatch}
 use Rattle.bites_spec.proofs.utf8.StartLemmas.{all_are_starts}

@@ -1,5 +1,5 @@
 -- Replacing matches, step by step.
-use Rattle.std.proofs.Common.{◌≡◌, ℕ, zero, suc, Bool, true, false, List, [], ◌∷◌, ◌++◌, map, take, Option, Some, None, refl, sym, ap, ap₂, ◌∙◌, subst, true≢false, append_assoc, inl, inr}
+use Rattle.std.proofs.Common.{◌≡◌, ℕ, zero, suc, Bool, true, false, List, [], ◌∷◌, ◌++◌, map, take, Option, Some, None, refl, sym, ap, ◌∙◌, subst, true≢false, append_assoc, inl}
 use Rattle.std.specs.Prelude.{unwrap_or, slice_range}
 use Rattle.bites_spec.specs.Match.{Span}
 use Rattle.bites_spec.specs.Pieces.{replaced_from, limited}
@@ -9,7 +9,7 @@ use Rattle.bites_bytes.specs.Matched.{excerpt_of}
 use Rattle.bites_bytes.specs.Matches.{IsSameSearch, left_from, spans_left}
 use Rattle.bites_spec.specs.Replaced.{span_in}
 use Rattle.bites_bytes.specs.ReplaceLimit.{taken, bound, Spends}
-use Rattle.bites_bytes.specs.Replacing.{spans_to_replace, captures_to_replace, replaces_none, with_texts, Writes, Rests, StepsByText, OnByText, StepsBy, GoesOn}
+use Rattle.bites_bytes.specs.Replacing.{captures_to_replace, replaces_none, with_texts, Writes, StepsBy, GoesOn}
 use Rattle.bites_bytes.specs.declared.bytes.matched.Match.{Match}
 use Rattle.bites_bytes.specs.declared.bytes.matches.Cursor.{Cursor}
 use Rattle.bites_bytes.specs.declared.bytes.replace.Replacing.{Replacing}
@@ -19,16 +19,6 @@ pub taken_step : {B : Type 0} (s t : Option ℕ) (there : Bool) (x : B) (xs : Li
 taken_step None t there x xs h e = ap (λ o. x ∷ taken o xs) (sym h.1)
 taken_step (Some zero) t there x xs h e = absurd (true≢false (sym e ∙ h.0))
 taken_step (Some (suc n)) t there x xs h e = ap (λ o. x ∷ taken o xs) (sym h.1)
-
-pub taken_spent : {B : Type 0} (s t : Option ℕ) (there : Bool) (xs : List B) → Spends s there t → there ≡ false → taken s xs ≡ []
-taken_spent None t there xs h e = absurd (true≢false (sym h.0 ∙ e))
-taken_spent (Some zero) t there xs h e = refl
-taken_spent (Some (suc n)) t there xs h e = absurd (true≢false (sym h.0 ∙ e))
-
-pub taken_after : {B : Type 0} (s t : Option ℕ) (there : Bool) (xs : List B) → Spends s there t → there ≡ false → taken t xs ≡ []
-taken_after None t there xs h e = absurd (true≢false (sym h.0 ∙ e))
-taken_after (Some zero) t there xs h e = ap (λ o. taken o xs) h.1
-taken_after (Some (suc n)) t there xs h e = absurd (true≢false (sym h.0 ∙ e))
 
 pub taken_nil : {B : Type 0} (s : Option ℕ) (xs : List B) → xs ≡ [] → taken s xs ≡ []
 taken_nil None xs e = e
@@ -78,35 +68,6 @@ pub none_some : {B : Type 0} (l : Option ℕ) (x : B) (xs : List B) → replaces
 none_some None x xs = refl
 none_some (Some e) x xs = refl
 
--- nothing is written
-pub rests_on : {B : Type 0} (to_replace : Replacing → List B) (s t : Replacing) → Rests to_replace s t → (ss : List Span) (texts : List (List ℕ)) →
-    with_texts t ss texts ≡ with_texts s ss texts
-rests_on to_replace s t w ss texts =
-    ap (λ l. l ++ replaced_from t.cursor.haystack.now (unwrap_or t.cursor.last 0) ss texts) w.out
-    ∙ ap (λ h. s.out.items ++ replaced_from h (unwrap_or t.cursor.last 0) ss texts) w.same.1
-    ∙ ap (λ (l : Option ℕ). s.out.items ++ replaced_from s.cursor.haystack.now (unwrap_or l 0) ss texts) w.last
-
--- one match replaced by the text
-pub step_on_text : (text : List ℕ) (s t : Replacing) → StepsByText text s true t → OnByText text s t
-step_on_text text s t h =
-    let x = h.0 in let ss = spans_to_replace t in record {
-      out = writes_on s t x text h.2 ss (map (λ y. text) ss) ∙ ap (λ l. with_texts s l (map (λ y. text) l)) (sym h.1);
-      nothing = ap (λ l. replaces_none l ss) h.2.last ∙ sym (ap (replaces_none s.cursor.last) h.1 ∙ none_some s.cursor.last x ss);
-      same = h.2.same;
-    }
-
-pub rest_on_text : (text : List ℕ) (s t : Replacing) → StepsByText text s false t → OnByText text s t
-rest_on_text text s t h =
-    let e = h.still ∙ sym h.none in record {
-      out = ap (λ l. with_texts t l (map (λ y. text) l)) e ∙ rests_on spans_to_replace s t h (spans_to_replace s) (map (λ y. text) (spans_to_replace s));
-      nothing = ap₂ replaces_none h.last e;
-      same = h.same;
-    }
-
-pub on_on_text : (text : List ℕ) (s t u : Replacing) → OnByText text s t → OnByText text t u → OnByText text s u
-on_on_text text s t u f g =
-    record { out = g.out ∙ f.out; nothing = g.nothing ∙ f.nothing; same = same_still s.cursor t.cursor u.cursor f.same g.same }
-
 module _ {S : Type 0} (gives : S → Captured → List ℕ → S → Type 0) (answers : S → Option (List ℕ) → S → Type 0) where
   -- one match replaced by what the replacer gave
   pub step_on : (s : Replacing) (r : S) (t : Replacing) (q : S) → StepsBy gives answers s r true t q → GoesOn gives answers s r t q
@@ -119,18 +80,6 @@ module _ {S : Type 0} (gives : S → Captured → List ℕ → S → Type 0) (an
         );
         nothing = ap (λ l. replaces_none l cs) h.4.last ∙ sym (ap (replaces_none s.cursor.last) h.2 ∙ none_some s.cursor.last c cs);
         same = h.4.same;
-      }
-
-  pub rest_on : (s : Replacing) (r : S) (t : Replacing) (q : S) → StepsBy gives answers s r false t q → GoesOn gives answers s r t q
-  rest_on s r t q h =
-      let w = h.0 in let e = w.still ∙ sym w.none in record {
-        out = λ texts end gave. (
-          texts,
-          subst (λ l. Gave gives answers r l texts end) e (subst (λ z. Gave gives answers z (captures_to_replace t) texts end) h.1 gave),
-          ap (λ l. with_texts t (map span_in l) texts) e ∙ rests_on captures_to_replace s t w (map span_in (captures_to_replace s)) texts,
-        );
-        nothing = ap₂ replaces_none w.last e;
-        same = w.same;
       }
 
   pub on_on : (s : Replacing) (r : S) (t : Replacing) (q : S) (u : Replacing) (p : S) → GoesOn gives answers s r t q → GoesOn gives answers t q u p →

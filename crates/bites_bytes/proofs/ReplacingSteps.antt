@@ -1,9 +1,9 @@
 -- Steps of replacing, from the calls that they make.
-use Rattle.std.proofs.Common.{◌≡◌, ◌≤◌, ℕ, Bool, true, false, List, [], ◌∷◌, ◌++◌, Option, Some, None, refl, sym, ap, ◌∙◌, subst, inl, inr}
-use Rattle.std.specs.Prelude.{unwrap_or, slice_range, Result, Ok, Err, OnErr}
+use Rattle.std.proofs.Common.{◌≡◌, ℕ, Bool, true, List, [], ◌∷◌, ◌++◌, Option, Some, None, sym, ap, ◌∙◌}
+use Rattle.std.specs.Prelude.{unwrap_or, slice_range}
 use Rattle.bites_spec.specs.Match.{Span, span}
 use Rattle.bites_bytes.specs.Calls.{ReadsNext}
-use Rattle.bites_spec.specs.Captured.{Captured, captured, Excerpt}
+use Rattle.bites_spec.specs.Captured.{Captured, captured}
 use Rattle.bites_bytes.specs.Matched.{excerpt_of}
 use Rattle.bites_bytes.specs.Matches.{IsSameSearch, Moves, left_from, captures_to_come}
 use Rattle.bites_spec.specs.Replaced.{span_in}
@@ -13,7 +13,7 @@ use Rattle.bites_bytes.specs.declared.bytes.matched.Match.{Match}
 use Rattle.bites_bytes.specs.declared.bytes.matches.Cursor.{Cursor}
 use Rattle.bites_bytes.specs.declared.bytes.replace.Replacing.{Replacing}
 use Rattle.bites_bytes.proofs.MatchLemmas.{captures_come}
-use Rattle.bites_bytes.proofs.ReplacingLemmas.{taken_step, taken_spent, taken_after, taken_nil, spans_yield, spans_end}
+use Rattle.bites_bytes.proofs.ReplacingLemmas.{taken_step, taken_nil, spans_yield, spans_end}
 
 -- what is written for a match
 abbrev pub IsWritten : Replacing → ℕ → List ℕ → Replacing → Type 0
@@ -38,24 +38,6 @@ module _ (s t : Replacing) (there : Bool) (spends : Spends s.left there t.left) 
       last = moves;
       same = same;
     }
-
-  pub text_spent : there ≡ false → t.cursor ≡ s.cursor → t.out.items ≡ s.out.items → Rests spans_to_replace s t
-  text_spent is still out = record {
-    none = taken_spent s.left t.left there _ spends is;
-    still = taken_after s.left t.left there _ spends is;
-    out = out;
-    last = ap (λ (m : Cursor). m.last) still;
-    same = (ap (λ (m : Cursor). m.regex.now) still, ap (λ (m : Cursor). m.haystack.now) still);
-  }
-
-  pub captures_spent : there ≡ false → t.cursor ≡ s.cursor → t.out.items ≡ s.out.items → Rests captures_to_replace s t
-  captures_spent is still out = record {
-    none = taken_spent s.left t.left there _ spends is;
-    still = taken_after s.left t.left there _ spends is;
-    out = out;
-    last = ap (λ (m : Cursor). m.last) still;
-    same = (ap (λ (m : Cursor). m.regex.now) still, ap (λ (m : Cursor). m.haystack.now) still);
-  }
 
 -- the captures of the match come first
 pub captures_go : (s : Replacing) (left : Option ℕ) (t : Cursor) (there : Bool) → Spends s.left there left → there ≡ true → IsSameSearch s.cursor t →

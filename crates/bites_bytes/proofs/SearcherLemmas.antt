@@ -1,12 +1,10 @@
 -- The steps of a searcher's iterators.
-use Rattle.std.proofs.Common.{◌≡◌, ℕ, true, false, cond, List, [], ◌∷◌, map, length, Some, Result, refl, sym, ap, ap₂, ◌∙◌, subst}
+use Rattle.std.proofs.Common.{◌≡◌, ℕ, false, cond, List, [], ◌∷◌, map, length, Some, Result, refl, sym, ap, ap₂, ◌∙◌, subst}
 use Rattle.std.specs.Prelude.{unwrap_or, slice_range}
 use Rattle.std.specs.Borrow.{Bor}
 use Rattle.std.specs.Iterator.{Yields}
 use Rattle.std.specs.declared.alloc.AllocError.{AllocError}
-use Rattle.bites_spec.specs.Match.{Span}
-use Rattle.bites_spec.specs.Pieces.{gaps_from, text_at}
-use Rattle.bites_spec.specs.Captured.{Excerpt, Captured, excerpt}
+use Rattle.bites_spec.specs.Captured.{Excerpt, Captured}
 use Rattle.bites_bytes.specs.Matched.{excerpt_of}
 use Rattle.bites_bytes.specs.Searcher as matches
 use Rattle.bites_bytes.specs.SearcherCaptures as groups
@@ -15,7 +13,7 @@ use Rattle.bites_bytes.specs.declared.bytes.matched.Match.{Match}
 use Rattle.bites_bytes.specs.declared.bytes.searcher.matches.Matches.{Matches}
 use Rattle.bites_bytes.specs.declared.bytes.searcher.capture_matches.CaptureMatches.{CaptureMatches}
 use Rattle.bites_bytes.specs.declared.bytes.searcher.split.Split.{Split}
-use Rattle.bites_bytes.proofs.SplitLemmas.{spans_of}
+use Rattle.bites_bytes.proofs.SplitLemmas.{spans_of, pieces}
 
 -- what each step keeps, all of them keep
 pub matches_keep : (first : Matches) (items : List Match) (later : Matches) → Yields matches.Steps first items later → matches.Keeps first later
@@ -33,10 +31,6 @@ pub split_keeps : (first : Split) (items : List (Bor (List ℕ))) (later : Split
 split_keeps first [] later run = subst (split.Keeps first) run (refl, refl)
 split_keeps first (item ∷ items) later run =
     let step = run.1.1 in let rest = split_keeps run.0 items later run.2 in (rest.0 ∙ step.0, rest.1 ∙ step.1)
-
--- the pieces from a place on, between these spans
-abbrev pieces : List ℕ → ℕ → List Span → List (List ℕ)
-pieces hay e ss = map (text_at hay) (gaps_from (length hay) e ss)
 
 open_by : (s : Split) → s.done ≡ false → split.pieces_left s ≡ pieces s.matches.haystack.now (unwrap_or s.matches.last 0) (matches.spans_left s.matches)
 open_by s more = ap (λ b. cond b [] (pieces s.matches.haystack.now (unwrap_or s.matches.last 0) (matches.spans_left s.matches))) more

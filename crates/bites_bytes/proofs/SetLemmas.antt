@@ -1,5 +1,5 @@
 -- Sets of regexes: their rooms, what is built, and which of them match.
-use Rattle.std.proofs.Common.{◌≡◌, ◌↔◌, ℕ, zero, suc, ◌<◌, ◌≤◌, ◌+◌, ◌⊎◌, inl, inr, Bool, true, false, List, [], ◌∷◌, ◌++◌, length, map, take, drop, get_or, Some, option_map, slice_get, slice_set, refl, sym, ◌∙◌, subst, ap, arith, add-one, true≢false, drop-cons, below_more}
+use Rattle.std.proofs.Common.{◌≡◌, ◌↔◌, ℕ, zero, suc, ◌<◌, ◌≤◌, ◌+◌, inl, inr, Bool, true, false, List, [], ◌∷◌, ◌++◌, length, map, take, get_or, Some, option_map, slice_get, slice_set, refl, sym, ◌∙◌, subst, ap, arith, add-one, true≢false, below_more}
 use Rattle.std.specs.Prelude.{IsTrue}
 use Rattle.std.proofs.Math.Seq.{take-suc}
 use Rattle.std.proofs.lemmas.List.{length-map, map-append}
@@ -8,9 +8,10 @@ use Rattle.bites_spec.specs.Counts.{Room, fit_of}
 use Rattle.bites_spec.specs.Found.{HasMatch}
 use Rattle.bites_spec.specs.Regex.{Regex}
 use Rattle.bites_spec.specs.Settings.{Settings, Accepts}
-use Rattle.bites_spec.specs.Set.{HasMatchOf, HasMatchOfAny, AreMatched, AreBuilt, IsBuilt, with_pattern, set_settings, numbers_from, fits_of, fits_for}
+use Rattle.bites_spec.specs.Set.{HasMatchOf, HasMatchOfAny, AreMatched, AreBuilt, IsBuilt, with_pattern, set_settings, fits_of, fits_for}
 use Rattle.bites_spec.specs.Tree.{Tree}
 use Rattle.bites_text.specs.declared.error.Error.{Error}
+use Rattle.bites_table.proofs.GraphLemmas.{get-last}
 use Rattle.bites_bytes.specs.Set.{Refusal, IsRefused, with_prefilters, without_tables}
 use Rattle.bites_bytes.specs.Settings.{Refuses}
 
@@ -123,12 +124,6 @@ get_taken [] (suc n) k lt = refl
 get_taken (x ∷ xs) (suc n) zero lt = refl
 get_taken (x ∷ xs) (suc n) (suc k) lt = get_taken xs n k (omega (arith, lt))
 
-get_last : {A : Type 0} (xs : List A) (x : A) (k : ℕ) (y : A) → slice_get (xs ++ x ∷ []) k ≡ Some y → (slice_get xs k ≡ Some y) ⊎ (x ≡ y)
-get_last [] x zero y e = inr (same_Some x y e)
-get_last [] x (suc k) y e = absurd (none-some y e)
-get_last (z ∷ zs) x zero y e = inl e
-get_last (z ∷ zs) x (suc k) y e = get_last zs x k y e
-
 -- one more pattern, and its regex
 pub built_more : (s : Settings) (patterns : List (List ℕ)) (p : List ℕ) (regexes : List Regex) (r : Regex) →
     AreBuilt (set_settings patterns s) regexes → IsBuilt (with_pattern s p) r → AreBuilt (set_settings (patterns ++ p ∷ []) s) (regexes ++ r ∷ [])
@@ -136,7 +131,7 @@ built_more s patterns p regexes r are is = record {
   patterns = map-append (λ q. q.pattern) regexes (r ∷ []) ∙ ap (λ ps. ps ++ r.pattern ∷ []) are.patterns ∙ ap (λ x. patterns ++ x ∷ []) is.pattern;
   each = λ k q at.
       let own : IsBuilt (with_pattern s r.pattern) r = subst (λ x. IsBuilt (with_pattern s x) r) (sym is.pattern) is in
-      elim (get_last regexes r k q at) [
+      elim (get-last regexes r k q at) [
         | inl before ↦ are.each k q before
         | inr same ↦ subst (λ (x : Regex). IsBuilt (with_pattern s x.pattern) x) same own
       ];
@@ -164,19 +159,3 @@ refused_at s patterns n p e refusal index error at none message regexes are = re
       let is = are.each k found.0 found.1 in
       (found.0.tree, subst (λ x. Accepts (with_pattern s x) found.0.tree) found.2 is.accepted);
 }
-
--- a step over an entry
-numbers_step : (bs : List Bool) (n : ℕ) (b : Bool) → n < length bs → get_or bs n b ≡ b → numbers_from n (drop n bs) ≡ numbers_from n (b ∷ drop (n + 1) bs)
-numbers_step bs n b lt is = ap (numbers_from n) (drop-cons bs n b lt) ∙ ap (λ x. numbers_from n (x ∷ drop (suc n) bs)) is ∙ ap (λ m. numbers_from n (b ∷ drop m bs)) (sym (add-one n))
-
-pub number_passed : (bs : List Bool) (n : ℕ) → n < length bs → get_or bs n false ≡ false → numbers_from n (drop n bs) ≡ numbers_from (n + 1) (drop (n + 1) bs)
-number_passed bs n lt is = numbers_step bs n false lt is
-
-pub number_taken : (bs : List Bool) (n : ℕ) → n < length bs → get_or bs n true ≡ true → numbers_from n (drop n bs) ≡ n ∷ numbers_from (n + 1) (drop (n + 1) bs)
-number_taken bs n lt is = numbers_step bs n true lt is
-
-pub no_numbers : (bs : List Bool) (n m : ℕ) → length bs ≤ n → numbers_from m (drop n bs) ≡ []
-no_numbers [] zero m all = refl
-no_numbers [] (suc n) m all = refl
-no_numbers (b ∷ bs) zero m all = absurd (omega (arith, all))
-no_numbers (b ∷ bs) (suc n) m all = no_numbers bs n m (omega (arith, all))

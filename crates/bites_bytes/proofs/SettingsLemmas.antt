@@ -50,6 +50,10 @@ no_other_tree s t e read refused ne u accepts =
     let small : TreeLimitsWith s.size_limit groups u = subst (λ gs. TreeLimitsWith s.size_limit gs u) kept accepts.small in
     not_within s.size_limit groups t e refused ne (subst Within same small)
 
+-- a regex's pattern is read as no other tree
+pub its_tree : (r : Regex) → IsCompiled r → (nest_limit : ℕ) (t : Tree) → Limits (chars r.pattern) r.flags nest_limit t → t ≡ r.tree
+its_tree r is nest_limit t read = reads_once (chars r.pattern) r.flags t r.tree read.reading is.reads
+
 -- groups that are those of each reading, and kept or not, are those that are kept
 pub chosen_kept : (keep : Bool) (groups : List (Option (List ℕ))) {pattern : Text} {flags : Flags} {t : Tree} (r : Reading pattern flags t) →
     groups ≡ groups_opened r → chosen keep groups t ≡ groups_kept keep r

@@ -2,7 +2,6 @@
 use Rattle.std.proofs.Common.{◌≡◌, ℕ, zero, suc, ◌≤◌, Bool, true, false, List, [], ◌∷◌, ◌++◌, length, take, drop, Option, Some, None, option_map, refl, sym, ap, ◌∙◌, subst, ⊎_elim, ◌⊎◌, true≢false, arith}
 use Rattle.std.specs.Prelude.{unwrap_or, is_some, IfSome, MatchOption, if◌then◌else◌}
 use Rattle.std.specs.List.{range_with_len}
-use Rattle.std.proofs.lemmas.Option.{same_Some}
 use Rattle.std.proofs.lemmas.List.{take_all, append-nil, length-map}
 use Rattle.std.proofs.lemmas.List.FromFn.{length-range_with_len}
 use Rattle.bites_spec.specs.Utf8.{AreStarts}
@@ -95,6 +94,14 @@ pub slots_of : (r : Regex) (hay : List ℕ) (o : Option (List (Option ℕ))) →
 slots_of r hay None = refl
 slots_of r hay (Some l) = refl
 
+pub regex_of : (r : Regex) (hay : List ℕ) (o : Option (List (Option ℕ))) → IfSome (option_map (captured r hay) o) (λ x. x.regex ≡ r)
+regex_of r hay None = tt
+regex_of r hay (Some l) = refl
+
+pub haystack_of : (r : Regex) (hay : List ℕ) (o : Option (List (Option ℕ))) → IfSome (option_map (captured r hay) o) (λ x. x.haystack ≡ hay)
+haystack_of r hay None = tt
+haystack_of r hay (Some l) = refl
+
 module _ (r : Regex) (is : IsCompiled r) (hay : List ℕ) (s : ℕ) (ps : List ℕ) (are : AreStarts hay s ps) where
   -- two slots or more have the span of the run
   pub front_slots : (found : Bool) (old new : List (Option ℕ)) → Answered r.program (run_at r hay ps) found old new → found ≡ true → 2 ≤ length old →
@@ -161,17 +168,9 @@ module _ (r : Regex) (is : IsCompiled r) (hay : List ℕ) (s : ℕ) (ps : List �
   captured_by o e = record {
     found = ap (option_map (captured r hay)) (sym e);
     on_tree = subst (FindsGroups r hay ps) (e ∙ slots_of r hay o) (found_groups r is hay s ps are);
-    regex = same_regex o;
-    haystack = same_haystack o;
+    regex = regex_of r hay o;
+    haystack = haystack_of r hay o;
   }
-    where
-      same_regex : (o : Option (List (Option ℕ))) → IfSome (option_map (captured r hay) o) (λ x. x.regex ≡ r)
-      same_regex None = tt
-      same_regex (Some l) = refl
-
-      same_haystack : (o : Option (List (Option ℕ))) → IfSome (option_map (captured r hay) o) (λ x. x.haystack ≡ hay)
-      same_haystack None = tt
-      same_haystack (Some l) = refl
 
   -- the slots that a search has read
   pub read_slots : (m : Option Excerpt) (old new : List (Option ℕ)) → ReadsGroups r hay ps m old new → is_some m ≡ true → slots_at r hay ps ≡ Some new
@@ -181,13 +180,6 @@ module _ (r : Regex) (is : IsCompiled r) (hay : List ℕ) (s : ℕ) (ps : List �
           option_map (slots r.program) x ≡ Some new
       by None e w = absurd (true≢false (sym some ∙ ap is_some e))
       by (Some x) e w = ap (λ l. Some l) (sym w)
-
-  pub read_none : (m : Option Excerpt) (old new : List (Option ℕ)) → ReadsGroups r hay ps m old new → is_some m ≡ false → slots_at r hay ps ≡ None
-  read_none m old new h none = by (run_at r hay ps) h.found.span
-    where
-      by : (x : Option Run) → m ≡ option_map (excerpt hay) (option_map span_of_run x) → option_map (slots r.program) x ≡ None
-      by None e = refl
-      by (Some x) e = absurd (true≢false (sym (ap is_some e) ∙ none))
 
   pub read_are_groups : (m : Option Excerpt) (old new : List (Option ℕ)) → ReadsGroups r hay ps m old new → is_some m ≡ true → AreGroups r hay new
   read_are_groups m old new h some = slots_are_groups r is hay s ps are new (read_slots m old new h some)

@@ -1,5 +1,5 @@
 -- Iterators over pieces, step by step.
-use Rattle.std.proofs.Common.{◌≡◌, ℕ, zero, suc, ◌-◌, true, false, cond, List, [], ◌∷◌, map, length, take, drop, Option, Some, None, refl, sym, ap, ap₂, ◌∙◌}
+use Rattle.std.proofs.Common.{◌≡◌, ℕ, zero, suc, ◌-◌, false, cond, List, [], ◌∷◌, map, length, take, drop, Option, Some, None, refl, sym, ap, ap₂, ◌∙◌}
 use Rattle.std.specs.Prelude.{unwrap_or, MatchOption, slice_range}
 use Rattle.std.specs.Borrow.{Bor}
 use Rattle.bites_spec.specs.Match.{Span}
@@ -22,15 +22,12 @@ pub piece_is : (h k : List ℕ) (a b i j : ℕ) → h ≡ k → a ≡ b → i �
 piece_is h k a b i j e f g =
     sym (ap (λ l. take (i - a) (drop a l)) e ∙ ap (λ n. take (i - n) (drop n k)) f ∙ ap (λ n. take (n - b) (drop b k)) g)
 
--- the pieces where some are left
-abbrev body : List ℕ → ℕ → List Span → List (List ℕ)
-body hay e ss = map (text_at hay) (gaps_from (length hay) e ss)
+-- the pieces from a place on, between these spans
+abbrev pub pieces : List ℕ → ℕ → List Span → List (List ℕ)
+pieces hay e ss = map (text_at hay) (gaps_from (length hay) e ss)
 
-open_by : (s : Split) (ss : List Span) → s.done ≡ false → pieces_by s ss ≡ body s.matches.cursor.haystack.now (unwrap_or s.matches.cursor.last 0) ss
-open_by s ss more = ap (λ b. cond b [] (body s.matches.cursor.haystack.now (unwrap_or s.matches.cursor.last 0) ss)) more
-
-shut_by : (s : Split) (ss : List Span) → s.done ≡ true → pieces_by s ss ≡ []
-shut_by s ss done = ap (λ b. cond b [] (body s.matches.cursor.haystack.now (unwrap_or s.matches.cursor.last 0) ss)) done
+open_by : (s : Split) (ss : List Span) → s.done ≡ false → pieces_by s ss ≡ pieces s.matches.cursor.haystack.now (unwrap_or s.matches.cursor.last 0) ss
+open_by s ss more = ap (λ b. cond b [] (pieces s.matches.cursor.haystack.now (unwrap_or s.matches.cursor.last 0) ss)) more
 
 module _ (s t : Split) (m : Match) (more : s.done ≡ false) (still : t.done ≡ false)
     (steps : left_from s.matches.cursor ≡ excerpt_of m ∷ left_from t.matches.cursor) (moves : Moves s.matches.cursor (Some m) t.matches.cursor)
@@ -43,10 +40,10 @@ module _ (s t : Split) (m : Match) (more : s.done ≡ false) (still : t.done ≡
 
   step_by : (ss rest : List Span) → ss ≡ (excerpt_of m).span ∷ rest → pieces_by s ss ≡ piece ∷ pieces_by t rest
   step_by ss rest e =
-      open_by s ss more ∙ ap (body s.matches.cursor.haystack.now (unwrap_or s.matches.cursor.last 0)) e
+      open_by s ss more ∙ ap (pieces s.matches.cursor.haystack.now (unwrap_or s.matches.cursor.last 0)) e
       ∙ ap₂ (λ a b. a ∷ b) is
-      (ap (λ (k : ℕ). body s.matches.cursor.haystack.now k rest) (sym (ap (λ o. unwrap_or o 0) moves.1))
-      ∙ ap (λ h. body h (unwrap_or t.matches.cursor.last 0) rest) (sym same.1)
+      (ap (λ (k : ℕ). pieces s.matches.cursor.haystack.now k rest) (sym (ap (λ o. unwrap_or o 0) moves.1))
+      ∙ ap (λ h. pieces h (unwrap_or t.matches.cursor.last 0) rest) (sym same.1)
       ∙ sym (open_by t rest still))
 
   pub split_some : (pieces_left s ≡ piece ∷ pieces_left t)
@@ -68,7 +65,7 @@ split_none s piece more none is =
   where
     last : (ss : List Span) → ss ≡ [] → pieces_by s ss ≡ piece ∷ []
     last ss e =
-        open_by s ss more ∙ ap (body s.matches.cursor.haystack.now (unwrap_or s.matches.cursor.last 0)) e ∙ ap (λ x. x ∷ []) is
+        open_by s ss more ∙ ap (pieces s.matches.cursor.haystack.now (unwrap_or s.matches.cursor.last 0)) e ∙ ap (λ x. x ∷ []) is
 
 -- a step where more than one piece may come
 pub step_yields : (n m k : ℕ) (s t : Split) (r : Option (Bor (List ℕ))) → n ≡ suc (suc k) → m ≡ suc k → StepsOn s r t →
@@ -82,6 +79,6 @@ pub limited_start : (s : Split) (r : Regex) (hay : List ℕ) → s.done ≡ fals
 limited_start s r hay more is at none zero = refl
 limited_start s r hay more is at none (suc n) =
     open_by s (take n (spans_left s.matches.cursor)) more
-    ∙ ap (λ h. body h (unwrap_or s.matches.cursor.last 0) (take n (spans_after s.matches.cursor.regex.now h s.matches.cursor.last))) at
-    ∙ ap (λ q. body hay (unwrap_or s.matches.cursor.last 0) (take n (spans_after q hay s.matches.cursor.last))) is
-    ∙ ap (λ (l : Option ℕ). body hay (unwrap_or l 0) (take n (spans_after r hay l))) none
+    ∙ ap (λ h. pieces h (unwrap_or s.matches.cursor.last 0) (take n (spans_after s.matches.cursor.regex.now h s.matches.cursor.last))) at
+    ∙ ap (λ q. pieces hay (unwrap_or s.matches.cursor.last 0) (take n (spans_after q hay s.matches.cursor.last))) is
+    ∙ ap (λ (l : Option ℕ). pieces hay (unwrap_or l 0) (take n (spans_after r hay l))) none

@@ -2,7 +2,7 @@
 use Rattle.std.specs.Prelude.{◌≡◌, ℕ, ◌<◌, ◌⊎◌, Bool, false, List, [], ◌∷◌, Option, Some, None, option_map, unwrap_or, length, IfSome, MatchOption}
 use Rattle.bites_spec.specs.Walks.{Among}
 use Rattle.bites_spec.specs.Utf8.{places}
-use Rattle.bites_spec.specs.Match.{Span, Matches}
+use Rattle.bites_spec.specs.Match.{Matches}
 use Rattle.bites_spec.specs.Counts.{Room, Record, IsBounded, IsWalked}
 use Rattle.bites_spec.specs.Slots.{group_in}
 use Rattle.bites_spec.specs.Spans.{LiesFrom}

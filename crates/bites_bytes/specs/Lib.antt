@@ -15,3 +15,4 @@ pub mod Searcher
 pub mod NextCaptured
 pub mod SearcherCaptures
 pub mod SearcherSplit
+pub mod Traced

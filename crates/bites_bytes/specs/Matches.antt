@@ -1,5 +1,5 @@
 -- The matches that iterators have left.
-use Rattle.std.specs.Prelude.{◌≡◌, ◌≤◌, ℕ, Bool, true, false, List, [], ◌∷◌, map, Option, Some, None, unwrap_or, MatchOption}
+use Rattle.std.specs.Prelude.{◌≡◌, ◌≤◌, ℕ, Bool, true, false, List, [], ◌∷◌, map, Option, Some, unwrap_or, MatchOption}
 use Rattle.bites_spec.specs.Match.{Span}
 use Rattle.bites_spec.specs.Regex.{Regex}
 use Rattle.bites_spec.specs.Captured.{Captured, Excerpt, excerpt, captured, AreGroups}

@@ -7,13 +7,6 @@ use Rattle.bites_bytes.specs.Matches.{spans_left}
 use Rattle.bites_bytes.specs.declared.bytes.split.Split.{Split}
 use Rattle.bites_bytes.specs.declared.bytes.split.SplitN.{SplitN}
 
--- the haystack, and where the next piece begins
-abbrev pub haystack_of_split : Split → List ℕ
-haystack_of_split s = s.matches.cursor.haystack.now
-
-abbrev pub begin_of_split : Split → ℕ
-begin_of_split s = unwrap_or s.matches.cursor.last 0
-
 -- the pieces between these spans, before the first and after the last
 abbrev pub pieces_by : Split → List Span → List (List ℕ)
 pieces_by s ss = cond s.done [] (map (text_at s.matches.cursor.haystack.now) (gaps_from (length s.matches.cursor.haystack.now) (unwrap_or s.matches.cursor.last 0) ss))

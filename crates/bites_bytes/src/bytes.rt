@@ -25,9 +25,11 @@ mod set_matches;
 mod set_patterns;
 mod shortest;
 mod split;
+mod traced;
 
 pub use bites_syntax::syntax_error::SyntaxError;
 pub use bites_table::table::TableSize;
+pub use bites_table::trace::{How, Stretch, TracedSearch};
 pub use bites_text::error::Error;
 pub use builder::RegexBuilder;
 pub use cache::Cache;

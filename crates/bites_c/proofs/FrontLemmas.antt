@@ -1,5 +1,5 @@
 -- Groups are put into the first places of a slice, one after another.
-use Rattle.std.proofs.Common.{◌≡◌, ℕ, ◌+◌, ◌<◌, List, [], ◌∷◌, ◌++◌, length, drop, slice_set, refl, sym, ap, ap₂, ◌∙◌, arith}
+use Rattle.std.proofs.Common.{◌≡◌, ℕ, ◌+◌, ◌<◌, List, [], ◌∷◌, ◌++◌, length, drop, slice_set, sym, ap, ap₂, ◌∙◌, arith}
 use Rattle.std.proofs.lemmas.List.{take_more_set, drop-drop, drop-set-lt}
 use Rattle.std.proofs.lemmas.List.FromFn.{map-range_with_len_more}
 use Rattle.std.specs.Prelude.{Option}
@@ -9,10 +9,6 @@ use Rattle.bites_c.specs.declared.span.BitesSpan.{BitesSpan}
 
 drop_alike : {X : Type 0} → (xs ys : List X) (k : ℕ) → drop k xs ≡ drop k ys → drop (k + 1) xs ≡ drop (k + 1) ys
 drop_alike xs ys k e = sym (drop-drop 1 k xs) ∙ ap (drop 1) e ∙ drop-drop 1 k ys
-
--- no group is put
-pub none_put : (slots : List (Option ℕ)) (old : List BitesSpan) → HasPrefix slots 0 old old
-none_put slots old = record { front = refl; rest = refl }
 
 -- one more group is put after the others
 pub one_put :

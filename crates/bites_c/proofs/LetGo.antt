@@ -1,26 +1,18 @@
 -- What frees a value of its own type also frees it if the type stands for a parameter. Assumes `Logic`.
-use Rattle.std.proofs.Common.{[], ◌∷◌}
-use seplogic.Ra.Ura.{Ura}
-use mir.Syntax.{Callee, Dict, method, no_args}
-use base.Logic.{SProp, sep, emp, emp∗}
+use Rattle.bites_c.proofs.Walks.{[], ◌∷◌, Ura, Dict, SProp, emp, Logic, raw, ◌$◌, ◌∵◌, !, qed, keep, join, ftrue, fsep, sem, no, RattleType, plain, nothing, param, triple_of}
+use mir.Syntax.{Callee, method, no_args}
+use base.Logic.{sep, emp∗}
 use prog.Model.{Model}
 use prog.Routine.{◌≼⁺◌}
-use types.Logic.{Logic}
-use types.Kit.{raw, ◌$◌, ◌∵◌, !, qed, keep, join, show, done}
-use base.Fml.{ftrue, fsep}
-use types.Logic.{sem}
+use types.Kit.{show, done}
 use contract.Running.{Running}
-use denote.Exit.{no}
-use denote.RattleType.{RattleType}
 use denote.Plain.{Nothing}
-use denote.Signature.{Signature, plain}
-use denote.Steps.{nothing}
-use denote.Param.{param}
+use denote.Signature.{Signature}
 use denote.Param.Glue.{Met}
 use contract.Lifetimes.{Lfts}
 use denote.Triple.Entry.{Args, Res}
 use denote.Triple.Clauses.{closing}
-use denote.Triple.Spec.{Spec, Meets, triple_of}
+use denote.Triple.Spec.{Spec, Meets}
 use denote.Triple.Table.{run_framed, widened}
 use denote.Triple.Carry.{beside, spared}
 

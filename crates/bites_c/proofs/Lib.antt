@@ -1,4 +1,3 @@
-pub mod CacheHandles
 pub mod CodesLemmas
 pub mod Crosses
 pub mod FrontLemmas
@@ -8,8 +7,8 @@ pub mod NameLemmas
 pub mod ReplacedLemmas
 pub mod ReplacingLemmas
 pub mod Sent
-pub mod SetHandles
 pub mod SetLemmas
 pub mod SlotsLemmas
 pub mod TextLemmas
 pub mod Values
+pub mod Walks

@@ -1,5 +1,5 @@
 -- What a template gives for the matches of a haystack.
-use Rattle.std.proofs.Common.{◌≡◌, ℕ, zero, suc, ◌⊎◌, inl, inr, ◌≤◌, ◌<◌, Bool, true, false, List, [], ◌∷◌, map, length, refl, sym, ap, ap₂, ◌∙◌, ⊎_elim, arith}
+use Rattle.std.proofs.Common.{◌≡◌, ℕ, Bool, true, false, List, [], ◌∷◌, map, refl, sym, ap, ap₂, ◌∙◌}
 use Rattle.std.specs.Prelude.{not, ◌==◌}
 use Rattle.std.proofs.lemmas.Bool.{and_parts, eq-eqb}
 use Rattle.bites_spec.specs.Code.{code}
@@ -11,9 +11,7 @@ use Rattle.bites_spec.specs.Template.{byte, plain, expansion}
 use Rattle.bites_spec.specs.Replaced.{span_in}
 use Rattle.bites_spec.specs.Replacer.{expanded, is_plain}
 use Rattle.bites_spec.proofs.templates.TemplateLemmas.{expansion_front, expansion_end}
-use Rattle.bites_c.specs.Put.{PutsText, PutsMade}
 use Rattle.bites_c.specs.Replaced.{with_template, with_text}
-use Rattle.bites_c.specs.declared.text.BitesSize.{BitesSize}
 
 -- a plain template stands for itself
 plain_stands : (names : _) (slots : _) (hay text : List ℕ) → is_plain text ≡ true →
@@ -38,16 +36,3 @@ pub plain_template : (r : Regex) (hay : List ℕ) (n : ℕ) (text : List ℕ) �
 unfolding with_text with_template
 plain_template r hay n text e =
     ap (replaced hay n (map span_in (captures_in r hay))) (same_text text (limited n (captures_in r hay)) e)
-
-le_or_lt : (m n : ℕ) → (m ≤ n) ⊎ (n < m)
-le_or_lt zero n = inl (omega arith)
-le_or_lt (suc m) zero = inr (omega arith)
-le_or_lt (suc m) (suc n) = ⊎_elim (λ h. inl (omega (arith, h))) (λ h. inr (omega (arith, h))) (le_or_lt m n)
-
--- a text that is put is not a refusal
-pub put_is_made : (text : List ℕ) (answer : BitesSize) (old new : List ℕ) → PutsText text answer old new → PutsMade text answer old new
-put_is_made text answer old new h = (λ is. absurd (never is (le_or_lt (length text) (length old))), λ other. h)
-  where
-    never : answer.code ≡ 58 → (length text ≤ length old) ⊎ (length old < length text) → ⊥
-    never is order =
-        ⊎_elim (λ fits. let done = (h.fits fits).0 in omega (arith, is, done)) (λ small. let little = (h.small small).0 in omega (arith, is, little)) order

@@ -1,31 +1,14 @@
 -- The machine values of handles, and of a box by its pointer. Assumes `Logic`.
-use Rattle.std.proofs.Common.{◌≡◌, ℕ, List, [], ◌∷◌, ◌++◌, refl, sym, ap, ◌∙◌, subst}
-use mathlib.Core.Bool.{true, ◌&&◌}
-use lib.Dec.{T}
-use seplogic.Ra.Ura.{Ura}
-use mir.Syntax.{Dict, impl, tnil, tcons, dnil}
-use mir.Raw.{raw as bare}
-use mir.Val.{Val, vptr, vstruct, vcons, vnil, of_list, has_ty, WT}
-use base.Fraction.{full_share}
-use base.Fml.{Fml, ftrue, flft}
-use base.Logic.{emp, never, fst∗}
-use types.Logic.{Logic, sem}
-use types.Kit.{Item, Goal, Seq, Step, step, ‵, raw, ◌⊛◌, some, ◌$◌, move, drop, split, split3, join, fsplit, fpick, pick, use0, rewrite, feq_l}
-use contract.Monad.{fact, fact_i}
+use Rattle.bites_c.proofs.Walks.{◌≡◌, ℕ, List, [], ◌∷◌, ◌++◌, refl, sym, ap, ◌∙◌, subst, true, ◌&&◌, T, Ura, Dict, impl, tnil, dnil, bare, Val, vptr, vstruct, vcons, vnil, of_list, has_ty, WT, full_share, Fml, ftrue, emp, never, fst∗, Logic, sem, Item, Goal, Seq, Step, step, ‵, raw, ◌⊛◌, some, ◌$◌, move, drop, split, join, fsplit, fpick, use0, feq_l, fact, fact_i, RattleType, RawPtr, Ptr, block_ptr, null_ptr, ptr_val, in_a_block, nothing, no, layout, param, arg_laws, Tuple, and_tt, handle_tells, Good, box_out, box_in}
+use mir.Syntax.{tcons}
+use base.Fml.{flft}
+use types.Kit.{split3, pick, rewrite}
 use contract.BorrowLft.{◌⊑◌}
-use denote.RattleType.{RattleType}
-use denote.Builtin.{RawPtr}
-use denote.RawPtr.{Ptr, block_ptr, null_ptr, ptr_val, in_a_block}
-use denote.Steps.{nothing, only, heard}
-use denote.Exit.{no}
-use denote.Param.{layout, param, arg}
-use denote.Param.Laws.{Laws, arg_laws}
-use denote.Struct.Tuple.{Tuple}
-use Rattle.std.proofs.ResultValues.{and_tt}
-use Rattle.std.proofs.alloc.Calls.{Al, handle_tells}
-use Rattle.std.proofs.cell.Inside.{Good}
+use denote.Steps.{only, heard}
+use denote.Param.{arg}
+use denote.Param.Laws.{Laws}
+use Rattle.std.proofs.alloc.Calls.{Al}
 use Rattle.std.proofs.BoxSteps.Form as box
-use Rattle.std.proofs.BoxSteps.Steps.{box_out, box_in}
 use Rattle.std.specs.contracts.alloc.Global as heap
 use Rattle.std.proofs.alloc.Global.TheLaws as heap_laws
 use Rattle.std.specs.contracts.impls.GlobalAllocator.TheImpl as allocator

@@ -1,11 +1,11 @@
 -- Work that goes from line to line.
-use Rattle.std.proofs.Common.{◌≡◌, ℕ, ◌+◌, ◌<◌, Bool, true, false, cond, List, [], ◌∷◌, ◌++◌, length, Option, Some, None, refl, sym, ap, ◌∙◌, subst, ⊎_elim, arith, append_assoc, add_assoc, add-zero, zero-add, IfSome}
+use Rattle.std.proofs.Common.{◌≡◌, ℕ, ◌+◌, ◌<◌, Bool, true, false, cond, List, [], ◌∷◌, ◌++◌, length, Option, Some, None, refl, sym, ap, ◌∙◌, subst, ⊎_elim, arith, append_assoc, add_assoc, add-zero, IfSome}
 use Rattle.std.proofs.lemmas.Bool.{cases_Bool}
 use Rattle.std.proofs.lemmas.List.{append-nil}
 use Rattle.std.specs.Prelude.{◌==◌}
 use Rattle.std.specs.Io.BufRead.{take_through, drop_through, DropsThrough}
-use Rattle.std.specs.Io.KnownBytes.{Appends, IsAtEnd}
-use Rattle.bites_filter.proofs.Written.{appends_none, appends_both}
+use Rattle.std.specs.Io.KnownBytes.{Appends}
+use Rattle.bites_filter.proofs.Written.{appends_both}
 use Rattle.bites_filter.specs.Lines.{lines_of, put_in_front, ReadsLine, DoesEach, AreWritten, WritesLine}
 
 -- putting a byte before the first line puts it before what stands up to the first line feed
@@ -33,10 +33,6 @@ line_read (Some ys) (Some zs) line some is drops =
     let after : drop_through 10 ys ≡ zs = cc in
     line_first line ys some is ∙ ap (λ l. line ∷ lines_of l) after
 
-pub no_line : (left rest : Option (List ℕ)) (line : List ℕ) → IsAtEnd left → ReadsLine left false line rest
-no_line None rest line end = tt
-no_line (Some ys) rest line end = ap lines_of end
-
 module _ {S : Type 0} (Does : S → ℕ → List ℕ → List ℕ → Bool → S → Type 0) where
   -- What was written so far is right: together with what the other lines write it is right for all lines.
   abbrev pub IsSoFar : S → Option (List ℕ) → Option (List ℕ) → ℕ → S → Option (List ℕ) → Option (List ℕ) → ℕ → Type 0
@@ -46,15 +42,6 @@ module _ {S : Type 0} (Does : S → ℕ → List ℕ → List ℕ → Bool → S
       (written : List ℕ) × Appends old new written
       × ((text : List ℕ) (more : ℕ) (t : S) → DoesEach Does n (lines_of ys) s text more t →
       DoesEach Does 0 (lines_of xs) first (written ++ text) (count + more) t)
-
-  pub so_far_nothing : (s : S) (input out : Option (List ℕ)) → IsSoFar s input out 0 s input out 0
-  so_far_nothing s None out = tt
-  so_far_nothing s (Some xs) out = (
-    [],
-    appends_none out,
-    λ text more t does.
-        subst (λ k. DoesEach Does 0 (lines_of xs) s text k t) (sym (zero-add more)) does,
-  )
 
   pub so_far_more : (first : S) (input old : Option (List ℕ)) (n : ℕ) (s : S) (left now : Option (List ℕ)) (count : ℕ) →
       IsSoFar first input old n s left now count →

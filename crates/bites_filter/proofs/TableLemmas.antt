@@ -1,12 +1,12 @@
 -- Tables of named patterns, and which of them reads furthest.
-use Rattle.std.proofs.Common.{◌≡◌, ℕ, ◌+◌, ◌<◌, ◌≤◌, zero, suc, true, false, inl, inr, List, [], ◌∷◌, ◌++◌, length, take, drop, All, Some, None, option_map, unwrap_or, refl, sym, ◌∙◌, subst, arith, ap, get_or, slice_get, slice_set, append_assoc, below_more}
+use Rattle.std.proofs.Common.{◌≡◌, ℕ, ◌+◌, ◌<◌, ◌≤◌, zero, suc, true, false, inl, inr, List, [], ◌∷◌, ◌++◌, length, All, Some, None, refl, sym, ◌∙◌, subst, arith, ap, get_or, slice_get, slice_set, append_assoc, below_more}
 use Rattle.std.proofs.lemmas.List.{append-nil}
 use Rattle.std.proofs.lemmas.List.Elements.{All-nil, All-cons}
 use Rattle.std.proofs.lemmas.Option.{slice_get_read, slice_get_within}
 use Rattle.bites_spec.specs.Match.{Matches}
 use Rattle.bites_spec.specs.Full.{IsFullMatch, FindsGroupsFull}
 use Rattle.bites_filter.specs.declared.table.Reading.{Reading}
-use Rattle.bites_filter.specs.Table.{NamedRegex, IsRule, IsEntry, AreEntries, says_nothing, without_end, IsReach, Reads, IsFurthest, AreReadings, MatchesFull, NoneMatches, name_at}
+use Rattle.bites_filter.specs.Table.{NamedRegex, IsRule, IsEntry, AreEntries, says_nothing, without_end, IsReach, Reads, IsFurthest, AreReadings, MatchesFull, NoneMatches}
 
 module _ {S : Type 0} (Is : List ℕ → List ℕ → S → Type 0) (lines : List (List ℕ)) where
   -- the entries so far are right, with any that may follow for the lines that are left
@@ -46,15 +46,6 @@ module _ (rules : List NamedRegex) (text : List ℕ) (i : ℕ) where
     pub greatest : (l : ℕ) → l < n → (e : ℕ) → Reads rules text l i e → e ≤ j
     pub reads : i < j → (k < n) × Reads rules text k i j
     pub first : i < j → (l : ℕ) → l < k → Reads rules text l i j → ⊥
-
-  pub best_of_none : i ≤ length text → IsBest 0 0 i
-  best_of_none within = record {
-    from = omega arith;
-    within = within;
-    greatest = λ l lt. absurd (omega (arith, lt));
-    reads = λ lt. absurd (omega (arith, lt));
-    first = λ lt. absurd (omega (arith, lt));
-  }
 
   module _ (n k j : ℕ) (best : IsBest n k j) (r : NamedRegex) (at : slice_get rules n ≡ Some r) (e : ℕ) (reach : IsReach r.regex.tree text i e) where
     more : (m : ℕ) → j ≤ m → e ≤ m → (l : ℕ) → l < n + 1 → (d : ℕ) → Reads rules text l i d → d ≤ m
@@ -108,23 +99,6 @@ put_back before rows n r new same within is back =
     let at = slice_get_read rows (length rows) n r refl within there in
     let given : new ≡ r = cc in
     (at, ap (λ rs. slice_set rs n new) same ∙ ap (slice_set rows n) given ∙ written_back rows n r at)
-
-take_all : {S : Type 0} (xs ys : List S) → take (length xs) (xs ++ ys) ≡ xs
-take_all [] [] = refl
-take_all [] (y ∷ ys) = refl
-take_all (x ∷ xs) ys = ap (λ l. x ∷ l) (take_all xs ys)
-
--- items that are given back unchanged
-pub kept_items : {S : Type 0} (items given new : List S) (n : ℕ) → n ≡ length given → new ≡ given → given ≡ items →
-    take n (new ++ drop (length new) items) ≡ items
-kept_items items given new n len same value =
-    ap (λ k. take k (new ++ drop (length new) items)) (len ∙ ap length (sym same)) ∙ take_all new (drop (length new) items) ∙ same ∙ value
-
--- the name of the rule that stands there
-pub name_is : (rules : List NamedRegex) (k : ℕ) (r : NamedRegex) → k < length rules → r ≡ get_or rules k r → r.name ≡ name_at rules k
-name_is rules k r within is =
-    let at = slice_get_read rules (length rules) k r refl within is in
-    sym (ap (λ o. unwrap_or (option_map (λ (q : NamedRegex). q.name) o) []) at)
 
 module _ (rules : List NamedRegex) (text : List ℕ) where
   -- if two readings are furthest, they are one

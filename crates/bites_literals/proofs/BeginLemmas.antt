@@ -1,5 +1,5 @@
--- From where a search has to begin, by the offset that a search for the literal has come to.
-use Rattle.std.proofs.Common.{◌≡◌, ℕ, ◌+◌, ◌-◌, ◌<◌, ◌≤◌, max, Bool, List, length, get_or, map, sym, ap, ◌∙◌, subst, ◌⊎◌, ⊎_elim, arith}
+-- From where a search has to begin, by the end of the haystack, and by the offset that a search for the literal has come to.
+use Rattle.std.proofs.Common.{◌≡◌, ℕ, ◌+◌, ◌-◌, ◌<◌, ◌≤◌, max, Bool, true, List, length, Option, Some, get_or, map, sym, ap, ◌∙◌, subst, ◌⊎◌, ⊎_elim, arith}
 use Rattle.std.specs.Prelude.{IfSome}
 use Rattle.std.proofs.lemmas.List.{ext_get_or, get_or-map, length-map}
 use Rattle.std.proofs.lemmas.Simd.{length-chunk, get_or-chunk}
@@ -10,12 +10,21 @@ use Rattle.bites_spec.specs.Tree.{Tree}
 use Rattle.bites_spec.specs.Match.{Matches}
 use Rattle.bites_spec.specs.Found.{NoMatch}
 use Rattle.bites_spec.proofs.utf8.PieceLemmas.{Among-places}
-use Rattle.bites_scan.specs.Literal.{OccursAt, NoneOccurs, NoneFrom, folding}
-use Rattle.bites_literals.specs.declared.prefilter.Prefilter.{Prefilter}
+use Rattle.bites_scan.specs.Literal.{Needle, needle, OccursAt, NoneOccurs, NoneFrom, folding}
+use Rattle.bites_literals.specs.declared.ascii.AsciiSet.{AsciiSet}
+use Rattle.bites_literals.specs.declared.facts.Facts.{Facts}
+use Rattle.bites_literals.specs.declared.facts.Needed.{Needed}
+use Rattle.bites_literals.specs.declared.text.Text.{Text}
+use Rattle.bites_literals.specs.declared.prefilter.End.{End}
+use Rattle.bites_literals.specs.declared.prefilter.Near.{Near}
 use Rattle.bites_literals.specs.declared.prefilter.Reach.{Reach}
-use Rattle.bites_literals.specs.declared.prefilter.Reach.TheVariants.{Bytes, Line}
-use Rattle.bites_literals.specs.Begins.{IsPrefilter, NoneBefore, IsBackAtAscii, IsBackAtLine, before_of}
-use Rattle.bites_literals.specs.Texts.{Stands}
+use Rattle.bites_literals.specs.declared.prefilter.Reach.TheVariants.{Bytes, While, Haystack}
+use Rattle.bites_literals.specs.Ascii.{Has}
+use Rattle.bites_literals.specs.Facts.{AreFacts, HoldsOnly, IsMost, IsNeeded}
+use Rattle.bites_literals.specs.Begins.{IsNear, IsReachOf, IsEnd, StaysIn, NoneBefore, IsBack, IsBackAtAscii, IsBackWhile, before_of}
+use Rattle.bites_literals.specs.Texts.{EndsWith, Holds, Stands, bytes_of}
+use Rattle.bites_literals.proofs.FactLemmas.{at_most}
+use Rattle.bites_literals.proofs.TextLemmas.{anywhere, end_longer}
 use Rattle.bites_literals.proofs.PlaceLemmas.{place_at_ascii, place_behind_ascii, start_among}
 
 -- a text that stands here occurs here
@@ -39,68 +48,150 @@ occurs caseless bytes hay p some s = record { room = room; equal = ext_get_or 0 
         let less : k < length bytes = omega (arith, h, length-map part fold, long) in
         get_or-map fold part k 0 0 (omega (arith, less, long)) ∙ ap fold (get_or-chunk p (length bytes) hay k 0 less) ∙ (s k less).1 ∙ sym (get_or-map fold bytes k 0 0 less)
 
-module _ (t : Tree) (p : Prefilter) (is : IsPrefilter t p) (hay : List ℕ) (start : ℕ) where
+-- each match from `start` on comes to an offset that is not before `at`, and it begins near enough to it
+abbrev pub ComesTo : Tree → List ℕ → (start at : ℕ) → Reach → Type 0
+ComesTo t hay start at reach =
+    (i j : ℕ) → start ≤ i → Matches hay t i j → (h : ℕ) × (at ≤ h) × (h ≤ j) × IfSome (before_of reach) (λ n. h ≤ i + n)
+
+-- a byte of ASCII that is not in the set stands before the offset
+abbrev Stop : List ℕ → ℕ → AsciiSet → ℕ → Type 0
+Stop hay start set q = (start < q) × ((k : ℕ) → k + 1 ≡ q → (get_or hay k 0 < 128) × (Has set (get_or hay k 0) → ⊥))
+
+-- ## Back from that offset
+
+module _ (t : Tree) (hay : List ℕ) (start at : ℕ) (within : start ≤ length hay) where
+  at_start : (q : ℕ) → q ≡ start → Among (places hay start) q
+  at_start q e = subst (λ k. Among (places hay start) k) (sym e) (start_among hay start within)
+
+  begins_near : (n q : ℕ) → ComesTo t hay start at (Bytes n) → IsBackAtAscii hay start (max (at - n) start) q → NoneBefore t hay start q
+  begins_near n q comes back = record { place = ⊎_elim (at_start q) at_ascii back.stands; none_before = before }
+    where
+      at_ascii : (q < length hay) × (get_or hay q 0 < 128) → Among (places hay start) q
+      at_ascii (lt, low) = place_at_ascii hay start q back.onward lt low
+
+      before : (i : ℕ) → Among (places hay start) i → i < q → (j : ℕ) → Matches hay t i j → ⊥
+      before i among lt j m =
+          let le = (Among-places hay start i among).0 in
+          let c = comes i j le m in
+          let near : c.0 ≤ i + n = c.3 in
+          absurd (omega (arith, le, c.1, near, lt, back.back))
+
+  begins_while : (set : AsciiSet) (q : ℕ) → ComesTo t hay start at (While set) → StaysIn (While set) t → IsBackWhile set hay start at q → NoneBefore t hay start q
+  begins_while set q comes stays back = record { place = ⊎_elim (at_start q) behind back.stands; none_before = before }
+    where
+      next : (q : ℕ) → start < q → q - 1 + 1 ≡ q
+      next q lt = omega arith
+
+      behind : Stop hay start set q → Among (places hay start) q
+      behind (lt, stop) =
+          let e = next q lt in
+          subst (λ k. Among (places hay start) k) e (place_behind_ascii hay start (q - 1) (omega arith) (omega (arith, back.within, lt)) (stop (q - 1) e).0)
+
+      before : (i : ℕ) → Among (places hay start) i → i < q → (j : ℕ) → Matches hay t i j → ⊥
+      before i among lt j m =
+          let le = (Among-places hay start i among).0 in
+          let c = comes i j le m in
+          ⊎_elim (λ (e : q ≡ start). absurd (omega (arith, e, le, lt)))
+          (λ (stop : Stop hay start set q).
+          let s = stop.1 (q - 1) (next q stop.0) in
+          s.1 (stays hay i j m (q - 1) (omega (arith, lt)) (omega (arith, c.1, c.2, back.back, lt)) s.0))
+          back.stands
+
+  begins_at_start : NoneBefore t hay start start
+  begins_at_start = record { place = start_among hay start within; none_before = λ i among lt j m. absurd (omega (arith, (Among-places hay start i among).0, lt)) }
+
+  -- no match begins before where the reach goes back to
+  pub begins_back : (reach : Reach) (q : ℕ) → ComesTo t hay start at reach → StaysIn reach t → IsBack reach hay start at q → NoneBefore t hay start q
+  begins_back (Bytes n) q comes stays back = begins_near n q comes back
+  begins_back (While set) q comes stays back = begins_while set q comes stays back
+  begins_back Haystack q comes stays same = subst (λ q. NoneBefore t hay start q) (sym same) begins_at_start
+
+-- no match begins before where the search starts
+pub begins_here : (t : Tree) (hay : List ℕ) (start : ℕ) → start ≤ length hay → NoneBefore t hay start start
+begins_here t hay start within = begins_at_start t hay start start within
+
+-- ## By the end of the haystack
+
+module _ (t : Tree) (end : End) (is : IsEnd t end) (hay : List ℕ) (start : ℕ) where
+  -- where the haystack does not end with the text, nothing matches
+  pub none_ends : (EndsWith end.suffix.caseless (bytes_of end.suffix) hay start (length hay) → ⊥) → NoMatch t hay (places hay start)
+  none_ends none i among j m =
+      let le = (Among-places hay start i among).0 in
+      let text = end_longer end.suffix.caseless (bytes_of end.suffix) hay start i j le (is.suffix hay i j m) in
+      none (subst (λ p. EndsWith end.suffix.caseless (bytes_of end.suffix) hay start p) (is.ends hay i j m) text)
+
+  pub begins_by_end : (q : ℕ) → start ≤ length hay → IsBack end.reach hay start (length hay) q → NoneBefore t hay start q
+  begins_by_end q within back = begins_back t hay start (length hay) within end.reach q comes is.stays back
+    where
+      comes : ComesTo t hay start (length hay) end.reach
+      comes i j le m =
+          let at_end = is.ends hay i j m in
+          (j, omega (arith, at_end), omega arith, at_most (λ hay i j. Matches hay t i j) (before_of end.reach) is.most hay i j m)
+
+-- ## By the literal
+
+module _ (t : Tree) (near : Near) (is : IsNear t near) (hay : List ℕ) (start : ℕ) where
   abbrev fold : ℕ → ℕ
-  fold = folding p.literal.caseless
+  fold = folding near.literal.caseless
 
   -- where the literal does not occur, nothing matches
-  pub none_matches : NoneFrom fold hay p.literal.bytes start → NoMatch t hay (places hay start)
+  pub none_matches : NoneFrom fold hay near.literal.bytes start → NoMatch t hay (places hay start)
   none_matches none i among j m =
       let h = is.holds hay i j m in
       let from = (Among-places hay start i among).0 in
-      none h.at (omega (arith, from, h.onward)) (occurs p.literal.caseless p.literal.bytes hay h.at is.some h.stands)
+      none h.at (omega (arith, from, h.onward)) (occurs near.literal.caseless near.literal.bytes hay h.at is.some h.stands)
 
-  module _ (at : ℕ) (none : NoneOccurs fold hay p.literal.bytes start at) (within : start ≤ length hay) where
-    -- a match holds the literal no earlier than there
-    literal_from : (i j : ℕ) → start ≤ i → (m : Matches hay t i j) → at ≤ (is.holds hay i j m).at
-    literal_from i j le m =
-        let h = is.holds hay i j m in
-        ⊎_elim (λ (late : at ≤ h.at). late)
-        (λ (early : h.at < at). absurd (none h.at (omega (arith, le, h.onward)) early (occurs p.literal.caseless p.literal.bytes hay h.at is.some h.stands)))
-        (split at h.at)
-      where
-        split : (a b : ℕ) → (a ≤ b) ⊎ (b < a)
-        split a b = grind arith
+  pub begins_by_literal : (at q : ℕ) → start ≤ length hay → NoneOccurs fold hay near.literal.bytes start at → IsBack near.reach hay start at q → NoneBefore t hay start q
+  begins_by_literal at q within none back = begins_back t hay start at within near.reach q comes is.stays back
+    where
+      split : (a b : ℕ) → (a ≤ b) ⊎ (b < a)
+      split a b = grind arith
 
-    pub begins_near : (n from q : ℕ) → p.reach ≡ Bytes n → from ≡ max (at - n) start → IsBackAtAscii hay start from q → NoneBefore t hay start q
-    begins_near n from q reach top back = record { place = ⊎_elim at_start at_ascii back.stands; none_before = before }
-      where
-        at_start : q ≡ start → Among (places hay start) q
-        at_start e = subst (λ k. Among (places hay start) k) (sym e) (start_among hay start within)
+      -- a match holds the literal no earlier than there
+      late : (i j : ℕ) → start ≤ i → (m : Matches hay t i j) → at ≤ (is.holds hay i j m).at
+      late i j le m =
+          let h = is.holds hay i j m in
+          ⊎_elim (λ (late : at ≤ h.at). late)
+          (λ (early : h.at < at). absurd (none h.at (omega (arith, le, h.onward)) early (occurs near.literal.caseless near.literal.bytes hay h.at is.some h.stands)))
+          (split at h.at)
 
-        at_ascii : (q < length hay) × (get_or hay q 0 < 128) → Among (places hay start) q
-        at_ascii (lt, low) = place_at_ascii hay start q back.onward lt low
+      comes : ComesTo t hay start at near.reach
+      comes i j le m = let h = is.holds hay i j m in (h.at, late i j le m, omega (arith, h.within), h.near)
 
-        before : (i : ℕ) → Among (places hay start) i → i < q → (j : ℕ) → Matches hay t i j → ⊥
-        before i among lt j m =
-            let le = (Among-places hay start i among).0 in
-            let late = literal_from i j le m in
-            let near : (is.holds hay i j m).at ≤ i + n = subst (λ (r : Reach). IfSome (before_of r) (λ n. (is.holds hay i j m).at ≤ i + n)) reach (is.holds hay i j m).near in
-            absurd (omega (arith, le, late, near, lt, back.back, top))
+-- ## What facts say
 
-    pub begins_in_line : (q : ℕ) → p.reach ≡ Line → IsBackAtLine hay start at q → NoneBefore t hay start q
-    begins_in_line q reach back = record { place = ⊎_elim at_start behind back.stands; none_before = before }
-      where
-        at_start : q ≡ start → Among (places hay start) q
-        at_start e = subst (λ k. Among (places hay start) k) (sym e) (start_among hay start within)
+near_enough : (c : Bool) (bytes : List ℕ) (before : Option ℕ) (ascii : AsciiSet) (reach : Reach) (hay : List ℕ) (i j : ℕ) →
+    IsReachOf before ascii reach → Holds c bytes before hay i j → Holds c bytes (before_of reach) hay i j
+near_enough c bytes before ascii (Bytes n) hay i j is h = subst (λ o. Holds c bytes o hay i j) is h
+near_enough c bytes before ascii (While set) hay i j is h = anywhere c bytes before hay i j h
+near_enough c bytes before ascii Haystack hay i j is h = anywhere c bytes before hay i j h
 
-        next : (q : ℕ) → start < q → q - 1 + 1 ≡ q
-        next q lt = omega arith
+stays_in : (t : Tree) (before : Option ℕ) (ascii : AsciiSet) (reach : Reach) → IsReachOf before ascii reach → HoldsOnly (λ hay i j. Matches hay t i j) ascii → StaysIn reach t
+stays_in t before ascii (Bytes n) is only = tt
+stays_in t before ascii (While set) same only = subst (HoldsOnly (λ hay i j. Matches hay t i j)) (sym same) only
+stays_in t before ascii Haystack is only = tt
 
-        behind : (start < q) × ((k : ℕ) → k + 1 ≡ q → get_or hay k 0 ≡ 10) → Among (places hay start) q
-        behind (lt, feed) =
-            let e = next q lt in
-            let ten = feed (q - 1) e in
-            subst (λ k. Among (places hay start) k) e (place_behind_ascii hay start (q - 1) (omega arith) (omega (arith, back.within, lt)) (omega (arith, ten)))
+-- the literal of a text that is needed
+pub near_of : (t : Tree) (f : Facts) → AreFacts t f → (n : Needed) → IsNeeded t (Some n) → 0 < length (bytes_of n.text) → (near : Near) →
+    near.literal ≡ needle (bytes_of n.text) n.text.caseless → IsReachOf n.before f.ascii near.reach → IsNear t near
+near_of t f facts n needed some near same is = record {
+  some = subst (λ (l : Needle). 0 < length l.bytes) (sym same) some;
+  holds = λ hay i j m.
+      subst (λ (l : Needle). Holds l.caseless l.bytes (before_of near.reach) hay i j) (sym same)
+      (near_enough n.text.caseless (bytes_of n.text) n.before f.ascii near.reach hay i j is (needed hay i j m));
+  stays = stays_in t n.before f.ascii near.reach is facts.ascii;
+}
 
-        before : (i : ℕ) → Among (places hay start) i → i < q → (j : ℕ) → Matches hay t i j → ⊥
-        before i among lt j m =
-            let le = (Among-places hay start i among).0 in
-            let late = literal_from i j le m in
-            let h = is.holds hay i j m in
-            ⊎_elim (λ (e : q ≡ start). absurd (omega (arith, e, le, lt)))
-            (λ feed. is.line reach hay i j m (q - 1) (omega (arith, lt)) (omega (arith, h.within, late, back.back, is.some, lt)) (feed.1 (q - 1) (next q feed.0)))
-            back.stands
+most_by : (t : Tree) (most : Option ℕ) (ascii : AsciiSet) (reach : Reach) → IsReachOf most ascii reach → IsMost (λ hay i j. Matches hay t i j) most → IsMost (λ hay i j. Matches hay t i j) (before_of reach)
+most_by t most ascii (Bytes n) is h = subst (IsMost (λ hay i j. Matches hay t i j)) is h
+most_by t most ascii (While set) is h = tt
+most_by t most ascii Haystack is h = tt
 
-    pub begins_at_start : NoneBefore t hay start start
-    begins_at_start = record { place = start_among hay start within; none_before = λ i among lt j m. absurd (omega (arith, (Among-places hay start i among).0, lt)) }
+-- the end of matches that end at the end of the haystack
+pub end_of : (t : Tree) (f : Facts) → AreFacts t f → f.ends ≡ true → (end : End) → end.suffix ≡ f.back → IsReachOf f.most f.ascii end.reach → IsEnd t end
+end_of t f facts ends end same is = record {
+  ends = facts.ends ends;
+  suffix = λ hay i j m. subst (λ (x : Text). EndsWith x.caseless (bytes_of x) hay i j) (sym same) (facts.back hay i j m);
+  most = most_by t f.most f.ascii end.reach is facts.most;
+  stays = stays_in t f.most f.ascii end.reach is facts.ascii;
+}

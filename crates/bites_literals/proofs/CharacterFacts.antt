@@ -1,17 +1,19 @@
 -- Facts of one character: of a letter of ASCII, and of any class.
-use Rattle.std.proofs.Common.{◌≡◌, ℕ, zero, suc, ◌+◌, ◌<◌, ◌≤◌, Bool, true, false, List, [], ◌∷◌, length, get_or, Some, None, sym, ap, ◌∙◌, subst, ◌⊎◌, inl, inr, arith, true≢false, eqb, eqb-true}
+use Rattle.std.proofs.Common.{◌≡◌, ℕ, zero, suc, ◌+◌, ◌<◌, ◌≤◌, Bool, true, false, List, [], ◌∷◌, length, get_or, Some, None, sym, ap, ◌∙◌, subst, ◌⊎◌, inl, inr, arith, eqb-true}
 use Rattle.std.specs.Prelude.{◌==◌}
-use Rattle.std.proofs.lemmas.Bool.{ne_eqb}
-use Rattle.std.proofs.lemmas.Bool.Decides.{nat_tests}
 use Rattle.bites_spec.specs.Utf8.{piece, character}
 use Rattle.bites_spec.specs.Match.{Takes}
 use Rattle.bites_spec.proofs.utf8.PieceLemmas.{piece_none}
 use Rattle.bites_scan.specs.Literal.{folding}
+use Rattle.bites_literals.specs.declared.ascii.AsciiSet.{AsciiSet}
 use Rattle.bites_literals.specs.declared.facts.Facts.{Facts}
-use Rattle.bites_literals.specs.Facts.{IsMost, HasNoLineFeed, IsHeld, AreFactsOf}
-use Rattle.bites_literals.specs.Texts.{Stands, bytes_of}
+use Rattle.bites_literals.specs.declared.text.Text.{Text}
+use Rattle.bites_literals.specs.Ascii.{Has}
+use Rattle.bites_literals.specs.Facts.{IsMost, HoldsOnly, IsHeld, AreFactsOf}
+use Rattle.bites_literals.specs.Texts.{EndsWith, Stands, bytes_of}
 use Rattle.bites_spec.proofs.utf8.AsciiPieces.{ascii_character, ascii_byte, piece_short}
-use Rattle.bites_literals.proofs.FactLemmas.{stand_none}
+use Rattle.bites_literals.proofs.TextLemmas.{end_none}
+use Rattle.bites_literals.proofs.FactLemmas.{stand_none, ends_nowhere}
 
 module _ (p : ℕ → Bool) where
   abbrev pub OneOf : List ℕ → ℕ → ℕ → Type 0
@@ -30,19 +32,24 @@ module _ (p : ℕ → Bool) where
       by (inl h) = h
       by (inr h) = let none = piece_none hay i h in absurd (omega (arith, some, none))
 
-  one_feeds : p 10 ≡ false → HasNoLineFeed OneOf
-  one_feeds out hay i j (some, test, end) k a b ten =
-      let is = ascii_byte hay i k (starts_within hay i some) a (omega (arith, end)) (omega (arith, ten)) in
-      true≢false (sym test ∙ ap p (is.character_is ∙ ten) ∙ out)
+  abbrev pub HasEach : AsciiSet → Type 0
+  HasEach set = (c : ℕ) → c < 128 → p c ≡ true → Has set c
+
+  one_ascii : (set : AsciiSet) → HasEach set → HoldsOnly OneOf set
+  one_ascii set has hay i j (some, test, end) k a b low =
+      let is = ascii_byte hay i k (starts_within hay i some) a (omega (arith, end)) low in
+      has (get_or hay k 0) low (ap p (sym is.character_is) ∙ test)
 
   -- any character
-  pub character_facts : (r : Facts) → r.most ≡ Some 4 → (r.feeds ≡ false → p 10 ≡ false) → bytes_of r.front ≡ [] → r.whole ≡ false → r.needed ≡ None → AreFactsOf OneOf r
-  character_facts r most feeds front whole needed = record {
+  pub character_facts : (r : Facts) → r.most ≡ Some 4 → r.ends ≡ false → HasEach r.ascii → bytes_of r.front ≡ [] → r.whole ≡ false → bytes_of r.back ≡ [] → r.needed ≡ None → AreFactsOf OneOf r
+  character_facts r most ends ascii front whole back needed = record {
     onward = one_onward;
     most = subst (IsMost OneOf) (sym most) (λ hay i j (some, test, end). omega (arith, piece_short hay i, end));
-    feeds = λ e. one_feeds (feeds e);
+    ends = ends_nowhere OneOf r.ends ends;
+    ascii = one_ascii r.ascii ascii;
     front = λ hay i j m. (stand_none r.front.caseless (bytes_of r.front) hay i front, omega (arith, ap length front, one_onward hay i j m));
     whole = λ e. never (sym whole ∙ e);
+    back = λ hay i j m. end_none r.back.caseless (bytes_of r.back) hay i j back (one_onward hay i j m);
     needed = subst (IsHeld OneOf) (sym needed) tt;
   }
     where
@@ -50,13 +57,15 @@ module _ (p : ℕ → Bool) where
       never e = cc
 
   -- a character of ASCII
-  pub ascii_facts : ((c : ℕ) → p c ≡ true → c < 128) → (r : Facts) → r.most ≡ Some 1 → (r.feeds ≡ false → p 10 ≡ false) → bytes_of r.front ≡ [] → r.whole ≡ false → r.needed ≡ None → AreFactsOf OneOf r
-  ascii_facts low r most feeds front whole needed = record {
+  pub ascii_facts : ((c : ℕ) → p c ≡ true → c < 128) → (r : Facts) → r.most ≡ Some 1 → r.ends ≡ false → HasEach r.ascii → bytes_of r.front ≡ [] → r.whole ≡ false → bytes_of r.back ≡ [] → r.needed ≡ None → AreFactsOf OneOf r
+  ascii_facts low r most ends ascii front whole back needed = record {
     onward = one_onward;
     most = subst (IsMost OneOf) (sym most) (λ hay i j (some, test, end). omega (arith, (ascii_character hay i some (low (character (piece hay i)) test)).one, end));
-    feeds = λ e. one_feeds (feeds e);
+    ends = ends_nowhere OneOf r.ends ends;
+    ascii = one_ascii r.ascii ascii;
     front = λ hay i j m. (stand_none r.front.caseless (bytes_of r.front) hay i front, omega (arith, ap length front, one_onward hay i j m));
     whole = λ e. never (sym whole ∙ e);
+    back = λ hay i j m. end_none r.back.caseless (bytes_of r.back) hay i j back (one_onward hay i j m);
     needed = subst (IsHeld OneOf) (sym needed) tt;
   }
     where
@@ -75,26 +84,27 @@ module _ (p : ℕ → Bool) where
         at within e zero h = let same : i ≡ i + 0 = omega arith in (omega arith, ap (λ k. folding caseless (get_or hay k 0)) (sym same) ∙ e)
         at within e (suc k) h = absurd (omega arith)
 
-    pub letter_facts : (r : Facts) → r.most ≡ Some 1 → (r.feeds ≡ false → p 10 ≡ false) → bytes_of r.front ≡ letter ∷ [] → r.front.caseless ≡ caseless → r.needed ≡ None → AreFactsOf OneOf r
-    letter_facts r most feeds front same needed = record {
+    pub letter_facts : (r : Facts) → r.most ≡ Some 1 → r.ends ≡ false → HasEach r.ascii → bytes_of r.front ≡ letter ∷ [] → r.front.caseless ≡ caseless → r.back ≡ r.front → r.needed ≡ None → AreFactsOf OneOf r
+    letter_facts r most ends ascii front same back needed = record {
       onward = one_onward;
       most = subst (IsMost OneOf) (sym most) (λ hay i j m. omega (arith, (letter_stands hay i j m).1));
-      feeds = λ e. one_feeds (feeds e);
-      front = λ hay i j m.
-          let s = letter_stands hay i j m in (
-            subst (λ b. Stands b (bytes_of r.front) hay i) (sym same) (subst (λ (l : List ℕ). Stands caseless l hay i) (sym front) s.0),
-            omega (arith, ap length front, s.1),
-          );
+      ends = ends_nowhere OneOf r.ends ends;
+      ascii = one_ascii r.ascii ascii;
+      front = λ hay i j m. (stands hay i j m, omega (arith, ap length front, (letter_stands hay i j m).1));
       whole = λ e hay i j m. omega (arith, ap length front, (letter_stands hay i j m).1);
+      back = λ hay i j m. subst (λ (t : Text). EndsWith t.caseless (bytes_of t) hay i j) (sym back) (record {
+        at = i;
+        onward = omega arith;
+        end = omega (arith, ap length front, (letter_stands hay i j m).1);
+        stands = stands hay i j m;
+      });
       needed = subst (IsHeld OneOf) (sym needed) tt;
     }
+      where
+        stands : (hay : List ℕ) (i j : ℕ) → OneOf hay i j → Stands r.front.caseless (bytes_of r.front) hay i
+        stands hay i j m =
+            subst (λ b. Stands b (bytes_of r.front) hay i) (sym same) (subst (λ (l : List ℕ). Stands caseless l hay i) (sym front) (letter_stands hay i j m).0)
 
 -- a character that is asked for
 pub is_this : (c d : ℕ) → (d == c) ≡ true → d ≡ c
 is_this c d e = eqb-true d c e
-
-pub no_line_feed : (c : ℕ) → 128 ≤ c → (10 == c) ≡ false
-no_line_feed c le = ne_eqb 10 c (λ e. omega (arith, e, le))
-
-pub other_way : (a b : ℕ) → eqb a b ≡ false → eqb b a ≡ false
-other_way a b e = grind (arith, nat_tests)

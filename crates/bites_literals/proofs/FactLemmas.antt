@@ -1,15 +1,24 @@
 -- Facts of matches, from those of their parts.
-use Rattle.std.proofs.Common.{◌≡◌, ℕ, zero, suc, ◌+◌, ◌*◌, ◌<◌, ◌≤◌, Bool, true, false, ◌||◌, List, [], ◌++◌, length, get_or, Option, Some, None, sym, ap, ◌∙◌, subst, ◌⊎◌, inl, inr, arith, length-append}
+use Rattle.std.proofs.Common.{◌≡◌, ℕ, zero, suc, ◌+◌, ◌*◌, ◌<◌, ◌≤◌, Bool, true, false, ◌||◌, ◌&&◌, List, [], ◌++◌, length, get_or, Option, Some, None, sym, ap, ◌∙◌, subst, ◌⊎◌, inl, inr, arith, eqb-true, length-append, true≢false}
 use Rattle.std.specs.Prelude.{IfSome}
-use Rattle.std.proofs.lemmas.Bool.{cases_lt, or_parts}
+use Rattle.std.proofs.lemmas.Bool.{cases_lt, and_parts}
 use Rattle.std.proofs.Math.Nat.{mul-le-mul_left}
-use Rattle.bites_spec.specs.Match.{Chain, IsWithin}
+use Rattle.bites_spec.specs.Look.{Holds, end, holds}
+use Rattle.bites_spec.specs.Match.{Chain, IsWithin, Matches}
+use Rattle.bites_spec.specs.Tree.{look}
+use Rattle.bites_literals.specs.declared.ascii.AsciiSet.{AsciiSet}
 use Rattle.bites_literals.specs.declared.facts.Facts.{Facts}
 use Rattle.bites_literals.specs.declared.facts.Needed.{Needed}
 use Rattle.bites_literals.specs.declared.text.Text.{Text}
-use Rattle.bites_literals.specs.Facts.{IsMost, HasNoLineFeed, IsHeld, AreFactsOf, IsSum, IsProduct, IsGreatest, IsLater}
-use Rattle.bites_literals.specs.Texts.{Holds, Stands, bytes_of}
-use Rattle.bites_literals.proofs.TextLemmas.{stand_together, hold_longer, hold_later, hold_front}
+use Rattle.bites_literals.specs.Ascii.{Has}
+use Rattle.bites_literals.specs.Facts.{AreFacts, AreEmptyFacts, IsMost, EndsAtEnd, HoldsOnly, IsHeld, AreFactsOf, IsSum, IsProduct, IsGreatest, IsLater, IsBackBefore}
+use Rattle.bites_literals.specs.Texts.{EndsWith, Stands, bytes_of}
+use Rattle.bites_literals.specs.Texts as texts
+use Rattle.bites_literals.proofs.TextLemmas.{end_longer, end_none, end_together, stand_together, hold_longer, hold_later, hold_front}
+
+-- the third set has what the others have
+abbrev pub HasBoth : (a b set : AsciiSet) → Type 0
+HasBoth a b set = (byte : ℕ) → Has a byte ⊎ Has b byte → Has set byte
 
 -- no byte stands at once
 pub stand_none : (c : Bool) (bytes hay : List ℕ) (i : ℕ) → bytes ≡ [] → Stands c bytes hay i
@@ -20,9 +29,11 @@ pub facts_of_fewer : (M N : List ℕ → ℕ → ℕ → Type 0) (f : Facts) →
 facts_of_fewer M N f sub fs = record {
   onward = λ hay i j m. fs.onward hay i j (sub hay i j m);
   most = most f.most fs.most;
-  feeds = λ e hay i j m. fs.feeds e hay i j (sub hay i j m);
+  ends = λ e hay i j m. fs.ends e hay i j (sub hay i j m);
+  ascii = λ hay i j m. fs.ascii hay i j (sub hay i j m);
   front = λ hay i j m. fs.front hay i j (sub hay i j m);
   whole = λ e hay i j m. fs.whole e hay i j (sub hay i j m);
+  back = λ hay i j m. fs.back hay i j (sub hay i j m);
   needed = needed f.needed fs.needed;
 }
   where
@@ -33,6 +44,30 @@ facts_of_fewer M N f sub fs = record {
     needed : (o : Option Needed) → IsHeld M o → IsHeld N o
     needed None h = tt
     needed (Some n) h = λ hay i j m. h hay i j (sub hay i j m)
+
+at_end : (hay : List ℕ) (i : ℕ) → Holds end hay i → i ≡ length hay
+unfolding holds
+at_end hay i h = eqb-true i (length hay) h
+
+-- facts of what is empty, for the assertion of the end
+pub end_facts : (f : Facts) → AreEmptyFacts f → AreFacts (look end) (record f { ends = true })
+end_facts f fs = record {
+  onward = λ hay i j m. fs.onward hay i j m.1;
+  most = none.most;
+  ends = λ e hay i j m. m.1 ∙ at_end hay i m.0;
+  ascii = λ hay i j m. fs.ascii hay i j m.1;
+  front = λ hay i j m. fs.front hay i j m.1;
+  whole = λ e hay i j m. fs.whole e hay i j m.1;
+  back = λ hay i j m. fs.back hay i j m.1;
+  needed = none.needed;
+}
+  where
+    none : AreFactsOf (λ hay i j. Matches hay (look end) i j) f
+    none = facts_of_fewer (λ hay i j. j ≡ i) (λ hay i j. Matches hay (look end) i j) f (λ hay i j m. m.1) fs
+
+-- where it is not known that each match ends at the end
+pub ends_nowhere : (M : List ℕ → ℕ → ℕ → Type 0) (ends : Bool) → ends ≡ false → ends ≡ true → EndsAtEnd M
+ends_nowhere M ends isnt is = absurd (true≢false (sym is ∙ isnt))
 
 pub at_most : (M : List ℕ → ℕ → ℕ → Type 0) (o : Option ℕ) → IsMost M o → (hay : List ℕ) (i j : ℕ) → M hay i j → IfSome o (λ n. j ≤ i + n)
 at_most M None h hay i j m = tt
@@ -56,10 +91,19 @@ module _ (M N : List ℕ → ℕ → ℕ → Type 0) (f g : Facts) (fs : AreFact
   both_most a b (Some r) (x, y, ex, ey, e) p q =
       λ hay i j (l, m, n). omega (arith, subst (IsMost M) ex p hay i l m, subst (IsMost N) ey q hay l j n, e)
 
-  both_feeds : (r : Bool) → r ≡ (f.feeds || g.feeds) → r ≡ false → HasNoLineFeed Both
-  both_feeds r is e hay i j (l, m, n) k a b ten =
-      let none = or_parts f.feeds g.feeds (sym is ∙ e) in
-      elim (cases_lt k l) [ inl h ↦ fs.feeds none.0 hay i l m k a h ten | inr h ↦ gs.feeds none.1 hay l j n k h b ten ]
+  -- the second ends at the end, or the first does and the second is empty
+  abbrev pub BothEnd : Type 0
+  BothEnd = (g.ends ≡ true) ⊎ ((f.ends ≡ true) × (g.most ≡ Some 0))
+
+  both_ends : BothEnd → EndsAtEnd Both
+  both_ends (inl e) hay i j (l, m, n) = gs.ends e hay l j n
+  both_ends (inr (e, none)) hay i j (l, m, n) =
+      let no_more : j ≤ l + 0 = subst (IsMost N) none gs.most hay l j n in
+      omega (arith, fs.ends e hay i l m, gs.onward hay l j n, no_more)
+
+  both_ascii : (set : AsciiSet) → HasBoth f.ascii g.ascii set → HoldsOnly Both set
+  both_ascii set has hay i j (l, m, n) k a b low =
+      elim (cases_lt k l) [ inl h ↦ has _ (inl (fs.ascii hay i l m k a h low)) | inr h ↦ has _ (inr (gs.ascii hay l j n k h b low)) ]
 
   both_held_first : (o : Option Needed) → IsHeld M o → IsHeld Both o
   both_held_first None h = tt
@@ -70,7 +114,7 @@ module _ (M N : List ℕ → ℕ → ℕ → Type 0) (f g : Facts) (fs : AreFact
   both_held_later o (Some r) (x, e, same, is) h =
       let hx = subst (IsHeld N) e h in
       λ hay i j (l, m, n).
-      subst (λ (t : Text). Holds t.caseless (bytes_of t) r.before hay i j) (sym same)
+      subst (λ (t : Text). texts.Holds t.caseless (bytes_of t) r.before hay i j) (sym same)
       (hold_later x.text.caseless (bytes_of x.text) f.most x.before r.before hay i l j (fs.onward hay i l m) is (at_most M f.most fs.most hay i l m) (hx hay l j n))
 
   -- what the second begins with
@@ -79,7 +123,7 @@ module _ (M N : List ℕ → ℕ → ℕ → Type 0) (f g : Facts) (fs : AreFact
   both_held_behind (Some x) (et, eb) =
       λ hay i j (l, m, n).
       let s = gs.front hay l j n in
-      subst (λ (t : Text). Holds t.caseless (bytes_of t) x.before hay i j) (sym et)
+      subst (λ (t : Text). texts.Holds t.caseless (bytes_of t) x.before hay i j) (sym et)
       (hold_front g.front.caseless (bytes_of g.front) x.before hay i l j (fs.onward hay i l m) (subst (λ o. IfSome o (λ n. l ≤ i + n)) (sym eb) (at_most M f.most fs.most hay i l m)) s.0 s.1)
 
   both_front : (hay : List ℕ) (i j : ℕ) → Both hay i j → Stands f.front.caseless (bytes_of f.front) hay i × (i + length (bytes_of f.front) ≤ j)
@@ -106,28 +150,41 @@ module _ (M N : List ℕ → ℕ → ℕ → Type 0) (f g : Facts) (fs : AreFact
       let long = ap length eb ∙ length-append (bytes_of f.front) (bytes_of g.front) in
       omega (arith, end, more, long)
 
+  both_back : (text : Text) → IsBackBefore f g text → (hay : List ℕ) (i j : ℕ) → Both hay i j → EndsWith text.caseless (bytes_of text) hay i j
+  both_back text (inl (whole, bytes, caseless)) hay i j (l, m, n) =
+      subst (λ b. EndsWith b (bytes_of text) hay i j) (sym caseless)
+      (subst (λ (xs : List ℕ). EndsWith (f.back.caseless || g.front.caseless) xs hay i j) (sym bytes)
+      (end_together f.back.caseless g.front.caseless (bytes_of f.back) (bytes_of g.front) hay i l j (fs.back hay i l m) (gs.front hay l j n).0 (gs.whole whole hay l j n)))
+  both_back text (inr same) hay i j (l, m, n) =
+      subst (λ (t : Text). EndsWith t.caseless (bytes_of t) hay i j) (sym same)
+      (end_longer g.back.caseless (bytes_of g.back) hay i l j (fs.onward hay i l m) (gs.back hay l j n))
+
   -- one after the other, where the first is a text and the texts fit together
-  pub joined : (r : Facts) → f.whole ≡ true → IsSum f.most g.most r.most → r.feeds ≡ (f.feeds || g.feeds) → bytes_of r.front ≡ bytes_of f.front ++ bytes_of g.front →
+  pub joined : (r : Facts) → f.whole ≡ true → IsSum f.most g.most r.most → (r.ends ≡ true → BothEnd) → HasBoth f.ascii g.ascii r.ascii → IsBackBefore f g r.back → bytes_of r.front ≡ bytes_of f.front ++ bytes_of g.front →
       r.front.caseless ≡ (f.front.caseless || g.front.caseless) → r.whole ≡ g.whole → (later : Option Needed) → IsLater g.needed f.most later → (r.needed ≡ f.needed) ⊎ (r.needed ≡ later) → AreFactsOf Both r
-  joined r whole most feeds bytes caseless too later is needed = record {
+  joined r whole most ends ascii back bytes caseless too later is needed = record {
     onward = both_onward;
     most = both_most f.most g.most r.most most fs.most gs.most;
-    feeds = both_feeds r.feeds feeds;
+    ends = λ e. both_ends (ends e);
+    ascii = both_ascii r.ascii ascii;
     front = both_fronts whole (bytes_of r.front) r.front.caseless bytes caseless;
     whole = λ e. both_whole whole (sym too ∙ e) (bytes_of r.front) bytes;
+    back = both_back r.back back;
     needed = held_one Both f.needed later r.needed needed (both_held_first f.needed fs.needed) (both_held_later g.needed later is gs.needed);
   }
 
   -- one after the other
-  pub behind : (r : Facts) → IsSum f.most g.most r.most → r.feeds ≡ (f.feeds || g.feeds) → r.front ≡ f.front → r.whole ≡ false →
+  pub behind : (r : Facts) → IsSum f.most g.most r.most → (r.ends ≡ true → BothEnd) → HasBoth f.ascii g.ascii r.ascii → IsBackBefore f g r.back → r.front ≡ f.front → r.whole ≡ false →
       (later inside front : Option Needed) → IsLater g.needed f.most later → (inside ≡ f.needed) ⊎ (inside ≡ later) → IfSome front (λ x. (x.text ≡ g.front) × (x.before ≡ f.most)) →
       (r.needed ≡ inside) ⊎ (r.needed ≡ front) → AreFactsOf Both r
-  behind r most feeds front whole later inside first is one starts needed = record {
+  behind r most ends ascii back front whole later inside first is one starts needed = record {
     onward = both_onward;
     most = both_most f.most g.most r.most most fs.most gs.most;
-    feeds = both_feeds r.feeds feeds;
+    ends = λ e. both_ends (ends e);
+    ascii = both_ascii r.ascii ascii;
     front = λ hay i j m. subst (λ (t : Text). Stands t.caseless (bytes_of t) hay i × (i + length (bytes_of t) ≤ j)) (sym front) (both_front hay i j m);
     whole = λ e. never (sym whole ∙ e);
+    back = both_back r.back back;
     needed = held_one Both inside first r.needed needed
         (held_one Both f.needed later inside one (both_held_first f.needed fs.needed) (both_held_later g.needed later is gs.needed)) (both_held_behind first starts);
   }
@@ -152,17 +209,23 @@ module _ (M N : List ℕ → ℕ → ℕ → Type 0) (f g : Facts) (fs : AreFact
       by hay i j (inl m) = omega (arith, subst (IsMost M) ex p hay i j m, e)
       by hay i j (inr n) = omega (arith, subst (IsMost N) ey q hay i j n, e)
 
-  either_feeds : (r : Bool) → r ≡ (f.feeds || g.feeds) → r ≡ false → HasNoLineFeed Either
-  either_feeds r is e hay i j (inl m) k a b ten = fs.feeds (or_parts f.feeds g.feeds (sym is ∙ e)).0 hay i j m k a b ten
-  either_feeds r is e hay i j (inr n) k a b ten = gs.feeds (or_parts f.feeds g.feeds (sym is ∙ e)).1 hay i j n k a b ten
+  either_ends : (f.ends && g.ends) ≡ true → EndsAtEnd Either
+  either_ends e hay i j (inl m) = fs.ends (and_parts f.ends g.ends e).0 hay i j m
+  either_ends e hay i j (inr n) = gs.ends (and_parts f.ends g.ends e).1 hay i j n
 
-  pub one_of_both : (r : Facts) → IsGreatest f.most g.most r.most → r.feeds ≡ (f.feeds || g.feeds) → bytes_of r.front ≡ [] → r.whole ≡ false → r.needed ≡ None → AreFactsOf Either r
-  one_of_both r most feeds front whole needed = record {
+  either_ascii : (set : AsciiSet) → HasBoth f.ascii g.ascii set → HoldsOnly Either set
+  either_ascii set has hay i j (inl m) k a b low = has _ (inl (fs.ascii hay i j m k a b low))
+  either_ascii set has hay i j (inr n) k a b low = has _ (inr (gs.ascii hay i j n k a b low))
+
+  pub one_of_both : (r : Facts) → IsGreatest f.most g.most r.most → r.ends ≡ (f.ends && g.ends) → HasBoth f.ascii g.ascii r.ascii → bytes_of r.front ≡ [] → r.whole ≡ false → bytes_of r.back ≡ [] → r.needed ≡ None → AreFactsOf Either r
+  one_of_both r most ends ascii front whole back needed = record {
     onward = either_onward;
     most = either_most f.most g.most r.most most fs.most gs.most;
-    feeds = either_feeds r.feeds feeds;
+    ends = λ e. either_ends (sym ends ∙ e);
+    ascii = either_ascii r.ascii ascii;
     front = λ hay i j m. (stand_none r.front.caseless (bytes_of r.front) hay i front, omega (arith, ap length front, either_onward hay i j m));
     whole = λ e. never (sym whole ∙ e);
+    back = λ hay i j m. end_none r.back.caseless (bytes_of r.back) hay i j back (either_onward hay i j m);
     needed = subst (IsHeld Either) (sym needed) tt;
   }
     where
@@ -182,10 +245,13 @@ module _ (M : List ℕ → ℕ → ℕ → Type 0) (f : Facts) (fs : AreFactsOf 
   chain_most x h hay zero i j e = omega (arith, e)
   chain_most x h hay (suc n) i j (l, m, more) = omega (arith, h hay i l m, chain_most x h hay n l j more)
 
-  chain_feeds : f.feeds ≡ false → (hay : List ℕ) (n i j : ℕ) → Chain (M hay) n i j → (k : ℕ) → i ≤ k → k < j → get_or hay k 0 ≡ 10 → ⊥
-  chain_feeds e hay zero i j same k a b ten = absurd (omega (arith, same))
-  chain_feeds e hay (suc n) i j (l, m, more) k a b ten =
-      elim (cases_lt k l) [ inl h ↦ fs.feeds e hay i l m k a h ten | inr h ↦ chain_feeds e hay n l j more k h b ten ]
+  chain_ascii : (hay : List ℕ) (n i j : ℕ) → Chain (M hay) n i j → (k : ℕ) → i ≤ k → k < j → get_or hay k 0 < 128 → Has f.ascii (get_or hay k 0)
+  chain_ascii hay zero i j same k a b low = absurd (omega (arith, same))
+  chain_ascii hay (suc n) i j (l, m, more) k a b low =
+      elim (cases_lt k l) [ inl h ↦ fs.ascii hay i l m k a h low | inr h ↦ chain_ascii hay n l j more k h b low ]
+
+  repeats_ascii : (set : AsciiSet) → set ≡ f.ascii → HoldsOnly Repeats set
+  repeats_ascii set same = subst (HoldsOnly Repeats) (sym same) (λ hay i j t. chain_ascii hay t.0 i j t.3)
 
   repeats_most : (o : Option ℕ) → IsProduct f.most most o → IsMost M f.most → IsMost Repeats o
   repeats_most None is p = tt
@@ -206,29 +272,41 @@ module _ (M : List ℕ → ℕ → ℕ → Type 0) (f : Facts) (fs : AreFactsOf 
       let first = first_turn some hay i j turns in
       hold_longer o.text.caseless (bytes_of o.text) o.before hay i first.0 j first.2 (h hay i first.0 first.1)
 
-  pub turns : (r : Facts) → 0 < min → IsProduct f.most most r.most → r.feeds ≡ f.feeds → r.front ≡ f.front → r.whole ≡ false → r.needed ≡ f.needed → AreFactsOf Repeats r
-  turns r some product feeds front whole needed = record {
+  -- the last turn
+  chain_back : (hay : List ℕ) (n i j : ℕ) → 0 < n → Chain (M hay) n i j → EndsWith f.back.caseless (bytes_of f.back) hay i j
+  chain_back hay zero i j some e = absurd (omega arith)
+  chain_back hay (suc zero) i j some (l, m, e) = subst (λ p. EndsWith f.back.caseless (bytes_of f.back) hay i p) (sym e) (fs.back hay i l m)
+  chain_back hay (suc (suc n)) i j some (l, m, more) =
+      end_longer f.back.caseless (bytes_of f.back) hay i l j (fs.onward hay i l m) (chain_back hay (suc n) l j (omega arith) more)
+
+  pub turns : (r : Facts) → 0 < min → IsProduct f.most most r.most → r.ends ≡ false → r.ascii ≡ f.ascii → r.front ≡ f.front → r.whole ≡ false → r.back ≡ f.back → r.needed ≡ f.needed → AreFactsOf Repeats r
+  turns r some product ends ascii front whole back needed = record {
     onward = λ hay i j t. chain_onward hay t.0 i j t.3;
     most = repeats_most r.most product fs.most;
-    feeds = λ e hay i j t. chain_feeds (sym feeds ∙ e) hay t.0 i j t.3;
+    ends = ends_nowhere Repeats r.ends ends;
+    ascii = repeats_ascii r.ascii ascii;
     front = λ hay i j t.
         let first = first_turn some hay i j t in
         let s = fs.front hay i first.0 first.1 in
         subst (λ (t : Text). Stands t.caseless (bytes_of t) hay i × (i + length (bytes_of t) ≤ j)) (sym front) (s.0, omega (arith, s.1, first.2));
     whole = λ e. never (sym whole ∙ e);
+    back = λ hay i j t.
+        subst (λ (x : Text). EndsWith x.caseless (bytes_of x) hay i j) (sym back) (chain_back hay t.0 i j (omega (arith, some, t.1)) t.3);
     needed = subst (IsHeld Repeats) (sym needed) (repeats_held some f.needed fs.needed);
   }
     where
       never : false ≡ true → (hay : List ℕ) (i j : ℕ) → Repeats hay i j → j ≡ i + length (bytes_of r.front)
       never e = cc
 
-  pub some_turns : (r : Facts) → IsProduct f.most most r.most → r.feeds ≡ f.feeds → bytes_of r.front ≡ [] → r.whole ≡ false → r.needed ≡ None → AreFactsOf Repeats r
-  some_turns r product feeds front whole needed = record {
+  pub some_turns : (r : Facts) → IsProduct f.most most r.most → r.ends ≡ false → r.ascii ≡ f.ascii → bytes_of r.front ≡ [] → r.whole ≡ false → bytes_of r.back ≡ [] → r.needed ≡ None → AreFactsOf Repeats r
+  some_turns r product ends ascii front whole back needed = record {
     onward = λ hay i j t. chain_onward hay t.0 i j t.3;
     most = repeats_most r.most product fs.most;
-    feeds = λ e hay i j t. chain_feeds (sym feeds ∙ e) hay t.0 i j t.3;
+    ends = ends_nowhere Repeats r.ends ends;
+    ascii = repeats_ascii r.ascii ascii;
     front = λ hay i j t. (stand_none r.front.caseless (bytes_of r.front) hay i front, omega (arith, ap length front, chain_onward hay t.0 i j t.3));
     whole = λ e. never (sym whole ∙ e);
+    back = λ hay i j t. end_none r.back.caseless (bytes_of r.back) hay i j back (chain_onward hay t.0 i j t.3);
     needed = subst (IsHeld Repeats) (sym needed) tt;
   }
     where

@@ -9,7 +9,9 @@ use Rattle.bites_spec.specs.Match.{Mark, Matches}
 use Rattle.bites_spec.specs.Found.{Answer, FoundBy, head_of, first_ending, parse_to}
 use Rattle.bites_spec.specs.Preference.{parses}
 use Rattle.bites_spec.proofs.utf8.PieceLemmas.{Among-places_within, step_some}
-use Rattle.bites_literals.specs.Begins.{NoneBefore}
+use Rattle.bites_literals.specs.declared.prefilter.Begin.{Begin}
+use Rattle.bites_literals.specs.declared.prefilter.Begin.TheVariants.{Nowhere, From}
+use Rattle.bites_literals.specs.Begins.{BeginsBy, NoneBefore}
 use Rattle.bites_literals.specs.Laws.{PlacesGoOn, FindsFromThere, LeastEndFromThere}
 
 module _ (hay : List ℕ) where
@@ -102,3 +104,11 @@ pub least_end_from_there : LeastEndFromThere
 least_end_from_there t hay start p none None f = λ i among j m. by_later t hay start p none i among j m (λ later. f i later j m)
 least_end_from_there t hay start p none (Some j) ((i, among, m), least) =
     ((i, back t hay start p none i among, m), λ k other l n. by_later t hay start p none k other l n (λ later. least k later l n))
+
+-- what holds of a search from there on holds of one from the start on
+pub begins_later : (t : Tree) (hay : List ℕ) (start p : ℕ) → NoneBefore t hay start p → (b : Begin) → BeginsBy t hay p b → BeginsBy t hay start b
+begins_later t hay start p none Nowhere later = λ i among j m. by_later t hay start p none i among j m (λ there. later i there j m)
+begins_later t hay start p none (From q) later = record {
+  place = back t hay start p none q later.place;
+  none_before = λ i among lt j m. by_later t hay start p none i among j m (λ there. later.none_before i there lt j m);
+}

@@ -1,3 +1,4 @@
+pub mod AsciiLemmas
 pub mod TextLemmas
 pub mod FactLemmas
 pub mod CharacterFacts

@@ -1,5 +1,5 @@
 -- Texts that stand in a haystack: one after another, and in a longer stretch.
-use Rattle.std.proofs.Common.{◌≡◌, ℕ, ◌+◌, ◌-◌, ◌<◌, ◌≤◌, Bool, true, false, ◌||◌, List, ◌++◌, length, get_or, Option, Some, None, sym, ap, ◌∙◌, subst, inl, inr, arith, length-append}
+use Rattle.std.proofs.Common.{◌≡◌, ℕ, ◌+◌, ◌-◌, ◌<◌, ◌≤◌, Bool, true, false, ◌||◌, List, [], ◌++◌, length, get_or, Option, Some, None, sym, ap, ◌∙◌, subst, inl, inr, arith, length-append}
 use Rattle.std.specs.Prelude.{IfSome}
 use Rattle.std.specs.Char.{to_ascii_lowercase}
 use Rattle.std.proofs.lemmas.Bool.{cases_lt}
@@ -7,7 +7,7 @@ use Rattle.std.proofs.lemmas.List.{get_or_append_left}
 use Rattle.std.proofs.Math.Seq.{get_or-append_right}
 use Rattle.bites_scan.specs.Literal.{folding}
 use Rattle.bites_literals.specs.Facts.{IsSum}
-use Rattle.bites_literals.specs.Texts.{Holds, Stands}
+use Rattle.bites_literals.specs.Texts.{EndsWith, Holds, Stands}
 
 -- bytes that are equal stay so if case is ignored
 left_equal : (a b : Bool) (x y : ℕ) → folding a x ≡ folding a y → folding (a || b) x ≡ folding (a || b) y
@@ -37,6 +37,31 @@ stand_together a b xs ys hay i s t k h =
 
 pub hold_longer : (c : Bool) (bytes : List ℕ) (before : Option ℕ) (hay : List ℕ) (i l j : ℕ) → l ≤ j → Holds c bytes before hay i l → Holds c bytes before hay i j
 hold_longer c bytes before hay i l j le h = record { at = h.at; onward = h.onward; within = omega (arith, h.within, le); near = h.near; stands = h.stands }
+
+-- a match ends with no byte at once
+pub end_none : (c : Bool) (bytes hay : List ℕ) (i j : ℕ) → bytes ≡ [] → i ≤ j → EndsWith c bytes hay i j
+end_none c bytes hay i j none le = record {
+  at = j;
+  onward = le;
+  end = omega (arith, ap length none);
+  stands = λ k h. absurd (omega (arith, ap length none, h));
+}
+
+pub end_longer : (c : Bool) (bytes hay : List ℕ) (i l j : ℕ) → i ≤ l → EndsWith c bytes hay l j → EndsWith c bytes hay i j
+end_longer c bytes hay i l j le e = record { at = e.at; onward = omega (arith, le, e.onward); end = e.end; stands = e.stands }
+
+-- what one ends with, and the other one is
+pub end_together : (a b : Bool) (xs ys hay : List ℕ) (i l j : ℕ) → EndsWith a xs hay i l → Stands b ys hay l → j ≡ l + length ys → EndsWith (a || b) (xs ++ ys) hay i j
+end_together a b xs ys hay i l j e s end = record {
+  at = e.at;
+  onward = e.onward;
+  end = omega (arith, e.end, end, length-append xs ys);
+  stands = stand_together a b xs ys hay e.at e.stands (subst (λ p. Stands b ys hay p) (sym e.end) s);
+}
+
+-- a text that is held is held behind any number of bytes
+pub anywhere : (c : Bool) (bytes : List ℕ) (before : Option ℕ) (hay : List ℕ) (i j : ℕ) → Holds c bytes before hay i j → Holds c bytes None hay i j
+anywhere c bytes before hay i j h = record { at = h.at; onward = h.onward; within = h.within; near = tt; stands = h.stands }
 
 near_later : (most before after : Option ℕ) (i l at : ℕ) → IsSum most before after → IfSome most (λ n. l ≤ i + n) → IfSome before (λ n. at ≤ l + n) → IfSome after (λ n. at ≤ i + n)
 near_later most before None i l at is m b = tt

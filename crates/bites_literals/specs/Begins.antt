@@ -1,29 +1,51 @@
 -- From where a search for a match has to begin.
-use Rattle.std.specs.Prelude.{◌≡◌, ℕ, ◌+◌, ◌<◌, ◌≤◌, ◌⊎◌, List, length, slice_index, Option, Some, None}
+use Rattle.std.specs.Prelude.{◌≡◌, ℕ, ◌+◌, ◌-◌, ◌<◌, ◌≤◌, ◌⊎◌, max, List, length, slice_index, Option, Some, None, IfSome}
 use Rattle.bites_spec.specs.Walks.{Among}
 use Rattle.bites_spec.specs.Utf8.{places}
 use Rattle.bites_spec.specs.Tree.{Tree}
 use Rattle.bites_spec.specs.Match.{Matches}
 use Rattle.bites_spec.specs.Found.{NoMatch}
+use Rattle.bites_literals.specs.declared.ascii.AsciiSet.{AsciiSet}
 use Rattle.bites_literals.specs.declared.prefilter.Begin.{Begin}
 use Rattle.bites_literals.specs.declared.prefilter.Begin.TheVariants.{Nowhere, From}
+use Rattle.bites_literals.specs.declared.prefilter.End.{End}
+use Rattle.bites_literals.specs.declared.prefilter.Near.{Near}
 use Rattle.bites_literals.specs.declared.prefilter.Prefilter.{Prefilter}
 use Rattle.bites_literals.specs.declared.prefilter.Reach.{Reach}
-use Rattle.bites_literals.specs.declared.prefilter.Reach.TheVariants.{Bytes, Line, Haystack}
-use Rattle.bites_literals.specs.Facts.{HasNoLineFeed}
-use Rattle.bites_literals.specs.Texts.{Holds}
+use Rattle.bites_literals.specs.declared.prefilter.Reach.TheVariants.{Bytes, While, Haystack}
+use Rattle.bites_literals.specs.Ascii.{Has}
+use Rattle.bites_literals.specs.Facts.{EndsAtEnd, HoldsOnly, IsMost}
+use Rattle.bites_literals.specs.Texts.{EndsWith, Holds, bytes_of}
 
--- how many bytes of a match stand before the literal at most, if there is a bound
+-- how many bytes of a match stand before an offset at most, if there is a bound
 abbrev pub before_of : Reach → Option ℕ
 before_of (Bytes n) = Some n
-before_of Line = None
+before_of (While set) = None
 before_of Haystack = None
 
--- the prefilter is one for the tree: each match holds its literal, near enough
+-- each match of the tree holds the bytes that the reach says
+abbrev pub StaysIn : Reach → Tree → Type 0
+StaysIn (Bytes n) t = Unit {0}
+StaysIn (While set) t = HoldsOnly (λ hay i j. Matches hay t i j) set
+StaysIn Haystack t = Unit {0}
+
+-- each match of the tree holds the literal, near enough
+pub record IsNear (t : Tree) (near : Near) : Type 0 where
+  pub some : 0 < length near.literal.bytes
+  pub holds : (hay : List ℕ) (i j : ℕ) → Matches hay t i j → Holds near.literal.caseless near.literal.bytes (before_of near.reach) hay i j
+  pub stays : StaysIn near.reach t
+
+-- each match of the tree ends at the end of the haystack and with the text, near enough to its beginning
+pub record IsEnd (t : Tree) (end : End) : Type 0 where
+  pub ends : EndsAtEnd (λ hay i j. Matches hay t i j)
+  pub suffix : (hay : List ℕ) (i j : ℕ) → Matches hay t i j → EndsWith end.suffix.caseless (bytes_of end.suffix) hay i j
+  pub most : IsMost (λ hay i j. Matches hay t i j) (before_of end.reach)
+  pub stays : StaysIn end.reach t
+
+-- the prefilter is one for the tree
 pub record IsPrefilter (t : Tree) (p : Prefilter) : Type 0 where
-  pub some : 0 < length p.literal.bytes
-  pub holds : (hay : List ℕ) (i j : ℕ) → Matches hay t i j → Holds p.literal.caseless p.literal.bytes (before_of p.reach) hay i j
-  pub line : p.reach ≡ Line → HasNoLineFeed (λ hay i j. Matches hay t i j)
+  pub end : IfSome p.end (IsEnd t)
+  pub near : IfSome p.near (IsNear t)
 
 -- p is a place of the search, and the tree matches from no place before it
 pub record NoneBefore (t : Tree) (hay : List ℕ) (start p : ℕ) : Type 0 where
@@ -35,15 +57,32 @@ abbrev pub BeginsBy : Tree → List ℕ → ℕ → Begin → Type 0
 BeginsBy t hay start Nowhere = NoMatch t hay (places hay start)
 BeginsBy t hay start (From p) = NoneBefore t hay start p
 
+-- the place, if there is one, is no later than this
+abbrev pub IsWithin : Begin → ℕ → Type 0
+IsWithin Nowhere n = Unit {0}
+IsWithin (From p) n = p ≤ n
+
 -- a byte of ASCII stands at the offset, or it is the start
 pub record IsBackAtAscii (hay : List ℕ) (start from at : ℕ) : Type 0 where
   pub onward : start ≤ at
   pub back : at ≤ from
   pub stands : (at ≡ start) ⊎ ((at < length hay) × (slice_index hay at < 128))
 
--- a line feed stands before the offset, or it is the start
-pub record IsBackAtLine (hay : List ℕ) (start from at : ℕ) : Type 0 where
+-- a byte of ASCII that is not in the set stands before the offset, or it is the start
+pub record IsBackWhile (set : AsciiSet) (hay : List ℕ) (start from at : ℕ) : Type 0 where
   pub onward : start ≤ at
   pub within : at ≤ length hay
   pub back : at ≤ from
-  pub stands : (at ≡ start) ⊎ ((start < at) × ((k : ℕ) → k + 1 ≡ at → slice_index hay k ≡ 10))
+  pub stands : (at ≡ start) ⊎ ((start < at) × ((k : ℕ) → k + 1 ≡ at → (slice_index hay k < 128) × (Has set (slice_index hay k) → ⊥)))
+
+-- the reach says no more than that so many bytes stand between, or that a match holds no other bytes of ASCII than these
+abbrev pub IsReachOf : Option ℕ → AsciiSet → Reach → Type 0
+IsReachOf before ascii (Bytes n) = before ≡ Some n
+IsReachOf before ascii (While set) = set ≡ ascii
+IsReachOf before ascii Haystack = Unit {0}
+
+-- a place so far back from an offset as the reach says, or further
+abbrev pub IsBack : Reach → List ℕ → (start from at : ℕ) → Type 0
+IsBack (Bytes n) hay start from at = IsBackAtAscii hay start (max (from - n) start) at
+IsBack (While set) hay start from at = IsBackWhile set hay start from at
+IsBack Haystack hay start from at = at ≡ start

@@ -1,12 +1,15 @@
 -- What is known of each match of a tree.
-use Rattle.std.specs.Prelude.{◌≡◌, ℕ, ◌+◌, ◌*◌, ◌<◌, ◌≤◌, max, true, false, List, length, slice_index, Option, Some, None, IfSome}
+use Rattle.std.specs.Prelude.{◌≡◌, ℕ, ◌+◌, ◌*◌, ◌<◌, ◌≤◌, ◌⊎◌, ◌||◌, ◌++◌, max, true, List, length, slice_index, Option, Some, None, IfSome}
 use Rattle.std.specs.Char.{to_ascii_lowercase}
 use Rattle.bites_spec.specs.Range.{Range, in_ranges}
 use Rattle.bites_spec.specs.Tree.{Tree, Trees}
 use Rattle.bites_spec.specs.Match.{Matches, MatchesAll, MatchesOne}
+use Rattle.bites_literals.specs.declared.ascii.AsciiSet.{AsciiSet}
 use Rattle.bites_literals.specs.declared.facts.Facts.{Facts}
 use Rattle.bites_literals.specs.declared.facts.Needed.{Needed}
-use Rattle.bites_literals.specs.Texts.{Holds, Stands, bytes_of}
+use Rattle.bites_literals.specs.declared.text.Text.{Text}
+use Rattle.bites_literals.specs.Ascii.{Has}
+use Rattle.bites_literals.specs.Texts.{EndsWith, Holds, Stands, bytes_of}
 
 -- M says of a haystack what lies between two of its offsets
 
@@ -14,9 +17,13 @@ use Rattle.bites_literals.specs.Texts.{Holds, Stands, bytes_of}
 abbrev pub IsMost : (List ℕ → ℕ → ℕ → Type 0) → Option ℕ → Type 0
 IsMost M most = IfSome most (λ n. (hay : List ℕ) (i j : ℕ) → M hay i j → j ≤ i + n)
 
--- it holds no line feed
-abbrev pub HasNoLineFeed : (List ℕ → ℕ → ℕ → Type 0) → Type 0
-HasNoLineFeed M = (hay : List ℕ) (i j : ℕ) → M hay i j → (k : ℕ) → i ≤ k → k < j → slice_index hay k ≡ 10 → ⊥
+-- it ends at the end of the haystack
+abbrev pub EndsAtEnd : (List ℕ → ℕ → ℕ → Type 0) → Type 0
+EndsAtEnd M = (hay : List ℕ) (i j : ℕ) → M hay i j → j ≡ length hay
+
+-- each byte of it that is ASCII is in the set
+abbrev pub HoldsOnly : (List ℕ → ℕ → ℕ → Type 0) → AsciiSet → Type 0
+HoldsOnly M set = (hay : List ℕ) (i j : ℕ) → M hay i j → (k : ℕ) → i ≤ k → k < j → slice_index hay k < 128 → Has set (slice_index hay k)
 
 -- it holds the text
 abbrev pub IsHeld : (List ℕ → ℕ → ℕ → Type 0) → Option Needed → Type 0
@@ -27,9 +34,11 @@ IsHeld M needed =
 pub record AreFactsOf (M : List ℕ → ℕ → ℕ → Type 0) (f : Facts) : Type 0 where
   pub onward : (hay : List ℕ) (i j : ℕ) → M hay i j → i ≤ j
   pub most : IsMost M f.most
-  pub feeds : f.feeds ≡ false → HasNoLineFeed M
+  pub ends : f.ends ≡ true → EndsAtEnd M
+  pub ascii : HoldsOnly M f.ascii
   pub front : (hay : List ℕ) (i j : ℕ) → M hay i j → Stands f.front.caseless (bytes_of f.front) hay i × (i + length (bytes_of f.front) ≤ j)
   pub whole : f.whole ≡ true → (hay : List ℕ) (i j : ℕ) → M hay i j → j ≡ i + length (bytes_of f.front)
+  pub back : (hay : List ℕ) (i j : ℕ) → M hay i j → EndsWith f.back.caseless (bytes_of f.back) hay i j
   pub needed : IsHeld M f.needed
 
 -- they hold of what is empty
@@ -71,6 +80,12 @@ IsGreatest a b (Some r) = (m : ℕ) × (n : ℕ) × (a ≡ Some m) × (b ≡ Som
 abbrev pub IsLater : Option Needed → Option ℕ → Option Needed → Type 0
 IsLater needed most None = Unit {0}
 IsLater needed most (Some r) = (n : Needed) × (needed ≡ Some n) × (r.text ≡ n.text) × IsSum most n.before r.before
+
+-- the text is what the first ends with and then the second, where that is all of its match, or what the second ends with
+abbrev pub IsBackBefore : (first rest : Facts) → Text → Type 0
+IsBackBefore f g text =
+    ((g.whole ≡ true) × (bytes_of text ≡ bytes_of f.back ++ bytes_of g.front) × (text.caseless ≡ (f.back.caseless || g.front.caseless)))
+    ⊎ (text ≡ g.back)
 
 -- each character of the ranges is this letter in one of its cases
 abbrev pub IsOneLetter : List Range → ℕ → Type 0

@@ -1,3 +1,4 @@
+pub mod Ascii
 pub mod Begins
 pub mod Facts
 pub mod Laws

@@ -13,6 +13,13 @@ Stands caseless bytes hay i =
     (k : ℕ) → k < length bytes →
     (i + k < length hay) × (folding caseless (slice_index hay (i + k)) ≡ folding caseless (slice_index bytes k))
 
+-- what lies from i to j ends with these bytes
+pub record EndsWith (caseless : Bool) (bytes hay : List ℕ) (i j : ℕ) : Type 0 where
+  pub at : ℕ
+  pub onward : i ≤ at
+  pub end : at + length bytes ≡ j
+  pub stands : Stands caseless bytes hay at
+
 -- what lies from i to j holds these bytes, behind at most so many others
 pub record Holds (caseless : Bool) (bytes : List ℕ) (before : Option ℕ) (hay : List ℕ) (i j : ℕ) : Type 0 where
   pub at : ℕ

@@ -5,6 +5,7 @@ ghost use Rattle.bites_spec.specs.Range.{in_ranges};
 ghost use Rattle.bites_spec.specs.Tree as spec;
 ghost use Rattle.bites_literals.specs.Facts.{AreFacts, IsOneLetter};
 
+use crate::ascii::AsciiSet;
 use crate::facts::Facts;
 use crate::text::Text;
 use bites_syntax::class::Class;
@@ -14,19 +15,24 @@ pub(crate) fn facts_of_char(c: char) -> Facts
     ensures { AreFacts (spec.char c) result }
 {
     if c.is_ascii() {
+        let text = Text::one(c as u8, false);
         return Facts {
             most: Some(1),
-            feeds: c == '\n',
-            front: Text::one(c as u8, false),
+            ends: false,
+            ascii: AsciiSet::of_byte(c as u8),
+            front: text,
             whole: true,
+            back: text,
             needed: None,
         };
     }
     Facts {
         most: Some(4),
-        feeds: false,
+        ends: false,
+        ascii: AsciiSet::none(),
         front: Text::empty(),
         whole: false,
+        back: Text::empty(),
         needed: None,
     }
 }
@@ -35,24 +41,27 @@ pub(crate) fn facts_of_char(c: char) -> Facts
 pub(crate) fn facts_of_class(class: &Class) -> Facts
     ensures { AreFacts (spec.class class.now) result }
 {
-    if let Some(letter) = letter_of(class.ranges()) {
+    let ranges = class.ranges();
+    let ascii = AsciiSet::of(ranges);
+    if let Some(letter) = letter_of(ranges) {
+        let text = Text::one(letter, true);
         return Facts {
             most: Some(1),
-            feeds: class.contains('\n'),
-            front: Text::one(letter, true),
+            ends: false,
+            ascii,
+            front: text,
             whole: true,
+            back: text,
             needed: None,
         };
     }
     Facts {
-        most: if is_ascii(class.ranges()) {
-            Some(1)
-        } else {
-            Some(4)
-        },
-        feeds: class.contains('\n'),
+        most: if is_ascii(ranges) { Some(1) } else { Some(4) },
+        ends: false,
+        ascii,
         front: Text::empty(),
         whole: false,
+        back: Text::empty(),
         needed: None,
     }
 }

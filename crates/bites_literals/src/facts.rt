@@ -1,10 +1,12 @@
 //! What is known of each match of a tree.
 
-ghost use Rattle.std.specs.Prelude.{◌≡◌, ℕ, ◌⊎◌, ◌<◌, Bool, Some, None};
+ghost use Rattle.std.specs.Prelude.{◌≡◌, ℕ, ◌⊎◌, ◌<◌, Bool, true, Some, None, IsTrue};
 ghost use Rattle.bites_spec.specs.Tree as spec;
+ghost use Rattle.bites_spec.specs.Look as assertion;
 ghost use Rattle.bites_spec.specs.Tree.{Tree, Trees};
-ghost use Rattle.bites_literals.specs.Facts.{AreFacts, AreAllFacts, AreSomeFacts, AreEmptyFacts, IsNeeded, IsProduct, IsSum, IsGreatest, IsLater};
+ghost use Rattle.bites_literals.specs.Facts.{AreFacts, AreAllFacts, AreSomeFacts, AreEmptyFacts, IsNeeded, IsProduct, IsSum, IsGreatest, IsLater, IsBackBefore};
 
+use crate::ascii::AsciiSet;
 use crate::text::Text;
 use bites_scan::literal::MAX_LEN;
 
@@ -16,12 +18,16 @@ const FAR: u32 = 20;
 pub(crate) struct Facts {
     /// The greatest number of bytes of a match.
     pub most: Option<usize>,
-    /// Whether a match may hold a line feed.
-    pub feeds: bool,
+    /// Whether each match ends at the end of the haystack.
+    pub ends: bool,
+    /// The bytes of ASCII that a match may hold.
+    pub ascii: AsciiSet,
     /// What each match begins with.
     pub front: Text,
     /// Whether a match is that text and nothing else.
     pub whole: bool,
+    /// What each match ends with.
+    pub back: Text,
     /// What each match holds elsewhere.
     pub needed: Option<Needed>,
 }
@@ -41,10 +47,22 @@ impl Facts {
     {
         Facts {
             most: Some(0),
-            feeds: false,
+            ends: false,
+            ascii: AsciiSet::none(),
             front: Text::empty(),
             whole: true,
+            back: Text::empty(),
             needed: None,
+        }
+    }
+
+    /// Returns what is known of matches that are empty and stand at the end of the haystack.
+    pub(crate) fn end() -> Facts
+        ensures { AreFacts (spec.look assertion.end) result }
+    {
+        Facts {
+            ends: true,
+            ..Facts::empty()
         }
     }
 
@@ -54,9 +72,11 @@ impl Facts {
     {
         Facts {
             most: Some(0),
-            feeds: false,
+            ends: true,
+            ascii: AsciiSet::none(),
             front: Text::empty(),
             whole: false,
+            back: Text::empty(),
             needed: None,
         }
     }
@@ -66,14 +86,18 @@ impl Facts {
         ensures { (t : Tree) (ts : Trees) → AreFacts t self.now → AreAllFacts ts rest.now → AreAllFacts (spec.tree_and t ts) result }
     {
         let most = sum(self.most, rest.most);
-        let feeds = self.feeds || rest.feeds;
+        let ends = self.ends_before(rest);
+        let ascii = self.ascii.union(rest.ascii);
+        let back = self.back_before(rest);
         let inside = better(self.needed, later(rest.needed, self.most));
         if self.whole && self.front.len() + rest.front.len() <= MAX_LEN {
             return Facts {
                 most,
-                feeds,
+                ends,
+                ascii,
                 front: self.front.followed_by(&rest.front),
                 whole: rest.whole,
+                back,
                 needed: inside,
             };
         }
@@ -83,10 +107,30 @@ impl Facts {
         });
         Facts {
             most,
-            feeds,
+            ends,
+            ascii,
             front: self.front,
             whole: false,
+            back,
             needed: better(inside, behind),
+        }
+    }
+
+    /// Returns whether each match ends at the end of the haystack, if matches of the next trees follow.
+    fn ends_before(&self, rest: &Facts) -> bool
+        ensures { IsTrue result → (rest.now.ends ≡ true) ⊎ ((self.now.ends ≡ true) × (rest.now.most ≡ Some 0)) }
+    {
+        rest.ends || self.ends && rest.most == Some(0)
+    }
+
+    /// Returns what each match ends with, if matches of the next trees follow.
+    fn back_before(&self, rest: &Facts) -> Text
+        ensures { IsBackBefore self.now rest.now result }
+    {
+        if rest.whole && self.back.len() + rest.front.len() <= MAX_LEN {
+            self.back.followed_by(&rest.front)
+        } else {
+            rest.back
         }
     }
 
@@ -96,9 +140,11 @@ impl Facts {
     {
         Facts {
             most: greatest(self.most, others.most),
-            feeds: self.feeds || others.feeds,
+            ends: self.ends && others.ends,
+            ascii: self.ascii.union(others.ascii),
             front: Text::empty(),
             whole: false,
+            back: Text::empty(),
             needed: None,
         }
     }
@@ -111,17 +157,21 @@ impl Facts {
         if min == 0 {
             return Facts {
                 most,
-                feeds: self.feeds,
+                ends: false,
+                ascii: self.ascii,
                 front: Text::empty(),
                 whole: false,
+                back: Text::empty(),
                 needed: None,
             };
         }
         Facts {
             most,
-            feeds: self.feeds,
+            ends: false,
+            ascii: self.ascii,
             front: self.front,
             whole: false,
+            back: self.back,
             needed: self.needed,
         }
     }

@@ -5,6 +5,7 @@
 
 ghost use Rattle.bites_literals.specs.Laws.{FindsFromThere, LeastEndFromThere, PlacesGoOn};
 
+mod ascii;
 mod class;
 mod facts;
 pub mod prefilter;

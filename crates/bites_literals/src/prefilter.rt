@@ -2,11 +2,12 @@
 
 ghost use Rattle.std.specs.Prelude.{◌≡◌, ℕ, ◌⊎◌, ◌<◌, ◌≤◌, length, slice_index, IfSome};
 ghost use Rattle.bites_spec.specs.Tree as spec;
-ghost use Rattle.bites_literals.specs.Begins.{BeginsBy, IsPrefilter, IsBackAtAscii, IsBackAtLine};
+ghost use Rattle.bites_literals.specs.Begins.{BeginsBy, IsPrefilter, IsNear, IsEnd, IsWithin, IsBack, IsBackAtAscii, IsBackWhile, IsReachOf};
+ghost use Rattle.bites_literals.specs.Facts.{AreFacts};
 
-#[cfg(test)]
-mod tests;
-
+use crate::ascii::AsciiSet;
+use crate::facts::Facts;
+use crate::text::Text;
 use crate::tree::{facts_of, may_pay};
 use bites_scan::literal::{Literal, Outcome};
 use bites_syntax::tree::Tree;
@@ -14,20 +15,36 @@ use bites_syntax::tree::Tree;
 /// How often the two rarest bytes of a literal may occur, as the sum of their ranks.
 const COMMON: u32 = 480;
 
-/// A literal that each match of a tree holds, and where such a match begins. It owns no memory.
+/// What bounds the places where matches of a tree begin. It owns no memory.
 #[derive(Drop)]
 pub struct Prefilter {
+    end: Option<End>,
+    near: Option<Near>,
+}
+
+/// What is known of matches if each of them ends at the end of the haystack.
+#[derive(Drop)]
+struct End {
+    /// What each match ends with.
+    suffix: Text,
+    /// How far before the end a match begins.
+    reach: Reach,
+}
+
+/// A literal that each match holds, and how far before it the match begins.
+#[derive(Drop)]
+struct Near {
     literal: Literal,
     reach: Reach,
 }
 
-/// How far before the literal a match begins.
+/// How far before an offset a match begins that comes to it.
 #[derive(Clone, Copy, Drop)]
 enum Reach {
     /// At most so many bytes.
     Bytes(usize),
-    /// In the same line.
-    Line,
+    /// With bytes between that are not ASCII, or are in this set.
+    While(AsciiSet),
     /// Anywhere.
     Haystack,
 }
@@ -42,7 +59,8 @@ pub enum Begin {
 }
 
 impl Prefilter {
-    /// Returns a prefilter for the tree, if each of its matches holds a literal that is worth a search.
+    /// Returns a prefilter for the tree, if each of its matches holds a literal that is worth a search, or ends at the end
+    /// of the haystack and not far behind its beginning.
     pub fn of(tree: &Tree) -> Option<Prefilter>
         ensures { IfSome result (λ prefilter. IsPrefilter tree.now prefilter) }
     {
@@ -50,48 +68,126 @@ impl Prefilter {
             return None;
         }
         let facts = facts_of(tree);
-        let needed = facts.rarest()?;
-        if needed.text.len() == 0 || needed.cost() > COMMON {
+        let end = End::of(&facts);
+        let near = if facts.ends && facts.most.is_some() {
+            None
+        } else {
+            Near::of(&facts)
+        };
+        if end.is_none() && near.is_none() {
             return None;
         }
-        let reach = match needed.before {
-            Some(before) => Reach::Bytes(before),
-            None => {
-                if facts.feeds {
-                    Reach::Haystack
-                } else {
-                    Reach::Line
-                }
-            }
-        };
-        Some(Prefilter {
-            literal: needed.text.literal(),
-            reach,
-        })
+        Some(Prefilter { end, near })
     }
 
     /// Returns from where a search of the haystack has to begin that may begin at `start`.
     ///
-    /// It searches for the literal from `start` on. Before the offset that the search comes to, no match of the tree ends.
+    /// It searches for the literal from `start` on. Before the offset that the search comes to, no match of the tree ends. If
+    /// each match ends at the end of the haystack, it looks first at how the haystack ends, and goes back from there at last.
     pub fn begin(&self, haystack: &[u8], start: usize) -> Begin
         requires { start ≤ length haystack.now }
         ensures { (t : spec.Tree) → IsPrefilter t self.now → BeginsBy t haystack.now start result }
+    {
+        let Some(end) = &self.end else {
+            return self.begin_by_literal(haystack, start);
+        };
+        if !end.suffix.ends(haystack, start) {
+            return Begin::Nowhere;
+        }
+        match self.begin_by_literal(haystack, start) {
+            Begin::Nowhere => Begin::Nowhere,
+            Begin::From(from) => Begin::From(end.reach.back(haystack, from, haystack.len())),
+        }
+    }
+
+    /// Returns from where the search has to begin by the literal alone.
+    fn begin_by_literal(&self, haystack: &[u8], start: usize) -> Begin
+        requires { start ≤ length haystack.now }
+        ensures within { IsWithin result (length haystack.now) }
+        ensures begins { (t : spec.Tree) → IsPrefilter t self.now → BeginsBy t haystack.now start result }
+    {
+        match &self.near {
+            Some(near) => near.begin(haystack, start),
+            None => Begin::From(start),
+        }
+    }
+}
+
+impl End {
+    /// Returns what is known of the end of each match, if each one ends at the end of the haystack and that is of use.
+    fn of(facts: &Facts) -> Option<End>
+        ensures { (t : spec.Tree) → AreFacts t facts.now → IfSome result (IsEnd t) }
+    {
+        let reach = Reach::of(facts.most, facts.ascii);
+        let tells = facts.back.len() > 0 || !matches!(reach, Reach::Haystack);
+        if !facts.ends || !tells {
+            return None;
+        }
+        Some(End {
+            suffix: facts.back,
+            reach,
+        })
+    }
+}
+
+impl Near {
+    /// Returns a literal of the facts, if it is worth a search.
+    fn of(facts: &Facts) -> Option<Near>
+        ensures { (t : spec.Tree) → AreFacts t facts.now → IfSome result (IsNear t) }
+    {
+        let needed = facts.rarest()?;
+        if needed.text.len() == 0 || needed.cost() > COMMON {
+            return None;
+        }
+        Some(Near {
+            literal: needed.text.literal(),
+            reach: Reach::of(needed.before, facts.ascii),
+        })
+    }
+
+    /// Returns from where a search has to begin that may begin at `start`.
+    fn begin(&self, haystack: &[u8], start: usize) -> Begin
+        requires { start ≤ length haystack.now }
+        ensures within { IsWithin result (length haystack.now) }
+        ensures begins { (t : spec.Tree) → IsNear t self.now → BeginsBy t haystack.now start result }
     {
         let at = match self.literal.search(haystack, start) {
             Outcome::Found(at) => at,
             Outcome::Tired(at) => at,
             Outcome::Nowhere => return Begin::Nowhere,
         };
-        let from = match self.reach {
+        Begin::From(self.reach.back(haystack, start, at))
+    }
+}
+
+impl Reach {
+    /// Returns how far before an offset a match begins, by how many bytes stand between, and by the bytes that it may hold.
+    fn of(before: Option<usize>, ascii: AsciiSet) -> Reach
+        ensures { IsReachOf before ascii result }
+    {
+        match before {
+            Some(before) => Reach::Bytes(before),
+            None if ascii.is_full() => Reach::Haystack,
+            None => Reach::While(ascii),
+        }
+    }
+
+    /// Returns a place from which the search may begin, if no match from `start` on ends before `at`.
+    fn back(self, haystack: &[u8], start: usize, at: usize) -> usize
+        requires ordered { start ≤ at }
+        requires within { at ≤ length haystack.now }
+        ensures within { result ≤ length haystack.now }
+        ensures back { IsBack self haystack.now start at result }
+    {
+        match self {
             Reach::Bytes(before) => back_to_ascii(
                 haystack,
                 start,
                 at.saturating_sub(before).max(start),
             ),
-            Reach::Line => back_to_line(haystack, start, at),
+            Reach::While(set) => back_while(haystack, start, at, set),
             Reach::Haystack => start,
-        };
-        Begin::From(from)
+        }
     }
 }
 
@@ -111,15 +207,16 @@ fn back_to_ascii(haystack: &[u8], start: usize, from: usize) -> usize
     at
 }
 
-/// Goes back to the beginning of a line, or to the start.
-fn back_to_line(haystack: &[u8], start: usize, from: usize) -> usize
+/// Goes back over bytes that are not ASCII, or are in the set.
+fn back_while(haystack: &[u8], start: usize, from: usize, set: AsciiSet) -> usize
     requires ordered { start ≤ from }
     requires within { from ≤ length haystack.now }
-    ensures { IsBackAtLine haystack.now start from result }
+    ensures { IsBackWhile set haystack.now start from result }
 {
     let mut at = from;
     'bytes: while at > start {
-        if haystack[at - 1] == b'\n' {
+        let byte = haystack[at - 1];
+        if byte.is_ascii() && !set.contains(byte) {
             break;
         }
         at -= 1;

@@ -1,7 +1,7 @@
 //! A text of ASCII that stands in a match.
 
-ghost use Rattle.std.specs.Prelude.{◌≡◌, ◌+◌, ◌<◌, ◌≤◌, ◌||◌, ◌++◌, [], ◌∷◌, length};
-ghost use Rattle.bites_scan.specs.Literal.{needle};
+ghost use Rattle.std.specs.Prelude.{◌≡◌, ◌+◌, ◌<◌, ◌≤◌, ◌||◌, ◌++◌, [], ◌∷◌, length, IsTrue};
+ghost use Rattle.bites_scan.specs.Literal.{folding, needle};
 
 use bites_scan::literal::{Literal, MAX_LEN};
 use bites_scan::rank::rank;
@@ -16,7 +16,7 @@ pub(crate) struct Text {
 }
 
 impl Text {
-    ghost use Rattle.bites_literals.specs.Texts.{bytes_of};
+    ghost use Rattle.bites_literals.specs.Texts.{EndsWith, bytes_of};
 
     /// Returns the empty text.
     pub(crate) fn empty() -> Text
@@ -75,6 +75,33 @@ impl Text {
         Literal::new(&self.bytes[..self.len], self.caseless)
     }
 
+    /// Returns whether the haystack ends with the text, from `start` on.
+    pub(crate) fn ends(&self, haystack: &[u8], start: usize) -> bool
+        requires { start ≤ length haystack.now }
+        ensures { EndsWith self.now.caseless (bytes_of self.now) haystack.now start (length haystack.now) → IsTrue result }
+    {
+        if haystack.len() - start < self.len {
+            return false;
+        }
+        let at = haystack.len() - self.len;
+        for k in 0..self.len {
+            if self.folded(haystack[at + k]) != self.folded(self.bytes[k]) {
+                return false;
+            }
+        }
+        true
+    }
+
+    fn folded(&self, byte: u8) -> u8
+        ensures { result ≡ folding self.now.caseless byte }
+    {
+        if self.caseless {
+            byte.to_ascii_lowercase()
+        } else {
+            byte
+        }
+    }
+
     /// Returns how often the text's rarest two bytes occur. Only speed depends on it.
     pub(crate) fn cost(&self) -> u32 {
         let (mut first, mut second) = (255, 255);
@@ -93,10 +120,6 @@ impl Text {
     fn rank_at(&self, k: usize) -> u8
         requires { k < 32 }
     {
-        if self.caseless {
-            rank(self.bytes[k].to_ascii_lowercase())
-        } else {
-            rank(self.bytes[k])
-        }
+        rank(self.folded(self.bytes[k]))
     }
 }

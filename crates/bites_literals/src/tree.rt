@@ -14,6 +14,7 @@ pub(crate) fn facts_of(tree: &Tree) -> Facts
     ensures { AreFacts tree.now result }
 {
     match tree.kind() {
+        Kind::Look(Look::End) => Facts::end(),
         Kind::Empty | Kind::Look(_) => Facts::empty(),
         Kind::Char(c) => facts_of_char(*c),
         Kind::Class(class) => facts_of_class(class),
@@ -81,7 +82,24 @@ fn is_at_start(tree: &Tree) -> bool {
     false
 }
 
-/// Returns whether a search for a literal of the tree may take less time than one without.
+/// Returns whether the last part of the tree, or of its last branch, is the end of the haystack.
+fn is_at_end(tree: &Tree) -> bool {
+    let mut part = tree;
+    for _ in 0..MOST_DEPTH {
+        match part.kind() {
+            Kind::Look(Look::End) => return true,
+            Kind::Capture { sub, .. } => part = sub,
+            Kind::Concat(parts) | Kind::Alternation(parts) => match parts.last() {
+                Some(last) => part = last,
+                None => return false,
+            },
+            _ => return false,
+        }
+    }
+    false
+}
+
+/// Returns whether facts of the tree may make a search shorter. Only speed depends on it.
 pub(crate) fn may_pay(tree: &Tree) -> bool {
-    !is_choice(tree) && !is_at_start(tree)
+    !is_at_start(tree) && (!is_choice(tree) || is_at_end(tree))
 }

@@ -22,6 +22,7 @@ pub const ONE_LIMIT: &[Limit] = &[("", DFA_SIZE_LIMIT, true)];
 /// The default, no table, and tables that mostly are parts, with a literal and without one.
 pub const ALL_LIMITS: &[Limit] = &[
     ("", DFA_SIZE_LIMIT, true),
+    ("without a literal ", DFA_SIZE_LIMIT, false),
     ("without a table ", 0, false),
     ("by a literal and without a table ", 0, true),
     ("with a table of 64 bytes ", 64, false),

@@ -25,3 +25,4 @@ pub mod VisitedLemmas
 pub mod LayoutLemmas
 pub mod RowLemmas
 pub mod LaidOutLemmas
+pub mod TraceLemmas

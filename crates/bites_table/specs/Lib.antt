@@ -23,4 +23,5 @@ pub mod Stays
 pub mod Layout
 pub mod Standing
 pub mod Searches
+pub mod Trace
 pub mod LaidOut

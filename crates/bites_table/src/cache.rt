@@ -1,6 +1,6 @@
 //! The working memory of searches by a table, allocated once.
 
-ghost use Rattle.std.specs.Prelude.{◌≡◌, ◌≤◌, ◌↔◌, ◌⊎◌, ℕ, suc, false, true, List, [], IfOk, IfSome, IsTrue, Option, None, length};
+ghost use Rattle.std.specs.Prelude.{◌≡◌, ◌≤◌, ◌↔◌, ◌⊎◌, ℕ, suc, false, true, List, [], ◌∷◌, IfOk, IfSome, IsTrue, Option, None, length, reverse};
 ghost use Rattle.bites_spec.specs.Counts.{fit_of, fit_with, HasRoomFor, IsBounded, VisitedBy};
 ghost use Rattle.bites_spec.specs.Run.{Run, Answered, LeastEnd, first_run, longest_run};
 ghost use Rattle.bites_machine.specs.Sweep.{SearchResult, frames_for, rows_for};
@@ -8,10 +8,13 @@ ghost use Rattle.bites_machine.specs.Trace.{ReadsVisits};
 ghost use Rattle.bites_machine.specs.Inputs.{is_longest, is_earliest, starts_of};
 ghost use Rattle.bites_machine.specs.declared.vm.MatchKind.TheVariants.{First, Earliest, Longest};
 ghost use Rattle.bites_table.specs.Packed.{IsTableOf};
+ghost use Rattle.bites_table.specs.Trace.{LeadTo, asked_of};
+ghost use Rattle.bites_table.specs.declared.trace.How.TheVariants.{Walked};
 
 use crate::search::record::Search;
 use crate::steps::{NO_SLOT, REGISTERS};
 use crate::table::Table;
+use crate::trace::{How, Stretch, TracedSearch};
 use bites_machine::program::Program;
 use bites_machine::vm::{self, Input, MatchKind};
 use std::alloc::AllocError;
@@ -124,6 +127,96 @@ impl Cache {
             Some(table) if serves(input) => self.search_by_table(program, table, input, slots),
             _ => self.machine.search(program, input, slots),
         }
+    }
+
+    /// Finds the match that the input asks for, as [`Cache::search`] does, and returns how the search came over the places, for
+    /// people to look at. A search that makes no use of a table is one stretch, which is walked.
+    ///
+    /// The error is out of memory. It takes memory for each place that is passed.
+    ///
+    /// For proofs: each stretch begins where the one before it ends, the first one at the start. A place that is passed, and one
+    /// that bytes were skipped to, has the thread list that is named: the Pike VM comes there with its threads.
+    pub fn trace(
+        &mut self,
+        program: &Program,
+        table: Option<&Table>,
+        input: &Input<'_>,
+        slots: &mut [Option<usize>],
+    ) -> Result<TracedSearch, AllocError>
+        requires fits { HasRoomFor self.old.fits program.now.program (length slots.old) }
+        requires slots { (length slots.old ≡ 0) ⊎ (length slots.old ≡ 2)
+            ⊎ (length slots.old ≡ program.now.program.slots) }
+        requires table { IfSome table (λ t. IsTableOf program.now.program t.now) }
+        ensures lead { IfOk result (λ r. IfSome table.entry (λ t. (end : ℕ) ×
+            LeadTo (asked_of program.now.program t.now input.now slots.old) (reverse r.stretches.items) end)) }
+        ensures walked { IfOk result (λ r. table.entry ≡ None →
+            r.stretches.items ≡ record { from = input.now.start; how = Walked } ∷ []) }
+        ensures searched { IfOk result (λ r. input.now.start ≤ length input.now.haystack.now →
+            SearchResult program.now.program input.now.haystack.now (is_longest input.now.kind)
+            input.now.anchored (is_earliest input.now.kind) input.now.start r.is_found slots.old slots.new
+            self.new.walked) }
+        ensures fits { self.new.fits ≡ self.old.fits }
+    {
+        // For proofs: a program is well-formed.
+        let _ = program.start();
+        match table {
+            Some(table) if serves(input) => self.trace_by_table(program, table, input, slots),
+            _ => {
+                let stretch = Stretch {
+                    from: input.start,
+                    how: How::Walked,
+                };
+                let stretches = vec![in program.alloc(); stretch]?;
+                let is_found = self.machine.search(program, input, slots);
+                Ok(TracedSearch {
+                    is_found,
+                    stretches,
+                })
+            }
+        }
+    }
+
+    // Finds the match that the input asks for by a table, and returns how the search came over the places.
+    fn trace_by_table(
+        &mut self,
+        program: &Program,
+        table: &Table,
+        input: &Input<'_>,
+        slots: &mut [Option<usize>],
+    ) -> Result<TracedSearch, AllocError>
+        requires fits { HasRoomFor self.old.fits program.now.program (length slots.old) }
+        requires slots { (length slots.old ≡ 0) ⊎ (length slots.old ≡ 2)
+            ⊎ (length slots.old ≡ program.now.program.slots) }
+        requires table { IsTableOf program.now.program table.now }
+        requires within { input.now.start ≤ length input.now.haystack.now }
+        requires longest { is_longest input.now.kind ≡ false }
+        ensures lead { IfOk result (λ r. (end : ℕ) ×
+            LeadTo (asked_of program.now.program table.now input.now slots.old) (reverse r.stretches.items) end) }
+        ensures searched { IfOk result (λ r. SearchResult program.now.program input.now.haystack.now false
+            input.now.anchored (is_earliest input.now.kind) input.now.start r.is_found slots.old slots.new self.new.walked) }
+        ensures fits { self.new.fits ≡ self.old.fits }
+    {
+        // For proofs: a program is well-formed, and has two slots at least.
+        let _ = program.start();
+        let mut stretches = Vec::new(program.alloc());
+        let mut search = Search {
+            program,
+            table,
+            input,
+            counted: self.machine.begin(program),
+        };
+        let is_found = search.trace(
+            &mut self.machine,
+            &mut self.registers,
+            slots,
+            &mut stretches,
+        )?;
+        let Search { counted, .. } = search;
+        self.machine.finish(counted);
+        Ok(TracedSearch {
+            is_found,
+            stretches,
+        })
     }
 
     // Finds the match that the input asks for by a table.

@@ -18,9 +18,6 @@ use bites_machine::state::State;
 use std::alloc::Global;
 use std::marker::Model;
 
-#[cfg(test)]
-mod tests;
-
 // The greatest number of intervals.
 const MOST_INTERVALS: usize = 4096;
 

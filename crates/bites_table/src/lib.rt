@@ -20,6 +20,7 @@ mod stack;
 pub mod steps;
 pub mod table;
 pub mod thread_list;
+pub mod trace;
 mod visited;
 pub mod walk;
 

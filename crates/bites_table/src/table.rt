@@ -15,8 +15,6 @@ pub mod cell;
 pub(crate) mod layout;
 mod sequence;
 pub mod skip;
-#[cfg(test)]
-mod tests;
 
 use crate::classes::Classes;
 use crate::explore::graph::Graph;

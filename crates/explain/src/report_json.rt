@@ -8,7 +8,7 @@ use crate::searches::{Report, Search};
 use crate::subject::Refusal;
 use crate::text::{write_lossy, write_text};
 use crate::tree_json::write_tree;
-use bites_bytes::bytes::{Captures, Regex};
+use bites_bytes::bytes::{Captures, How, Regex};
 use bites_machine::vm::traced::{TracedPlace, TracedThread};
 use bites_syntax::parse::Flags;
 use std::io::{self, Write};
@@ -150,12 +150,12 @@ fn write_search<W: Write>(search: &Search, out: &mut W) -> io::Result<()> {
     out.write_all(b",\"places\":[")?;
     for (number, place) in search.traced.places.iter().enumerate() {
         write_comma(number, out)?;
-        write_place(place, out)?;
+        write_place(place, search.way_at(place.place()), out)?;
     }
     out.write_all(b"]}")
 }
 
-fn write_place<W: Write>(place: &TracedPlace, out: &mut W) -> io::Result<()> {
+fn write_place<W: Write>(place: &TracedPlace, way: Option<How>, out: &mut W) -> io::Result<()> {
     write!(
         out,
         "\n{{\"place\":{},\"starts\":{}",
@@ -171,7 +171,18 @@ fn write_place<W: Write>(place: &TracedPlace, out: &mut W) -> io::Result<()> {
     write_numbers(place.visited(), out)?;
     out.write_all(b",\"match\":")?;
     write_found(place.first_match(), out)?;
+    write_way(way, out)?;
     out.write_all(b"}")
+}
+
+// Writes how the search by the regex comes over a place, and the number of the thread list there, or `null`.
+fn write_way<W: Write>(way: Option<How>, out: &mut W) -> io::Result<()> {
+    match way {
+        Some(How::Passed { list }) => write!(out, ",\"by\":\"passed\",\"list\":{list}"),
+        Some(How::Skipped { list }) => write!(out, ",\"by\":\"skipped\",\"list\":{list}"),
+        Some(How::Walked) => out.write_all(b",\"by\":\"walked\",\"list\":null"),
+        None => out.write_all(b",\"by\":\"left\",\"list\":null"),
+    }
 }
 
 // Writes a thread, or `null`.

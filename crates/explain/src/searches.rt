@@ -4,7 +4,7 @@ use crate::haystack::{Piece, pieces_of};
 use crate::options::Options;
 use crate::order::Order;
 use crate::subject::Subject;
-use bites_bytes::bytes::Regex;
+use bites_bytes::bytes::{How, Regex, Stretch};
 use bites_machine::program::Program;
 use bites_machine::vm::traced::TracedSearch;
 use bites_machine::vm::{Input, trace};
@@ -21,8 +21,25 @@ pub(crate) struct Search {
     /// The offset that it began at, in bytes.
     pub(crate) start: usize,
     pub(crate) traced: TracedSearch,
+    /// How the search by the regex came over the same places, which may be by its table.
+    pub(crate) stretches: Vec<Stretch>,
     /// Whether it found an empty match where the last one ended. That is no successive match.
     pub(crate) is_repeated: bool,
+}
+
+impl Search {
+    /// Returns how the search by the regex came over a place, or `None` if it didn't look there, since nothing is found any
+    /// more.
+    pub(crate) fn way_at(&self, place: usize) -> Option<How> {
+        let begun = self
+            .stretches
+            .partition_point(|stretch| stretch.from <= place);
+        let stretch = self.stretches.get(begun.checked_sub(1)?)?;
+        match stretch.how {
+            How::Passed { .. } if stretch.from != place => None,
+            how => Some(how),
+        }
+    }
 }
 
 /// All that is shown of a pattern and a haystack.
@@ -103,6 +120,7 @@ fn searches(alloc: Global, subject: &Subject, haystack: &[u8]) -> Result<Vec<Sea
         searches.push(Search {
             start,
             traced,
+            stretches: subject.regex.trace_at(haystack, start)?.stretches,
             is_repeated,
         })?;
     }

@@ -1,10 +1,10 @@
 -- Replacing the items of a list, one by one.
-use Rattle.std.proofs.Common.{◌≡◌, ◌≤◌, ◌↔◌, ℕ, zero, suc, Bool, true, false, List, [], ◌∷◌, ◌++◌, map, take, drop, Option, Some, None, refl, sym, ap, ap₂, ◌∙◌, subst, append_assoc, IsUtf8}
+use Rattle.std.proofs.Common.{◌≡◌, ◌↔◌, ℕ, zero, suc, List, [], ◌∷◌, ◌++◌, map, take, drop, Option, Some, None, refl, sym, ap, ap₂, ◌∙◌, subst, append_assoc, IsUtf8}
 use Rattle.std.specs.Prelude.{unwrap_or, slice_range}
 use Rattle.bites_spec.specs.Match.{Span}
 use Rattle.bites_spec.specs.Pieces.{replaced_from, replaced, limited}
 use Rattle.bites_spec.specs.Regex.{Regex, IsCompiled}
-use Rattle.bites_spec.specs.Captured.{Excerpt, excerpt, Captured}
+use Rattle.bites_spec.specs.Captured.{Excerpt, excerpt}
 use Rattle.bites_spec.specs.Iteration.{captures_in, spans_in}
 use Rattle.bites_spec.specs.Replaced.{span_in}
 use Rattle.bites_spec.specs.Replace.{Gave}
@@ -13,7 +13,7 @@ use Rattle.bites_bytes.proofs.ReplacingLemmas.{none_some, limited_map}
 use Rattle.bites_bytes.proofs.ReplacedLemmas.{nothing_iff, limited_none, mapped_none, spans_of_captures}
 use Rattle.regex_bites.specs.Order.{BeginFrom}
 use Rattle.regex_bites.proofs.BorderLemmas.{spans_ordered}
-use Rattle.regex_bites.proofs.SplitLemmas.{spans_of}
+use Rattle.bites_bytes.proofs.SplitLemmas.{spans_of}
 
 joined : (hay out : List ℕ) (last : Option ℕ) (s : Span) (ss : List Span) (text : List ℕ) (texts : List (List ℕ)) (new : List ℕ) →
     new ≡ (out ++ slice_range hay (unwrap_or last 0) s.start) ++ text →

@@ -1,5 +1,5 @@
 -- The groups that an iterator of a searcher has left, and what it leaves of the searcher.
-use Rattle.std.specs.Prelude.{◌≡◌, ℕ, cond, List, [], Option, Result}
+use Rattle.std.specs.Prelude.{◌≡◌, cond, List, [], Option, Result}
 use Rattle.std.specs.Borrow.{GName}
 use Rattle.std.specs.Iterator.{Yields}
 use Rattle.std.specs.declared.alloc.AllocError.{AllocError}

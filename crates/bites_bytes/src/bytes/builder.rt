@@ -28,7 +28,7 @@ use std::marker::Model;
 const SIZE_LIMIT: usize = 10 * (1 << 20);
 
 /// The default of [`RegexBuilder::nest_limit`].
-const NEST_LIMIT: u32 = 50;
+pub(super) const NEST_LIMIT: u32 = 50;
 
 /// The default of [`RegexBuilder::dfa_size_limit`], in bytes.
 const DFA_SIZE_LIMIT: usize = 1 << 20;
@@ -241,7 +241,9 @@ impl RegexBuilder {
     ///
     /// It changes the time of searches, and never what they return. A search looks for the literal from its start on,
     /// many bytes at a time, and explores the states of the program from the first place from which a match can hold it.
-    /// Without the literal nothing matches. Searches at one offset and for matches of the whole haystack don't look for it.
+    /// Without the literal nothing matches. If each match ends at the end of the haystack, as of `[a-z]+$`, the search
+    /// explores only the places near the end from which one can. Searches at one offset and for matches of the whole
+    /// haystack do neither.
     pub fn prefilter(&mut self, yes: bool) -> &mut RegexBuilder
         ensures same { result.ghost_name ≡ self.entry.ghost_name }
         ensures set { result.now ≡ record self.old { prefilter = yes } }
@@ -379,8 +381,16 @@ impl RegexBuilder {
         } = self;
         let program = compile_kept(alloc, tree, groups, keep, limits.size)?;
         let program = program.with_pattern(pattern);
-        let regex = Regex::from_parts(alloc, tree, flags, keep, leftmost_longest, program)?;
-        Ok(regex.with_table(limits.dfa_size).with_prefilter(prefilter))
+        let regex = Regex::from_parts(
+            alloc,
+            tree,
+            flags,
+            keep,
+            leftmost_longest,
+            program,
+            prefilter,
+        )?;
+        Ok(regex.with_table(limits.dfa_size))
     }
 }
 

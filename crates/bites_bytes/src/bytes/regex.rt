@@ -12,12 +12,14 @@ ghost use Rattle.bites_bytes.specs.Parts.{regex_of};
 ghost use Rattle.bites_syntax.specs.FlagsView.{flags_of};
 ghost use Rattle.bites_bytes.specs.Settings.{Refuses};
 ghost use Rattle.bites_table.specs.Packed.{IsTableOf};
+ghost use Rattle.bites_literals.specs.Begins.{IsPrefilter};
 
+use crate::bytes::builder::NEST_LIMIT;
 use crate::bytes::{CaptureNames, RegexBuilder};
 use bites_literals::prefilter::{Begin, Prefilter};
 use bites_machine::program::Program;
 use bites_machine::vm::MatchKind;
-use bites_syntax::parse::Flags;
+use bites_syntax::parse::{Flags, parse};
 use bites_syntax::tree::Tree;
 use bites_table::table::{Table, TableSize};
 use bites_text::error::Error;
@@ -34,8 +36,6 @@ pub(super) struct Compiled {
     program: Program,
     // Whether searches return the longest match.
     leftmost_longest: bool,
-    // A literal that each match of the tree holds. It takes no memory of its own.
-    prefilter: Option<Prefilter>,
     // For proofs: these take no memory, and only contracts speak of them.
     tree: Snapshot<Tree>,
     keep_dropped_groups: Snapshot<bool>,
@@ -47,8 +47,6 @@ impl Model for Compiled {
     ghost use Rattle.bites_syntax.specs.TreeCode.{tree_code};
     ghost use Rattle.bites_spec.specs.Regex as spec;
     ghost use Rattle.bites_bytes.specs.Parts.{regex_of};
-    ghost use Rattle.bites_literals.specs.Begins.{IsPrefilter};
-    ghost use Rattle.std.specs.Prelude.{IfSome};
 
     ghost Value = { spec.Regex };
 
@@ -58,7 +56,7 @@ impl Model for Compiled {
         a.keep_dropped_groups.value a.leftmost_longest a.program };
 
     ghost invariant = { λ a. spec.IsCompiled (regex_of (flags_of a.flags) a.tree.value
-        a.keep_dropped_groups.value a.leftmost_longest a.program) × IfSome a.prefilter (IsPrefilter a.tree.value) };
+        a.keep_dropped_groups.value a.leftmost_longest a.program) };
 }
 
 impl Compiled {
@@ -85,19 +83,15 @@ impl Compiled {
         Arc::new(alloc, table).ok()
     }
 
-    // Returns the first place from `start` on from which the tree may match, as far as its literal shows. Past the end of the
-    // haystack nothing matches.
-    fn begin(&self, haystack: &[u8], start: usize) -> usize
-        requires { start ≤ length haystack.now }
-        ensures { BeginsAt (with_prefilter true self.now) haystack.now start result }
+    // Reads the pattern again, and returns a literal that each match holds, if one is worth a search. Returns `None` too if
+    // memory runs out, and if the pattern exceeds the default of `RegexBuilder::nest_limit`.
+    fn make_literal(&self, alloc: Global) -> Option<Arc<Prefilter>>
+        ensures { IfSome result (λ literal. IsPrefilter self.now.tree literal.value) }
     {
-        let Some(prefilter) = &self.prefilter else {
-            return start;
+        let Ok(tree) = parse(alloc, self.program.pattern(), self.flags, NEST_LIMIT) else {
+            return None;
         };
-        match prefilter.begin(haystack, start) {
-            Begin::From(place) => place,
-            Begin::Nowhere => haystack.len() + 1,
-        }
+        literal_of(alloc, &tree)
     }
 
     // Returns whether searches return the longest match.
@@ -140,6 +134,14 @@ impl Compiled {
     }
 }
 
+// Returns a literal that each match of the tree holds, if one is worth a search, and if there is memory for it.
+fn literal_of(alloc: Global, tree: &Tree) -> Option<Arc<Prefilter>>
+    ensures { IfSome result (λ literal. IsPrefilter tree.now literal.value) }
+{
+    let literal = Prefilter::of(tree)?;
+    Arc::new(alloc, literal).ok()
+}
+
 /// A compiled regular expression, which searches byte strings. A clone shares the program and its table, and may go to
 /// another thread.
 ///
@@ -155,7 +157,10 @@ pub struct Regex {
     alloc: Global,
     compiled: Arc<Compiled>,
     table: Option<Arc<Table>>,
+    // Whether searches look for the literal first.
     prefilter: bool,
+    // A literal that each match holds.
+    literal: Option<Arc<Prefilter>>,
 }
 
 // A caller that drops one relies on this function, and on no type below it.
@@ -166,6 +171,7 @@ impl Drop for Regex {
             compiled: _,
             table: _,
             prefilter: _,
+            literal: _,
         } = self;
     }
 }
@@ -176,6 +182,7 @@ impl Model for Regex {
     ghost use Rattle.bites_syntax.specs.TreeCode.{tree_code};
     ghost use Rattle.bites_spec.specs.Regex as spec;
     ghost use Rattle.bites_table.specs.Packed.{IsTableOf};
+    ghost use Rattle.bites_literals.specs.Begins.{IsPrefilter};
 
     ghost Value = { spec.Regex };
 
@@ -183,7 +190,8 @@ impl Model for Regex {
 
     ghost view = { λ a. spec.with_prefilter a.prefilter (spec.with_table (is_some a.table) a.compiled.value) };
 
-    ghost invariant = { λ a. IfSome a.table (λ t. IsTableOf a.compiled.value.program t.value) };
+    ghost invariant = { λ a. IfSome a.table (λ t. IsTableOf a.compiled.value.program t.value)
+        × IfSome a.literal (λ literal. IsPrefilter a.compiled.value.tree literal.value) };
 }
 
 impl Regex {
@@ -206,7 +214,7 @@ impl Regex {
         RegexBuilder::new(alloc, pattern)?.into_regex()
     }
 
-    // Returns a regex of a tree and its program, without a table. Its searches look for no literal.
+    // Returns a regex of a tree and its program, without a table. Its searches look for a literal of the tree first, or don't.
     pub(crate) fn from_parts(
         alloc: Global,
         tree: &Tree,
@@ -214,17 +222,17 @@ impl Regex {
         keep_dropped_groups: bool,
         leftmost_longest: bool,
         program: Program,
+        prefilter: bool,
     ) -> Result<Regex, Error>
         requires { IsCompiled (regex_of (flags_of flags) tree.now keep_dropped_groups leftmost_longest program) }
-        ensures made { IfOk result
-            (λ r. r ≡ regex_of (flags_of flags) tree.now keep_dropped_groups leftmost_longest program) }
+        ensures made { IfOk result (λ r. r ≡ with_prefilter prefilter
+            (regex_of (flags_of flags) tree.now keep_dropped_groups leftmost_longest program)) }
         ensures refused { IfErr result (λ e. e ≡ Error.Memory) }
     {
         let compiled = Compiled {
             flags,
             program,
             leftmost_longest,
-            prefilter: Prefilter::of(tree),
             tree: Snapshot::of(tree),
             keep_dropped_groups: Snapshot::of(&keep_dropped_groups),
         };
@@ -232,7 +240,12 @@ impl Regex {
             alloc,
             compiled: Arc::new(alloc, compiled)?,
             table: None,
-            prefilter: false,
+            prefilter,
+            literal: if prefilter {
+                literal_of(alloc, tree)
+            } else {
+                None
+            },
         })
     }
 
@@ -247,6 +260,7 @@ impl Regex {
             compiled,
             table: _,
             prefilter,
+            literal,
         } = self;
         let table = compiled.make_table(alloc, dfa_size_limit);
         Regex {
@@ -254,38 +268,54 @@ impl Regex {
             compiled,
             table,
             prefilter,
+            literal,
         }
     }
 
-    // Returns the regex whose searches look for a literal first, or don't.
-    pub(crate) fn with_prefilter(self, yes: bool) -> Regex
+    // Returns the regex whose searches look for a literal first, or don't. The pattern is read again to find the literal if
+    // those of this regex don't.
+    fn with_prefilter(self, yes: bool) -> Regex
         ensures { result ≡ with_prefilter yes self }
     {
         let Regex {
             alloc,
             compiled,
             table,
-            prefilter: _,
+            prefilter,
+            literal,
         } = self;
+        let literal = if yes && !prefilter {
+            compiled.make_literal(alloc)
+        } else {
+            literal
+        };
         Regex {
             alloc,
             compiled,
             table,
             prefilter: yes,
+            literal,
         }
     }
 
-    // Returns from where a search explores that may begin at `start`.
+    // Returns from where a search explores that may begin at `start`: the first place from which the pattern may match, as far
+    // as its literal shows. Past the end of the haystack nothing matches.
     pub(super) fn begin(&self, haystack: &[u8], start: usize) -> usize
         ensures { BeginsAt self.now haystack.now start result }
     {
         if !self.prefilter || start > haystack.len() {
             return start;
         }
-        self.compiled.begin(haystack, start)
+        let Some(literal) = &self.literal else {
+            return start;
+        };
+        match literal.begin(haystack, start) {
+            Begin::From(place) => place,
+            Begin::Nowhere => haystack.len() + 1,
+        }
     }
 
-    // Returns what the regex shares with its clones, but for the table and the switch of searches for a literal.
+    // Returns what the regex shares with its clones, but for the table, the literal, and the switch of searches for it.
     pub(super) fn compiled(&self) -> &Arc<Compiled>
         ensures { self.now ≡ with_prefilter self.now.prefilter (with_table self.now.has_table result.now.value) }
     {
@@ -321,17 +351,16 @@ impl Regex {
     /// [`RegexBuilder::dfa_size_limit`] says, and with the switch of [`RegexBuilder::prefilter`]. It finds the same, and
     /// caches of the one fit the other.
     ///
-    /// It shares the program with this regex. The error, out of memory, comes only if the count of clones is full. If
-    /// memory for the table runs out, there is none.
+    /// It shares the program with this regex. If the switch is set, and isn't set in this regex, the pattern is read again to
+    /// find its literal. The error, out of memory, comes only if the count of clones is full. If memory for the table runs
+    /// out, there is none. There is no literal if memory for the reading runs out, or if the pattern exceeds the default of
+    /// [`RegexBuilder::nest_limit`].
     pub fn prepared(&self, dfa_size_limit: usize, prefilter: bool) -> Result<Regex, AllocError>
         ensures same { IfOk result (λ r. (b : Bool) × (r ≡ with_prefilter prefilter (with_table b self.now))) }
         ensures none { IfOk result (λ r. dfa_size_limit ≡ 0 → r.has_table ≡ false) }
     {
-        Ok(
-            self.clone()?
-                .with_table(dfa_size_limit)
-                .with_prefilter(prefilter),
-        )
+        let regex = self.clone()?.with_table(dfa_size_limit);
+        Ok(regex.with_prefilter(prefilter))
     }
 
     /// Returns how large the table is that searches use, or `None` if there is none: because the limit was 0 or too small,
@@ -426,6 +455,7 @@ impl Clone for Regex {
             compiled: self.compiled.clone()?,
             table: self.table.clone()?,
             prefilter: self.prefilter,
+            literal: self.literal.clone()?,
         })
     }
 }

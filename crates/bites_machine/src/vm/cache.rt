@@ -235,29 +235,3 @@ impl Cache {
         is_found
     }
 }
-
-#[cfg(test)]
-mod tests {
-    use crate::program::compile;
-    use crate::vm::{Cache, search};
-    use bites_syntax::parse::{Flags, parse};
-    use bites_text::error::Error;
-
-    /// The first search passes the greatest generation, and all marks are reset.
-    #[test]
-    fn one_cache_past_the_greatest_generation(rt: HostRuntime) -> Result<(), Error> {
-        let tree = parse(rt.alloc(), "a+", Flags::default(), 50)?;
-        let program = compile(rt.alloc(), &tree, "a+", 1 << 20)?;
-        let mut cache = Cache::new(&program)?;
-        cache.scratch.visited_set.use_up_generations();
-        let whole = [Some(0), Some(3)];
-        for (haystack, wanted) in &[(&b"aaa"[..], whole), (b"", [None; 2]), (b"aaa", whole)] {
-            let mut slots = [None; 2];
-            if cache.fits_program(&program) {
-                search(&program, &mut cache, haystack, 0, false, &mut slots);
-            }
-            assert_eq!(rt; slots, *wanted);
-        }
-        Ok(())
-    }
-}

@@ -64,13 +64,4 @@ impl StateSet {
         self.generations[state as usize] = self.generation;
         true
     }
-
-    /// Removes all states, and leaves one generation before the restart.
-    #[cfg(test)]
-    pub(super) fn use_up_generations(&mut self)
-        ensures { length self.new ≡ length self.old }
-    {
-        self.generations.fill(0);
-        self.generation = u64::MAX - 1;
-    }
 }

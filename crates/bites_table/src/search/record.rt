@@ -24,7 +24,7 @@ use bites_machine::program::Program;
 use bites_machine::vm::{self, Counted, Input, MatchKind, Resumed};
 
 // How often one search goes on as the Pike VM before it does so to its end.
-const MOST_LEAVES: usize = 32;
+pub(crate) const MOST_LEAVES: usize = 32;
 
 /// What is searched by which table, and the record of what was visited.
 ///
@@ -47,15 +47,15 @@ pub(crate) struct Standing {
 // A transition that was lent: where the cells of the next thread list begin, the number of what it does, and the register whose
 // row begins.
 #[derive(Clone, Copy, Drop)]
-struct Lent {
-    next: usize,
-    act: usize,
-    begins: u8,
+pub(crate) struct Lent {
+    pub next: usize,
+    pub act: usize,
+    pub begins: u8,
 }
 
 // What comes after a place.
 #[derive(Clone, Copy, Drop)]
-enum Turn {
+pub(crate) enum Turn {
     // The search goes on at the next place.
     Goes { to: Standing, is_found: bool },
     // The search is over.
@@ -68,7 +68,7 @@ impl Search<'_> {
     // Lends the transition of a thread list over a class, and records that it was made at the place, unless it does
     // something of these kinds.
     #[inline(always)]
-    fn lend(&mut self, at: Standing, class: usize, unless: u8) -> Option<Lent>
+    pub(crate) fn lend(&mut self, at: Standing, class: usize, unless: u8) -> Option<Lent>
         requires row { IsRow self.old.table.now at.row }
         requires class { class < stride self.old.table.now }
         requires unless { (x : Packed) (n c : ℕ) (a : cell.Cell) → Tells x n c a → bit_and a.doing unless ≡ 0 → IsKnown x n c a }
@@ -113,7 +113,7 @@ impl Search<'_> {
     // Goes on from a thread list, which has this number, over what leads back to it. Returns `None` where the search is over,
     // since nothing is found any more.
     #[inline(always)]
-    fn settle(&mut self, at: Standing, number: usize) -> Option<Standing>
+    pub(crate) fn settle(&mut self, at: Standing, number: usize) -> Option<Standing>
         requires number { at.row ≡ row_of self.old.table.now number }
         requires within { number < lists_in self.old.table.now }
         requires stands { (h : Held) × IsHeldAt self.old at h }
@@ -160,7 +160,7 @@ impl Search<'_> {
 
     // Goes on over one place.
     #[inline(always)]
-    fn step(
+    pub(crate) fn step(
         &mut self,
         at: Standing,
         registers: &mut [usize],
@@ -244,7 +244,7 @@ impl Search<'_> {
     }
 
     // Returns where the table begins at a place where no thread is left and the start is walked.
-    fn root(&self, place: usize) -> (Standing, usize)
+    pub(crate) fn root(&self, place: usize) -> (Standing, usize)
         requires { place ≤ length self.now.input.now.haystack.now }
         ensures place { result.0.place ≡ place }
         ensures row { result.0.row ≡ row_of self.now.table.now result.1 }
@@ -260,7 +260,7 @@ impl Search<'_> {
 
     // Returns whether the start is walked at a place: until something is found, and at the first place alone if the search is
     // anchored.
-    fn starts_at(&self, place: usize, is_found: bool) -> bool
+    pub(crate) fn starts_at(&self, place: usize, is_found: bool) -> bool
         ensures { result ≡ (not is_found && (not self.now.input.now.anchored || (place == self.now.input.now.start))) }
     {
         !is_found && (!self.input.anchored || place == self.input.start)

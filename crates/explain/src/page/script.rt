@@ -109,6 +109,14 @@ pub(super) static SCRIPT: &str = r#"'use strict';
     });
   }
 
+  // How the search by the regex comes over a place.
+  function wayOf(place) {
+    if (place.by === 'passed') return 'The regex passes it by its table, list ' + place.list + '.';
+    if (place.by === 'skipped') return 'The regex skips it, in list ' + place.list + ' of its table.';
+    if (place.by === 'walked') return 'The regex walks it too.';
+    return 'The regex does not look here: from the place before on it finds nothing more.';
+  }
+
   function say(number) {
     const {search, index, place, count} = steps[number];
     const bound = states.length * (count + 1);
@@ -118,7 +126,8 @@ pub(super) static SCRIPT: &str = r#"'use strict';
     by('said').replaceChildren(
       made('p', 'Place ' + (number + 1) + ' of ' + steps.length + ', at offset ' + place.place + '. Search ' + (index + 1) + ' of ' + data.searches.length + ', from offset ' + search.start + '.'),
       made('p', counted(place.threads.length, 'thread') + '. Visited here: ' + place.visited.length + ' of ' + counted(states.length, 'state') + '. In this search so far: ' + counted(visits[number], 'visit') + ', at most ' + states.length + ' \u00d7 ' + (count + 1) + ' = ' + bound + '.'),
-      made('p', found + ' ' + ended));
+      made('p', found + ' ' + ended),
+      made('p', wayOf(place)));
   }
 
   let current = 0;

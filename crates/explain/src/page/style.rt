@@ -42,7 +42,7 @@ button { font: inherit; color: inherit; background: transparent; border: 1px sol
 :focus-visible { outline: 3px solid var(--link); outline-offset: 1px; }
 #window { white-space: pre; overflow: hidden; text-align: center; }
 #window b { background: var(--here); color: inherit; font-weight: bold; border: 1px solid var(--ink); }
-#said { min-height: 6.5rem; }
+#said { min-height: 8rem; }
 #said p { margin: 0.1rem 0; }
 #threads-box { overflow: auto; }
 #fault { font-size: 1.1rem; color: var(--choice); }

@@ -97,8 +97,10 @@ impl Regex {
     /// [`RegexBuilder::dfa_size_limit`] says, and with the switch of [`RegexBuilder::prefilter`]. It finds the same, and
     /// caches of the one fit the other.
     ///
-    /// It shares the program with this regex. The error, out of memory, comes only if the count of clones is full. If
-    /// memory for the table runs out, there is none.
+    /// It shares the program with this regex. If the switch is set, and isn't set in this regex, the pattern is read again to
+    /// find its literal. The error, out of memory, comes only if the count of clones is full. If memory for the table runs
+    /// out, there is none. There is no literal if memory for the reading runs out, or if the pattern exceeds the default of
+    /// [`RegexBuilder::nest_limit`].
     pub fn prepared(&self, dfa_size_limit: usize, prefilter: bool) -> Result<Regex, AllocError>
         ensures same { IfOk result (λ r. (b : Bool) × (r ≡ with_prefilter prefilter (with_table b self.now))) }
         ensures none { IfOk result (λ r. dfa_size_limit ≡ 0 → r.has_table ≡ false) }

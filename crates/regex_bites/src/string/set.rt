@@ -156,8 +156,10 @@ impl RegexSet {
     /// [`RegexSetBuilder::dfa_size_limit`] says, and with the switch of [`RegexSetBuilder::prefilter`]. It finds the same,
     /// and caches of the one fit the other.
     ///
-    /// It shares the programs with this set. The error is out of memory for the list of them. A pattern has no table if
-    /// memory for that runs out.
+    /// It shares the programs with this set. If the switch is set, and isn't set in this set, each pattern is read again to
+    /// find its literal. The error is out of memory for the list of regexes. A pattern has no table if memory for that runs out.
+    /// It has no literal if memory for its reading runs out, or if it exceeds the default of
+    /// [`RegexSetBuilder::nest_limit`].
     ///
     /// ```rust
     /// let set = RegexSet::new(rt.alloc(), &["a+", "b"])?;

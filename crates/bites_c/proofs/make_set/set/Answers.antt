@@ -1,4 +1,4 @@
-use Rattle.std.proofs.Common.{◌≡◌, ◌≢◌, ◌∙◌, List, ℕ, map, refl, sym, ap, subst}
+use Rattle.std.proofs.Common.{◌≡◌, ◌≢◌, ◌∙◌, List, ℕ, map, sym, ap, subst}
 use Rattle.bites_text.specs.declared.error.Error.{Error as Fault}
 use Rattle.bites_text.specs.declared.error.Error.TheVariants.{Memory}
 use Rattle.bites_text.specs.Texts.{code_of}

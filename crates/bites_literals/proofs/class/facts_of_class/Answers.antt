@@ -1,4 +1,4 @@
-use Rattle.std.proofs.Common.{◌≡◌, List, true, refl, sym, ◌∙◌, subst}
+use Rattle.std.proofs.Common.{◌≡◌, List, true, refl, sym, subst}
 use Rattle.bites_spec.specs.Range.{Range, in_ranges}
 use Rattle.bites_literals.specs.Facts.{IsOneLetter}
 use Rattle.bites_literals.proofs.CharacterFacts.{ascii_facts, character_facts, letter_facts}
@@ -8,16 +8,17 @@ use Rattle.bites_literals.proofs.class.facts_of_class.Goals.{then-is_ascii, else
 pub returns-in-Some : goal.returns-in-Some
 returns-in-Some c =
     let letter = c.in-Some.letter in
-    letter_facts (in_ranges c.args.class.now) letter true (subst (λ (rs : List Range). IsOneLetter rs letter) c.ranges-2.ensures.ranges c.in-Some.ensures) _ refl
-    (λ e. sym c.contains.ensures ∙ e) c.one.ensures.bytes c.one.ensures.caseless refl
+    let ranges = c.ranges-ranges.ensures.ranges in
+    letter_facts (in_ranges c.args.class.now) letter true (subst (λ (rs : List Range). IsOneLetter rs letter) c.ranges-ranges.ensures.ranges c.in-Some.ensures) _ refl refl
+    (λ d lt e. c.of-ascii.ensures d lt (subst (λ (rs : List Range). in_ranges rs d ≡ true) (sym ranges) e)) c.one-text.ensures.bytes c.one-text.ensures.caseless refl refl
 
 pub returns : goal.returns
 returns c =
-    let ranges = c.ranges-3.ensures.ranges in
+    let ranges = c.ranges-ranges.ensures.ranges in
     elim c.if-is_ascii.branch [
       | then-is_ascii w ↦
-          ascii_facts (in_ranges c.args.class.now) (λ d e. c.is_ascii.ensures w.if-is_ascii.true d (subst (λ (rs : List Range). in_ranges rs d ≡ true) (sym ranges) e)) _ w.result-is
-          (λ e. sym c.contains-2.ensures ∙ e) c.empty.ensures refl refl
+          ascii_facts (in_ranges c.args.class.now) (λ d e. c.is_ascii.ensures w.if-is_ascii.true d (subst (λ (rs : List Range). in_ranges rs d ≡ true) (sym ranges) e)) _ w.result-is refl
+          (λ d lt e. c.of-ascii.ensures d lt (subst (λ (rs : List Range). in_ranges rs d ≡ true) (sym ranges) e)) c.empty.ensures refl c.empty-2.ensures refl
       | else-is_ascii w ↦
-          character_facts (in_ranges c.args.class.now) _ w.result-is (λ e. sym c.contains-2.ensures ∙ e) c.empty.ensures refl refl
+          character_facts (in_ranges c.args.class.now) _ w.result-is refl (λ d lt e. c.of-ascii.ensures d lt (subst (λ (rs : List Range). in_ranges rs d ≡ true) (sym ranges) e)) c.empty.ensures refl c.empty-2.ensures refl
     ]

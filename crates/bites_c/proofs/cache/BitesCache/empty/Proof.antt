@@ -1,30 +1,8 @@
 -- `empty` owns nothing.
-use Rattle.std.proofs.Common.{lit<, ◌≡◌, List, [], ◌∷◌, ◌++◌, refl, sym, subst}
-use mathlib.Core.Bool.{true, ◌&&◌}
-use lib.Dec.{T}
-use mir.Val.{Val, has_ty, WT}
-use base.Logic.{SProp, ent, emp, id⊢}
-use prog.Wp.{WpFn}
-use types.Kit.{‵, raw, ◌⊛◌, ◌$◌, ◌∵◌, !, qed, by, move, keep, split, fsplit, fjoin, feq_i, suffices, use0}
-use types.Run.{lit, no_more, and_then, returns, enter}
-use types.ByLocal.{alloc_all, pass_all, free_all, look_at, get, sets}
-use types.Part.{agg}
-use contract.Monad.{fact, fact_i}
-use contract.Running.{tables}
-use denote.RattleType.{owns}
-use denote.Signature.{types_at, plain}
-use denote.RawPtr.{Ptr, null_ptr, ptr_val}
-use denote.Steps.{nothing}
-use denote.Param.{layout}
-use denote.Triple.Entry.{alive}
-use denote.Triple.Walked.{Stays, stay_dropped, walk_of}
-use Rattle.std.proofs.alloc.Calls.{Goes-blank, handle_tells}
-use Rattle.std.proofs.ResultValues.{and_tt}
-use Rattle.std.proofs.raw_atomic.Walks.{proved_at, leaves}
-use Rattle.std.specs.declared.option.Option.TheVariants.{None}
-use Rattle.std.specs.contracts.alloc.Global.{the_row as Z}
+use Rattle.bites_c.proofs.Walks.{lit<, ◌≡◌, List, [], ◌∷◌, ◌++◌, refl, sym, subst, true, ◌&&◌, T, Val, has_ty, WT, SProp, ent, emp, id⊢, WpFn, ‵, raw, ◌⊛◌, ◌$◌, ◌∵◌, !, qed, by, move, keep, split, fsplit, fjoin, feq_i, suffices, use0, lit, no_more, and_then, returns, enter, alloc_all, pass_all, free_all, look_at, get, sets, agg, fact, fact_i, tables, owns, types_at, plain, Ptr, null_ptr, ptr_val, nothing, layout, alive, Stays, stay_dropped, walk_of, Goes-blank, handle_tells, and_tt, proved_at, leaves, None, Z}
 use Rattle.bites_c.proofs.Values.{al, both}
-use Rattle.bites_c.proofs.CacheHandles.{cache_in}
+use Rattle.bites_c.proofs.Handles.{handle_in}
+use Rattle.bites_c.specs.contracts.room.Room as room
 use Rattle.bites_c.specs.contracts.cache.BitesCache.empty.{ended, clauses}
 use Rattle.bites_c.specs.contracts.cache.BitesCache.empty.Key.{name as #self}
 use Rattle.bites_c.proofs.cache.BitesCache.empty.Statement.{statement}
@@ -43,6 +21,6 @@ empty_spec 𝓤 𝓛 𝓜 𝓡 wired =
     enter ! 𝓣.C 𝓣.Λ fn (h ∷ []) Post $ alloc_all ! (λ l. pass_all ! refl (fits, tt) $
     sets ! (agg ! (and_then ! (lit ! tt) (and_then ! (get ! refl) (no_more !)))) refl typed $
     feq_i ! Ptr null_ptr null_ptr refl $
-    cache_in ! null_ptr h a None $
+    handle_in room.the_row ! null_ptr h a None $
     use0 𝓛 (raw (fact 𝓤 (None ≡ None))) (fact_i 𝓤 (None ≡ None) (emp 𝓤) refl) $ nothing ! $ nothing ! $ fjoin ! $
     returns ! (look_at ! 0 refl) $ free_all ! refl $ keep ! (4 ∷ 0 ∷ 2 ∷ 1 ∷ []) $ by ! (leaves 𝓛 En hs c z w (record { at = null_ptr; alloc = a; room = None }) (tt, tt) (tt, tt)))))

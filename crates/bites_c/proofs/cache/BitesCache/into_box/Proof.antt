@@ -1,50 +1,14 @@
 -- `into_box` tests the pointer, and makes the box of it.
-use Rattle.std.proofs.Common.{lit<, ◌≡◌, List, [], ◌∷◌, ◌++◌, refl, sym, ap, ◌∙◌, subst}
-use mathlib.Core.Bool.{true, ◌&&◌}
-use lib.Dec.{T}
-use mir.Raw.{raw as bare}
-use mir.Val.{Val, vptr, vcons, vnil, has_ty, WT}
-use base.Fraction.{full_share}
-use base.Logic.{ent, emp, id⊢}
-use prog.Wp.{WpFn}
-use types.Kit.{‵, raw, ◌⊛◌, some, later, at_ret, ◌$◌, ◌∵◌, !, qed, by, move, keep, split, fsplit, fjoin, feq_i, suffices, use0, use1, await}
-use types.Match.{live}
-use types.Run.{stop, fld, lit, of_opd, bin, no_more, and_then, first, branches, blocks, skips, exec, returns, returns_within, enter}
-use types.ByLocal.{alloc_all, pass_all, free_all, look_at, get, get_in, sets, lands_last, env}
-use types.Part.{agg, sub, whole}
-use contract.Monad.{fact, fact_i}
-use contract.Running.{tables, tables_of}
-use denote.Exit.{no}
-use denote.RattleType.{RattleType, owns}
-use denote.RawPtr.{block_ptr, null_ptr, ptr_val, tests_null}
-use denote.Signature.{Slot, plain, type_at, types_at}
-use denote.Steps.{nothing}
-use denote.Param.{layout}
-use denote.Param.Laws.{arg_laws}
-use denote.Param.NoDrop.{glues}
-use denote.Triple.Entry.{alive}
-use denote.Triple.Clauses.{Lasts, lasts}
-use denote.Triple.Spec.{triple_of}
-use denote.Triple.Call.{calls_at_last}
-use denote.Triple.Table.{framed}
-use denote.Triple.Walked.{Stays, stay_dropped, walk_of}
-use Rattle.std.proofs.ResultValues.{and_tt}
-use Rattle.std.proofs.cell.Inside.{Good}
-use Rattle.std.proofs.option.Made.{Some-of, none_of}
-use Rattle.std.proofs.alloc.Calls.{Goes-blank}
-use Rattle.std.proofs.alloc.Shapes.{after}
-use Rattle.std.proofs.raw_atomic.Walks.{proved_at, leaves}
+use Rattle.bites_c.proofs.Walks.{lit<, ◌≡◌, List, [], ◌∷◌, ◌++◌, refl, sym, ap, ◌∙◌, subst, true, ◌&&◌, T, bare, Val, vptr, vcons, vnil, has_ty, WT, full_share, ent, emp, id⊢, WpFn, ‵, raw, ◌⊛◌, some, later, at_ret, ◌$◌, ◌∵◌, !, qed, by, move, keep, split, fsplit, fjoin, feq_i, suffices, use0, use1, await, live, stop, fld, lit, of_opd, bin, no_more, and_then, first, branches, blocks, skips, exec, returns, returns_within, enter, alloc_all, pass_all, free_all, look_at, get, get_in, sets, lands_last, env, agg, sub, whole, fact, fact_i, tables, tables_of, no, RattleType, owns, block_ptr, null_ptr, ptr_val, tests_null, Slot, plain, type_at, types_at, nothing, layout, arg_laws, glues, alive, Lasts, lasts, triple_of, calls_at_last, framed, Stays, stay_dropped, walk_of, and_tt, Good, Some-of, none_of, Goes-blank, after, proved_at, leaves, passed, ghosts, dict, None, Some}
 use Rattle.std.proofs.BoxSteps.Form as box
-use Rattle.std.proofs.impls.GlobalAllocator.TheImpl.Met.{passed}
-use Rattle.std.specs.contracts.impls.GlobalAllocator.TheImpl.{ghosts, dict}
 use Rattle.std.specs.contracts.boxed.Box.from_raw as callee
 use Rattle.std.proofs.boxed.Box.from_raw.Met.{met}
-use Rattle.std.specs.declared.option.Option.TheVariants.{None, Some}
 use Rattle.bites_c.specs.contracts.room.Room as room
 use Rattle.bites_c.proofs.room.Room.TheLaws as room_laws
 use Rattle.bites_c.proofs.Destruct++none.drop.Code as none
 use Rattle.bites_c.proofs.Values.{as_passed, Z, Z_laws, E, both, pair_good, no_drop, tokens, whole_out, with_types}
-use Rattle.bites_c.proofs.CacheHandles.{B, cache_out, either_out}
+use Rattle.bites_c.proofs.Handles.{handle_out, either_out}
+use Rattle.bites_c.specs.contracts.cache.BitesCache.{the_row as B}
 use Rattle.bites_c.specs.contracts.cache.BitesCache.into_box.{ended, clauses}
 use Rattle.bites_c.specs.contracts.cache.BitesCache.into_box.Key.{name as #self}
 use Rattle.bites_c.proofs.cache.BitesCache.into_box.Statement.{statement}
@@ -68,7 +32,7 @@ into_box_spec 𝓤 𝓛 𝓜 𝓡 wired =
     proved_at 𝓛 ended hs c 𝓜 𝓡 (Goes-blank 𝓛 0 taken ended.kept.0 (λ κs x f. tt), tt) #self fn (code.unfolded 𝓤 𝓛.H 𝓜 𝓡 wired) (λ z are.
     let κs = z.0.0 in let d = z.0.3.0 in let a = d.alloc in
     qed 𝓛 ((raw (alive 𝓛 ended.signature κs z.0.1) ⊛ ‵ (owns (types_at ended.signature.params κs) z.0.3 z.0.4)) ∷ raw ((c κs z.0.3).requires z.1) ∷ []) ∵
-    split ! $ move ! (1 ∷ []) $ fsplit ! $ cache_out ! d z.0.4.0 (λ h ws fits. either_out ! a d.at d.room
+    split ! $ move ! (1 ∷ []) $ fsplit ! $ handle_out room.the_row ! d.at a d.room z.0.4.0 (λ h ws fits. either_out room.the_row ! a d.at d.room
     (λ is at_null.
     let w : Val = both (ptr_val null_ptr) h in
     let typed : T (has_ty (layout Z) h && true) × WT w = (and_tt (has_ty (layout Z) h) fits.0, (record { fits = lit< tt }, (fits.1, tt))) in

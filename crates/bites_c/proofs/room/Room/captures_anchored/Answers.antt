@@ -1,14 +1,13 @@
 use Rattle.std.proofs.Common.{◌≡◌, ◌/◌, length, sym, ap, ◌∙◌, arith}
 use Rattle.bites_spec.proofs.utf8.StartLemmas.{alone_is_start}
-use Rattle.bites_spec.specs.Regex.{slots_at}
 use Rattle.bites_spec.specs.Slots.{span_of_run}
 use Rattle.bites_spec.specs.Captured.{excerpt}
 use Rattle.bites_spec.specs.Run.{slots}
-use Rattle.bites_spec.specs.Regex.{run_at}
+use Rattle.bites_spec.specs.Regex.{run_at, slots_at}
 use Rattle.bites_bytes.specs.Matched.{excerpt_of}
-use Rattle.bites_spec.specs.Counts.{Room, Fit, fit_of}
+use Rattle.bites_spec.specs.Counts.{Room, Fit}
 use Rattle.bites_spec.specs.Utf8.{start_alone}
-use Rattle.bites_c.proofs.SlotsLemmas.{read_len, some_slots, found_put}
+use Rattle.bites_c.proofs.SlotsLemmas.{room_len, some_slots, found_put}
 use Rattle.bites_c.proofs.room.Room.captures_anchored.Goals as goal
 
 pub returns-in_default-clause-on_tree : goal.returns-in_default-clause-on_tree
@@ -19,32 +18,26 @@ returns-in_default-clause-on_tree c =
 pub put_groups-requires : goal.put_groups-requires
 put_groups-requires c =
     let r = c.args.regex.now in let read = c.captures_read_anchored_at_with in
-    let fits : c.self.inside.cache.fits ≡ fit_of c.args.regex.now.program = ap (λ (v : Room). v.fits) c.self.view_is ∙ c.requires.fits in
-    let len : length c.self.inside.locations ≡ c.args.regex.now.program.slots = c.self.invariant ∙ ap (λ (f : Fit). f.slots) fits in
-    let kept : length c.captures_read_anchored_at_with.new.locations ≡ c.args.regex.now.program.slots =
-    read_len r c.as_str-pattern.ensures.compiled c.slots_are_groups.ensures c.args.haystack.now c.args.start _
-    (alone_is_start c.args.haystack.now c.args.start) c.self.inside.locations read.new.locations len read.ensures.read.groups in
+    let kept : length read.new.locations ≡ r.program.slots =
+    room_len r c.as_str-pattern.ensures.compiled c.slots_are_groups.ensures c.args.haystack.now c.args.start _
+    (alone_is_start c.args.haystack.now c.args.start) _ _ c.self.inside.locations read.new.locations c.self.view_is c.requires.fits c.self.invariant read.ensures.read.groups in
     omega (arith, kept, c.as_str-pattern.ensures.compiled.slots, c.requires.wide)
 
 pub invariant_of-self-2 : goal.invariant_of-self-2
 invariant_of-self-2 c =
     let r = c.args.regex.now in let read = c.captures_read_anchored_at_with in
-    let fits : c.self.inside.cache.fits ≡ fit_of c.args.regex.now.program = ap (λ (v : Room). v.fits) c.self.view_is ∙ c.requires.fits in
-    let len : length c.self.inside.locations ≡ c.args.regex.now.program.slots = c.self.invariant ∙ ap (λ (f : Fit). f.slots) fits in
-    let kept : length c.captures_read_anchored_at_with.new.locations ≡ c.args.regex.now.program.slots =
-    read_len r c.as_str-pattern.ensures.compiled c.slots_are_groups.ensures c.args.haystack.now c.args.start _
-    (alone_is_start c.args.haystack.now c.args.start) c.self.inside.locations read.new.locations len read.ensures.read.groups in
-    kept ∙ sym (ap (λ (f : Fit). f.slots) (read.ensures.searched.fits ∙ fits))
+    let kept : length read.new.locations ≡ r.program.slots =
+    room_len r c.as_str-pattern.ensures.compiled c.slots_are_groups.ensures c.args.haystack.now c.args.start _
+    (alone_is_start c.args.haystack.now c.args.start) _ _ c.self.inside.locations read.new.locations c.self.view_is c.requires.fits c.self.invariant read.ensures.read.groups in
+    kept ∙ sym (ap (λ (f : Fit). f.slots) (read.ensures.searched.fits ∙ ap (λ (v : Room). v.fits) c.self.view_is ∙ c.requires.fits))
 
 pub returns-clause-put : goal.returns-clause-put
 returns-clause-put c =
     let r = c.args.regex.now in let read = c.captures_read_anchored_at_with in
-    let fits : c.self.inside.cache.fits ≡ fit_of c.args.regex.now.program = ap (λ (v : Room). v.fits) c.self.view_is ∙ c.requires.fits in
-    let len : length c.self.inside.locations ≡ c.args.regex.now.program.slots = c.self.invariant ∙ ap (λ (f : Fit). f.slots) fits in
-    let kept : length c.captures_read_anchored_at_with.new.locations ≡ c.args.regex.now.program.slots =
-    read_len r c.as_str-pattern.ensures.compiled c.slots_are_groups.ensures c.args.haystack.now c.args.start _
-    (alone_is_start c.args.haystack.now c.args.start) c.self.inside.locations read.new.locations len read.ensures.read.groups in
-    let half : length c.captures_read_anchored_at_with.new.locations / 2 ≡ length c.args.regex.now.names = omega (arith, kept, c.as_str-pattern.ensures.compiled.slots) in
+    let kept : length read.new.locations ≡ r.program.slots =
+    room_len r c.as_str-pattern.ensures.compiled c.slots_are_groups.ensures c.args.haystack.now c.args.start _
+    (alone_is_start c.args.haystack.now c.args.start) _ _ c.self.inside.locations read.new.locations c.self.view_is c.requires.fits c.self.invariant read.ensures.read.groups in
+    let half : length read.new.locations / 2 ≡ length r.names = omega (arith, kept, c.as_str-pattern.ensures.compiled.slots) in
     let some = some_slots c.in-Some.field-0 excerpt_of (excerpt c.args.haystack.now) span_of_run (slots r.program) read.result (run_at r c.args.haystack.now (start_alone c.args.haystack.now c.args.start)) c.in-Some.is read.ensures.read.found.span in
     found_put (slots_at r c.args.haystack.now (start_alone c.args.haystack.now c.args.start)) read.new.locations c.self.inside.locations (length r.names) c.args.groups.now c.put_groups.new.groups some read.ensures.read.groups half c.put_groups.ensures.put
 

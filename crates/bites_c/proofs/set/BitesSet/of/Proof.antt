@@ -1,44 +1,10 @@
 -- `of` takes the box apart and keeps its pointer.
-use Rattle.std.proofs.Common.{◌≡◌, List, [], ◌∷◌, ◌++◌, refl, sym, subst}
-use mir.Syntax.{Dict, impl, tnil, dnil}
-use mir.Val.{Val, vptr}
-use base.Fraction.{full_share}
-use base.Logic.{ent, emp, id⊢}
-use prog.Wp.{WpFn}
-use types.Kit.{‵, raw, ◌⊛◌, some, later, ◌$◌, ◌∵◌, !, qed, by, move, keep, split, fsplit, fjoin, suffices, use0, use1, await}
-use types.Run.{stop, fld, of_opd, no_more, and_then, returns, enter}
-use types.ByLocal.{alloc_all, pass_all, free_all, look_at, get, get_in, sets, lands_as}
-use types.Part.{agg, sub, whole}
-use contract.Monad.{fact, fact_i}
-use contract.Running.{tables, tables_of}
-use denote.RattleType.{RattleType, owns}
-use denote.Builtin.{RawPtr}
-use denote.RawPtr.{Ptr, block_ptr}
-use denote.Signature.{Slot, plain, types_at}
-use denote.Steps.{nothing}
-use mir.Raw.{raw as bare}
-use denote.Exit.{no}
-use denote.Param.{layout}
-use denote.Param.Laws.{arg_laws}
-use denote.Param.NoDrop.{glues}
-use denote.Struct.Tuple.{Tuple}
-use denote.Triple.Entry.{alive}
-use denote.Triple.Clauses.{Lasts, lasts}
-use denote.Triple.Spec.{triple_of}
-use denote.Triple.Call.{calls_at}
-use denote.Triple.Table.{framed}
-use denote.Triple.Walked.{Stays, stay_dropped, walk_of}
-use Rattle.std.proofs.alloc.Calls.{Goes-blank}
-use Rattle.std.proofs.raw_atomic.Walks.{proved_at, leaves}
+use Rattle.bites_c.proofs.Walks.{◌≡◌, List, [], ◌∷◌, ◌++◌, refl, sym, subst, Dict, impl, tnil, dnil, Val, vptr, full_share, ent, emp, id⊢, WpFn, ‵, raw, ◌⊛◌, some, later, ◌$◌, ◌∵◌, !, qed, by, move, keep, split, fsplit, fjoin, suffices, use0, use1, await, stop, fld, of_opd, no_more, and_then, returns, enter, alloc_all, pass_all, free_all, look_at, get, get_in, sets, lands_as, agg, sub, whole, fact, fact_i, tables, tables_of, RattleType, owns, RawPtr, Ptr, block_ptr, Slot, plain, types_at, nothing, bare, no, layout, arg_laws, glues, Tuple, alive, Lasts, lasts, triple_of, calls_at, framed, Stays, stay_dropped, walk_of, Goes-blank, proved_at, leaves, box_out, box_in, passed, ghosts, dict, Some}
 use Rattle.std.proofs.BoxSteps.Form as box
-use Rattle.std.proofs.BoxSteps.Steps.{box_out, box_in}
-use Rattle.std.proofs.impls.GlobalAllocator.TheImpl.Met.{passed}
-use Rattle.std.specs.contracts.impls.GlobalAllocator.TheImpl.{ghosts, dict}
 use Rattle.std.specs.contracts.boxed.Box.into_raw_with_allocator as callee
 use Rattle.std.proofs.boxed.Box.into_raw_with_allocator.Met.{met}
 use Rattle.std.specs.contracts.alloc.Global as heap
 use Rattle.std.specs.contracts.boxed.Box as boxes
-use Rattle.std.specs.declared.option.Option.TheVariants.{Some}
 use Rattle.bites_c.specs.contracts.held_set.HeldSet as held
 use Rattle.bites_c.proofs.held_set.HeldSet.TheLaws as held_laws
 use Rattle.bites_c.proofs.Destruct++none.drop.Code as none
@@ -48,7 +14,7 @@ use Rattle.bites_c.proofs.bites_c++held_set++HeldSet+Destruct.drop.Symbol as fre
 use Rattle.bites_c.specs.Holding.{boxed}
 use Rattle.bites_c.proofs.LetGo.{lets_go}
 use Rattle.bites_c.proofs.Values.{as_passed, Z, Z_laws, E, both, pair_good, no_drop, tokens, parts_out, with_types}
-use Rattle.bites_c.proofs.SetHandles.{set_in}
+use Rattle.bites_c.proofs.Handles.{handle_in}
 use Rattle.bites_c.specs.contracts.set.BitesSet.of.{ended, clauses}
 use Rattle.bites_c.specs.contracts.set.BitesSet.of.Key.{name as #self}
 use Rattle.bites_c.proofs.set.BitesSet.of.Statement.{statement}
@@ -98,7 +64,7 @@ of_spec 𝓤 𝓛 𝓜 𝓡 wired =
     sets ! (of_opd ! (get_in ! (fld ! refl (stop !)) (sub ! 1 refl (whole !)))) refl fits' $
     sets ! (of_opd ! (get ! refl)) refl (tt, tt) $
     sets ! (agg ! (and_then ! (get ! refl) (and_then ! (get ! refl) (no_more !)))) refl (pair_good b' o' h' fits') $
-    set_in ! (block_ptr b' o') h' v.alloc (Some v.value) $
+    handle_in held.the_row ! (block_ptr b' o') h' v.alloc (Some v.value) $
     use0 𝓛 (raw (fact 𝓤 (Some v.value ≡ Some v.value))) (fact_i 𝓤 (Some v.value ≡ Some v.value) (emp 𝓤) refl) $ nothing ! $ nothing ! $ fjoin ! $
     returns ! (look_at ! 0 refl) $ free_all ! refl $
     keep ! (4 ∷ 0 ∷ 2 ∷ 1 ∷ []) $

@@ -5,8 +5,8 @@ use Rattle.bites_literals.proofs.facts.Facts.repeated.Goals as goal
 
 pub returns-then-min-eq0 : goal.returns-then-min-eq0
 returns-then-min-eq0 c t greedy facts =
-    some_turns (λ hay i j. Matches hay t i j) c.args.self.now facts c.args.min c.args.max _ c.product-most.ensures refl c.empty.ensures refl refl
+    some_turns (λ hay i j. Matches hay t i j) c.args.self.now facts c.args.min c.args.max _ c.product-most.ensures refl refl c.empty.ensures refl c.empty-then-min-eq0.ensures refl
 
 pub returns : goal.returns
 returns c t greedy facts =
-    turns (λ hay i j. Matches hay t i j) c.args.self.now facts c.args.min c.args.max _ (omega arith) c.product-most.ensures refl refl refl refl
+    turns (λ hay i j. Matches hay t i j) c.args.self.now facts c.args.min c.args.max _ (omega arith) c.product-most.ensures refl refl refl refl refl refl

@@ -3,7 +3,7 @@ use Rattle.std.specs.Prelude.{chars, string_bytes}
 use Rattle.bites_spec.specs.Contents.{Contents}
 use Rattle.bites_spec.specs.Grammar.{Reading}
 use Rattle.bites_spec.specs.Measure.{HasItsGroups, TreeLimitsWith, groups_opened}
-use Rattle.bites_spec.specs.Regex.{Regex, IsCompiled, with_prefilter, with_table}
+use Rattle.bites_spec.specs.Regex.{Regex, IsCompiled, with_table}
 use Rattle.bites_spec.specs.Tree.{Tree}
 use Rattle.bites_spec.specs.Settings.{Settings, Accepts}
 use Rattle.bites_spec.proofs.regex.KeptLemmas.{opened_has_groups}
@@ -68,6 +68,6 @@ returns-clause-accepted c =
     let Within : Settings → Type 0 = λ s. TreeLimitsWith s.size_limit (chosen s.keep_dropped_groups groups t) t in
     let Accepted : Tree → Type 0 = λ u. Accepts c.args.self u in
     let made = c.with_table.ensures.same.1 ∙ ap (with_table c.with_table.ensures.same.0) c.in_ok-regex.ensures.made in
-    let same : c.with_prefilter.result.tree ≡ t = ap (λ (r : Regex). r.tree) (c.with_prefilter.ensures ∙ ap (with_prefilter x.prefilter) made) in
+    let same : c.with_table.result.tree ≡ t = ap (λ (r : Regex). r.tree) made in
     subst Accepted (sym same)
     (accepted_of c.args.self t groups read (c.requires.groups read.reading) (subst Within c.self.view_is c.in_ok-program.ensures.limits))

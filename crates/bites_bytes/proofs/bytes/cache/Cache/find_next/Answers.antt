@@ -1,4 +1,4 @@
-use Rattle.std.proofs.Common.{◌≡◌, ◌∙◌, true, Some, ap, sym, subst, length, option_map}
+use Rattle.std.proofs.Common.{◌∙◌, true, Some, ap, sym, subst, length, option_map}
 use Rattle.std.specs.Prelude.{unwrap_or}
 use Rattle.bites_spec.specs.Utf8.{places}
 use Rattle.bites_spec.specs.Run.{Answered}

@@ -4,4 +4,4 @@ use Rattle.bites_bytes.proofs.SettingsLemmas.{names_are_kept}
 use Rattle.bites_bytes.proofs.bytes.regex.Compiled.capture_names.Goals as goal
 
 pub returns-clause-kept : goal.returns-clause-kept
-returns-clause-kept c = names_are_kept c.args.self.now (subst IsCompiled c.self.view_is c.self.invariant.0)
+returns-clause-kept c = names_are_kept c.args.self.now (subst IsCompiled c.self.view_is c.self.invariant)

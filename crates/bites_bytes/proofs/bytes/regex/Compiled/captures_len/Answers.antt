@@ -5,8 +5,8 @@ use Rattle.bites_bytes.proofs.bytes.regex.Compiled.captures_len.Goals as goal
 
 pub returns-clause-left : goal.returns-clause-left
 returns-clause-left c = λ off.
-    let is : IsCompiled c.args.self.now = subst IsCompiled c.self.view_is c.self.invariant.0 in
+    let is : IsCompiled c.args.self.now = subst IsCompiled c.self.view_is c.self.invariant in
     omega (arith, left_captures c.args.self.now is off, is.slots, c.slots.ensures, ap (λ (r : Regex). r.program.slots) c.self.view_is)
 
 pub returns-clause-kept : goal.returns-clause-kept
-returns-clause-kept c = names_are_kept c.args.self.now (subst IsCompiled c.self.view_is c.self.invariant.0)
+returns-clause-kept c = names_are_kept c.args.self.now (subst IsCompiled c.self.view_is c.self.invariant)

@@ -1,7 +1,7 @@
 use Rattle.std.proofs.Common.{◌≡◌, length, string_bytes}
 use Rattle.bites_bytes.specs.ReplaceLimit.{taken}
 use Rattle.regex_bites.specs.ReplacedText.{matches_after}
-use Rattle.regex_bites.proofs.ReplacingLemmas.{IsOn, GivesText, NoAnswers, span_of, to_replace}
+use Rattle.regex_bites.proofs.ReplacingLemmas.{IsOn, GivesText, NoAnswers, to_replace}
 use Rattle.regex_bites.proofs.string.regex.Regex.replace_by_text.Given as goal
 
 abbrev pub invariant-loop-found : goal.invariant-loop-found

@@ -1,5 +1,5 @@
-use Rattle.std.proofs.Common.{◌∙◌, arith}
-use Rattle.regex_bites.proofs.CountLemmas.{no_pieces, length-pieces}
+use Rattle.std.proofs.Common.{arith}
+use Rattle.regex_bites.proofs.CountLemmas.{length-pieces}
 use Rattle.regex_bites.proofs.string.split.Split.count.Goals as goal
 
 pub overflow_add-result : goal.overflow_add-result

@@ -1,0 +1,30 @@
+-- What a trace of a search says.
+use Rattle.std.specs.Prelude.{◌≡◌, ℕ, ◌≤◌, true, false, List, [], ◌∷◌, length, reverse, replicate, Option, None}
+use Rattle.bites_spec.specs.Regex.{Regex}
+use Rattle.bites_spec.specs.Counts.{Record}
+use Rattle.bites_machine.specs.Sweep.{SearchResult}
+use Rattle.bites_table.specs.Packed.{Packed, IsTableOf}
+use Rattle.bites_table.specs.Standing.{Asked}
+use Rattle.bites_table.specs.Trace.{LeadTo}
+use Rattle.bites_table.specs.declared.trace.How.TheVariants.{Walked}
+use Rattle.bites_table.specs.declared.trace.TracedSearch.{TracedSearch}
+use Rattle.bites_bytes.specs.Calls.{BeginsAt}
+
+-- a search for all slots of the regex from a place on, by a table
+abbrev pub asked_by : Regex → List ℕ → ℕ → Packed → Asked
+asked_by r hay place x = record {
+  program = r.program;
+  table = x;
+  input = record { hay = hay; start = place; width = r.program.slots; anchored = false; earliest = false };
+  slots = replicate r.program.slots None;
+}
+
+-- The regex explored from such a place on, and the machine did this search. Its stretches lead on from there by a table of the program,
+-- or are one that is walked.
+pub record IsTraced (r : Regex) (hay : List ℕ) (start : ℕ) (t : TracedSearch) : Type 0 where
+  pub place : ℕ
+  pub begins : BeginsAt r hay start place
+  pub searched : place ≤ length hay → (slots : List (Option ℕ)) × (walked : Record)
+      × SearchResult r.program hay r.leftmost_longest false false place t.is_found (replicate r.program.slots None) slots walked
+  pub lead : r.has_table ≡ true → (x : Packed) × IsTableOf r.program x × (end : ℕ) × LeadTo (asked_by r hay place x) (reverse t.stretches.items) end
+  pub walked : r.has_table ≡ false → t.stretches.items ≡ record { from = place; how = Walked } ∷ []

@@ -1,0 +1,74 @@
+//! Sets of bytes of ASCII.
+
+ghost use Rattle.std.specs.Prelude.{◌≡◌, ℕ, ◌⊎◌, ◌<◌, ◌≤◌, true, IsTrue};
+ghost use Rattle.bites_spec.specs.Range.{in_ranges};
+ghost use Rattle.bites_literals.specs.Ascii.{Has};
+
+/// A set of bytes of ASCII: one bit for each.
+#[derive(Clone, Copy, Drop)]
+pub(crate) struct AsciiSet {
+    bits: u128,
+}
+
+impl AsciiSet {
+    /// Returns the empty set.
+    pub(crate) fn none() -> AsciiSet {
+        AsciiSet { bits: 0 }
+    }
+
+    /// Returns the set of one byte.
+    pub(crate) fn of_byte(byte: u8) -> AsciiSet
+        requires { byte < 128 }
+        ensures { Has result byte }
+    {
+        AsciiSet { bits: 1 << byte }
+    }
+
+    /// Returns a set that has all characters of the ranges that are ASCII.
+    pub(crate) fn of(ranges: &[(char, char)]) -> AsciiSet
+        ensures { (c : ℕ) → c < 128 → in_ranges ranges.now c ≡ true → Has result c }
+    {
+        let mut set = AsciiSet::none();
+        for range in ranges {
+            set = set.union(AsciiSet::range(range.0, range.1));
+        }
+        set
+    }
+
+    /// Returns a set that has all characters from the first to the last that are ASCII.
+    fn range(first: char, last: char) -> AsciiSet
+        ensures { (c : ℕ) → c < 128 → first ≤ c → c ≤ last → Has result c }
+    {
+        let (first, last) = (first as u32, (last as u32).min(127));
+        if last < first {
+            return AsciiSet::none();
+        }
+        let up_to_last = u128::MAX >> (127 - last);
+        let before_first = (1 << first) - 1;
+        AsciiSet {
+            bits: up_to_last - before_first,
+        }
+    }
+
+    /// Returns a set that has the bytes of both.
+    pub(crate) fn union(self, other: AsciiSet) -> AsciiSet
+        ensures { (byte : ℕ) → Has self byte ⊎ Has other byte → Has result byte }
+    {
+        AsciiSet {
+            bits: self.bits | other.bits,
+        }
+    }
+
+    /// Returns whether the set has the byte.
+    pub(crate) fn contains(self, byte: u8) -> bool
+        requires { byte < 128 }
+        ensures { Has self byte → IsTrue result }
+    {
+        self.bits >> byte & 1 == 1
+    }
+
+    /// Returns whether the set has all bytes of ASCII.
+    pub(crate) fn is_full(self) -> bool {
+        self.bits == u128::MAX
+    }
+}

@@ -1,0 +1,304 @@
+//! How a search by a table comes over the places of a haystack, for people to look at.
+//!
+//! It goes on by the functions of the search itself, and takes more time and memory.
+
+ghost use Rattle.std.specs.Prelude.{◌≡◌, ◌+◌, ◌*◌, ◌<◌, ◌≤◌, [], List, Option, None, false, length, reverse, IfOk, OnOk, IfSome, ℕ};
+ghost use Rattle.bites_spec.specs.Counts.{HasRoomFor};
+ghost use Rattle.bites_spec.specs.Utf8.{piece};
+ghost use Rattle.bites_machine.specs.Inputs.{is_longest};
+ghost use Rattle.bites_machine.specs.States.{states_of};
+ghost use Rattle.bites_table.specs.Packed.{IsRow, row_of, lists_in};
+ghost use Rattle.bites_table.specs.Standing.{Asked, IsAsked, IsOver};
+ghost use Rattle.bites_table.specs.Steps.{with_spare};
+ghost use Rattle.bites_table.specs.Searches.{asked, IsSame, Held, with_words, IsHeldAt, StandsAt, TurnsTo, StopsSo};
+ghost use Rattle.bites_table.specs.Trace.{ComesTo, Says, LeadTo, LeadSo};
+
+use crate::search::place::piece_at;
+use crate::search::record::{MOST_LEAVES, Search, Standing, Turn};
+use crate::steps::begin_row;
+use crate::table::cell::{UNKNOWN, mask};
+use bites_machine::vm::{self, Resumed};
+use std::alloc::AllocError;
+
+/// How a search comes over places.
+#[derive(Clone, Copy, PartialEq, Eq, Debug, Drop)]
+pub enum How {
+    /// As the Pike VM, which explores the states.
+    Walked,
+    /// By a transition of the table, from the thread list of this number. It comes over one place.
+    Passed { list: usize },
+    /// All at once. Each byte leads the thread list of this number back to itself.
+    Skipped { list: usize },
+}
+
+/// How a search comes over the places from one on, up to where the next stretch begins.
+#[derive(Clone, Copy, PartialEq, Eq, Debug, Drop)]
+pub struct Stretch {
+    /// The first place, in bytes.
+    pub from: usize,
+    pub how: How,
+}
+
+/// A search, and how it came over the places from its start on.
+#[derive(Drop)]
+pub struct TracedSearch {
+    /// Whether a match was found.
+    pub is_found: bool,
+    /// The stretches, in order. Behind a last one that is passed no place is looked at: the search is over, or nothing is
+    /// found any more.
+    pub stretches: Vec<Stretch>,
+}
+
+// Appends a stretch.
+fn push(stretches: &mut Vec<Stretch>, from: usize, how: How) -> Result<(), AllocError>
+    ensures { OnOk result ((s : Asked) (to : ℕ) → LeadTo s (reverse stretches.old.items) from → Says s from how to →
+        LeadTo s (reverse stretches.new.items) to) }
+{
+    stretches.push(Stretch { from, how })?;
+    Ok(())
+}
+
+impl Search<'_> {
+    // Goes on over one place where nothing is to be done but to go on, or to begin a row of two slots.
+    fn pass_one(&mut self, at: Standing, registers: &mut [usize], width: usize) -> Option<Standing>
+        requires stands { (h : Held) × IsHeldAt self.old at h × (h.words ≡ registers.old) × (width ≡ length h.before) }
+        requires room { with_spare * width ≤ length registers.old }
+        ensures stands { IfSome result (λ to. (h : Held) → IsHeldAt self.old at h → h.words ≡ registers.old →
+            width ≡ length h.before → IsHeldAt self.new to (with_words registers.new h)) }
+        ensures onward { IfSome result (λ to. at.place < to.place) }
+        ensures kept { result ≡ None → self.new.counted.walked ≡ self.old.counted.walked }
+        ensures registers { result ≡ None → registers.new ≡ registers.old }
+        ensures same { IsSame self.old self.new }
+    {
+        let haystack = self.input.haystack;
+        if at.place >= haystack.len() {
+            return None;
+        }
+        let class = self.table.class_of_byte(haystack[at.place]);
+        let mask = mask(width);
+        let lent = self.lend(at, class, mask)?;
+        begin_row(registers, width, lent.begins, at.place);
+        Some(Standing {
+            place: at.place + 1,
+            row: lent.next,
+        })
+    }
+
+    // Goes on over one place.
+    fn turn(
+        &mut self,
+        at: Standing,
+        registers: &mut [usize],
+        was_found: bool,
+        slots: &mut [Option<usize>],
+    ) -> Turn
+        ghost before: { List (Option ℕ) }
+        requires asked { IsAsked (asked self.old before) }
+        requires stands { StandsAt self.old before at registers.old was_found slots.old }
+        requires width { length slots.old ≡ length before }
+        requires room { with_spare * length slots.old ≤ length registers.old }
+        ensures turns { TurnsTo self.new before at registers.new was_found slots.new result }
+        ensures same { IsSame self.old self.new }
+    {
+        match self.pass_one(at, registers, slots.len()) {
+            Some(to) => Turn::Goes {
+                to,
+                is_found: was_found,
+            },
+            None => self.step(at, registers, was_found, slots),
+        }
+    }
+
+    // Returns the place behind the one where the search stands.
+    fn next_place(&self, at: Standing) -> usize
+        requires { at.place ≤ length self.now.input.now.haystack.now }
+        ensures { result ≡ at.place + (piece self.now.input.now.haystack.now at.place).len }
+    {
+        at.place + piece_at(self.table, self.input.haystack, at.place).len
+    }
+
+    // Notes that bytes were skipped from a place up to where the search stands, if there are some.
+    fn note_skip(
+        &self,
+        from: usize,
+        to: Standing,
+        stretches: &mut Vec<Stretch>,
+    ) -> Result<(), AllocError>
+        requires onward { from ≤ to.place }
+        requires row { IsRow self.now.table.now to.row }
+        ensures { OnOk result ((s : Asked) → LeadTo s (reverse stretches.old.items) from →
+            ((n : ℕ) → to.row ≡ row_of self.now.table.now n → ComesTo s to.place n) →
+            LeadTo s (reverse stretches.new.items) to.place) }
+    {
+        if from >= to.place {
+            return Ok(());
+        }
+        let list = self.table.number(to.row);
+        push(stretches, from, How::Skipped { list })?;
+        Ok(())
+    }
+
+    // Goes on by the table until the search is over, or to a place whose transition is not known. Notes how it comes over
+    // each place.
+    fn trace_on(
+        &mut self,
+        from: Standing,
+        registers: &mut [usize],
+        was_found: bool,
+        slots: &mut [Option<usize>],
+        stretches: &mut Vec<Stretch>,
+    ) -> Result<(bool, Option<Standing>), AllocError>
+        ghost before: { List (Option ℕ) }
+        requires asked { IsAsked (asked self.old before) }
+        requires stands { StandsAt self.old before from registers.old was_found slots.old }
+        requires width { length slots.old ≡ length before }
+        requires room { with_spare * length slots.old ≤ length registers.old }
+        requires lead { LeadTo (asked self.old before) (reverse stretches.old.items) from.place }
+        ensures stops { IfOk result (λ r. StopsSo self.new before registers.new slots.new r.0 r.1) }
+        ensures lead { IfOk result (λ r. LeadSo (asked self.old before) (reverse stretches.new.items) r.1) }
+        ensures same { IsSame self.old self.new }
+    {
+        let mut at = from;
+        let mut is_found = was_found;
+        'places: loop {
+            let list = self.table.number(at.row);
+            match self.turn(at, registers, is_found, slots) {
+                Turn::Goes {
+                    to,
+                    is_found: found,
+                } => {
+                    push(stretches, at.place, How::Passed { list })?;
+                    let next = self.next_place(at);
+                    self.note_skip(next, to, stretches)?;
+                    at = to;
+                    is_found = found;
+                }
+                Turn::Ends { is_found } => {
+                    push(stretches, at.place, How::Passed { list })?;
+                    return Ok((is_found, None));
+                }
+                Turn::Leaves => return Ok((is_found, Some(at))),
+            }
+        }
+    }
+
+    // Goes on from a thread list, which has this number, as `settle` does. Notes what is skipped.
+    fn trace_settled(
+        &mut self,
+        at: Standing,
+        number: usize,
+        stretches: &mut Vec<Stretch>,
+    ) -> Result<Option<Standing>, AllocError>
+        requires number { at.row ≡ row_of self.old.table.now number }
+        requires within { number < lists_in self.old.table.now }
+        requires stands { (h : Held) × IsHeldAt self.old at h }
+        ensures stops { IfOk result (λ r. (h : Held) → IsHeldAt self.old at h →
+            StopsSo self.new h.before h.words h.slots h.is_found r) }
+        ensures lead { IfOk result (λ r. (h : Held) → IsHeldAt self.old at h →
+            LeadTo (asked self.old h.before) (reverse stretches.old.items) at.place →
+            LeadSo (asked self.old h.before) (reverse stretches.new.items) r) }
+        ensures same { IsSame self.old self.new }
+    {
+        let Some(to) = self.settle(at, number) else {
+            return Ok(None);
+        };
+        self.note_skip(at.place, to, stretches)?;
+        Ok(Some(to))
+    }
+
+    // Goes on as the Pike VM, until the search is over or comes back to the table.
+    fn trace_walked(
+        &mut self,
+        cache: &mut vm::Cache,
+        at: Standing,
+        registers: &[usize],
+        is_found: bool,
+        until_idle: bool,
+        slots: &mut [Option<usize>],
+        stretches: &mut Vec<Stretch>,
+    ) -> Result<(bool, Option<Standing>), AllocError>
+        ghost before: { List (Option ℕ) }
+        requires asked { IsAsked (asked self.old before) }
+        requires stands { StandsAt self.old before at registers.now is_found slots.old }
+        requires width { length slots.old ≡ length before }
+        requires room { with_spare * length slots.old ≤ length registers.now }
+        requires states { states_of self.old.counted.states.now ≡ self.old.program.now.program.states }
+        requires longest { is_longest self.old.input.now.kind ≡ false }
+        requires fits { HasRoomFor cache.old.fits self.old.program.now.program (length slots.old) }
+        requires lead { LeadTo (asked self.old before) (reverse stretches.old.items) at.place }
+        ensures stops { IfOk result (λ r. StopsSo self.new before registers.now slots.new r.0 r.1) }
+        ensures lead { IfOk result (λ r. LeadSo (asked self.old before) (reverse stretches.new.items) r.1) }
+        ensures whole { IfOk result (λ r. until_idle ≡ false → r.1 ≡ None) }
+        ensures same { IsSame self.old self.new }
+        ensures fits { cache.new.fits ≡ cache.old.fits }
+        ensures searches { cache.new.searches ≡ cache.old.searches }
+    {
+        push(stretches, at.place, How::Walked)?;
+        let number = self.table.number(at.row);
+        let from = Resumed {
+            place: at.place,
+            starts: self.starts_at(at.place, is_found),
+            is_found,
+            threads: self.table.threads(number),
+            registers,
+            until_idle,
+        };
+        let first = self.program.start();
+        let stopped = cache.resume(&mut self.counted, first, self.input, &from, slots);
+        let Some(place) = stopped.idle else {
+            return Ok((stopped.is_found, None));
+        };
+        let (at, number) = self.root(place);
+        let to = self.trace_settled(at, number, stretches)?;
+        Ok((stopped.is_found, to))
+    }
+
+    /// Searches, and notes how it comes over the places. Returns whether something was found.
+    pub(crate) fn trace(
+        &mut self,
+        cache: &mut vm::Cache,
+        registers: &mut [usize],
+        slots: &mut [Option<usize>],
+        stretches: &mut Vec<Stretch>,
+    ) -> Result<bool, AllocError>
+        ghost before: { List (Option ℕ) }
+        requires asked { IsAsked (asked self.old before) }
+        requires begun { slots.old ≡ before }
+        requires room { with_spare * length slots.old ≤ length registers.old }
+        requires states { states_of self.old.counted.states.now ≡ self.old.program.now.program.states }
+        requires longest { is_longest self.old.input.now.kind ≡ false }
+        requires fits { HasRoomFor cache.old.fits self.old.program.now.program (length slots.old) }
+        requires visits { self.old.counted.walked.visits ≡ [] }
+        requires looks { self.old.counted.walked.looks ≡ 0 }
+        requires empty { stretches.old.items ≡ [] }
+        ensures over { IfOk result (λ found. IsOver (asked self.new before) found slots.new self.new.counted.walked) }
+        ensures lead { OnOk result (LeadSo (asked self.old before) (reverse stretches.new.items) None) }
+        ensures same { IsSame self.old self.new }
+        ensures fits { cache.new.fits ≡ cache.old.fits }
+        ensures searches { cache.new.searches ≡ cache.old.searches }
+    {
+        let (at, number) = self.root(self.input.start);
+        let begun = self.trace_settled(at, number, stretches)?;
+        let Some(mut at) = begun else {
+            return Ok(false);
+        };
+        let mut is_found = false;
+        let mut leaves = 0;
+        'leaves: loop {
+            let (found, left) = self.trace_on(at, registers, is_found, slots, stretches)?;
+            let Some(place) = left else {
+                return Ok(found);
+            };
+            leaves += 1;
+            let until_idle = leaves < MOST_LEAVES;
+            let (found, back) = self.trace_walked(
+                cache, place, registers, found, until_idle, slots, stretches,
+            )?;
+            let Some(place) = back else {
+                return Ok(found);
+            };
+            at = place;
+            is_found = found;
+        }
+    }
+}

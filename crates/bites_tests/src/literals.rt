@@ -1,0 +1,129 @@
+//! From where a search has to begin, by the literals of its pattern.
+
+use bites_literals::prefilter::{Begin, Prefilter};
+use bites_syntax::parse::{Flags, parse};
+use bites_text::error::Error;
+use std::alloc::Global;
+
+fn prefilter(alloc: Global, pattern: &str) -> Result<Option<Prefilter>, Error> {
+    let tree = parse(alloc, pattern, Flags::default(), 50)?;
+    Ok(Prefilter::of(&tree))
+}
+
+/// Returns from where a search has to begin that may begin at `start`, if there is a prefilter and the start lies in the haystack.
+fn begin_of(alloc: Global, pattern: &str, haystack: &[u8], start: usize) -> Result<Begin, Error> {
+    let found = prefilter(alloc, pattern)?.ok_or(Error::Memory)?;
+    if start > haystack.len() {
+        return Err(Error::Memory);
+    }
+    Ok(found.begin(haystack, start))
+}
+
+/// Each row has a pattern, a haystack, the start of the search, and from where it has to begin. All were worked out by hand.
+#[test]
+fn begins_by_hand(rt: HostRuntime) -> Result<(), Error> {
+    for (pattern, haystack, start, begin) in &[
+        ("harbour", "in the harbour", 0, Begin::From(7)),
+        ("harbour", "in the harbour", 8, Begin::Nowhere),
+        ("(?i)k9", "\u{212A}9 K9", 0, Begin::From(5)),
+        ("[0-9]{4}-x", "abcdef 2010-x", 0, Begin::From(7)),
+        (".-x", "abc-x", 0, Begin::From(0)),
+        ("[a-z]+ing", "going\nto sing", 3, Begin::From(9)),
+        (".+ing", "going\nto sing", 3, Begin::From(6)),
+        ("(?s).+ing", "go\nto sing", 1, Begin::From(1)),
+        (r"\bqu(e|i)z?", "-- quiz", 0, Begin::From(3)),
+        (r"(\w+)@(\w+)", "a b\nc d@e", 2, Begin::From(6)),
+        ("(?:zq){2,}", "zzqzq", 0, Begin::From(1)),
+        ("é+zq", "aéézq", 0, Begin::From(1)),
+    ] {
+        let found = prefilter(rt.alloc(), pattern)?.ok_or(Error::Memory)?;
+        assert_eq!(rt; found.begin(haystack.as_bytes(), *start), *begin);
+    }
+    Ok(())
+}
+
+/// Matches that end at the end of the haystack. Each row is as above.
+#[test]
+fn begins_near_the_end_by_hand(rt: HostRuntime) -> Result<(), Error> {
+    for (pattern, haystack, start, begin) in &[
+        (r"[0-9]{4}\z", "abc 2010", 0, Begin::From(4)),
+        (r"\d{4}$", "abcdefghijklmnopqrstuvwxyz", 0, Begin::From(22)),
+        (
+            "[à-ü]{2}$",
+            "abcdefghijklmnopqrstuvwxyz",
+            0,
+            Begin::From(18),
+        ),
+        ("[a-c]{3}$", "", 0, Begin::From(0)),
+        ("[a-c]{9}$", "abc", 0, Begin::From(0)),
+        ("[a-c]{3}$", "abcabc", 2, Begin::From(3)),
+        ("[a-c]{3}$", "abcabc", 5, Begin::From(5)),
+        ("[a-c]{3}$", "abcabc", 6, Begin::From(6)),
+        ("é$", "aaéé", 0, Begin::From(1)),
+        ("é$", "aaéé", 2, Begin::From(2)),
+        ("[a-b]$|([c-d]e){2}$", "abcdabcd", 0, Begin::From(4)),
+        (r"([a-c]$)\b", "abc", 0, Begin::From(2)),
+        ("[a-z]+$", "one\ntwo", 0, Begin::From(4)),
+        ("[a-z]+$", "one two", 0, Begin::From(4)),
+        ("[a-z]+$", "one two ", 3, Begin::From(8)),
+        ("[a-z]+$", "", 0, Begin::From(0)),
+        (".+$", "one two\nthree four", 0, Begin::From(8)),
+        (r"\s+$", "a b  ", 0, Begin::From(3)),
+        ("[^/]+$", "usr/lib/é", 0, Begin::From(8)),
+        ("[^/]+$", "usr/lib/é", 9, Begin::From(9)),
+        (r"[a-z]+\.(?:com|org)$", "a.com b.org", 0, Begin::From(6)),
+        ("harbour$", "harbour in the harbour", 0, Begin::From(15)),
+        ("harbour$", "in the harbour.", 0, Begin::Nowhere),
+        (r"[a-z]+\.com$", "a.com b.com", 0, Begin::From(6)),
+        (r"[a-z]+\.com$", "a.com b.org", 0, Begin::Nowhere),
+        (r"(?i)\.com$", "a.COM", 0, Begin::From(1)),
+        (r"(?i)\.com$", "a.CO", 0, Begin::Nowhere),
+        (r"\.com$", "a.com", 1, Begin::From(1)),
+        (r"\.com$", "a.com", 3, Begin::Nowhere),
+        (r"\.com$", "", 0, Begin::Nowhere),
+        (".*x+z$", "b xz\nb xxz", 0, Begin::From(5)),
+        (".*x+z$", "b xz\nb yz", 0, Begin::Nowhere),
+        ("(?:xz)*$", "axzxz", 0, Begin::From(1)),
+        ("(?:xz){2,}$", "axzxz", 0, Begin::From(1)),
+        ("(?:xz){2,}$", "axzxy", 0, Begin::Nowhere),
+        ("(?s).+ing$", "go\nsing", 1, Begin::From(1)),
+        ("(?s).+ing$", "sing\ngo", 0, Begin::Nowhere),
+        ("(foo|bar)$", "foobar", 0, Begin::From(3)),
+    ] {
+        let found = begin_of(rt.alloc(), pattern, haystack.as_bytes(), *start)?;
+        assert_eq!(rt; found, *begin);
+    }
+    let found = begin_of(rt.alloc(), "[a-c]$", b"abc\xFF\x80", 0)?;
+    assert_eq!(rt; found, Begin::From(2));
+    let found = begin_of(rt.alloc(), "[a-c]$", b"\xE2\x82", 1)?;
+    assert_eq!(rt; found, Begin::From(1));
+    Ok(())
+}
+
+/// Patterns without a literal that each match holds, or with a common one alone, whose matches do not all end at the end.
+#[test]
+fn has_none(rt: HostRuntime) -> Result<(), Error> {
+    for pattern in &[
+        "",
+        "a|b",
+        "[a-c]+",
+        "(abc)?",
+        "(abc){0,2}",
+        "é",
+        " ",
+        r"^\b$",
+        "^zq",
+        r"(\Azq)x",
+        "(zqa|zqb)",
+        "(?m)[a-c]$",
+        "(?mR)[a-c]$",
+        "$|[a-c]",
+        "[a-c]$|[d-f]",
+        "([a-c]$)?",
+        "(?s).+$",
+        "^[a-c]$",
+    ] {
+        assert!(rt; prefilter(rt.alloc(), pattern)?.is_none());
+    }
+    Ok(())
+}
