@@ -9,6 +9,7 @@ mod folding;
 mod form;
 mod lanes;
 pub mod literal;
+pub mod literal_set;
 mod nibbles;
 mod pair;
 pub mod rank;

@@ -1,9 +1,10 @@
 //! A literal that a haystack is searched for.
 
-ghost use Rattle.std.specs.Prelude.{◌≡◌, ◌≤◌, ◌<◌, length, take};
+ghost use Rattle.std.specs.Prelude.{◌≡◌, ◌↔◌, ◌≤◌, ◌<◌, IsTrue, length, take};
 ghost use Rattle.bites_scan.specs.Literal.{Needle, IsOutcome, folding, needle};
+ghost use Rattle.bites_scan.specs.LiteralSet.{NeedleOccursAt};
 
-use crate::folding::{Caseless, Exact};
+use crate::folding::{Caseless, Exact, Folding};
 use crate::pair::{Pair, rarest_two};
 use std::marker::Model;
 
@@ -85,6 +86,23 @@ impl Literal {
             pair.search::<Caseless>(haystack, from)
         } else {
             pair.search::<Exact>(haystack, from)
+        }
+    }
+
+    /// Returns whether the literal occurs here.
+    pub(crate) fn occurs_at(&self, haystack: &[u8], at: usize) -> bool
+        requires { at ≤ length haystack.now }
+        ensures { IsTrue result ↔ NeedleOccursAt haystack.now at self.now }
+    {
+        let needle = &self.bytes[..self.len];
+        if haystack.len() - at < needle.len() {
+            return false;
+        }
+        let here = &haystack[at..at + needle.len()];
+        if self.caseless {
+            Caseless::are_equal(here, needle)
+        } else {
+            Exact::are_equal(here, needle)
         }
     }
 }

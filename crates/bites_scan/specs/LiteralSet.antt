@@ -1,0 +1,39 @@
+-- Offsets at which one of several literals occurs in a haystack.
+use Rattle.std.specs.Prelude.{ℕ, ◌<◌, ◌≤◌, List, length, Any}
+use Rattle.bites_scan.specs.declared.literal.Outcome.{Outcome}
+use Rattle.bites_scan.specs.declared.literal.Outcome.TheVariants.{Found, Nowhere, Tired}
+use Rattle.bites_scan.specs.Literal.{Needle, OccursAt, folding}
+
+-- a literal occurs here, by its own folding
+abbrev pub NeedleOccursAt : List ℕ → ℕ → Needle → Type 0
+NeedleOccursAt haystack at n = OccursAt (folding n.caseless) haystack n.bytes at
+
+-- one of the literals occurs here
+abbrev pub SomeOccursAt : List Needle → List ℕ → ℕ → Type 0
+SomeOccursAt literals haystack at = Any (NeedleOccursAt haystack at) literals
+
+-- none of them occurs at an offset from `from` up to `end`
+abbrev pub NothingOccurs : List Needle → List ℕ → ℕ → ℕ → Type 0
+NothingOccurs literals haystack from end = (at : ℕ) → from ≤ at → at < end → SomeOccursAt literals haystack at → ⊥
+
+-- `at` is the first offset from `from` on at which one of them occurs
+pub record IsFirstOfSet (literals : List Needle) (haystack : List ℕ) (from at : ℕ) : Type 0 where
+  pub onward : from ≤ at
+  pub occurs : SomeOccursAt literals haystack at
+  pub none_before : NothingOccurs literals haystack from at
+
+-- none of them occurs at an offset from `from` on
+abbrev pub NothingFrom : List Needle → List ℕ → ℕ → Type 0
+NothingFrom literals haystack from = (at : ℕ) → from ≤ at → SomeOccursAt literals haystack at → ⊥
+
+-- a search for them has gone on to `at` without a find
+pub record SetHasPassed (literals : List Needle) (haystack : List ℕ) (from at : ℕ) : Type 0 where
+  pub onward : from < at
+  pub within : at ≤ length haystack
+  pub none_before : NothingOccurs literals haystack from at
+
+-- what a search for these literals returns: the first offset of one of them, if there is one, or an offset that it has come to
+abbrev pub IsSetOutcome : List Needle → List ℕ → ℕ → Outcome → Type 0
+IsSetOutcome literals haystack from (Found at) = IsFirstOfSet literals haystack from at
+IsSetOutcome literals haystack from Nowhere = NothingFrom literals haystack from
+IsSetOutcome literals haystack from (Tired at) = SetHasPassed literals haystack from at
