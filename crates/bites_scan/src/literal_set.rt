@@ -23,7 +23,8 @@ const AHEAD: usize = 2;
 /// How many offsets a step of the wide loop tests.
 const WIDE: usize = 4 * LANES;
 
-/// How many tests may fail at first. Then one more may fail for each 32 bytes that the search goes on.
+/// How many tests may fail at first, be it of an offset or of a literal there. Then one more may fail for each 32 bytes that
+/// the search goes on.
 const PATIENCE: usize = 16;
 
 /// Literals that a haystack is searched for together: at least one, and at most 64.
@@ -46,7 +47,7 @@ impl Model for LiteralSet {
     ghost view = { λ s. s.literals.items };
 }
 
-/// How many tests of a search have failed.
+/// How much of a search was in vain. Only speed depends on it.
 #[derive(Clone, Copy, Drop)]
 struct Patience {
     from: usize,
@@ -54,9 +55,9 @@ struct Patience {
 }
 
 impl Patience {
-    /// Counts a failed test and the literals that were compared for it. Returns whether too many tests have failed.
-    fn is_lost(&mut self, at: usize, compared: u32) -> bool {
-        self.failed = self.failed.saturating_add(1 + compared.min(64) as usize);
+    /// Counts tests that failed. Returns whether they are too many for a search that has come to `at`.
+    fn is_lost(&mut self, at: usize, failed: u32) -> bool {
+        self.failed = self.failed.saturating_add(failed as usize);
         self.failed > (at.saturating_sub(self.from) / 32).saturating_add(PATIENCE)
     }
 }
@@ -86,7 +87,8 @@ impl LiteralSet {
     /// Searches from `from` on, until one of the literals is found or too many offsets only looked like one.
     ///
     /// Vectors look up three bytes at 64 offsets a step. Where all three are in one bucket, the literals with the hash of
-    /// these bytes are compared. Of `n` bytes that the search passes, at most 17 + n / 32 are offsets at which this fails.
+    /// these bytes are compared. Of `n` bytes that the search passes, at most 17 + n / 32 are offsets at which this fails,
+    /// and at most 80 + n / 32 literals are compared in vain.
     pub fn search(&self, haystack: &[u8], from: usize) -> Outcome
         requires { from ≤ length haystack.now }
         ensures { IsSetOutcome self.now haystack.now from result }
@@ -118,7 +120,7 @@ impl LiteralSet {
         ensures { IsSetOutcome self.now haystack.now from result }
     {
         if haystack.len() - from < LANES + AHEAD {
-            return self.search_by_one(haystack, from, start);
+            return self.search_by_one(haystack, from, start, patience);
         }
         let last = haystack.len() - (LANES + AHEAD);
         let mut at = start;
@@ -131,11 +133,17 @@ impl LiteralSet {
                 Outcome::Nowhere => at = step + LANES,
             }
         }
-        self.search_by_one(haystack, from, at)
+        self.search_by_one(haystack, from, at, patience)
     }
 
     /// Goes on with a search, offset by offset.
-    fn search_by_one(&self, haystack: &[u8], from: usize, start: usize) -> Outcome
+    fn search_by_one(
+        &self,
+        haystack: &[u8],
+        from: usize,
+        start: usize,
+        mut patience: Patience,
+    ) -> Outcome
         requires onward { from ≤ start }
         requires within { start ≤ length haystack.now }
         requires none { NothingOccurs self.now haystack.now from start }
@@ -146,6 +154,9 @@ impl LiteralSet {
             let near = self.near(haystack, at);
             if self.one_occurs_at(near, haystack, at) {
                 return Outcome::Found(at);
+            }
+            if at < haystack.len() && patience.is_lost(at, near.count_ones()) {
+                return Outcome::Tired(at + 1);
             }
             at += 1;
         }
@@ -198,7 +209,7 @@ impl LiteralSet {
             if self.one_occurs_at(near, haystack, offset) {
                 return Outcome::Found(offset);
             }
-            if patience.is_lost(offset, near.count_ones()) {
+            if patience.is_lost(offset, near.count_ones().max(1)) {
                 return Outcome::Tired(offset + 1);
             }
             left = without(left, lane);
