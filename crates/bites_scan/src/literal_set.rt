@@ -3,7 +3,7 @@
 ghost use Rattle.std.specs.Prelude.{◌≡◌, ◌↔◌, ◌+◌, ◌≤◌, ◌<◌, ℕ, IfSome, IsSome, IsTrue, length};
 ghost use Rattle.std.specs.Int.{bit_at};
 ghost use Rattle.bites_scan.specs.Known.{AreKnown};
-ghost use Rattle.bites_scan.specs.LiteralSet.{AreNear, IsOutcomeUpTo, IsSetOutcome, Marks, NothingOccurs, SomeOccursAt};
+ghost use Rattle.bites_scan.specs.LiteralSet.{AreCandidates, IsOutcomeUpTo, IsSetOutcome, Marks, NothingOccurs, SomeOccursAt};
 
 use crate::fingerprints::Fingerprints;
 use crate::lanes::{LANES, lowest, without};
@@ -151,11 +151,11 @@ impl LiteralSet {
     {
         let mut at = start;
         'offsets: while at <= haystack.len() {
-            let near = self.near(haystack, at);
-            if self.one_occurs_at(near, haystack, at) {
+            let candidates = self.candidates(haystack, at);
+            if self.one_occurs_at(candidates, haystack, at) {
                 return Outcome::Found(at);
             }
-            if at < haystack.len() && patience.is_lost(at, near.count_ones()) {
+            if at < haystack.len() && patience.is_lost(at, candidates.count_ones()) {
                 return Outcome::Tired(at + 1);
             }
             at += 1;
@@ -181,11 +181,11 @@ impl LiteralSet {
         self.fingerprints.mask_of_64(haystack, at)
     }
 
-    /// Returns a bit for each literal that may occur here.
+    /// Returns the literals that may occur here, as bits.
     #[inline(always)]
-    fn near(&self, haystack: &[u8], at: usize) -> u64
+    fn candidates(&self, haystack: &[u8], at: usize) -> u64
         requires { at ≤ length haystack.now }
-        ensures { AreNear self.now haystack.now at result }
+        ensures { AreCandidates self.now haystack.now at result }
     {
         self.shortlist.at(haystack, at)
     }
@@ -205,11 +205,11 @@ impl LiteralSet {
         'marked: while left != 0 {
             let lane = lowest(left);
             let offset = at + lane;
-            let near = self.near(haystack, offset);
-            if self.one_occurs_at(near, haystack, offset) {
+            let candidates = self.candidates(haystack, offset);
+            if self.one_occurs_at(candidates, haystack, offset) {
                 return Outcome::Found(offset);
             }
-            if patience.is_lost(offset, near.count_ones().max(1)) {
+            if patience.is_lost(offset, candidates.count_ones().max(1)) {
                 return Outcome::Tired(offset + 1);
             }
             left = without(left, lane);
@@ -217,14 +217,14 @@ impl LiteralSet {
         Outcome::Nowhere
     }
 
-    /// Returns whether one of the literals occurs here. Only those whose bit is set are compared.
-    fn one_occurs_at(&self, near: u64, haystack: &[u8], at: usize) -> bool
+    /// Returns whether one of the literals occurs here. Only the candidates are compared.
+    fn one_occurs_at(&self, candidates: u64, haystack: &[u8], at: usize) -> bool
         requires within { at ≤ length haystack.now }
-        requires listed { AreNear self.now haystack.now at near }
+        requires listed { AreCandidates self.now haystack.now at candidates }
         ensures { IsTrue result ↔ SomeOccursAt self.now haystack.now at }
     {
-        let mut left = near;
-        'near: while left != 0 {
+        let mut left = candidates;
+        'candidates: while left != 0 {
             let number = lowest(left);
             if number < self.literals.len() && self.literals[number].occurs_at(haystack, at) {
                 return true;
