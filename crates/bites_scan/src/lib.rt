@@ -5,6 +5,7 @@
 
 mod buckets;
 pub mod byte_set;
+mod choice;
 mod fingerprints;
 mod first_stop;
 mod folding;

@@ -5,6 +5,7 @@ ghost use Rattle.std.specs.Int.{bit_at};
 ghost use Rattle.bites_scan.specs.Known.{AreKnown};
 ghost use Rattle.bites_scan.specs.LiteralSet.{AreCandidates, IsOutcomeUpTo, IsSetOutcome, Marks, NothingOccurs, SomeOccursAt};
 
+use crate::choice::{bucket_of, place_of};
 use crate::fingerprints::Fingerprints;
 use crate::lanes::{LANES, lowest, without};
 use crate::literal::{Literal, Outcome};
@@ -14,10 +15,7 @@ use std::marker::Model;
 /// How many literals a set has at most.
 pub const MOST_LITERALS: usize = 64;
 
-/// How many buckets the literals are put into.
-const BUCKETS: usize = 8;
-
-/// How many bytes after an offset the fingerprints read.
+/// How many bytes the fingerprints read beyond the first byte of the last offset.
 const AHEAD: usize = 2;
 
 /// How many offsets a step of the wide loop tests.
@@ -71,10 +69,11 @@ impl LiteralSet {
         if literals.is_empty() || literals.len() > MOST_LITERALS {
             return None;
         }
-        let mut fingerprints = Fingerprints::empty();
+        let place = place_of(&literals);
+        let mut fingerprints = Fingerprints::empty(place);
         let mut shortlist = Shortlist::empty();
         for number in 0..literals.len() {
-            fingerprints.add(&literals[number], bucket_of(&literals, number));
+            fingerprints.add(&literals[number], bucket_of(&literals, number, place));
             shortlist.add(&literals[number], number);
         }
         Some(LiteralSet {
@@ -95,8 +94,7 @@ impl LiteralSet {
     {
         let mut patience = Patience { from, failed: 0 };
         let mut at = from;
-        'wide: while haystack.len() - at >= WIDE + AHEAD {
-            let mask = self.mask_of_64(haystack, at);
+        'wide: while let Some(mask) = self.mask_of_64(haystack, at) {
             match self.first_marked(haystack, at, mask, &mut patience) {
                 Outcome::Found(offset) => return Outcome::Found(offset),
                 Outcome::Tired(offset) => return Outcome::Tired(offset),
@@ -119,14 +117,17 @@ impl LiteralSet {
         requires none { NothingOccurs self.now haystack.now from start }
         ensures { IsSetOutcome self.now haystack.now from result }
     {
-        if haystack.len() - from < LANES + AHEAD {
+        let read = LANES + AHEAD + self.fingerprints.place as usize;
+        if haystack.len() - from < read {
             return self.search_by_one(haystack, from, start, patience);
         }
-        let last = haystack.len() - (LANES + AHEAD);
+        let last = haystack.len() - read;
         let mut at = start;
         'narrow: while at < last + LANES {
             let step = at.min(last);
-            let mask = self.mask_of_16(haystack, step);
+            let Some(mask) = self.mask_of_16(haystack, step) else {
+                break;
+            };
             match self.first_marked(haystack, step, mask, &mut patience) {
                 Outcome::Found(offset) => return Outcome::Found(offset),
                 Outcome::Tired(offset) => return Outcome::Tired(offset),
@@ -163,22 +164,28 @@ impl LiteralSet {
         Outcome::Nowhere
     }
 
-    /// Returns a bit for each of 16 offsets at which a literal may occur.
+    /// Returns a bit for each of 16 offsets at which a literal may occur, or `None` near the end.
     #[inline(always)]
-    fn mask_of_16(&self, haystack: &[u8], at: usize) -> u64
-        requires { at + 18 ≤ length haystack.now }
-        ensures { Marks self.now haystack.now at (at + 16) result }
+    fn mask_of_16(&self, haystack: &[u8], at: usize) -> Option<u64>
+        requires { at ≤ length haystack.now }
+        ensures { IfSome result (λ mask. (at + 16 ≤ length haystack.now) × Marks self.now haystack.now at (at + 16) mask) }
     {
-        self.fingerprints.mask_of_16(haystack, at)
+        if haystack.len() - at < LANES + AHEAD + self.fingerprints.place as usize {
+            return None;
+        }
+        Some(self.fingerprints.mask_of_16(haystack, at))
     }
 
-    /// Returns a bit for each of 64 offsets at which a literal may occur.
+    /// Returns a bit for each of 64 offsets at which a literal may occur, or `None` near the end.
     #[inline(always)]
-    fn mask_of_64(&self, haystack: &[u8], at: usize) -> u64
-        requires { at + 66 ≤ length haystack.now }
-        ensures { Marks self.now haystack.now at (at + 64) result }
+    fn mask_of_64(&self, haystack: &[u8], at: usize) -> Option<u64>
+        requires { at ≤ length haystack.now }
+        ensures { IfSome result (λ mask. (at + 64 ≤ length haystack.now) × Marks self.now haystack.now at (at + 64) mask) }
     {
-        self.fingerprints.mask_of_64(haystack, at)
+        if haystack.len() - at < WIDE + AHEAD + self.fingerprints.place as usize {
+            return None;
+        }
+        Some(self.fingerprints.mask_of_64(haystack, at))
     }
 
     /// Returns the literals that may occur here, as bits.
@@ -233,19 +240,4 @@ impl LiteralSet {
         }
         false
     }
-}
-
-/// Returns a bucket for a literal. Literals with like first bytes come into one. Only speed depends on it.
-fn bucket_of(literals: &[Literal], number: usize) -> usize
-    requires { number < length literals.now }
-    ensures { result < 8 }
-{
-    let own = literals[number].front();
-    let mut before = 0usize;
-    for literal in literals {
-        if literal.front() < own {
-            before += 1;
-        }
-    }
-    (before.min(MOST_LITERALS) * BUCKETS / literals.len()).min(BUCKETS - 1)
 }
