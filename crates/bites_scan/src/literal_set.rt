@@ -85,9 +85,9 @@ impl LiteralSet {
 
     /// Searches from `from` on, until one of the literals is found or too many offsets only looked like one.
     ///
-    /// Vectors look up three bytes at 64 offsets a step. Where all three are in one bucket, the literals with the hash of
-    /// these bytes are compared. Of `n` bytes that the search passes, at most 17 + n / 32 are offsets at which this fails,
-    /// and at most 80 + n / 32 literals are compared in vain.
+    /// Vectors look up three bytes for each of 64 offsets a step. Where one bucket has all three, the literals are compared
+    /// that have the same hash. Of `n` bytes that the search passes, at most 17 + n / 32 are offsets at which this fails, and
+    /// at most 80 + n / 32 literals are compared in vain.
     pub fn search(&self, haystack: &[u8], from: usize) -> Outcome
         requires { from ≤ length haystack.now }
         ensures { IsSetOutcome self.now haystack.now from result }
