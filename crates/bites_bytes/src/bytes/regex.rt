@@ -138,7 +138,7 @@ impl Compiled {
 fn literal_of(alloc: Global, tree: &Tree) -> Option<Arc<Prefilter>>
     ensures { IfSome result (λ literal. IsPrefilter tree.now literal.value) }
 {
-    let literal = Prefilter::of(tree)?;
+    let literal = Prefilter::of(alloc, tree)?;
     Arc::new(alloc, literal).ok()
 }
 
