@@ -69,8 +69,8 @@ fn add_texts_of_each(parts: &[Tree], texts: &mut Vec<Literal>) -> Result<bool, A
     if parts.len() > MOST_LITERALS {
         return Ok(false);
     }
-    for i in 0..parts.len() {
-        if !add_texts(&parts[i], texts)? {
+    for branch in 0..parts.len() {
+        if !add_texts(&parts[branch], texts)? {
             return Ok(false);
         }
     }

@@ -20,5 +20,5 @@ invariant-add_texts_of_sequence-loop-i l = record {
   passes : (hay : List ℕ) (i j : ℕ) → MatchesAll hay (trees_of l.parts) i j → MatchesAll hay (trees_of (drop l.i l.parts)) i j;
 }
 
-abbrev pub invariant-add_texts_of_each-loop-i : goal.invariant-add_texts_of_each-loop-i
-invariant-add_texts_of_each-loop-i l = HasSoFar (trees_of l.parts) (trees_of (drop l.i l.parts)) l.fn.texts.items l.texts.items
+abbrev pub invariant-add_texts_of_each-loop-branch : goal.invariant-add_texts_of_each-loop-branch
+invariant-add_texts_of_each-loop-branch l = HasSoFar (trees_of l.parts) (trees_of (drop l.branch l.parts)) l.fn.texts.items l.texts.items
