@@ -1,7 +1,7 @@
 -- Lanes, bits and offsets of a literal: what the masks of its two bytes say of where it occurs.
-use Rattle.std.proofs.Common.{◌≡◌, ℕ, ◌+◌, ◌-◌, ◌*◌, ◌%◌, ◌^◌, ◌<◌, ◌≤◌, eqb, Bool, true, false, cond, List, map, length, get_or, replicate, bit_and, bit_or, w8, w64, Fits, refl, sym, ap, ap₂, ◌∙◌, subst, arith, inl, inr, eq-eqb, eqb-true}
+use Rattle.std.proofs.Common.{◌≡◌, ℕ, ◌+◌, ◌-◌, ◌*◌, ◌%◌, ◌^◌, ◌<◌, ◌≤◌, eqb, Bool, true, false, cond, List, ◌++◌, map, length, get_or, replicate, bit_and, bit_or, w8, w64, Fits, refl, sym, ap, ap₂, ◌∙◌, subst, arith, inl, inr, eq-eqb, eqb-true}
 use Rattle.std.proofs.lemmas.Bool.{cases_lt, cases_eq, agree_below_at}
-use Rattle.std.proofs.lemmas.List.{get_or-map}
+use Rattle.std.proofs.lemmas.List.{get_or-map, get_or_append_left, get_or-append_right}
 use Rattle.std.proofs.lemmas.Nat.{and_le_l}
 use Rattle.std.proofs.lemmas.Nat.Bits.{bit_at-zero, bit_at_above, bit_at_clear_same}
 use Rattle.std.proofs.lemmas.Simd.{Each1-get_or, length-chunk, zip2_splat, get_or-chunk, get_or-zip2, length-zip2, bit_mask_l}
@@ -10,8 +10,8 @@ use Rattle.std.specs.Char.{to_ascii_lowercase}
 use lib.Lanes.{Each1, zip2, sel_l, mask_l, top, chunk}
 use mir.Val.{bits}
 use Rattle.bites_scan.specs.Lanes.{is_marked, marks}
-use Rattle.bites_scan.specs.Literal.{OccursAt, NoneOccurs}
-use Rattle.bites_scan.proofs.MarkLemmas.{chosen}
+use Rattle.bites_scan.specs.Literal.{OccursAt}
+use Rattle.bites_scan.proofs.MarkLemmas.{chosen, length_marks}
 
 abbrev pub same : ℕ → ℕ → ℕ
 same a b = cond (eqb a b) 255 0
@@ -63,11 +63,12 @@ no_mark ms k none marked =
     let zero_bit = bit_at-zero k in
     absurd (omega (arith, one, zero_bit))
 
-pub bit_below : (m lane : ℕ) → m < 65536 → bit_at m lane ≡ 1 → lane < 16
-bit_below m lane small set =
-    elim (cases_lt lane 16) [
+-- a bit that is set in a number of n bits
+pub bit_below : (n m lane : ℕ) → m < 2 ^ n → bit_at m lane ≡ 1 → lane < n
+bit_below n m lane small set =
+    elim (cases_lt lane n) [
       | inl h ↦ h
-      | inr h ↦ absurd (omega (arith, set, bit_at_above m 16 lane small h))
+      | inr h ↦ absurd (omega (arith, set, bit_at_above m n lane small h))
     ]
 
 pub cleared_smaller : (m bit : ℕ) → bit < 64 → bit_at m bit ≡ 1 → bit_and m (bit_not w64 (1 * 2 ^ bit % 2 ^ bits w64)) < m
@@ -84,19 +85,23 @@ cleared_smaller m bit h set =
 
 -- ---- offsets
 
-module _ (fold : ℕ → ℕ) (haystack needle : List ℕ) where
+module _ (occurs : ℕ → Type 0) where
+  -- it occurs at no offset from `from` up to `end`
+  abbrev pub None : ℕ → ℕ → Type 0
+  None from end = (p : ℕ) → from ≤ p → p < end → occurs p → ⊥
+
   -- 16 offsets with no mark
-  quiet : (z : List ℕ) (at : ℕ) → mask_l (marks z) ≡ 0 → ((k : ℕ) → k < 16 → OccursAt fold haystack needle (at + k) → get_or (marks z) k false ≡ true) → (p : ℕ) → at ≤ p → p < at + 16 → OccursAt fold haystack needle p → ⊥
+  quiet : (z : List ℕ) (at : ℕ) → mask_l (marks z) ≡ 0 → ((k : ℕ) → k < 16 → occurs (at + k) → get_or (marks z) k false ≡ true) → (p : ℕ) → at ≤ p → p < at + 16 → occurs p → ⊥
   quiet z at none covers p from to o =
       let there : p ≡ at + (p - at) = omega arith in
-      no_mark (marks z) (p - at) none (covers (p - at) (omega arith) (subst (OccursAt fold haystack needle) there o))
+      no_mark (marks z) (p - at) none (covers (p - at) (omega arith) (subst occurs there o))
 
   pub quiet_64 : (a b c d : List ℕ) (at : ℕ) → mask_l (marks a) ≡ 0 → mask_l (marks b) ≡ 0 → mask_l (marks c) ≡ 0 → mask_l (marks d) ≡ 0
-      → ((k : ℕ) → k < 16 → OccursAt fold haystack needle (at + k) → get_or (marks a) k false ≡ true)
-      → ((k : ℕ) → k < 16 → OccursAt fold haystack needle (at + 16 + k) → get_or (marks b) k false ≡ true)
-      → ((k : ℕ) → k < 16 → OccursAt fold haystack needle (at + 32 + k) → get_or (marks c) k false ≡ true)
-      → ((k : ℕ) → k < 16 → OccursAt fold haystack needle (at + 48 + k) → get_or (marks d) k false ≡ true)
-      → NoneOccurs fold haystack needle at (at + 64)
+      → ((k : ℕ) → k < 16 → occurs (at + k) → get_or (marks a) k false ≡ true)
+      → ((k : ℕ) → k < 16 → occurs (at + 16 + k) → get_or (marks b) k false ≡ true)
+      → ((k : ℕ) → k < 16 → occurs (at + 32 + k) → get_or (marks c) k false ≡ true)
+      → ((k : ℕ) → k < 16 → occurs (at + 48 + k) → get_or (marks d) k false ≡ true)
+      → None at (at + 64)
   quiet_64 a b c d at na nb nc nd ca cb cc cd p from to o =
       elim (cases_lt p (at + 16)) [
         | inl h ↦ quiet a at na ca p from h o
@@ -109,29 +114,54 @@ module _ (fold : ℕ → ℕ) (haystack needle : List ℕ) where
         ]
       ]
 
-  pub joined : (from mid to : ℕ) → NoneOccurs fold haystack needle from mid → NoneOccurs fold haystack needle mid to → NoneOccurs fold haystack needle from to
+  pub joined : (from mid to : ℕ) → None from mid → None mid to → None from to
   joined from mid to f g p a b o = elim (cases_lt p mid) [ inl h ↦ f p a h o | inr h ↦ g p h b o ]
 
   -- the offsets below the lowest bit
-  pub none_below : (m at lane : ℕ) → lane < 16 → ((k : ℕ) → k < lane → bit_at m k ≡ 0) → ((k : ℕ) → k < 16 → OccursAt fold haystack needle (at + k) → bit_at m k ≡ 1) → NoneOccurs fold haystack needle at (at + lane)
+  pub none_below : (m at lane : ℕ) → lane < 16 → ((k : ℕ) → k < lane → bit_at m k ≡ 0) → ((k : ℕ) → k < 16 → occurs (at + k) → bit_at m k ≡ 1) → None at (at + lane)
   none_below m at lane small below covers p from to o =
       let there : p ≡ at + (p - at) = omega arith in
-      let one = covers (p - at) (omega arith) (subst (OccursAt fold haystack needle) there o) in
+      let one = covers (p - at) (omega arith) (subst occurs there o) in
       let zero_bit = below (p - at) (omega arith) in
       absurd (omega (arith, one, zero_bit))
 
   -- and all of them, where no bit is left
-  pub none_left : (at : ℕ) → ((k : ℕ) → k < 16 → OccursAt fold haystack needle (at + k) → bit_at 0 k ≡ 1) → NoneOccurs fold haystack needle at (at + 16)
+  pub none_left : (at : ℕ) → ((k : ℕ) → k < 16 → occurs (at + k) → bit_at 0 k ≡ 1) → None at (at + 16)
   none_left at covers p from to o =
       let there : p ≡ at + (p - at) = omega arith in
-      let one = covers (p - at) (omega arith) (subst (OccursAt fold haystack needle) there o) in
+      let one = covers (p - at) (omega arith) (subst occurs there o) in
       absurd (omega (arith, one, bit_at-zero (p - at)))
 
   -- a bit that is cleared where the literal does not occur
-  pub still_covered : (m n at lane : ℕ) → (OccursAt fold haystack needle (at + lane) → ⊥) → ((k : ℕ) → k < 64 → (k ≡ lane → ⊥) → bit_at n k ≡ bit_at m k)
-      → ((k : ℕ) → k < 16 → OccursAt fold haystack needle (at + k) → bit_at m k ≡ 1) → (k : ℕ) → k < 16 → OccursAt fold haystack needle (at + k) → bit_at n k ≡ 1
+  pub still_covered : (m n at lane : ℕ) → (occurs (at + lane) → ⊥) → ((k : ℕ) → k < 64 → (k ≡ lane → ⊥) → bit_at n k ≡ bit_at m k)
+      → ((k : ℕ) → k < 16 → occurs (at + k) → bit_at m k ≡ 1) → (k : ℕ) → k < 16 → occurs (at + k) → bit_at n k ≡ 1
   still_covered m n at lane fails kept covers k h o =
       elim (cases_eq k lane) [
-        | inl e ↦ absurd (fails (subst (λ i. OccursAt fold haystack needle (at + i)) e o))
+        | inl e ↦ absurd (fails (subst (λ i. occurs (at + i)) e o))
         | inr d ↦ kept k (omega arith) d ∙ covers k h o
       ]
+
+  -- a bit of 64, where four vectors have a mark
+  pub bit_of_64 : (a b c d : List ℕ) (m at : ℕ) → length a ≡ 16 → length b ≡ 16 → length c ≡ 16 → m ≡ mask_l (marks a ++ (marks b ++ (marks c ++ marks d)))
+      → ((k : ℕ) → k < 16 → occurs (at + k) → get_or (marks a) k false ≡ true)
+      → ((k : ℕ) → k < 16 → occurs (at + 16 + k) → get_or (marks b) k false ≡ true)
+      → ((k : ℕ) → k < 16 → occurs (at + 32 + k) → get_or (marks c) k false ≡ true)
+      → ((k : ℕ) → k < 16 → occurs (at + 48 + k) → get_or (marks d) k false ≡ true)
+      → (k : ℕ) → k < 64 → occurs (at + k) → bit_at m k ≡ 1
+  bit_of_64 a b c d m at la lb lc e ca cb cc cd k lt o = bit_of_mark (marks a ++ (marks b ++ (marks c ++ marks d))) m k e (
+      elim (cases_lt k 16) [
+        | inl h ↦ get_or_append_left (marks a) (marks b ++ (marks c ++ marks d)) false k (omega (arith, length_marks a)) ∙ ca k h o
+        | inr g ↦ get_or-append_right (marks a) (marks b ++ (marks c ++ marks d)) 16 k false (length_marks a ∙ la) g ∙ elim (cases_lt k 32) [
+          | inl h ↦ get_or_append_left (marks b) (marks c ++ marks d) false (k - 16) (omega (arith, length_marks b)) ∙ cb (k - 16) (omega arith) (there 16 (omega arith))
+          | inr i ↦ get_or-append_right (marks b) (marks c ++ marks d) 16 (k - 16) false (length_marks b ∙ lb) (omega arith) ∙ elim (cases_lt k 48) [
+            | inl h ↦ get_or_append_left (marks c) (marks d) false (k - 16 - 16) (omega (arith, length_marks c)) ∙ same (marks c) (k - 16 - 16) (k - 32) (omega arith) ∙ cc (k - 32) (omega arith) (there 32 (omega arith))
+            | inr j ↦ get_or-append_right (marks c) (marks d) 16 (k - 16 - 16) false (length_marks c ∙ lc) (omega arith) ∙ same (marks d) (k - 16 - 16 - 16) (k - 48) (omega arith) ∙ cd (k - 48) (omega arith) (there 48 (omega arith))
+          ]
+        ]
+      ])
+    where
+      same : (l : List Bool) (i j : ℕ) → i ≡ j → get_or l i false ≡ get_or l j false
+      same l i j = ap (λ m. get_or l m false)
+
+      there : (n : ℕ) → n ≤ k → occurs (at + n + (k - n))
+      there n le = let back : at + k ≡ at + n + (k - n) = omega arith in subst occurs back o

@@ -1,5 +1,6 @@
 -- Offsets at which one of several literals occurs in a haystack.
-use Rattle.std.specs.Prelude.{ℕ, ◌<◌, ◌≤◌, List, length, Any}
+use Rattle.std.specs.Prelude.{◌≡◌, ℕ, ◌+◌, ◌<◌, ◌≤◌, List, length, slice_index_or, Any}
+use Rattle.std.specs.Int.{bit_at}
 use Rattle.bites_scan.specs.declared.literal.Outcome.{Outcome}
 use Rattle.bites_scan.specs.declared.literal.Outcome.TheVariants.{Found, Nowhere, Tired}
 use Rattle.bites_scan.specs.Literal.{Needle, OccursAt, folding}
@@ -37,3 +38,18 @@ abbrev pub IsSetOutcome : List Needle → List ℕ → ℕ → Outcome → Type 
 IsSetOutcome literals haystack from (Found at) = IsFirstOfSet literals haystack from at
 IsSetOutcome literals haystack from Nowhere = NothingFrom literals haystack from
 IsSetOutcome literals haystack from (Tired at) = SetHasPassed literals haystack from at
+
+-- what a search from `from` up to `end` returns
+abbrev pub IsOutcomeUpTo : List Needle → List ℕ → ℕ → ℕ → Outcome → Type 0
+IsOutcomeUpTo literals haystack from end (Found at) = IsFirstOfSet literals haystack from at
+IsOutcomeUpTo literals haystack from end Nowhere = NothingOccurs literals haystack from end
+IsOutcomeUpTo literals haystack from end (Tired at) = SetHasPassed literals haystack from at
+
+-- of the offsets from `at` up to `end` a mask has a bit for each one at which a literal occurs, and for no other offset
+pub record Marks (literals : List Needle) (haystack : List ℕ) (at end mask : ℕ) : Type 0 where
+  pub within : (k : ℕ) → bit_at mask k ≡ 1 → at + k < end
+  pub covers : (k : ℕ) → at + k < end → SomeOccursAt literals haystack (at + k) → bit_at mask k ≡ 1
+
+-- a number has the bit of each literal that occurs here
+abbrev pub AreNear : List Needle → List ℕ → ℕ → ℕ → Type 0
+AreNear literals haystack at near = (k : ℕ) (n : Needle) → k < length literals → NeedleOccursAt haystack at (slice_index_or literals k n) → bit_at near k ≡ 1

@@ -1,6 +1,7 @@
 //! Vectors of 16 bytes, lane by lane. A lane that isn't 0 is marked.
 
-ghost use Rattle.std.specs.Prelude.{◌≡◌, ◌+◌, ◌≤◌, ◌<◌, ◌++◌, length};
+ghost use Rattle.std.specs.Prelude.{◌≡◌, ◌≢◌, ℕ, ◌+◌, ◌≤◌, ◌<◌, ◌++◌, length};
+ghost use Rattle.std.specs.Int.{bit_at};
 ghost use lib.Lanes.{chunk};
 ghost use Rattle.bites_scan.specs.Lanes.{marks, mask};
 
@@ -41,4 +42,26 @@ pub(crate) fn mask_of_four(a: u8x16, b: u8x16, c: u8x16, d: u8x16) -> u64
     ensures { result ≡ mask (marks a ++ (marks b ++ (marks c ++ marks d))) }
 {
     mask_of(a) + (mask_of(b) << 16) + (mask_of(c) << 32) + (mask_of(d) << 48)
+}
+
+/// Returns the lowest bit that is set.
+#[inline(always)]
+pub(crate) fn lowest(mask: u64) -> usize
+    requires { mask ≢ 0 }
+    ensures bound { result < 64 }
+    ensures set { bit_at mask result ≡ 1 }
+    ensures below { (k : ℕ) → k < result → bit_at mask k ≡ 0 }
+{
+    mask.trailing_zeros() as usize
+}
+
+/// Clears a bit that is set.
+#[inline(always)]
+pub(crate) fn without(mask: u64, bit: usize) -> u64
+    requires bound { bit < 64 }
+    requires set { bit_at mask bit ≡ 1 }
+    ensures smaller { result < mask }
+    ensures kept { (k : ℕ) → k < 64 → k ≢ bit → bit_at result k ≡ bit_at mask k }
+{
+    mask & !(1 << bit)
 }

@@ -3,7 +3,9 @@
 //! Nothing here knows of patterns or of UTF-8. A [`byte_set::ByteSet`] is skipped, and a [`literal::Literal`] is searched for.
 #![tactic(auto)]
 
+mod buckets;
 pub mod byte_set;
+mod fingerprints;
 mod first_stop;
 mod folding;
 mod form;
@@ -13,4 +15,5 @@ pub mod literal_set;
 mod nibbles;
 mod pair;
 pub mod rank;
+mod shortlist;
 mod stops;

@@ -105,4 +105,30 @@ impl Literal {
             Exact::are_equal(here, needle)
         }
     }
+
+    /// Returns the bytes.
+    #[inline(always)]
+    pub(crate) fn bytes(&self) -> &[u8]
+        ensures { result.now ≡ self.now.bytes }
+    {
+        &self.bytes[..self.len]
+    }
+
+    /// Returns whether letters of ASCII count as equal in both cases.
+    #[inline(always)]
+    pub(crate) fn is_caseless(&self) -> bool
+        ensures { result ≡ self.now.caseless }
+    {
+        self.caseless
+    }
+
+    /// Returns a number that puts literals in the order of their first three bytes, in whichever case. Only speed depends on it.
+    pub(crate) fn front(&self) -> u32 {
+        u32::from_be_bytes([
+            0,
+            self.bytes[0] | 0x20,
+            self.bytes[1] | 0x20,
+            self.bytes[2] | 0x20,
+        ])
+    }
 }

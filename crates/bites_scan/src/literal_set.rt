@@ -1,13 +1,30 @@
 //! Several literals that a haystack is searched for together.
 
-ghost use Rattle.std.specs.Prelude.{◌≡◌, ◌↔◌, ◌≤◌, ◌<◌, IfSome, IsSome, IsTrue, length};
-ghost use Rattle.bites_scan.specs.LiteralSet.{IsSetOutcome, SomeOccursAt};
+ghost use Rattle.std.specs.Prelude.{◌≡◌, ◌↔◌, ◌+◌, ◌≤◌, ◌<◌, ℕ, IfSome, IsSome, IsTrue, length};
+ghost use Rattle.std.specs.Int.{bit_at};
+ghost use Rattle.bites_scan.specs.Known.{AreKnown};
+ghost use Rattle.bites_scan.specs.LiteralSet.{AreNear, IsOutcomeUpTo, IsSetOutcome, Marks, NothingOccurs, SomeOccursAt};
 
+use crate::fingerprints::Fingerprints;
+use crate::lanes::{LANES, lowest, without};
 use crate::literal::{Literal, Outcome};
+use crate::shortlist::Shortlist;
 use std::marker::Model;
 
 /// How many literals a set has at most.
 pub const MOST_LITERALS: usize = 64;
+
+/// How many buckets the literals are put into.
+const BUCKETS: usize = 8;
+
+/// How many bytes after an offset the fingerprints read.
+const AHEAD: usize = 2;
+
+/// How many offsets a step of the wide loop tests.
+const WIDE: usize = 4 * LANES;
+
+/// How many tests may fail at first. Then one more may fail for each 32 bytes that the search goes on.
+const PATIENCE: usize = 16;
 
 /// Literals that a haystack is searched for together: at least one, and at most 64.
 ///
@@ -15,6 +32,9 @@ pub const MOST_LITERALS: usize = 64;
 #[derive(Drop)]
 pub struct LiteralSet {
     literals: Vec<Literal>,
+    fingerprints: Fingerprints,
+    shortlist: Shortlist,
+    ghost known: { ∥ AreKnown literals.items (length literals.items) fingerprints shortlist ∥₁ },
 }
 
 impl Model for LiteralSet {
@@ -26,6 +46,21 @@ impl Model for LiteralSet {
     ghost view = { λ s. s.literals.items };
 }
 
+/// How many tests of a search have failed.
+#[derive(Clone, Copy, Drop)]
+struct Patience {
+    from: usize,
+    failed: usize,
+}
+
+impl Patience {
+    /// Counts a failed test and the literals that were compared for it. Returns whether too many tests have failed.
+    fn is_lost(&mut self, at: usize, compared: u32) -> bool {
+        self.failed = self.failed.saturating_add(1 + compared.min(64) as usize);
+        self.failed > (at.saturating_sub(self.from) / 32).saturating_add(PATIENCE)
+    }
+}
+
 impl LiteralSet {
     /// Returns a set of the literals, or `None` if there are none of them or more than 64. It allocates nothing.
     pub fn new(literals: Vec<Literal>) -> Option<LiteralSet>
@@ -35,17 +70,81 @@ impl LiteralSet {
         if literals.is_empty() || literals.len() > MOST_LITERALS {
             return None;
         }
-        Some(LiteralSet { literals })
+        let mut fingerprints = Fingerprints::empty();
+        let mut shortlist = Shortlist::empty();
+        for number in 0..literals.len() {
+            fingerprints.add(&literals[number], bucket_of(&literals, number));
+            shortlist.add(&literals[number], number);
+        }
+        Some(LiteralSet {
+            literals,
+            fingerprints,
+            shortlist,
+        })
     }
 
-    /// Searches from `from` on, until one of the literals is found.
+    /// Searches from `from` on, until one of the literals is found or too many offsets only looked like one.
+    ///
+    /// Vectors look up three bytes at 64 offsets a step. Where all three are in one bucket, the literals with the hash of
+    /// these bytes are compared. Of `n` bytes that the search passes, at most 17 + n / 32 are offsets at which this fails.
     pub fn search(&self, haystack: &[u8], from: usize) -> Outcome
         requires { from ≤ length haystack.now }
         ensures { IsSetOutcome self.now haystack.now from result }
     {
+        let mut patience = Patience { from, failed: 0 };
         let mut at = from;
+        'wide: while haystack.len() - at >= WIDE + AHEAD {
+            let mask = self.mask_of_64(haystack, at);
+            match self.first_marked(haystack, at, mask, &mut patience) {
+                Outcome::Found(offset) => return Outcome::Found(offset),
+                Outcome::Tired(offset) => return Outcome::Tired(offset),
+                Outcome::Nowhere => at += WIDE,
+            }
+        }
+        self.search_rest(haystack, from, at, patience)
+    }
+
+    /// Goes on with a search, 16 offsets a step. The last step may test offsets again.
+    fn search_rest(
+        &self,
+        haystack: &[u8],
+        from: usize,
+        start: usize,
+        mut patience: Patience,
+    ) -> Outcome
+        requires onward { from ≤ start }
+        requires within { start ≤ length haystack.now }
+        requires none { NothingOccurs self.now haystack.now from start }
+        ensures { IsSetOutcome self.now haystack.now from result }
+    {
+        if haystack.len() - from < LANES + AHEAD {
+            return self.search_by_one(haystack, from, start);
+        }
+        let last = haystack.len() - (LANES + AHEAD);
+        let mut at = start;
+        'narrow: while at < last + LANES {
+            let step = at.min(last);
+            let mask = self.mask_of_16(haystack, step);
+            match self.first_marked(haystack, step, mask, &mut patience) {
+                Outcome::Found(offset) => return Outcome::Found(offset),
+                Outcome::Tired(offset) => return Outcome::Tired(offset),
+                Outcome::Nowhere => at = step + LANES,
+            }
+        }
+        self.search_by_one(haystack, from, at)
+    }
+
+    /// Goes on with a search, offset by offset.
+    fn search_by_one(&self, haystack: &[u8], from: usize, start: usize) -> Outcome
+        requires onward { from ≤ start }
+        requires within { start ≤ length haystack.now }
+        requires none { NothingOccurs self.now haystack.now from start }
+        ensures { IsSetOutcome self.now haystack.now from result }
+    {
+        let mut at = start;
         'offsets: while at <= haystack.len() {
-            if self.occurs_at(haystack, at) {
+            let near = self.near(haystack, at);
+            if self.one_occurs_at(near, haystack, at) {
                 return Outcome::Found(at);
             }
             at += 1;
@@ -53,16 +152,89 @@ impl LiteralSet {
         Outcome::Nowhere
     }
 
-    /// Returns whether one of the literals occurs here.
-    fn occurs_at(&self, haystack: &[u8], at: usize) -> bool
+    /// Returns a bit for each of 16 offsets at which a literal may occur.
+    #[inline(always)]
+    fn mask_of_16(&self, haystack: &[u8], at: usize) -> u64
+        requires { at + 18 ≤ length haystack.now }
+        ensures { Marks self.now haystack.now at (at + 16) result }
+    {
+        self.fingerprints.mask_of_16(haystack, at)
+    }
+
+    /// Returns a bit for each of 64 offsets at which a literal may occur.
+    #[inline(always)]
+    fn mask_of_64(&self, haystack: &[u8], at: usize) -> u64
+        requires { at + 66 ≤ length haystack.now }
+        ensures { Marks self.now haystack.now at (at + 64) result }
+    {
+        self.fingerprints.mask_of_64(haystack, at)
+    }
+
+    /// Returns a bit for each literal that may occur here.
+    #[inline(always)]
+    fn near(&self, haystack: &[u8], at: usize) -> u64
         requires { at ≤ length haystack.now }
+        ensures { AreNear self.now haystack.now at result }
+    {
+        self.shortlist.at(haystack, at)
+    }
+
+    /// Tests the offsets that a mask marks, until a literal is found or too many tests have failed.
+    fn first_marked(
+        &self,
+        haystack: &[u8],
+        at: usize,
+        mask: u64,
+        patience: &mut Patience,
+    ) -> Outcome
+        requires { (k : ℕ) → bit_at mask k ≡ 1 → at + k < length haystack.now }
+        ensures { (end : ℕ) → Marks self.now haystack.now at end mask → IsOutcomeUpTo self.now haystack.now at end result }
+    {
+        let mut left = mask;
+        'marked: while left != 0 {
+            let lane = lowest(left);
+            let offset = at + lane;
+            let near = self.near(haystack, offset);
+            if self.one_occurs_at(near, haystack, offset) {
+                return Outcome::Found(offset);
+            }
+            if patience.is_lost(offset, near.count_ones()) {
+                return Outcome::Tired(offset + 1);
+            }
+            left = without(left, lane);
+        }
+        Outcome::Nowhere
+    }
+
+    /// Returns whether one of the literals occurs here. Only those whose bit is set are compared.
+    fn one_occurs_at(&self, near: u64, haystack: &[u8], at: usize) -> bool
+        requires within { at ≤ length haystack.now }
+        requires listed { AreNear self.now haystack.now at near }
         ensures { IsTrue result ↔ SomeOccursAt self.now haystack.now at }
     {
-        for literal in &self.literals {
-            if literal.occurs_at(haystack, at) {
+        let mut left = near;
+        'near: while left != 0 {
+            let number = lowest(left);
+            if number < self.literals.len() && self.literals[number].occurs_at(haystack, at) {
                 return true;
             }
+            left = without(left, number);
         }
         false
     }
+}
+
+/// Returns a bucket for a literal. Literals with like first bytes come into one. Only speed depends on it.
+fn bucket_of(literals: &[Literal], number: usize) -> usize
+    requires { number < length literals.now }
+    ensures { result < 8 }
+{
+    let own = literals[number].front();
+    let mut before = 0usize;
+    for literal in literals {
+        if literal.front() < own {
+            before += 1;
+        }
+    }
+    (before.min(MOST_LITERALS) * BUCKETS / literals.len()).min(BUCKETS - 1)
 }

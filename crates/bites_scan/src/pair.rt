@@ -6,7 +6,7 @@ ghost use Rattle.bites_scan.specs.Lanes.{marks};
 ghost use Rattle.bites_scan.specs.Literal.{IsOutcomeBy, NoneOccurs, OccursAt};
 
 use crate::folding::Folding;
-use crate::lanes::{LANES, either, load, mask_of};
+use crate::lanes::{LANES, either, load, lowest, mask_of, without};
 use crate::literal::Outcome;
 use std::simd::prelude::*;
 
@@ -144,28 +144,6 @@ fn both(a: u8x16, b: u8x16) -> u8x16
         → slice_index_or (marks result) k false ≡ true }
 {
     a & b
-}
-
-/// Returns the lowest bit that is set.
-#[inline(always)]
-fn lowest(mask: u64) -> usize
-    requires { mask ≢ 0 }
-    ensures bound { result < 64 }
-    ensures set { bit_at mask result ≡ 1 }
-    ensures below { (k : ℕ) → k < result → bit_at mask k ≡ 0 }
-{
-    mask.trailing_zeros() as usize
-}
-
-/// Clears a bit that is set.
-#[inline(always)]
-fn without(mask: u64, bit: usize) -> u64
-    requires bound { bit < 64 }
-    requires set { bit_at mask bit ≡ 1 }
-    ensures smaller { result < mask }
-    ensures kept { (k : ℕ) → k < 64 → k ≢ bit → bit_at result k ≡ bit_at mask k }
-{
-    mask & !(1 << bit)
 }
 
 /// Returns whether the literal occurs here.

@@ -1,13 +1,31 @@
-use Rattle.std.proofs.Common.{arith}
-use Rattle.std.proofs.lemmas.Bool.{iff_false}
-use Rattle.bites_scan.proofs.SetLemmas.{one_more, none_behind}
+use Rattle.std.proofs.Common.{◌+◌, arith}
+use Rattle.bites_scan.proofs.SetLemmas.{none_joined}
 use Rattle.bites_scan.proofs.literal_set.LiteralSet.search.Goals as goal
 
-pub offsets-preserved : goal.offsets-preserved
-offsets-preserved c = record {
+pub returns-in-Found : goal.returns-in-Found
+returns-in-Found c =
+    let found = c.in-Found.ensures (c.wide.at + 64) c.mask_of_64-mask.ensures in
+    record {
+      onward = omega (arith, found.onward);
+      occurs = found.occurs;
+      none_before = none_joined c.args.self.now c.args.haystack.now c.args.from c.wide.at c.in-Found.offset c.wide.at (omega arith) c.wide.invariant.none found.none_before;
+    }
+
+pub returns-in-Tired : goal.returns-in-Tired
+returns-in-Tired c =
+    let tired = c.in-Tired.ensures (c.wide.at + 64) c.mask_of_64-mask.ensures in
+    record {
+      onward = omega (arith, tired.onward);
+      within = tired.within;
+      none_before = none_joined c.args.self.now c.args.haystack.now c.args.from c.wide.at c.in-Tired.offset c.wide.at (omega arith) c.wide.invariant.none tired.none_before;
+    }
+
+pub wide-preserved : goal.wide-preserved
+wide-preserved c = record {
   onward = omega arith;
-  none = one_more c.args.self.now c.args.haystack.now c.args.from c.offsets.at c.offsets.invariant.none (iff_false c.occurs_at.ensures c.if-occurs_at.false);
+  within = omega arith;
+  none = none_joined c.args.self.now c.args.haystack.now c.args.from c.wide.at (c.wide.at + 64) c.wide.at (omega arith) c.wide.invariant.none (c.in-Nowhere.ensures (c.wide.at + 64) c.mask_of_64-mask.ensures);
 }
 
-pub returns : goal.returns
-returns c = none_behind c.args.self.now c.args.haystack.now c.args.from c.offsets.at c.offsets-test.false c.offsets.invariant.none
+pub first_marked-requires : goal.first_marked-requires
+first_marked-requires c k set = omega (arith, c.mask_of_64-mask.ensures.within k set)

@@ -1,4 +1,5 @@
 use Rattle.std.proofs.Common.{◌+◌, sym, ◌∙◌, arith}
+use Rattle.bites_scan.specs.Literal.{OccursAt}
 use Rattle.bites_scan.proofs.LiteralLemmas.{quiet_64, joined}
 use Rattle.bites_scan.proofs.pair.Pair.quiet_until.Goals as goal
 
@@ -12,6 +13,6 @@ wide-preserved g c =
     record {
       onward = omega arith;
       within = omega arith;
-      none = joined g.F.Folding.fold haystack needle c.args.from c.wide.at (c.wide.at + 64) c.wide.invariant.none
-          (quiet_64 g.F.Folding.fold haystack needle _ _ _ _ c.wide.at ab.0 ab.1 cd.0 cd.1 c.lanes-a.ensures c.lanes-b.ensures c.lanes-c.ensures c.lanes-d.ensures);
+      none = joined (OccursAt g.F.Folding.fold haystack needle) c.args.from c.wide.at (c.wide.at + 64) c.wide.invariant.none
+          (quiet_64 (OccursAt g.F.Folding.fold haystack needle) _ _ _ _ c.wide.at ab.0 ab.1 cd.0 cd.1 c.lanes-a.ensures c.lanes-b.ensures c.lanes-c.ensures c.lanes-d.ensures);
     }

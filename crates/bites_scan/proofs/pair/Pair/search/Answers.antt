@@ -12,13 +12,13 @@ marked-init g c = record {
   onward = omega arith;
   within = omega arith;
   few = omega arith;
-  none = joined g.F.Folding.fold c.args.haystack.now c.args.self.now.needle.now c.args.from c.vectors.at c.quiet_until-at.result c.vectors.invariant.none c.quiet_until-at.ensures.none;
+  none = joined (OccursAt g.F.Folding.fold c.args.haystack.now c.args.self.now.needle.now) c.args.from c.vectors.at c.quiet_until-at.result c.vectors.invariant.none c.quiet_until-at.ensures.none;
   small = c.mask_of-mask.ensures.small;
   covers = λ k h o. bit_of_mark (marks c.lanes.result) c.mask_of-mask.result k c.mask_of-mask.ensures.bits (c.lanes.ensures k h o);
 }
 
 pub occurs_at-requires : goal.occurs_at-requires
-occurs_at-requires g c = omega (arith, bit_below c.marked.mask c.lowest-lane.result c.marked.invariant.small c.lowest-lane.ensures.set)
+occurs_at-requires g c = omega (arith, bit_below 16 c.marked.mask c.lowest-lane.result c.marked.invariant.small c.lowest-lane.ensures.set)
 
 pub returns-then-occurs_at : goal.returns-then-occurs_at
 returns-then-occurs_at g c =
@@ -26,11 +26,11 @@ returns-then-occurs_at g c =
     let needle = c.args.self.now.needle.now in
     let at = c.quiet_until-at.result in
     let lane = c.lowest-lane.result in
-    let small = bit_below c.marked.mask lane c.marked.invariant.small c.lowest-lane.ensures.set in
+    let small = bit_below 16 c.marked.mask lane c.marked.invariant.small c.lowest-lane.ensures.set in
     record {
       onward = omega arith;
       occurs = c.occurs_at.ensures.0 c.if-occurs_at.true;
-      none_before = joined g.F.Folding.fold haystack needle c.args.from at (at + lane) c.marked.invariant.none (none_below g.F.Folding.fold haystack needle c.marked.mask at lane small c.lowest-lane.ensures.below c.marked.invariant.covers);
+      none_before = joined (OccursAt g.F.Folding.fold haystack needle) c.args.from at (at + lane) c.marked.invariant.none (none_below (OccursAt g.F.Folding.fold haystack needle) c.marked.mask at lane small c.lowest-lane.ensures.below c.marked.invariant.covers);
     }
 
 pub returns-then-failed-offset : goal.returns-then-failed-offset
@@ -39,9 +39,9 @@ returns-then-failed-offset g c =
     let needle = c.args.self.now.needle.now in
     let at = c.quiet_until-at.result in
     let lane = c.lowest-lane.result in
-    let small = bit_below c.marked.mask lane c.marked.invariant.small c.lowest-lane.ensures.set in
+    let small = bit_below 16 c.marked.mask lane c.marked.invariant.small c.lowest-lane.ensures.set in
     let fails = iff_false c.occurs_at.ensures c.if-occurs_at.false in
-    let before = joined g.F.Folding.fold haystack needle c.args.from at (at + lane) c.marked.invariant.none (none_below g.F.Folding.fold haystack needle c.marked.mask at lane small c.lowest-lane.ensures.below c.marked.invariant.covers) in
+    let before = joined (OccursAt g.F.Folding.fold haystack needle) c.args.from at (at + lane) c.marked.invariant.none (none_below (OccursAt g.F.Folding.fold haystack needle) c.marked.mask at lane small c.lowest-lane.ensures.below c.marked.invariant.covers) in
     record {
       onward = omega arith;
       within = omega (arith, small);
@@ -50,7 +50,7 @@ returns-then-failed-offset g c =
 
 pub marked-preserved : goal.marked-preserved
 marked-preserved g c =
-    let small = bit_below c.marked.mask c.lowest-lane.result c.marked.invariant.small c.lowest-lane.ensures.set in
+    let small = bit_below 16 c.marked.mask c.lowest-lane.result c.marked.invariant.small c.lowest-lane.ensures.set in
     let fails = iff_false c.occurs_at.ensures c.if-occurs_at.false in
     record {
       room = omega arith;
@@ -59,7 +59,7 @@ marked-preserved g c =
       few = omega (arith, small);
       none = c.marked.invariant.none;
       small = omega arith;
-      covers = still_covered g.F.Folding.fold c.args.haystack.now c.args.self.now.needle.now c.marked.mask c.without-mask.result c.quiet_until-at.result c.lowest-lane.result fails c.without-mask.ensures.kept c.marked.invariant.covers;
+      covers = still_covered (OccursAt g.F.Folding.fold c.args.haystack.now c.args.self.now.needle.now) c.marked.mask c.without-mask.result c.quiet_until-at.result c.lowest-lane.result fails c.without-mask.ensures.kept c.marked.invariant.covers;
     }
 
 pub vectors-preserved : goal.vectors-preserved
@@ -72,6 +72,6 @@ vectors-preserved g c =
       onward = omega arith;
       within = omega arith;
       few = omega arith;
-      none = joined g.F.Folding.fold haystack needle c.args.from at (at + 16) c.marked.invariant.none
-          (none_left g.F.Folding.fold haystack needle at (λ k h o. sym (ap (λ m. bit_at m k) c.marked-test.false) ∙ c.marked.invariant.covers k h o));
+      none = joined (OccursAt g.F.Folding.fold haystack needle) c.args.from at (at + 16) c.marked.invariant.none
+          (none_left (OccursAt g.F.Folding.fold haystack needle) at (λ k h o. sym (ap (λ m. bit_at m k) c.marked-test.false) ∙ c.marked.invariant.covers k h o));
     }

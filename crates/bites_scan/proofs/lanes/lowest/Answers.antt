@@ -1,6 +1,6 @@
 use Rattle.std.proofs.Common.{arith, w64}
 use Rattle.std.proofs.lemmas.Nat.Bits.{bit_at-trailing_zeros}
-use Rattle.bites_scan.proofs.pair.lowest.Goals as goal
+use Rattle.bites_scan.proofs.lanes.lowest.Goals as goal
 
 pub returns-clause-set : goal.returns-clause-set
 returns-clause-set c = (bit_at-trailing_zeros w64 c.args.mask (omega arith) c.ranges.mask.fits).1

@@ -1,0 +1,33 @@
+use Rattle.std.proofs.Common.{◌≡◌, ◌<◌, length, get_or, ap, sym, refl, ◌∙◌, subst, arith}
+use Rattle.std.proofs.lemmas.Bool.{iff_false}
+use Rattle.std.proofs.lemmas.List.{get_or_read_under}
+use Rattle.std.proofs.lemmas.Nat.Bits.{bit_at-zero}
+use Rattle.std.specs.Int.{bit_at}
+use Rattle.bites_scan.specs.Literal.{Needle}
+use Rattle.bites_scan.specs.LiteralSet.{NeedleOccursAt}
+use Rattle.bites_scan.proofs.SetLemmas.{none_of_all, still_near}
+use Rattle.bites_scan.proofs.literal_set.LiteralSet.one_occurs_at.Goals as goal
+use Rattle.bites_scan.proofs.literal_set.LiteralSet.one_occurs_at.Goals.{else-number-len-via-then-number-len+else-occurs_at, else-number-len-via-else-number-len}
+
+pub near-preserved : goal.near-preserved
+near-preserved c =
+    let number = c.lowest-number.result in
+    let fails : (d : Needle) → number < length c.args.self.now → NeedleOccursAt c.args.haystack.now c.args.at (get_or c.args.self.now number d) → ⊥ = λ d lt o.
+    elim c.else-number-len.branch [
+      | else-number-len-via-then-number-len+else-occurs_at w ↦ iff_false w.occurs_at.ensures w.if-occurs_at.false
+          (let same : w.index.result.now ≡ get_or c.args.self.now number d = get_or_read_under c.args.self.now number (length c.args.self.now) w.index.result.now d
+          (w.index.ensures ∙ ap (λ l. get_or l number w.index.result.now) c.self.view_is) lt refl in
+          subst (NeedleOccursAt c.args.haystack.now c.args.at) (sym same) o)
+      | else-number-len-via-else-number-len w ↦ absurd (omega (arith, w.if-number-len.false, c.len.ensures, ap length c.self.view_is))
+    ] in
+    record {
+      small = omega arith;
+      near = still_near c.args.self.now c.args.haystack.now c.near.left c.without-left.result number c.near.invariant.small c.without-left.ensures.kept c.args.at fails c.near.invariant.near;
+    }
+
+pub returns : goal.returns
+returns c = (
+  λ h. cc,
+  λ o. absurd (none_of_all c.args.self.now c.args.haystack.now c.args.at
+      (λ k n lt here. omega (arith, ap (λ m. bit_at m k) c.near-test.false, c.near.invariant.near k n lt here, bit_at-zero k)) o),
+)
