@@ -11,6 +11,7 @@ use Rattle.bites_spec.specs.Match.{Matches}
 use Rattle.bites_spec.specs.Found.{NoMatch}
 use Rattle.bites_spec.proofs.utf8.PieceLemmas.{Among-places}
 use Rattle.bites_scan.specs.Literal.{Needle, needle, OccursAt, NoneOccurs, NoneFrom, folding}
+use Rattle.bites_scan.specs.LiteralSet.{NothingFrom, NothingOccurs}
 use Rattle.bites_literals.specs.declared.ascii.AsciiSet.{AsciiSet}
 use Rattle.bites_literals.specs.declared.facts.Facts.{Facts}
 use Rattle.bites_literals.specs.declared.facts.Needed.{Needed}
@@ -20,6 +21,7 @@ use Rattle.bites_literals.specs.declared.prefilter.Near.{Near}
 use Rattle.bites_literals.specs.declared.prefilter.Reach.{Reach}
 use Rattle.bites_literals.specs.declared.prefilter.Reach.TheVariants.{Bytes, While, Haystack}
 use Rattle.bites_literals.specs.Ascii.{Has}
+use Rattle.bites_literals.specs.Choice.{BeginsWithOne}
 use Rattle.bites_literals.specs.Facts.{AreFacts, HoldsOnly, IsMost, IsNeeded}
 use Rattle.bites_literals.specs.Begins.{IsNear, IsReachOf, IsEnd, StaysIn, NoneBefore, IsBack, IsBackAtAscii, IsBackWhile, before_of}
 use Rattle.bites_literals.specs.Texts.{EndsWith, Holds, Stands, bytes_of}
@@ -53,6 +55,10 @@ abbrev pub ComesTo : Tree → List ℕ → (start at : ℕ) → Reach → Type 0
 ComesTo t hay start at reach =
     (i j : ℕ) → start ≤ i → Matches hay t i j → (h : ℕ) × (at ≤ h) × (h ≤ j) × IfSome (before_of reach) (λ n. h ≤ i + n)
 
+-- each match from `start` on begins at most n bytes before an offset that is not before `at`
+abbrev pub IsNearTo : Tree → List ℕ → (start at n : ℕ) → Type 0
+IsNearTo t hay start at n = (i j : ℕ) → start ≤ i → Matches hay t i j → (h : ℕ) × (at ≤ h) × (h ≤ i + n)
+
 -- a byte of ASCII that is not in the set stands before the offset
 abbrev Stop : List ℕ → ℕ → AsciiSet → ℕ → Type 0
 Stop hay start set q = (start < q) × ((k : ℕ) → k + 1 ≡ q → (get_or hay k 0 < 128) × (Has set (get_or hay k 0) → ⊥))
@@ -63,7 +69,7 @@ module _ (t : Tree) (hay : List ℕ) (start at : ℕ) (within : start ≤ length
   at_start : (q : ℕ) → q ≡ start → Among (places hay start) q
   at_start q e = subst (λ k. Among (places hay start) k) (sym e) (start_among hay start within)
 
-  begins_near : (n q : ℕ) → ComesTo t hay start at (Bytes n) → IsBackAtAscii hay start (max (at - n) start) q → NoneBefore t hay start q
+  pub begins_near : (n q : ℕ) → IsNearTo t hay start at n → IsBackAtAscii hay start (max (at - n) start) q → NoneBefore t hay start q
   begins_near n q comes back = record { place = ⊎_elim (at_start q) at_ascii back.stands; none_before = before }
     where
       at_ascii : (q < length hay) × (get_or hay q 0 < 128) → Among (places hay start) q
@@ -73,8 +79,7 @@ module _ (t : Tree) (hay : List ℕ) (start at : ℕ) (within : start ≤ length
       before i among lt j m =
           let le = (Among-places hay start i among).0 in
           let c = comes i j le m in
-          let near : c.0 ≤ i + n = c.3 in
-          absurd (omega (arith, le, c.1, near, lt, back.back))
+          absurd (omega (arith, le, c.1, c.2, lt, back.back))
 
   begins_while : (set : AsciiSet) (q : ℕ) → ComesTo t hay start at (While set) → StaysIn (While set) t → IsBackWhile set hay start at q → NoneBefore t hay start q
   begins_while set q comes stays back = record { place = ⊎_elim (at_start q) behind back.stands; none_before = before }
@@ -102,7 +107,7 @@ module _ (t : Tree) (hay : List ℕ) (start at : ℕ) (within : start ≤ length
 
   -- no match begins before where the reach goes back to
   pub begins_back : (reach : Reach) (q : ℕ) → ComesTo t hay start at reach → StaysIn reach t → IsBack reach hay start at q → NoneBefore t hay start q
-  begins_back (Bytes n) q comes stays back = begins_near n q comes back
+  begins_back (Bytes n) q comes stays back = begins_near n q (λ i j le m. let c = comes i j le m in (c.0, c.1, c.3)) back
   begins_back (While set) q comes stays back = begins_while set q comes stays back
   begins_back Haystack q comes stays same = subst (λ q. NoneBefore t hay start q) (sym same) begins_at_start
 
@@ -157,6 +162,25 @@ module _ (t : Tree) (near : Near) (is : IsNear t near) (hay : List ℕ) (start :
 
       comes : ComesTo t hay start at near.reach
       comes i j le m = let h = is.holds hay i j m in (h.at, late i j le m, omega (arith, h.within), h.near)
+
+-- ## By one of several literals
+
+module _ (t : Tree) (set : List Needle) (is : BeginsWithOne t set) (hay : List ℕ) (start : ℕ) where
+  -- where none of them occurs, nothing matches
+  pub none_matches_of : NothingFrom set hay start → NoMatch t hay (places hay start)
+  none_matches_of none i among j m = none i (Among-places hay start i among).0 (is hay i j m)
+
+  pub begins_by_set : (at q : ℕ) → start ≤ length hay → NothingOccurs set hay start at → start ≤ at → IsBackAtAscii hay start at q → NoneBefore t hay start q
+  begins_by_set at q within none onward back = begins_near t hay start at within 0 q near (subst (λ k. IsBackAtAscii hay start k q) same back)
+    where
+      same : at ≡ max (at - 0) start
+      same = omega (arith, onward)
+
+      split : (a b : ℕ) → (a ≤ b) ⊎ (b < a)
+      split a b = grind arith
+
+      near : IsNearTo t hay start at 0
+      near i j le m = ⊎_elim (λ (late : at ≤ i). (i, late, omega arith)) (λ (early : i < at). absurd (none i le early (is hay i j m))) (split at i)
 
 -- ## What facts say
 

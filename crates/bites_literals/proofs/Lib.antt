@@ -5,3 +5,4 @@ pub mod CharacterFacts
 pub mod PlaceLemmas
 pub mod BeginLemmas
 pub mod LawLemmas
+pub mod ChoiceLemmas

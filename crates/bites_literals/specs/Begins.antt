@@ -14,6 +14,7 @@ use Rattle.bites_literals.specs.declared.prefilter.Prefilter.{Prefilter}
 use Rattle.bites_literals.specs.declared.prefilter.Reach.{Reach}
 use Rattle.bites_literals.specs.declared.prefilter.Reach.TheVariants.{Bytes, While, Haystack}
 use Rattle.bites_literals.specs.Ascii.{Has}
+use Rattle.bites_literals.specs.Choice.{BeginsWithOne}
 use Rattle.bites_literals.specs.Facts.{EndsAtEnd, HoldsOnly, IsMost}
 use Rattle.bites_literals.specs.Texts.{EndsWith, Holds, bytes_of}
 
@@ -46,6 +47,7 @@ pub record IsEnd (t : Tree) (end : End) : Type 0 where
 pub record IsPrefilter (t : Tree) (p : Prefilter) : Type 0 where
   pub end : IfSome p.end (IsEnd t)
   pub near : IfSome p.near (IsNear t)
+  pub choice : IfSome p.choice (BeginsWithOne t)
 
 -- p is a place of the search, and the tree matches from no place before it
 pub record NoneBefore (t : Tree) (hay : List ℕ) (start p : ℕ) : Type 0 where

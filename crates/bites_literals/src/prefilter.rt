@@ -3,23 +3,29 @@
 ghost use Rattle.std.specs.Prelude.{◌≡◌, ℕ, ◌⊎◌, ◌<◌, ◌≤◌, length, slice_index, IfSome};
 ghost use Rattle.bites_spec.specs.Tree as spec;
 ghost use Rattle.bites_literals.specs.Begins.{BeginsBy, IsPrefilter, IsNear, IsEnd, IsWithin, IsBack, IsBackAtAscii, IsBackWhile, IsReachOf};
+ghost use Rattle.bites_literals.specs.Choice.{BeginsWithOne};
 ghost use Rattle.bites_literals.specs.Facts.{AreFacts};
 
 use crate::ascii::AsciiSet;
+use crate::choice::set_of;
 use crate::facts::Facts;
 use crate::text::Text;
-use crate::tree::{facts_of, may_pay};
+use crate::tree::{facts_of, is_at_end, is_at_start, is_choice};
 use bites_scan::literal::{Literal, Outcome};
+use bites_scan::literal_set::LiteralSet;
 use bites_syntax::tree::Tree;
+use std::alloc::Global;
 
 /// How often the two rarest bytes of a literal may occur, as the sum of their ranks.
 const COMMON: u32 = 480;
 
-/// What bounds the places where matches of a tree begin. It owns no memory.
+/// What bounds the places where matches of a tree begin.
 #[derive(Drop)]
 pub struct Prefilter {
     end: Option<End>,
     near: Option<Near>,
+    /// Literals with one of which each match begins.
+    choice: Option<LiteralSet>,
 }
 
 /// What is known of matches if each of them ends at the end of the haystack.
@@ -59,30 +65,48 @@ pub enum Begin {
 }
 
 impl Prefilter {
-    /// Returns a prefilter for the tree, if each of its matches holds a literal that is worth a search, or ends at the end
-    /// of the haystack and not far behind its beginning.
-    pub fn of(tree: &Tree) -> Option<Prefilter>
+    /// Returns a prefilter for the tree, if each of its matches holds a literal that is worth a search, or begins with one of
+    /// a few, or ends at the end of the haystack and not far behind its beginning.
+    pub fn of(alloc: Global, tree: &Tree) -> Option<Prefilter>
         ensures { IfSome result (λ prefilter. IsPrefilter tree.now prefilter) }
     {
-        if !may_pay(tree) {
+        if is_at_start(tree) {
             return None;
+        }
+        if is_choice(tree) && !is_at_end(tree) {
+            return Prefilter::of_parts(None, None, set_of(alloc, tree));
         }
         let facts = facts_of(tree);
         let end = End::of(&facts);
-        let near = if facts.ends && facts.most.is_some() {
-            None
+        if facts.ends && facts.most.is_some() {
+            return Prefilter::of_parts(end, None, None);
+        }
+        let near = Near::of(&facts);
+        let choice = if near.is_none() {
+            set_of(alloc, tree)
         } else {
-            Near::of(&facts)
+            None
         };
-        if end.is_none() && near.is_none() {
+        Prefilter::of_parts(end, near, choice)
+    }
+
+    /// Returns a prefilter of these parts, if one of them is there.
+    fn of_parts(
+        end: Option<End>,
+        near: Option<Near>,
+        choice: Option<LiteralSet>,
+    ) -> Option<Prefilter>
+        ensures { (t : spec.Tree) → IfSome end (IsEnd t) → IfSome near (IsNear t) → IfSome choice (BeginsWithOne t) → IfSome result (IsPrefilter t) }
+    {
+        if end.is_none() && near.is_none() && choice.is_none() {
             return None;
         }
-        Some(Prefilter { end, near })
+        Some(Prefilter { end, near, choice })
     }
 
     /// Returns from where a search of the haystack has to begin that may begin at `start`.
     ///
-    /// It searches for the literal from `start` on. Before the offset that the search comes to, no match of the tree ends. If
+    /// It searches for the literal, or for the first of several, from `start` on. Before the offset that the search comes to, no match of the tree ends. If
     /// each match ends at the end of the haystack, it looks first at how the haystack ends, and goes back from there at last.
     pub fn begin(&self, haystack: &[u8], start: usize) -> Begin
         requires { start ≤ length haystack.now }
@@ -100,14 +124,17 @@ impl Prefilter {
         }
     }
 
-    /// Returns from where the search has to begin by the literal alone.
+    /// Returns from where the search has to begin by literals alone.
     fn begin_by_literal(&self, haystack: &[u8], start: usize) -> Begin
         requires { start ≤ length haystack.now }
         ensures within { IsWithin result (length haystack.now) }
         ensures begins { (t : spec.Tree) → IsPrefilter t self.now → BeginsBy t haystack.now start result }
     {
-        match &self.near {
-            Some(near) => near.begin(haystack, start),
+        if let Some(near) = &self.near {
+            return near.begin(haystack, start);
+        }
+        match &self.choice {
+            Some(set) => begin_by_set(set, haystack, start),
             None => Begin::From(start),
         }
     }
@@ -189,6 +216,20 @@ impl Reach {
             Reach::Haystack => start,
         }
     }
+}
+
+/// Returns from where a search has to begin that may begin at `start`, if each match begins with a literal of the set.
+fn begin_by_set(set: &LiteralSet, haystack: &[u8], start: usize) -> Begin
+    requires { start ≤ length haystack.now }
+    ensures within { IsWithin result (length haystack.now) }
+    ensures begins { (t : spec.Tree) → BeginsWithOne t set.now → BeginsBy t haystack.now start result }
+{
+    let at = match set.search(haystack, start) {
+        Outcome::Found(at) => at,
+        Outcome::Tired(at) => at,
+        Outcome::Nowhere => return Begin::Nowhere,
+    };
+    Begin::From(back_to_ascii(haystack, start, at))
 }
 
 /// Goes back to a byte of ASCII, or to the start.

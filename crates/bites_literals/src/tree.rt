@@ -27,7 +27,7 @@ pub(crate) fn facts_of(tree: &Tree) -> Facts
 
 /// Returns what is known of each match of the trees one after another.
 #[cycle(facts)]
-fn facts_of_sequence(parts: &[Tree]) -> Facts
+pub(crate) fn facts_of_sequence(parts: &[Tree]) -> Facts
     ensures { AreFacts (sequence (trees_of parts.now)) result }
 {
     let mut facts = Facts::empty();
@@ -49,15 +49,16 @@ fn facts_of_alternation(parts: &[Tree]) -> Facts
     facts
 }
 
-// How deep a tree is looked into before it is said to be worth a search for a literal.
+// How deep a tree is looked into by the tests below, on which only speed depends.
 const MOST_DEPTH: u32 = 100;
 
-/// Returns whether no literal can be known of each match, since the tree is a choice.
-fn is_choice(tree: &Tree) -> bool {
+/// Returns whether the tree is a choice, of which no literal is known that each match holds.
+pub(crate) fn is_choice(tree: &Tree) -> bool {
     let mut part = tree;
     for _ in 0..MOST_DEPTH {
         match part.kind() {
             Kind::Capture { sub, .. } => part = sub,
+            Kind::Repetition { min, sub, .. } if *min > 0 => part = sub,
             Kind::Alternation(_) => return true,
             _ => return false,
         }
@@ -66,7 +67,7 @@ fn is_choice(tree: &Tree) -> bool {
 }
 
 /// Returns whether matches begin at the start of the haystack alone, where a search ends soon by itself.
-fn is_at_start(tree: &Tree) -> bool {
+pub(crate) fn is_at_start(tree: &Tree) -> bool {
     let mut part = tree;
     for _ in 0..MOST_DEPTH {
         match part.kind() {
@@ -83,7 +84,7 @@ fn is_at_start(tree: &Tree) -> bool {
 }
 
 /// Returns whether the last part of the tree, or of its last branch, is the end of the haystack.
-fn is_at_end(tree: &Tree) -> bool {
+pub(crate) fn is_at_end(tree: &Tree) -> bool {
     let mut part = tree;
     for _ in 0..MOST_DEPTH {
         match part.kind() {
@@ -97,9 +98,4 @@ fn is_at_end(tree: &Tree) -> bool {
         }
     }
     false
-}
-
-/// Returns whether facts of the tree may make a search shorter. Only speed depends on it.
-pub(crate) fn may_pay(tree: &Tree) -> bool {
-    !is_at_start(tree) && (!is_choice(tree) || is_at_end(tree))
 }

@@ -7,7 +7,7 @@ use std::alloc::Global;
 
 fn prefilter(alloc: Global, pattern: &str) -> Result<Option<Prefilter>, Error> {
     let tree = parse(alloc, pattern, Flags::default(), 50)?;
-    Ok(Prefilter::of(&tree))
+    Ok(Prefilter::of(alloc, &tree))
 }
 
 /// Returns from where a search has to begin that may begin at `start`, if there is a prefilter and the start lies in the haystack.
@@ -39,6 +39,38 @@ fn begins_by_hand(rt: HostRuntime) -> Result<(), Error> {
         let found = prefilter(rt.alloc(), pattern)?.ok_or(Error::Memory)?;
         assert_eq!(rt; found.begin(haystack.as_bytes(), *start), *begin);
     }
+    Ok(())
+}
+
+/// Matches that begin with one of a few texts. Each row is as above.
+#[test]
+fn begins_with_one_of_several_by_hand(rt: HostRuntime) -> Result<(), Error> {
+    for (pattern, haystack, start, begin) in &[
+        ("holmes|watson", "with watson, holmes", 0, Begin::From(5)),
+        ("holmes|watson", "holmes and watson", 1, Begin::From(11)),
+        ("holmes|watson", "Holmes, wats on", 0, Begin::Nowhere),
+        ("(?i)holmes|watson", "a WATSON", 0, Begin::From(2)),
+        ("(?i)kim|sam", "\u{212A}im Sam", 0, Begin::From(6)),
+        ("(zqa|zqb)", "zq zqb", 0, Begin::From(3)),
+        (
+            r"\b(abstract|const|enum|if)\b",
+            "x = if const",
+            0,
+            Begin::From(4),
+        ),
+        ("(?m)^(?:get|put) ", "for\nput x", 0, Begin::From(4)),
+        ("(?m)^(?:get|put) ", "forget", 0, Begin::From(3)),
+        ("foo|(?:bar|(bo+z))+x?", "a boar", 0, Begin::From(2)),
+        ("(foo|bar){2,}", "a foobar", 0, Begin::From(2)),
+        (r"(?:foo|bar).*$", "xx foo bar", 0, Begin::From(3)),
+        (r"(?:foo|bar).*$", "foo\nx bar", 0, Begin::From(4)),
+        (r"(?:foo|bar).*$", "fo ba", 0, Begin::Nowhere),
+    ] {
+        let found = begin_of(rt.alloc(), pattern, haystack.as_bytes(), *start)?;
+        assert_eq!(rt; found, *begin, "{pattern}");
+    }
+    let found = begin_of(rt.alloc(), "foo|bar", b"\xE2\x82bar", 0)?;
+    assert_eq!(rt; found, Begin::From(2));
     Ok(())
 }
 
@@ -114,7 +146,16 @@ fn has_none(rt: HostRuntime) -> Result<(), Error> {
         r"^\b$",
         "^zq",
         r"(\Azq)x",
-        "(zqa|zqb)",
+        "foo|b",
+        "foo|bar|",
+        "foo|[ab]c",
+        r"foo|\d*bar",
+        r"\d*(foo|bar)",
+        r"(\w)(?:foo|bar)",
+        "foo|(?:bar|b+o*z)+",
+        "(foo|bar)?",
+        "(foo|bar)*",
+        "foo|é",
         "(?m)[a-c]$",
         "(?mR)[a-c]$",
         "$|[a-c]",

@@ -83,8 +83,8 @@ impl Compiled {
         Arc::new(alloc, table).ok()
     }
 
-    // Reads the pattern again, and returns a literal that each match holds, if one is worth a search. Returns `None` too if
-    // memory runs out, and if the pattern exceeds the default of `RegexBuilder::nest_limit`.
+    // Reads the pattern again, and returns a prefilter of its tree, if one is worth a search. Returns `None` too if memory runs
+    // out, and if the pattern exceeds the default of `RegexBuilder::nest_limit`.
     fn make_literal(&self, alloc: Global) -> Option<Arc<Prefilter>>
         ensures { IfSome result (λ literal. IsPrefilter self.now.tree literal.value) }
     {
@@ -134,11 +134,11 @@ impl Compiled {
     }
 }
 
-// Returns a literal that each match of the tree holds, if one is worth a search, and if there is memory for it.
+// Returns a prefilter of the tree, if one is worth a search, and if there is memory for it.
 fn literal_of(alloc: Global, tree: &Tree) -> Option<Arc<Prefilter>>
     ensures { IfSome result (λ literal. IsPrefilter tree.now literal.value) }
 {
-    let literal = Prefilter::of(tree)?;
+    let literal = Prefilter::of(alloc, tree)?;
     Arc::new(alloc, literal).ok()
 }
 
@@ -159,7 +159,7 @@ pub struct Regex {
     table: Option<Arc<Table>>,
     // Whether searches look for the literal first.
     prefilter: bool,
-    // A literal that each match holds.
+    // The literals that searches look for, if there are some.
     literal: Option<Arc<Prefilter>>,
 }
 

@@ -1,0 +1,7 @@
+use Rattle.std.proofs.Common.{arith}
+use Rattle.bites_literals.proofs.ChoiceLemmas.{front_added}
+use Rattle.bites_literals.proofs.choice.add_front.Goals as goal
+
+pub returns : goal.returns
+returns c t facts said =
+    front_added t c.args.facts.now facts (omega (arith, c.if-len-lt-LEAST_LEN.false, c.len.ensures)) c.literal.result c.literal.ensures c.args.texts.now.items c.push.new.self.items c.in_ok-push.ensures.items

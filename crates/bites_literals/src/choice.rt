@@ -1,0 +1,97 @@
+//! Texts with one of which each match of a tree begins.
+
+ghost use Rattle.std.specs.Prelude.{◌≡◌, ℕ, List, IfOk, IfSome, IsTrue};
+ghost use Rattle.bites_spec.specs.Match.{Matches};
+ghost use Rattle.bites_spec.specs.Tree as spec;
+ghost use Rattle.bites_spec.specs.Tree.{sequence, alternation, trees_of};
+ghost use Rattle.bites_literals.specs.Choice.{AreAdded, BeginsWithOne};
+ghost use Rattle.bites_literals.specs.Facts.{AreFacts};
+
+use crate::facts::Facts;
+use crate::tree::{facts_of, facts_of_sequence, is_choice};
+use bites_scan::literal::Literal;
+use bites_scan::literal_set::{LiteralSet, MOST_LITERALS};
+use bites_syntax::tree::{Kind, Tree};
+use std::alloc::{AllocError, Global};
+
+/// How many bytes a text has at least.
+const LEAST_LEN: usize = 2;
+
+/// Returns literals with one of which each match of the tree begins, if they are worth a search, and if there is memory for
+/// them.
+pub(crate) fn set_of(alloc: Global, tree: &Tree) -> Option<LiteralSet>
+    ensures { IfSome result (BeginsWithOne tree.now) }
+{
+    let mut texts = Vec::new(alloc);
+    match add_texts(tree, &mut texts) {
+        Ok(true) => LiteralSet::new(texts),
+        _ => None,
+    }
+}
+
+/// Adds texts to those before, and returns whether each match of the tree begins with one of all these. If not, they are of
+/// no use.
+#[cycle(texts)]
+fn add_texts(tree: &Tree, texts: &mut Vec<Literal>) -> Result<bool, AllocError>
+    ensures { IfOk result (AreAdded tree.now texts.old.items texts.new.items) }
+{
+    match tree.kind() {
+        Kind::Capture { sub, .. } => add_texts(sub, texts),
+        Kind::Repetition { min, sub, .. } if *min > 0 => add_texts(sub, texts),
+        Kind::Concat(parts) => add_texts_of_sequence(parts, texts),
+        Kind::Alternation(parts) => add_texts_of_each(parts, texts),
+        _ => add_front(&facts_of(tree), texts),
+    }
+}
+
+/// The same for the trees one after another. Parts that match no character are passed.
+#[cycle(texts)]
+fn add_texts_of_sequence(parts: &[Tree], texts: &mut Vec<Literal>) -> Result<bool, AllocError>
+    ensures { IfOk result (AreAdded (sequence (trees_of parts.now)) texts.old.items texts.new.items) }
+{
+    for i in 0..parts.len() {
+        let part = &parts[i];
+        if is_choice(part) {
+            return add_texts(part, texts);
+        }
+        if !is_empty(part) {
+            return add_front(&facts_of_sequence(parts), texts);
+        }
+    }
+    Ok(false)
+}
+
+/// The same for one of the trees.
+#[cycle(texts)]
+fn add_texts_of_each(parts: &[Tree], texts: &mut Vec<Literal>) -> Result<bool, AllocError>
+    ensures { IfOk result (AreAdded (alternation (trees_of parts.now)) texts.old.items texts.new.items) }
+{
+    if parts.len() > MOST_LITERALS {
+        return Ok(false);
+    }
+    for branch in 0..parts.len() {
+        if !add_texts(&parts[branch], texts)? {
+            return Ok(false);
+        }
+    }
+    Ok(true)
+}
+
+/// Adds what each match begins with, if it is worth a search.
+fn add_front(facts: &Facts, texts: &mut Vec<Literal>) -> Result<bool, AllocError>
+    ensures { (t : spec.Tree) → AreFacts t facts.now → IfOk result (AreAdded t texts.old.items texts.new.items) }
+{
+    let front = facts.front;
+    if front.len() < LEAST_LEN || texts.len() >= MOST_LITERALS {
+        return Ok(false);
+    }
+    texts.push(front.literal())?;
+    Ok(true)
+}
+
+/// Returns whether the tree is empty or an assertion, which match no character.
+fn is_empty(tree: &Tree) -> bool
+    ensures { IsTrue result → (hay : List ℕ) (i j : ℕ) → Matches hay tree.now i j → j ≡ i }
+{
+    matches!(tree.kind(), Kind::Empty | Kind::Look(_))
+}
