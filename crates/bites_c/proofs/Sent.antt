@@ -4,6 +4,7 @@ use Rattle.std.proofs.Crossing.{crosses}
 use Rattle.bites_syntax.proofs.flags.Flags.TheSendSync as flags
 use Rattle.bites_syntax.proofs.tree.Tree.TheLaws.TheKnot.{crosses as tree_crosses}
 use Rattle.bites_scan.specs.contracts.literal.Literal as Literal
+use Rattle.bites_scan.specs.contracts.literal_set.LiteralSet as LiteralSet
 use Rattle.bites_literals.proofs.prefilter.Prefilter.TheSendSync as prefilter
 use Rattle.bites_machine.proofs.state.State.TheSendSync as state
 use Rattle.bites_machine.proofs.vm.threads.Threads.TheSendSync as threads
@@ -46,11 +47,17 @@ literal_send = search (sendable, crosses) depth 20
 literal_sync : IsSync Literal.the_row
 literal_sync = search (sendable, crosses) depth 20
 
+literal_set_send : IsSend LiteralSet.the_row
+literal_set_send = search (sendable, crosses, literal_send) depth 30
+
+literal_set_sync : IsSync LiteralSet.the_row
+literal_set_sync = search (sendable, crosses, literal_sync) depth 30
+
 compiled_send : IsSend Compiled.the_row
-compiled_send = search (sendable, crosses, tree_crosses, flags.the_field_send, program_send, literal_send, prefilter.the_send) depth 40
+compiled_send = search (sendable, crosses, tree_crosses, flags.the_field_send, program_send) depth 40
 
 compiled_sync : IsSync Compiled.the_row
-compiled_sync = search (sendable, crosses, tree_crosses, flags.the_field_sync, program_sync, literal_sync, prefilter.the_sync) depth 40
+compiled_sync = search (sendable, crosses, tree_crosses, flags.the_field_sync, program_sync) depth 40
 
 cell_send : IsSend Cell.the_row
 cell_send = search (sendable, crosses) depth 20
@@ -71,7 +78,7 @@ table_sync : IsSync Table.the_row
 table_sync = search (sendable, table_fields_sync) depth 20
 
 regex_send : IsSend Regex.the_row
-regex_send = search (sendable, crosses, compiled_send, compiled_sync, table_send, table_sync) depth 20
+regex_send = search (sendable, crosses, compiled_send, compiled_sync, table_send, table_sync, literal_send, literal_sync, literal_set_send, literal_set_sync, prefilter.the_send, prefilter.the_sync) depth 40
 
 pub held_send : IsSend Held.the_row
 held_send = search (sendable, regex_send) depth 20
