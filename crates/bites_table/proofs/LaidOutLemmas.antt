@@ -1,13 +1,13 @@
 -- Graphs of thread lists, laid out.
 use Rattle.std.proofs.Common.{◌≡◌, ◌≢◌, ℕ, zero, suc, ◌+◌, ◌*◌, ◌/◌, ◌%◌, ◌^◌, ◌<◌, ◌≤◌, ◌⊎◌, Bool, true, false, cond, ◌||◌, List, [], ◌∷◌, ◌++◌, map, take, drop, length, Option, Some, None, option_map, refl, sym, ap, ◌∙◌, subst, inl, inr, ⊎_elim, add-zero, arith, length-append}
-use Rattle.std.specs.Prelude.{◌==◌, nat_le, nat_lt, slice_get, slice_index_or, slice_range, bit_and, min, is_some}
+use Rattle.std.specs.Prelude.{◌==◌, nat_le, nat_lt, slice_get, slice_index_or, slice_range, bit_and, bit_or, min, max, is_some}
 use Rattle.std.specs.Int.{bit_at}
 use Rattle.std.specs.Option.{option_flatten}
 use Rattle.std.proofs.lemmas.List.{get_or-map, take_more, length-map}
 use Rattle.std.proofs.lemmas.Bool.{cases_eq}
 use Rattle.std.proofs.lemmas.Bool.Decides.{nat_tests}
 use Rattle.std.proofs.lemmas.Nat.{div-mul-add, mod-mul-add}
-use Rattle.std.proofs.lemmas.Nat.Bits.{bit_at_and, bit_at-zero, bit_at_above, bit_at_ones}
+use Rattle.std.proofs.lemmas.Nat.Bits.{and_pow, bit_at_and, bit_at_or, bit_at-zero, bit_at_above, bit_at_ones}
 use Rattle.std.proofs.Math.Nat.{suc-mul}
 use Rattle.bites_spec.specs.Walks.{Among}
 use Rattle.bites_machine.specs.Bits.{has_bit}
@@ -22,9 +22,9 @@ use Rattle.bites_table.specs.Graph as graphs
 use Rattle.bites_table.specs.Graph.{NumberedList, Outcome, Graph, AreHeld, list_as, transition_with, transition_in, cell_at, table_of}
 use Rattle.bites_table.specs.Stored.{cell_of}
 use Rattle.bites_table.specs.Steps.{MakeMoves}
-use Rattle.bites_table.specs.Packed.{Packed, table_in, lists_in, stride, row_of, mask_of, is_dead, BeginsRow, IsPassed, IsCell, Tells, IsPartOf, thread_with_register}
+use Rattle.bites_table.specs.Packed.{Packed, table_in, lists_in, stride, row_of, mask_of, is_dead, BeginsRow, IsPassed, IsHit, IsCell, Tells, IsPartOf, thread_with_register}
 use Rattle.bites_table.specs.Layout.{Tell, AreCells, IsEntry}
-use Rattle.bites_table.specs.LaidOut.{IsHeldHit, AreHeldHits, register_thread, AreHeldBelow, IsEntryOf, AreEntries, masked, IsOwn, IsKept, IsBegun, IsKeptOrBegun, DoesQuietly, DoesByBits, DoesPass, PassesByBits, IsAct, IsActOf, AreActs, Fits, AreLaid}
+use Rattle.bites_table.specs.LaidOut.{IsHeldHit, AreHeldHits, register_thread, AreHeldBelow, IsEntryOf, AreEntries, masked, IsOwn, IsKept, IsBegun, IsKeptOrBegun, DoesQuietly, DoesByBits, DoesPass, PassesByBits, EndsHit, DoesHit, IsAct, IsActOf, AreActs, Fits, AreLaid}
 use Rattle.bites_table.specs.declared.thread_list.Thread.{Thread}
 use Rattle.bites_table.specs.declared.thread_list.Source.{Source}
 use Rattle.bites_table.specs.declared.explore.graph.Cell as made
@@ -113,28 +113,48 @@ all-set width e =
     (λ (z : mask_of width ≡ 4). let no : 4 ≡ 0 = at-mask 255 width 4 z e in omega arith))
     (widths width)
 
-pub do-unknown : (o : Outcome) (l : ThreadList) → DoesByBits o l 255
-do-unknown o l width e = absurd (all-set width e)
+-- the bit of what is no hit
+pub more-or : (doing : ℕ) → bit_and (bit_or doing 16) 16 ≡ 0 → ⊥
+more-or doing e = no (bit_at doing 4) (ap (λ n. n * 2 ^ 4) (sym (bit_at_or doing 16 4)) ∙ sym (and_pow (bit_or doing 16) 4) ∙ e)
+  where
+    no : (n : ℕ) → max n 1 * 2 ^ 4 ≡ 0 → ⊥
+    no n e = omega arith
 
-pub do-each : (o : Outcome) (l : ThreadList) → DoesByBits o l 7
-do-each o l width e =
-    ⊎_elim (λ (z : width ≡ 0). let no : 1 ≡ 0 = at-mask 7 width 1 (ap mask_of z) e in absurd (omega arith))
-    (⊎_elim (λ (z : width ≡ 2). let no : 2 ≡ 0 = at-mask 7 width 2 (ap mask_of z) e in absurd (omega arith))
-    (λ (z : mask_of width ≡ 4). let no : 4 ≡ 0 = at-mask 7 width 4 z e in absurd (omega arith)))
-    (widths width)
+first-slots : (k : ℕ) → k < 2 → masked 3 k ≡ true
+first-slots zero lt = refl
+first-slots (suc zero) lt = refl
+first-slots (suc (suc k)) lt = absurd (omega arith)
 
--- what is done quietly is passed, and no row begins
-pub passes-quietly : (o : Outcome) (l : ThreadList) (doing : ℕ) → ((u : sources.Thread ℕ) → Among l.threads u → u.row < 32) → DoesByBits o l doing → PassesByBits o l 32 doing
-passes-quietly o l doing held does width e =
-    let q = does width e in
-    record {
-      hit = q.hit;
-      alive = q.alive;
-      register = omega arith;
-      kept = λ lt u at other. q.kept lt u at;
-      unwritten = λ u at other k lt. q.unwritten u at k lt;
-      begun = λ two u at is. let lt = held u at in absurd (omega arith);
-    }
+module _ (o : Outcome) (l : ThreadList) (threads : List Thread) (is : l.threads ≡ map thread_as threads) where
+  thread-of : (u : sources.Thread ℕ) → Among l.threads u → (t : Thread) × Among threads t × (thread_as t ≡ u)
+  thread-of u at = among-map threads u (let P : List (sources.Thread ℕ) → Type 0 = λ ts. Among ts u in subst P is at)
+    where
+      among-map : (ts : List Thread) (u : sources.Thread ℕ) → Among (map thread_as ts) u → (t : Thread) × Among ts t × (thread_as t ≡ u)
+      among-map [] u at = absurd at
+      among-map (t ∷ ts) u at = ⊎_elim (λ e. (t, inl refl, e)) (λ later. let own = among-map ts u later in (own.0, inr own.1, own.2)) at
+
+  -- rows that are kept
+  module _ (mask : ℕ) (kept : (t : Thread) → Among threads t → IsKept o.moves mask t) where
+    kept-register : (u : sources.Thread ℕ) → Among l.threads u → (source_at (map source_of o.moves) u.row).register ≡ Some u.row
+    kept-register u at =
+        let own = thread-of u at in
+        let P : sources.Thread ℕ → Type 0 = λ v. (source_at (map source_of o.moves) v.row).register ≡ Some v.row in
+        subst P own.2 (kept own.0 own.1).register
+
+    kept-unwritten : (u : sources.Thread ℕ) → Among l.threads u → (k : ℕ) → masked mask k ≡ true → (source_at (map source_of o.moves) u.row).writes k ≡ false
+    kept-unwritten u at k masks =
+        let own = thread-of u at in
+        let P : sources.Thread ℕ → Type 0 = λ v. (source_at (map source_of o.moves) v.row).writes k ≡ false in
+        subst P own.2 ((kept own.0 own.1).unwritten k masks)
+
+  pub does-hit : (register : ℕ) → register < 33 → EndsHit o.hit register → is_dead l ≡ false → ((t : Thread) → Among threads t → IsKept o.moves 3 t) → DoesHit o l register
+  does-hit register there hit alive kept = record {
+    hit = hit;
+    there = there;
+    alive = alive;
+    kept = kept-register 3 kept;
+    unwritten = λ u at k lt. kept-unwritten 3 kept u at k (first-slots k lt);
+  }
 
 -- nobody comes to a match, and the search is not over
 module _ (o : Outcome) (l : ThreadList) (hit : o.hit ≡ None) (alive : is_dead l ≡ false) where
@@ -146,21 +166,7 @@ module _ (o : Outcome) (l : ThreadList) (hit : o.hit ≡ None) (alive : is_dead 
     unwritten = λ u is k lt. absurd (omega arith);
   }
 
-  pub do-slots : DoesByBits o l 6
-  do-slots width e =
-      ⊎_elim (λ (z : width ≡ 0). no-width width z)
-      (⊎_elim (λ (z : width ≡ 2). let no : 2 ≡ 0 = at-mask 6 width 2 (ap mask_of z) e in absurd (omega arith))
-      (λ (z : mask_of width ≡ 4). let no : 4 ≡ 0 = at-mask 6 width 4 z e in absurd (omega arith)))
-      (widths width)
-
   module _ (threads : List Thread) (is : l.threads ≡ map thread_as threads) where
-    thread-of : (u : sources.Thread ℕ) → Among l.threads u → (t : Thread) × Among threads t × (thread_as t ≡ u)
-    thread-of u at = among-map threads u (let P : List (sources.Thread ℕ) → Type 0 = λ ts. Among ts u in subst P is at)
-      where
-        among-map : (ts : List Thread) (u : sources.Thread ℕ) → Among (map thread_as ts) u → (t : Thread) × Among ts t × (thread_as t ≡ u)
-        among-map [] u at = absurd at
-        among-map (t ∷ ts) u at = ⊎_elim (λ e. (t, inl refl, e)) (λ later. let own = among-map ts u later in (own.0, inr own.1, own.2)) at
-
     -- in the first two slots one row begins
     module _ (begins : ℕ) (there : begins < 33) (does : (t : Thread) → Among threads t → IsKeptOrBegun o.moves begins t) where
       two-slots : (width : ℕ) → width ≡ 2 → DoesPass o l width begins
@@ -168,23 +174,18 @@ module _ (o : Outcome) (l : ThreadList) (hit : o.hit ≡ None) (alive : is_dead 
         hit = hit;
         alive = alive;
         register = there;
-        kept = λ lt u at other. let own = thread-of u at in
+        kept = λ lt u at other. let own = thread-of o l threads is u at in
             let P : sources.Thread ℕ → Type 0 = λ v. v.row ≢ begins → (source_at (map source_of o.moves) v.row).register ≡ Some v.row in
             subst P own.2 (λ ne. ((does own.0 own.1).kept ne).register) (other two);
-        unwritten = λ u at other k lt. let own = thread-of u at in
+        unwritten = λ u at other k lt. let own = thread-of o l threads is u at in
             let P : sources.Thread ℕ → Type 0 = λ v. v.row ≢ begins → (source_at (map source_of o.moves) v.row).writes k ≡ false in
-            subst P own.2 (λ ne. ((does own.0 own.1).kept ne).unwritten k (of-first k (omega arith))) (other two);
-        begun = λ same u at is. let own = thread-of u at in
+            subst P own.2 (λ ne. ((does own.0 own.1).kept ne).unwritten k (first-slots k (omega arith))) (other two);
+        begun = λ same u at e. let own = thread-of o l threads is u at in
             let P : sources.Thread ℕ → Type 0 = λ v. v.row ≡ begins → BeginsRow (source_at (map source_of o.moves) v.row) in
-            subst P own.2 (does own.0 own.1).begun is;
+            subst P own.2 (does own.0 own.1).begun e;
       }
-        where
-          of-first : (k : ℕ) → k < 2 → masked 3 k ≡ true
-          of-first zero lt = refl
-          of-first (suc zero) lt = refl
-          of-first (suc (suc k)) lt = absurd (omega arith)
 
-      pub passes-begun : PassesByBits o l begins 4
+      pub passes-begun : PassesByBits o l begins 20
       passes-begun width e =
           ⊎_elim (λ (z : width ≡ 0). record {
             hit = hit;
@@ -194,33 +195,23 @@ module _ (o : Outcome) (l : ThreadList) (hit : o.hit ≡ None) (alive : is_dead 
             unwritten = λ u at other k lt. absurd (omega arith);
             begun = λ two u at is. absurd (omega arith);
           })
-          (⊎_elim (λ (z : width ≡ 2). two-slots width z) (λ (z : mask_of width ≡ 4). let no : 4 ≡ 0 = at-mask 4 width 4 z e in absurd (omega arith)))
+          (⊎_elim (λ (z : width ≡ 2). two-slots width z) (λ (z : mask_of width ≡ 4). let no : 4 ≡ 0 = at-mask 20 width 4 z e in absurd (omega arith)))
           (widths width)
 
-    module _ (mask : ℕ) (kept : (t : Thread) → Among threads t → IsKept o.moves mask t) where
-      in-width : (width : ℕ) → ((k : ℕ) → k < width → masked mask k ≡ true) → DoesQuietly o l width
-      in-width width masks = record {
-        hit = hit;
-        alive = alive;
-        kept = λ lt u at. let own = thread-of u at in
-            let P : sources.Thread ℕ → Type 0 = λ v. (source_at (map source_of o.moves) v.row).register ≡ Some v.row in
-            subst P own.2 (kept own.0 own.1).register;
-        unwritten = λ u at k lt. let own = thread-of u at in
-            let P : sources.Thread ℕ → Type 0 = λ v. (source_at (map source_of o.moves) v.row).writes k ≡ false in
-            subst P own.2 ((kept own.0 own.1).unwritten k (masks k lt));
-      }
+    in-width : (mask : ℕ) → ((t : Thread) → Among threads t → IsKept o.moves mask t) → (width : ℕ) → ((k : ℕ) → k < width → masked mask k ≡ true) → DoesQuietly o l width
+    in-width mask kept width masks = record {
+      hit = hit;
+      alive = alive;
+      kept = λ lt. kept-register o l threads is mask kept;
+      unwritten = λ u at k lt. kept-unwritten o l threads is mask kept u at k (masks k lt);
+    }
 
     pub do-more : ((t : Thread) → Among threads t → IsKept o.moves 3 t) → DoesByBits o l 4
     do-more kept width e =
         ⊎_elim (λ (z : width ≡ 0). no-width width z)
-        (⊎_elim (λ (z : width ≡ 2). in-width 3 kept width (λ k lt. first k (omega arith)))
+        (⊎_elim (λ (z : width ≡ 2). in-width 3 kept width (λ k lt. first-slots k (omega arith)))
         (λ (z : mask_of width ≡ 4). let no : 4 ≡ 0 = at-mask 4 width 4 z e in absurd (omega arith)))
         (widths width)
-      where
-        first : (k : ℕ) → k < 2 → masked 3 k ≡ true
-        first zero lt = refl
-        first (suc zero) lt = refl
-        first (suc (suc k)) lt = absurd (omega arith)
 
     pub do-none : ((t : Thread) → Among threads t → IsKept o.moves 18446744073709551615 t) → DoesByBits o l 0
     do-none kept width e = in-width 18446744073709551615 kept width (λ k lt. every k)
@@ -258,6 +249,7 @@ act-grows steps more new o l a e is =
       held = is.held;
       few = is.few;
       passes = is.passes;
+      hits = is.hits;
     }
 
 pub acts-push : (g : Graph) (steps more new : List Step) (acts : List Act) (o : Outcome) (a : Act) → new ≡ steps ++ more → AreActs g steps acts →
@@ -357,10 +349,22 @@ module _ (x : Packed) (acts : List Act) (w : ℕ) (fits : Fits x acts w) (n c : 
       begun = does.begun;
     }
 
+    is-hit : (register : ℕ) → DoesHit o (list_at (table_of x.graph) o.next) register → IsHit (table_in x) register (transition_with (cell_of m) o)
+    is-hit register does = record {
+      thread = frame_of does.hit.frame;
+      hit = ap (option_map frame_of) does.hit.is;
+      ends = does.hit.ends;
+      there = does.there;
+      alive = does.alive;
+      kept = does.kept;
+      unwritten = does.unwritten;
+    }
+
     tells-of : Tells x n c (record { next = r; act = number; doing = a.doing; begins = a.begins; seen = m.seen; looks = m.looks })
     tells-of = record {
       known = λ z. (transition_with (cell_of m) o, is-cell (λ e. let no : 8 ≡ 0 = ap (λ d. bit_and d 8) (sym e) ∙ z in omega arith));
       passed = λ width z. (transition_with (cell_of m) o, is-cell (λ e. all-set width (ap (λ d. bit_and d (mask_of width)) (sym e) ∙ z)), is-passed width (own.act.passes width z));
+      hits = λ z. (transition_with (cell_of m) o, is-cell (λ e. let no : 16 ≡ 0 = ap (λ d. bit_and d 16) (sym e) ∙ z in omega arith), is-hit a.begins (own.act.hits z));
     }
 
   pub tells : Tells x n c (record { next = r; act = number; doing = a.doing; begins = a.begins; seen = m.seen; looks = m.looks })
@@ -375,6 +379,7 @@ pub tells-nothing : (x : Packed) (n c : ℕ) (a : Cell) → a.doing ≡ 255 → 
 tells-nothing x n c a e = record {
   known = λ z. absurd (let no : 8 ≡ 0 = ap (λ d. bit_and d 8) (sym e) ∙ z in omega arith);
   passed = λ width z. absurd (all-set width (ap (λ d. bit_and d (mask_of width)) (sym e) ∙ z));
+  hits = λ z. absurd (let no : 16 ≡ 0 = ap (λ d. bit_and d 16) (sym e) ∙ z in omega arith);
 }
 
 -- the next of what is left

@@ -9,12 +9,14 @@ use Rattle.std.proofs.lemmas.List.{length-take, length-drop, length-set, length-
 use Rattle.std.proofs.lemmas.Bool.{cases_eq}
 use Rattle.std.proofs.lemmas.Bool.Decides.{nat_tests}
 use Rattle.std.proofs.Math.Nat.{mul-le-mul_right, suc-mul}
+use Rattle.std.proofs.Math.Seq.{drop-cons}
 use Rattle.bites_machine.specs.SlotTable.{no_slot, slot_of}
 use Rattle.bites_machine.specs.Resume.{row_in}
 use Rattle.bites_table.specs.Sources.{Source, unwritten, row_of_register, write, slots_from, row_at}
 use Rattle.bites_table.specs.Transition.{source_at}
 use Rattle.bites_table.specs.Steps.{with_spare, own_rows, after_step, after_steps, NameRegisters, AreRows}
 use Rattle.bites_table.specs.Built.{source_of}
+use Rattle.bites_table.specs.Packed.{EndsRow}
 use Rattle.bites_table.specs.declared.thread_list.Source as code
 use Rattle.bites_table.specs.declared.steps.Step.{Step}
 use Rattle.bites_table.specs.declared.steps.Step.TheVariants.{Copy, Blank, Write}
@@ -130,6 +132,17 @@ module _ (words : List ℕ) (r place : ℕ) (room : r * 2 + 2 ≤ length words) 
       ∙ other-row words 2 r q 0 place room more (omega arith) ne
 
 -- words from a place on, with one more written
+-- the row of a register that ends at the place
+pub ended-row : (words : List ℕ) (register place : ℕ) → register * 2 + 2 ≤ length words → (s : Source) → EndsRow register s →
+    row_at 2 place (row_in words 2) s ≡ slot_of (get_or words (register * 2) 0) ∷ Some place ∷ []
+ended-row words register place room s ends =
+    let first : register * 2 < length words = omega arith in
+    let second : suc (register * 2) < length words = omega arith in
+    ap (λ o. slots_from place s.writes 0 (option_map_or (row_in words 2) o (replicate 2 None))) ends.register_is
+    ∙ ap (λ (l : List ℕ). slots_from place s.writes 0 (map slot_of (take 2 l)))
+    (drop-cons words (register * 2) 0 first ∙ ap (λ (l : List ℕ). get_or words (register * 2) 0 ∷ l) (drop-cons words (suc (register * 2)) 0 second))
+    ∙ ap₂ (λ a b. cond a (Some place) (slot_of (get_or words (register * 2) 0)) ∷ cond b (Some place) (slot_of (get_or words (suc (register * 2)) 0)) ∷ []) ends.first ends.second
+
 pub written-more : (ws : List ℕ) (first n v : ℕ) (source : ℕ → ℕ) → first + n < length ws → v ≡ source n →
     ((k : ℕ) → k < n → get_or ws (first + k) 0 ≡ source k) → (k : ℕ) → k < n + 1 → get_or (set ws (first + n) v) (first + k) 0 ≡ source k
 written-more ws first n v source lt e before =

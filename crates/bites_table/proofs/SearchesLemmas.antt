@@ -24,7 +24,7 @@ use Rattle.bites_table.specs.declared.table.act.Act.{Act}
 use Rattle.bites_table.specs.declared.thread_list.Frame.{Frame}
 use Rattle.bites_table.specs.Transition.{Transition, source_at}
 use Rattle.bites_table.specs.Graph.{transition_in}
-use Rattle.bites_table.specs.Packed.{Packed, table_in, classes_in, lists_in, stride, row_of, mask_of, unknown, is_dead, Tells, IsCell, thread_with_register}
+use Rattle.bites_table.specs.Packed.{Packed, table_in, classes_in, lists_in, stride, row_of, mask_of, unknown, more, is_dead, Tells, IsCell, thread_with_register}
 use Rattle.bites_table.specs.Stays.{Stays, IsSkip, IsRest}
 use Rattle.bites_table.specs.Standing.{Asked, IsAsked, IsAt, IsAtRow, IsOver, transition_from, ends_after, slots_after, AreMoved}
 use Rattle.bites_machine.specs.Inputs.{is_earliest, is_longest}
@@ -40,13 +40,15 @@ use Rattle.bites_table.specs.Graph.{IsRoot}
 use Rattle.bites_table.specs.Explored.{number_in}
 use Rattle.bites_table.specs.Transition.{is_walked}
 use Rattle.bites_table.specs.Table.{starts_of}
+use Rattle.bites_machine.specs.SlotTable.{slot_of}
+use Rattle.bites_table.proofs.RowLemmas.{ended-row}
 use Rattle.bites_table.proofs.TransitionLemmas.{walked_is}
 use Rattle.bites_table.specs.Searches.{asked, IsSame, StandsAt, Held, IsHeldAt, IsLent, StopsSo}
 use Rattle.bites_table.specs.declared.search.record.Lent.{Lent}
 use Rattle.bites_table.specs.declared.search.record.Standing.{Standing}
 use Rattle.bites_table.specs.declared.search.record.Search.{Search}
 use Rattle.bites_table.specs.declared.table.cell.Cell.{Cell}
-use Rattle.bites_table.proofs.StandingLemmas.{at_start, handed_over, handed_back, at_next, over_after, apart_at, all_skipped, all_rested, apart_over, apart_after, passed_rows, moved_over, ascii_here, ascii_next}
+use Rattle.bites_table.proofs.StandingLemmas.{at_start, handed_over, handed_back, at_next, over_after, apart_at, all_skipped, all_rested, apart_over, apart_after, passed_rows, moved_over, hit_over, ascii_here, ascii_next}
 
 -- the cells of two lists begin at two places
 pub row_once : (x : Packed) (n m : ℕ) → row_of x n ≡ row_of x m → n ≡ m
@@ -61,20 +63,31 @@ none_past s is n =
     not_below : (a b : ℕ) → b ≡ a → nat_lt a b ≡ false
     not_below a b e = grind (arith, nat_tests)
 
+-- the class is that of the byte at the place
+pub record IsByte (s : Asked) (place class : ℕ) : Type 0 where
+  within : place < length s.input.hay
+  low : slice_index s.input.hay place < 128 → class ≡ (classes_in s.table).class_of (Some (slice_index s.input.hay place))
+  high : 128 ≤ slice_index s.input.hay place → class ≡ (classes_in s.table).len
+
+pub byte_at : (s : Asked) (hay : List ℕ) (place class : ℕ) → hay ≡ s.input.hay → place < length hay →
+    (slice_index hay place < 128 → class ≡ (classes_in s.table).class_of (Some (slice_index hay place))) → (128 ≤ slice_index hay place → class ≡ (classes_in s.table).len) → IsByte s place class
+byte_at s hay place class same within low high = record {
+  within = subst (λ (h : List ℕ). place < length h) same within;
+  low = subst (λ (h : List ℕ). slice_index h place < 128 → class ≡ (classes_in s.table).class_of (Some (slice_index h place))) same low;
+  high = subst (λ (h : List ℕ). 128 ≤ slice_index h place → class ≡ (classes_in s.table).len) same high;
+}
+
 -- the class of a byte is that of what stands at its place, where a transition is known
-pub known_by_byte : (s : Asked) → IsAsked s → (place class : ℕ) → place < length s.input.hay →
-    (slice_index s.input.hay place < 128 → class ≡ (classes_in s.table).class_of (Some (slice_index s.input.hay place))) →
-    (128 ≤ slice_index s.input.hay place → class ≡ (classes_in s.table).len) →
-    (n : ℕ) (t : Transition ℕ) → (table_in s.table).transition n class ≡ Some t → (transition_from s n place ≡ Some t) × ((piece s.input.hay place).len ≡ 1)
-known_by_byte s is place class within low high n t known =
+pub known_by_byte : (s : Asked) → IsAsked s → (place class : ℕ) → IsByte s place class → (n : ℕ) (t : Transition ℕ) → (table_in s.table).transition n class ≡ Some t → (transition_from s n place ≡ Some t) × ((piece s.input.hay place).len ≡ 1)
+known_by_byte s is place class byte n t known =
     ⊎_elim
     (λ (lt : slice_index s.input.hay place < 128). (
-      ap (λ o. (table_in s.table).transition n ((classes_in s.table).class_of o)) (ascii_next s.input.hay place (slice_index s.input.hay place) within refl lt)
-          ∙ ap ((table_in s.table).transition n) (sym (low lt)) ∙ known,
-      ap (λ (p : Piece). p.len) (ascii_here s.input.hay place (slice_index s.input.hay place) within refl lt),
+      ap (λ o. (table_in s.table).transition n ((classes_in s.table).class_of o)) (ascii_next s.input.hay place (slice_index s.input.hay place) byte.within refl lt)
+          ∙ ap ((table_in s.table).transition n) (sym (byte.low lt)) ∙ known,
+      ap (λ (p : Piece). p.len) (ascii_here s.input.hay place (slice_index s.input.hay place) byte.within refl lt),
     ))
     (λ (le : 128 ≤ slice_index s.input.hay place).
-    absurd (none-some t (sym (none_past s is n) ∙ ap ((table_in s.table).transition n) (sym (high le)) ∙ known)))
+    absurd (none-some t (sym (none_past s is n) ∙ ap ((table_in s.table).transition n) (sym (byte.high le)) ∙ known)))
     (cases_lt (slice_index s.input.hay place) 128)
 
 -- a transition that is known visits nothing that was visited
@@ -86,17 +99,14 @@ fresh_at s is place row words is_found slots walked at n row_is t known =
 
 -- the search goes on over a place where nothing is to be done, but that a row of two slots may begin
 pub passed_on : (s : Asked) → IsAsked s → (place row : ℕ) (words : List ℕ) (is_found : Bool) (slots : List (Option ℕ)) (walked : Record) → (at : IsAtRow s place row words is_found slots walked) →
-    (class : ℕ) → place < length s.input.hay →
-    (slice_index s.input.hay place < 128 → class ≡ (classes_in s.table).class_of (Some (slice_index s.input.hay place))) →
-    (128 ≤ slice_index s.input.hay place → class ≡ (classes_in s.table).len) →
-    (cell : Cell) → Tells s.table at.list class cell → bit_and cell.doing (mask_of s.input.width) ≡ 0 →
+    (class : ℕ) → IsByte s place class → (cell : Cell) → Tells s.table at.list class cell → bit_and cell.doing (mask_of s.input.width) ≡ 0 →
     (new : List ℕ) → (s.input.width ≡ 2 → row_in new 2 cell.begins ≡ Some place ∷ None ∷ []) →
     ((r : ℕ) → r < with_spare → (s.input.width ≡ 2 → r ≢ cell.begins) → row_in new s.input.width r ≡ row_in words s.input.width r) →
     IsAtRow s (place + 1) cell.next new is_found slots (after_place (reverse cell.seen.value.items) cell.looks.value place walked)
-passed_on s is place row words is_found slots walked at class within low high cell tells bits new begun others =
+passed_on s is place row words is_found slots walked at class byte cell tells bits new begun others =
     let q = tells.passed s.input.width bits in
     let t = q.0 in
-    let by = known_by_byte s is place class within low high at.list t q.1.transition in
+    let by = known_by_byte s is place class byte at.list t q.1.transition in
     let held : (u : Thread ℕ) → Among (list_at (table_in s.table) t.next).threads u → u.row < with_spare = λ u among. let lt = q.1.held u among in let few = q.1.few in omega arith in
     let moved = passed_rows (table_in s.table) s.input.width cell.begins place words new t q.2 held begun others in
     record {
@@ -111,6 +121,30 @@ passed_on s is place row words is_found slots walked at class within low high ce
 -- the register whose row begins is there
 pub begins_there : (s : Asked) (n class width : ℕ) (cell : Cell) → Tells s.table n class cell → bit_and cell.doing (mask_of width) ≡ 0 → cell.begins < with_spare
 begins_there s n class width cell tells bits = (tells.passed width bits).2.register
+
+-- the search goes on over a place where somebody comes to a match and rows are kept
+pub hit_on : (s : Asked) → IsAsked s → (place row : ℕ) (words : List ℕ) (is_found : Bool) (slots : List (Option ℕ)) (walked : Record) → (at : IsAtRow s place row words is_found slots walked) →
+    (class : ℕ) → IsByte s place class → (cell : Cell) → Tells s.table at.list class cell → bit_and cell.doing more ≡ 0 → s.input.earliest ≡ false → s.input.width ≡ 2 → 33 * 2 ≤ length words →
+    IsAtRow s (place + 1) cell.next words true (slot_of (slice_index words (cell.begins * 2)) ∷ Some place ∷ []) (after_place (reverse cell.seen.value.items) cell.looks.value place walked)
+hit_on s is place row words is_found slots walked at class byte cell tells bits late two room =
+    let q = tells.hits bits in
+    let t = q.0 in
+    let by = known_by_byte s is place class byte at.list t q.1.transition in
+    let there = q.2.there in
+    let left = ended-row words cell.begins place (omega arith) q.2.thread.row q.2.ends in
+    record {
+      list = t.next;
+      within = q.1.within;
+      row_is = q.1.next;
+      here = subst (λ (l : List (Option ℕ)). IsAt s (place + 1) t.next words true l (after_place (reverse cell.seen.value.items) cell.looks.value place walked)) left
+          (subst (λ w. IsAt s (place + 1) t.next words true (row_at 2 place (row_in words 2) q.2.thread.row) w) (ap₂ (λ l n. after_place l n place walked) q.1.seen q.1.looks)
+          (subst (λ n. IsAt s (place + n) t.next words true (row_at 2 place (row_in words 2) q.2.thread.row) (after_place t.seen t.looks place walked)) by.1
+          (hit_over s is place at.list words is_found slots walked at.here t by.0 late two cell.begins q.2 (let one = by.1 in omega arith))));
+    }
+
+-- the register whose row ends is there
+pub ends_there : (s : Asked) (n class : ℕ) (cell : Cell) → Tells s.table n class cell → bit_and cell.doing more ≡ 0 → cell.begins < with_spare
+ends_there s n class cell tells bits = (tells.hits bits).2.there
 
 -- what is searched stays the same
 pub asked_same : (a b : Search) (before : List (Option ℕ)) → IsSame a b → asked b before ≡ asked a before
@@ -129,6 +163,22 @@ same_same a b d one two = record {
 
 pub asked_still : (a b : Search) (before : List (Option ℕ)) → IsSame a b → IsAsked (asked a before) → IsAsked (asked b before)
 asked_still a b before same is = subst IsAsked (sym (asked_same a b before same)) is
+
+-- where nothing was lent the search stands as before
+pub still_there : (a b : Search) (before : List (Option ℕ)) (at : Standing) (words : List ℕ) (is_found : Bool) (slots : List (Option ℕ)) → IsSame a b → b.counted.walked ≡ a.counted.walked →
+    StandsAt a before at words is_found slots → StandsAt b before at words is_found slots
+still_there a b before at words is_found slots same walked here =
+    subst (λ (s : Asked). IsAtRow s at.place at.row words is_found slots b.counted.walked) (sym (asked_same a b before same))
+    (subst (λ w. IsAtRow (asked a before) at.place at.row words is_found slots w) (sym walked) here)
+
+-- one place is passed by a transition that was lent
+pub lent_on : (a b : Search) (before : List (Option ℕ)) (place n class unless : ℕ) (l : Lent) → IsSame a b → (lent : IsLent a b n class unless place l) → (words : List ℕ) (is_found : Bool) (slots : List (Option ℕ)) →
+    IsAtRow (asked a before) (place + 1) lent.cell.next words is_found slots (after_place (reverse lent.cell.seen.value.items) lent.cell.looks.value place a.counted.walked) →
+    StandsAt b before (record { place = place + 1; row = l.next }) words is_found slots
+lent_on a b before place n class unless l same lent words is_found slots on =
+    subst (λ (s : Asked). IsAtRow s (place + 1) l.next words is_found slots b.counted.walked) (sym (asked_same a b before same))
+    (subst (λ w. IsAtRow (asked a before) (place + 1) l.next words is_found slots w) (sym lent.walked)
+    (subst (λ r. IsAtRow (asked a before) (place + 1) r words is_found slots (after_place (reverse lent.cell.seen.value.items) lent.cell.looks.value place a.counted.walked)) (sym lent.next) on))
 
 -- the search goes on over bytes that leave it at its thread list, and visits nothing twice
 module _ (s : Asked) (is : IsAsked s) (place row : ℕ) (words : List ℕ) (is_found : Bool) (slots : List (Option ℕ)) (walked : Record) (at : IsAtRow s place row words is_found slots walked)

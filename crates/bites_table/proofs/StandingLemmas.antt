@@ -30,7 +30,7 @@ use Rattle.bites_table.specs.Sources.{Thread, Source, slots_from, row_at, thread
 use Rattle.bites_table.specs.Transition.{is_walked, Transition, source_at}
 use Rattle.bites_table.specs.Kinds.{kind_of, AreAlikeKinds}
 use Rattle.bites_table.specs.Table.{Table, starts_of, list_at, TableSearch, search_after, is_over, is_empty, Reached}
-use Rattle.bites_table.specs.Packed.{table_in, classes_in, is_dead, thread_with_register, IsQuiet, BeginsRow, IsPassed}
+use Rattle.bites_table.specs.Packed.{table_in, classes_in, is_dead, thread_with_register, IsQuiet, BeginsRow, IsPassed, IsHit}
 use Rattle.bites_table.specs.Steps.{with_spare}
 use Rattle.bites_table.specs.Stays.{Stays, LeadsAmong, IsCalm}
 use Rattle.bites_table.specs.Standing.{Asked, IsAsked, search_at, IsAt, IsOver, transition_from, ends_after, slots_after, AreMoved}
@@ -217,9 +217,12 @@ quiet_row (suc n) place words source r kept none =
     short : 0 + length (row_in words (suc n) r) ≤ suc n
     short = omega (arith, length-map (take (suc n) (drop (r * suc n) words)) slot_of, length-take (suc n) (drop (r * suc n) words))
 
-pub quiet_rows : (tab : Table) (width place : ℕ) (words : List ℕ) (t : Transition ℕ) → IsQuiet tab width t → AreMoved width place (list_at tab t.next).threads t.moves words words
-quiet_rows tab width place words t quiet u h =
-    sym (quiet_row width place words (source_at t.moves u.row) u.row (λ some. quiet.kept some u h) (λ k lt. quiet.unwritten u h k lt))
+kept_rows : (tab : Table) (width place : ℕ) (words : List ℕ) (t : Transition ℕ) →
+    (0 < width → (u : Thread ℕ) → Among (list_at tab t.next).threads u → (source_at t.moves u.row).register ≡ Some u.row) →
+    ((u : Thread ℕ) → Among (list_at tab t.next).threads u → (k : ℕ) → k < width → (source_at t.moves u.row).writes k ≡ false) →
+    AreMoved width place (list_at tab t.next).threads t.moves words words
+kept_rows tab width place words t kept unwritten u h =
+    sym (quiet_row width place words (source_at t.moves u.row) u.row (λ some. kept some u h) (λ k lt. unwritten u h k lt))
 
 -- the rows after a transition that a search passes: one of them may have begun
 pub passed_rows : (tab : Table) (width begins place : ℕ) (words new : List ℕ) (t : Transition ℕ) → IsPassed tab width begins t →
@@ -243,6 +246,9 @@ passed_rows tab width begins place words new t passed held begun others u at =
         ap (λ o. slots_from place source.writes 0 (option_map_or rows o (replicate 2 None))) is.register
         ∙ ap₂ (λ a b. cond a (Some place) None ∷ cond b (Some place) None ∷ []) is.first is.second
 
+not_zero : (n : ℕ) → 0 < n → (n == 0) ≡ false
+not_zero n lt = grind (arith, nat_tests)
+
 -- the search goes on over a character where only rows are moved
 pub moved_over : (s : Asked) → IsAsked s → (place list : ℕ) (words : List ℕ) (is_found : Bool) (slots : List (Option ℕ)) (walked : Record) → IsAt s place list words is_found slots walked →
     (t : Transition ℕ) → transition_from s list place ≡ Some t → t.hit ≡ None → is_dead (list_at (table_in s.table) t.next) ≡ false → 0 < (piece s.input.hay place).len →
@@ -257,16 +263,27 @@ moved_over s is place list words is_found slots walked here t known hit alive so
     subst (λ f. IsAt s (place + (piece s.input.hay place).len) t.next new f slots (after_place t.seen t.looks place walked)) (ap (λ h. is_some h || is_found) hit)
     (subst (λ l. IsAt s (place + (piece s.input.hay place).len) t.next new (is_some t.hit || is_found) l (after_place t.seen t.looks place walked))
     (ap (λ h. slots_after s.input.width place words h slots) hit) on)
-  where
-    not_zero : (n : ℕ) → 0 < n → (n == 0) ≡ false
-    not_zero n lt = grind (arith, nat_tests)
+
+-- the search goes on over a character where somebody comes to a match and rows are kept
+pub hit_over : (s : Asked) → IsAsked s → (place list : ℕ) (words : List ℕ) (is_found : Bool) (slots : List (Option ℕ)) (walked : Record) → IsAt s place list words is_found slots walked →
+    (t : Transition ℕ) → transition_from s list place ≡ Some t → s.input.earliest ≡ false → s.input.width ≡ 2 → (register : ℕ) (hit : IsHit (table_in s.table) register t) → 0 < (piece s.input.hay place).len →
+    IsAt s (place + (piece s.input.hay place).len) t.next words true (row_at 2 place (row_in words 2) hit.thread.row) (after_place t.seen t.looks place walked)
+hit_over s is place list words is_found slots walked here t known late two register hit some =
+    let found = ap (λ h. is_some h || is_found) hit.hit in
+    let goes : ends_after s place t.next (is_some t.hit || is_found) ≡ false =
+    ap₂ (λ z e. z || ((e && (is_some t.hit || is_found)) || is_dead (list_at (table_in s.table) t.next))) (not_zero (piece s.input.hay place).len some) late ∙ hit.alive in
+    subst (λ f. IsAt s (place + (piece s.input.hay place).len) t.next words f (row_at 2 place (row_in words 2) hit.thread.row) (after_place t.seen t.looks place walked)) found
+    (subst (λ l. IsAt s (place + (piece s.input.hay place).len) t.next words (is_some t.hit || is_found) l (after_place t.seen t.looks place walked))
+    (ap₂ (λ n h. slots_after n place words h slots) two hit.hit)
+    (at_next s is place list words is_found slots walked here t known goes words
+    (kept_rows (table_in s.table) s.input.width place words t (λ wide. hit.kept) (λ u h k lt. hit.unwritten u h k (omega arith)))))
 
 -- the search goes on over a character where nothing is to be done
 pub quiet_over : (s : Asked) → IsAsked s → (place list : ℕ) (words : List ℕ) (is_found : Bool) (slots : List (Option ℕ)) (walked : Record) → IsAt s place list words is_found slots walked →
     (t : Transition ℕ) → transition_from s list place ≡ Some t → IsQuiet (table_in s.table) s.input.width t → 0 < (piece s.input.hay place).len →
     IsAt s (place + (piece s.input.hay place).len) t.next words is_found slots (after_place t.seen t.looks place walked)
 quiet_over s is place list words is_found slots walked here t known quiet some =
-    moved_over s is place list words is_found slots walked here t known quiet.hit quiet.alive some words (quiet_rows (table_in s.table) s.input.width place words t quiet)
+    moved_over s is place list words is_found slots walked here t known quiet.hit quiet.alive some words (kept_rows (table_in s.table) s.input.width place words t quiet.kept quiet.unwritten)
 
 -- the search goes on over a place where nothing is to be done
 pub quiet_on : (s : Asked) → IsAsked s → (place list : ℕ) (words : List ℕ) (is_found : Bool) (slots : List (Option ℕ)) (walked : Record) → IsAt s place list words is_found slots walked →

@@ -10,7 +10,7 @@ use Rattle.bites_table.specs.Built.{source_of}
 use Rattle.bites_table.specs.Graph.{NumberedList, Outcome, Graph, table_of}
 use Rattle.bites_table.specs.Stored.{cell_of}
 use Rattle.bites_table.specs.Steps.{MakeMoves, with_spare}
-use Rattle.bites_table.specs.Packed.{Packed, stride, mask_of, is_dead, IsPartOf, BeginsRow}
+use Rattle.bites_table.specs.Packed.{Packed, stride, mask_of, more, is_dead, IsPartOf, BeginsRow, EndsRow}
 use Rattle.bites_table.specs.Layout.{Tell}
 use Rattle.bites_table.specs.declared.thread_list.Thread.{Thread}
 use Rattle.bites_table.specs.declared.thread_list.Source.{Source}
@@ -85,6 +85,24 @@ PassesByBits o next begins doing = (width : ℕ) → bit_and doing (mask_of widt
 abbrev pub DoesByBits : Outcome → ThreadList → ℕ → Type 0
 DoesByBits o next doing = (width : ℕ) → bit_and doing (mask_of width) ≡ 0 → DoesQuietly o next width
 
+-- somebody comes to a match with the row of a register, which ends at the place
+pub record EndsHit (hit : Option Frame) (register : ℕ) : Type 0 where
+  pub frame : Frame
+  pub is : hit ≡ Some frame
+  pub ends : EndsRow register (source_of frame.source)
+
+-- the same; and the search is not over, and each thread has its own row in two slots
+pub record DoesHit (o : Outcome) (next : ThreadList) (register : ℕ) : Type 0 where
+  pub hit : EndsHit o.hit register
+  pub there : register < with_spare
+  pub alive : is_dead next ≡ false
+  pub kept : (u : sources.Thread ℕ) → Among next.threads u → (source_at (map source_of o.moves) u.row).register ≡ Some u.row
+  pub unwritten : (u : sources.Thread ℕ) → Among next.threads u → (k : ℕ) → k < 2 → (source_at (map source_of o.moves) u.row).writes k ≡ false
+
+-- if the bit is not set it does so
+abbrev pub HitsByBits : Outcome → ThreadList → (register doing : ℕ) → Type 0
+HitsByBits o next register doing = bit_and doing more ≡ 0 → DoesHit o next register
+
 -- the row of a hit comes from a register that is there, if it comes from one
 abbrev pub IsHeldHit : Option Frame → Type 0
 IsHeldHit hit = IfSome hit (λ f. IfSome f.source.register (λ r. r < 32))
@@ -102,6 +120,7 @@ pub record IsAct (steps : List Step) (o : Outcome) (next : ThreadList) (a : Act)
   pub held : a.doing ≢ 255 → (u : sources.Thread ℕ) → Among next.threads u → u.row < length o.moves
   pub few : a.doing ≢ 255 → length o.moves ≤ 32
   pub passes : PassesByBits o next a.begins a.doing
+  pub hits : HitsByBits o next a.begins a.doing
 
 pub record IsActOf (g : Graph) (steps : List Step) (o : Outcome) (a : Act) : Type 0 where
   pub within : o.next < length g.lists

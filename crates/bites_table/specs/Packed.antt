@@ -61,6 +61,10 @@ mask_of width = if width == 0 then 1 else if width == 2 then 2 else 4
 abbrev pub unknown : ℕ
 unknown = 8
 
+-- the bit over which a search for two slots has more to do than to keep a hit
+abbrev pub more : ℕ
+more = 16
+
 -- no thread is left and none begins
 abbrev pub is_dead : ThreadList → Bool
 is_dead l = not (is_walked l.starts) && is_empty l.threads
@@ -89,6 +93,23 @@ pub record IsPassed (tab : Table) (width begins : ℕ) (t : Transition ℕ) : Ty
   pub unwritten : (u : Thread ℕ) → Among (list_at tab t.next).threads u → (width ≡ 2 → u.row ≢ begins) → (k : ℕ) → k < width → (source_at t.moves u.row).writes k ≡ false
   pub begun : width ≡ 2 → (u : Thread ℕ) → Among (list_at tab t.next).threads u → u.row ≡ begins → BeginsRow (source_at t.moves u.row)
 
+-- of the first two slots of the register's row the place is written to the second alone
+pub record EndsRow (register : ℕ) (s : Source) : Type 0 where
+  pub register_is : s.register ≡ Some register
+  pub first : s.writes 0 ≡ false
+  pub second : s.writes 1 ≡ true
+
+-- Somebody comes to a match with the row of a register, which ends at the place. The search is not over, and each thread that comes next
+-- has the row of the register of its own number, in two slots.
+pub record IsHit (tab : Table) (register : ℕ) (t : Transition ℕ) : Type 0 where
+  pub thread : Thread Source
+  pub hit : t.hit ≡ Some thread
+  pub ends : EndsRow register thread.row
+  pub there : register < with_spare
+  pub alive : is_dead (list_at tab t.next) ≡ false
+  pub kept : (u : Thread ℕ) → Among (list_at tab t.next).threads u → (source_at t.moves u.row).register ≡ Some u.row
+  pub unwritten : (u : Thread ℕ) → Among (list_at tab t.next).threads u → (k : ℕ) → k < 2 → (source_at t.moves u.row).writes k ≡ false
+
 -- the cell stands for the transition of a list over a class
 pub record IsCell (x : Packed) (n c : ℕ) (a : Cell) (t : Transition ℕ) : Type 0 where
   pub transition : (table_in x).transition n c ≡ Some t
@@ -113,6 +134,7 @@ IsKnown x n c a = (t : Transition ℕ) × IsCell x n c a t
 pub record Tells (x : Packed) (n c : ℕ) (a : Cell) : Type 0 where
   pub known : bit_and a.doing unknown ≡ 0 → IsKnown x n c a
   pub passed : (width : ℕ) → bit_and a.doing (mask_of width) ≡ 0 → (t : Transition ℕ) × IsCell x n c a t × IsPassed (table_in x) width a.begins t
+  pub hits : bit_and a.doing more ≡ 0 → (t : Transition ℕ) × IsCell x n c a t × IsHit (table_in x) a.begins t
 
 -- the part lies in a list of this length
 abbrev pub IsPartOf : ℕ → Part → Type 0

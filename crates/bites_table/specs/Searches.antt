@@ -43,10 +43,6 @@ pub record Held : Type 0 where
   pub is_found : Bool
   pub slots : List (Option ℕ)
 
--- the same with other words in the registers
-abbrev pub with_words : List ℕ → Held → Held
-with_words words h = record { before = h.before; words = words; is_found = h.is_found; slots = h.slots }
-
 -- the search stands there
 abbrev pub StandsAt : Search → List (Option ℕ) → Standing → List ℕ → Bool → List (Option ℕ) → Type 0
 StandsAt a before at words is_found slots = IsAtRow (asked a before) at.place at.row words is_found slots a.counted.walked

@@ -119,6 +119,18 @@ pub fn begin_row(registers: &mut [usize], width: usize, register: u8, place: usi
     }
 }
 
+/// Writes the row of a register into two slots, but the place to the second of them.
+#[inline(always)]
+pub fn end_row(registers: &[usize], register: u8, place: usize, slots: &mut [Option<usize>])
+    requires room { with_spare * 2 ≤ length registers.now }
+    requires register { register < with_spare }
+    requires width { length slots.old ≡ 2 }
+    ensures { slots.new ≡ slot_of (slice_index registers.now (register * 2)) ∷ Some place ∷ [] }
+{
+    slots[0] = slot_of(registers[register as usize * 2]);
+    slots[1] = Some(place);
+}
+
 /// Writes the row that a source stands for at a place into as many slots.
 pub fn write_row(source: &Source, registers: &[usize], place: usize, slots: &mut [Option<usize>])
     requires register { IfSome source.now.register (λ r. r * length slots.old + length slots.old ≤ length registers.now) }

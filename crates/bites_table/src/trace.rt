@@ -10,13 +10,11 @@ ghost use Rattle.bites_machine.specs.States.{states_of};
 ghost use Rattle.bites_table.specs.Packed.{IsRow, row_of, lists_in};
 ghost use Rattle.bites_table.specs.Standing.{Asked, IsAsked, IsOver};
 ghost use Rattle.bites_table.specs.Steps.{with_spare};
-ghost use Rattle.bites_table.specs.Searches.{asked, IsSame, Held, with_words, IsHeldAt, StandsAt, TurnsTo, StopsSo};
+ghost use Rattle.bites_table.specs.Searches.{asked, IsSame, Held, IsHeldAt, StandsAt, TurnsTo, StopsSo};
 ghost use Rattle.bites_table.specs.Trace.{ComesTo, Says, LeadTo, LeadSo};
 
 use crate::search::place::piece_at;
 use crate::search::record::{MOST_LEAVES, Search, Standing, Turn};
-use crate::steps::begin_row;
-use crate::table::cell::{UNKNOWN, mask};
 use bites_machine::vm::{self, Resumed};
 use std::alloc::AllocError;
 
@@ -59,31 +57,6 @@ fn push(stretches: &mut Vec<Stretch>, from: usize, how: How) -> Result<(), Alloc
 }
 
 impl Search<'_> {
-    // Goes on over one place where nothing is to be done but to go on, or to begin a row of two slots.
-    fn pass_one(&mut self, at: Standing, registers: &mut [usize], width: usize) -> Option<Standing>
-        requires stands { (h : Held) × IsHeldAt self.old at h × (h.words ≡ registers.old) × (width ≡ length h.before) }
-        requires room { with_spare * width ≤ length registers.old }
-        ensures stands { IfSome result (λ to. (h : Held) → IsHeldAt self.old at h → h.words ≡ registers.old →
-            width ≡ length h.before → IsHeldAt self.new to (with_words registers.new h)) }
-        ensures onward { IfSome result (λ to. at.place < to.place) }
-        ensures kept { result ≡ None → self.new.counted.walked ≡ self.old.counted.walked }
-        ensures registers { result ≡ None → registers.new ≡ registers.old }
-        ensures same { IsSame self.old self.new }
-    {
-        let haystack = self.input.haystack;
-        if at.place >= haystack.len() {
-            return None;
-        }
-        let class = self.table.class_of_byte(haystack[at.place]);
-        let mask = mask(width);
-        let lent = self.lend(at, class, mask)?;
-        begin_row(registers, width, lent.begins, at.place);
-        Some(Standing {
-            place: at.place + 1,
-            row: lent.next,
-        })
-    }
-
     // Goes on over one place.
     fn turn(
         &mut self,
@@ -100,11 +73,8 @@ impl Search<'_> {
         ensures turns { TurnsTo self.new before at registers.new was_found slots.new result }
         ensures same { IsSame self.old self.new }
     {
-        match self.pass_one(at, registers, slots.len()) {
-            Some(to) => Turn::Goes {
-                to,
-                is_found: was_found,
-            },
+        match self.pass_one(self.input.haystack, at, registers, was_found, slots) {
+            Some((to, is_found)) => Turn::Goes { to, is_found },
             None => self.step(at, registers, was_found, slots),
         }
     }

@@ -1,6 +1,6 @@
 //! One search by a table, with the record of what it visits.
 
-ghost use Rattle.std.specs.Prelude.{[], not, if◌then◌else◌, ◌≡◌, ◌*◌, ◌<◌, ◌≤◌, ◌||◌, ◌&&◌, ◌==◌, ℕ, true, false, Bool, List, Option, Some, None, IfSome, IfNone, length, is_some, option_map, bit_and, slice_get};
+ghost use Rattle.std.specs.Prelude.{[], not, if◌then◌else◌, ◌≡◌, ◌*◌, ◌<◌, ◌≤◌, ◌||◌, ◌&&◌, ◌==◌, ℕ, true, false, Bool, List, Option, Some, None, IfSome, IfNone, MatchOption, length, is_some, option_map, bit_and, slice_get};
 ghost use Rattle.bites_spec.specs.Counts.{HasRoomFor};
 ghost use Rattle.bites_spec.specs.Walks.{Among};
 ghost use Rattle.bites_machine.specs.Inputs.{is_earliest, is_longest};
@@ -10,16 +10,16 @@ ghost use Rattle.bites_table.specs.Steps.{with_spare};
 ghost use Rattle.bites_table.specs.Built.{frame_of};
 ghost use Rattle.bites_table.specs.Packed.{Packed, IsRow, IsKnown, Tells, row_of, lists_in, stride, mask_of, IsPartOf, unknown};
 ghost use Rattle.bites_table.specs.Standing.{IsAsked, IsOver, slots_after};
-ghost use Rattle.bites_table.specs.Searches.{asked, IsSame, Held, with_words, IsHeldAt, StandsAt, IsLent, IsFresh, TurnsTo, StopsSo};
+ghost use Rattle.bites_table.specs.Searches.{asked, IsSame, Held, IsHeldAt, StandsAt, IsLent, IsFresh, TurnsTo, StopsSo};
 ghost use Rattle.bites_spec.specs.Look.{before};
 ghost use Rattle.bites_table.specs.Explored.{number_in};
 ghost use Rattle.bites_table.specs.declared.table.cell.Cell as cell;
 
 use crate::search::place::{kind_before, piece_at};
-use crate::steps::{begin_row, run_steps, write_row};
+use crate::steps::{begin_row, end_row, run_steps, write_row};
 use crate::table::Table;
 use crate::table::act::Act;
-use crate::table::cell::{Cell, UNKNOWN, mask};
+use crate::table::cell::{Cell, MORE, UNKNOWN, mask};
 use bites_machine::program::Program;
 use bites_machine::vm::{self, Counted, Input, MatchKind, Resumed};
 
@@ -131,31 +131,84 @@ impl Search<'_> {
         None
     }
 
-    // Goes on while nothing is to be done at a place but to go on, or to begin a row of two slots.
+    // Goes on over one place of the haystack where nothing is to be done but to begin or end a row of two slots: somebody comes to
+    // a match there, and the search goes on. Returns whether something is found, too.
     #[inline(always)]
-    fn pass(&mut self, from: Standing, registers: &mut [usize], width: usize) -> Standing
-        requires stands { (h : Held) × IsHeldAt self.old from h × (h.words ≡ registers.old) × (width ≡ length h.before) }
-        requires room { with_spare * width ≤ length registers.old }
-        ensures stands { (h : Held) → IsHeldAt self.old from h → h.words ≡ registers.old → width ≡ length h.before →
-            IsHeldAt self.new result (with_words registers.new h) }
-        ensures onward { from.place ≤ result.place }
+    pub(crate) fn pass_one(
+        &mut self,
+        haystack: &[u8],
+        at: Standing,
+        registers: &mut [usize],
+        was_found: bool,
+        slots: &mut [Option<usize>],
+    ) -> Option<(Standing, bool)>
+        ghost before: { List (Option ℕ) }
+        requires haystack { haystack.now ≡ self.old.input.now.haystack.now }
+        requires asked { IsAsked (asked self.old before) }
+        requires stands { StandsAt self.old before at registers.old was_found slots.old }
+        requires width { length slots.old ≡ length before }
+        requires room { with_spare * length slots.old ≤ length registers.old }
+        ensures stands { MatchOption result (StandsAt self.new before at registers.new was_found slots.new)
+            (λ r. StandsAt self.new before r.0 registers.new r.1 slots.new × (at.place < r.0.place)) }
+        ensures same { IsSame self.old self.new }
+    {
+        if at.place >= haystack.len() {
+            return None;
+        }
+        let class = self.table.class_of_byte(haystack[at.place]);
+        let width = slots.len();
+        if let Some(lent) = self.lend(at, class, mask(width)) {
+            begin_row(registers, width, lent.begins, at.place);
+            return Some((
+                Standing {
+                    place: at.place + 1,
+                    row: lent.next,
+                },
+                was_found,
+            ));
+        }
+        if width != 2 || matches!(self.input.kind, MatchKind::Earliest) {
+            return None;
+        }
+        let lent = self.lend(at, class, MORE)?;
+        end_row(registers, lent.begins, at.place, slots);
+        Some((
+            Standing {
+                place: at.place + 1,
+                row: lent.next,
+            },
+            true,
+        ))
+    }
+
+    // Goes on while nothing is to be done but to begin or end a row of two slots. Returns whether something is found, too.
+    #[inline(always)]
+    fn pass(
+        &mut self,
+        from: Standing,
+        registers: &mut [usize],
+        was_found: bool,
+        slots: &mut [Option<usize>],
+    ) -> (Standing, bool)
+        ghost before: { List (Option ℕ) }
+        requires asked { IsAsked (asked self.old before) }
+        requires stands { StandsAt self.old before from registers.old was_found slots.old }
+        requires width { length slots.old ≡ length before }
+        requires room { with_spare * length slots.old ≤ length registers.old }
+        ensures stands { StandsAt self.new before result.0 registers.new result.1 slots.new }
+        ensures onward { from.place ≤ result.0.place }
         ensures same { IsSame self.old self.new }
     {
         let haystack = self.input.haystack;
-        let mask = mask(width);
         let mut at = from;
-        'places: while at.place < haystack.len() {
-            let class = self.table.class_of_byte(haystack[at.place]);
-            let Some(lent) = self.lend(at, class, mask) else {
-                break;
-            };
-            begin_row(registers, width, lent.begins, at.place);
-            at = Standing {
-                place: at.place + 1,
-                row: lent.next,
-            };
+        let mut is_found = was_found;
+        'places: while let Some((to, found)) = self.pass_one(
+            haystack, at, registers, is_found, slots,
+        ) {
+            at = to;
+            is_found = found;
         }
-        at
+        (at, is_found)
     }
 
     // Goes on over one place.
@@ -228,7 +281,9 @@ impl Search<'_> {
         let mut at = from;
         let mut is_found = was_found;
         'places: loop {
-            at = self.pass(at, registers, slots.len());
+            let (reached, found) = self.pass(at, registers, is_found, slots);
+            at = reached;
+            is_found = found;
             match self.step(at, registers, is_found, slots) {
                 Turn::Goes {
                     to,

@@ -8,6 +8,9 @@ use std::snapshot::Snapshot;
 /// The bit of a cell that is not known.
 pub const UNKNOWN: u8 = 8;
 
+/// The bit of a cell over which a search for two slots has more to do than to keep a hit.
+pub const MORE: u8 = 16;
+
 /// All bits: a search of any width has to look.
 pub const ALL: u8 = 255;
 
@@ -18,10 +21,11 @@ pub struct Cell {
     pub next: u32,
     /// The number of what the transition does.
     pub act: u16,
-    /// A bit for each width of a search that has to look at what the transition does, and one for what is not known.
+    /// A bit for each width of a search that has to look at what the transition does, one for what is not known, and one for a
+    /// search for two slots that has more to do than to keep a hit.
     pub doing: u8,
     /// The register whose row begins at the place, in a search for two slots that has not to look. It is the spare one if no
-    /// row begins.
+    /// row begins. For a search that has only to keep a hit, it is the register of the hit, whose match ends at the place.
     pub begins: u8,
     /// For proofs, the states that the transition visits.
     pub seen: Snapshot<Vec<u32>>,

@@ -13,7 +13,7 @@ ghost use Rattle.bites_table.specs.Graph as graphs;
 ghost use Rattle.bites_table.specs.Stored.{outcome_of, cell_of};
 ghost use Rattle.bites_table.specs.Steps.{NameRegisters};
 ghost use Rattle.bites_table.specs.Packed.{Packed, classes_in, is_dead, Tells};
-ghost use Rattle.bites_table.specs.LaidOut.{register_thread, AreHeldBelow, AreEntries, IsHeldHit, AreHeldHits, masked, IsOwn, IsKept, IsBegun, IsKeptOrBegun, DoesByBits, PassesByBits, IsAct, AreActs, Fits, AreLaid};
+ghost use Rattle.bites_table.specs.LaidOut.{register_thread, AreHeldBelow, AreEntries, IsHeldHit, AreHeldHits, masked, IsOwn, IsKept, IsBegun, IsKeptOrBegun, DoesByBits, PassesByBits, EndsHit, HitsByBits, IsAct, AreActs, Fits, AreLaid};
 ghost use Rattle.bites_table.specs.Layout.{AreCells, AreWithin};
 ghost use Rattle.bites_table.specs.declared.thread_list.Thread.{Thread};
 ghost use Rattle.bites_table.specs.declared.steps.Step.{Step};
@@ -25,7 +25,7 @@ use crate::explore::stays::Stays;
 use crate::explore::{Explored, Extent};
 use crate::steps::{MOST_REGISTERS, SPARE, Step};
 use crate::table::act::{Act, Part};
-use crate::table::cell::{ALL, Cell};
+use crate::table::cell::{ALL, Cell, MORE};
 use crate::table::sequence::push_steps;
 use crate::table::{ListEntry, Table};
 use crate::thread_list::{Frame, Source, Starts, Thread, ThreadList};
@@ -265,26 +265,67 @@ fn act_of(
 fn looks_of(outcome: &Outcome<'_>, next: &ThreadList<'_>, stops: bool) -> Looks
     requires held { AreHeld (length outcome.now.moves.now) next.now.threads.now }
     requires few { length outcome.now.moves.now ≤ 32 }
-    ensures { PassesByBits (outcome_of outcome.now) (list_of next.now) result.begins result.doing }
+    ensures passes { PassesByBits (outcome_of outcome.now) (list_of next.now) result.begins result.doing }
+    ensures hits { HitsByBits (outcome_of outcome.now) (list_of next.now) result.begins result.doing }
 {
     let begins = SPARE;
     if stops {
         return Looks {
-            doing: EACH,
+            doing: EACH | MORE,
             begins,
         };
     }
+    if outcome.hit.is_some() {
+        return hit_looks(outcome, next);
+    }
     let doing = doing_of(outcome, next);
-    if doing != FOR_SLOTS {
-        return Looks { doing, begins };
+    if doing == FOR_SLOTS {
+        if let Some(begins) = begun_register(next.threads, outcome.moves) {
+            return Looks {
+                doing: FOR_MORE_SLOTS | MORE,
+                begins,
+            };
+        }
     }
-    match begun_register(next.threads, outcome.moves) {
-        Some(begins) => Looks {
-            doing: FOR_MORE_SLOTS,
-            begins,
-        },
-        None => Looks { doing, begins },
+    Looks {
+        doing: doing | MORE,
+        begins,
     }
+}
+
+// Returns what a search has to look at for an outcome where somebody comes to a match.
+fn hit_looks(outcome: &Outcome<'_>, next: &ThreadList<'_>) -> Looks
+    ensures passes { PassesByBits (outcome_of outcome.now) (list_of next.now) result.begins result.doing }
+    ensures hits { HitsByBits (outcome_of outcome.now) (list_of next.now) result.begins result.doing }
+{
+    if !is_dead(next) && are_kept(next.threads, outcome.moves, FIRST_SLOTS) {
+        if let Some(begins) = ended_register(outcome.hit) {
+            return Looks {
+                doing: EACH,
+                begins,
+            };
+        }
+    }
+    Looks {
+        doing: EACH | MORE,
+        begins: SPARE,
+    }
+}
+
+// Returns the register whose row ends in a hit, if of the first two slots the second alone is written.
+fn ended_register(hit: Option<Frame>) -> Option<u8>
+    ensures few { IfSome result (λ r. r < 32) }
+    ensures ends { IfSome result (EndsHit hit) }
+{
+    let frame = hit?;
+    let register = frame.source.register?;
+    if register as usize >= MOST_REGISTERS
+        || frame.source.has_written(0)
+        || !frame.source.has_written(1)
+    {
+        return None;
+    }
+    u8::try_from(register).ok()
 }
 
 // Returns the register whose row begins, if each other thread has the row of the register of its own number in the first two

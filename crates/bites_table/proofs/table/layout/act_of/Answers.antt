@@ -23,6 +23,7 @@ returns-in-Some-clause-act c =
       moves = λ other. c.in-Some.ensures.moves;
       held = λ other u at. held-threads (length o.moves) c.args.next.now.threads.now (c.are_held.ensures held) u at;
       few = λ other. c.in-Some.ensures.few;
-      passes = c.looks_of.ensures;
+      passes = c.looks_of.ensures.passes;
+      hits = c.looks_of.ensures.hits;
     } in
     subst (λ (x : Act). IsAct new o l x) (sym c.act_with-in-Some.ensures) own
