@@ -109,7 +109,7 @@ module _ (p : Program) (k : Classes) where
       seen = sym seen;
       looks = sym look;
     };
-    kind = is.kind;
+    kind = λ d e. subst (λ o. AreAlikeKinds p (list_at (table_of g) is.outcome.next).kind (kind_of o)) e is.kind;
   }
     where
       found : (o : Option Frame) → is_some (option_map frame_of o) ≡ is_some o
@@ -119,7 +119,7 @@ module _ (p : Program) (k : Classes) where
   -- the outcome of threads with registers, when their list and then it were added
   pub outcome-is : (g h : Graph) (c : ℕ) (w : Walk) (a : Assigned) (l : NumberedList) (n : ℕ) → AddsList g l n h → l.threads ≡ a.threads.items →
       AreAssigned a (taken p (k.member c) (map frame_of w.takers.items)) →
-      ((d : ℕ) → k.member c ≡ Some d → AreAlikeKinds p (kind_as l.kind) (kind_of (Some d))) →
+      AreAlikeKinds p (kind_as l.kind) (kind_of (k.member c)) →
       (i : ℕ) (f : Graph) → AddsOutcome h (record { next = n; moves = a.moves.items; hit = w.hit }) i f → IsOutcome p k f c w (starts_as l.starts) i
   outcome-is g h c w a l n added threads are kind i f adds =
       let list = ap (λ ls. slice_index_or (map list_as ls) n no_list) (adds-lists h f i (record { next = n; moves = a.moves.items; hit = w.hit }) adds) ∙ added-list g h l n added in
@@ -132,25 +132,38 @@ module _ (p : Program) (k : Classes) where
             ∙ ap (λ (m : ThreadList). map (on_row (source_at (map source_of a.moves.items))) m.threads) (sym list);
         hit = refl;
         walked = ap (λ (m : ThreadList). m.starts) list;
-        kind = λ d e. subst (λ (m : ThreadList). AreAlikeKinds p m.kind (kind_of (Some d))) (sym list) (kind d e);
+        kind = subst (λ (m : ThreadList). AreAlikeKinds p m.kind (kind_of (k.member c))) (sym list) kind;
       }
 
-module _ (p : Program) (k : Classes) (f g h : Graph) (grows : Grows f g) (n first c : ℕ) (lt : n < length f.lists) (row : IsRow f n first) (within : c < f.classes)
-    (l : code_lists.ThreadList) (registers : ℕ) (named : slice_get f.lists n ≡ Some (numbered l registers)) (after : Kind) (asserts : AssertsAs p (kind_as l.kind) after (k.member c))
-    (w : Walk) (looks : ℕ) (walked : IsWalked p (list_of l) after w looks) (starts : Starts) (start : starts ≡ starts_after (is_some w.hit) (starts_as l.starts))
-    (x : Cell) (is : IsOutcome p k g c w starts x.outcome) (seen : x.seen ≡ w.visited) (look : x.looks ≡ looks)
-    (set : h ≡ with_cells g (slice_set g.cells (first + c) (Some x))) where
-  -- the transition of a list over a class is set, after the list was walked and its outcome was added
-  pub made-set : IsMade p k g → IsMade p k h
-  made-set made =
-      let list : list_at (table_of g) n ≡ list_of l = list-stays f g grows n lt ∙ list-get f.lists n (numbered l registers) named in
-      let cell = cell-made p k g n c after w looks starts x (grows-within f g grows n lt)
-      (subst (λ (m : ThreadList). AssertsAs p m.kind after (k.member c)) (sym list) asserts)
-      (subst (λ (m : ThreadList). IsWalked p m after w looks) (sym list) walked)
-      (start ∙ ap (λ (m : ThreadList). starts_after (is_some w.hit) m.starts) (sym list)) is seen look in
-      let index : first + c ≡ n * g.classes + c = ap (λ i. i + c) (row.begins ∙ ap (λ i. n * i) (sym grows.classes)) in
-      subst (IsMade p k) (ap (λ i. with_cells g (slice_set g.cells i (Some x))) (sym index) ∙ sym set)
-      (made-cell p k g n c x (subst (λ i. c < i) (sym grows.classes) within) cell made)
+  -- what a class has, another has that the same threads take, and that is alike as the character before
+  outcome-alike : (g : Graph) (c d : ℕ) (w : Walk) (starts : Starts) (n : ℕ) (cells : List (Option Cell)) → IsOutcome p k g c w starts n →
+      taken p (k.member d) (map frame_of w.takers.items) ≡ taken p (k.member c) (map frame_of w.takers.items) → AreAlikeKinds p (kind_of (k.member c)) (kind_of (k.member d)) →
+      IsOutcome p k (with_cells g cells) d w starts n
+  outcome-alike g c d w starts n cells is same alike = record {
+    outcome = is.outcome;
+    named = is.named;
+    threads = same ∙ is.threads;
+    hit = is.hit;
+    walked = is.walked;
+    kind = λ o q. is.kind o q ∙ alike o q;
+  }
+
+  -- its transition is set, after the list was walked and the outcome was added
+  pub made-set : (g : Graph) (n first c d : ℕ) (after : Kind) (w : Walk) (looks : ℕ) (x : Cell) (cells : List (Option Cell)) → n < length g.lists → first ≡ n * g.classes → d < g.classes →
+      AssertsAs p (list_at (table_of g) n).kind after (k.member d) → IsWalked p (list_at (table_of g) n) after w looks →
+      IsOutcome p k g c w (starts_after (is_some w.hit) (list_at (table_of g) n).starts) x.outcome →
+      taken p (k.member d) (map frame_of w.takers.items) ≡ taken p (k.member c) (map frame_of w.takers.items) → AreAlikeKinds p (kind_of (k.member c)) (kind_of (k.member d)) →
+      x.seen ≡ w.visited → x.looks ≡ looks → IsMade p k (with_cells g cells) → IsMade p k (with_cells g (slice_set cells (first + d) (Some x)))
+  made-set g n first c d after w looks x cells within begins lt asserts walked is same alike seen look made =
+      let starts = starts_after (is_some w.hit) (list_at (table_of g) n).starts in
+      subst (λ i. IsMade p k (with_cells g (slice_set cells (i + d) (Some x)))) (sym begins)
+      (made-cell p k (with_cells g cells) n d x lt
+      (cell-made (with_cells g cells) n d after w looks starts x within asserts walked refl (outcome-alike g c d w starts x.outcome cells is same alike) seen look) made)
+
+  -- a list stays as it was when its number was read
+  pub list-was : (f g : Graph) → Grows f g → (n : ℕ) → n < length f.lists → (l : code_lists.ThreadList) (registers : ℕ) → slice_get f.lists n ≡ Some (numbered l registers) →
+      list_at (table_of g) n ≡ list_of l
+  list-was f g grows n lt l registers named = list-stays f g grows n lt ∙ list-get f.lists n (numbered l registers) named
 
 -- no list and no transition
 pub made-none : (p : Program) (k : Classes) (classes : ℕ) → IsMade p k (record { classes = classes; lists = []; cells = []; outcomes = [] })
@@ -185,18 +198,16 @@ module _ (p : Program) (k : Classes) where
       (moves ∙ sym (added-registers f g l n added) ∙ ap (registers_at g) (sym next)) before))
       is
 
-  -- one more class
-  pub after-more : (after : List code.Kind) (c : ℕ) (kind : code.Kind) → AreAfter p k after → length after ≡ c → ((b : Kind) → AssertsAs p b (kind_as kind) (k.member c)) → AreAfter p k (after ++ kind ∷ [])
-  after-more after c kind are len is b d lt =
-      ⊎_elim
-      (λ (before : d < length after). subst (λ (own : code.Kind). AssertsAs p b (kind_as own) (k.member d)) (sym (get_or_append_left after (kind ∷ []) Edge d before)) (are b d before))
-      (λ (last : d ≡ length after).
-      subst (λ (own : code.Kind). AssertsAs p b (kind_as own) (k.member d)) (sym (get_or_push after kind Edge d (sym last)))
-      (subst (λ n. AssertsAs p b (kind_as kind) (k.member n)) (sym len ∙ sym last) (is b)))
-      (either d (length after) (let all = length-append after (kind ∷ []) in omega arith))
-    where
-      either : (d n : ℕ) → d < n + 1 → (d < n) ⊎ (d ≡ n)
-      either d n lt = grind arith
+-- one more class
+pub each-more : (P : code.Kind → ℕ → Type 0) (kinds : List code.Kind) (c : ℕ) (kind : code.Kind) → ((d : ℕ) → d < length kinds → P (slice_index_or kinds d Edge) d) → length kinds ≡ c → P kind c →
+    (d : ℕ) → d < length (kinds ++ kind ∷ []) → P (slice_index_or (kinds ++ kind ∷ []) d Edge) d
+each-more P kinds c kind are len is d lt =
+    ⊎_elim (λ (before : d < length kinds). subst (λ (own : code.Kind). P own d) (sym (get_or_append_left kinds (kind ∷ []) Edge d before)) (are d before))
+    (λ (last : d ≡ length kinds). subst (λ (own : code.Kind). P own d) (sym (get_or_push kinds kind Edge d (sym last))) (subst (P kind) (sym len ∙ sym last) is))
+    (either d (length kinds) (let all = length-append kinds (kind ∷ []) in omega arith))
+  where
+    either : (d n : ℕ) → d < n + 1 → (d < n) ⊎ (d ≡ n)
+    either d n lt = grind arith
 
 -- a list without threads is a root
 pub root-is : (p : Program) (g h : Graph) (l : NumberedList) (b : Kind) (n : ℕ) → AddsList g l n h → l.threads ≡ [] → AreAlikeKinds p (kind_as l.kind) b → IsRoot p h b (starts_as l.starts) n

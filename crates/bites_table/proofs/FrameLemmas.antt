@@ -15,7 +15,7 @@ use Rattle.bites_table.specs.Built.{source_of}
 use Rattle.bites_table.specs.declared.thread_list.Source.{Source}
 
 -- one more bit
-has_bit-set : (bits slot k : ℕ) → slot < 64 → has_bit (bit_or bits (1 * 2 ^ slot % 18446744073709551616)) k ≡ ((k == slot) || has_bit bits k)
+pub has_bit-set : (bits slot k : ℕ) → slot < 64 → has_bit (bit_or bits (1 * 2 ^ slot % 18446744073709551616)) k ≡ ((k == slot) || has_bit bits k)
 has_bit-set bits slot k within =
     ⊎_elim
     (λ (e : (k == slot) ≡ true).

@@ -20,6 +20,7 @@ pub mod SearchesLemmas
 pub mod ExampleLemmas
 pub mod FrameLemmas
 pub mod RegisterLemmas
+pub mod TakenLemmas
 pub mod StepLemmas
 pub mod VisitedLemmas
 pub mod LayoutLemmas

@@ -54,14 +54,18 @@ module _ (a b : Assigned) (q g : ℕ) (s : Source) (added : List Source) (moved 
   }
 
 -- the threads that take a character among one more
+pub taken-one : (p : Program) (o : Option ℕ) (fs : List Frame) (i : ℕ) (none : Frame) (st : State) → i < length fs → st ≡ state_at p.states (slice_index_or fs i none).state →
+    taken p o (map frame_of (take i fs)) ++ map (thread_with (source_of (slice_index_or fs i none).source)) (targets_over o st) ≡ taken p o (map frame_of (take (i + 1) fs))
+taken-one p o fs i none st lt is =
+    let f = slice_index_or fs i none in
+    taken-more p o (map frame_of (take i fs)) (frame_of f) st is
+    ∙ ap (taken p o) (sym (map-append frame_of (take i fs) (f ∷ [])) ∙ ap (map frame_of) (sym (take_more fs i none lt)))
+
 pub taken-next : (p : Program) (o : Option ℕ) (fs : List Frame) (i : ℕ) (none : Frame) (st : State) (r : Option ℕ) → i < length fs →
     st ≡ state_at p.states (slice_index_or fs i none).state → option_to_list r ≡ targets_over o st →
     taken p o (map frame_of (take i fs)) ++ map (thread_with (source_of (slice_index_or fs i none).source)) (option_to_list r) ≡ taken p o (map frame_of (take (i + 1) fs))
 taken-next p o fs i none st r lt is to =
-    let f = slice_index_or fs i none in
-    ap (λ qs. taken p o (map frame_of (take i fs)) ++ map (thread_with (source_of f.source)) qs) to
-    ∙ taken-more p o (map frame_of (take i fs)) (frame_of f) st is
-    ∙ ap (taken p o) (sym (map-append frame_of (take i fs) (f ∷ [])) ∙ ap (map frame_of) (sym (take_more fs i none lt)))
+    ap (λ qs. taken p o (map frame_of (take i fs)) ++ map (thread_with (source_of (slice_index_or fs i none).source)) qs) to ∙ taken-one p o fs i none st lt is
 
 pub none_more : (a : Assigned) (ts : List (sources.Thread sources.Source)) → AreAssigned a ts → AreAssigned a (ts ++ [])
 none_more a ts are = subst (AreAssigned a) (sym (append-nil ts)) are

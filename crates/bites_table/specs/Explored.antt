@@ -1,13 +1,14 @@
 -- The thread lists of a program, explored.
-use Rattle.std.specs.Prelude.{ℕ, ◌<◌, List, length, slice_index_or}
-use Rattle.bites_spec.specs.Program.{Program}
+use Rattle.std.specs.Prelude.{◌≡◌, ℕ, ◌<◌, List, length, slice_index_or}
+use Rattle.bites_spec.specs.Program.{Program, state_at, takes}
+use Rattle.bites_machine.specs.Bits.{has_bit}
+use Rattle.bites_machine.specs.Ends.{takes_by}
 use Rattle.bites_table.specs.Kinds as kinds
 use Rattle.bites_table.specs.Kinds.{kind_of, AreAlikeKinds, Classes}
 use Rattle.bites_table.specs.Takers.{AssertsAs}
 use Rattle.bites_table.specs.Transition.{Starts, everywhere, here}
 use Rattle.bites_table.specs.Graph.{Graph, IsGraph, IsRoot}
 use Rattle.bites_table.specs.Classes.{classes_of}
-use Rattle.bites_table.specs.AlikeKinds.{TellsApart}
 use Rattle.bites_table.specs.Built.{kind_as}
 use Rattle.bites_table.specs.declared.kind.Kind.{Kind}
 use Rattle.bites_table.specs.declared.kind.Kind.TheVariants.{Edge}
@@ -26,10 +27,19 @@ classes_in x = classes_of x.classes.now
 abbrev pub AreAfter : Program → Classes → List Kind → Type 0
 AreAfter p k after = (b : kinds.Kind) (c : ℕ) → c < length after → AssertsAs p b (kind_as (slice_index_or after c Edge)) (k.member c)
 
--- what a context says of kinds is true of its program and classes
+-- and after each class as after a byte of its kind
+abbrev pub AreBefore : Program → Classes → List Kind → Type 0
+AreBefore p k before = (c : ℕ) → c < length before → AreAlikeKinds p (kind_as (slice_index_or before c Edge)) (kind_of (k.member c))
+
+-- for each state a bit for each of the first 64 classes: whether the state takes it
+abbrev pub AreTaken : Program → Classes → List ℕ → Type 0
+AreTaken p k bits = (q c : ℕ) → q < length bits → c < 64 → has_bit (slice_index_or bits q 0) c ≡ takes_by (takes (state_at p.states q)) (k.member c)
+
+-- what a context says of kinds and states is true of its program and classes
 pub record IsContext (x : Context) : Type 0 where
-  pub alike : TellsApart (program_in x) x.kinds
   pub after : AreAfter (program_in x) (classes_in x) x.after.now
+  pub before : AreBefore (program_in x) (classes_in x) x.before.now
+  pub taken : AreTaken (program_in x) (classes_in x) x.taken.now
 
 -- the number of the list for a kind of the byte before
 abbrev pub number_in : Roots → kinds.Kind → ℕ

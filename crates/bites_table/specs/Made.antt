@@ -50,4 +50,4 @@ pub record IsOutcome (p : Program) (k : Classes) (g : Graph) (c : ℕ) (w : Walk
   pub threads : taken p (k.member c) (map frame_of w.takers.items) ≡ map (on_row (source_at (map source_of outcome.moves))) (list_at (table_of g) outcome.next).threads
   pub hit : outcome.hit ≡ w.hit
   pub walked : (list_at (table_of g) outcome.next).starts ≡ starts
-  pub kind : (d : ℕ) → k.member c ≡ Some d → AreAlikeKinds p (list_at (table_of g) outcome.next).kind (kind_of (Some d))
+  pub kind : AreAlikeKinds p (list_at (table_of g) outcome.next).kind (kind_of (k.member c))

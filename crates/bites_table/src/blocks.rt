@@ -7,8 +7,9 @@ ghost use Rattle.bites_table.specs.Blocks.{at, AreBlocks, IsMoved, IsFiner, Pass
 
 use std::alloc::{AllocError, Global};
 
-// No block that is split has a number above this one.
-const MOST: u32 = 1024;
+// How many numbers of blocks there may be for each interval. In a split each block gets at most one new number, and where there is no
+// room for as many as there are intervals, blocks are numbered anew first.
+const NUMBERS_OF_INTERVAL: usize = 4;
 
 /// The greatest number of blocks. One number of a byte is left for the end, and one for what is no class.
 pub(crate) const MOST_CLASSES: u32 = 254;
@@ -31,7 +32,7 @@ impl Blocks {
         Ok(Blocks {
             of: vec![in alloc; 0; intervals]?,
             len: 1,
-            moved: vec![in alloc; 0; MOST as usize + 1]?,
+            moved: vec![in alloc; 0; intervals.saturating_mul(NUMBERS_OF_INTERVAL)]?,
         })
     }
 
@@ -50,7 +51,7 @@ impl Blocks {
         ensures alike { IfSome result (λ _. PassAlike begins.now self.new.of.items
             (in_ranges ranges.now)) }
     {
-        if self.len > MOST {
+        if self.of.len().saturating_add(self.len as usize) > self.moved.len() {
             self.renumber()?;
         }
         self.split_few(begins, ranges)

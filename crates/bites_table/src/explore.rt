@@ -1,12 +1,17 @@
 //! Makes the thread lists of a program and the transitions between them, before any search.
 
-ghost use Rattle.std.specs.Prelude.{◌≡◌, ◌<◌, length, IfSome, IfOk};
+ghost use Rattle.std.specs.Prelude.{◌≡◌, ◌<◌, true, length, is_some, IfSome, IfOk, slice_index_or};
 ghost use Rattle.bites_spec.specs.Program.{IsWellFormed};
+ghost use Rattle.bites_machine.specs.Bits.{has_bit};
+ghost use Rattle.bites_table.specs.Kinds.{kind_of, AreAlikeKinds};
+ghost use Rattle.bites_table.specs.Transition.{starts_after};
+ghost use Rattle.bites_table.specs.Table.{list_at};
 ghost use Rattle.bites_table.specs.Classes.{classes_of};
-ghost use Rattle.bites_table.specs.Built.{starts_as};
+ghost use Rattle.bites_table.specs.Built.{kind_as, starts_as};
+ghost use Rattle.bites_table.specs.declared.kind.Kind.TheVariants.{Edge};
 ghost use Rattle.bites_table.specs.Graph.{table_of};
 ghost use Rattle.bites_table.specs.Stays.{AreStays};
-ghost use Rattle.bites_table.specs.Made.{Grows, IsMade, IsRow, IsOutcome};
+ghost use Rattle.bites_table.specs.Made.{Grows, IsMade, IsRow, IsWalked, IsOutcome};
 ghost use Rattle.bites_table.specs.Explored.{program_in, classes_in, IsContext, IsExplored};
 
 pub(crate) mod after;
@@ -15,16 +20,18 @@ pub(crate) mod index;
 pub(crate) mod rests;
 pub(crate) mod roots;
 pub(crate) mod stays;
+pub(crate) mod taken;
 
 use crate::alike_kinds::AlikeKinds;
 use crate::classes::Classes;
-use crate::explore::after::kinds_after;
+use crate::explore::after::{kinds_after, kinds_before};
 use crate::explore::graph::{Cell, Graph, Outcome};
 use crate::explore::roots::{Roots, add_roots};
 use crate::explore::stays::{Stays, find_stays};
+use crate::explore::taken::{alike_classes, taken_classes};
 use crate::kind::Kind;
 use crate::registers::Assigned;
-use crate::thread_list::{Starts, ThreadList};
+use crate::thread_list::{Starts, ThreadList, has_bit};
 use crate::walk::{self, Walk};
 use bites_machine::program::Program;
 use std::alloc::{AllocError, Global};
@@ -92,9 +99,20 @@ pub(crate) struct Explored {
 pub(crate) struct Context<'a> {
     program: &'a Program,
     classes: &'a Classes,
-    kinds: AlikeKinds,
-    // For each class the kind before which assertions hold as before it.
+    // For each class the kind before which assertions hold as before it, and the one after which they hold as after it.
     after: &'a [Kind],
+    before: &'a [Kind],
+    // For each state the classes that it takes.
+    taken: &'a [u64],
+}
+
+// The walk of a list before a byte of one kind, with the number of its looks, and where the transitions of the list begin.
+#[derive(Clone, Copy, Drop)]
+struct Row<'a> {
+    number: usize,
+    first: usize,
+    walk: &'a Walk,
+    looks: usize,
 }
 
 // The memory that is kept from one transition to the next, and what is left of the budget.
@@ -118,11 +136,14 @@ pub(crate) fn explore(
 {
     let kinds = AlikeKinds::of(program);
     let after = kinds_after(alloc, classes, kinds)?;
+    let before = kinds_before(alloc, classes, kinds)?;
+    let taken = taken_classes(alloc, program, classes)?;
     let context = Context {
         program,
         classes,
-        kinds,
         after: &after,
+        before: &before,
+        taken: &taken,
     };
     let mut memory = Memory {
         walk: Walk::new(alloc, program)?,
@@ -224,17 +245,77 @@ fn make_cells(
     memory.budget.looks = budget - looks;
     let starts = list.starts.after(memory.walk.hit.is_some());
     for class in 0..context.after.len() {
-        if context.after[class] == kind {
+        if context.after[class] == kind && !graph.is_known(first, class) {
             let outcome = add_outcome(context, memory, graph, starts, class)?;
-            let cell = Cell {
-                outcome,
-                seen: memory.walk.visited.states(),
-                looks: Snapshot::of(&looks),
+            let row = Row {
+                number,
+                first,
+                walk: &memory.walk,
+                looks,
             };
-            graph.set(first.checked_add(class)?, cell);
+            set_alike(context, graph, &row, class, outcome)?;
         }
     }
     Some(())
+}
+
+// Puts the transition over a class, and over each class after it that is alike, with its outcome. Returns `None` if a number
+// doesn't fit.
+fn set_alike(
+    context: &Context<'_>,
+    graph: &mut Graph,
+    row: &Row<'_>,
+    class: usize,
+    outcome: u32,
+) -> Option<()>
+    requires context { IsContext context.now }
+    requires classes { graph.old.classes ≡ length context.now.after.now }
+    requires made { IsMade (program_in context.now) (classes_in context.now) graph.old }
+    requires row { IsRow graph.old row.now.number row.now.first }
+    requires within { row.now.number < length graph.old.lists }
+    requires class { class < length context.now.after.now }
+    requires walked { IsWalked (program_in context.now) (list_at (table_of graph.old) row.now.number)
+        (kind_as (slice_index_or context.now.after.now class Edge)) row.now.walk.now row.now.looks }
+    requires outcome { IsOutcome (program_in context.now) (classes_in context.now) graph.old class row.now.walk.now
+        (starts_after (is_some row.now.walk.now.hit) (list_at (table_of graph.old) row.now.number).starts) outcome }
+    ensures made { IsMade (program_in context.now) (classes_in context.now) graph.new }
+    ensures grows { Grows graph.old graph.new }
+    ensures len { length graph.new.cells ≡ length graph.old.cells }
+{
+    let alike = alike_classes(context.taken, &row.walk.takers, class);
+    let end = if alike == 0 {
+        class + 1
+    } else {
+        context.after.len()
+    };
+    for other in class..end {
+        if other == class || is_alike(context, alike, class, other) {
+            let cell = Cell {
+                outcome,
+                seen: row.walk.visited.states(),
+                looks: Snapshot::of(&row.looks),
+            };
+            graph.set(row.first.checked_add(other)?, cell);
+        }
+    }
+    Some(())
+}
+
+// Returns whether a class has its bit, and assertions see it as they see the other, as the character after and before.
+fn is_alike(context: &Context<'_>, alike: u64, class: usize, other: usize) -> bool
+    requires context { IsContext context.now }
+    requires class { class < length context.now.after.now }
+    requires other { other < length context.now.after.now }
+    ensures bit { result ≡ true → has_bit alike other ≡ true }
+    ensures after { result ≡ true → slice_index_or context.now.after.now other Edge
+        ≡ slice_index_or context.now.after.now class Edge }
+    ensures before { result ≡ true → AreAlikeKinds (program_in context.now)
+        (kind_of ((classes_in context.now).member class)) (kind_of ((classes_in context.now).member other)) }
+{
+    has_bit(alike, other)
+        && context.after[other] == context.after[class]
+        && class.max(other) < context.before.len()
+        && context.before[other] == context.before[class]
 }
 
 // Adds the outcome of a walk over a class. Returns its number.
@@ -255,6 +336,9 @@ fn add_outcome(
     ensures outcome { IfSome result (IsOutcome (program_in context.now) (classes_in context.now) graph.new class memory.old.walk
         (starts_as starts)) }
 {
+    if class >= context.before.len() {
+        return None;
+    }
     let ch = context.classes.member(class);
     memory
         .assigned
@@ -262,7 +346,7 @@ fn add_outcome(
     let next = ThreadList {
         threads: &memory.assigned.threads,
         starts,
-        kind: context.kinds.first_before(Kind::of(ch)),
+        kind: context.before[class],
     };
     let next = graph.add_list(&next, memory.assigned.moves.len())?;
     graph.add_outcome(&Outcome {

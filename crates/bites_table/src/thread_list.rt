@@ -109,8 +109,8 @@ impl Source {
     }
 }
 
-// Returns whether the bit of that number is 1.
-fn has_bit(bits: u64, number: usize) -> bool
+/// Returns whether the bit of that number is 1.
+pub(crate) fn has_bit(bits: u64, number: usize) -> bool
     ensures { result ≡ has_bit bits number }
 {
     number < SLOTS as usize && bits >> number & 1 == 1

@@ -240,6 +240,21 @@ impl Graph {
         Some(self.outcome(outcome))
     }
 
+    /// Returns whether a transition of the list leads back to it.
+    pub(crate) fn leads_back(&self, number: usize) -> bool {
+        let first = number.wrapping_mul(self.classes);
+        for class in 0..self.classes {
+            if let Some(Some(cell)) = self.cells.get(first.wrapping_add(class)) {
+                if let Some(outcome) = self.outcomes.get(cell.outcome as usize) {
+                    if outcome.next as usize == number {
+                        return true;
+                    }
+                }
+            }
+        }
+        false
+    }
+
     // Returns the number of the outcome of a list over a class, if the transition is known.
     fn named_over(&self, number: usize, class: usize) -> Option<u32>
         ensures { IfSome result (λ o. (x : graphs.Cell) × (cell_at self.now number class ≡ Some x) × (x.outcome ≡ o)) }
@@ -254,6 +269,14 @@ impl Graph {
         match &self.cells[index] {
             None => None,
             Some(cell) => Some(cell.outcome),
+        }
+    }
+
+    /// Returns whether a transition of the row that begins at this index is known.
+    pub(crate) fn is_known(&self, first: usize, class: usize) -> bool {
+        match self.cells.get(first.wrapping_add(class)) {
+            Some(Some(_)) => true,
+            _ => false,
         }
     }
 

@@ -209,6 +209,9 @@ fn find_over(
     requires within { number < length graph.now.lists }
     ensures { IfSome result (StaysOver (table_of graph.now) number) }
 {
+    if !graph.leads_back(number) {
+        return None;
+    }
     let leads = leading(alloc, graph, number)?;
     let first = first_kind(&leads, context.after)?;
     let walked = walk_once(alloc, context, memory, graph, number, first)?;

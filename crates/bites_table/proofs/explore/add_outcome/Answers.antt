@@ -1,10 +1,12 @@
-use Rattle.std.proofs.Common.{rules, ◌≡◌, ℕ, Some, length, map, refl, sym, ap, ◌∙◌, subst}
+use Rattle.std.specs.Prelude.{slice_index_or}
+use Rattle.std.proofs.Common.{rules, ◌≡◌, ℕ, ◌<◌, Some, arith, length, map, refl, sym, ap, ◌∙◌, subst}
 use Rattle.bites_table.specs.Kinds.{kind_of, AreAlikeKinds}
 use Rattle.bites_table.specs.Takers.{taken}
 use Rattle.bites_table.specs.Built.{kind_as, frame_of}
 use Rattle.bites_table.specs.Registers.{AreAssigned}
 use Rattle.bites_table.specs.Graph.{NumberedList, Outcome, AreHeld, AddsOutcome}
 use Rattle.bites_table.specs.Explored.{program_in, classes_in}
+use Rattle.bites_table.specs.declared.kind.Kind.TheVariants.{Edge}
 use Rattle.bites_table.proofs.StepLemmas.{if_some}
 use Rattle.bites_table.proofs.ExploreLemmas.{made-with, outcome-is}
 use Rattle.bites_table.proofs.explore.add_outcome.Goals as goal
@@ -13,7 +15,7 @@ pub returns-clause-made : goal.returns-clause-made
 returns-clause-made c =
     let p = program_in c.args.context.now in
     let k = classes_in c.args.context.now in
-    let l : NumberedList = record { threads = c.deref-2.result.now; registers = c.len.result; starts = c.args.starts; kind = c.first_before.result } in
+    let l : NumberedList = record { threads = c.deref-2.result.now; registers = c.len.result; starts = c.args.starts; kind = slice_index_or c.args.context.now.before.now c.args.class Edge } in
     let o : Outcome = record { next = c.in_ok-next.next; moves = c.deref-3.result.now; hit = c.args.memory.now.walk.hit } in
     let registers : c.len.result ≡ length c.assign.new.self.moves.items = search rules in
     let moves : c.deref-3.result.now ≡ c.assign.new.self.moves.items = search rules in
@@ -27,15 +29,14 @@ unfolding classes_in
 returns-clause-outcome c =
     let p = program_in c.args.context.now in
     let k = classes_in c.args.context.now in
-    let l : NumberedList = record { threads = c.deref-2.result.now; registers = c.len.result; starts = c.args.starts; kind = c.first_before.result } in
+    let l : NumberedList = record { threads = c.deref-2.result.now; registers = c.len.result; starts = c.args.starts; kind = slice_index_or c.args.context.now.before.now c.args.class Edge } in
     let o : Outcome = record { next = c.in_ok-next.next; moves = c.assign.new.self.moves.items; hit = c.args.memory.now.walk.hit } in
     let moves : c.deref-3.result.now ≡ c.assign.new.self.moves.items = search rules in
     let threads : c.deref-2.result.now ≡ c.assign.new.self.threads.items = search rules in
     let takers : c.deref.result.now ≡ c.args.memory.now.walk.takers.items = search rules in
     let assigned = subst (λ ch. AreAssigned c.assign.new.self (taken p ch (map frame_of c.args.memory.now.walk.takers.items))) c.member-ch.ensures
     (subst (λ ts. AreAssigned c.assign.new.self (taken p c.member-ch.result (map frame_of ts))) takers c.in_ok-assign.ensures) in
-    let kind = λ (d : ℕ) (e : k.member c.args.class ≡ Some d).
-    subst (AreAlikeKinds p (kind_as c.first_before.result)) (c.of.ensures ∙ ap kind_of (c.member-ch.ensures ∙ e)) (c.first_before.ensures p c.requires.context.alike) in
+    let kind = c.requires.context.before c.args.class (omega arith) in
     if_some (λ n is.
     outcome-is p k c.args.graph.now c.add_list.new.self c.args.class c.args.memory.now.walk c.assign.new.self l c.in_ok-next.next c.in_ok-next.ensures.added threads assigned kind n c.add_outcome.new.self
     (subst (λ ms. AddsOutcome c.add_list.new.self (record { next = c.in_ok-next.next; moves = ms; hit = c.args.memory.now.walk.hit }) n c.add_outcome.new.self) moves is))

@@ -1,22 +1,24 @@
 use Rattle.std.proofs.Common.{sym, subst}
 use Rattle.bites_table.specs.Classes.{classes_of}
 use Rattle.bites_table.specs.Transition.{everywhere, here}
-use Rattle.bites_table.specs.Explored.{classes_in, number_in, AreAfter}
+use Rattle.bites_table.specs.Explored.{classes_in, number_in, AreAfter, AreBefore, AreTaken}
 use Rattle.bites_table.proofs.GraphLemmas.{grows-trans, root-stays, made-graph}
 use Rattle.bites_table.proofs.explore.explore.Goals as goal
 
 pub follow-done-requires-clause-context : goal.follow-done-requires-clause-context
 unfolding classes_in
 follow-done-requires-clause-context c = record {
-  alike = c.of-kinds.ensures;
   after = subst (AreAfter c.args.program.now.program (classes_of c.args.classes.now)) (sym c.deref.ensures.value) (c.in_ok-after.ensures c.args.program.now.program c.of-kinds.ensures);
+  before = subst (AreBefore c.args.program.now.program (classes_of c.args.classes.now)) (sym c.deref-2.ensures.value) (c.in_ok-before.ensures c.args.program.now.program c.of-kinds.ensures);
+  taken = subst (AreTaken c.args.program.now.program (classes_of c.args.classes.now)) (sym c.deref-3.ensures.value) c.in_ok-taken.ensures;
 }
 
 pub follow-done-requires-2-clause-context : goal.follow-done-requires-2-clause-context
 unfolding classes_in
 follow-done-requires-2-clause-context c = record {
-  alike = c.of-kinds.ensures;
   after = subst (AreAfter c.args.program.now.program (classes_of c.args.classes.now)) (sym c.deref.ensures.value) (c.in_ok-after.ensures c.args.program.now.program c.of-kinds.ensures);
+  before = subst (AreBefore c.args.program.now.program (classes_of c.args.classes.now)) (sym c.deref-2.ensures.value) (c.in_ok-before.ensures c.args.program.now.program c.of-kinds.ensures);
+  taken = subst (AreTaken c.args.program.now.program (classes_of c.args.classes.now)) (sym c.deref-3.ensures.value) c.in_ok-taken.ensures;
 }
 
 pub returns : goal.returns
@@ -40,8 +42,9 @@ returns c =
 pub find_stays-requires-clause-context : goal.find_stays-requires-clause-context
 unfolding classes_in
 find_stays-requires-clause-context c = record {
-  alike = c.of-kinds.ensures;
   after = subst (AreAfter c.args.program.now.program (classes_of c.args.classes.now)) (sym c.deref.ensures.value) (c.in_ok-after.ensures c.args.program.now.program c.of-kinds.ensures);
+  before = subst (AreBefore c.args.program.now.program (classes_of c.args.classes.now)) (sym c.deref-2.ensures.value) (c.in_ok-before.ensures c.args.program.now.program c.of-kinds.ensures);
+  taken = subst (AreTaken c.args.program.now.program (classes_of c.args.classes.now)) (sym c.deref-3.ensures.value) c.in_ok-taken.ensures;
 }
 
 pub find_stays-requires-clause-table : goal.find_stays-requires-clause-table

@@ -7,8 +7,8 @@ use Rattle.bites_table.proofs.blocks.Blocks.new.Goals as goal
 pub returns-clause-blocks : goal.returns-clause-blocks
 returns-clause-blocks c =
     let of : c.in_ok-vec.field-0.items ≡ replicate c.args.intervals 0 = search rules in
-    let moved : c.in_ok-vec-2.field-0.items ≡ replicate 1025 0 = search rules in record {
+    let moved : c.in_ok-vec-2.field-0.items ≡ replicate c.saturating_mul.result 0 = search rules in record {
       some = omega arith;
       of = λ i. let is = ap (λ l. at l i) of ∙ zeros c.args.intervals i in omega arith;
-      moved = λ m. let is = ap (λ l. at l m) moved ∙ zeros 1025 m in omega arith;
+      moved = λ m. let is = ap (λ l. at l m) moved ∙ zeros c.saturating_mul.result m in omega arith;
     }

@@ -1,14 +1,16 @@
 use Rattle.std.proofs.Common.{◌≡◌, ◌∷◌, [], ◌<◌, length, sym, ap, ◌∙◌, subst, arith, length-append}
 use Rattle.bites_table.specs.Kinds.{kind_of, holds_by}
+use Rattle.bites_table.specs.Takers.{AssertsAs}
+use Rattle.bites_table.specs.Built.{kind_as}
 use Rattle.bites_table.specs.Classes.{classes_of}
 use Rattle.bites_table.specs.Explored.{AreAfter}
-use Rattle.bites_table.proofs.ExploreLemmas.{asserts-as, after-more}
+use Rattle.bites_table.proofs.ExploreLemmas.{asserts-as, each-more}
 use Rattle.bites_table.proofs.explore.after.kinds_after.Goals as goal
 
 pub loop-class-init : goal.loop-class-init
 loop-class-init c =
-    let none : length c.new-after.result.items ≡ 0 = ap length c.new-after.ensures.items in
-    record { after = λ p tells b n lt. absurd (let lt' : n < length c.new-after.result.items = lt in omega arith); len = none }
+    let none : length c.in_ok-after.after.items ≡ 0 = ap length c.in_ok-after.ensures.items in
+    record { after = λ p tells b n lt. absurd (let lt' : n < length c.in_ok-after.after.items = lt in omega arith); len = none }
 
 pub loop-class-preserved : goal.loop-class-preserved
 loop-class-preserved c =
@@ -17,8 +19,9 @@ loop-class-preserved c =
     record {
       after = λ p tells.
           subst (AreAfter p (classes_of c.args.classes.now)) (sym c.in_ok-push.ensures.items)
-          (after-more p (classes_of c.args.classes.now) c.loop-class.after.items c.loop-class.class c.first_after-kind.result (c.loop-class.invariant.after p tells) c.loop-class.invariant.len
-          (λ b. asserts-as p b _ ((classes_of c.args.classes.now).member c.loop-class.class)
+          (λ b. each-more (λ kind n. AssertsAs p b (kind_as kind) ((classes_of c.args.classes.now).member n)) c.loop-class.after.items c.loop-class.class c.first_after-kind.result
+          (c.loop-class.invariant.after p tells b) c.loop-class.invariant.len
+          (asserts-as p b _ ((classes_of c.args.classes.now).member c.loop-class.class)
           (λ q t look e k. c.first_after-kind.ensures p tells q t look e k ∙ ap (λ a. holds_by look k a) (c.of.ensures ∙ ap kind_of c.member.ensures))));
       len = omega arith;
     }

@@ -1,0 +1,122 @@
+-- Bits of the classes that states take.
+use Rattle.std.proofs.Common.{◌≡◌, ℕ, ◌+◌, ◌-◌, ◌*◌, ◌%◌, ◌^◌, ◌<◌, ◌≤◌, ◌⊎◌, inl, inr, ⊎_elim, Bool, true, false, ◌||◌, cond, List, [], ◌∷◌, ◌++◌, map, take, length, Option, Some, None, refl, sym, ap, ◌∙◌, subst, arith, bit_and, bit_or, length-append}
+use Rattle.std.specs.Prelude.{◌==◌, slice_index_or}
+use Rattle.std.specs.Int.{w64, bit_at, bit_not}
+use Rattle.std.proofs.lemmas.Bool.{cases_eq}
+use Rattle.std.proofs.lemmas.Bool.Decides.{nat_tests}
+use Rattle.std.proofs.lemmas.List.{get_or_append_left, get_or_push, get_or-map, get_or_default, length-map}
+use Rattle.std.proofs.lemmas.Nat.Bits.{bit_at_and, bit_at_not, bit_at_above, bit_at-lt}
+use Rattle.bites_spec.specs.Program.{State, Program, state_at, takes, char, ranges, splits, goto, capture, fail, match}
+use Rattle.bites_machine.specs.Bits.{has_bit}
+use Rattle.bites_machine.specs.Ends.{targets_over, takes_by}
+use Rattle.bites_machine.specs.States.{state_of, states_of}
+use Rattle.bites_machine.specs.declared.state.State as code
+use Rattle.bites_table.specs.Kinds.{Classes}
+use Rattle.bites_table.specs.Sources.{thread_with}
+use Rattle.bites_table.specs.Takers.{taken}
+use Rattle.bites_table.specs.Built.{source_of, frame_of}
+use Rattle.bites_table.specs.Explored.{AreTaken}
+use Rattle.bites_table.specs.declared.thread_list.Frame.{Frame}
+use Rattle.bites_table.proofs.FrameLemmas.{has_bit-set}
+use Rattle.bites_table.proofs.RegisterLemmas.{taken-one}
+
+-- where a state leads over what it takes
+leads : State → List ℕ
+leads (char q c) = q ∷ []
+leads (ranges q rs) = q ∷ []
+leads _ = []
+
+by-taken : (o : Option ℕ) (st : State) → targets_over o st ≡ cond (takes_by (takes st) o) (leads st) []
+unfolding leads
+by-taken None st = refl
+by-taken (Some d) (char q c) = refl
+by-taken (Some d) (ranges q rs) = refl
+by-taken (Some d) (splits qs b) = refl
+by-taken (Some d) (goto q look) = refl
+by-taken (Some d) (capture q slot) = refl
+by-taken (Some d) fail = refl
+by-taken (Some d) match = refl
+
+-- two characters that one more thread takes alike
+pub taken-alike : (p : Program) (o u : Option ℕ) (fs : List Frame) (i : ℕ) (none : Frame) → i < length fs →
+    (let st = state_at p.states (slice_index_or fs i none).state in takes_by (takes st) o ≡ takes_by (takes st) u) →
+    taken p o (map frame_of (take i fs)) ≡ taken p u (map frame_of (take i fs)) → taken p o (map frame_of (take (i + 1) fs)) ≡ taken p u (map frame_of (take (i + 1) fs))
+taken-alike p o u fs i none lt same before =
+    let f = slice_index_or fs i none in
+    let st = state_at p.states f.state in
+    sym (taken-one p o fs i none st lt refl) ∙ ap (λ ts. ts ++ map (thread_with (source_of f.source)) (targets_over o st)) before
+    ∙ ap (λ qs. taken p u (map frame_of (take i fs)) ++ map (thread_with (source_of f.source)) qs) (by-taken o st ∙ ap (λ b. cond b (leads st) []) same ∙ sym (by-taken u st))
+    ∙ taken-one p u fs i none st lt refl
+
+pub either : (n k : ℕ) → (n < k) ⊎ (k ≤ n)
+either n k = grind arith
+
+-- the bits of the classes that one more thread takes alike
+pub alike-bits : (alike own class m c : ℕ) → alike < 2 ^ 64 → own < 2 ^ 64 → ((has_bit own class ≡ true) × (m ≡ own)) ⊎ ((has_bit own class ≡ false) × (m ≡ bit_not w64 own)) →
+    has_bit (bit_and alike m) c ≡ true → (c < 64) × (has_bit alike c ≡ true) × (has_bit own c ≡ has_bit own class)
+alike-bits alike own class m c fits own-fits by bit =
+    let both : bit_at (bit_and alike m) c ≡ 1 = is-one (bit_at (bit_and alike m) c) bit in
+    let least = bit_at_and alike m c in
+    let low = bit_at-lt alike c in
+    let low-too = bit_at-lt m c in
+    let first : bit_at alike c ≡ 1 = omega arith in
+    let second : bit_at m c ≡ 1 = omega arith in
+    let within : c < 64 = ⊎_elim (λ lt. lt) (λ (le : 64 ≤ c). absurd (let none = bit_at_above alike 64 c fits le in omega arith)) (either c 64) in (
+      within,
+      test (bit_at alike c) first,
+      ⊎_elim (λ (h : (has_bit own class ≡ true) × (m ≡ own)). test (bit_at own c) (ap (λ n. bit_at n c) (sym h.1) ∙ second) ∙ sym h.0)
+          (λ (h : (has_bit own class ≡ false) × (m ≡ bit_not w64 own)).
+          let turned : bit_at m c ≡ 1 - bit_at own c = ap (λ n. bit_at n c) h.1 ∙ bit_at_not w64 own c own-fits within in
+          test-not (bit_at own c) (omega arith) ∙ sym h.0) by,
+    )
+  where
+    is-one : (n : ℕ) → (n == 1) ≡ true → n ≡ 1
+    is-one n e = grind (arith, nat_tests)
+
+    test : (n : ℕ) → n ≡ 1 → (n == 1) ≡ true
+    test n e = grind (arith, nat_tests)
+
+    test-not : (n : ℕ) → n ≡ 0 → (n == 1) ≡ false
+    test-not n e = grind (arith, nat_tests)
+
+-- one more class
+pub bits-more : (old new class : ℕ) (b : Bool) (f : ℕ → Bool) → class < 64 →
+    ((b ≡ true) × (new ≡ bit_or old (1 * 2 ^ class % 18446744073709551616))) ⊎ ((b ≡ false) × (new ≡ old)) → b ≡ f class →
+    ((c : ℕ) → c < class → has_bit old c ≡ f c) → ((c : ℕ) → class ≤ c → has_bit old c ≡ false) →
+    ((c : ℕ) → c < class + 1 → has_bit new c ≡ f c) × ((c : ℕ) → class + 1 ≤ c → has_bit new c ≡ false)
+bits-more old new class b f lt by is done none = (
+  λ c less. ⊎_elim (λ (e : c ≡ class). last c e) (λ ne. other c ne ∙ done c (below c ne less)) (cases_eq c class),
+  λ c more. other c (λ e. omega arith) ∙ none c (omega arith),
+)
+  where
+    below : (c : ℕ) → (c ≡ class → ⊥) → c < class + 1 → c < class
+    below c ne less = ⊎_elim (λ lt. lt) (λ (le : class ≤ c). absurd (ne (omega arith))) (either c class)
+
+    other : (c : ℕ) → (c ≡ class → ⊥) → has_bit new c ≡ has_bit old c
+    other c ne =
+        ⊎_elim (λ (h : (b ≡ true) × (new ≡ bit_or old (1 * 2 ^ class % 18446744073709551616))).
+        let apart : (c == class) ≡ false = grind (arith, nat_tests) in
+        ap (λ n. has_bit n c) h.1 ∙ has_bit-set old class c lt ∙ ap (λ x. x || has_bit old c) apart)
+        (λ (h : (b ≡ false) × (new ≡ old)). ap (λ n. has_bit n c) h.1) by
+
+    last : (c : ℕ) → c ≡ class → has_bit new c ≡ f c
+    last c e =
+        ⊎_elim (λ (h : (b ≡ true) × (new ≡ bit_or old (1 * 2 ^ class % 18446744073709551616))).
+        let same : (c == class) ≡ true = grind (arith, nat_tests) in
+        ap (λ n. has_bit n c) h.1 ∙ has_bit-set old class c lt ∙ ap (λ x. x || has_bit old c) same ∙ sym h.0 ∙ is ∙ ap f (sym e))
+        (λ (h : (b ≡ false) × (new ≡ old)). ap (λ n. has_bit n c) h.1 ∙ none c (omega arith) ∙ sym h.0 ∙ is ∙ ap f (sym e)) by
+
+-- one more state
+pub taken-push : (p : Program) (k : Classes) (bits : List ℕ) (i b : ℕ) → length bits ≡ i → AreTaken p k bits →
+    ((c : ℕ) → c < 64 → has_bit b c ≡ takes_by (takes (state_at p.states i)) (k.member c)) → AreTaken p k (bits ++ b ∷ [])
+taken-push p k bits i b len are own q c lt few =
+    ⊎_elim (λ (before : q < length bits). ap (λ n. has_bit n c) (get_or_append_left bits (b ∷ []) 0 q before) ∙ are q c before few)
+    (λ (past : length bits ≤ q).
+    let last : q ≡ length bits = let all = length-append bits (b ∷ []) in omega arith in
+    ap (λ n. has_bit n c) (get_or_push bits b 0 q (sym last)) ∙ own c few ∙ ap (λ n. takes_by (takes (state_at p.states n)) (k.member c)) (sym len ∙ sym last)) (either q (length bits))
+
+-- a state by its number
+pub state-is : (ss : List code.State) (i : ℕ) (s : code.State) → s ≡ slice_index_or ss i s → i < length ss → state_of s ≡ state_at (states_of ss) i
+state-is ss i s is lt =
+    let len : length (states_of ss) ≡ length ss = length-map ss state_of in
+    ap state_of is ∙ sym (get_or-map state_of ss i s (state_of s) lt) ∙ get_or_default (states_of ss) i (state_of s) fail (omega arith)

@@ -1,0 +1,12 @@
+use Rattle.std.proofs.Common.{◌≡◌, length}
+use Rattle.bites_spec.specs.Program.{Program}
+use Rattle.bites_table.specs.Classes.{classes_of}
+use Rattle.bites_table.specs.AlikeKinds.{TellsApart}
+use Rattle.bites_table.specs.Explored.{AreBefore}
+use Rattle.bites_table.proofs.explore.after.kinds_before.Given as goal
+
+abbrev pub invariant-loop-class : goal.invariant-loop-class
+invariant-loop-class l = record {
+  before : (p : Program) → TellsApart p l.kinds → AreBefore p (classes_of l.classes) l.before.items;
+  len : length l.before.items ≡ l.class;
+}

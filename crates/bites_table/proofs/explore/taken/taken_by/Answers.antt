@@ -1,0 +1,30 @@
+use Rattle.std.proofs.Common.{◌≡◌, ℕ, ◌<◌, ◌≤◌, ◌+◌, ◌*◌, ◌%◌, ◌^◌, ◌⊎◌, ⊎_elim, inl, inr, Bool, true, false, length, sym, ap, ◌∙◌, arith, bit_or}
+use Rattle.std.proofs.lemmas.Option.{slice_get_past}
+use Rattle.bites_spec.specs.Program.{takes}
+use Rattle.bites_machine.specs.Ends.{takes_by}
+use Rattle.bites_machine.specs.States.{state_of}
+use Rattle.bites_table.specs.Classes.{classes_of}
+use Rattle.bites_table.proofs.TakenLemmas.{bits-more, either}
+use Rattle.bites_table.proofs.explore.taken.taken_by.Goals as goal
+use Rattle.bites_table.proofs.explore.taken.taken_by.Goals.{then-takes, else-takes}
+
+pub loop-class-preserved : goal.loop-class-preserved
+loop-class-preserved c =
+    let bits = c.loop-class.bits in
+    let class = c.loop-class.class in
+    let new = c.if-takes.bits in
+    let f : ℕ → Bool = λ x. takes_by (takes (state_of c.args.state.now)) ((classes_of c.args.classes.now).member x) in
+    let lt : class < 64 = omega arith in
+    let by : ((c.takes.result ≡ true) × (new ≡ bit_or bits (1 * 2 ^ class % 18446744073709551616))) ⊎ ((c.takes.result ≡ false) × (new ≡ bits)) =
+    elim c.if-takes.branch [ then-takes w ↦ inl (w.if-takes.true, w.bits-is) | else-takes w ↦ inr (w.if-takes.false, w.bits-is) ] in
+    let more = bits-more bits new class c.takes.result f lt by (c.takes.ensures ∙ ap (takes_by (takes (state_of c.args.state.now))) c.member.ensures)
+    c.loop-class.invariant.done c.loop-class.invariant.none in
+    record { done = more.0; none = more.1 }
+
+pub returns : goal.returns
+returns c x few =
+    ⊎_elim (λ (lt : x < c.loop-class.class). c.loop-class.invariant.done x lt)
+    (λ (le : c.loop-class.class ≤ x).
+    c.loop-class.invariant.none x le
+    ∙ sym (ap (takes_by (takes (state_of c.args.state.now))) (slice_get_past c.args.classes.now.members x (omega (arith, c.len.ensures.len, c.min-class-end.ensures, c.loop-class-test.false)))))
+    (either x c.loop-class.class)

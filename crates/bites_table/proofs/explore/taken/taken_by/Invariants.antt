@@ -1,0 +1,13 @@
+use Rattle.std.proofs.Common.{◌≡◌, ◌<◌, ◌≤◌, ℕ, false}
+use Rattle.bites_spec.specs.Program.{takes}
+use Rattle.bites_machine.specs.Bits.{has_bit}
+use Rattle.bites_machine.specs.Ends.{takes_by}
+use Rattle.bites_machine.specs.States.{state_of}
+use Rattle.bites_table.specs.Classes.{classes_of}
+use Rattle.bites_table.proofs.explore.taken.taken_by.Given as goal
+
+abbrev pub invariant-loop-class : goal.invariant-loop-class
+invariant-loop-class l = record {
+  done : (c : ℕ) → c < l.class → has_bit l.bits c ≡ takes_by (takes (state_of l.state)) ((classes_of l.classes).member c);
+  none : (c : ℕ) → l.class ≤ c → has_bit l.bits c ≡ false;
+}

@@ -1,0 +1,36 @@
+use Rattle.std.proofs.Common.{rules, ◌≡◌, ◌<◌, ◌+◌, length, sym, ap, ◌∙◌, subst, arith, length-append, ◌∷◌, []}
+use Rattle.std.proofs.lemmas.List.{length-map}
+use Rattle.bites_spec.specs.Program.{state_at, takes}
+use Rattle.bites_machine.specs.Ends.{takes_by}
+use Rattle.bites_machine.specs.States.{state_of, states_of}
+use Rattle.bites_table.specs.Classes.{classes_of}
+use Rattle.bites_table.specs.Explored.{AreTaken}
+use Rattle.bites_table.proofs.FrameLemmas.{has_ranges}
+use Rattle.bites_table.proofs.TakenLemmas.{taken-push, state-is}
+use Rattle.bites_table.proofs.explore.taken.taken_classes.Goals as goal
+
+pub taken_by-requires : goal.taken_by-requires
+taken_by-requires c =
+    let states = c.states-state-items.result.now in
+    let p = c.args.program.now.program in
+    let i = c.loop-state.state-index in
+    let lt : i < length states = omega arith in
+    let len : length states ≡ length p.states = sym (length-map states state_of) ∙ ap length c.states-state-items.ensures in
+    has_ranges p c.start-well_formed.ensures.well_formed (state_of c.state-item.result) i (omega arith)
+    (state-is states i c.state-item.result c.state-item.is lt ∙ ap (λ ss. state_at ss i) c.states-state-items.ensures)
+
+pub loop-state-preserved : goal.loop-state-preserved
+loop-state-preserved c =
+    let states = c.states-state-items.result.now in
+    let p = c.args.program.now.program in
+    let k = classes_of c.args.classes.now in
+    let i = c.loop-state.state-index in
+    let lt : i < length states = omega arith in
+    let is = state-is states i c.state-item.result c.state-item.is lt ∙ ap (λ ss. state_at ss i) c.states-state-items.ensures in
+    let len = ap length c.in_ok-push.ensures.items ∙ length-append c.loop-state.bits.items (c.taken_by.result ∷ []) in
+    let before = c.loop-state.invariant.len in record {
+      taken = subst (AreTaken p k) (sym c.in_ok-push.ensures.items)
+          (taken-push p k c.loop-state.bits.items i c.taken_by.result c.loop-state.invariant.len c.loop-state.invariant.taken
+          (λ x few. c.taken_by.ensures x few ∙ ap (λ st. takes_by (takes st) (k.member x)) is));
+      len = omega arith;
+    }

@@ -1,0 +1,87 @@
+//! Which classes states take, and which of them the same threads take.
+
+ghost use Rattle.std.specs.Prelude.{◌≡◌, ◌<◌, ℕ, true, map, IfOk};
+ghost use Rattle.bites_spec.specs.Program as programs;
+ghost use Rattle.bites_spec.specs.Program.{takes, HasRanges};
+ghost use Rattle.bites_machine.specs.Bits.{has_bit};
+ghost use Rattle.bites_machine.specs.Ends.{takes_by};
+ghost use Rattle.bites_machine.specs.States.{state_of};
+ghost use Rattle.bites_table.specs.Kinds as kinds;
+ghost use Rattle.bites_table.specs.Takers.{taken};
+ghost use Rattle.bites_table.specs.Built.{frame_of};
+ghost use Rattle.bites_table.specs.Classes.{classes_of};
+ghost use Rattle.bites_table.specs.Explored.{AreTaken};
+
+use crate::classes::Classes;
+use crate::thread_list::{Frame, has_bit};
+use bites_machine::program::Program;
+use bites_machine::state::State;
+use std::alloc::{AllocError, Global};
+
+// A state has a bit for so many classes, the first ones. Any other is taken alone.
+const CLASSES: usize = 64;
+
+/// Returns for each state a bit for each class: whether the state takes it. The error is out of memory.
+pub(crate) fn taken_classes(
+    alloc: Global,
+    program: &Program,
+    classes: &Classes,
+) -> Result<Vec<u64>, AllocError>
+    ensures { IfOk result (λ bits. AreTaken program.now.program (classes_of classes.now) bits.items) }
+{
+    let _well_formed = program.start();
+    let mut bits = Vec::with_capacity(alloc, program.len())?;
+    for state in program.states() {
+        bits.push(taken_by(state, classes))?;
+    }
+    Ok(bits)
+}
+
+// Returns a bit for each class: whether the state takes it.
+fn taken_by(state: &State, classes: &Classes) -> u64
+    requires { HasRanges (state_of state.now) }
+    ensures { (c : ℕ) → c < 64 → has_bit result c ≡ takes_by (takes (state_of state.now)) ((classes_of classes.now).member c) }
+{
+    let mut bits = 0u64;
+    for class in 0..classes.len().min(CLASSES) {
+        if takes(state, classes.member(class)) {
+            bits |= 1u64 << class;
+        }
+    }
+    bits
+}
+
+// Returns whether the state takes the character. None takes the end.
+fn takes(state: &State, ch: Option<char>) -> bool
+    requires { HasRanges (state_of state.now) }
+    ensures { result ≡ takes_by (takes (state_of state.now)) ch }
+{
+    match ch {
+        None => false,
+        Some(ch) => state.takes(ch),
+    }
+}
+
+/// Returns a bit for each class: whether those of the threads that take it are those that take this one. There is no bit if no
+/// other class has one.
+pub(crate) fn alike_classes(bits: &[u64], takers: &[Frame], class: usize) -> u64
+    ensures { (p : programs.Program) (k : kinds.Classes) → AreTaken p k bits.now → (c : ℕ) → has_bit result c ≡ true →
+        taken p (k.member c) (map frame_of takers.now) ≡ taken p (k.member class) (map frame_of takers.now) }
+{
+    if class >= CLASSES {
+        return 0;
+    }
+    let mut alike = u64::MAX;
+    for taker in takers {
+        let state = taker.state as usize;
+        if state >= bits.len() {
+            return 0;
+        }
+        let own = bits[state];
+        alike &= if has_bit(own, class) { own } else { !own };
+        if alike & alike.wrapping_sub(1) == 0 {
+            return 0;
+        }
+    }
+    alike
+}
