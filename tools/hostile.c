@@ -100,6 +100,17 @@ static const struct row rows[] = {
     {HAYSTACK, "is", ONE("(?:^a|^b)*c"), LINES("d"), "none", 3, 100},
     {HAYSTACK, "is", ONE("(?m)^a"), LINES("b\n"), "none", 60, 100},
     {HAYSTACK, "lex", ONE(""), {"", "x = y1 + 42;\n", "", 30}, "12 tokens a line", 10, 100},
+    /* Literals that searches look for, in haystacks that are made of them: all of a literal but its last byte, the literal itself
+     * where nothing matches, a literal in each second byte, and many words that share their rarest bytes. */
+    {HAYSTACK, "is", ONE("harbour[0-9]"), LINES("harboux"), "none", 2, 100},
+    {HAYSTACK, "is", ONE("harbour[0-9]"), LINES("harbour"), "none", 2, 100},
+    {HAYSTACK, "count", ONE("z"), LINES("az"), "1 match a repetition", 5, 100},
+    {HAYSTACK, "count", ONE("z[0-9]"), LINES("az"), "0 matches a repetition", 2, 100},
+    {HAYSTACK, "count", ONE("[a-y]+z"), LINES("az"), "1 match a repetition", 5, 100},
+    {HAYSTACK, "count", {"zq990", "|zq##0", "", 49}, LINES("zqx"), "0 matches a repetition", 2, 100},
+    {HAYSTACK, "count", {"zq990", "|zq##0", "", 49}, LINES("zq110zq11"), "1 match a repetition", 5, 100},
+    {HAYSTACK, "is", ONE("[a-z]+\\.com$"), LINES("a.com"), "match", 2, 100},
+    {HAYSTACK, "is", ONE("[a-z.]+-com$"), LINES("a.com"), "none", 2, 100},
     /* The program. */
     {HAYSTACK, "bites is", ONE("(?:a|b)*c"), {"", "a", "", 10 * 1000 * 1000}, "none\n", 60, 150},
     {HAYSTACK, "bites find", ONE("a*"), {"", "a", "", 10 * 1000 * 1000}, "0..1000000", 60, 150},
@@ -177,6 +188,17 @@ static _Noreturn void replace(const struct row *row, bites *regex, bites_cache *
     end(row, size.code == BITES_TOO_SMALL ? answer : "a fault");
 }
 
+/* Counts the successive matches, which are as many in each repetition of the haystack's middle. */
+static _Noreturn void count(const struct row *row, bites *regex, bites_cache *cache, const uint8_t *haystack, size_t len) {
+    size_t matches = 0, times = len / strlen(row->haystack.middle);
+    char answer[64];
+    bites_span found;
+    for (size_t last = BITES_NONE; bites_find_next(regex, cache, haystack, len, last, &found) == BITES_MATCH; last = found.end) matches++;
+    if (matches % times != 0) end(row, "not as many in each repetition");
+    snprintf(answer, sizeof answer, matches == times ? "%zu match a repetition" : "%zu matches a repetition", matches / times);
+    end(row, answer);
+}
+
 /* The rules of a small language. Each must match at the start of what is left. */
 static const char *const rules[] = {"^[a-z]+", "^[0-9]+", "^[ \n]+", "^\"[^\"]*\"", "^[-+*/=]", "^[(){};]"};
 enum { RULES = sizeof rules / sizeof *rules };
@@ -211,6 +233,7 @@ static _Noreturn void do_job(const struct row *row, size_t pattern_times, size_t
     if (strcmp(row->job, "lex") == 0) lex(row, haystack, len);
     make(row, pattern, pattern_len, &regex, &cache);
     if (strncmp(row->job, "is", 2) == 0) end(row, bites_is_match_at(&regex, &cache, haystack, len, 0) == BITES_MATCH ? "match" : "none");
+    if (strcmp(row->job, "count") == 0) count(row, &regex, &cache, haystack, len);
     if (strcmp(row->job, "captures") == 0) find_captures(row, &regex, &cache, haystack, len);
     if (strcmp(row->job, "replace") == 0) replace(row, &regex, &cache, haystack, len);
     uint32_t code = bites_find_at(&regex, &cache, haystack, len, 0, &found);
