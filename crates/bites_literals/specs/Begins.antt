@@ -47,7 +47,7 @@ pub record IsEnd (t : Tree) (end : End) : Type 0 where
 pub record IsPrefilter (t : Tree) (p : Prefilter) : Type 0 where
   pub end : IfSome p.end (IsEnd t)
   pub near : IfSome p.near (IsNear t)
-  pub choice : IfSome p.choice (BeginsWithOne t)
+  pub choice : IfSome p.choice (λ set. BeginsWithOne t set.value)
 
 -- p is a place of the search, and the tree matches from no place before it
 pub record NoneBefore (t : Tree) (hay : List ℕ) (start p : ℕ) : Type 0 where

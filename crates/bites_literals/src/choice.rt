@@ -19,12 +19,12 @@ const LEAST_LEN: usize = 2;
 
 /// Returns literals with one of which each match of the tree begins, if they are worth a search, and if there is memory for
 /// them.
-pub(crate) fn set_of(alloc: Global, tree: &Tree) -> Option<LiteralSet>
-    ensures { IfSome result (BeginsWithOne tree.now) }
+pub(crate) fn set_of(alloc: Global, tree: &Tree) -> Option<Box<LiteralSet>>
+    ensures { IfSome result (λ set. BeginsWithOne tree.now set.value) }
 {
     let mut texts = Vec::new(alloc);
     match add_texts(tree, &mut texts) {
-        Ok(true) => LiteralSet::new(texts),
+        Ok(true) => Box::new(alloc, LiteralSet::new(texts)?).ok(),
         _ => None,
     }
 }

@@ -24,8 +24,8 @@ const COMMON: u32 = 480;
 pub struct Prefilter {
     end: Option<End>,
     near: Option<Near>,
-    /// Literals with one of which each match begins.
-    choice: Option<LiteralSet>,
+    /// Literals with one of which each match begins. They take two kilobytes, so they stand elsewhere.
+    choice: Option<Box<LiteralSet>>,
 }
 
 /// What is known of matches if each of them ends at the end of the haystack.
@@ -94,9 +94,10 @@ impl Prefilter {
     fn of_parts(
         end: Option<End>,
         near: Option<Near>,
-        choice: Option<LiteralSet>,
+        choice: Option<Box<LiteralSet>>,
     ) -> Option<Prefilter>
-        ensures { (t : spec.Tree) → IfSome end (IsEnd t) → IfSome near (IsNear t) → IfSome choice (BeginsWithOne t) → IfSome result (IsPrefilter t) }
+        ensures { (t : spec.Tree) → IfSome end (IsEnd t) → IfSome near (IsNear t) →
+            IfSome choice (λ set. BeginsWithOne t set.value) → IfSome result (IsPrefilter t) }
     {
         if end.is_none() && near.is_none() && choice.is_none() {
             return None;
@@ -106,8 +107,9 @@ impl Prefilter {
 
     /// Returns from where a search of the haystack has to begin that may begin at `start`.
     ///
-    /// It searches for the literal, or for the first of several, from `start` on. Before the offset that the search comes to, no match of the tree ends. If
-    /// each match ends at the end of the haystack, it looks first at how the haystack ends, and goes back from there at last.
+    /// It searches for the literal, or for the first of several, from `start` on. Before the offset that the search comes to,
+    /// no match of the tree ends. If each match ends at the end of the haystack, it looks first at how the haystack ends, and
+    /// goes back from there at last.
     pub fn begin(&self, haystack: &[u8], start: usize) -> Begin
         requires { start ≤ length haystack.now }
         ensures { (t : spec.Tree) → IsPrefilter t self.now → BeginsBy t haystack.now start result }
