@@ -68,6 +68,8 @@ fn begins_with_one_of_several_by_hand(rt: HostRuntime) -> Result<(), Error> {
             0,
             Begin::From(3),
         ),
+        ("(error|warn): ", "a: warn: ", 0, Begin::From(3)),
+        ("(error|warn)@host", "error warn@host", 0, Begin::From(5)),
         (r"(?:foo|bar).*$", "xx foo bar", 0, Begin::From(3)),
         (r"(?:foo|bar).*$", "foo\nx bar", 0, Begin::From(4)),
         (r"(?:foo|bar).*$", "fo ba", 0, Begin::Nowhere),
