@@ -10,7 +10,7 @@ use Rattle.bites_scan.specs.declared.fingerprints.Fingerprints.{Fingerprints}
 use Rattle.bites_scan.specs.declared.shortlist.Shortlist.{Shortlist}
 use Rattle.bites_scan.specs.Known.{AreKnown}
 use Rattle.bites_scan.specs.Literal.{Needle}
-use Rattle.bites_scan.specs.LiteralSet.{NeedleOccursAt, SomeOccursAt, NothingOccurs, NothingFrom, Marks, AreNear}
+use Rattle.bites_scan.specs.LiteralSet.{NeedleOccursAt, SomeOccursAt, NothingOccurs, NothingFrom, Marks, AreCandidates}
 use Rattle.bites_scan.specs.Shortlist.{Lists}
 use Rattle.bites_scan.proofs.LiteralLemmas.{bit_below}
 
@@ -68,11 +68,11 @@ module _ (literals : List Needle) (haystack : List ℕ) where
 
   module _ (m n bit : ℕ) (small : m < 2 ^ 64) (kept : (k : ℕ) → k < 64 → (k ≡ bit → ⊥) → bit_at n k ≡ bit_at m k) where
     -- that of a literal that does not occur here
-    pub still_near : (at : ℕ) → ((d : Needle) → bit < length literals → NeedleOccursAt haystack at (get_or literals bit d) → ⊥) → AreNear literals haystack at m → AreNear literals haystack at n
-    still_near at fails near k d lt o =
+    pub still_candidates : (at : ℕ) → ((d : Needle) → bit < length literals → NeedleOccursAt haystack at (get_or literals bit d) → ⊥) → AreCandidates literals haystack at m → AreCandidates literals haystack at n
+    still_candidates at fails candidates k d lt o =
         elim (cases_eq k bit) [
           | inl e ↦ absurd (let P : ℕ → Type 0 = λ i. (i < length literals) × NeedleOccursAt haystack at (get_or literals i d) in let here = subst P e (lt, o) in fails d here.0 here.1)
-          | inr other ↦ kept k (bit_below 64 m k small (near k d lt o)) other ∙ near k d lt o
+          | inr other ↦ kept k (bit_below 64 m k small (candidates k d lt o)) other ∙ candidates k d lt o
         ]
 
     module _ (mask : ℕ) where
@@ -105,8 +105,8 @@ module _ (literals : List Needle) (haystack : List ℕ) where
           ∥∥₁_elim known (hlevel ℕ_set) (λ all. covers (get_or items here.0 here.1) (all here.0 here.1 here.2).0 k (omega arith) (subst (NeedleOccursAt haystack (at + k)) (sym here.3) here.4));
     }
 
-    pub near_of : (at near : ℕ) → ((n : Needle) (k : ℕ) → Lists s n k → NeedleOccursAt haystack at n → bit_at near k ≡ 1) → AreNear literals haystack at near
-    near_of at near listed k n lt o =
+    pub candidates_of : (at candidates : ℕ) → ((n : Needle) (k : ℕ) → Lists s n k → NeedleOccursAt haystack at n → bit_at candidates k ≡ 1) → AreCandidates literals haystack at candidates
+    candidates_of at candidates listed k n lt o =
         let P : List Needle → Type 0 = λ l. (k < length l) × NeedleOccursAt haystack at (get_or l k n) in
         let here = subst P (sym same) (lt, o) in
         ∥∥₁_elim known (hlevel ℕ_set) (λ all. listed (get_or items k n) k (all k n here.0).1 here.1)

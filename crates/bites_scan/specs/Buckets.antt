@@ -1,5 +1,5 @@
--- The first three bytes of literals in eight buckets. Two tables of 16 cells say for each byte in which buckets it is.
-use Rattle.std.specs.Prelude.{◌≡◌, ℕ, ◌/◌, ◌<◌, length, slice_index, bit_and}
+-- Three bytes of each literal in eight buckets. Two tables of 16 cells say for each byte in which buckets it is.
+use Rattle.std.specs.Prelude.{◌≡◌, ℕ, ◌+◌, ◌/◌, ◌<◌, length, slice_index, bit_and}
 use Rattle.std.specs.Int.{bit_at}
 use Rattle.bites_scan.specs.declared.buckets.Buckets.{Buckets}
 use Rattle.bites_scan.specs.declared.fingerprints.Fingerprints.{Fingerprints}
@@ -25,9 +25,9 @@ MayStand n place byte = place < length n.bytes → folding n.caseless byte ≡ f
 abbrev pub HoldsPlace : Buckets → ℕ → Needle → ℕ → Type 0
 HoldsPlace t bucket n place = (byte : ℕ) → byte < 256 → MayStand n place byte → IsIn t bucket byte
 
--- one bucket has each of the first three places of the literal
+-- one bucket has three places of the literal, one after another
 pub record Knows (f : Fingerprints) (n : Needle) : Type 0 where
   pub bucket : ℕ
-  pub first : HoldsPlace f.first bucket n 0
-  pub second : HoldsPlace f.second bucket n 1
-  pub third : HoldsPlace f.third bucket n 2
+  pub first : HoldsPlace f.first bucket n f.place
+  pub second : HoldsPlace f.second bucket n (f.place + 1)
+  pub third : HoldsPlace f.third bucket n (f.place + 2)

@@ -45,11 +45,11 @@ IsOutcomeUpTo literals haystack from end (Found at) = IsFirstOfSet literals hays
 IsOutcomeUpTo literals haystack from end Nowhere = NothingOccurs literals haystack from end
 IsOutcomeUpTo literals haystack from end (Tired at) = SetHasPassed literals haystack from at
 
--- of the offsets from `at` up to `end` a mask has a bit for each one at which a literal occurs, and for no other offset
+-- a mask has a bit for each offset from `at` up to `end` at which a literal occurs, and no bit for an offset beyond them
 pub record Marks (literals : List Needle) (haystack : List ℕ) (at end mask : ℕ) : Type 0 where
   pub within : (k : ℕ) → bit_at mask k ≡ 1 → at + k < end
   pub covers : (k : ℕ) → at + k < end → SomeOccursAt literals haystack (at + k) → bit_at mask k ≡ 1
 
--- a number has the bit of each literal that occurs here
-abbrev pub AreNear : List Needle → List ℕ → ℕ → ℕ → Type 0
-AreNear literals haystack at near = (k : ℕ) (n : Needle) → k < length literals → NeedleOccursAt haystack at (slice_index_or literals k n) → bit_at near k ≡ 1
+-- the candidates, as bits, have each literal that occurs here
+abbrev pub AreCandidates : List Needle → List ℕ → ℕ → ℕ → Type 0
+AreCandidates literals haystack at candidates = (k : ℕ) (n : Needle) → k < length literals → NeedleOccursAt haystack at (slice_index_or literals k n) → bit_at candidates k ≡ 1

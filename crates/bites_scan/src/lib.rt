@@ -1,10 +1,12 @@
-//! Vector loops over bytes: the first byte outside a set, and the first offset of a literal.
+//! Vector loops over bytes: the first byte outside a set, and the first offset of a literal or of one of several.
 //!
-//! Nothing here knows of patterns or of UTF-8. A [`byte_set::ByteSet`] is skipped, and a [`literal::Literal`] is searched for.
+//! Nothing here knows of patterns or of UTF-8. A [`byte_set::ByteSet`] is skipped, and a [`literal::Literal`] or a
+//! [`literal_set::LiteralSet`] is searched for.
 #![tactic(auto)]
 
 mod buckets;
 pub mod byte_set;
+mod choice;
 mod fingerprints;
 mod first_stop;
 mod folding;

@@ -122,13 +122,40 @@ impl Literal {
         self.caseless
     }
 
-    /// Returns a number that puts literals in the order of their first three bytes, in whichever case. Only speed depends on it.
-    pub(crate) fn front(&self) -> u32 {
+    /// Returns a number that puts literals in the order of the three bytes at this place, in whichever case. Only speed depends
+    /// on it.
+    pub(crate) fn order_at(&self, place: usize) -> u32
+        requires { place ≤ 29 }
+    {
         u32::from_be_bytes([
             0,
-            self.bytes[0] | 0x20,
-            self.bytes[1] | 0x20,
-            self.bytes[2] | 0x20,
+            self.bytes[place] | 0x20,
+            self.bytes[place + 1] | 0x20,
+            self.bytes[place + 2] | 0x20,
         ])
+    }
+
+    /// Returns how often the three bytes at this place occur in texts, or `u32::MAX` if the literal ends before. Only speed
+    /// depends on it.
+    pub(crate) fn cost_at(&self, place: usize) -> u32
+        requires { place ≤ 29 }
+    {
+        if place + 3 > self.len {
+            return u32::MAX;
+        }
+        self.rank_at(place) + self.rank_at(place + 1) + self.rank_at(place + 2)
+    }
+
+    /// Returns the rank of a byte, as `Folding::rank`.
+    fn rank_at(&self, place: usize) -> u32
+        requires { place < 32 }
+        ensures { result < 256 }
+    {
+        let byte = self.bytes[place];
+        if self.caseless {
+            Caseless::rank(byte) as u32
+        } else {
+            Exact::rank(byte) as u32
+        }
     }
 }

@@ -3,8 +3,9 @@
 ghost use Rattle.std.specs.Prelude.{◌≡◌, ◌↔◌, ◌+◌, ◌≤◌, ◌<◌, ℕ, IfSome, IsSome, IsTrue, length};
 ghost use Rattle.std.specs.Int.{bit_at};
 ghost use Rattle.bites_scan.specs.Known.{AreKnown};
-ghost use Rattle.bites_scan.specs.LiteralSet.{AreNear, IsOutcomeUpTo, IsSetOutcome, Marks, NothingOccurs, SomeOccursAt};
+ghost use Rattle.bites_scan.specs.LiteralSet.{AreCandidates, IsOutcomeUpTo, IsSetOutcome, Marks, NothingOccurs, SomeOccursAt};
 
+use crate::choice::{bucket_of, place_of};
 use crate::fingerprints::Fingerprints;
 use crate::lanes::{LANES, lowest, without};
 use crate::literal::{Literal, Outcome};
@@ -14,16 +15,14 @@ use std::marker::Model;
 /// How many literals a set has at most.
 pub const MOST_LITERALS: usize = 64;
 
-/// How many buckets the literals are put into.
-const BUCKETS: usize = 8;
-
-/// How many bytes after an offset the fingerprints read.
+/// How many bytes the fingerprints read beyond the first byte of the last offset.
 const AHEAD: usize = 2;
 
 /// How many offsets a step of the wide loop tests.
 const WIDE: usize = 4 * LANES;
 
-/// How many tests may fail at first. Then one more may fail for each 32 bytes that the search goes on.
+/// How many tests may fail at first, be it of an offset or of a literal there. Then one more may fail for each 32 bytes that
+/// the search goes on.
 const PATIENCE: usize = 16;
 
 /// Literals that a haystack is searched for together: at least one, and at most 64.
@@ -46,7 +45,7 @@ impl Model for LiteralSet {
     ghost view = { λ s. s.literals.items };
 }
 
-/// How many tests of a search have failed.
+/// How much of a search was in vain. Only speed depends on it.
 #[derive(Clone, Copy, Drop)]
 struct Patience {
     from: usize,
@@ -54,9 +53,9 @@ struct Patience {
 }
 
 impl Patience {
-    /// Counts a failed test and the literals that were compared for it. Returns whether too many tests have failed.
-    fn is_lost(&mut self, at: usize, compared: u32) -> bool {
-        self.failed = self.failed.saturating_add(1 + compared.min(64) as usize);
+    /// Counts tests that failed. Returns whether they are too many for a search that has come to `at`.
+    fn is_lost(&mut self, at: usize, failed: u32) -> bool {
+        self.failed = self.failed.saturating_add(failed as usize);
         self.failed > (at.saturating_sub(self.from) / 32).saturating_add(PATIENCE)
     }
 }
@@ -70,10 +69,11 @@ impl LiteralSet {
         if literals.is_empty() || literals.len() > MOST_LITERALS {
             return None;
         }
-        let mut fingerprints = Fingerprints::empty();
+        let place = place_of(&literals);
+        let mut fingerprints = Fingerprints::empty(place);
         let mut shortlist = Shortlist::empty();
         for number in 0..literals.len() {
-            fingerprints.add(&literals[number], bucket_of(&literals, number));
+            fingerprints.add(&literals[number], bucket_of(&literals, number, place));
             shortlist.add(&literals[number], number);
         }
         Some(LiteralSet {
@@ -85,16 +85,16 @@ impl LiteralSet {
 
     /// Searches from `from` on, until one of the literals is found or too many offsets only looked like one.
     ///
-    /// Vectors look up three bytes at 64 offsets a step. Where all three are in one bucket, the literals with the hash of
-    /// these bytes are compared. Of `n` bytes that the search passes, at most 17 + n / 32 are offsets at which this fails.
+    /// Vectors look up three bytes for each of 64 offsets a step. Where one bucket has all three, the literals are compared
+    /// that have the same hash. Of `n` bytes that the search passes, at most 17 + n / 32 are offsets at which this fails, and
+    /// at most 80 + n / 32 literals are compared in vain.
     pub fn search(&self, haystack: &[u8], from: usize) -> Outcome
         requires { from ≤ length haystack.now }
         ensures { IsSetOutcome self.now haystack.now from result }
     {
         let mut patience = Patience { from, failed: 0 };
         let mut at = from;
-        'wide: while haystack.len() - at >= WIDE + AHEAD {
-            let mask = self.mask_of_64(haystack, at);
+        'wide: while let Some(mask) = self.mask_of_64(haystack, at) {
             match self.first_marked(haystack, at, mask, &mut patience) {
                 Outcome::Found(offset) => return Outcome::Found(offset),
                 Outcome::Tired(offset) => return Outcome::Tired(offset),
@@ -117,25 +117,34 @@ impl LiteralSet {
         requires none { NothingOccurs self.now haystack.now from start }
         ensures { IsSetOutcome self.now haystack.now from result }
     {
-        if haystack.len() - from < LANES + AHEAD {
-            return self.search_by_one(haystack, from, start);
+        let read = LANES + AHEAD + self.fingerprints.place as usize;
+        if haystack.len() - from < read {
+            return self.search_by_one(haystack, from, start, patience);
         }
-        let last = haystack.len() - (LANES + AHEAD);
+        let last = haystack.len() - read;
         let mut at = start;
         'narrow: while at < last + LANES {
             let step = at.min(last);
-            let mask = self.mask_of_16(haystack, step);
+            let Some(mask) = self.mask_of_16(haystack, step) else {
+                break;
+            };
             match self.first_marked(haystack, step, mask, &mut patience) {
                 Outcome::Found(offset) => return Outcome::Found(offset),
                 Outcome::Tired(offset) => return Outcome::Tired(offset),
                 Outcome::Nowhere => at = step + LANES,
             }
         }
-        self.search_by_one(haystack, from, at)
+        self.search_by_one(haystack, from, at, patience)
     }
 
     /// Goes on with a search, offset by offset.
-    fn search_by_one(&self, haystack: &[u8], from: usize, start: usize) -> Outcome
+    fn search_by_one(
+        &self,
+        haystack: &[u8],
+        from: usize,
+        start: usize,
+        mut patience: Patience,
+    ) -> Outcome
         requires onward { from ≤ start }
         requires within { start ≤ length haystack.now }
         requires none { NothingOccurs self.now haystack.now from start }
@@ -143,38 +152,47 @@ impl LiteralSet {
     {
         let mut at = start;
         'offsets: while at <= haystack.len() {
-            let near = self.near(haystack, at);
-            if self.one_occurs_at(near, haystack, at) {
+            let candidates = self.candidates(haystack, at);
+            if self.one_occurs_at(candidates, haystack, at) {
                 return Outcome::Found(at);
+            }
+            if at < haystack.len() && patience.is_lost(at, candidates.count_ones()) {
+                return Outcome::Tired(at + 1);
             }
             at += 1;
         }
         Outcome::Nowhere
     }
 
-    /// Returns a bit for each of 16 offsets at which a literal may occur.
+    /// Returns a bit for each of 16 offsets at which a literal may occur, or `None` near the end.
     #[inline(always)]
-    fn mask_of_16(&self, haystack: &[u8], at: usize) -> u64
-        requires { at + 18 ≤ length haystack.now }
-        ensures { Marks self.now haystack.now at (at + 16) result }
-    {
-        self.fingerprints.mask_of_16(haystack, at)
-    }
-
-    /// Returns a bit for each of 64 offsets at which a literal may occur.
-    #[inline(always)]
-    fn mask_of_64(&self, haystack: &[u8], at: usize) -> u64
-        requires { at + 66 ≤ length haystack.now }
-        ensures { Marks self.now haystack.now at (at + 64) result }
-    {
-        self.fingerprints.mask_of_64(haystack, at)
-    }
-
-    /// Returns a bit for each literal that may occur here.
-    #[inline(always)]
-    fn near(&self, haystack: &[u8], at: usize) -> u64
+    fn mask_of_16(&self, haystack: &[u8], at: usize) -> Option<u64>
         requires { at ≤ length haystack.now }
-        ensures { AreNear self.now haystack.now at result }
+        ensures { IfSome result (λ mask. (at + 16 ≤ length haystack.now) × Marks self.now haystack.now at (at + 16) mask) }
+    {
+        if haystack.len() - at < LANES + AHEAD + self.fingerprints.place as usize {
+            return None;
+        }
+        Some(self.fingerprints.mask_of_16(haystack, at))
+    }
+
+    /// Returns a bit for each of 64 offsets at which a literal may occur, or `None` near the end.
+    #[inline(always)]
+    fn mask_of_64(&self, haystack: &[u8], at: usize) -> Option<u64>
+        requires { at ≤ length haystack.now }
+        ensures { IfSome result (λ mask. (at + 64 ≤ length haystack.now) × Marks self.now haystack.now at (at + 64) mask) }
+    {
+        if haystack.len() - at < WIDE + AHEAD + self.fingerprints.place as usize {
+            return None;
+        }
+        Some(self.fingerprints.mask_of_64(haystack, at))
+    }
+
+    /// Returns the literals that may occur here, as bits.
+    #[inline(always)]
+    fn candidates(&self, haystack: &[u8], at: usize) -> u64
+        requires { at ≤ length haystack.now }
+        ensures { AreCandidates self.now haystack.now at result }
     {
         self.shortlist.at(haystack, at)
     }
@@ -194,11 +212,11 @@ impl LiteralSet {
         'marked: while left != 0 {
             let lane = lowest(left);
             let offset = at + lane;
-            let near = self.near(haystack, offset);
-            if self.one_occurs_at(near, haystack, offset) {
+            let candidates = self.candidates(haystack, offset);
+            if self.one_occurs_at(candidates, haystack, offset) {
                 return Outcome::Found(offset);
             }
-            if patience.is_lost(offset, near.count_ones()) {
+            if patience.is_lost(offset, candidates.count_ones().max(1)) {
                 return Outcome::Tired(offset + 1);
             }
             left = without(left, lane);
@@ -206,14 +224,14 @@ impl LiteralSet {
         Outcome::Nowhere
     }
 
-    /// Returns whether one of the literals occurs here. Only those whose bit is set are compared.
-    fn one_occurs_at(&self, near: u64, haystack: &[u8], at: usize) -> bool
+    /// Returns whether one of the literals occurs here. Only the candidates are compared.
+    fn one_occurs_at(&self, candidates: u64, haystack: &[u8], at: usize) -> bool
         requires within { at ≤ length haystack.now }
-        requires listed { AreNear self.now haystack.now at near }
+        requires listed { AreCandidates self.now haystack.now at candidates }
         ensures { IsTrue result ↔ SomeOccursAt self.now haystack.now at }
     {
-        let mut left = near;
-        'near: while left != 0 {
+        let mut left = candidates;
+        'candidates: while left != 0 {
             let number = lowest(left);
             if number < self.literals.len() && self.literals[number].occurs_at(haystack, at) {
                 return true;
@@ -222,19 +240,4 @@ impl LiteralSet {
         }
         false
     }
-}
-
-/// Returns a bucket for a literal. Literals with like first bytes come into one. Only speed depends on it.
-fn bucket_of(literals: &[Literal], number: usize) -> usize
-    requires { number < length literals.now }
-    ensures { result < 8 }
-{
-    let own = literals[number].front();
-    let mut before = 0usize;
-    for literal in literals {
-        if literal.front() < own {
-            before += 1;
-        }
-    }
-    (before.min(MOST_LITERALS) * BUCKETS / literals.len()).min(BUCKETS - 1)
 }

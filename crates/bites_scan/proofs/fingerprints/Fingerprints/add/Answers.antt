@@ -1,3 +1,4 @@
+use Rattle.std.proofs.Common.{◌+◌}
 use Rattle.bites_scan.proofs.BucketLemmas.{holds_still}
 use Rattle.bites_scan.proofs.fingerprints.Fingerprints.add.Goals as goal
 
@@ -12,7 +13,7 @@ returns-clause-added c = record {
 pub returns-clause-kept : goal.returns-clause-kept
 returns-clause-kept c n known = record {
   bucket = known.bucket;
-  first = holds_still _ _ known.bucket n 0 c.add.ensures.stays known.first;
-  second = holds_still _ _ known.bucket n 1 c.add-2.ensures.stays known.second;
-  third = holds_still _ _ known.bucket n 2 c.add-3.ensures.stays known.third;
+  first = holds_still _ _ known.bucket n c.args.self.now.place c.add.ensures.stays known.first;
+  second = holds_still _ _ known.bucket n (c.args.self.now.place + 1) c.add-2.ensures.stays known.second;
+  third = holds_still _ _ known.bucket n (c.args.self.now.place + 2) c.add-3.ensures.stays known.third;
 }

@@ -14,3 +14,6 @@ loop-number-preserved c =
     let one : c.index.result.now ≡ get_or items number d = get_or_read_under items number (length items) c.index.result.now d c.index.ensures (omega arith) refl in
     let other : c.index-in-loop-number.result.now ≡ get_or items number d = get_or_read_under items number (length items) c.index-in-loop-number.result.now d c.index-in-loop-number.ensures (omega arith) refl in
     (subst (Knows c.add.new.self) one c.add.ensures.added, subst (λ n. Lists c.add-in-loop-number.new.self n number) other c.add-in-loop-number.ensures.added))
+
+pub invariant_of-result : goal.invariant_of-result
+invariant_of-result c = (∣ (λ k d lt. c.loop-number.invariant k d (omega arith)) ∣₁, tt)

@@ -5,12 +5,12 @@ use Rattle.std.proofs.lemmas.Nat.Bits.{bit_at-zero}
 use Rattle.std.specs.Int.{bit_at}
 use Rattle.bites_scan.specs.Literal.{Needle}
 use Rattle.bites_scan.specs.LiteralSet.{NeedleOccursAt}
-use Rattle.bites_scan.proofs.SetLemmas.{none_of_all, still_near}
+use Rattle.bites_scan.proofs.SetLemmas.{none_of_all, still_candidates}
 use Rattle.bites_scan.proofs.literal_set.LiteralSet.one_occurs_at.Goals as goal
 use Rattle.bites_scan.proofs.literal_set.LiteralSet.one_occurs_at.Goals.{else-number-len-via-then-number-len+else-occurs_at, else-number-len-via-else-number-len}
 
-pub near-preserved : goal.near-preserved
-near-preserved c =
+pub candidates-preserved : goal.candidates-preserved
+candidates-preserved c =
     let number = c.lowest-number.result in
     let fails : (d : Needle) → number < length c.args.self.now → NeedleOccursAt c.args.haystack.now c.args.at (get_or c.args.self.now number d) → ⊥ = λ d lt o.
     elim c.else-number-len.branch [
@@ -22,12 +22,12 @@ near-preserved c =
     ] in
     record {
       small = omega arith;
-      near = still_near c.args.self.now c.args.haystack.now c.near.left c.without-left.result number c.near.invariant.small c.without-left.ensures.kept c.args.at fails c.near.invariant.near;
+      are_candidates = still_candidates c.args.self.now c.args.haystack.now c.candidates.left c.without-left.result number c.candidates.invariant.small c.without-left.ensures.kept c.args.at fails c.candidates.invariant.are_candidates;
     }
 
 pub returns : goal.returns
 returns c = (
   λ h. cc,
   λ o. absurd (none_of_all c.args.self.now c.args.haystack.now c.args.at
-      (λ k n lt here. omega (arith, ap (λ m. bit_at m k) c.near-test.false, c.near.invariant.near k n lt here, bit_at-zero k)) o),
+      (λ k n lt here. omega (arith, ap (λ m. bit_at m k) c.candidates-test.false, c.candidates.invariant.are_candidates k n lt here, bit_at-zero k)) o),
 )

@@ -1,9 +1,9 @@
 use Rattle.std.proofs.Common.{◌<◌, ◌^◌}
-use Rattle.bites_scan.specs.LiteralSet.{AreNear}
+use Rattle.bites_scan.specs.LiteralSet.{AreCandidates}
 use Rattle.bites_scan.proofs.literal_set.LiteralSet.one_occurs_at.Given as goal
 
-abbrev pub invariant-near : goal.invariant-near
-invariant-near l = record { small : l.left < 2 ^ 64; near : AreNear l.self l.haystack l.at l.left }
+abbrev pub invariant-candidates : goal.invariant-candidates
+invariant-candidates l = record { small : l.left < 2 ^ 64; are_candidates : AreCandidates l.self l.haystack l.at l.left }
 
-abbrev pub decreases-near : goal.decreases-near
-decreases-near l = l.left
+abbrev pub decreases-candidates : goal.decreases-candidates
+decreases-candidates l = l.left

@@ -4,7 +4,7 @@ use Rattle.bites_scan.proofs.literal_set.LiteralSet.search.Goals as goal
 
 pub returns-in-Found : goal.returns-in-Found
 returns-in-Found c =
-    let found = c.in-Found.ensures (c.wide.at + 64) c.mask_of_64-mask.ensures in
+    let found = c.in-Found.ensures (c.wide.at + 64) c.in-Some.ensures.1 in
     record {
       onward = omega (arith, found.onward);
       occurs = found.occurs;
@@ -13,7 +13,7 @@ returns-in-Found c =
 
 pub returns-in-Tired : goal.returns-in-Tired
 returns-in-Tired c =
-    let tired = c.in-Tired.ensures (c.wide.at + 64) c.mask_of_64-mask.ensures in
+    let tired = c.in-Tired.ensures (c.wide.at + 64) c.in-Some.ensures.1 in
     record {
       onward = omega (arith, tired.onward);
       within = tired.within;
@@ -23,9 +23,9 @@ returns-in-Tired c =
 pub wide-preserved : goal.wide-preserved
 wide-preserved c = record {
   onward = omega arith;
-  within = omega arith;
-  none = none_joined c.args.self.now c.args.haystack.now c.args.from c.wide.at (c.wide.at + 64) c.wide.at (omega arith) c.wide.invariant.none (c.in-Nowhere.ensures (c.wide.at + 64) c.mask_of_64-mask.ensures);
+  within = omega (arith, c.in-Some.ensures.0);
+  none = none_joined c.args.self.now c.args.haystack.now c.args.from c.wide.at (c.wide.at + 64) c.wide.at (omega arith) c.wide.invariant.none (c.in-Nowhere.ensures (c.wide.at + 64) c.in-Some.ensures.1);
 }
 
 pub first_marked-requires : goal.first_marked-requires
-first_marked-requires c k set = omega (arith, c.mask_of_64-mask.ensures.within k set)
+first_marked-requires c k set = omega (arith, c.in-Some.ensures.0, c.in-Some.ensures.1.within k set)

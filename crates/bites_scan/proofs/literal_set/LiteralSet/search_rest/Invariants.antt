@@ -1,10 +1,10 @@
-use Rattle.std.proofs.Common.{◌≡◌, ◌+◌, ◌-◌, ◌≤◌, length}
+use Rattle.std.proofs.Common.{◌-◌, ◌≤◌, length}
 use Rattle.bites_scan.specs.LiteralSet.{NothingOccurs}
 use Rattle.bites_scan.proofs.literal_set.LiteralSet.search_rest.Given as goal
 
 abbrev pub invariant-narrow : goal.invariant-narrow
 invariant-narrow l = record {
-  room : l.last + 18 ≡ length l.haystack;
+  room : l.last ≤ length l.haystack;
   behind : l.from ≤ l.last;
   onward : l.from ≤ l.at;
   within : l.at ≤ length l.haystack;
