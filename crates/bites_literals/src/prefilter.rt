@@ -19,6 +19,9 @@ use std::alloc::Global;
 /// How often the two rarest bytes of a literal may occur, as the sum of their ranks.
 const COMMON: u32 = 480;
 
+/// How many bytes a literal has at least that is searched for although each match begins with one of several others.
+const LONG: usize = 4;
+
 /// What bounds the places where matches of a tree begin.
 #[derive(Drop)]
 pub struct Prefilter {
@@ -82,12 +85,15 @@ impl Prefilter {
             return Prefilter::of_parts(end, None, None);
         }
         let near = Near::of(&facts);
-        let choice = if near.is_none() {
+        let choice = if near.is_none() || may_choose(&facts) {
             set_of(alloc, tree)
         } else {
             None
         };
-        Prefilter::of_parts(end, near, choice)
+        if choice.is_some() {
+            return Prefilter::of_parts(end, None, choice);
+        }
+        Prefilter::of_parts(end, near, None)
     }
 
     /// Returns a prefilter of these parts, if one of them is there.
@@ -217,6 +223,15 @@ impl Reach {
             Reach::While(set) => back_while(haystack, start, at, set),
             Reach::Haystack => start,
         }
+    }
+}
+
+/// Returns whether the literal of the facts is short and stands behind where matches begin, so that a search for several that
+/// they begin with is worth more. Only speed depends on it.
+fn may_choose(facts: &Facts) -> bool {
+    match facts.rarest() {
+        Some(needed) => facts.front.len() == 0 && needed.text.len() < LONG,
+        None => true,
     }
 }
 
