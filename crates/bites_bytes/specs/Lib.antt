@@ -3,6 +3,7 @@ pub mod Settings
 pub mod Names
 pub mod Matched
 pub mod Calls
+pub mod Rooms
 pub mod Groups
 pub mod NextMatch
 pub mod Matches

@@ -4,6 +4,7 @@ ghost use Rattle.std.specs.Prelude.{◌≡◌, ◌↔◌, length, option_map, is
 ghost use Rattle.bites_spec.specs.Counts.{fit_of};
 ghost use Rattle.bites_spec.specs.Captured.{FindsMatch};
 ghost use Rattle.bites_bytes.specs.Calls.{Searched, SearchedWithin, FindsCaptured, FindsCapturedFull, ReadsGroups};
+ghost use Rattle.bites_bytes.specs.Rooms.{HasRoom};
 ghost use Rattle.bites_spec.specs.Full.{IsFullMatch};
 ghost use Rattle.bites_spec.specs.Found.{HasMatch};
 ghost use Rattle.bites_spec.specs.Utf8.{start_alone};
@@ -36,8 +37,8 @@ impl Regex {
         ensures { IfOk result
             (λ m. FindsMatch self.now haystack.now (start_alone haystack.now start) (option_map excerpt_of m)) }
     {
-        let mut cache = self.cache()?;
-        Ok(self.find_anchored_at_with(&mut cache, haystack, start))
+        let mut cache = Cache::for_slots(self.program(), 2)?;
+        Ok(self.match_anchored(&mut cache, haystack, start))
     }
 
     /// Like [`Regex::find_anchored_at`], but with a cache that fits. It allocates nothing and cannot fail.
@@ -50,6 +51,22 @@ impl Regex {
         start: usize,
     ) -> Option<Match<'h>>
         requires { cache.old.fits ≡ fit_of self.now.program }
+        ensures found { FindsMatch self.now haystack.now (start_alone haystack.now start)
+            (option_map excerpt_of result) }
+        ensures searched { Searched self.now haystack.now start (start_alone haystack.now start)
+            (is_some result) cache.old cache.new }
+    {
+        self.match_anchored(cache, haystack, start)
+    }
+
+    // The same with a cache that may have two slots alone.
+    fn match_anchored<'h>(
+        &self,
+        cache: &mut Cache,
+        haystack: &'h [u8],
+        start: usize,
+    ) -> Option<Match<'h>>
+        requires { HasRoom cache.old.fits self.now.program 2 }
         ensures found { FindsMatch self.now haystack.now (start_alone haystack.now start)
             (option_map excerpt_of result) }
         ensures searched { Searched self.now haystack.now start (start_alone haystack.now start)
@@ -72,8 +89,8 @@ impl Regex {
         ensures { IfOk result (λ found. IsTrue found ↔ HasMatch self.now.tree haystack.now
             (start_alone haystack.now start)) }
     {
-        let mut cache = self.cache()?;
-        Ok(self.is_match_anchored_at_with(&mut cache, haystack, start))
+        let mut cache = Cache::for_slots(self.program(), 0)?;
+        Ok(self.has_match_anchored(&mut cache, haystack, start))
     }
 
     /// Like [`Regex::is_match_anchored_at`], but with a cache that fits. It allocates nothing and cannot fail.
@@ -86,6 +103,16 @@ impl Regex {
         start: usize,
     ) -> bool
         requires { cache.old.fits ≡ fit_of self.now.program }
+        ensures found { IsTrue result ↔ HasMatch self.now.tree haystack.now (start_alone haystack.now start) }
+        ensures searched { Searched self.now haystack.now start (start_alone haystack.now start)
+            result cache.old cache.new }
+    {
+        self.has_match_anchored(cache, haystack, start)
+    }
+
+    // The same with a cache that may have no slots.
+    fn has_match_anchored(&self, cache: &mut Cache, haystack: &[u8], start: usize) -> bool
+        requires { HasRoom cache.old.fits self.now.program 0 }
         ensures found { IsTrue result ↔ HasMatch self.now.tree haystack.now (start_alone haystack.now start) }
         ensures searched { Searched self.now haystack.now start (start_alone haystack.now start)
             result cache.old cache.new }
@@ -170,8 +197,8 @@ impl Regex {
     pub fn is_full_match(&self, haystack: &[u8]) -> Result<bool, AllocError>
         ensures { IfOk result (λ found. IsTrue found ↔ IsFullMatch self.now.tree haystack.now) }
     {
-        let mut cache = self.cache()?;
-        Ok(self.is_full_match_with(&mut cache, haystack))
+        let mut cache = Cache::for_slots(self.program(), 2)?;
+        Ok(cache.find_full(self, haystack, &mut [None; 2]))
     }
 
     /// Like [`Regex::is_full_match`], but with a cache that fits. It allocates nothing and cannot fail.

@@ -1,8 +1,9 @@
 //! The memory of searches.
 
 ghost use Rattle.std.specs.Prelude.{◌≡◌, ◌⊎◌, ◌↔◌, ◌≤◌, ◌<◌, ◌+◌, ◌^◌, length, option_map, is_some, IsTrue, IfOk, Some};
-ghost use Rattle.bites_spec.specs.Counts.{fit_of, IsSlotCount};
+ghost use Rattle.bites_spec.specs.Counts.{fit_of, fit_with, IsSlotCount};
 ghost use Rattle.bites_bytes.specs.Calls.{SearchedWithin};
+ghost use Rattle.bites_bytes.specs.Rooms.{HasRoom};
 ghost use Rattle.bites_spec.specs.Captured.{FindsMatch};
 ghost use Rattle.bites_spec.specs.Match.{span};
 ghost use Rattle.bites_spec.specs.Slots.{slot_in, group_in};
@@ -19,7 +20,6 @@ use crate::bytes::{Match, Regex};
 use bites_machine::program::Program;
 use bites_machine::vm::{Input, MatchKind};
 use bites_table::cache;
-use bites_table::search::search_input;
 use bites_text::utf8::decode_lossy;
 use std::alloc::AllocError;
 use std::fmt;
@@ -58,13 +58,22 @@ impl Cache {
         })
     }
 
+    // Allocates a cache for searches that ask for at most so many slots.
+    pub(super) fn for_slots(program: &Program, slots: usize) -> Result<Cache, AllocError>
+        ensures { IfOk result (λ c. c.fits ≡ fit_with program.now.program slots) }
+    {
+        Ok(Cache {
+            room: cache::Cache::for_slots(program, slots)?,
+        })
+    }
+
     // Searches as the input asks, and returns whether it finds a match. Writes the slots of the match, as many as are
     // given; without a match they are unchanged.
     //
     // All searches after one another look at a byte for a literal once: a match from there on holds the literal, so the next
     // search begins behind it.
     fn search(&mut self, regex: &Regex, input: &Input<'_>, slots: &mut [Option<usize>]) -> bool
-        requires fits { self.old.fits ≡ fit_of regex.now.program }
+        requires fits { HasRoom self.old.fits regex.now.program (length slots.old) }
         requires slots { IsSlotCount regex.now.program (length slots.old) }
         ensures { IsSearched regex.now input.now result slots.old slots.new self.old self.new }
     {
@@ -82,11 +91,14 @@ impl Cache {
 
     // Searches from the start of the input on, with the table of the regex if there is one.
     fn explore(&mut self, regex: &Regex, input: &Input<'_>, slots: &mut [Option<usize>]) -> bool
-        requires fits { self.old.fits ≡ fit_of regex.now.program }
+        requires fits { HasRoom self.old.fits regex.now.program (length slots.old) }
         requires slots { IsSlotCount regex.now.program (length slots.old) }
         ensures { IsExplored regex.now input.now result slots.old slots.new self.old self.new }
     {
-        search_input(regex.program(), regex.table(), &mut self.room, input, slots)
+        let program = regex.program();
+        // For proofs: a program has two slots at least.
+        let _ = program.start();
+        self.room.search(program, regex.table(), input, slots)
     }
 
     // Returns the match of the kind that the regex searches for, and writes its slots, as many as are given. Without a
@@ -97,7 +109,7 @@ impl Cache {
         input: &Input<'h>,
         slots: &mut [Option<usize>],
     ) -> Option<Match<'h>>
-        requires fits { self.old.fits ≡ fit_of regex.now.program }
+        requires fits { HasRoom self.old.fits regex.now.program (length slots.old) }
         requires slots { (length slots.old ≡ 2) ⊎ (length slots.old ≡ regex.now.program.slots) }
         requires kind { input.now.kind ≡ kind_of regex.now }
         ensures found { FindsMatch regex.now input.now.haystack.now (starts_in input.now)
@@ -116,7 +128,7 @@ impl Cache {
 
     // Returns whether there is a match. It asks for no slots, and stops at the first end of a match.
     pub(super) fn is_match(&mut self, regex: &Regex, input: &Input<'_>) -> bool
-        requires fits { self.old.fits ≡ fit_of regex.now.program }
+        requires fits { HasRoom self.old.fits regex.now.program 0 }
         requires kind { input.now.kind ≡ Earliest }
         ensures found { IsTrue result ↔ HasMatch regex.now.tree input.now.haystack.now (starts_in input.now) }
         ensures searched { SearchedAs regex.now input.now result self.old self.new }
@@ -126,7 +138,7 @@ impl Cache {
 
     // Returns the least end of all matches.
     pub(super) fn shortest(&mut self, regex: &Regex, input: &Input<'_>) -> Option<usize>
-        requires fits { self.old.fits ≡ fit_of regex.now.program }
+        requires fits { HasRoom self.old.fits regex.now.program 2 }
         requires kind { input.now.kind ≡ Earliest }
         ensures least { IsLeastEnd regex.now.tree input.now.haystack.now (starts_in input.now) result }
         ensures searched { SearchedAs regex.now input.now (is_some result) self.old self.new }
@@ -186,7 +198,7 @@ impl Cache {
         haystack: &[u8],
         slots: &mut [Option<usize>],
     ) -> bool
-        requires fits { self.old.fits ≡ fit_of regex.now.program }
+        requires fits { HasRoom self.old.fits regex.now.program (length slots.old) }
         requires slots { (length slots.old ≡ 2) ⊎ (length slots.old ≡ regex.now.program.slots) }
         ensures full { LeavesRun regex.now.program (full_run regex.now haystack.now) result
             (length slots.old) slots.new }

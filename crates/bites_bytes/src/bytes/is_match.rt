@@ -4,6 +4,7 @@ ghost use Rattle.std.specs.Prelude.{◌≡◌, ◌↔◌, IsTrue, IfOk};
 ghost use Rattle.bites_spec.specs.Found.{HasMatch};
 ghost use Rattle.bites_spec.specs.Counts.{fit_of};
 ghost use Rattle.bites_bytes.specs.Calls.{SearchedFrom};
+ghost use Rattle.bites_bytes.specs.Rooms.{HasRoom};
 ghost use Rattle.bites_spec.specs.Utf8.{places};
 
 use crate::bytes::{Cache, Regex};
@@ -35,8 +36,8 @@ impl Regex {
         ensures { IfOk result (λ found. IsTrue found ↔ HasMatch self.now.tree haystack.now
             (places haystack.now start)) }
     {
-        let mut cache = self.cache()?;
-        Ok(self.is_match_at_with(&mut cache, haystack, start))
+        let mut cache = Cache::for_slots(self.program(), 0)?;
+        Ok(self.has_match(&mut cache, haystack, start))
     }
 
     /// Like [`Regex::is_match`], but with a cache that fits. It allocates nothing and cannot fail.
@@ -53,6 +54,15 @@ impl Regex {
     /// The search visits each state of the program at most once at each offset.
     pub fn is_match_at_with(&self, cache: &mut Cache, haystack: &[u8], start: usize) -> bool
         requires { cache.old.fits ≡ fit_of self.now.program }
+        ensures found { IsTrue result ↔ HasMatch self.now.tree haystack.now (places haystack.now start) }
+        ensures searched { SearchedFrom self.now haystack.now start result cache.old cache.new }
+    {
+        self.has_match(cache, haystack, start)
+    }
+
+    // The same with a cache that may have no slots.
+    fn has_match(&self, cache: &mut Cache, haystack: &[u8], start: usize) -> bool
+        requires { HasRoom cache.old.fits self.now.program 0 }
         ensures found { IsTrue result ↔ HasMatch self.now.tree haystack.now (places haystack.now start) }
         ensures searched { SearchedFrom self.now haystack.now start result cache.old cache.new }
     {

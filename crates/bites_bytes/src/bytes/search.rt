@@ -4,6 +4,7 @@ ghost use Rattle.std.specs.Prelude.{◌≡◌, None, replicate, length, option_m
 ghost use Rattle.bites_spec.specs.Counts.{fit_of};
 ghost use Rattle.bites_spec.specs.Captured.{FindsMatch};
 ghost use Rattle.bites_bytes.specs.Calls.{SearchedFrom, ReadsGroups, FindsNext, ReadsNext};
+ghost use Rattle.bites_bytes.specs.Rooms.{HasRoom};
 ghost use Rattle.bites_spec.specs.Utf8.{places};
 ghost use Rattle.bites_bytes.specs.Matched.{excerpt_of};
 
@@ -66,8 +67,8 @@ impl Regex {
         ensures { IfOk result (λ m. FindsMatch self.now haystack.now (places haystack.now start)
             (option_map excerpt_of m)) }
     {
-        let mut cache = self.cache()?;
-        Ok(self.find_at_with(&mut cache, haystack, start))
+        let mut cache = Cache::for_slots(self.program(), 2)?;
+        Ok(self.first_match(&mut cache, haystack, start))
     }
 
     /// Like [`Regex::find`], but with a cache. It allocates nothing and cannot fail.
@@ -99,6 +100,20 @@ impl Regex {
         start: usize,
     ) -> Option<Match<'h>>
         requires { cache.old.fits ≡ fit_of self.now.program }
+        ensures found { FindsMatch self.now haystack.now (places haystack.now start) (option_map excerpt_of result) }
+        ensures searched { SearchedFrom self.now haystack.now start (is_some result) cache.old cache.new }
+    {
+        self.first_match(cache, haystack, start)
+    }
+
+    // The same with a cache that may have two slots alone.
+    fn first_match<'h>(
+        &self,
+        cache: &mut Cache,
+        haystack: &'h [u8],
+        start: usize,
+    ) -> Option<Match<'h>>
+        requires { HasRoom cache.old.fits self.now.program 2 }
         ensures found { FindsMatch self.now haystack.now (places haystack.now start) (option_map excerpt_of result) }
         ensures searched { SearchedFrom self.now haystack.now start (is_some result) cache.old cache.new }
     {

@@ -4,6 +4,7 @@ ghost use Rattle.std.specs.Prelude.{◌≡◌, is_some, IfOk};
 ghost use Rattle.bites_spec.specs.Found.{IsLeastEnd};
 ghost use Rattle.bites_spec.specs.Counts.{fit_of};
 ghost use Rattle.bites_bytes.specs.Calls.{SearchedFrom};
+ghost use Rattle.bites_bytes.specs.Rooms.{HasRoom};
 ghost use Rattle.bites_spec.specs.Utf8.{places};
 
 use crate::bytes::{Cache, Regex};
@@ -36,8 +37,8 @@ impl Regex {
     ) -> Result<Option<usize>, AllocError>
         ensures { IfOk result (λ end. IsLeastEnd self.now.tree haystack.now (places haystack.now start) end) }
     {
-        let mut cache = self.cache()?;
-        Ok(self.shortest_match_at_with(&mut cache, haystack, start))
+        let mut cache = Cache::for_slots(self.program(), 2)?;
+        Ok(self.least_end(&mut cache, haystack, start))
     }
 
     /// Like [`Regex::shortest_match`], but with a cache that fits. It allocates nothing and cannot fail.
@@ -59,6 +60,15 @@ impl Regex {
         start: usize,
     ) -> Option<usize>
         requires { cache.old.fits ≡ fit_of self.now.program }
+        ensures least { IsLeastEnd self.now.tree haystack.now (places haystack.now start) result }
+        ensures searched { SearchedFrom self.now haystack.now start (is_some result) cache.old cache.new }
+    {
+        self.least_end(cache, haystack, start)
+    }
+
+    // The same with a cache that may have two slots alone.
+    fn least_end(&self, cache: &mut Cache, haystack: &[u8], start: usize) -> Option<usize>
+        requires { HasRoom cache.old.fits self.now.program 2 }
         ensures least { IsLeastEnd self.now.tree haystack.now (places haystack.now start) result }
         ensures searched { SearchedFrom self.now haystack.now start (is_some result) cache.old cache.new }
     {

@@ -37,8 +37,10 @@ impl Regex {
         ensures { IfOk result
             (λ m. FindsMatch self.now haystack.now (start_alone haystack.now start) (option_map excerpt_of m)) }
     {
-        let mut cache = self.cache()?;
-        Ok(self.find_anchored_at_with(&mut cache, haystack, start))
+        let found = self
+            .over_bytes()
+            .find_anchored_at(haystack.as_bytes(), start)?;
+        Ok(Match::of_found(haystack, found))
     }
 
     /// Like [`Regex::find_anchored_at`], but with a cache that fits. It allocates nothing and cannot fail.
@@ -73,8 +75,8 @@ impl Regex {
         ensures { IfOk result (λ found. IsTrue found ↔ HasMatch self.now.tree haystack.now
             (start_alone haystack.now start)) }
     {
-        let mut cache = self.cache()?;
-        Ok(self.is_match_anchored_at_with(&mut cache, haystack, start))
+        self.over_bytes()
+            .is_match_anchored_at(haystack.as_bytes(), start)
     }
 
     /// Like [`Regex::is_match_anchored_at`], but with a cache that fits. It allocates nothing and cannot fail.
@@ -167,8 +169,7 @@ impl Regex {
     pub fn is_full_match(&self, haystack: &str) -> Result<bool, AllocError>
         ensures { IfOk result (λ found. IsTrue found ↔ IsFullMatch self.now.tree haystack.now) }
     {
-        let mut cache = self.cache()?;
-        Ok(self.is_full_match_with(&mut cache, haystack))
+        self.over_bytes().is_full_match(haystack.as_bytes())
     }
 
     /// Like [`Regex::is_full_match`], but with a cache that fits. It allocates nothing and cannot fail.

@@ -36,8 +36,7 @@ impl Regex {
         ensures { IfOk result (λ found. IsTrue found ↔ HasMatch self.now.tree haystack.now
             (places haystack.now start)) }
     {
-        let mut cache = self.cache()?;
-        Ok(self.is_match_at_with(&mut cache, haystack, start))
+        self.over_bytes().is_match_at(haystack.as_bytes(), start)
     }
 
     /// Like [`Regex::is_match`], but with a cache that fits. It allocates nothing and cannot fail.

@@ -50,8 +50,8 @@ impl Regex {
         ensures { IfOk result (λ m. FindsMatch self.now haystack.now (places haystack.now start)
             (option_map excerpt_of m)) }
     {
-        let mut cache = self.cache()?;
-        Ok(self.find_at_with(&mut cache, haystack, start))
+        let found = self.over_bytes().find_at(haystack.as_bytes(), start)?;
+        Ok(Match::of_found(haystack, found))
     }
 
     /// Like [`Regex::find`], but with a cache. It allocates nothing and cannot fail.

@@ -39,8 +39,10 @@ impl Regex {
         ensures least { IfOk result (λ end. IsLeastEnd self.now.tree haystack.now (places haystack.now start) end) }
         ensures border { IfOk result (λ end. IfSome end (IsCharBoundary haystack.now)) }
     {
-        let mut cache = self.cache()?;
-        Ok(self.shortest_match_at_with(&mut cache, haystack, start))
+        let end = self
+            .over_bytes()
+            .shortest_match_at(haystack.as_bytes(), start)?;
+        Ok(end)
     }
 
     /// Like [`Regex::shortest_match`], but with a cache that fits. It allocates nothing and cannot fail.
