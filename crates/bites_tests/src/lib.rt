@@ -49,7 +49,6 @@ mod tables;
 #[cfg(test)]
 mod thread_lists;
 #[cfg(test)]
-mod traces;
 #[cfg(test)]
 mod utf8;
 #[cfg(test)]
