@@ -1,4 +1,4 @@
-//! Texts with one of which each match of a tree begins.
+//! Texts such that each match of a tree begins with one of them.
 
 ghost use Rattle.std.specs.Prelude.{◌≡◌, ℕ, List, IfOk, IfSome, IsTrue};
 ghost use Rattle.bites_spec.specs.Match.{Matches};
@@ -24,8 +24,7 @@ const LEAST_LEN_OF_MANY: usize = 3;
 /// How many branches are not many.
 const FEW_BRANCHES: usize = 16;
 
-/// Returns literals with one of which each match of the tree begins, if they are worth a search, and if there is memory for
-/// them.
+/// Returns literals, if they are worth a search and there is memory for them. Each match of the tree begins with one of them.
 pub(crate) fn set_of(alloc: Global, tree: &Tree) -> Option<Box<LiteralSet>>
     ensures { IfSome result (λ set. BeginsWithOne tree.now set.value) }
 {

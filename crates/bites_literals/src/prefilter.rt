@@ -27,7 +27,7 @@ const LONG: usize = 4;
 pub struct Prefilter {
     end: Option<End>,
     near: Option<Near>,
-    /// Literals with one of which each match begins. They take two kilobytes, so they stand elsewhere.
+    /// Literals such that each match begins with one of them. They take two kilobytes, so they stand elsewhere.
     choice: Option<Box<LiteralSet>>,
 }
 

@@ -52,7 +52,7 @@ fn facts_of_alternation(parts: &[Tree]) -> Facts
 // How deep a tree is looked into by the tests below, on which only speed depends.
 const MOST_DEPTH: u32 = 100;
 
-/// Returns whether the tree is a choice, of which no literal is known that each match holds.
+/// Returns whether the tree is a choice. No literal is known that each match of a choice holds.
 pub(crate) fn is_choice(tree: &Tree) -> bool {
     let mut part = tree;
     for _ in 0..MOST_DEPTH {

@@ -193,7 +193,8 @@ impl RegexBuilder {
     ///
     /// It changes the time of searches, and never what they return. A search looks for the literal from its start on,
     /// many bytes at a time, and explores the states of the program from the first place from which a match can hold it.
-    /// Without the literal nothing matches. If each match ends at the end of the haystack, as of `[a-z]+$`, the search
+    /// Without the literal nothing matches. If each match begins with one of a few texts, as of `cat|dog`, the search looks
+    /// for the first of these. If each match ends at the end of the haystack, as of `[a-z]+$`, the search
     /// explores only the places near the end from which one can. Searches at one offset and for matches of the whole
     /// haystack do neither.
     pub fn prefilter(&mut self, yes: bool) -> &mut RegexBuilder
