@@ -14,8 +14,8 @@ use Rattle.bites_table.specs.Built.{starts_as, kind_as, source_of, frame_of, thr
 use Rattle.bites_table.specs.Graph.{NumberedList, Outcome, Cell, Graph, list_as, table_of, registers_at, AreHeld, with_list, with_outcome, with_cells, AddsList, AddsOutcome, IsRoot}
 use Rattle.bites_table.specs.Stored.{numbered}
 use Rattle.bites_table.specs.Registers.{AreAssigned}
-use Rattle.bites_table.specs.Made.{Grows, IsCell, IsMade, IsRow, IsWalked, IsOutcome}
-use Rattle.bites_table.specs.Explored.{AreAfter, AreRoots}
+use Rattle.bites_table.specs.Made.{Grows, IsCell, IsMade, IsWalked, IsOutcome}
+use Rattle.bites_table.specs.Explored.{AreRoots}
 use Rattle.bites_table.specs.declared.kind.Kind as code
 use Rattle.bites_table.specs.declared.kind.Kind.TheVariants.{Edge}
 use Rattle.bites_table.specs.declared.thread_list.ThreadList as code_lists
@@ -24,7 +24,7 @@ use Rattle.bites_table.specs.declared.explore.roots.Roots.{Roots}
 use Rattle.bites_table.specs.declared.walk.Walk.{Walk}
 use Rattle.bites_table.specs.declared.registers.Assigned.{Assigned}
 use Rattle.bites_table.proofs.TakerLemmas.{walks_over}
-use Rattle.bites_table.proofs.GraphLemmas.{no_list, list-stays, grows-within, grows-trans, root-stays, made-list, made-outcome, made-cell}
+use Rattle.bites_table.proofs.GraphLemmas.{no_list, list-stays, grows-trans, root-stays, made-list, made-outcome, made-cell}
 
 -- what is added last
 get-pushed : {X : Type 0} (xs : List X) (x : X) (n : ℕ) → n ≡ length xs → slice_get (xs ++ x ∷ []) n ≡ Some x

@@ -132,6 +132,17 @@ module _ (words : List ℕ) (r place : ℕ) (room : r * 2 + 2 ≤ length words) 
       ∙ other-row words 2 r q 0 place room more (omega arith) ne
 
 -- words from a place on, with one more written
+-- two slots that are written are a row
+pub two-set : (slots : List (Option ℕ)) (a b : Option ℕ) (row : List (Option ℕ)) → length slots ≡ 2 → length row ≡ 2 → a ≡ slice_index_or row 0 None → b ≡ slice_index_or row 1 None →
+    slice_set (slice_set slots 0 a) 1 b ≡ row
+two-set (x ∷ y ∷ []) a b (u ∷ v ∷ []) e f first second = ap₂ (λ (m n : Option ℕ). m ∷ n ∷ []) first second
+two-set [] a b row e f first second = absurd (omega arith)
+two-set (x ∷ []) a b row e f first second = absurd (omega arith)
+two-set (x ∷ y ∷ z ∷ more) a b row e f first second = absurd (omega arith)
+two-set (x ∷ y ∷ []) a b [] e f first second = absurd (omega arith)
+two-set (x ∷ y ∷ []) a b (u ∷ []) e f first second = absurd (omega arith)
+two-set (x ∷ y ∷ []) a b (u ∷ v ∷ w ∷ more) e f first second = absurd (omega arith)
+
 -- the row of a register that ends at the place
 pub ended-row : (words : List ℕ) (register place : ℕ) → register * 2 + 2 ≤ length words → (s : Source) → EndsRow register s →
     row_at 2 place (row_in words 2) s ≡ slot_of (get_or words (register * 2) 0) ∷ Some place ∷ []
@@ -268,6 +279,14 @@ slot-at width place slot words s lt room d =
     base (Some r) room =
         get_or-map slot_of (take width (drop (r * width) words)) slot 0 d (let l = part-length words (r * width) width (room r refl) in omega arith)
         ∙ ap slot_of (part-at words (r * width) width slot lt)
+
+-- and one that was made so
+pub slot-is : (x : Option ℕ) (b : Bool) (width place slot : ℕ) (words : List ℕ) (s : Source) → slot < width →
+    ((r : ℕ) → s.register ≡ Some r → r * width + width ≤ length words) → b ≡ s.writes slot →
+    x ≡ cond b (Some place) (option_map_or (λ r. slot_of (slice_index words (r * width + slot))) s.register None) →
+    x ≡ slice_index_or (row_at width place (row_in words width) s) slot None
+slot-is x b width place slot words s lt room is e =
+    e ∙ ap (λ c. cond c (Some place) (option_map_or (λ r. slot_of (slice_index words (r * width + slot))) s.register None)) is ∙ sym (slot-at width place slot words s lt room None)
 
 pub row-at-length : (width place : ℕ) (words : List ℕ) (s : Source) → ((r : ℕ) → s.register ≡ Some r → r * width + width ≤ length words) →
     length (row_at width place (row_in words width) s) ≡ width

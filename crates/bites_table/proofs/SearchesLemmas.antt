@@ -1,10 +1,12 @@
 -- What the code of a search does is what a search by the table does.
-use Rattle.std.proofs.Common.{◌≡◌, ◌≢◌, ℕ, zero, suc, ◌+◌, ◌-◌, true≢false, ◌*◌, ◌/◌, ◌<◌, ◌≤◌, Bool, true, false, ◌||◌, ◌&&◌, List, [], ◌∷◌, map, eq-eqb, length, reverse, Option, Some, None, refl, sym, ap, ap₂, ◌∙◌, subst, ⊎_elim, arith}
-use Rattle.std.specs.Prelude.{is_some, ◌==◌, nat_lt, if◌then◌else◌, slice_index, slice_get, slice_index_or, slice_range, option_map, not, bit_and, IfSome, IfNone}
+use Rattle.std.proofs.Common.{◌≡◌, ◌≢◌, ℕ, zero, suc, ◌+◌, ◌-◌, true≢false, ◌*◌, ◌/◌, ◌^◌, ◌<◌, ◌≤◌, Bool, true, false, ◌||◌, ◌&&◌, List, [], ◌∷◌, map, eq-eqb, length, reverse, Option, Some, None, refl, sym, ap, ap₂, ◌∙◌, subst, ⊎_elim, arith}
+use Rattle.std.specs.Prelude.{is_some, ◌==◌, nat_lt, if◌then◌else◌, slice_index, slice_get, slice_index_or, slice_range, option_map, not, bit_and, min, IfSome, IfNone}
 use Rattle.std.specs.Option.{option_flatten, option_or}
-use Rattle.std.proofs.Math.Nat.{mul-div_cancel, mul-le-mul_left}
+use Rattle.std.proofs.Math.Nat.{mul-div_cancel, mul-le-mul_left, zero-mul}
 use Rattle.std.proofs.lemmas.Option.{none-some, slice_get_past}
-use Rattle.std.proofs.lemmas.Bool.{cases_lt}
+use Rattle.std.proofs.lemmas.Bool.{cases_lt, cases_eq}
+use Rattle.std.specs.Int.{bit_at}
+use Rattle.std.proofs.lemmas.Nat.Bits.{and_pow, bit_at_and, bit_at-zero}
 use Rattle.std.proofs.lemmas.Bool.Decides.{nat_tests}
 use Rattle.bites_spec.specs.Utf8.{Piece, piece, places}
 use Rattle.bites_spec.specs.Walks.{Among, AllApart}
@@ -43,12 +45,15 @@ use Rattle.bites_table.specs.Table.{starts_of}
 use Rattle.bites_machine.specs.SlotTable.{slot_of}
 use Rattle.bites_table.proofs.RowLemmas.{ended-row}
 use Rattle.bites_table.proofs.TransitionLemmas.{walked_is}
-use Rattle.bites_table.specs.Searches.{asked, IsSame, StandsAt, Held, IsHeldAt, IsLent, StopsSo}
+use Rattle.bites_table.specs.Searches.{asked, more_than_hits, IsSame, StandsAt, Held, IsHeldAt, IsLent, StopsSo}
 use Rattle.bites_table.specs.declared.search.record.Lent.{Lent}
 use Rattle.bites_table.specs.declared.search.record.Standing.{Standing}
 use Rattle.bites_table.specs.declared.search.record.Search.{Search}
 use Rattle.bites_table.specs.declared.table.cell.Cell.{Cell}
 use Rattle.bites_table.proofs.StandingLemmas.{at_start, handed_over, handed_back, at_next, over_after, apart_at, all_skipped, all_rested, apart_over, apart_after, passed_rows, moved_over, hit_over, ascii_here, ascii_next}
+
+some_same : {A : Type 0} (x y : A) → Some x ≡ Some y → x ≡ y
+some_same x y e = cc
 
 -- the cells of two lists begin at two places
 pub row_once : (x : Packed) (n m : ℕ) → row_of x n ≡ row_of x m → n ≡ m
@@ -121,6 +126,39 @@ passed_on s is place row words is_found slots walked at class byte cell tells bi
 -- the register whose row begins is there
 pub begins_there : (s : Asked) (n class width : ℕ) (cell : Cell) → Tells s.table n class cell → bit_and cell.doing (mask_of width) ≡ 0 → cell.begins < with_spare
 begins_there s n class width cell tells bits = (tells.passed width bits).2.register
+
+-- no transition has none of all bits
+all_bits : (x : Packed) (n c : ℕ) (cell : Cell) → Tells x n c cell → bit_and cell.doing 255 ≡ 0 → ⊥
+all_bits x n c cell tells e =
+    let hit = tells.hits (bit 4 refl) in
+    let passed = tells.passed 2 (bit 1 refl) in
+    let same : hit.0 ≡ passed.0 = some_same hit.0 passed.0 (sym hit.1.transition ∙ passed.1.transition) in
+    none-some hit.2.thread (sym passed.2.hit ∙ ap (λ (t : Transition ℕ). t.hit) (sym same) ∙ hit.2.hit)
+  where
+    least : (n : ℕ) → min n 1 ≡ 0 → n ≡ 0
+    least n z = omega arith
+
+    bit : (k : ℕ) → bit_at 255 k ≡ 1 → bit_and cell.doing (2 ^ k) ≡ 0
+    bit k one =
+        and_pow cell.doing k
+        ∙ ap (λ n. n * 2 ^ k) (least (bit_at cell.doing k) (ap (min (bit_at cell.doing k)) (sym one) ∙ sym (bit_at_and cell.doing 255 k) ∙ ap (λ n. bit_at n k) e ∙ bit_at-zero k))
+        ∙ zero-mul (2 ^ k)
+
+-- a search that has no more to do than to keep a hit is one for two slots, and not for the match with the least end
+pub keeps_hits : (x : Packed) (n c : ℕ) (cell : Cell) → Tells x n c cell → (earliest : Bool) (width m : ℕ) → m ≡ more_than_hits earliest width → bit_and cell.doing m ≡ 0 →
+    (bit_and cell.doing more ≡ 0) × ((earliest ≡ false) × (width ≡ 2))
+keeps_hits x n c cell tells earliest width m is e =
+    ⊎_elim
+    (λ (two : width ≡ 2). by earliest refl two)
+    (λ (other : width ≢ 2). absurd (all_bits x n c cell tells (ap (bit_and cell.doing) (sym (is ∙ ap (λ b. if not b || earliest then 255 else more) (isnt width other))) ∙ e)))
+    (cases_eq width 2)
+  where
+    isnt : (n : ℕ) → n ≢ 2 → (n == 2) ≡ false
+    isnt n ne = grind (arith, nat_tests)
+
+    by : (f : Bool) → earliest ≡ f → width ≡ 2 → (bit_and cell.doing more ≡ 0) × ((earliest ≡ false) × (width ≡ 2))
+    by true early two = absurd (all_bits x n c cell tells (ap (bit_and cell.doing) (sym (is ∙ ap₂ more_than_hits early two)) ∙ e))
+    by false late two = (ap (bit_and cell.doing) (sym (is ∙ ap₂ more_than_hits late two)) ∙ e, (late, two))
 
 -- the search goes on over a place where somebody comes to a match and rows are kept
 pub hit_on : (s : Asked) → IsAsked s → (place row : ℕ) (words : List ℕ) (is_found : Bool) (slots : List (Option ℕ)) (walked : Record) → (at : IsAtRow s place row words is_found slots walked) →
@@ -225,9 +263,6 @@ row_within r n m room lt = let le : suc r ≤ 33 = omega arith in omega (arith, 
 pub row_there : (o : Option ℕ) (n m : ℕ) → 33 * n ≤ m → IfSome o (λ r. r < 32) → IfSome o (λ r. r * n + n ≤ m)
 row_there None n m room h = tt
 row_there (Some r) n m room lt = row_within r n m room lt
-
-some_same : {A : Type 0} (x y : A) → Some x ≡ Some y → x ≡ y
-some_same x y e = cc
 
 some_frame : (o : Option Frame) → is_some (option_map frame_of o) ≡ is_some o
 some_frame None = refl

@@ -82,12 +82,12 @@ leads-quietly g n c o has does = record {
 }
 
 -- over the classes that are kept a list stays
-pub stays-over : (p : Program) (k : Classes) (tab : Table) → IsTable p k tab → (n : ℕ) (leads : List Bool) (kinds after : List code.Kind) (keeps : List Bool) → ((c : ℕ) → slice_index_or keeps c false ≡ true → IsKept leads kinds after c) →
-    ((c : ℕ) → slice_index_or leads c false ≡ true → LeadsBack tab n c) → AreAfter p k after → (seen : List ℕ) (looks : ℕ) → AllWalkSo p (list_at tab n) kinds seen looks →
+pub stays-over : (p : Program) (k : Classes) (tab : Table) → IsTable p k tab → (n : ℕ) (kinds after : List code.Kind) (keeps : List Bool) → ((c : ℕ) → slice_index_or keeps c false ≡ true → IsKept tab n kinds after c) →
+    AreAfter p k after → (seen : List ℕ) (looks : ℕ) → AllWalkSo p (list_at tab n) kinds seen looks →
     (c : ℕ) → slice_index_or keeps c false ≡ true → Stays tab n c seen looks
-stays-over p k tab is n leads kinds after keeps kept backs are seen looks all c e =
+stays-over p k tab is n kinds after keeps kept are seen looks all c e =
     let own = kept c e in
-    let back = backs c own.leads_back in
+    let back = own.leads_back in
     let kind = slice_index_or after c Edge in
     let asserts = are (list_at tab n).kind c own.within in
     let so = all kind own.walked in

@@ -1,5 +1,5 @@
 -- Bits of the classes that states take.
-use Rattle.std.proofs.Common.{◌≡◌, ℕ, ◌+◌, ◌-◌, ◌*◌, ◌%◌, ◌^◌, ◌<◌, ◌≤◌, ◌⊎◌, inl, inr, ⊎_elim, Bool, true, false, ◌||◌, cond, List, [], ◌∷◌, ◌++◌, map, take, length, Option, Some, None, refl, sym, ap, ◌∙◌, subst, arith, bit_and, bit_or, length-append}
+use Rattle.std.proofs.Common.{◌≡◌, ℕ, ◌+◌, ◌-◌, ◌*◌, ◌%◌, ◌^◌, ◌<◌, ◌≤◌, ◌⊎◌, ⊎_elim, Bool, true, false, ◌||◌, cond, List, [], ◌∷◌, ◌++◌, map, take, length, Option, Some, None, refl, sym, ap, ◌∙◌, arith, bit_and, bit_or, length-append}
 use Rattle.std.specs.Prelude.{◌==◌, slice_index_or}
 use Rattle.std.specs.Int.{w64, bit_at, bit_not}
 use Rattle.std.proofs.lemmas.Bool.{cases_eq}
@@ -36,6 +36,10 @@ by-taken (Some d) (goto q look) = refl
 by-taken (Some d) (capture q slot) = refl
 by-taken (Some d) fail = refl
 by-taken (Some d) match = refl
+
+-- what a state doesn't take leads nowhere
+pub refused : (o : Option ℕ) (st : State) → takes_by (takes st) o ≡ false → targets_over o st ≡ []
+refused o st e = by-taken o st ∙ ap (λ b. cond b (leads st) []) e
 
 -- two characters that one more thread takes alike
 pub taken-alike : (p : Program) (o u : Option ℕ) (fs : List Frame) (i : ℕ) (none : Frame) → i < length fs →

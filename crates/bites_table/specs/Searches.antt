@@ -1,10 +1,10 @@
 -- One search of the code by a table.
-use Rattle.std.specs.Prelude.{◌≡◌, ℕ, ◌<◌, Bool, List, length, reverse, Option, Some, None, bit_and}
+use Rattle.std.specs.Prelude.{◌≡◌, ℕ, ◌<◌, Bool, not, ◌||◌, ◌==◌, if◌then◌else◌, List, length, reverse, Option, Some, None, bit_and}
 use Rattle.bites_spec.specs.Walks.{AllApart}
 use Rattle.bites_machine.specs.Inputs.{is_earliest}
 use Rattle.bites_machine.specs.Trace.{after_place}
 use Rattle.bites_table.specs.Transition.{Transition}
-use Rattle.bites_table.specs.Packed.{table_in, Tells}
+use Rattle.bites_table.specs.Packed.{table_in, more, Tells}
 use Rattle.bites_table.specs.Standing.{Asked, IsAsked, IsAtRow, IsOver}
 use Rattle.bites_table.specs.declared.table.cell.Cell.{Cell}
 use Rattle.bites_table.specs.declared.search.record.Search.{Search}
@@ -27,6 +27,10 @@ asked a before = record {
   };
   slots = before;
 }
+
+-- the bits over which a search has more to do than to keep a hit: for two slots one bit, unless the match with the least end is asked for
+abbrev pub more_than_hits : Bool → ℕ → ℕ
+more_than_hits earliest width = if not (width == 2) || earliest then 255 else more
 
 -- the same is searched
 pub record IsSame (a b : Search) : Type 0 where

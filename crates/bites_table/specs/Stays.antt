@@ -1,5 +1,5 @@
 -- Thread lists that lead back to themselves, or from which nothing is found any more.
-use Rattle.std.specs.Prelude.{◌≡◌, ℕ, ◌<◌, Bool, true, false, List, length, reverse, Option, Some, None, slice_get, slice_index_or}
+use Rattle.std.specs.Prelude.{◌≡◌, ℕ, ◌<◌, true, false, List, length, reverse, Option, Some, None, slice_get, slice_index_or}
 use Rattle.bites_spec.specs.Walks.{Among}
 use Rattle.bites_spec.specs.Program.{Program}
 use Rattle.bites_table.specs.Kinds.{Kind, Classes}
@@ -104,9 +104,9 @@ AllWalkSo p l kinds seen looks = (a : code.Kind) → Among kinds a → WalksSo p
 pub record StaysOver (tab : Table) (n : ℕ) (o : Over) : Type 0 where
   pub stays : (c : ℕ) → slice_index_or o.keeps.items c false ≡ true → Stays tab n c (reverse o.seen.value.items) o.looks.value
 
--- the class leads back, and it is one before whose kind the list was walked
-pub record IsKept (leads : List Bool) (kinds after : List code.Kind) (c : ℕ) : Type 0 where
-  pub leads_back : slice_index_or leads c false ≡ true
+-- the list leads over the class back to itself, and it was walked before the kind of the class
+pub record IsKept (tab : Table) (n : ℕ) (kinds after : List code.Kind) (c : ℕ) : Type 0 where
+  pub leads_back : LeadsBack tab n c
   pub within : c < length after
   pub walked : Among kinds (slice_index_or after c Edge)
 

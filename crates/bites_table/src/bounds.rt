@@ -24,7 +24,7 @@ pub(crate) fn bounds(alloc: Global, states: &[State], kinds: Distinctions) -> Op
     ensures rising { IfSome result (λ bounds. IsStrictlyIncreasing bounds.items) }
     ensures zero { IfSome result (λ bounds. Contains bounds.items 0) }
 {
-    let mut bounds = Vec::new(alloc);
+    let mut bounds = Vec::with_capacity(alloc, states.len()).ok()?;
     bounds.push(0).ok()?;
     push_kinds(&mut bounds, kinds).ok()?;
     push_states(&mut bounds, states).ok()?;

@@ -223,7 +223,7 @@ fn members_of(alloc: Global, begins: &[u32], blocks: &[u32]) -> Option<Vec<char>
     ensures members { IfSome result (λ ms. HaveMembers begins.now blocks.now ms.items) }
     ensures few { IfSome result (λ ms. length ms.items ≤ 254) }
 {
-    let mut members = Vec::new(alloc);
+    let mut members = Vec::with_capacity(alloc, begins.len()).ok()?;
     for interval in 0..begins.len() {
         let block = blocks[interval] as usize;
         if block > members.len() {
@@ -243,7 +243,7 @@ fn members_of(alloc: Global, begins: &[u32], blocks: &[u32]) -> Option<Vec<char>
 fn narrow(alloc: Global, numbers: &[u32]) -> Option<Vec<u8>>
     ensures { IfSome result (λ bytes. bytes.items ≡ numbers.now) }
 {
-    let mut bytes = Vec::new(alloc);
+    let mut bytes = Vec::with_capacity(alloc, numbers.len()).ok()?;
     for number in numbers {
         bytes.push(u8::try_from(*number).ok()?).ok()?;
     }

@@ -24,7 +24,7 @@ pub(crate) mod taken;
 
 use crate::alike_kinds::AlikeKinds;
 use crate::classes::Classes;
-use crate::explore::after::{kinds_after, kinds_before};
+use crate::explore::after::{kinds_after, kinds_among, kinds_before};
 use crate::explore::graph::{Cell, Graph, Outcome};
 use crate::explore::roots::{Roots, add_roots};
 use crate::explore::stays::{Stays, find_stays};
@@ -44,14 +44,6 @@ const MOST_LOOKS: usize = 1 << 20;
 
 // No graph has more lists.
 const MOST_LISTS: usize = 1 << 32;
-
-const KINDS: [Kind; 5] = [
-    Kind::Edge,
-    Kind::LineFeed,
-    Kind::CarriageReturn,
-    Kind::WordByte,
-    Kind::Other,
-];
 
 /// How much may be taken to explore a program.
 #[derive(Clone, Copy, Drop)]
@@ -102,6 +94,8 @@ pub(crate) struct Context<'a> {
     // For each class the kind before which assertions hold as before it, and the one after which they hold as after it.
     after: &'a [Kind],
     before: &'a [Kind],
+    // The kinds among the former.
+    kinds: &'a [Kind],
     // For each state the classes that it takes.
     taken: &'a [u64],
 }
@@ -123,6 +117,16 @@ pub(crate) struct Memory {
     budget: Budget,
 }
 
+impl Memory {
+    fn new(alloc: Global, program: &Program, budget: Budget) -> Result<Memory, AllocError> {
+        Ok(Memory {
+            walk: Walk::new(alloc, program)?,
+            assigned: Assigned::new(alloc),
+            budget,
+        })
+    }
+}
+
 /// Makes the thread lists that searches of the program come to, and the transitions between them, breadth first, as far as the
 /// budget and the memory go. The error is out of memory for the first lists.
 pub(crate) fn explore(
@@ -137,20 +141,18 @@ pub(crate) fn explore(
     let kinds = AlikeKinds::of(program);
     let after = kinds_after(alloc, classes, kinds)?;
     let before = kinds_before(alloc, classes, kinds)?;
+    let present = kinds_among(alloc, &after)?;
     let taken = taken_classes(alloc, program, classes)?;
     let context = Context {
         program,
         classes,
         after: &after,
         before: &before,
+        kinds: &present,
         taken: &taken,
     };
-    let mut memory = Memory {
-        walk: Walk::new(alloc, program)?,
-        assigned: Assigned::new(alloc),
-        budget,
-    };
-    let mut graph = Graph::new(alloc, after.len());
+    let mut memory = Memory::new(alloc, program, budget)?;
+    let mut graph = Graph::new(alloc, after.len(), program.len())?;
     let Some(everywhere) = add_roots(&mut graph, kinds, Starts::Everywhere) else {
         return Err(AllocError);
     };
@@ -212,10 +214,8 @@ fn make_row(
     ensures grows { Grows graph.old graph.new }
 {
     let first = graph.add_row(number)?;
-    for kind in KINDS {
-        if context.after.contains(&kind) {
-            make_cells(context, memory, graph, number, first, kind)?;
-        }
+    for kind in context.kinds {
+        make_cells(context, memory, graph, number, first, *kind)?;
     }
     Some(())
 }
@@ -340,9 +340,10 @@ fn add_outcome(
         return None;
     }
     let ch = context.classes.member(class);
+    let takers = &memory.walk.takers;
     memory
         .assigned
-        .assign(context.program, &memory.walk.takers, ch)?;
+        .assign(context.program, context.taken, takers, class, ch)?;
     let next = ThreadList {
         threads: &memory.assigned.threads,
         starts,

@@ -5,6 +5,8 @@ ghost use Rattle.std.specs.Option.{option_to_list};
 ghost use Rattle.bites_spec.specs.Program.{HasRanges, IsWellFormed};
 ghost use Rattle.bites_machine.specs.Ends.{targets_over};
 ghost use Rattle.bites_machine.specs.States.{state_of};
+ghost use Rattle.bites_table.specs.Kinds.{Classes};
+ghost use Rattle.bites_table.specs.Explored.{AreTaken};
 ghost use Rattle.bites_table.specs.Sources as sources;
 ghost use Rattle.bites_table.specs.Sources.{thread_with};
 ghost use Rattle.bites_table.specs.Takers.{taken};
@@ -12,6 +14,7 @@ ghost use Rattle.bites_table.specs.Built.{source_of, frame_of};
 ghost use Rattle.bites_table.specs.Registers.{AreAssigned};
 ghost use Rattle.bites_table.specs.declared.thread_list.Source.{Source};
 
+use crate::explore::taken::is_refused;
 use crate::thread_list::{Frame, Source, Thread};
 use bites_machine::program::Program;
 use bites_machine::state::State;
@@ -32,16 +35,19 @@ impl Assigned {
         }
     }
 
-    /// Moves the threads at states that take the character, and gives each a register, in order of preference. Threads with
-    /// equal sources share one. Returns `None` if memory or numbers run out.
+    /// Moves the threads at states that take the class, whose member is the character, and gives each a register, in order of
+    /// preference. Threads with equal sources share one. Returns `None` if memory or numbers run out.
     pub(crate) fn assign(
         &mut self,
         program: &Program,
+        bits: &[u64],
         takers: &[Frame],
+        class: usize,
         ch: Option<char>,
     ) -> Option<()>
         requires { IsWellFormed program.now.program }
-        ensures { IfSome result (λ _. AreAssigned self.new (taken program.now.program ch (map frame_of takers.now))) }
+        ensures { IfSome result (λ _. (k : Classes) → AreTaken program.now.program k bits.now → k.member class ≡ ch →
+            AreAssigned self.new (taken program.now.program ch (map frame_of takers.now))) }
     {
         self.threads.clear();
         self.moves.clear();
@@ -49,9 +55,11 @@ impl Assigned {
             if taker.state as usize >= program.len() {
                 return None;
             }
-            match target_over(program.state(taker.state), ch) {
-                None => {}
-                Some(state) => self.push(state, taker.source)?,
+            if !is_refused(bits, taker.state, class) {
+                match target_over(program.state(taker.state), ch) {
+                    None => {}
+                    Some(state) => self.push(state, taker.source)?,
+                }
             }
         }
         Some(())

@@ -137,28 +137,63 @@ pub fn write_row(source: &Source, registers: &[usize], place: usize, slots: &mut
     ensures { slots.new ≡ row_at (length slots.old) place (row_in registers.now (length slots.old)) (source_of source.now) }
 {
     let width = slots.len();
-    for slot in 0..width {
-        slots[slot] = slot_at(source, registers, width, slot, place);
+    // Two slots, as most searches have, are written without a loop.
+    if width == 2 {
+        slots[0] = slot_at(
+            source.has_written(0),
+            source.register,
+            registers,
+            width,
+            0,
+            place,
+        );
+        slots[1] = slot_at(
+            source.has_written(1),
+            source.register,
+            registers,
+            width,
+            1,
+            place,
+        );
+    } else {
+        write_slots(source, registers, place, slots);
     }
 }
 
-// Returns a slot of the row.
+// Writes the row slot by slot. It is a call, so that the loop of a search keeps its registers.
+#[inline(never)]
+fn write_slots(source: &Source, registers: &[usize], place: usize, slots: &mut [Option<usize>])
+    requires register { IfSome source.now.register (λ r. r * length slots.old + length slots.old ≤ length registers.now) }
+    ensures { slots.new ≡ row_at (length slots.old) place (row_in registers.now (length slots.old)) (source_of source.now) }
+{
+    let register = source.register;
+    let mut left = source.writes;
+    let width = slots.len();
+    for slot in 0..width {
+        slots[slot] = slot_at(left & 1 == 1, register, registers, width, slot, place);
+        left >>= 1;
+    }
+}
+
+// Returns a slot of the row of a register, or the place if it is written there.
+#[inline(always)]
 fn slot_at(
-    source: &Source,
+    is_written: bool,
+    register: Option<u32>,
     registers: &[usize],
     width: usize,
     slot: usize,
     place: usize,
 ) -> Option<usize>
-    requires register { IfSome source.now.register (λ r. r * width + width ≤ length registers.now) }
+    requires register { IfSome register (λ r. r * width + width ≤ length registers.now) }
     requires within { slot < width }
-    ensures { result ≡ (if has_bit source.now.writes slot then Some place else
-        option_map_or (λ r. slot_of (slice_index registers.now (r * width + slot))) source.now.register None) }
+    ensures { result ≡ (if is_written then Some place else
+        option_map_or (λ r. slot_of (slice_index registers.now (r * width + slot))) register None) }
 {
-    if source.has_written(slot) {
+    if is_written {
         return Some(place);
     }
-    match source.register {
+    match register {
         None => None,
         Some(register) => slot_of(registers[register as usize * width + slot]),
     }

@@ -73,7 +73,8 @@ impl Search<'_> {
         ensures turns { TurnsTo self.new before at registers.new was_found slots.new result }
         ensures same { IsSame self.old self.new }
     {
-        match self.pass_one(self.input.haystack, at, registers, was_found, slots) {
+        let more = self.more(slots.len());
+        match self.pass_one(self.input.haystack, more, at, registers, was_found, slots) {
             Some((to, is_found)) => Turn::Goes { to, is_found },
             None => self.step(at, registers, was_found, slots),
         }

@@ -11,6 +11,25 @@ use crate::classes::Classes;
 use crate::kind::Kind;
 use std::alloc::{AllocError, Global};
 
+const KINDS: [Kind; 5] = [
+    Kind::Edge,
+    Kind::LineFeed,
+    Kind::CarriageReturn,
+    Kind::WordByte,
+    Kind::Other,
+];
+
+/// Returns the kinds that are among these. The error is out of memory.
+pub(crate) fn kinds_among(alloc: Global, kinds: &[Kind]) -> Result<Vec<Kind>, AllocError> {
+    let mut among = Vec::new(alloc);
+    for kind in KINDS {
+        if kinds.contains(&kind) {
+            among.push(kind)?;
+        }
+    }
+    Ok(among)
+}
+
 /// Returns for each class the first kind before which assertions hold as before the class. The error is out of memory.
 pub(crate) fn kinds_after(
     alloc: Global,

@@ -31,6 +31,13 @@ fn part_of<T>(items: &[T], part: Part) -> &[T]
 // How many outcomes are compared with one before it is added. Those of one list are added one after another, and few differ.
 const LATEST_OUTCOMES: usize = 8;
 
+// A graph begins with room for so many lists of each state, but no more than these, and for so many outcomes of each list.
+const LISTS_OF_STATE: usize = 2;
+
+const MOST_ROOM: usize = 64;
+
+const OUTCOMES_OF_LIST: usize = 2;
+
 // A thread list whose threads stand with those of all lists, with the number of its registers.
 #[derive(Clone, Copy, Drop)]
 pub(crate) struct StoredList {
@@ -90,19 +97,22 @@ impl Model for Graph {
 }
 
 impl Graph {
-    /// Makes a graph without lists for so many classes.
-    pub(crate) fn new(alloc: Global, classes: usize) -> Graph
-        ensures { result ≡ record { classes = classes; lists = []; cells = []; outcomes = [] } }
+    /// Makes a graph without lists for so many classes of a program with so many states. The error is out of memory.
+    pub(crate) fn new(alloc: Global, classes: usize, states: usize) -> Result<Graph, AllocError>
+        ensures { IfOk result (λ g. g ≡ record { classes = classes; lists = []; cells = []; outcomes = [] }) }
     {
-        Graph {
+        let lists = states.saturating_mul(LISTS_OF_STATE).min(MOST_ROOM);
+        let cells = lists.saturating_mul(classes);
+        let outcomes = lists.saturating_mul(OUTCOMES_OF_LIST);
+        Ok(Graph {
             classes,
-            lists: Vec::new(alloc),
-            threads: Vec::new(alloc),
-            cells: Vec::new(alloc),
-            outcomes: Vec::new(alloc),
-            moves: Vec::new(alloc),
-            index: Index::new(alloc),
-        }
+            lists: Vec::with_capacity(alloc, lists)?,
+            threads: Vec::with_capacity(alloc, lists)?,
+            cells: Vec::with_capacity(alloc, cells)?,
+            outcomes: Vec::with_capacity(alloc, outcomes)?,
+            moves: Vec::with_capacity(alloc, outcomes)?,
+            index: Index::new(alloc, lists),
+        })
     }
 
     /// Returns the number of classes.
@@ -243,16 +253,24 @@ impl Graph {
     /// Returns whether a transition of the list leads back to it.
     pub(crate) fn leads_back(&self, number: usize) -> bool {
         let first = number.wrapping_mul(self.classes);
+        let mut latest = None;
         for class in 0..self.classes {
             if let Some(Some(cell)) = self.cells.get(first.wrapping_add(class)) {
-                if let Some(outcome) = self.outcomes.get(cell.outcome as usize) {
-                    if outcome.next as usize == number {
-                        return true;
-                    }
+                if latest != Some(cell.outcome) && self.leads_to(cell.outcome, number) {
+                    return true;
                 }
+                latest = Some(cell.outcome);
             }
         }
         false
+    }
+
+    // Returns whether an outcome leads to the list.
+    fn leads_to(&self, outcome: u32, number: usize) -> bool {
+        match self.outcomes.get(outcome as usize) {
+            None => false,
+            Some(outcome) => outcome.next as usize == number,
+        }
     }
 
     // Returns the number of the outcome of a list over a class, if the transition is known.
@@ -298,7 +316,7 @@ impl Graph {
     {
         let first = self.outcomes.len().saturating_sub(LATEST_OUTCOMES);
         for number in first..self.outcomes.len() {
-            if self.is_outcome(number, outcome) {
+            if self.outcomes[number].next == outcome.next && self.is_outcome(number, outcome) {
                 return u32::try_from(number).ok();
             }
         }

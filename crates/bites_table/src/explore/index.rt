@@ -19,14 +19,17 @@ pub(crate) struct Place {
 pub(crate) struct Index {
     alloc: Global,
     places: Vec<Option<Place>>,
+    first_size: usize,
     numbers: usize,
 }
 
 impl Index {
-    pub(crate) fn new(alloc: Global) -> Index {
+    /// Makes an index that has room for so many numbers as soon as it has one.
+    pub(crate) fn new(alloc: Global, numbers: usize) -> Index {
         Index {
             alloc,
             places: Vec::new(alloc),
+            first_size: numbers.saturating_mul(2).max(FIRST_SIZE),
             numbers: 0,
         }
     }
@@ -73,7 +76,7 @@ impl Index {
     }
 
     fn grow(&mut self) -> Option<()> {
-        let size = self.places.len().checked_mul(2)?.max(FIRST_SIZE);
+        let size = self.places.len().checked_mul(2)?.max(self.first_size);
         let mut places = Vec::new(self.alloc);
         places.resize(size, None).ok()?;
         for place in &self.places {

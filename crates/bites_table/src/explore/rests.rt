@@ -34,7 +34,7 @@ pub(crate) fn find_calms(
     requires table { IsTable (program_in context.now) (classes_in context.now) (table_of graph.now) }
     ensures { IfSome result (λ l. AreCalm (table_of graph.now) (classes_in context.now) l.items) }
 {
-    let mut calms = Vec::new(alloc);
+    let mut calms = Vec::with_capacity(alloc, graph.lists()).ok()?;
     for number in 0..graph.lists() {
         let calm = find_calm(alloc, context, memory, graph, number);
         calms.push(calm).ok()?;

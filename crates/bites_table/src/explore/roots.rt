@@ -49,10 +49,24 @@ pub(crate) fn add_roots(graph: &mut Graph, kinds: AlikeKinds, starts: Starts) ->
         AreRoots p graph.new (starts_as starts) r) }
 {
     let edge = add_root(graph, kinds, starts, Kind::Edge)?;
-    let line_feed = add_root(graph, kinds, starts, Kind::LineFeed)?;
-    let carriage_return = add_root(graph, kinds, starts, Kind::CarriageReturn)?;
-    let word_byte = add_root(graph, kinds, starts, Kind::WordByte)?;
-    let other = add_root(graph, kinds, starts, Kind::Other)?;
+    let line_feed = next_root(graph, kinds, starts, Kind::LineFeed, Kind::Edge, edge)?;
+    let carriage_return = next_root(
+        graph,
+        kinds,
+        starts,
+        Kind::CarriageReturn,
+        Kind::LineFeed,
+        line_feed,
+    )?;
+    let word_byte = next_root(
+        graph,
+        kinds,
+        starts,
+        Kind::WordByte,
+        Kind::CarriageReturn,
+        carriage_return,
+    )?;
+    let other = next_root(graph, kinds, starts, Kind::Other, Kind::WordByte, word_byte)?;
     Some(Roots {
         edge,
         line_feed,
@@ -76,4 +90,26 @@ fn add_root(graph: &mut Graph, kinds: AlikeKinds, starts: Starts, kind: Kind) ->
         kind: kinds.first_before(kind),
     };
     graph.add_list(&list, 0)
+}
+
+// Returns the number of the root of the kind before, if it is alike, and else adds the list for a kind.
+fn next_root(
+    graph: &mut Graph,
+    kinds: AlikeKinds,
+    starts: Starts,
+    kind: Kind,
+    before: Kind,
+    number: u32,
+) -> Option<u32>
+    ensures made { (p : Program) (k : Classes) → IsMade p k graph.old → IsMade p k graph.new }
+    ensures grows { Grows graph.old graph.new }
+    ensures cells { graph.new.cells ≡ graph.old.cells }
+    ensures root { IfSome result (λ n. (p : Program) → TellsApart p kinds →
+        IsRoot p graph.old (kind_as before) (starts_as starts) number →
+        IsRoot p graph.new (kind_as kind) (starts_as starts) n) }
+{
+    if kinds.first_before(kind) == kinds.first_before(before) {
+        return Some(number);
+    }
+    add_root(graph, kinds, starts, kind)
 }

@@ -14,7 +14,7 @@ ghost use Rattle.bites_table.specs.declared.table.skip.Skip.{Skip};
 
 use crate::explore::graph::Graph;
 use crate::explore::rests::{find_calms, find_rest};
-use crate::explore::{Context, KINDS, Memory};
+use crate::explore::{Context, Memory};
 use crate::kind::Kind;
 use crate::table::layout::doing_of;
 use crate::table::skip::{Rest, Skip, Stay};
@@ -70,7 +70,7 @@ pub(crate) fn find_stays(
 {
     let mut stays = Stays {
         skips: Vec::new(alloc),
-        lists: Vec::new(alloc),
+        lists: Vec::with_capacity(alloc, graph.lists()).ok()?,
     };
     let calms = find_calms(alloc, context, memory, graph)?;
     for number in 0..graph.lists() {
@@ -209,32 +209,15 @@ fn find_over(
     requires within { number < length graph.now.lists }
     ensures { IfSome result (StaysOver (table_of graph.now) number) }
 {
-    if !graph.leads_back(number) {
-        return None;
-    }
-    let leads = leading(alloc, graph, number)?;
-    let first = first_kind(&leads, context.after)?;
+    let first = first_kind(context, graph, number)?;
     let walked = walk_once(alloc, context, memory, graph, number, first)?;
     let kinds = alike_kinds(alloc, context, memory, graph, number, first, &walked)?;
-    let keeps = kept_by(alloc, &leads, &kinds, context.after)?;
+    let keeps = kept_by(alloc, graph, number, &kinds, context.after)?;
     Some(Over {
         keeps,
         seen: Snapshot::of(&walked.states),
         looks: Snapshot::of(&walked.looks),
     })
-}
-
-// Returns for each class whether the list leads over it back to itself quietly.
-fn leading(alloc: Global, graph: &Graph, number: usize) -> Option<Vec<bool>>
-    requires { number < length graph.now.lists }
-    ensures { IfSome result (λ l. (c : ℕ) → slice_index_or l.items c false ≡ true → LeadsBack (table_of graph.now) number c) }
-{
-    let mut leads = Vec::new(alloc);
-    for class in 0..graph.classes() {
-        let is_back = leads_back(graph, number, class);
-        leads.push(is_back).ok()?;
-    }
-    Some(leads)
 }
 
 // Returns whether the list leads over the class back to itself quietly.
@@ -249,11 +232,16 @@ fn leads_back(graph: &Graph, number: usize, class: usize) -> bool
     outcome.next as usize == number && doing_of(&outcome, &list) == 0
 }
 
-// Returns the kind after which the first class is walked that leads back.
-fn first_kind(leads: &[bool], after: &[Kind]) -> Option<Kind> {
-    for class in 0..leads.len() {
-        if leads[class] {
-            return after.get(class).copied();
+// Returns the kind after which the first class is walked over which the list leads back to itself quietly.
+fn first_kind(context: &Context<'_>, graph: &Graph, number: usize) -> Option<Kind>
+    requires { number < length graph.now.lists }
+{
+    if !graph.leads_back(number) {
+        return None;
+    }
+    for class in 0..graph.classes() {
+        if leads_back(graph, number, class) {
+            return context.after.get(class).copied();
         }
     }
     None
@@ -313,13 +301,13 @@ pub(crate) fn alike_kinds(
 {
     let mut kinds = Vec::new(alloc);
     kinds.push(first).ok()?;
-    for kind in KINDS {
-        add_alike(context, memory, graph, number, kind, walked, &mut kinds)?;
+    for kind in context.kinds {
+        add_alike(context, memory, graph, number, *kind, walked, &mut kinds)?;
     }
     Some(kinds)
 }
 
-// Adds a kind of some class, if it is new, and if the walk of the list before it is the same.
+// Adds a kind, if it is new, and if the walk of the list before it is the same.
 fn add_alike(
     context: &Context<'_>,
     memory: &mut Memory,
@@ -335,10 +323,7 @@ fn add_alike(
         AllWalkSo (program_in context.now) (list_at (table_of graph.now) number) kinds.new.items
         (reverse walked.now.states.items) walked.now.looks) }
 {
-    if has_kind(kinds, kind)
-        || !context.after.contains(&kind)
-        || !is_walked_so(context, memory, graph, number, kind, walked)
-    {
+    if has_kind(kinds, kind) || !is_walked_so(context, memory, graph, number, kind, walked) {
         return Some(());
     }
     kinds.push(kind).ok()?;
@@ -364,13 +349,21 @@ fn is_walked_so(
     looks == walked.looks && memory.walk.visited.are(&walked.states)
 }
 
-// Returns for each class whether it leads back, and the walk before it is one of those kinds.
-fn kept_by(alloc: Global, leads: &[bool], kinds: &[Kind], after: &[Kind]) -> Option<Vec<bool>>
-    ensures { IfSome result (λ k. (c : ℕ) → slice_index_or k.items c false ≡ true → IsKept leads.now kinds.now after.now c) }
+// Returns for each class whether the list leads over it back to itself quietly, after a walk before one of these kinds.
+fn kept_by(
+    alloc: Global,
+    graph: &Graph,
+    number: usize,
+    kinds: &[Kind],
+    after: &[Kind],
+) -> Option<Vec<bool>>
+    requires { number < length graph.now.lists }
+    ensures { IfSome result (λ k. (c : ℕ) → slice_index_or k.items c false ≡ true →
+        IsKept (table_of graph.now) number kinds.now after.now c) }
 {
-    let mut keeps = Vec::new(alloc);
-    for class in 0..leads.len() {
-        let is_kept = leads[class] && is_among(kinds, after, class);
+    let mut keeps = Vec::with_capacity(alloc, graph.classes()).ok()?;
+    for class in 0..graph.classes() {
+        let is_kept = is_among(kinds, after, class) && leads_back(graph, number, class);
         keeps.push(is_kept).ok()?;
     }
     Some(keeps)

@@ -1,10 +1,10 @@
 //! Which classes states take, and which of them the same threads take.
 
-ghost use Rattle.std.specs.Prelude.{◌≡◌, ◌<◌, ℕ, true, map, IfOk};
+ghost use Rattle.std.specs.Prelude.{◌≡◌, ◌<◌, ℕ, [], true, map, IfOk};
 ghost use Rattle.bites_spec.specs.Program as programs;
-ghost use Rattle.bites_spec.specs.Program.{takes, HasRanges};
+ghost use Rattle.bites_spec.specs.Program.{state_at, takes, HasRanges};
 ghost use Rattle.bites_machine.specs.Bits.{has_bit};
-ghost use Rattle.bites_machine.specs.Ends.{takes_by};
+ghost use Rattle.bites_machine.specs.Ends.{takes_by, targets_over};
 ghost use Rattle.bites_machine.specs.States.{state_of};
 ghost use Rattle.bites_table.specs.Kinds as kinds;
 ghost use Rattle.bites_table.specs.Takers.{taken};
@@ -84,4 +84,16 @@ pub(crate) fn alike_classes(bits: &[u64], takers: &[Frame], class: usize) -> u64
         }
     }
     alike
+}
+
+/// Returns whether the state is known not to take the class.
+pub(crate) fn is_refused(bits: &[u64], state: u32, class: usize) -> bool
+    ensures { result ≡ true → (p : programs.Program) (k : kinds.Classes) → AreTaken p k bits.now →
+        targets_over (k.member class) (state_at p.states state) ≡ [] }
+{
+    let state = state as usize;
+    if class >= CLASSES || state >= bits.len() || has_bit(bits[state], class) {
+        return false;
+    }
+    true
 }

@@ -10,7 +10,7 @@ ghost use Rattle.bites_table.specs.Steps.{with_spare};
 ghost use Rattle.bites_table.specs.Built.{frame_of};
 ghost use Rattle.bites_table.specs.Packed.{Packed, IsRow, IsKnown, Tells, row_of, lists_in, stride, mask_of, IsPartOf, unknown};
 ghost use Rattle.bites_table.specs.Standing.{IsAsked, IsOver, slots_after};
-ghost use Rattle.bites_table.specs.Searches.{asked, IsSame, Held, IsHeldAt, StandsAt, IsLent, IsFresh, TurnsTo, StopsSo};
+ghost use Rattle.bites_table.specs.Searches.{asked, more_than_hits, IsSame, Held, IsHeldAt, StandsAt, IsLent, IsFresh, TurnsTo, StopsSo};
 ghost use Rattle.bites_spec.specs.Look.{before};
 ghost use Rattle.bites_table.specs.Explored.{number_in};
 ghost use Rattle.bites_table.specs.declared.table.cell.Cell as cell;
@@ -19,7 +19,7 @@ use crate::search::place::{kind_before, piece_at};
 use crate::steps::{begin_row, end_row, run_steps, write_row};
 use crate::table::Table;
 use crate::table::act::Act;
-use crate::table::cell::{Cell, MORE, UNKNOWN, mask};
+use crate::table::cell::{ALL, Cell, MORE, UNKNOWN, mask};
 use bites_machine::program::Program;
 use bites_machine::vm::{self, Counted, Input, MatchKind, Resumed};
 
@@ -45,7 +45,7 @@ pub(crate) struct Standing {
 }
 
 // A transition that was lent: where the cells of the next thread list begin, the number of what it does, and the register whose
-// row begins.
+// row begins or ends.
 #[derive(Clone, Copy, Drop)]
 pub(crate) struct Lent {
     pub next: usize,
@@ -131,12 +131,25 @@ impl Search<'_> {
         None
     }
 
-    // Goes on over one place of the haystack where nothing is to be done but to begin or end a row of two slots: somebody comes to
-    // a match there, and the search goes on. Returns whether something is found, too.
+    // Returns the bits of a cell over which a search for so many slots has more to do than to keep a hit. A search for a match with
+    // the least end is over at a hit.
+    pub(crate) fn more(&self, width: usize) -> u8
+        ensures { result ≡ more_than_hits (is_earliest self.now.input.now.kind) width }
+    {
+        if width != 2 || matches!(self.input.kind, MatchKind::Earliest) {
+            ALL
+        } else {
+            MORE
+        }
+    }
+
+    // Goes on over one place of the haystack where nothing is to be done but to begin a row of two slots, or to end one as somebody
+    // comes to a match. Returns whether something is found, too. The haystack and the bits of `more` are read once for all places.
     #[inline(always)]
     pub(crate) fn pass_one(
         &mut self,
         haystack: &[u8],
+        more: u8,
         at: Standing,
         registers: &mut [usize],
         was_found: bool,
@@ -144,6 +157,7 @@ impl Search<'_> {
     ) -> Option<(Standing, bool)>
         ghost before: { List (Option ℕ) }
         requires haystack { haystack.now ≡ self.old.input.now.haystack.now }
+        requires more { more ≡ more_than_hits (is_earliest self.old.input.now.kind) (length slots.old) }
         requires asked { IsAsked (asked self.old before) }
         requires stands { StandsAt self.old before at registers.old was_found slots.old }
         requires width { length slots.old ≡ length before }
@@ -167,10 +181,7 @@ impl Search<'_> {
                 was_found,
             ));
         }
-        if width != 2 || matches!(self.input.kind, MatchKind::Earliest) {
-            return None;
-        }
-        let lent = self.lend(at, class, MORE)?;
+        let lent = self.lend(at, class, more)?;
         end_row(registers, lent.begins, at.place, slots);
         Some((
             Standing {
@@ -200,10 +211,11 @@ impl Search<'_> {
         ensures same { IsSame self.old self.new }
     {
         let haystack = self.input.haystack;
+        let more = self.more(slots.len());
         let mut at = from;
         let mut is_found = was_found;
         'places: while let Some((to, found)) = self.pass_one(
-            haystack, at, registers, is_found, slots,
+            haystack, more, at, registers, is_found, slots,
         ) {
             at = to;
             is_found = found;

@@ -34,6 +34,6 @@ pub struct Act {
     pub is_over: bool,
     /// The bits of its cells.
     pub doing: u8,
-    /// The register whose row begins, for its cells.
+    /// The register whose row begins or ends, for its cells.
     pub begins: u8,
 }

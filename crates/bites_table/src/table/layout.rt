@@ -226,8 +226,8 @@ fn has_register(hit: Option<Frame>) -> bool
     }
 }
 
-// What a search has to look at for an outcome: the bits of the widths, and the register whose row begins where a search for two
-// slots has not to look.
+// What a search has to look at for an outcome: the bits of its cells, and the register whose row begins where a search for two
+// slots has not to look, or ends where it has only to keep a hit.
 #[derive(Clone, Copy, Drop)]
 struct Looks {
     doing: u8,

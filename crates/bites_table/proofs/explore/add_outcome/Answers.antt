@@ -1,8 +1,7 @@
 use Rattle.std.specs.Prelude.{slice_index_or}
-use Rattle.std.proofs.Common.{rules, ◌≡◌, ℕ, ◌<◌, Some, arith, length, map, refl, sym, ap, ◌∙◌, subst}
-use Rattle.bites_table.specs.Kinds.{kind_of, AreAlikeKinds}
+use Rattle.std.proofs.Common.{rules, ◌≡◌, arith, length, map, refl, sym, ap, ◌∙◌, subst}
 use Rattle.bites_table.specs.Takers.{taken}
-use Rattle.bites_table.specs.Built.{kind_as, frame_of}
+use Rattle.bites_table.specs.Built.{frame_of}
 use Rattle.bites_table.specs.Registers.{AreAssigned}
 use Rattle.bites_table.specs.Graph.{NumberedList, Outcome, AreHeld, AddsOutcome}
 use Rattle.bites_table.specs.Explored.{program_in, classes_in}
@@ -12,6 +11,7 @@ use Rattle.bites_table.proofs.ExploreLemmas.{made-with, outcome-is}
 use Rattle.bites_table.proofs.explore.add_outcome.Goals as goal
 
 pub returns-clause-made : goal.returns-clause-made
+unfolding classes_in
 returns-clause-made c =
     let p = program_in c.args.context.now in
     let k = classes_in c.args.context.now in
@@ -20,7 +20,7 @@ returns-clause-made c =
     let registers : c.len.result ≡ length c.assign.new.self.moves.items = search rules in
     let moves : c.deref-3.result.now ≡ c.assign.new.self.moves.items = search rules in
     let threads : c.deref-2.result.now ≡ c.assign.new.self.threads.items = search rules in
-    let held : AreHeld c.len.result c.deref-2.result.now = subst (λ ts. AreHeld c.len.result ts) (sym threads) (subst (λ n. AreHeld n c.assign.new.self.threads.items) (sym registers) c.in_ok-assign.ensures.held) in
+    let held : AreHeld c.len.result c.deref-2.result.now = subst (λ ts. AreHeld c.len.result ts) (sym threads) (subst (λ n. AreHeld n c.assign.new.self.threads.items) (sym registers) (c.in_ok-assign.ensures k c.requires.context.taken (sym c.member-ch.ensures)).held) in
     made-with p k c.args.graph.now c.add_list.new.self c.add_outcome.new.self l c.in_ok-next.next o c.in_ok-next.ensures.added refl (ap length moves ∙ sym registers) held c.requires.made
     c.add_outcome.result c.add_outcome.ensures.added c.add_outcome.ensures.refused
 
@@ -35,7 +35,7 @@ returns-clause-outcome c =
     let threads : c.deref-2.result.now ≡ c.assign.new.self.threads.items = search rules in
     let takers : c.deref.result.now ≡ c.args.memory.now.walk.takers.items = search rules in
     let assigned = subst (λ ch. AreAssigned c.assign.new.self (taken p ch (map frame_of c.args.memory.now.walk.takers.items))) c.member-ch.ensures
-    (subst (λ ts. AreAssigned c.assign.new.self (taken p c.member-ch.result (map frame_of ts))) takers c.in_ok-assign.ensures) in
+    (subst (λ ts. AreAssigned c.assign.new.self (taken p c.member-ch.result (map frame_of ts))) takers (c.in_ok-assign.ensures k c.requires.context.taken (sym c.member-ch.ensures))) in
     let kind = c.requires.context.before c.args.class (omega arith) in
     if_some (λ n is.
     outcome-is p k c.args.graph.now c.add_list.new.self c.args.class c.args.memory.now.walk c.assign.new.self l c.in_ok-next.next c.in_ok-next.ensures.added threads assigned kind n c.add_outcome.new.self

@@ -8,17 +8,17 @@ use Rattle.bites_table.proofs.explore.explore.Goals as goal
 pub follow-done-requires-clause-context : goal.follow-done-requires-clause-context
 unfolding classes_in
 follow-done-requires-clause-context c = record {
-  after = subst (AreAfter c.args.program.now.program (classes_of c.args.classes.now)) (sym c.deref.ensures.value) (c.in_ok-after.ensures c.args.program.now.program c.of-kinds.ensures);
-  before = subst (AreBefore c.args.program.now.program (classes_of c.args.classes.now)) (sym c.deref-2.ensures.value) (c.in_ok-before.ensures c.args.program.now.program c.of-kinds.ensures);
-  taken = subst (AreTaken c.args.program.now.program (classes_of c.args.classes.now)) (sym c.deref-3.ensures.value) c.in_ok-taken.ensures;
+  after = subst (AreAfter c.args.program.now.program (classes_of c.args.classes.now)) (sym c.deref-2.ensures.value) (c.in_ok-after.ensures c.args.program.now.program c.of-kinds.ensures);
+  before = subst (AreBefore c.args.program.now.program (classes_of c.args.classes.now)) (sym c.deref-3.ensures.value) (c.in_ok-before.ensures c.args.program.now.program c.of-kinds.ensures);
+  taken = subst (AreTaken c.args.program.now.program (classes_of c.args.classes.now)) (sym c.deref-5.ensures.value) c.in_ok-taken.ensures;
 }
 
 pub follow-done-requires-2-clause-context : goal.follow-done-requires-2-clause-context
 unfolding classes_in
 follow-done-requires-2-clause-context c = record {
-  after = subst (AreAfter c.args.program.now.program (classes_of c.args.classes.now)) (sym c.deref.ensures.value) (c.in_ok-after.ensures c.args.program.now.program c.of-kinds.ensures);
-  before = subst (AreBefore c.args.program.now.program (classes_of c.args.classes.now)) (sym c.deref-2.ensures.value) (c.in_ok-before.ensures c.args.program.now.program c.of-kinds.ensures);
-  taken = subst (AreTaken c.args.program.now.program (classes_of c.args.classes.now)) (sym c.deref-3.ensures.value) c.in_ok-taken.ensures;
+  after = subst (AreAfter c.args.program.now.program (classes_of c.args.classes.now)) (sym c.deref-2.ensures.value) (c.in_ok-after.ensures c.args.program.now.program c.of-kinds.ensures);
+  before = subst (AreBefore c.args.program.now.program (classes_of c.args.classes.now)) (sym c.deref-3.ensures.value) (c.in_ok-before.ensures c.args.program.now.program c.of-kinds.ensures);
+  taken = subst (AreTaken c.args.program.now.program (classes_of c.args.classes.now)) (sym c.deref-5.ensures.value) c.in_ok-taken.ensures;
 }
 
 pub returns : goal.returns
@@ -42,9 +42,9 @@ returns c =
 pub find_stays-requires-clause-context : goal.find_stays-requires-clause-context
 unfolding classes_in
 find_stays-requires-clause-context c = record {
-  after = subst (AreAfter c.args.program.now.program (classes_of c.args.classes.now)) (sym c.deref.ensures.value) (c.in_ok-after.ensures c.args.program.now.program c.of-kinds.ensures);
-  before = subst (AreBefore c.args.program.now.program (classes_of c.args.classes.now)) (sym c.deref-2.ensures.value) (c.in_ok-before.ensures c.args.program.now.program c.of-kinds.ensures);
-  taken = subst (AreTaken c.args.program.now.program (classes_of c.args.classes.now)) (sym c.deref-3.ensures.value) c.in_ok-taken.ensures;
+  after = subst (AreAfter c.args.program.now.program (classes_of c.args.classes.now)) (sym c.deref-2.ensures.value) (c.in_ok-after.ensures c.args.program.now.program c.of-kinds.ensures);
+  before = subst (AreBefore c.args.program.now.program (classes_of c.args.classes.now)) (sym c.deref-3.ensures.value) (c.in_ok-before.ensures c.args.program.now.program c.of-kinds.ensures);
+  taken = subst (AreTaken c.args.program.now.program (classes_of c.args.classes.now)) (sym c.deref-5.ensures.value) c.in_ok-taken.ensures;
 }
 
 pub find_stays-requires-clause-table : goal.find_stays-requires-clause-table

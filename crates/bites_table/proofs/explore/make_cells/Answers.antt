@@ -1,4 +1,4 @@
-use Rattle.std.proofs.Common.{rules, ◌≡◌, ◌<◌, length, sym, ap, ◌∙◌, subst, arith}
+use Rattle.std.proofs.Common.{rules, ◌≡◌, length, sym, ap, ◌∙◌, subst}
 use Rattle.std.specs.Prelude.{is_some, slice_index_or}
 use Rattle.bites_table.specs.Transition.{ThreadList, starts_after}
 use Rattle.bites_table.specs.Table.{list_at}
@@ -9,7 +9,7 @@ use Rattle.bites_table.specs.Explored.{program_in, classes_in}
 use Rattle.bites_table.specs.declared.kind.Kind.TheVariants.{Edge}
 use Rattle.bites_table.specs.declared.walk.Walk.{Walk}
 use Rattle.bites_table.specs.declared.explore.Memory.{Memory}
-use Rattle.bites_table.proofs.GraphLemmas.{grows-trans, grows-within}
+use Rattle.bites_table.proofs.GraphLemmas.{grows-trans}
 use Rattle.bites_table.proofs.ExploreLemmas.{list-was}
 use Rattle.bites_table.proofs.explore.make_cells.Goals as goal
 use Rattle.bites_table.proofs.explore.make_cells.Goals.{then-eq+then-not-is_known+in_ok-outcome+in_ok-set_alike, else-eq}

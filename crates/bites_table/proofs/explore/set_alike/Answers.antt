@@ -6,7 +6,7 @@ use Rattle.bites_table.specs.Takers.{taken, AssertsAs}
 use Rattle.bites_table.specs.Table.{list_at}
 use Rattle.bites_table.specs.Built.{kind_as, frame_of}
 use Rattle.bites_table.specs.Graph.{Cell, Graph, with_cells, table_of}
-use Rattle.bites_table.specs.Made.{Grows, IsMade}
+use Rattle.bites_table.specs.Made.{IsMade}
 use Rattle.bites_table.specs.Explored.{program_in, classes_in}
 use Rattle.bites_table.specs.declared.kind.Kind.TheVariants.{Edge}
 use Rattle.bites_table.proofs.GraphLemmas.{grows-refl, grows-cells}

@@ -1,4 +1,4 @@
-use Rattle.std.proofs.Common.{◌≡◌, ℕ, ◌<◌, ◌≤◌, ◌+◌, ◌*◌, ◌%◌, ◌^◌, ◌⊎◌, ⊎_elim, inl, inr, Bool, true, false, length, sym, ap, ◌∙◌, arith, bit_or}
+use Rattle.std.proofs.Common.{◌≡◌, ℕ, ◌<◌, ◌≤◌, ◌*◌, ◌%◌, ◌^◌, ◌⊎◌, ⊎_elim, inl, inr, Bool, true, false, sym, ap, ◌∙◌, arith, bit_or}
 use Rattle.std.proofs.lemmas.Option.{slice_get_past}
 use Rattle.bites_spec.specs.Program.{takes}
 use Rattle.bites_machine.specs.Ends.{takes_by}

@@ -1,4 +1,6 @@
-use Rattle.std.proofs.Common.{None, ◌++◌, map, take, sym, subst, arith}
+use Rattle.std.proofs.Common.{None, ◌+◌, ◌++◌, map, take, refl, sym, ap, ◌∙◌, subst, arith}
+use Rattle.bites_spec.specs.Program.{state_at}
+use Rattle.bites_machine.specs.Ends.{targets_over}
 use Rattle.std.specs.Prelude.{slice_index_or}
 use Rattle.std.specs.Option.{option_to_list}
 use Rattle.std.proofs.lemmas.List.{take_all}
@@ -12,7 +14,7 @@ use Rattle.bites_table.specs.declared.registers.Assigned.{Assigned}
 use Rattle.bites_table.proofs.FrameLemmas.{has_ranges}
 use Rattle.bites_table.proofs.RegisterLemmas.{taken-next, none_more}
 use Rattle.bites_table.proofs.registers.Assigned.assign.Goals as goal
-use Rattle.bites_table.proofs.registers.Assigned.assign.Goals.{in-Some+in_ok-push-in-Some, in-None}
+use Rattle.bites_table.proofs.registers.Assigned.assign.Goals.{then-not-is_refused+in-None, then-not-is_refused+in-Some+in_ok-push-in-Some, else-not-is_refused}
 
 pub target_over-requires : goal.target_over-requires
 target_over-requires c =
@@ -20,25 +22,32 @@ target_over-requires c =
     has_ranges c.args.program.now.program c.requires (state_of c.state.result.now) (slice_index_or c.args.takers.now c.loop-taker.taker-index none).state (omega arith) c.state.ensures
 
 pub loop-taker-preserved : goal.loop-taker-preserved
-loop-taker-preserved c =
+loop-taker-preserved c k are member =
     let p = c.args.program.now.program in
     let none : Frame = record { state = 0; source = record { register = None; writes = 0 } } in
-    let next = taken-next p c.args.ch c.args.takers.now c.loop-taker.taker-index none (state_of c.state.result.now) c.target_over.result (omega arith) c.state.ensures c.target_over.ensures in
-    let before = taken p c.args.ch (map frame_of (take c.loop-taker.taker-index c.args.takers.now)) in
-    let source = (slice_index_or c.args.takers.now c.loop-taker.taker-index none).source in
-    subst (AreAssigned c.match-target_over.self) next
-    (elim c.match-target_over.branch [
-      | in-Some+in_ok-push-in-Some w ↦
-          subst (λ (a : Assigned). AreAssigned a (before ++ map (thread_with (source_of source)) (option_to_list c.target_over.result))) (sym w.self-is)
-          (subst (λ r. AreAssigned w.push.new.self (before ++ map (thread_with (source_of source)) (option_to_list r))) (sym w.in-Some.is)
-          (w.in_ok-push-in-Some.ensures before c.loop-taker.invariant))
-      | in-None w ↦
-          subst (λ (a : Assigned). AreAssigned a (before ++ map (thread_with (source_of source)) (option_to_list c.target_over.result))) (sym w.self-is)
-          (subst (λ r. AreAssigned c.loop-taker.self (before ++ map (thread_with (source_of source)) (option_to_list r))) (sym w.in-None.is)
-          (none_more c.loop-taker.self before c.loop-taker.invariant))
-    ])
+    let i = c.loop-taker.taker-index in
+    let f = slice_index_or c.args.takers.now i none in
+    let before = taken p c.args.ch (map frame_of (take i c.args.takers.now)) in
+    let own = c.loop-taker.invariant k are member in
+    elim c.if-not-is_refused.branch [
+      | then-not-is_refused+in-None w ↦
+          let next = taken-next p c.args.ch c.args.takers.now i none (state_of w.state.result.now) w.target_over.result (omega arith) w.state.ensures w.target_over.ensures in
+          subst (AreAssigned c.if-not-is_refused.self) next
+          (subst (λ (a : Assigned). AreAssigned a (before ++ map (thread_with (source_of f.source)) (option_to_list w.target_over.result))) (sym w.self-is)
+          (subst (λ r. AreAssigned c.loop-taker.self (before ++ map (thread_with (source_of f.source)) (option_to_list r))) (sym w.in-None.is) (none_more c.loop-taker.self before own)))
+      | then-not-is_refused+in-Some+in_ok-push-in-Some w ↦
+          let next = taken-next p c.args.ch c.args.takers.now i none (state_of w.state.result.now) w.target_over.result (omega arith) w.state.ensures w.target_over.ensures in
+          subst (AreAssigned c.if-not-is_refused.self) next
+          (subst (λ (a : Assigned). AreAssigned a (before ++ map (thread_with (source_of f.source)) (option_to_list w.target_over.result))) (sym w.self-is)
+          (subst (λ r. AreAssigned w.push.new.self (before ++ map (thread_with (source_of f.source)) (option_to_list r))) (sym w.in-Some.is) (w.in_ok-push-in-Some.ensures before own)))
+      | else-not-is_refused w ↦
+          let nowhere = c.is_refused.ensures w.if-not-is_refused.false p k are in
+          let next = taken-next p c.args.ch c.args.takers.now i none (state_at p.states f.state) None (omega arith) refl (sym (ap (λ o. targets_over o (state_at p.states f.state)) (sym member) ∙ nowhere)) in
+          subst (λ (a : Assigned). AreAssigned a (taken p c.args.ch (map frame_of (take (i + 1) c.args.takers.now)))) (sym w.self-is)
+          (subst (AreAssigned c.loop-taker.self) next (none_more c.loop-taker.self before own))
+    ]
 
 pub returns : goal.returns
-returns c =
+returns c k are member =
     subst (λ fs. AreAssigned c.loop-taker.self (taken c.args.program.now.program c.args.ch (map frame_of fs)))
-    (take_all c.loop-taker.taker-index c.args.takers.now (omega arith)) c.loop-taker.invariant
+    (take_all c.loop-taker.taker-index c.args.takers.now (omega arith)) (c.loop-taker.invariant k are member)

@@ -1,4 +1,4 @@
-use Rattle.std.proofs.Common.{◌≡◌, ◌≢◌, ◌*◌, ◌+◌, ◌<◌, ◌≤◌, ℕ, List, [], ◌∷◌, length, Option, Some, None, true, false, sym, ap, ◌∙◌, subst, arith, rules}
+use Rattle.std.proofs.Common.{◌≡◌, ◌≢◌, ◌*◌, ◌+◌, ◌<◌, ◌≤◌, ℕ, List, [], ◌∷◌, length, Option, Some, None, true, sym, ap, ◌∙◌, subst, arith}
 use Rattle.std.specs.Prelude.{bit_and, slice_index}
 use Rattle.bites_machine.specs.Inputs.{is_earliest}
 use Rattle.bites_machine.specs.Resume.{row_in}
@@ -6,8 +6,8 @@ use Rattle.bites_machine.specs.SlotTable.{slot_of}
 use Rattle.bites_table.specs.Steps.{with_spare}
 use Rattle.bites_table.specs.Packed.{mask_of}
 use Rattle.bites_table.specs.Standing.{Asked}
-use Rattle.bites_table.specs.Searches.{asked, StandsAt}
-use Rattle.bites_table.proofs.SearchesLemmas.{asked_same, asked_still, fresh_at, known_by_byte, IsByte, byte_at, begins_there, ends_there, passed_on, hit_on, still_there, lent_on}
+use Rattle.bites_table.specs.Searches.{asked, more_than_hits, StandsAt}
+use Rattle.bites_table.proofs.SearchesLemmas.{asked_same, asked_still, fresh_at, known_by_byte, IsByte, byte_at, begins_there, keeps_hits, ends_there, passed_on, hit_on, still_there, lent_on}
 use Rattle.bites_table.proofs.search.record.Search.pass_one.Goals as goal
 
 pub lend-requires-clause-fresh : goal.lend-requires-clause-fresh
@@ -17,13 +17,13 @@ lend-requires-clause-fresh g c n row t known =
     let place = c.args.at.place in
     let class = c.class_of_byte-class.result in
     let byte = byte_at s c.args.haystack.now place class c.requires.0 c.if-at-haystack.false c.class_of_byte-class.ensures.ascii c.class_of_byte-class.ensures.past in
-    fresh_at s c.requires.1.0 place c.args.at.row c.args.registers.now c.args.was_found c.args.slots.now now.counted.walked c.requires.1.1.0 n row t
-    (known_by_byte s c.requires.1.0 place class byte n t known).0
+    fresh_at s c.requires.1.1.0 place c.args.at.row c.args.registers.now c.args.was_found c.args.slots.now now.counted.walked c.requires.1.1.1.0 n row t
+    (known_by_byte s c.requires.1.1.0 place class byte n t known).0
 
 pub begin_row-requires-clause-register : goal.begin_row-requires-clause-register
 begin_row-requires-clause-register g c =
-    let width = c.requires.1.1.1.0 in
-    let at = c.requires.1.1.0 in
+    let width = c.requires.1.1.1.1.0 in
+    let at = c.requires.1.1.1.0 in
     let lent = c.in-Some.ensures.lent at.list at.row_is in
     let bits : bit_and lent.cell.doing (mask_of (length g.before)) ≡ 0 = subst (λ m. bit_and lent.cell.doing m ≡ 0) (c.mask.ensures ∙ ap mask_of width) lent.bits in
     subst (λ r. r < with_spare) (sym lent.begins) (begins_there (asked c.args.self.now g.before) at.list c.class_of_byte-class.result (length g.before) lent.cell lent.tells bits)
@@ -32,9 +32,9 @@ pub returns-in-Some-clause-stands : goal.returns-in-Some-clause-stands
 returns-in-Some-clause-stands g c =
     let now = c.args.self.now in
     let s = asked now g.before in
-    let is = c.requires.1.0 in
-    let at = c.requires.1.1.0 in
-    let width = c.requires.1.1.1.0 in
+    let is = c.requires.1.1.0 in
+    let at = c.requires.1.1.1.0 in
+    let width = c.requires.1.1.1.1.0 in
     let place = c.args.at.place in
     let class = c.class_of_byte-class.result in
     let words = c.args.registers.now in
@@ -59,18 +59,30 @@ lend-requires-2-clause-fresh g c n row t known =
     let place = c.args.at.place in
     let class = c.class_of_byte-class.result in
     let s = asked now g.before in
-    let is = asked_still c.args.self.now now g.before same c.requires.1.0 in
-    let at = still_there c.args.self.now now g.before c.args.at words c.args.was_found c.args.slots.now same c.in_default.ensures.kept c.requires.1.1.0 in
+    let is = asked_still c.args.self.now now g.before same c.requires.1.1.0 in
+    let at = still_there c.args.self.now now g.before c.args.at words c.args.was_found c.args.slots.now same c.in_default.ensures.kept c.requires.1.1.1.0 in
     let byte : IsByte s place class = subst (λ (q : Asked). IsByte q place class) (sym (asked_same c.args.self.now now g.before same))
     (byte_at (asked c.args.self.now g.before) c.args.haystack.now place class c.requires.0 c.if-at-haystack.false c.class_of_byte-class.ensures.ascii c.class_of_byte-class.ensures.past) in
     fresh_at s is place c.args.at.row words c.args.was_found c.args.slots.now now.counted.walked at n row t (known_by_byte s is place class byte n t known).0
 
-pub end_row-requires-clause-register : goal.end_row-requires-clause-register
-end_row-requires-clause-register g c =
+pub lend-requires-2-clause-unless : goal.lend-requires-2-clause-unless
+lend-requires-2-clause-unless g c = λ x n k a tells e.
+    let q = tells.hits (keeps_hits x n k a tells (is_earliest c.args.self.now.input.now.kind) (length c.args.slots.now) c.args.more c.requires.1.0 e).0 in (q.0, q.1)
+
+pub end_row-requires : goal.end_row-requires
+end_row-requires g c =
     let now = c.lend.new.self in
-    let at = still_there c.args.self.now now g.before c.args.at c.args.registers.now c.args.was_found c.args.slots.now c.in_default.ensures.same c.in_default.ensures.kept c.requires.1.1.0 in
+    let same = c.in_default.ensures.same in
+    let at = still_there c.args.self.now now g.before c.args.at c.args.registers.now c.args.was_found c.args.slots.now same c.in_default.ensures.kept c.requires.1.1.1.0 in
     let lent = c.in_ok-lent.ensures.lent at.list at.row_is in
-    subst (λ r. r < with_spare) (sym lent.begins) (ends_there (asked now g.before) at.list c.class_of_byte-class.result lent.cell lent.tells lent.bits)
+    let more_is : c.args.more ≡ more_than_hits (is_earliest now.input.now.kind) (length c.args.slots.now) =
+    c.requires.1.0 ∙ ap (λ i. more_than_hits (is_earliest i.now.kind) (length c.args.slots.now)) (sym same.input) in
+    let hits = keeps_hits now.table.now at.list c.class_of_byte-class.result lent.cell lent.tells (is_earliest now.input.now.kind) (length c.args.slots.now) c.args.more more_is lent.bits in
+    record {
+      room = subst (λ w. with_spare * w ≤ length c.args.registers.now) hits.1.1 c.requires.1.1.1.1.1;
+      register = subst (λ r. r < with_spare) (sym lent.begins) (ends_there (asked now g.before) at.list c.class_of_byte-class.result lent.cell lent.tells hits.0);
+      width = hits.1.1;
+    }
 
 pub returns-clause-stands : goal.returns-clause-stands
 returns-clause-stands g c =
@@ -80,17 +92,19 @@ returns-clause-stands g c =
     let place = c.args.at.place in
     let class = c.class_of_byte-class.result in
     let s = asked now g.before in
-    let is = asked_still c.args.self.now now g.before same c.requires.1.0 in
-    let at = still_there c.args.self.now now g.before c.args.at words c.args.was_found c.args.slots.now same c.in_default.ensures.kept c.requires.1.1.0 in
+    let is = asked_still c.args.self.now now g.before same c.requires.1.1.0 in
+    let at = still_there c.args.self.now now g.before c.args.at words c.args.was_found c.args.slots.now same c.in_default.ensures.kept c.requires.1.1.1.0 in
     let byte : IsByte s place class = subst (λ (q : Asked). IsByte q place class) (sym (asked_same c.args.self.now now g.before same))
     (byte_at (asked c.args.self.now g.before) c.args.haystack.now place class c.requires.0 c.if-at-haystack.false c.class_of_byte-class.ensures.ascii c.class_of_byte-class.ensures.past) in
-    let late : is_earliest now.input.now.kind ≡ false = search rules in
-    let two = c.if-width-ne2.false in
-    let room = subst (λ w. with_spare * w ≤ length words) two c.requires.1.1.1.1 in
     let lent = c.in_ok-lent.ensures.lent at.list at.row_is in
+    let more_is : c.args.more ≡ more_than_hits (is_earliest now.input.now.kind) (length c.args.slots.now) =
+    c.requires.1.0 ∙ ap (λ i. more_than_hits (is_earliest i.now.kind) (length c.args.slots.now)) (sym same.input) in
+    let hits = keeps_hits now.table.now at.list c.class_of_byte-class.result lent.cell lent.tells (is_earliest now.input.now.kind) (length c.args.slots.now) c.args.more more_is lent.bits in
+    let two = hits.1.1 in
+    let room = subst (λ w. with_spare * w ≤ length words) two c.requires.1.1.1.1.1 in
     let left : c.end_row.new.slots ≡ slot_of (slice_index words (lent.cell.begins * 2)) ∷ Some place ∷ [] =
     c.end_row.ensures ∙ ap (λ r. slot_of (slice_index words (r * 2)) ∷ Some place ∷ []) lent.begins in
-    let on = hit_on s is place c.args.at.row words c.args.was_found c.args.slots.now now.counted.walked at class byte lent.cell lent.tells lent.bits late (sym c.requires.1.1.1.0 ∙ two) room in (
+    let on = hit_on s is place c.args.at.row words c.args.was_found c.args.slots.now now.counted.walked at class byte lent.cell lent.tells hits.0 hits.1.0 (sym c.requires.1.1.1.1.0 ∙ two) room in (
       subst (λ (l : List (Option ℕ)). StandsAt c.lend-2.new.self g.before (record { place = place + 1; row = c.in_ok-lent.lent.next }) words true l) (sym left)
           (lent_on now c.lend-2.new.self g.before place at.list class _ c.in_ok-lent.lent c.in_ok-lent.ensures.same lent words true _ on),
       omega arith,
