@@ -17,7 +17,7 @@ in_front b (c ∷ cs) =
     ap (put_in_front b) first
 
 -- the first line is what stands up to the first line feed, and the others are the lines after it
-lines_first : (b : ℕ) (bs : List ℕ) → lines_of (b ∷ bs) ≡ take_through 10 (b ∷ bs) ∷ lines_of (drop_through 10 (b ∷ bs))
+pub lines_first : (b : ℕ) (bs : List ℕ) → lines_of (b ∷ bs) ≡ take_through 10 (b ∷ bs) ∷ lines_of (drop_through 10 (b ∷ bs))
 lines_first b bs = ⊎_elim (λ is. rw is refl) (λ is. rw is (in_front b bs)) (cases_Bool (b == 10))
 
 line_first : (line ys : List ℕ) → 0 < length line → line ≡ take_through 10 ys → lines_of ys ≡ line ∷ lines_of (drop_through 10 ys)

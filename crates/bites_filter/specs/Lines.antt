@@ -1,5 +1,5 @@
 -- The lines of an input, and what is done with each in turn.
-use Rattle.std.specs.Prelude.{◌≡◌, ◌==◌, ℕ, ◌+◌, Bool, true, false, cond, List, [], ◌∷◌, ◌++◌, Option, Some, None, if◌then◌else◌}
+use Rattle.std.specs.Prelude.{◌≡◌, ◌==◌, ℕ, ◌+◌, Bool, true, false, cond, List, [], ◌∷◌, ◌++◌, length, Option, Some, None, if◌then◌else◌}
 use Rattle.std.specs.Io.BufRead.{ends_with_byte}
 
 -- the lines with a byte put before the first one
@@ -23,6 +23,12 @@ ReadsLine (Some xs) false line rest = lines_of xs ≡ []
 ReadsLine (Some xs) true line None = ⊥
 ReadsLine (Some xs) true line (Some ys) = lines_of xs ≡ line ∷ lines_of ys
 
+-- the last of the bytes, if there is one, is a line feed
+abbrev pub AreWhole : List ℕ → Type 0
+AreWhole [] = Unit {0}
+AreWhole (b ∷ []) = b ≡ 10
+AreWhole (b ∷ c ∷ cs) = AreWhole (c ∷ cs)
+
 module _ {S : Type 0} (Does : S → ℕ → List ℕ → List ℕ → Bool → S → Type 0) where
   -- The lines after the first n are done one after another. The texts that are written for them stand in their order, and
   -- `count` of the lines count.
@@ -32,6 +38,22 @@ module _ {S : Type 0} (Does : S → ℕ → List ℕ → List ℕ → Bool → S
       (first : List ℕ) × (counts : Bool) × (m : S) × (rest : List ℕ) × (others : ℕ)
       × Does s (n + 1) l first counts m × DoesEach (n + 1) ls m rest others t
       × (text ≡ first ++ rest) × (count ≡ cond counts 1 0 + others)
+
+  -- nothing is written for any of these lines, and none of them counts
+  abbrev pub AreIdle : S → List (List ℕ) → Type 0
+  AreIdle s [] = Unit {0}
+  AreIdle s (l ∷ ls) = ((n : ℕ) → Does s n l [] false s) × AreIdle s ls
+
+  -- the bytes are whole lines for which there is nothing to do
+  abbrev pub IsNothingFor : S → List ℕ → Type 0
+  IsNothingFor s bytes = AreWhole bytes × AreIdle s (lines_of bytes)
+
+  -- If the remaining bytes are known, they lose so many lines for which there is nothing to do.
+  abbrev pub SkipsLines : S → Option (List ℕ) → ℕ → Option (List ℕ) → Type 0
+  SkipsLines s None count rest = Unit {0}
+  SkipsLines s (Some xs) count None = ⊥
+  SkipsLines s (Some xs) count (Some ys) =
+      (skipped : List ℕ) × (xs ≡ skipped ++ ys) × IsNothingFor s skipped × (count ≡ length (lines_of skipped))
 
 -- each line is written as `Writes` says, and what is written for them stands in their order
 abbrev pub AreWritten : (List ℕ → List ℕ → Type 0) → List (List ℕ) → List ℕ → Type 0

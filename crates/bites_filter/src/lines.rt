@@ -1,19 +1,28 @@
 //! The lines of an input, one after another.
 
-ghost use Rattle.std.specs.Prelude.{◌≡◌, ℕ, List, Bool, IfOk, IfSome};
+ghost use Rattle.std.specs.Prelude.{◌≡◌, ◌+◌, ◌≤◌, ℕ, List, Bool, IfOk, IfSome, length, take};
 ghost use Rattle.std.specs.Io.KnownBytes.{Appends};
 ghost use Rattle.std.specs.Io.BufRead.{strip_last};
-ghost use Rattle.bites_filter.specs.Lines.{lines_of, line_feed_of, ReadsLine, DoesEach};
+ghost use Rattle.bites_filter.specs.Lines.{lines_of, line_feed_of, AreWhole, IsNothingFor, ReadsLine, SkipsLines, DoesEach};
 
 use crate::fault::Fault;
 use std::alloc::Global;
-use std::io::{self, BufRead, Write};
+use std::io::{self, BufRead, ErrorKind, Write};
 
 /// What a program does with each line of its input.
 pub trait LineTask {
     /// Relates a state, the number of a line, the line with the line feed that ends it, the bytes that are written for
     /// it, whether it counts, and the state after it.
     ghost does: { Self → ℕ → List ℕ → List ℕ → Bool → Self → Type 0 };
+
+    /// Returns how many bytes at the front of a buffer are lines for which there is nothing to do: nothing is written for
+    /// them, and none counts. They end with a line feed.
+    fn skip(&self, _buffer: &[u8]) -> usize
+        ensures within { result ≤ length _buffer.now }
+        ensures nothing { IsNothingFor does self.now (take result _buffer.now) }
+    {
+        0
+    }
 
     /// Does the work of one line. Returns whether the line counts. The error is that of the writer, or out of memory.
     fn line<W: Write>(&mut self, number: u64, line: &[u8], out: &mut W) -> io::Result<bool>
@@ -36,16 +45,72 @@ pub fn each_line<T: LineTask, R: BufRead, W: Write>(
         × Appends (W.contents out.old) (W.contents out.new) text)) }
 {
     let mut line = Vec::new(alloc);
+    let mut number = 0;
     let mut count = 0;
-    for number in 0..u64::MAX {
+    'lines: for _ in 0..u64::MAX {
+        number = number_after(number, skip_lines(task, input)?)?;
         if !next_line(input, &mut line)? {
             return Ok(count);
         }
-        if do_line(task, number + 1, &line, out)? {
+        number = number_after(number, 1)?;
+        if do_line(task, number, &line, out)? {
             count += 1;
         }
     }
     Err(Fault::too_long())
+}
+
+/// Skips lines that the task has nothing to do for, at the front of what is read and not yet consumed. Returns how many.
+///
+/// What is read may end within a line, so lines may follow that it doesn't skip though there is nothing to do for them.
+pub fn skip_lines<T: LineTask, R: BufRead>(task: &T, input: &mut R) -> Result<u64, Fault>
+    ensures { IfOk result (λ count. SkipsLines T.does task.now (R.Read.remaining input.old) count
+        (R.Read.remaining input.new)) }
+{
+    let buffer = match input.fill_buf() {
+        Ok(buffer) => buffer,
+        Err(error) if error.kind() == ErrorKind::Interrupted => return Ok(0),
+        Err(error) => return Err(Fault::of_reading(error)),
+    };
+    let end = task.skip(buffer);
+    let count = count_lines(&buffer[..end]);
+    input.consume(end);
+    Ok(count)
+}
+
+// Returns the number of the line so many lines after one of this number.
+fn number_after(number: u64, lines: u64) -> Result<u64, Fault>
+    ensures { IfOk result (λ n. n ≡ number + lines) }
+{
+    match number.checked_add(lines) {
+        Some(number) => Ok(number),
+        None => Err(Fault::too_long()),
+    }
+}
+
+// Returns how many lines these bytes are, if a line feed ends each of them.
+fn count_lines(bytes: &[u8]) -> u64
+    ensures { AreWhole bytes.now → result ≡ length (lines_of bytes.now) }
+{
+    let mut count = 0;
+    for byte in bytes {
+        if *byte == b'\n' {
+            count += 1;
+        }
+    }
+    count
+}
+
+/// Returns how many bytes there are up to the last line feed, with it.
+pub fn len_of_lines(bytes: &[u8]) -> usize
+    ensures within { result ≤ length bytes.now }
+    ensures whole { AreWhole (take result bytes.now) }
+{
+    let mut end = bytes.len();
+    'bytes: while end > 0 && bytes[end - 1] != b'\n' {
+        end -= 1;
+    }
+    end
 }
 
 /// Reads the next line, with the line feed that ends it, into `line`, which is cleared first. Returns whether there was

@@ -4,5 +4,6 @@ pub mod FactLemmas
 pub mod CharacterFacts
 pub mod PlaceLemmas
 pub mod BeginLemmas
+pub mod CandidateLemmas
 pub mod LawLemmas
 pub mod ChoiceLemmas

@@ -1,5 +1,5 @@
 -- From where a search for a match has to begin.
-use Rattle.std.specs.Prelude.{◌≡◌, ℕ, ◌+◌, ◌-◌, ◌<◌, ◌≤◌, ◌⊎◌, max, List, length, slice_index, Option, Some, None, IfSome}
+use Rattle.std.specs.Prelude.{◌≡◌, ℕ, ◌+◌, ◌-◌, ◌<◌, ◌≤◌, ◌⊎◌, max, List, ◌++◌, length, slice_index, Option, Some, None, IfSome}
 use Rattle.bites_spec.specs.Walks.{Among}
 use Rattle.bites_spec.specs.Utf8.{places}
 use Rattle.bites_spec.specs.Tree.{Tree}
@@ -88,3 +88,14 @@ abbrev pub IsBack : Reach → List ℕ → (start from at : ℕ) → Type 0
 IsBack (Bytes n) hay start from at = IsBackAtAscii hay start (max (from - n) start) at
 IsBack (While set) hay start from at = IsBackWhile set hay start from at
 IsBack Haystack hay start from at = at ≡ start
+
+-- no part of the haystack that lies from `start` on and ends before `end` matches, if it is searched as a haystack of its own
+abbrev pub NoPartMatches : Tree → List ℕ → (start end : ℕ) → Type 0
+NoPartMatches t hay start end =
+    (before part after : List ℕ) → hay ≡ before ++ (part ++ after) → start ≤ length before → length before + length part < end →
+    NoMatch t part (places part 0)
+
+-- no part matches that ends before this offset, or none at all
+abbrev pub IsCandidate : Tree → List ℕ → ℕ → Option ℕ → Type 0
+IsCandidate t hay start None = NoPartMatches t hay start (length hay + 1)
+IsCandidate t hay start (Some p) = (start ≤ p) × (p ≤ length hay) × NoPartMatches t hay start p

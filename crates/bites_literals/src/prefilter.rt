@@ -2,7 +2,7 @@
 
 ghost use Rattle.std.specs.Prelude.{◌≡◌, ℕ, ◌⊎◌, ◌<◌, ◌≤◌, length, slice_index, IfSome};
 ghost use Rattle.bites_spec.specs.Tree as spec;
-ghost use Rattle.bites_literals.specs.Begins.{BeginsBy, IsPrefilter, IsNear, IsEnd, IsWithin, IsBack, IsBackAtAscii, IsBackWhile, IsReachOf};
+ghost use Rattle.bites_literals.specs.Begins.{BeginsBy, IsPrefilter, IsNear, IsEnd, IsCandidate, IsWithin, IsBack, IsBackAtAscii, IsBackWhile, IsReachOf};
 ghost use Rattle.bites_literals.specs.Choice.{BeginsWithOne};
 ghost use Rattle.bites_literals.specs.Facts.{AreFacts};
 
@@ -132,6 +132,23 @@ impl Prefilter {
         }
     }
 
+    /// Returns an offset from `start` on such that no part of the haystack matches that lies from `start` on and ends before
+    /// it, if that part is searched as a haystack of its own: no line, say. Returns `None` if no part from `start` on matches.
+    ///
+    /// It searches for the literal, or for the first of several, and returns the offset that the search comes to.
+    pub fn candidate(&self, haystack: &[u8], start: usize) -> Option<usize>
+        requires { start ≤ length haystack.now }
+        ensures { (t : spec.Tree) → IsPrefilter t self.now → IsCandidate t haystack.now start result }
+    {
+        if let Some(near) = &self.near {
+            return near.candidate(haystack, start);
+        }
+        match &self.choice {
+            Some(set) => candidate_by_set(set, haystack, start),
+            None => Some(start),
+        }
+    }
+
     /// Returns from where the search has to begin by literals alone.
     fn begin_by_literal(&self, haystack: &[u8], start: usize) -> Begin
         requires { start ≤ length haystack.now }
@@ -193,6 +210,18 @@ impl Near {
         };
         Begin::From(self.reach.back(haystack, start, at))
     }
+
+    /// Returns an offset such that no part before it matches.
+    fn candidate(&self, haystack: &[u8], start: usize) -> Option<usize>
+        requires { start ≤ length haystack.now }
+        ensures { (t : spec.Tree) → IsNear t self.now → IsCandidate t haystack.now start result }
+    {
+        match self.literal.search(haystack, start) {
+            Outcome::Found(at) => Some(at),
+            Outcome::Tired(at) => Some(at),
+            Outcome::Nowhere => None,
+        }
+    }
 }
 
 impl Reach {
@@ -247,6 +276,18 @@ fn begin_by_set(set: &LiteralSet, haystack: &[u8], start: usize) -> Begin
         Outcome::Nowhere => return Begin::Nowhere,
     };
     Begin::From(back_to_ascii(haystack, start, at))
+}
+
+/// Returns an offset such that no part before it matches, if each match begins with a literal of the set.
+fn candidate_by_set(set: &LiteralSet, haystack: &[u8], start: usize) -> Option<usize>
+    requires { start ≤ length haystack.now }
+    ensures { (t : spec.Tree) → BeginsWithOne t set.now → IsCandidate t haystack.now start result }
+{
+    match set.search(haystack, start) {
+        Outcome::Found(at) => Some(at),
+        Outcome::Tired(at) => Some(at),
+        Outcome::Nowhere => None,
+    }
 }
 
 /// Goes back to a byte of ASCII, or to the start.

@@ -63,6 +63,9 @@ fn search_file<'n, W: Write>(
     }
 }
 
+// How many bytes are read at once.
+const BUFFER: usize = 1 << 16;
+
 // Searches an input through a buffer. Returns whether a line is selected.
 fn search_input<R: Read + Drop, W: Write>(
     rt: &HostRuntime,
@@ -70,6 +73,6 @@ fn search_input<R: Read + Drop, W: Write>(
     input: R,
     out: &mut W,
 ) -> Result<bool, Fault> {
-    let mut input = open(BufReader::new(rt.alloc(), input))?;
+    let mut input = open(BufReader::with_capacity(rt.alloc(), BUFFER, input))?;
     search(rt.alloc(), filter, &mut input, out)
 }

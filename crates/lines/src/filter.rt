@@ -9,7 +9,7 @@ use crate::options::{Format, Show};
 use crate::shown::{write_ending, write_name, write_shown};
 use bites_bytes::bytes::Searcher;
 use bites_filter::fault::Fault;
-use bites_filter::lines::{LineTask, each_line, next_line, without_line_feed};
+use bites_filter::lines::{LineTask, each_line, len_of_lines, next_line, skip_lines, without_line_feed};
 use std::alloc::Global;
 use std::io::{self, BufRead, Write};
 
@@ -41,6 +41,16 @@ impl<'n> LineTask for Filter<'n> {
     ghost use Rattle.lines.specs.Filtered.{Filters};
 
     ghost does = { Filters };
+
+    fn skip(&self, buffer: &[u8]) -> usize {
+        if self.invert {
+            return 0;
+        }
+        match self.searcher.regex().find_candidate_at(buffer, 0) {
+            Some(at) => len_of_lines(&buffer[..at]),
+            None => len_of_lines(buffer),
+        }
+    }
 
     fn line<W: Write>(&mut self, number: u64, line: &[u8], out: &mut W) -> io::Result<bool> {
         if !self.selects(line) {
@@ -113,6 +123,7 @@ fn any_line<R: BufRead>(
 {
     let mut line = Vec::new(alloc);
     for _ in 0..u64::MAX {
+        skip_lines(filter, input)?;
         if !next_line(input, &mut line)? {
             return Ok(false);
         }

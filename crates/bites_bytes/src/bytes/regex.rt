@@ -12,7 +12,7 @@ ghost use Rattle.bites_bytes.specs.Parts.{regex_of};
 ghost use Rattle.bites_syntax.specs.FlagsView.{flags_of};
 ghost use Rattle.bites_bytes.specs.Settings.{Refuses};
 ghost use Rattle.bites_table.specs.Packed.{IsTableOf};
-ghost use Rattle.bites_literals.specs.Begins.{IsPrefilter};
+ghost use Rattle.bites_literals.specs.Begins.{IsCandidate, IsPrefilter};
 
 use crate::bytes::builder::NEST_LIMIT;
 use crate::bytes::{CaptureNames, RegexBuilder};
@@ -182,7 +182,7 @@ impl Model for Regex {
     ghost use Rattle.bites_syntax.specs.TreeCode.{tree_code};
     ghost use Rattle.bites_spec.specs.Regex as spec;
     ghost use Rattle.bites_table.specs.Packed.{IsTableOf};
-    ghost use Rattle.bites_literals.specs.Begins.{IsPrefilter};
+    ghost use Rattle.bites_literals.specs.Begins.{IsCandidate, IsPrefilter};
 
     ghost Value = { spec.Regex };
 
@@ -312,6 +312,36 @@ impl Regex {
         match literal.begin(haystack, start) {
             Begin::From(place) => place,
             Begin::Nowhere => haystack.len() + 1,
+        }
+    }
+
+    /// Returns an offset in bytes from `start` on such that no part of the haystack matches that lies from `start` on and
+    /// ends before it, if that part is searched as a haystack of its own. Returns `None` if no part from `start` on matches.
+    ///
+    /// A filter of lines asks it to skip lines that can't match: a line that ends before the offset doesn't match, and the
+    /// line that the offset lies in may match. With [`RegexBuilder::prefilter`] the offset is where a literal stands that
+    /// each match holds, or where the search for it was given up. Without it, or if the pattern has no such literal, the
+    /// offset is `start`. The time is at most linear in the bytes from `start` up to the offset.
+    ///
+    /// ```rust
+    /// let mut builder = RegexBuilder::new(rt.alloc(), r"^Mary\b")?;
+    /// let regex = builder.prefilter(true).build()?;
+    /// let at = regex.find_candidate_at(b"Tom\nMary\nSue\n", 0).ok_or("no line")?;
+    /// assert_eq!(rt; at, 4);
+    /// assert!(rt; regex.find_candidate_at(b"Tom\nSue\n", 0).is_none());
+    /// ```
+    pub fn find_candidate_at(&self, haystack: &[u8], start: usize) -> Option<usize>
+        ensures { IsCandidate self.now.tree haystack.now start result }
+    {
+        if start > haystack.len() {
+            return None;
+        }
+        if !self.prefilter {
+            return Some(start);
+        }
+        match &self.literal {
+            Some(literal) => literal.candidate(haystack, start),
+            None => Some(start),
         }
     }
 
