@@ -29,6 +29,9 @@ pub struct Prefilter {
     near: Option<Near>,
     /// Literals such that each match begins with one of them. They take two kilobytes, so they stand elsewhere.
     choice: Option<Box<LiteralSet>>,
+    /// Whether a search looks for them. Not if each match begins at the start of the haystack, or near its end, which bounds the
+    /// search more.
+    asks: bool,
 }
 
 /// What is known of matches if each of them ends at the end of the haystack.
@@ -74,26 +77,27 @@ impl Prefilter {
         ensures { IfSome result (λ prefilter. IsPrefilter tree.now prefilter) }
     {
         if is_at_start(tree) {
-            return None;
+            let near = Near::of(&facts_of(tree));
+            return Prefilter::of_parts(None, near, None, false);
         }
         if is_choice(tree) && !is_at_end(tree) {
-            return Prefilter::of_parts(None, None, set_of(alloc, tree));
+            return Prefilter::of_parts(None, None, set_of(alloc, tree), true);
         }
         let facts = facts_of(tree);
         let end = End::of(&facts);
-        if facts.ends && facts.most.is_some() {
-            return Prefilter::of_parts(end, None, None);
-        }
         let near = Near::of(&facts);
+        if facts.ends && facts.most.is_some() {
+            return Prefilter::of_parts(end, near, None, false);
+        }
         let choice = if near.is_none() || may_choose(&facts) {
             set_of(alloc, tree)
         } else {
             None
         };
         if choice.is_some() {
-            return Prefilter::of_parts(end, None, choice);
+            return Prefilter::of_parts(end, None, choice, true);
         }
-        Prefilter::of_parts(end, near, None)
+        Prefilter::of_parts(end, near, None, true)
     }
 
     /// Returns a prefilter of these parts, if one of them is there.
@@ -101,6 +105,7 @@ impl Prefilter {
         end: Option<End>,
         near: Option<Near>,
         choice: Option<Box<LiteralSet>>,
+        asks: bool,
     ) -> Option<Prefilter>
         ensures { (t : spec.Tree) → IfSome end (IsEnd t) → IfSome near (IsNear t) →
             IfSome choice (λ set. BeginsWithOne t set.value) → IfSome result (IsPrefilter t) }
@@ -108,7 +113,12 @@ impl Prefilter {
         if end.is_none() && near.is_none() && choice.is_none() {
             return None;
         }
-        Some(Prefilter { end, near, choice })
+        Some(Prefilter {
+            end,
+            near,
+            choice,
+            asks,
+        })
     }
 
     /// Returns from where a search of the haystack has to begin that may begin at `start`.
@@ -155,6 +165,9 @@ impl Prefilter {
         ensures within { IsWithin result (length haystack.now) }
         ensures begins { (t : spec.Tree) → IsPrefilter t self.now → BeginsBy t haystack.now start result }
     {
+        if !self.asks {
+            return Begin::From(start);
+        }
         if let Some(near) = &self.near {
             return near.begin(haystack, start);
         }
