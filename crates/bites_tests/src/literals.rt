@@ -1,5 +1,6 @@
 //! From where a search has to begin, by the literals of its pattern.
 
+use bites_bytes::bytes::RegexBuilder;
 use bites_literals::prefilter::{Begin, Prefilter};
 use bites_syntax::parse::{Flags, parse};
 use bites_text::error::Error;
@@ -174,6 +175,27 @@ fn has_none(rt: HostRuntime) -> Result<(), Error> {
         "^[a-c]$",
     ] {
         assert!(rt; prefilter(rt.alloc(), pattern)?.is_none());
+    }
+    Ok(())
+}
+
+/// Where a line may match, by the literals of a pattern. Each row has a pattern, a haystack, a start and the offset. All were worked
+/// out by hand.
+#[test]
+fn candidates_by_hand(rt: HostRuntime) -> Result<(), Error> {
+    for (pattern, haystack, start, candidate) in &[
+        ("^Mary$", "Tom\nMary\n", 0, Some(4)),
+        ("^Mary$", "Tom\nMary\n", 5, None),
+        ("^Mary$", "Mary", 5, None),
+        ("[0-9]+ ms", "took 12 s\ntook 7 ms\n", 0, Some(16)),
+        ("(?i)mary", "Tom\nMARY\n", 0, Some(4)),
+        ("holmes|watson", "a\nb watson\n", 0, Some(4)),
+        ("^[a-z]", "Tom\nMary\n", 2, Some(2)),
+        ("[a-z]+ing$", "sing\nsong\n", 1, Some(1)),
+    ] {
+        let mut builder = RegexBuilder::new(rt.alloc(), pattern)?;
+        let regex = builder.prefilter(true).build()?;
+        assert_eq!(rt; regex.find_candidate_at(haystack.as_bytes(), *start), *candidate);
     }
     Ok(())
 }
