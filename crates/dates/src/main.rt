@@ -1,10 +1,11 @@
 //! Writes the month and the year of the first date in each line of standard input that has one.
 #![tactic(auto)]
 
-use regex_bites::{Regex, Searcher};
+use regex_bites::{RegexBuilder, Searcher};
 
 fn main(rt: HostRuntime) -> anyhow::Result<()> {
-    let mut dates = Searcher::new(Regex::new(rt.alloc(), r"(?<year>\d{4})-(?<month>\d{2})")?)?;
+    let mut builder = RegexBuilder::new(rt.alloc(), r"(?<year>\d{4})-(?<month>\d{2})")?;
+    let mut dates = Searcher::new(builder.prefilter(true).build()?)?;
     for line in rt.lines(rt.alloc()) {
         let line = line?;
         if let Some(date) = dates.captures(&line)? {
