@@ -6,7 +6,7 @@ mod fault;
 mod request;
 
 use answer::{Outcome, write_answer};
-use bites_bytes::bytes::Regex;
+use bites_bytes::bytes::{Regex, RegexBuilder};
 use fault::Fault;
 use request::Request;
 use std::alloc::Global;
@@ -58,7 +58,8 @@ fn command<R: Read, W: Write>(
     out: &mut W,
 ) -> Result<Outcome, Fault> {
     let request = Request::read(words)?;
-    let regex = Regex::new(alloc, request.pattern)?;
+    let mut builder = RegexBuilder::new(alloc, request.pattern)?;
+    let regex = builder.prefilter(true).build()?;
     let haystack = read_all(alloc, input)?;
     match write_buffered(alloc, &regex, request, haystack.as_slice(), out) {
         Ok(outcome) => Ok(outcome),
