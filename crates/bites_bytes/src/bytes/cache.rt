@@ -2,7 +2,7 @@
 
 ghost use Rattle.std.specs.Prelude.{◌≡◌, ◌⊎◌, ◌↔◌, ◌≤◌, ◌<◌, ◌+◌, ◌^◌, length, option_map, is_some, IsTrue, IfOk, Some};
 ghost use Rattle.bites_spec.specs.Counts.{fit_of, fit_with, IsSlotCount};
-ghost use Rattle.bites_bytes.specs.Calls.{SearchedWithin};
+ghost use Rattle.bites_bytes.specs.Calls.{BeginsAt, SearchedWithin};
 ghost use Rattle.bites_bytes.specs.Rooms.{HasRoom};
 ghost use Rattle.bites_spec.specs.Captured.{FindsMatch};
 ghost use Rattle.bites_spec.specs.Match.{span};
@@ -25,6 +25,45 @@ use std::alloc::AllocError;
 use std::fmt;
 use std::marker::Model;
 
+// How many bytes from its start on a search comes as far by itself as a search for a literal would take it.
+const NEAR: usize = 16;
+
+// After how many searches in a row with a literal so close to the start others leave it out, and how many do.
+const PATIENCE: u8 = 8;
+
+const LEFT_OUT: u8 = 16;
+
+// Which searches leave the literal out, since it stood close to the starts of those before. Only speed depends on it.
+#[derive(Clone, Copy, Drop)]
+struct Pause {
+    // How many searches in a row found it there.
+    near: u8,
+    // How many searches to come leave it out.
+    left: u8,
+}
+
+impl Pause {
+    // Returns whether the next search looks for a literal.
+    fn is_over(&mut self) -> bool {
+        if self.left == 0 {
+            return true;
+        }
+        self.left -= 1;
+        false
+    }
+
+    // Counts a search that has to begin so many bytes behind its start, or that finds nothing.
+    fn count(&mut self, passed: Option<usize>) {
+        if passed.is_none_or(|passed| passed >= NEAR) {
+            self.near = 0;
+        } else if self.near < PATIENCE {
+            self.near += 1;
+        } else {
+            self.left = LEFT_OUT;
+        }
+    }
+}
+
 /// The memory of searches, made by [`Regex::cache`] and reused by the methods whose names end in `_with`.
 ///
 /// No search makes it larger, and none changes what a later search returns.
@@ -32,12 +71,13 @@ use std::marker::Model;
 /// For proofs: a contract sees which regexes it fits, and what the last search visited.
 pub struct Cache {
     room: cache::Cache,
+    pause: Pause,
 }
 
 // A caller that drops one relies on this function, and on no type below it.
 impl Drop for Cache {
     fn drop(self) {
-        let Cache { room: _ } = self;
+        let Cache { room: _, pause: _ } = self;
     }
 }
 
@@ -55,6 +95,7 @@ impl Cache {
     {
         Ok(Cache {
             room: cache::Cache::new(program)?,
+            pause: Pause { near: 0, left: 0 },
         })
     }
 
@@ -64,6 +105,7 @@ impl Cache {
     {
         Ok(Cache {
             room: cache::Cache::for_slots(program, slots)?,
+            pause: Pause { near: 0, left: 0 },
         })
     }
 
@@ -82,11 +124,30 @@ impl Cache {
         }
         let later = Input {
             haystack: input.haystack,
-            start: regex.begin(input.haystack, input.start),
+            start: self.begin(regex, input.haystack, input.start),
             anchored: false,
             kind: input.kind,
         };
         self.explore(regex, &later, slots)
+    }
+
+    // Returns from where a search explores that may begin at `start`. The literal is left out for some searches if it stood close
+    // to the starts of many before, so that searches for frequent literals take as long as those without.
+    fn begin(&mut self, regex: &Regex, haystack: &[u8], start: usize) -> usize
+        ensures begins { BeginsAt regex.now haystack.now start result }
+        ensures same { self.new ≡ self.old }
+    {
+        if !self.pause.is_over() {
+            return start;
+        }
+        let place = regex.begin(haystack, start);
+        let passed = if place > haystack.len() {
+            None
+        } else {
+            Some(place.saturating_sub(start))
+        };
+        self.pause.count(passed);
+        place
     }
 
     // Searches from the start of the input on, with the table of the regex if there is one.
