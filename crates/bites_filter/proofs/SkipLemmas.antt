@@ -29,7 +29,7 @@ first_line b (c ∷ cs) whole = ⊎_elim
 put_append : (b : ℕ) (l : List ℕ) (ls others all : List (List ℕ)) → all ≡ l ∷ ls → put_in_front b (all ++ others) ≡ put_in_front b all ++ others
 put_append b l ls others all is = subst (λ a. put_in_front b (a ++ others) ≡ put_in_front b a ++ others) (sym is) refl
 
-lines_append : (xs ys : List ℕ) → AreWhole xs → lines_of (xs ++ ys) ≡ lines_of xs ++ lines_of ys
+pub lines_append : (xs ys : List ℕ) → AreWhole xs → lines_of (xs ++ ys) ≡ lines_of xs ++ lines_of ys
 lines_append [] ys whole = refl
 lines_append (b ∷ []) ys is = subst (λ c. lines_of (c ∷ ys) ≡ lines_of (c ∷ []) ++ lines_of ys) (sym is) refl
 lines_append (b ∷ c ∷ cs) ys whole = ⊎_elim

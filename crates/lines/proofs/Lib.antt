@@ -1,3 +1,4 @@
 mod AnyLemmas
+mod SkipLemmas
 mod ShownLemmas
 mod FilterLemmas
