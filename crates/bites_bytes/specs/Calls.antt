@@ -11,6 +11,7 @@ use Rattle.bites_spec.specs.Regex.{Regex, slots_at}
 use Rattle.bites_spec.specs.Captured.{Excerpt, Captured, captured, AreGroups, AreGroupsFrom, FindsGroups, FindsMatch}
 use Rattle.bites_spec.specs.Full.{full_slots, FindsGroupsFull}
 use Rattle.bites_spec.specs.Iteration.{spans_after, captures_after}
+pub use Rattle.bites_literals.specs.Begins.{NoPartMatches, IsCandidate}
 
 -- where the regex has no table, each visit was a reading of a state
 abbrev pub ReadsEach : Regex → Record → Type 0

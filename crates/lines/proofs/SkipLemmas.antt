@@ -6,7 +6,7 @@ use Rattle.std.specs.Io.BufRead.{ends_with_byte, strip_last}
 use Rattle.bites_spec.specs.Tree.{Tree}
 use Rattle.bites_spec.specs.Utf8.{places}
 use Rattle.bites_spec.specs.Found.{NoMatch}
-use Rattle.bites_literals.specs.Begins.{NoPartMatches}
+use Rattle.bites_bytes.specs.Calls.{NoPartMatches}
 use Rattle.bites_filter.specs.Lines.{lines_of, AreWhole, AreIdle, SkipsLines}
 use Rattle.bites_filter.proofs.SkipLemmas.{first_line, lines_append}
 use Rattle.lines.specs.declared.filter.Filter.{Filter}

@@ -6,13 +6,13 @@ ghost use Rattle.bites_spec.specs.Measure.{groups_left, static_captures_len};
 ghost use Rattle.bites_spec.specs.Regex.{IsCompiled, NamesAreKept, with_prefilter, with_table};
 ghost use Rattle.bites_spec.specs.Expansion.{index_in};
 ghost use Rattle.bites_spec.specs.Settings.{Accepts, by_default, no_flags};
-ghost use Rattle.bites_bytes.specs.Calls.{BeginsAt};
+ghost use Rattle.bites_bytes.specs.Calls.{BeginsAt, IsCandidate};
 ghost use Rattle.bites_bytes.specs.NextMatch.{kind_of};
 ghost use Rattle.bites_bytes.specs.Parts.{regex_of};
 ghost use Rattle.bites_syntax.specs.FlagsView.{flags_of};
 ghost use Rattle.bites_bytes.specs.Settings.{Refuses};
 ghost use Rattle.bites_table.specs.Packed.{IsTableOf};
-ghost use Rattle.bites_literals.specs.Begins.{IsCandidate, IsPrefilter};
+ghost use Rattle.bites_literals.specs.Begins.{IsPrefilter};
 
 use crate::bytes::builder::NEST_LIMIT;
 use crate::bytes::{CaptureNames, RegexBuilder};
@@ -182,7 +182,7 @@ impl Model for Regex {
     ghost use Rattle.bites_syntax.specs.TreeCode.{tree_code};
     ghost use Rattle.bites_spec.specs.Regex as spec;
     ghost use Rattle.bites_table.specs.Packed.{IsTableOf};
-    ghost use Rattle.bites_literals.specs.Begins.{IsCandidate, IsPrefilter};
+    ghost use Rattle.bites_literals.specs.Begins.{IsPrefilter};
 
     ghost Value = { spec.Regex };
 
