@@ -5,12 +5,13 @@ ghost use Rattle.bites_spec.specs.Counts.{HasRoomFor};
 ghost use Rattle.bites_spec.specs.Walks.{Among};
 ghost use Rattle.bites_machine.specs.Inputs.{is_earliest, is_longest};
 ghost use Rattle.bites_machine.specs.States.{states_of};
+ghost use Rattle.bites_machine.specs.SlotTable.{no_slot};
 ghost use Rattle.bites_table.specs.Kinds.{kind_of};
 ghost use Rattle.bites_table.specs.Steps.{with_spare};
 ghost use Rattle.bites_table.specs.Built.{frame_of};
 ghost use Rattle.bites_table.specs.Packed.{Packed, IsRow, IsKnown, Tells, row_of, lists_in, stride, mask_of, IsPartOf, unknown};
 ghost use Rattle.bites_table.specs.Standing.{IsAsked, IsOver, slots_after};
-ghost use Rattle.bites_table.specs.Searches.{asked, more_than_hits, IsSame, Held, IsHeldAt, StandsAt, IsLent, IsFresh, TurnsTo, StopsSo};
+ghost use Rattle.bites_table.specs.Searches.{asked, more_than_hits, RunsAct, IsSame, Held, IsHeldAt, StandsAt, IsLent, IsFresh, TurnsTo, StopsSo};
 ghost use Rattle.bites_spec.specs.Look.{before};
 ghost use Rattle.bites_table.specs.Explored.{number_in};
 ghost use Rattle.bites_table.specs.declared.table.cell.Cell as cell;
@@ -19,7 +20,7 @@ use crate::search::place::{kind_before, piece_at};
 use crate::steps::{begin_row, end_row, run_steps, write_row};
 use crate::table::Table;
 use crate::table::act::Act;
-use crate::table::cell::{ALL, Cell, MORE, UNKNOWN, mask};
+use crate::table::cell::{ALL, Cell, MORE, STEPS, UNKNOWN, mask};
 use bites_machine::program::Program;
 use bites_machine::vm::{self, Counted, Input, MatchKind, Resumed};
 
@@ -143,8 +144,9 @@ impl Search<'_> {
         }
     }
 
-    // Goes on over one place of the haystack where nothing is to be done but to begin a row of two slots, or to end one as somebody
-    // comes to a match. Returns whether something is found, too. The haystack and the bits of `more` are read once for all places.
+    // Goes on over one place of the haystack where nothing is to be done but to begin a row of two slots, to end one as somebody
+    // comes to a match, or to run steps. Returns whether something is found, too. The haystack and the bits of `more` are read once
+    // for all places.
     #[inline(always)]
     pub(crate) fn pass_one(
         &mut self,
@@ -181,18 +183,29 @@ impl Search<'_> {
                 was_found,
             ));
         }
-        let lent = self.lend(at, class, more)?;
-        end_row(registers, lent.begins, at.place, slots);
+        if let Some(lent) = self.lend(at, class, more) {
+            end_row(registers, lent.begins, at.place, slots);
+            return Some((
+                Standing {
+                    place: at.place + 1,
+                    row: lent.next,
+                },
+                true,
+            ));
+        }
+        let lent = self.lend(at, class, STEPS)?;
+        run_act(self.table, lent.act, registers, width, at.place);
         Some((
             Standing {
                 place: at.place + 1,
                 row: lent.next,
             },
-            true,
+            was_found,
         ))
     }
 
-    // Goes on while nothing is to be done but to begin or end a row of two slots. Returns whether something is found, too.
+    // Goes on while nothing is to be done but to begin or end a row of two slots, or to run steps. Returns whether something is found,
+    // too.
     #[inline(always)]
     fn pass(
         &mut self,
@@ -418,6 +431,18 @@ impl Search<'_> {
             is_found = found;
         }
     }
+}
+
+// Runs the steps of what a transition does, which has this number, at a place.
+#[inline(always)]
+fn run_act(table: &Table, act: usize, registers: &mut [usize], width: usize, place: usize)
+    requires act { act < length table.now.acts }
+    requires room { with_spare * width ≤ length registers.old }
+    requires place { place < no_slot }
+    ensures { RunsAct table.now act width place registers.old registers.new }
+{
+    let act = table.act(act);
+    run_steps(table.steps(act.steps), registers, width, place);
 }
 
 // Keeps the slots of a thread that comes to a match. Returns whether something is found.
