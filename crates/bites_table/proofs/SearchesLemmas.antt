@@ -26,7 +26,7 @@ use Rattle.bites_table.specs.declared.table.act.Act.{Act}
 use Rattle.bites_table.specs.declared.thread_list.Frame.{Frame}
 use Rattle.bites_table.specs.Transition.{Transition, source_at}
 use Rattle.bites_table.specs.Graph.{transition_in}
-use Rattle.bites_table.specs.Packed.{Packed, table_in, classes_in, lists_in, stride, row_of, mask_of, unknown, more, more_than_steps, is_dead, Tells, IsCell, thread_with_register}
+use Rattle.bites_table.specs.Packed.{Packed, table_in, classes_in, lists_in, stride, row_of, mask_of, unknown, more, more_than_steps, is_dead, Tells, IsCell, IsKnown, thread_with_register}
 use Rattle.bites_table.specs.Stays.{Stays, IsSkip, IsRest}
 use Rattle.bites_table.specs.Standing.{Asked, IsAsked, IsAt, IsAtRow, IsOver, transition_from, ends_after, slots_after, AreMoved}
 use Rattle.bites_machine.specs.Inputs.{is_earliest, is_longest}
@@ -45,7 +45,7 @@ use Rattle.bites_table.specs.Table.{starts_of}
 use Rattle.bites_machine.specs.SlotTable.{slot_of}
 use Rattle.bites_table.proofs.RowLemmas.{ended-row}
 use Rattle.bites_table.proofs.TransitionLemmas.{walked_is}
-use Rattle.bites_table.specs.Searches.{asked, more_than_hits, RunsAct, IsSame, StandsAt, Held, IsHeldAt, IsLent, StopsSo}
+use Rattle.bites_table.specs.Searches.{asked, more_to_do, RunsAct, IsSame, StandsAt, Held, IsHeldAt, IsLent, StopsSo}
 use Rattle.bites_table.specs.declared.search.record.Lent.{Lent}
 use Rattle.bites_table.specs.declared.search.record.Standing.{Standing}
 use Rattle.bites_table.specs.declared.search.record.Search.{Search}
@@ -148,21 +148,25 @@ all_bits x n c cell tells e =
         ∙ ap (λ n. n * 2 ^ k) (least (bit_at cell.doing k) (ap (min (bit_at cell.doing k)) (sym one) ∙ sym (bit_at_and cell.doing 255 k) ∙ ap (λ n. bit_at n k) e ∙ bit_at-zero k))
         ∙ zero-mul (2 ^ k)
 
--- a search that has no more to do than to keep a hit is one for two slots, and not for the match with the least end
-pub keeps_hits : (x : Packed) (n c : ℕ) (cell : Cell) → Tells x n c cell → (earliest : Bool) (width m : ℕ) → m ≡ more_than_hits earliest width → bit_and cell.doing m ≡ 0 →
-    (bit_and cell.doing more ≡ 0) × ((earliest ≡ false) × (width ≡ 2))
-keeps_hits x n c cell tells earliest width m is e =
-    ⊎_elim
-    (λ (two : width ≡ 2). by earliest refl two)
-    (λ (other : width ≢ 2). absurd (all_bits x n c cell tells (ap (bit_and cell.doing) (sym (is ∙ ap (λ b. if not b || earliest then 255 else more) (isnt width other))) ∙ e)))
-    (cases_eq width 2)
-  where
-    isnt : (n : ℕ) → n ≢ 2 → (n == 2) ≡ false
-    isnt n ne = grind (arith, nat_tests)
+isnt : (n m : ℕ) → n ≢ m → (n == m) ≡ false
+isnt n m ne = grind (arith, nat_tests)
 
-    by : (f : Bool) → earliest ≡ f → width ≡ 2 → (bit_and cell.doing more ≡ 0) × ((earliest ≡ false) × (width ≡ 2))
-    by true early two = absurd (all_bits x n c cell tells (ap (bit_and cell.doing) (sym (is ∙ ap₂ more_than_hits early two)) ∙ e))
-    by false late two = (ap (bit_and cell.doing) (sym (is ∙ ap₂ more_than_hits late two)) ∙ e, (late, two))
+-- a search for two slots that has no more to do than to keep a hit is not one for the match with the least end
+pub keeps_hits : (x : Packed) (n c : ℕ) (cell : Cell) → Tells x n c cell → (earliest : Bool) (width m : ℕ) → m ≡ more_to_do earliest width → width ≡ 2 → bit_and cell.doing m ≡ 0 →
+    (bit_and cell.doing more ≡ 0) × (earliest ≡ false)
+keeps_hits x n c cell tells true width m is two e = absurd (all_bits x n c cell tells (ap (bit_and cell.doing) (sym (is ∙ ap (more_to_do true) two)) ∙ e))
+keeps_hits x n c cell tells false width m is two e = (ap (bit_and cell.doing) (sym (is ∙ ap (more_to_do false) two)) ∙ e, refl)
+
+-- a search for another number of slots has no more to do than to run steps
+pub only_steps : (cell : Cell) (earliest : Bool) (width m : ℕ) → m ≡ more_to_do earliest width → width ≢ 2 → bit_and cell.doing m ≡ 0 → bit_and cell.doing more_than_steps ≡ 0
+only_steps cell earliest width m is other e =
+    ap (bit_and cell.doing) (sym (is ∙ ap (λ b. if not b then more_than_steps else if earliest then 255 else more) (isnt width 2 other))) ∙ e
+
+-- either way the transition is known
+pub more_known : (x : Packed) (n c : ℕ) (cell : Cell) → Tells x n c cell → (earliest : Bool) (width m : ℕ) → m ≡ more_to_do earliest width → bit_and cell.doing m ≡ 0 → IsKnown x n c cell
+more_known x n c cell tells earliest width m is e =
+    ⊎_elim (λ (two : width ≡ 2). let q = tells.hits (keeps_hits x n c cell tells earliest width m is two e).0 in (q.0, q.1))
+    (λ (other : width ≢ 2). let q = tells.goes (only_steps cell earliest width m is other e) in (q.0, q.1)) (cases_eq width 2)
 
 -- the search goes on over a place where somebody comes to a match and rows are kept
 pub hit_on : (s : Asked) → IsAsked s → (place row : ℕ) (words : List ℕ) (is_found : Bool) (slots : List (Option ℕ)) (walked : Record) → (at : IsAtRow s place row words is_found slots walked) →

@@ -5,7 +5,7 @@ use Rattle.bites_machine.specs.Inputs.{is_earliest}
 use Rattle.bites_machine.specs.Trace.{after_place}
 use Rattle.bites_table.specs.Transition.{Transition}
 use Rattle.bites_table.specs.Steps.{own_rows, after_steps, AreRows}
-use Rattle.bites_table.specs.Packed.{Packed, table_in, more, Tells}
+use Rattle.bites_table.specs.Packed.{Packed, table_in, more, more_than_steps, Tells}
 use Rattle.bites_table.specs.Standing.{Asked, IsAsked, IsAtRow, IsOver}
 use Rattle.bites_table.specs.declared.table.act.Act.{Act}
 use Rattle.bites_table.specs.declared.table.cell.Cell.{Cell}
@@ -30,9 +30,10 @@ asked a before = record {
   slots = before;
 }
 
--- the bits over which a search has more to do than to keep a hit: for two slots one bit, unless the match with the least end is asked for
-abbrev pub more_than_hits : Bool → ℕ → ℕ
-more_than_hits earliest width = if not (width == 2) || earliest then 255 else more
+-- the bits over which a search has more to do: for two slots than to keep a hit, unless the match with the least end is asked for, and for
+-- another number than to run steps
+abbrev pub more_to_do : Bool → ℕ → ℕ
+more_to_do earliest width = if not (width == 2) then more_than_steps else if earliest then 255 else more
 
 -- the words of all registers are the rows after the steps of what has this number, run at a place
 abbrev pub RunsAct : Packed → (act width place : ℕ) → List ℕ → List ℕ → Type 0

@@ -11,7 +11,7 @@ ghost use Rattle.bites_table.specs.Steps.{with_spare};
 ghost use Rattle.bites_table.specs.Built.{frame_of};
 ghost use Rattle.bites_table.specs.Packed.{Packed, IsRow, IsKnown, Tells, row_of, lists_in, stride, mask_of, IsPartOf, unknown};
 ghost use Rattle.bites_table.specs.Standing.{IsAsked, IsOver, slots_after};
-ghost use Rattle.bites_table.specs.Searches.{asked, more_than_hits, RunsAct, IsSame, Held, IsHeldAt, StandsAt, IsLent, IsFresh, TurnsTo, StopsSo};
+ghost use Rattle.bites_table.specs.Searches.{asked, more_to_do, RunsAct, IsSame, Held, IsHeldAt, StandsAt, IsLent, IsFresh, TurnsTo, StopsSo};
 ghost use Rattle.bites_spec.specs.Look.{before};
 ghost use Rattle.bites_table.specs.Explored.{number_in};
 ghost use Rattle.bites_table.specs.declared.table.cell.Cell as cell;
@@ -132,25 +132,28 @@ impl Search<'_> {
         None
     }
 
-    // Returns the bits of a cell over which a search for so many slots has more to do than to keep a hit. A search for a match with
-    // the least end is over at a hit.
+    // Returns the bits of a cell over which a search for so many slots has more to do than to keep a hit, if they are two, or else
+    // than to run steps. A search for a match with the least end is over at a hit.
     pub(crate) fn more(&self, width: usize) -> u8
-        ensures { result ≡ more_than_hits (is_earliest self.now.input.now.kind) width }
+        ensures { result ≡ more_to_do (is_earliest self.now.input.now.kind) width }
     {
-        if width != 2 || matches!(self.input.kind, MatchKind::Earliest) {
+        if width != 2 {
+            STEPS
+        } else if matches!(self.input.kind, MatchKind::Earliest) {
             ALL
         } else {
             MORE
         }
     }
 
-    // Goes on over one place of the haystack where nothing is to be done but to begin a row of two slots, to end one as somebody
-    // comes to a match, or to run steps. Returns whether something is found, too. The haystack and the bits of `more` are read once
-    // for all places.
+    // Goes on over one place of the haystack where nothing is to be done. But with two slots a row may begin, or end as somebody
+    // comes to a match, and with another number steps may be run. Returns whether something is found, too. The haystack and the
+    // bits of `more` are read once for all places.
     #[inline(always)]
     pub(crate) fn pass_one(
         &mut self,
         haystack: &[u8],
+        width: usize,
         more: u8,
         at: Standing,
         registers: &mut [usize],
@@ -159,11 +162,12 @@ impl Search<'_> {
     ) -> Option<(Standing, bool)>
         ghost before: { List (Option ℕ) }
         requires haystack { haystack.now ≡ self.old.input.now.haystack.now }
-        requires more { more ≡ more_than_hits (is_earliest self.old.input.now.kind) (length slots.old) }
+        requires more { more ≡ more_to_do (is_earliest self.old.input.now.kind) width }
         requires asked { IsAsked (asked self.old before) }
         requires stands { StandsAt self.old before at registers.old was_found slots.old }
-        requires width { length slots.old ≡ length before }
-        requires room { with_spare * length slots.old ≤ length registers.old }
+        requires width { width ≡ length before }
+        requires room { with_spare * width ≤ length registers.old }
+        requires slots { length slots.old ≡ width }
         ensures stands { MatchOption result (StandsAt self.new before at registers.new was_found slots.new)
             (λ r. StandsAt self.new before r.0 registers.new r.1 slots.new × (at.place < r.0.place)) }
         ensures same { IsSame self.old self.new }
@@ -172,7 +176,6 @@ impl Search<'_> {
             return None;
         }
         let class = self.table.class_of_byte(haystack[at.place]);
-        let width = slots.len();
         if let Some(lent) = self.lend(at, class, mask(width)) {
             begin_row(registers, width, lent.begins, at.place);
             return Some((
@@ -183,29 +186,53 @@ impl Search<'_> {
                 was_found,
             ));
         }
-        if let Some(lent) = self.lend(at, class, more) {
+        let lent = self.lend(at, class, more)?;
+        let to = Standing {
+            place: at.place + 1,
+            row: lent.next,
+        };
+        if width == 2 {
             end_row(registers, lent.begins, at.place, slots);
-            return Some((
-                Standing {
-                    place: at.place + 1,
-                    row: lent.next,
-                },
-                true,
-            ));
+            return Some((to, true));
         }
-        let lent = self.lend(at, class, STEPS)?;
         run_act(self.table, lent.act, registers, width, at.place);
-        Some((
-            Standing {
-                place: at.place + 1,
-                row: lent.next,
-            },
-            was_found,
-        ))
+        Some((to, was_found))
     }
 
-    // Goes on while nothing is to be done but to begin or end a row of two slots, or to run steps. Returns whether something is found,
-    // too.
+    // Goes on from place to place by `pass_one`. Returns whether something is found, too.
+    #[inline(always)]
+    fn pass_each(
+        &mut self,
+        width: usize,
+        from: Standing,
+        registers: &mut [usize],
+        was_found: bool,
+        slots: &mut [Option<usize>],
+    ) -> (Standing, bool)
+        ghost before: { List (Option ℕ) }
+        requires asked { IsAsked (asked self.old before) }
+        requires stands { StandsAt self.old before from registers.old was_found slots.old }
+        requires width { width ≡ length before }
+        requires room { with_spare * width ≤ length registers.old }
+        requires slots { length slots.old ≡ width }
+        ensures stands { StandsAt self.new before result.0 registers.new result.1 slots.new }
+        ensures onward { from.place ≤ result.0.place }
+        ensures same { IsSame self.old self.new }
+    {
+        let haystack = self.input.haystack;
+        let more = self.more(width);
+        let mut at = from;
+        let mut is_found = was_found;
+        'places: while let Some((to, found)) = self.pass_one(
+            haystack, width, more, at, registers, is_found, slots,
+        ) {
+            at = to;
+            is_found = found;
+        }
+        (at, is_found)
+    }
+
+    // Goes on while `pass_one` does. The loop for two slots is one of its own, which has only to do what these need.
     #[inline(always)]
     fn pass(
         &mut self,
@@ -223,17 +250,11 @@ impl Search<'_> {
         ensures onward { from.place ≤ result.0.place }
         ensures same { IsSame self.old self.new }
     {
-        let haystack = self.input.haystack;
-        let more = self.more(slots.len());
-        let mut at = from;
-        let mut is_found = was_found;
-        'places: while let Some((to, found)) = self.pass_one(
-            haystack, more, at, registers, is_found, slots,
-        ) {
-            at = to;
-            is_found = found;
+        if slots.len() == 2 {
+            self.pass_each(2, from, registers, was_found, slots)
+        } else {
+            self.pass_each(slots.len(), from, registers, was_found, slots)
         }
-        (at, is_found)
     }
 
     // Goes on over one place.
