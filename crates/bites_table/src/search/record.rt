@@ -201,7 +201,7 @@ impl Search<'_> {
 
     // Goes on from place to place by `pass_one`. Returns whether something is found, too.
     #[inline(always)]
-    fn pass_each(
+    fn pass(
         &mut self,
         width: usize,
         from: Standing,
@@ -230,31 +230,6 @@ impl Search<'_> {
             is_found = found;
         }
         (at, is_found)
-    }
-
-    // Goes on while `pass_one` does. The loop for two slots is one of its own, which has only to do what these need.
-    #[inline(always)]
-    fn pass(
-        &mut self,
-        from: Standing,
-        registers: &mut [usize],
-        was_found: bool,
-        slots: &mut [Option<usize>],
-    ) -> (Standing, bool)
-        ghost before: { List (Option ℕ) }
-        requires asked { IsAsked (asked self.old before) }
-        requires stands { StandsAt self.old before from registers.old was_found slots.old }
-        requires width { length slots.old ≡ length before }
-        requires room { with_spare * length slots.old ≤ length registers.old }
-        ensures stands { StandsAt self.new before result.0 registers.new result.1 slots.new }
-        ensures onward { from.place ≤ result.0.place }
-        ensures same { IsSame self.old self.new }
-    {
-        if slots.len() == 2 {
-            self.pass_each(2, from, registers, was_found, slots)
-        } else {
-            self.pass_each(slots.len(), from, registers, was_found, slots)
-        }
     }
 
     // Goes on over one place.
@@ -308,7 +283,87 @@ impl Search<'_> {
     }
 
     // Goes on by the table until the search is over, or to a place whose transition is not known.
+    #[inline(always)]
+    fn go_on_by(
+        &mut self,
+        width: usize,
+        from: Standing,
+        registers: &mut [usize],
+        was_found: bool,
+        slots: &mut [Option<usize>],
+    ) -> (bool, Option<Standing>)
+        ghost before: { List (Option ℕ) }
+        requires asked { IsAsked (asked self.old before) }
+        requires stands { StandsAt self.old before from registers.old was_found slots.old }
+        requires width { width ≡ length before }
+        requires room { with_spare * width ≤ length registers.old }
+        requires slots { length slots.old ≡ width }
+        ensures stops { StopsSo self.new before registers.new slots.new result.0 result.1 }
+        ensures same { IsSame self.old self.new }
+    {
+        let mut at = from;
+        let mut is_found = was_found;
+        'places: loop {
+            let (reached, found) = self.pass(width, at, registers, is_found, slots);
+            at = reached;
+            is_found = found;
+            match self.step(at, registers, is_found, slots) {
+                Turn::Goes {
+                    to,
+                    is_found: found,
+                } => {
+                    at = to;
+                    is_found = found;
+                }
+                Turn::Ends { is_found } => return (is_found, None),
+                Turn::Leaves => return (is_found, Some(at)),
+            }
+        }
+    }
+
+    // The same for two slots. It is a function of its own, so that its loop has only to do what these need.
     #[inline(never)]
+    fn go_on_by_two(
+        &mut self,
+        from: Standing,
+        registers: &mut [usize],
+        was_found: bool,
+        slots: &mut [Option<usize>],
+    ) -> (bool, Option<Standing>)
+        ghost before: { List (Option ℕ) }
+        requires asked { IsAsked (asked self.old before) }
+        requires stands { StandsAt self.old before from registers.old was_found slots.old }
+        requires width { length slots.old ≡ length before }
+        requires room { with_spare * length slots.old ≤ length registers.old }
+        requires two { length slots.old ≡ 2 }
+        ensures stops { StopsSo self.new before registers.new slots.new result.0 result.1 }
+        ensures same { IsSame self.old self.new }
+    {
+        self.go_on_by(2, from, registers, was_found, slots)
+    }
+
+    // The same for any number of slots.
+    #[inline(never)]
+    fn go_on_by_any(
+        &mut self,
+        from: Standing,
+        registers: &mut [usize],
+        was_found: bool,
+        slots: &mut [Option<usize>],
+    ) -> (bool, Option<Standing>)
+        ghost before: { List (Option ℕ) }
+        requires asked { IsAsked (asked self.old before) }
+        requires stands { StandsAt self.old before from registers.old was_found slots.old }
+        requires width { length slots.old ≡ length before }
+        requires room { with_spare * length slots.old ≤ length registers.old }
+        ensures stops { StopsSo self.new before registers.new slots.new result.0 result.1 }
+        ensures same { IsSame self.old self.new }
+    {
+        self.go_on_by(slots.len(), from, registers, was_found, slots)
+    }
+
+    // The same, by the one or the other.
+    #[inline(always)]
     fn go_on(
         &mut self,
         from: Standing,
@@ -324,23 +379,10 @@ impl Search<'_> {
         ensures stops { StopsSo self.new before registers.new slots.new result.0 result.1 }
         ensures same { IsSame self.old self.new }
     {
-        let mut at = from;
-        let mut is_found = was_found;
-        'places: loop {
-            let (reached, found) = self.pass(at, registers, is_found, slots);
-            at = reached;
-            is_found = found;
-            match self.step(at, registers, is_found, slots) {
-                Turn::Goes {
-                    to,
-                    is_found: found,
-                } => {
-                    at = to;
-                    is_found = found;
-                }
-                Turn::Ends { is_found } => return (is_found, None),
-                Turn::Leaves => return (is_found, Some(at)),
-            }
+        if slots.len() == 2 {
+            self.go_on_by_two(from, registers, was_found, slots)
+        } else {
+            self.go_on_by_any(from, registers, was_found, slots)
         }
     }
 
