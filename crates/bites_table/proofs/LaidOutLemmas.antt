@@ -22,9 +22,9 @@ use Rattle.bites_table.specs.Graph as graphs
 use Rattle.bites_table.specs.Graph.{NumberedList, Outcome, Graph, AreHeld, list_as, transition_with, transition_in, cell_at, table_of}
 use Rattle.bites_table.specs.Stored.{cell_of}
 use Rattle.bites_table.specs.Steps.{MakeMoves}
-use Rattle.bites_table.specs.Packed.{Packed, table_in, lists_in, stride, row_of, mask_of, is_dead, BeginsRow, IsPassed, IsHit, IsCell, Tells, IsPartOf, thread_with_register}
+use Rattle.bites_table.specs.Packed.{Packed, table_in, lists_in, stride, row_of, mask_of, is_dead, BeginsRow, IsPassed, IsHit, GoesOn, IsCell, Tells, IsPartOf, thread_with_register}
 use Rattle.bites_table.specs.Layout.{Tell, AreCells, IsEntry}
-use Rattle.bites_table.specs.LaidOut.{IsHeldHit, AreHeldHits, register_thread, AreHeldBelow, IsEntryOf, AreEntries, masked, IsOwn, IsKept, IsBegun, IsKeptOrBegun, DoesQuietly, DoesByBits, DoesPass, PassesByBits, EndsHit, DoesHit, IsAct, IsActOf, AreActs, Fits, AreLaid}
+use Rattle.bites_table.specs.LaidOut.{IsHeldHit, AreHeldHits, register_thread, AreHeldBelow, IsEntryOf, AreEntries, masked, IsOwn, IsKept, IsBegun, IsKeptOrBegun, DoesQuietly, DoesByBits, DoesPass, PassesByBits, EndsHit, DoesHit, DoesGoOn, IsAct, IsActOf, AreActs, Fits, AreLaid}
 use Rattle.bites_table.specs.declared.thread_list.Thread.{Thread}
 use Rattle.bites_table.specs.declared.thread_list.Source.{Source}
 use Rattle.bites_table.specs.declared.explore.graph.Cell as made
@@ -250,6 +250,7 @@ act-grows steps more new o l a e is =
       few = is.few;
       passes = is.passes;
       hits = is.hits;
+      goes = is.goes;
     }
 
 pub acts-push : (g : Graph) (steps more new : List Step) (acts : List Act) (o : Outcome) (a : Act) → new ≡ steps ++ more → AreActs g steps acts →
@@ -360,11 +361,18 @@ module _ (x : Packed) (acts : List Act) (w : ℕ) (fits : Fits x acts w) (n c : 
       unwritten = does.unwritten;
     }
 
+    goes-on : DoesGoOn o (list_at (table_of x.graph) o.next) → GoesOn (table_in x) (transition_with (cell_of m) o)
+    goes-on does = record {
+      hit = ap (option_map frame_of) does.hit;
+      alive = does.alive;
+    }
+
     tells-of : Tells x n c (record { next = r; act = number; doing = a.doing; begins = a.begins; seen = m.seen; looks = m.looks })
     tells-of = record {
       known = λ z. (transition_with (cell_of m) o, is-cell (λ e. let no : 8 ≡ 0 = ap (λ d. bit_and d 8) (sym e) ∙ z in omega arith));
       passed = λ width z. (transition_with (cell_of m) o, is-cell (λ e. all-set width (ap (λ d. bit_and d (mask_of width)) (sym e) ∙ z)), is-passed width (own.act.passes width z));
       hits = λ z. (transition_with (cell_of m) o, is-cell (λ e. let no : 16 ≡ 0 = ap (λ d. bit_and d 16) (sym e) ∙ z in omega arith), is-hit a.begins (own.act.hits z));
+      goes = λ z. (transition_with (cell_of m) o, is-cell (λ e. let no : 32 ≡ 0 = ap (λ d. bit_and d 32) (sym e) ∙ z in omega arith), goes-on (own.act.goes z));
     }
 
   pub tells : Tells x n c (record { next = r; act = number; doing = a.doing; begins = a.begins; seen = m.seen; looks = m.looks })
@@ -380,6 +388,7 @@ tells-nothing x n c a e = record {
   known = λ z. absurd (let no : 8 ≡ 0 = ap (λ d. bit_and d 8) (sym e) ∙ z in omega arith);
   passed = λ width z. absurd (all-set width (ap (λ d. bit_and d (mask_of width)) (sym e) ∙ z));
   hits = λ z. absurd (let no : 16 ≡ 0 = ap (λ d. bit_and d 16) (sym e) ∙ z in omega arith);
+  goes = λ z. absurd (let no : 32 ≡ 0 = ap (λ d. bit_and d 32) (sym e) ∙ z in omega arith);
 }
 
 -- the next of what is left

@@ -26,7 +26,7 @@ use Rattle.bites_table.specs.declared.table.act.Act.{Act}
 use Rattle.bites_table.specs.declared.thread_list.Frame.{Frame}
 use Rattle.bites_table.specs.Transition.{Transition, source_at}
 use Rattle.bites_table.specs.Graph.{transition_in}
-use Rattle.bites_table.specs.Packed.{Packed, table_in, classes_in, lists_in, stride, row_of, mask_of, unknown, more, is_dead, Tells, IsCell, thread_with_register}
+use Rattle.bites_table.specs.Packed.{Packed, table_in, classes_in, lists_in, stride, row_of, mask_of, unknown, more, more_than_steps, is_dead, Tells, IsCell, IsKnown, thread_with_register}
 use Rattle.bites_table.specs.Stays.{Stays, IsSkip, IsRest}
 use Rattle.bites_table.specs.Standing.{Asked, IsAsked, IsAt, IsAtRow, IsOver, transition_from, ends_after, slots_after, AreMoved}
 use Rattle.bites_machine.specs.Inputs.{is_earliest, is_longest}
@@ -45,7 +45,7 @@ use Rattle.bites_table.specs.Table.{starts_of}
 use Rattle.bites_machine.specs.SlotTable.{slot_of}
 use Rattle.bites_table.proofs.RowLemmas.{ended-row}
 use Rattle.bites_table.proofs.TransitionLemmas.{walked_is}
-use Rattle.bites_table.specs.Searches.{asked, more_than_hits, IsSame, StandsAt, Held, IsHeldAt, IsLent, StopsSo}
+use Rattle.bites_table.specs.Searches.{asked, more_to_do, RunsAct, IsSame, StandsAt, Held, IsHeldAt, IsLent, StopsSo}
 use Rattle.bites_table.specs.declared.search.record.Lent.{Lent}
 use Rattle.bites_table.specs.declared.search.record.Standing.{Standing}
 use Rattle.bites_table.specs.declared.search.record.Search.{Search}
@@ -54,6 +54,10 @@ use Rattle.bites_table.proofs.StandingLemmas.{at_start, handed_over, handed_back
 
 some_same : {A : Type 0} (x y : A) → Some x ≡ Some y → x ≡ y
 some_same x y e = cc
+
+named_within : (xs : List Act) (i : ℕ) (x : Act) → slice_get xs i ≡ Some x → i < length xs
+named_within xs i x e =
+    ⊎_elim (λ (lt : i < length xs). lt) (λ (le : length xs ≤ i). absurd (none-some x (sym (slice_get_past xs i le) ∙ e))) (cases_lt i (length xs))
 
 -- the cells of two lists begin at two places
 pub row_once : (x : Packed) (n m : ℕ) → row_of x n ≡ row_of x m → n ≡ m
@@ -144,21 +148,25 @@ all_bits x n c cell tells e =
         ∙ ap (λ n. n * 2 ^ k) (least (bit_at cell.doing k) (ap (min (bit_at cell.doing k)) (sym one) ∙ sym (bit_at_and cell.doing 255 k) ∙ ap (λ n. bit_at n k) e ∙ bit_at-zero k))
         ∙ zero-mul (2 ^ k)
 
--- a search that has no more to do than to keep a hit is one for two slots, and not for the match with the least end
-pub keeps_hits : (x : Packed) (n c : ℕ) (cell : Cell) → Tells x n c cell → (earliest : Bool) (width m : ℕ) → m ≡ more_than_hits earliest width → bit_and cell.doing m ≡ 0 →
-    (bit_and cell.doing more ≡ 0) × ((earliest ≡ false) × (width ≡ 2))
-keeps_hits x n c cell tells earliest width m is e =
-    ⊎_elim
-    (λ (two : width ≡ 2). by earliest refl two)
-    (λ (other : width ≢ 2). absurd (all_bits x n c cell tells (ap (bit_and cell.doing) (sym (is ∙ ap (λ b. if not b || earliest then 255 else more) (isnt width other))) ∙ e)))
-    (cases_eq width 2)
-  where
-    isnt : (n : ℕ) → n ≢ 2 → (n == 2) ≡ false
-    isnt n ne = grind (arith, nat_tests)
+isnt : (n m : ℕ) → n ≢ m → (n == m) ≡ false
+isnt n m ne = grind (arith, nat_tests)
 
-    by : (f : Bool) → earliest ≡ f → width ≡ 2 → (bit_and cell.doing more ≡ 0) × ((earliest ≡ false) × (width ≡ 2))
-    by true early two = absurd (all_bits x n c cell tells (ap (bit_and cell.doing) (sym (is ∙ ap₂ more_than_hits early two)) ∙ e))
-    by false late two = (ap (bit_and cell.doing) (sym (is ∙ ap₂ more_than_hits late two)) ∙ e, (late, two))
+-- a search for two slots that has no more to do than to keep a hit is not one for the match with the least end
+pub keeps_hits : (x : Packed) (n c : ℕ) (cell : Cell) → Tells x n c cell → (earliest : Bool) (width m : ℕ) → m ≡ more_to_do earliest width → width ≡ 2 → bit_and cell.doing m ≡ 0 →
+    (bit_and cell.doing more ≡ 0) × (earliest ≡ false)
+keeps_hits x n c cell tells true width m is two e = absurd (all_bits x n c cell tells (ap (bit_and cell.doing) (sym (is ∙ ap (more_to_do true) two)) ∙ e))
+keeps_hits x n c cell tells false width m is two e = (ap (bit_and cell.doing) (sym (is ∙ ap (more_to_do false) two)) ∙ e, refl)
+
+-- a search for another number of slots has no more to do than to run steps
+pub only_steps : (cell : Cell) (earliest : Bool) (width m : ℕ) → m ≡ more_to_do earliest width → width ≢ 2 → bit_and cell.doing m ≡ 0 → bit_and cell.doing more_than_steps ≡ 0
+only_steps cell earliest width m is other e =
+    ap (bit_and cell.doing) (sym (is ∙ ap (λ b. if not b then more_than_steps else if earliest then 255 else more) (isnt width 2 other))) ∙ e
+
+-- either way the transition is known
+pub more_known : (x : Packed) (n c : ℕ) (cell : Cell) → Tells x n c cell → (earliest : Bool) (width m : ℕ) → m ≡ more_to_do earliest width → bit_and cell.doing m ≡ 0 → IsKnown x n c cell
+more_known x n c cell tells earliest width m is e =
+    ⊎_elim (λ (two : width ≡ 2). let q = tells.hits (keeps_hits x n c cell tells earliest width m is two e).0 in (q.0, q.1))
+    (λ (other : width ≢ 2). let q = tells.goes (only_steps cell earliest width m is other e) in (q.0, q.1)) (cases_eq width 2)
 
 -- the search goes on over a place where somebody comes to a match and rows are kept
 pub hit_on : (s : Asked) → IsAsked s → (place row : ℕ) (words : List ℕ) (is_found : Bool) (slots : List (Option ℕ)) (walked : Record) → (at : IsAtRow s place row words is_found slots walked) →
@@ -183,6 +191,30 @@ hit_on s is place row words is_found slots walked at class byte cell tells bits 
 -- the register whose row ends is there
 pub ends_there : (s : Asked) (n class : ℕ) (cell : Cell) → Tells s.table n class cell → bit_and cell.doing more ≡ 0 → cell.begins < with_spare
 ends_there s n class cell tells bits = (tells.hits bits).2.there
+
+-- the transition of a cell has a number
+pub act_there : (s : Asked) (n class : ℕ) (cell : Cell) → Tells s.table n class cell → bit_and cell.doing more_than_steps ≡ 0 → cell.act < length s.table.acts
+act_there s n class cell tells bits = let is = (tells.goes bits).1 in named_within s.table.acts cell.act is.act is.named
+
+-- the search goes on over a place where only steps are run
+pub stepped_on : (s : Asked) → IsAsked s → (place row : ℕ) (words : List ℕ) (is_found : Bool) (slots : List (Option ℕ)) (walked : Record) → (at : IsAtRow s place row words is_found slots walked) →
+    (class : ℕ) → IsByte s place class → (cell : Cell) → Tells s.table at.list class cell → bit_and cell.doing more_than_steps ≡ 0 → (new : List ℕ) → RunsAct s.table cell.act s.input.width place words new →
+    IsAtRow s (place + 1) cell.next new is_found slots (after_place (reverse cell.seen.value.items) cell.looks.value place walked)
+stepped_on s is place row words is_found slots walked at class byte cell tells bits new runs =
+    let q = tells.goes bits in
+    let t = q.0 in
+    let by = known_by_byte s is place class byte at.list t q.1.transition in
+    let moved : AreMoved s.input.width place (list_at (table_in s.table) t.next).threads t.moves words new = λ u among.
+    let below = q.1.held u among in
+    runs q.1.act q.1.named u.row (let few = q.1.few in omega arith) ∙ ap (row_at s.input.width place (row_in words s.input.width)) (q.1.moves u.row below) in
+    record {
+      list = t.next;
+      within = q.1.within;
+      row_is = q.1.next;
+      here = subst (λ w. IsAt s (place + 1) t.next new is_found slots w) (ap₂ (λ l n. after_place l n place walked) q.1.seen q.1.looks)
+          (subst (λ n. IsAt s (place + n) t.next new is_found slots (after_place t.seen t.looks place walked)) by.1
+          (moved_over s is place at.list words is_found slots walked at.here t by.0 q.2.hit q.2.alive (let one = by.1 in omega arith) new moved));
+    }
 
 -- what is searched stays the same
 pub asked_same : (a b : Search) (before : List (Option ℕ)) → IsSame a b → asked b before ≡ asked a before
@@ -289,11 +321,7 @@ module _ (s : Asked) (is : IsAsked s) (place row : ℕ) (words : List ℕ) (was_
   is_cell = (tells.known bits).1
 
   pub act_within : cell.act < length s.table.acts
-  act_within = slice_get_within s.table.acts cell.act is_cell.act is_cell.named
-    where
-      slice_get_within : (xs : List Act) (i : ℕ) (x : Act) → slice_get xs i ≡ Some x → i < length xs
-      slice_get_within xs i x e =
-          ⊎_elim (λ (lt : i < length xs). lt) (λ (le : length xs ≤ i). absurd (none-some x (sym (slice_get_past xs i le) ∙ e))) (cases_lt i (length xs))
+  act_within = named_within s.table.acts cell.act is_cell.act is_cell.named
 
   from_here : transition_from s at.list place ≡ Some next
   from_here = ap ((table_in s.table).transition at.list) (sym class_is) ∙ is_cell.transition

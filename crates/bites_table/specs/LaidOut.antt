@@ -10,7 +10,7 @@ use Rattle.bites_table.specs.Built.{source_of}
 use Rattle.bites_table.specs.Graph.{NumberedList, Outcome, Graph, table_of}
 use Rattle.bites_table.specs.Stored.{cell_of}
 use Rattle.bites_table.specs.Steps.{MakeMoves, with_spare}
-use Rattle.bites_table.specs.Packed.{Packed, stride, mask_of, more, is_dead, IsPartOf, BeginsRow, EndsRow}
+use Rattle.bites_table.specs.Packed.{Packed, stride, mask_of, more, more_than_steps, is_dead, IsPartOf, BeginsRow, EndsRow}
 use Rattle.bites_table.specs.Layout.{Tell}
 use Rattle.bites_table.specs.declared.thread_list.Thread.{Thread}
 use Rattle.bites_table.specs.declared.thread_list.Source.{Source}
@@ -103,6 +103,15 @@ pub record DoesHit (o : Outcome) (next : ThreadList) (register : ℕ) : Type 0 w
 abbrev pub HitsByBits : Outcome → ThreadList → (register doing : ℕ) → Type 0
 HitsByBits o next register doing = bit_and doing more ≡ 0 → DoesHit o next register
 
+-- nobody comes to a match, and the search is not over
+pub record DoesGoOn (o : Outcome) (next : ThreadList) : Type 0 where
+  pub hit : o.hit ≡ None
+  pub alive : is_dead next ≡ false
+
+-- if the bit is not set it does so
+abbrev pub GoesOnByBits : Outcome → ThreadList → (doing : ℕ) → Type 0
+GoesOnByBits o next doing = bit_and doing more_than_steps ≡ 0 → DoesGoOn o next
+
 -- the row of a hit comes from a register that is there, if it comes from one
 abbrev pub IsHeldHit : Option Frame → Type 0
 IsHeldHit hit = IfSome hit (λ f. IfSome f.source.register (λ r. r < 32))
@@ -121,6 +130,7 @@ pub record IsAct (steps : List Step) (o : Outcome) (next : ThreadList) (a : Act)
   pub few : a.doing ≢ 255 → length o.moves ≤ 32
   pub passes : PassesByBits o next a.begins a.doing
   pub hits : HitsByBits o next a.begins a.doing
+  pub goes : GoesOnByBits o next a.doing
 
 pub record IsActOf (g : Graph) (steps : List Step) (o : Outcome) (a : Act) : Type 0 where
   pub within : o.next < length g.lists

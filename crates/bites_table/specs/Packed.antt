@@ -65,6 +65,10 @@ unknown = 8
 abbrev pub more : ℕ
 more = 16
 
+-- the bit over which a search has more to do than to run steps
+abbrev pub more_than_steps : ℕ
+more_than_steps = 32
+
 -- no thread is left and none begins
 abbrev pub is_dead : ThreadList → Bool
 is_dead l = not (is_walked l.starts) && is_empty l.threads
@@ -110,6 +114,11 @@ pub record IsHit (tab : Table) (register : ℕ) (t : Transition ℕ) : Type 0 wh
   pub kept : (u : Thread ℕ) → Among (list_at tab t.next).threads u → (source_at t.moves u.row).register ≡ Some u.row
   pub unwritten : (u : Thread ℕ) → Among (list_at tab t.next).threads u → (k : ℕ) → k < 2 → (source_at t.moves u.row).writes k ≡ false
 
+-- Nobody comes to a match, and the search is not over.
+pub record GoesOn (tab : Table) (t : Transition ℕ) : Type 0 where
+  pub hit : t.hit ≡ None
+  pub alive : is_dead (list_at tab t.next) ≡ false
+
 -- the cell stands for the transition of a list over a class
 pub record IsCell (x : Packed) (n c : ℕ) (a : Cell) (t : Transition ℕ) : Type 0 where
   pub transition : (table_in x).transition n c ≡ Some t
@@ -135,6 +144,7 @@ pub record Tells (x : Packed) (n c : ℕ) (a : Cell) : Type 0 where
   pub known : bit_and a.doing unknown ≡ 0 → IsKnown x n c a
   pub passed : (width : ℕ) → bit_and a.doing (mask_of width) ≡ 0 → (t : Transition ℕ) × IsCell x n c a t × IsPassed (table_in x) width a.begins t
   pub hits : bit_and a.doing more ≡ 0 → (t : Transition ℕ) × IsCell x n c a t × IsHit (table_in x) a.begins t
+  pub goes : bit_and a.doing more_than_steps ≡ 0 → (t : Transition ℕ) × IsCell x n c a t × GoesOn (table_in x) t
 
 -- the part lies in a list of this length
 abbrev pub IsPartOf : ℕ → Part → Type 0

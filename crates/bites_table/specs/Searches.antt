@@ -1,11 +1,13 @@
 -- One search of the code by a table.
-use Rattle.std.specs.Prelude.{◌≡◌, ℕ, ◌<◌, Bool, not, ◌||◌, ◌==◌, if◌then◌else◌, List, length, reverse, Option, Some, None, bit_and}
+use Rattle.std.specs.Prelude.{◌≡◌, ℕ, ◌<◌, Bool, not, ◌||◌, ◌==◌, if◌then◌else◌, List, length, reverse, Option, Some, None, slice_get, slice_range, bit_and}
 use Rattle.bites_spec.specs.Walks.{AllApart}
 use Rattle.bites_machine.specs.Inputs.{is_earliest}
 use Rattle.bites_machine.specs.Trace.{after_place}
 use Rattle.bites_table.specs.Transition.{Transition}
-use Rattle.bites_table.specs.Packed.{table_in, more, Tells}
+use Rattle.bites_table.specs.Steps.{own_rows, after_steps, AreRows}
+use Rattle.bites_table.specs.Packed.{Packed, table_in, more, more_than_steps, Tells}
 use Rattle.bites_table.specs.Standing.{Asked, IsAsked, IsAtRow, IsOver}
+use Rattle.bites_table.specs.declared.table.act.Act.{Act}
 use Rattle.bites_table.specs.declared.table.cell.Cell.{Cell}
 use Rattle.bites_table.specs.declared.search.record.Search.{Search}
 use Rattle.bites_table.specs.declared.search.record.Lent.{Lent}
@@ -28,9 +30,15 @@ asked a before = record {
   slots = before;
 }
 
--- the bits over which a search has more to do than to keep a hit: for two slots one bit, unless the match with the least end is asked for
-abbrev pub more_than_hits : Bool → ℕ → ℕ
-more_than_hits earliest width = if not (width == 2) || earliest then 255 else more
+-- the bits over which a search has more to do: for two slots than to keep a hit, unless the match with the least end is asked for, and for
+-- another number than to run steps
+abbrev pub more_to_do : Bool → ℕ → ℕ
+more_to_do earliest width = if not (width == 2) then more_than_steps else if earliest then 255 else more
+
+-- the words of all registers are the rows after the steps of what has this number, run at a place
+abbrev pub RunsAct : Packed → (act width place : ℕ) → List ℕ → List ℕ → Type 0
+RunsAct x act width place old new =
+    (a : Act) → slice_get x.acts act ≡ Some a → AreRows old width place (after_steps (slice_range x.steps a.steps.from a.steps.to) own_rows) new
 
 -- the same is searched
 pub record IsSame (a b : Search) : Type 0 where

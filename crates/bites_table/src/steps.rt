@@ -71,8 +71,8 @@ fn run_step(step: Step, registers: &mut [usize], width: usize, place: usize)
     }
 }
 
-// Copies the row of a register to another.
-#[inline(always)]
+// Copies the row of a register to another. It is a call, so that the loop of a search keeps its registers.
+#[inline(never)]
 fn copy_row(registers: &mut [usize], width: usize, to: u8, from: u8)
     requires room { with_spare * width ≤ length registers.old }
     requires to { to < with_spare }
@@ -87,8 +87,8 @@ fn copy_row(registers: &mut [usize], width: usize, to: u8, from: u8)
     }
 }
 
-// Writes to no slot of the row of a register.
-#[inline(always)]
+// Writes to no slot of the row of a register. It is a call for the same reason.
+#[inline(never)]
 fn blank_row(registers: &mut [usize], width: usize, to: u8)
     requires room { with_spare * width ≤ length registers.old }
     requires to { to < with_spare }

@@ -73,8 +73,10 @@ impl Search<'_> {
         ensures turns { TurnsTo self.new before at registers.new was_found slots.new result }
         ensures same { IsSame self.old self.new }
     {
-        let more = self.more(slots.len());
-        match self.pass_one(self.input.haystack, more, at, registers, was_found, slots) {
+        let haystack = self.input.haystack;
+        let width = slots.len();
+        let more = self.more(width);
+        match self.pass_one(haystack, width, more, at, registers, was_found, slots) {
             Some((to, is_found)) => Turn::Goes { to, is_found },
             None => self.step(at, registers, was_found, slots),
         }

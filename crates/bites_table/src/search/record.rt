@@ -5,12 +5,13 @@ ghost use Rattle.bites_spec.specs.Counts.{HasRoomFor};
 ghost use Rattle.bites_spec.specs.Walks.{Among};
 ghost use Rattle.bites_machine.specs.Inputs.{is_earliest, is_longest};
 ghost use Rattle.bites_machine.specs.States.{states_of};
+ghost use Rattle.bites_machine.specs.SlotTable.{no_slot};
 ghost use Rattle.bites_table.specs.Kinds.{kind_of};
 ghost use Rattle.bites_table.specs.Steps.{with_spare};
 ghost use Rattle.bites_table.specs.Built.{frame_of};
 ghost use Rattle.bites_table.specs.Packed.{Packed, IsRow, IsKnown, Tells, row_of, lists_in, stride, mask_of, IsPartOf, unknown};
 ghost use Rattle.bites_table.specs.Standing.{IsAsked, IsOver, slots_after};
-ghost use Rattle.bites_table.specs.Searches.{asked, more_than_hits, IsSame, Held, IsHeldAt, StandsAt, IsLent, IsFresh, TurnsTo, StopsSo};
+ghost use Rattle.bites_table.specs.Searches.{asked, more_to_do, RunsAct, IsSame, Held, IsHeldAt, StandsAt, IsLent, IsFresh, TurnsTo, StopsSo};
 ghost use Rattle.bites_spec.specs.Look.{before};
 ghost use Rattle.bites_table.specs.Explored.{number_in};
 ghost use Rattle.bites_table.specs.declared.table.cell.Cell as cell;
@@ -19,7 +20,7 @@ use crate::search::place::{kind_before, piece_at};
 use crate::steps::{begin_row, end_row, run_steps, write_row};
 use crate::table::Table;
 use crate::table::act::Act;
-use crate::table::cell::{ALL, Cell, MORE, UNKNOWN, mask};
+use crate::table::cell::{ALL, Cell, MORE, STEPS, UNKNOWN, mask};
 use bites_machine::program::Program;
 use bites_machine::vm::{self, Counted, Input, MatchKind, Resumed};
 
@@ -131,24 +132,28 @@ impl Search<'_> {
         None
     }
 
-    // Returns the bits of a cell over which a search for so many slots has more to do than to keep a hit. A search for a match with
-    // the least end is over at a hit.
+    // Returns the bits of a cell over which a search for so many slots has more to do than to keep a hit, if they are two, or else
+    // than to run steps. A search for a match with the least end is over at a hit.
     pub(crate) fn more(&self, width: usize) -> u8
-        ensures { result ≡ more_than_hits (is_earliest self.now.input.now.kind) width }
+        ensures { result ≡ more_to_do (is_earliest self.now.input.now.kind) width }
     {
-        if width != 2 || matches!(self.input.kind, MatchKind::Earliest) {
+        if width != 2 {
+            STEPS
+        } else if matches!(self.input.kind, MatchKind::Earliest) {
             ALL
         } else {
             MORE
         }
     }
 
-    // Goes on over one place of the haystack where nothing is to be done but to begin a row of two slots, or to end one as somebody
-    // comes to a match. Returns whether something is found, too. The haystack and the bits of `more` are read once for all places.
+    // Goes on over one place of the haystack where nothing is to be done. But with two slots a row may begin, or end as somebody
+    // comes to a match, and with another number steps may be run. Returns whether something is found, too. The haystack and the
+    // bits of `more` are read once for all places.
     #[inline(always)]
     pub(crate) fn pass_one(
         &mut self,
         haystack: &[u8],
+        width: usize,
         more: u8,
         at: Standing,
         registers: &mut [usize],
@@ -157,11 +162,12 @@ impl Search<'_> {
     ) -> Option<(Standing, bool)>
         ghost before: { List (Option ℕ) }
         requires haystack { haystack.now ≡ self.old.input.now.haystack.now }
-        requires more { more ≡ more_than_hits (is_earliest self.old.input.now.kind) (length slots.old) }
+        requires more { more ≡ more_to_do (is_earliest self.old.input.now.kind) width }
         requires asked { IsAsked (asked self.old before) }
         requires stands { StandsAt self.old before at registers.old was_found slots.old }
-        requires width { length slots.old ≡ length before }
-        requires room { with_spare * length slots.old ≤ length registers.old }
+        requires width { width ≡ length before }
+        requires room { with_spare * width ≤ length registers.old }
+        requires slots { length slots.old ≡ width }
         ensures stands { MatchOption result (StandsAt self.new before at registers.new was_found slots.new)
             (λ r. StandsAt self.new before r.0 registers.new r.1 slots.new × (at.place < r.0.place)) }
         ensures same { IsSame self.old self.new }
@@ -170,7 +176,6 @@ impl Search<'_> {
             return None;
         }
         let class = self.table.class_of_byte(haystack[at.place]);
-        let width = slots.len();
         if let Some(lent) = self.lend(at, class, mask(width)) {
             begin_row(registers, width, lent.begins, at.place);
             return Some((
@@ -182,20 +187,23 @@ impl Search<'_> {
             ));
         }
         let lent = self.lend(at, class, more)?;
-        end_row(registers, lent.begins, at.place, slots);
-        Some((
-            Standing {
-                place: at.place + 1,
-                row: lent.next,
-            },
-            true,
-        ))
+        let to = Standing {
+            place: at.place + 1,
+            row: lent.next,
+        };
+        if width == 2 {
+            end_row(registers, lent.begins, at.place, slots);
+            return Some((to, true));
+        }
+        run_act(self.table, lent.act, registers, width, at.place);
+        Some((to, was_found))
     }
 
-    // Goes on while nothing is to be done but to begin or end a row of two slots. Returns whether something is found, too.
+    // Goes on from place to place by `pass_one`. Returns whether something is found, too.
     #[inline(always)]
     fn pass(
         &mut self,
+        width: usize,
         from: Standing,
         registers: &mut [usize],
         was_found: bool,
@@ -204,18 +212,19 @@ impl Search<'_> {
         ghost before: { List (Option ℕ) }
         requires asked { IsAsked (asked self.old before) }
         requires stands { StandsAt self.old before from registers.old was_found slots.old }
-        requires width { length slots.old ≡ length before }
-        requires room { with_spare * length slots.old ≤ length registers.old }
+        requires width { width ≡ length before }
+        requires room { with_spare * width ≤ length registers.old }
+        requires slots { length slots.old ≡ width }
         ensures stands { StandsAt self.new before result.0 registers.new result.1 slots.new }
         ensures onward { from.place ≤ result.0.place }
         ensures same { IsSame self.old self.new }
     {
         let haystack = self.input.haystack;
-        let more = self.more(slots.len());
+        let more = self.more(width);
         let mut at = from;
         let mut is_found = was_found;
         'places: while let Some((to, found)) = self.pass_one(
-            haystack, more, at, registers, is_found, slots,
+            haystack, width, more, at, registers, is_found, slots,
         ) {
             at = to;
             is_found = found;
@@ -274,7 +283,87 @@ impl Search<'_> {
     }
 
     // Goes on by the table until the search is over, or to a place whose transition is not known.
+    #[inline(always)]
+    fn go_on_by(
+        &mut self,
+        width: usize,
+        from: Standing,
+        registers: &mut [usize],
+        was_found: bool,
+        slots: &mut [Option<usize>],
+    ) -> (bool, Option<Standing>)
+        ghost before: { List (Option ℕ) }
+        requires asked { IsAsked (asked self.old before) }
+        requires stands { StandsAt self.old before from registers.old was_found slots.old }
+        requires width { width ≡ length before }
+        requires room { with_spare * width ≤ length registers.old }
+        requires slots { length slots.old ≡ width }
+        ensures stops { StopsSo self.new before registers.new slots.new result.0 result.1 }
+        ensures same { IsSame self.old self.new }
+    {
+        let mut at = from;
+        let mut is_found = was_found;
+        'places: loop {
+            let (reached, found) = self.pass(width, at, registers, is_found, slots);
+            at = reached;
+            is_found = found;
+            match self.step(at, registers, is_found, slots) {
+                Turn::Goes {
+                    to,
+                    is_found: found,
+                } => {
+                    at = to;
+                    is_found = found;
+                }
+                Turn::Ends { is_found } => return (is_found, None),
+                Turn::Leaves => return (is_found, Some(at)),
+            }
+        }
+    }
+
+    // The same for two slots. It is a function of its own, so that its loop has only to do what these need.
     #[inline(never)]
+    fn go_on_by_two(
+        &mut self,
+        from: Standing,
+        registers: &mut [usize],
+        was_found: bool,
+        slots: &mut [Option<usize>],
+    ) -> (bool, Option<Standing>)
+        ghost before: { List (Option ℕ) }
+        requires asked { IsAsked (asked self.old before) }
+        requires stands { StandsAt self.old before from registers.old was_found slots.old }
+        requires width { length slots.old ≡ length before }
+        requires room { with_spare * length slots.old ≤ length registers.old }
+        requires two { length slots.old ≡ 2 }
+        ensures stops { StopsSo self.new before registers.new slots.new result.0 result.1 }
+        ensures same { IsSame self.old self.new }
+    {
+        self.go_on_by(2, from, registers, was_found, slots)
+    }
+
+    // The same for any number of slots.
+    #[inline(never)]
+    fn go_on_by_any(
+        &mut self,
+        from: Standing,
+        registers: &mut [usize],
+        was_found: bool,
+        slots: &mut [Option<usize>],
+    ) -> (bool, Option<Standing>)
+        ghost before: { List (Option ℕ) }
+        requires asked { IsAsked (asked self.old before) }
+        requires stands { StandsAt self.old before from registers.old was_found slots.old }
+        requires width { length slots.old ≡ length before }
+        requires room { with_spare * length slots.old ≤ length registers.old }
+        ensures stops { StopsSo self.new before registers.new slots.new result.0 result.1 }
+        ensures same { IsSame self.old self.new }
+    {
+        self.go_on_by(slots.len(), from, registers, was_found, slots)
+    }
+
+    // The same, by the one or the other.
+    #[inline(always)]
     fn go_on(
         &mut self,
         from: Standing,
@@ -290,23 +379,10 @@ impl Search<'_> {
         ensures stops { StopsSo self.new before registers.new slots.new result.0 result.1 }
         ensures same { IsSame self.old self.new }
     {
-        let mut at = from;
-        let mut is_found = was_found;
-        'places: loop {
-            let (reached, found) = self.pass(at, registers, is_found, slots);
-            at = reached;
-            is_found = found;
-            match self.step(at, registers, is_found, slots) {
-                Turn::Goes {
-                    to,
-                    is_found: found,
-                } => {
-                    at = to;
-                    is_found = found;
-                }
-                Turn::Ends { is_found } => return (is_found, None),
-                Turn::Leaves => return (is_found, Some(at)),
-            }
+        if slots.len() == 2 {
+            self.go_on_by_two(from, registers, was_found, slots)
+        } else {
+            self.go_on_by_any(from, registers, was_found, slots)
         }
     }
 
@@ -418,6 +494,18 @@ impl Search<'_> {
             is_found = found;
         }
     }
+}
+
+// Runs the steps of what a transition does, which has this number, at a place.
+#[inline(always)]
+fn run_act(table: &Table, act: usize, registers: &mut [usize], width: usize, place: usize)
+    requires act { act < length table.now.acts }
+    requires room { with_spare * width ≤ length registers.old }
+    requires place { place < no_slot }
+    ensures { RunsAct table.now act width place registers.old registers.new }
+{
+    let act = table.act(act);
+    run_steps(table.steps(act.steps), registers, width, place);
 }
 
 // Keeps the slots of a thread that comes to a match. Returns whether something is found.

@@ -11,6 +11,9 @@ pub const UNKNOWN: u8 = 8;
 /// The bit of a cell over which a search for two slots has more to do than to keep a hit.
 pub const MORE: u8 = 16;
 
+/// The bit of a cell over which a search has more to do than to run steps.
+pub const STEPS: u8 = 32;
+
 /// All bits: a search of any width has to look.
 pub const ALL: u8 = 255;
 
@@ -21,8 +24,8 @@ pub struct Cell {
     pub next: u32,
     /// The number of what the transition does.
     pub act: u16,
-    /// A bit for each width of a search that has to look at what the transition does, one for what is not known, and one for a
-    /// search for two slots that has more to do than to keep a hit.
+    /// A bit for each width of a search that has to look at what the transition does, one for what is not known, one for a
+    /// search for two slots that has more to do than to keep a hit, and one for a search that has more to do than to run steps.
     pub doing: u8,
     /// The register whose row begins at the place, in a search for two slots that has not to look. It is the spare one if no
     /// row begins. For a search that has only to keep a hit, it is the register of the hit, whose match ends at the place.

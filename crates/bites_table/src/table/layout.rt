@@ -13,7 +13,7 @@ ghost use Rattle.bites_table.specs.Graph as graphs;
 ghost use Rattle.bites_table.specs.Stored.{outcome_of, cell_of};
 ghost use Rattle.bites_table.specs.Steps.{NameRegisters};
 ghost use Rattle.bites_table.specs.Packed.{Packed, classes_in, is_dead, Tells};
-ghost use Rattle.bites_table.specs.LaidOut.{register_thread, AreHeldBelow, AreEntries, IsHeldHit, AreHeldHits, masked, IsOwn, IsKept, IsBegun, IsKeptOrBegun, DoesByBits, PassesByBits, EndsHit, HitsByBits, IsAct, AreActs, Fits, AreLaid};
+ghost use Rattle.bites_table.specs.LaidOut.{register_thread, AreHeldBelow, AreEntries, IsHeldHit, AreHeldHits, masked, IsOwn, IsKept, IsBegun, IsKeptOrBegun, DoesByBits, PassesByBits, EndsHit, HitsByBits, GoesOnByBits, IsAct, AreActs, Fits, AreLaid};
 ghost use Rattle.bites_table.specs.Layout.{AreCells, AreWithin};
 ghost use Rattle.bites_table.specs.declared.thread_list.Thread.{Thread};
 ghost use Rattle.bites_table.specs.declared.steps.Step.{Step};
@@ -25,7 +25,7 @@ use crate::explore::stays::Stays;
 use crate::explore::{Explored, Extent};
 use crate::steps::{MOST_REGISTERS, SPARE, Step};
 use crate::table::act::{Act, Part};
-use crate::table::cell::{ALL, Cell, MORE};
+use crate::table::cell::{ALL, Cell, MORE, STEPS};
 use crate::table::sequence::push_steps;
 use crate::table::{ListEntry, Table};
 use crate::thread_list::{Frame, Source, Starts, Thread, ThreadList};
@@ -267,11 +267,12 @@ fn looks_of(outcome: &Outcome<'_>, next: &ThreadList<'_>, stops: bool) -> Looks
     requires few { length outcome.now.moves.now ≤ 32 }
     ensures passes { PassesByBits (outcome_of outcome.now) (list_of next.now) result.begins result.doing }
     ensures hits { HitsByBits (outcome_of outcome.now) (list_of next.now) result.begins result.doing }
+    ensures goes { GoesOnByBits (outcome_of outcome.now) (list_of next.now) result.doing }
 {
     let begins = SPARE;
-    if stops {
+    if stops || is_dead(next) {
         return Looks {
-            doing: EACH | MORE,
+            doing: EACH | MORE | STEPS,
             begins,
         };
     }
@@ -297,17 +298,18 @@ fn looks_of(outcome: &Outcome<'_>, next: &ThreadList<'_>, stops: bool) -> Looks
 fn hit_looks(outcome: &Outcome<'_>, next: &ThreadList<'_>) -> Looks
     ensures passes { PassesByBits (outcome_of outcome.now) (list_of next.now) result.begins result.doing }
     ensures hits { HitsByBits (outcome_of outcome.now) (list_of next.now) result.begins result.doing }
+    ensures goes { GoesOnByBits (outcome_of outcome.now) (list_of next.now) result.doing }
 {
     if !is_dead(next) && are_kept(next.threads, outcome.moves, FIRST_SLOTS) {
         if let Some(begins) = ended_register(outcome.hit) {
             return Looks {
-                doing: EACH,
+                doing: EACH | STEPS,
                 begins,
             };
         }
     }
     Looks {
-        doing: EACH | MORE,
+        doing: EACH | MORE | STEPS,
         begins: SPARE,
     }
 }

@@ -25,5 +25,6 @@ returns-in-Some-clause-act c =
       few = λ other. c.in-Some.ensures.few;
       passes = c.looks_of.ensures.passes;
       hits = c.looks_of.ensures.hits;
+      goes = c.looks_of.ensures.goes;
     } in
     subst (λ (x : Act). IsAct new o l x) (sym c.act_with-in-Some.ensures) own

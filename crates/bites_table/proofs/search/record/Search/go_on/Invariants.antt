@@ -1,18 +1,7 @@
-use Rattle.std.proofs.Common.{◌-◌, length}
-use Rattle.bites_table.specs.Searches.{IsSame, StandsAt}
 use Rattle.bites_table.proofs.search.record.Search.go_on.Given as goal
 
-abbrev pub ghost-pass : goal.ghost-pass
-ghost-pass g a = g.before
+abbrev pub ghost-go_on_by_two : goal.ghost-go_on_by_two
+ghost-go_on_by_two g a = g.before
 
-abbrev pub ghost-step : goal.ghost-step
-ghost-step g a = g.before
-
-abbrev pub invariant-places : goal.invariant-places
-invariant-places g l = record {
-  same : IsSame l.fn.self l.self;
-  stands : StandsAt l.self g.before l.at l.registers l.is_found l.slots;
-}
-
-abbrev pub decreases-places : goal.decreases-places
-decreases-places g l = length l.self.input.now.haystack.now - l.at.place
+abbrev pub ghost-go_on_by_any : goal.ghost-go_on_by_any
+ghost-go_on_by_any g a = g.before

@@ -4,10 +4,10 @@ use Rattle.bites_machine.specs.Inputs.{is_earliest}
 use Rattle.bites_machine.specs.Resume.{row_in}
 use Rattle.bites_machine.specs.SlotTable.{slot_of}
 use Rattle.bites_table.specs.Steps.{with_spare}
-use Rattle.bites_table.specs.Packed.{mask_of}
+use Rattle.bites_table.specs.Packed.{Packed, mask_of}
 use Rattle.bites_table.specs.Standing.{Asked}
-use Rattle.bites_table.specs.Searches.{asked, more_than_hits, StandsAt}
-use Rattle.bites_table.proofs.SearchesLemmas.{asked_same, asked_still, fresh_at, known_by_byte, IsByte, byte_at, begins_there, keeps_hits, ends_there, passed_on, hit_on, still_there, lent_on}
+use Rattle.bites_table.specs.Searches.{asked, more_to_do, RunsAct, StandsAt}
+use Rattle.bites_table.proofs.SearchesLemmas.{asked_same, asked_still, fresh_at, known_by_byte, IsByte, byte_at, begins_there, more_known, keeps_hits, only_steps, ends_there, passed_on, hit_on, act_there, stepped_on, still_there, lent_on}
 use Rattle.bites_table.proofs.search.record.Search.pass_one.Goals as goal
 
 pub lend-requires-clause-fresh : goal.lend-requires-clause-fresh
@@ -66,46 +66,96 @@ lend-requires-2-clause-fresh g c n row t known =
     fresh_at s is place c.args.at.row words c.args.was_found c.args.slots.now now.counted.walked at n row t (known_by_byte s is place class byte n t known).0
 
 pub lend-requires-2-clause-unless : goal.lend-requires-2-clause-unless
-lend-requires-2-clause-unless g c = λ x n k a tells e.
-    let q = tells.hits (keeps_hits x n k a tells (is_earliest c.args.self.now.input.now.kind) (length c.args.slots.now) c.args.more c.requires.1.0 e).0 in (q.0, q.1)
+lend-requires-2-clause-unless g c = λ x n k a tells e. more_known x n k a tells (is_earliest c.args.self.now.input.now.kind) c.args.width c.args.more c.requires.1.0 e
 
 pub end_row-requires : goal.end_row-requires
 end_row-requires g c =
-    let now = c.lend.new.self in
-    let same = c.in_default.ensures.same in
-    let at = still_there c.args.self.now now g.before c.args.at c.args.registers.now c.args.was_found c.args.slots.now same c.in_default.ensures.kept c.requires.1.1.1.0 in
-    let lent = c.in_ok-lent.ensures.lent at.list at.row_is in
-    let more_is : c.args.more ≡ more_than_hits (is_earliest now.input.now.kind) (length c.args.slots.now) =
-    c.requires.1.0 ∙ ap (λ i. more_than_hits (is_earliest i.now.kind) (length c.args.slots.now)) (sym same.input) in
-    let hits = keeps_hits now.table.now at.list c.class_of_byte-class.result lent.cell lent.tells (is_earliest now.input.now.kind) (length c.args.slots.now) c.args.more more_is lent.bits in
-    record {
-      room = subst (λ w. with_spare * w ≤ length c.args.registers.now) hits.1.1 c.requires.1.1.1.1.1;
-      register = subst (λ r. r < with_spare) (sym lent.begins) (ends_there (asked now g.before) at.list c.class_of_byte-class.result lent.cell lent.tells hits.0);
-      width = hits.1.1;
-    }
-
-pub returns-clause-stands : goal.returns-clause-stands
-returns-clause-stands g c =
+    let was = c.args.self.now in
     let now = c.lend.new.self in
     let same = c.in_default.ensures.same in
     let words = c.args.registers.now in
     let place = c.args.at.place in
     let class = c.class_of_byte-class.result in
     let s = asked now g.before in
-    let is = asked_still c.args.self.now now g.before same c.requires.1.1.0 in
-    let at = still_there c.args.self.now now g.before c.args.at words c.args.was_found c.args.slots.now same c.in_default.ensures.kept c.requires.1.1.1.0 in
-    let byte : IsByte s place class = subst (λ (q : Asked). IsByte q place class) (sym (asked_same c.args.self.now now g.before same))
-    (byte_at (asked c.args.self.now g.before) c.args.haystack.now place class c.requires.0 c.if-at-haystack.false c.class_of_byte-class.ensures.ascii c.class_of_byte-class.ensures.past) in
+    let at = still_there was now g.before c.args.at words c.args.was_found c.args.slots.now same c.in_default.ensures.kept c.requires.1.1.1.0 in
     let lent = c.in_ok-lent.ensures.lent at.list at.row_is in
-    let more_is : c.args.more ≡ more_than_hits (is_earliest now.input.now.kind) (length c.args.slots.now) =
-    c.requires.1.0 ∙ ap (λ i. more_than_hits (is_earliest i.now.kind) (length c.args.slots.now)) (sym same.input) in
-    let hits = keeps_hits now.table.now at.list c.class_of_byte-class.result lent.cell lent.tells (is_earliest now.input.now.kind) (length c.args.slots.now) c.args.more more_is lent.bits in
-    let two = hits.1.1 in
-    let room = subst (λ w. with_spare * w ≤ length words) two c.requires.1.1.1.1.1 in
+    let more_is : c.args.more ≡ more_to_do (is_earliest now.input.now.kind) c.args.width =
+    c.requires.1.0 ∙ ap (λ i. more_to_do (is_earliest i.now.kind) c.args.width) (sym same.input) in
+    let two = c.if-width-eq2.true in
+    let hits = keeps_hits now.table.now at.list class lent.cell lent.tells (is_earliest now.input.now.kind) c.args.width c.args.more more_is two lent.bits in
+    record {
+      room = subst (λ w. with_spare * w ≤ length words) two c.requires.1.1.1.1.1.0;
+      register = subst (λ r. r < with_spare) (sym lent.begins) (ends_there s at.list class lent.cell lent.tells hits.0);
+      width = c.requires.1.1.1.1.1.1 ∙ two;
+    }
+
+pub returns-then-width-eq2-clause-stands : goal.returns-then-width-eq2-clause-stands
+returns-then-width-eq2-clause-stands g c =
+    let was = c.args.self.now in
+    let now = c.lend.new.self in
+    let same = c.in_default.ensures.same in
+    let words = c.args.registers.now in
+    let place = c.args.at.place in
+    let class = c.class_of_byte-class.result in
+    let s = asked now g.before in
+    let at = still_there was now g.before c.args.at words c.args.was_found c.args.slots.now same c.in_default.ensures.kept c.requires.1.1.1.0 in
+    let lent = c.in_ok-lent.ensures.lent at.list at.row_is in
+    let more_is : c.args.more ≡ more_to_do (is_earliest now.input.now.kind) c.args.width =
+    c.requires.1.0 ∙ ap (λ i. more_to_do (is_earliest i.now.kind) c.args.width) (sym same.input) in
+    let is = asked_still was now g.before same c.requires.1.1.0 in
+    let byte : IsByte s place class = subst (λ (q : Asked). IsByte q place class) (sym (asked_same was now g.before same))
+    (byte_at (asked was g.before) c.args.haystack.now place class c.requires.0 c.if-at-haystack.false c.class_of_byte-class.ensures.ascii c.class_of_byte-class.ensures.past) in
+    let two = c.if-width-eq2.true in
+    let hits = keeps_hits now.table.now at.list class lent.cell lent.tells (is_earliest now.input.now.kind) c.args.width c.args.more more_is two lent.bits in
+    let room = subst (λ w. with_spare * w ≤ length words) two c.requires.1.1.1.1.1.0 in
     let left : c.end_row.new.slots ≡ slot_of (slice_index words (lent.cell.begins * 2)) ∷ Some place ∷ [] =
     c.end_row.ensures ∙ ap (λ r. slot_of (slice_index words (r * 2)) ∷ Some place ∷ []) lent.begins in
-    let on = hit_on s is place c.args.at.row words c.args.was_found c.args.slots.now now.counted.walked at class byte lent.cell lent.tells hits.0 hits.1.0 (sym c.requires.1.1.1.1.0 ∙ two) room in (
+    let on = hit_on s is place c.args.at.row words c.args.was_found c.args.slots.now now.counted.walked at class byte lent.cell lent.tells hits.0 hits.1 (sym c.requires.1.1.1.1.0 ∙ two) room in (
       subst (λ (l : List (Option ℕ)). StandsAt c.lend-2.new.self g.before (record { place = place + 1; row = c.in_ok-lent.lent.next }) words true l) (sym left)
           (lent_on now c.lend-2.new.self g.before place at.list class _ c.in_ok-lent.lent c.in_ok-lent.ensures.same lent words true _ on),
+      omega arith,
+    )
+
+pub run_act-requires-clause-act : goal.run_act-requires-clause-act
+run_act-requires-clause-act g c =
+    let was = c.args.self.now in
+    let now = c.lend.new.self in
+    let same = c.in_default.ensures.same in
+    let words = c.args.registers.now in
+    let place = c.args.at.place in
+    let class = c.class_of_byte-class.result in
+    let s = asked now g.before in
+    let at = still_there was now g.before c.args.at words c.args.was_found c.args.slots.now same c.in_default.ensures.kept c.requires.1.1.1.0 in
+    let lent = c.in_ok-lent.ensures.lent at.list at.row_is in
+    let more_is : c.args.more ≡ more_to_do (is_earliest now.input.now.kind) c.args.width =
+    c.requires.1.0 ∙ ap (λ i. more_to_do (is_earliest i.now.kind) c.args.width) (sym same.input) in
+    let steps = only_steps lent.cell (is_earliest now.input.now.kind) c.args.width c.args.more more_is c.if-width-eq2.false lent.bits in
+    subst (λ (x : Packed). c.in_ok-lent.lent.act < length x.acts) (sym (ap (λ t. t.now) c.in_ok-lent.ensures.same.table))
+    (subst (λ n. n < length now.table.now.acts) (sym lent.act) (act_there s at.list class lent.cell lent.tells steps))
+
+pub returns-clause-stands : goal.returns-clause-stands
+returns-clause-stands g c =
+    let was = c.args.self.now in
+    let now = c.lend.new.self in
+    let same = c.in_default.ensures.same in
+    let words = c.args.registers.now in
+    let place = c.args.at.place in
+    let class = c.class_of_byte-class.result in
+    let s = asked now g.before in
+    let at = still_there was now g.before c.args.at words c.args.was_found c.args.slots.now same c.in_default.ensures.kept c.requires.1.1.1.0 in
+    let lent = c.in_ok-lent.ensures.lent at.list at.row_is in
+    let more_is : c.args.more ≡ more_to_do (is_earliest now.input.now.kind) c.args.width =
+    c.requires.1.0 ∙ ap (λ i. more_to_do (is_earliest i.now.kind) c.args.width) (sym same.input) in
+    let is = asked_still was now g.before same c.requires.1.1.0 in
+    let byte : IsByte s place class = subst (λ (q : Asked). IsByte q place class) (sym (asked_same was now g.before same))
+    (byte_at (asked was g.before) c.args.haystack.now place class c.requires.0 c.if-at-haystack.false c.class_of_byte-class.ensures.ascii c.class_of_byte-class.ensures.past) in
+    let steps = only_steps lent.cell (is_earliest now.input.now.kind) c.args.width c.args.more more_is c.if-width-eq2.false lent.bits in
+    let new = c.run_act.new.registers in
+    let runs : RunsAct now.table.now lent.cell.act (length g.before) place words new =
+    subst (λ (x : Packed). RunsAct x lent.cell.act (length g.before) place words new) (ap (λ t. t.now) c.in_ok-lent.ensures.same.table)
+    (subst (λ w. RunsAct c.lend-2.new.self.table.now lent.cell.act w place words new) c.requires.1.1.1.1.0
+    (subst (λ n. RunsAct c.lend-2.new.self.table.now n c.args.width place words new) lent.act c.run_act.ensures)) in (
+      lent_on now c.lend-2.new.self g.before place at.list class _ c.in_ok-lent.lent c.in_ok-lent.ensures.same lent new c.args.was_found c.args.slots.now
+          (stepped_on s is place c.args.at.row words c.args.was_found c.args.slots.now now.counted.walked at class byte lent.cell lent.tells steps new runs),
       omega arith,
     )
