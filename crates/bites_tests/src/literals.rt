@@ -36,6 +36,8 @@ fn begins_by_hand(rt: HostRuntime) -> Result<(), Error> {
         (r"(\w+)@(\w+)", "a b\nc d@e", 2, Begin::From(6)),
         ("(?:zq){2,}", "zzqzq", 0, Begin::From(1)),
         ("é+zq", "aéézq", 0, Begin::From(1)),
+        ("^zq", "a zq", 0, Begin::From(0)),
+        (r"(\Azq)x", "zq zqx", 1, Begin::From(1)),
     ] {
         let found = prefilter(rt.alloc(), pattern)?.ok_or(Error::Memory)?;
         assert_eq!(rt; found.begin(haystack.as_bytes(), *start), *begin);
@@ -153,8 +155,6 @@ fn has_none(rt: HostRuntime) -> Result<(), Error> {
         "é",
         " ",
         r"^\b$",
-        "^zq",
-        r"(\Azq)x",
         "foo|b",
         "aaa|bbb|ccc|ddd|eee|fff|ggg|hhh|iii|jjj|kkk|lll|mmm|nnn|ooo|ppp|qq",
         "foo|bar|",
