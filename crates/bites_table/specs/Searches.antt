@@ -1,5 +1,5 @@
 -- One search of the code by a table.
-use Rattle.std.specs.Prelude.{◌≡◌, ℕ, ◌<◌, Bool, not, ◌||◌, ◌==◌, if◌then◌else◌, List, length, reverse, Option, Some, None, slice_get, slice_range, bit_and}
+use Rattle.std.specs.Prelude.{◌≡◌, ℕ, ◌<◌, Bool, not, ◌==◌, if◌then◌else◌, List, length, reverse, Option, Some, None, slice_get, slice_range, bit_and}
 use Rattle.bites_spec.specs.Walks.{AllApart}
 use Rattle.bites_machine.specs.Inputs.{is_earliest}
 use Rattle.bites_machine.specs.Trace.{after_place}
