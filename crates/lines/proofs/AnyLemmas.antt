@@ -1,5 +1,5 @@
 -- Whether a line of an input is selected, as lines are read one after another.
-use Rattle.std.proofs.Common.{◌≡◌, ℕ, Bool, true, false, not, List, [], ◌∷◌, Option, Some, None, IfSome, refl, sym, subst, inl, inr}
+use Rattle.std.proofs.Common.{ℕ, Bool, true, false, not, List, Option, Some, None, IfSome, refl, sym, subst, inl, inr}
 use Rattle.bites_spec.specs.Tree.{Tree}
 use Rattle.bites_filter.specs.Lines.{lines_of, ReadsLine}
 use Rattle.lines.specs.Selected.{IsAskedFor, IsAnySelected}

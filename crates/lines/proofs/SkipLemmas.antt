@@ -1,5 +1,5 @@
 -- Lines of a buffer in which nothing matches.
-use Rattle.std.proofs.Common.{◌≡◌, ℕ, zero, suc, ◌+◌, ◌-◌, ◌<◌, ◌≤◌, Bool, true, false, not, List, [], ◌∷◌, ◌++◌, length, take, get_or, Option, Some, None, refl, sym, ap, ◌∙◌, subst, inl, inr, arith, append_assoc, lt-ltb}
+use Rattle.std.proofs.Common.{◌≡◌, ℕ, zero, suc, ◌+◌, ◌-◌, ◌≤◌, Bool, true, false, not, List, [], ◌∷◌, ◌++◌, length, take, get_or, Option, Some, None, refl, sym, ap, ◌∙◌, subst, inr, arith, append_assoc, lt-ltb}
 use Rattle.std.proofs.lemmas.List.{length-append, length_push, get_or_push, take-append-le, take_all}
 use Rattle.std.specs.Prelude.{◌==◌, ◌&&◌}
 use Rattle.std.specs.Io.BufRead.{ends_with_byte, strip_last}
@@ -57,7 +57,7 @@ module _ (s : Filter) (off : s.invert ≡ false) (hay : List ℕ) (end : ℕ) (n
 
   -- whole lines at the front of the haystack that end no later than no part matches
   pub idle_front : (xs after : List ℕ) → hay ≡ xs ++ after → length xs ≤ end → AreWhole xs → AreIdle Filters s (lines_of xs)
-  idle_front xs after is within whole = idle_from (length xs) [] xs after (omega arith) is within whole
+  idle_front xs after is within whole = idle_from (length xs) [] xs after (omega arith) is (omega (arith, within)) whole
 
 none_selected : (s : Filter) (ls rest : List (List ℕ)) (any : Bool) → AreIdle Filters s ls → IsAnySelected s.searcher.tree s.invert rest any →
     IsAnySelected s.searcher.tree s.invert (ls ++ rest) any
