@@ -1,11 +1,11 @@
 -- Lines that are skipped.
-use Rattle.std.proofs.Common.{◌≡◌, ℕ, zero, suc, ◌+◌, ◌-◌, ◌<◌, ◌≤◌, true, false, cond, List, [], ◌∷◌, ◌++◌, length, take, get_or, Option, Some, None, refl, sym, ap, ◌∙◌, subst, ⊎_elim, arith, append_assoc, add-zero, eqb-true, ne_eqb}
+use Rattle.std.proofs.Common.{◌≡◌, ℕ, zero, suc, ◌+◌, ◌-◌, ◌<◌, ◌≤◌, true, false, cond, List, [], ◌∷◌, ◌++◌, length, take, drop, get_or, Option, Some, None, refl, sym, ap, ◌∙◌, subst, ⊎_elim, arith, append_assoc, add-zero, eqb-true, ne_eqb}
 use Rattle.std.proofs.lemmas.Bool.{cases_Bool}
-use Rattle.std.proofs.lemmas.List.{take_more}
+use Rattle.std.proofs.lemmas.List.{take_more, take-take, take-append-drop, drop-take}
 use Rattle.std.specs.Prelude.{◌==◌, Bool}
 use Rattle.std.specs.Io.KnownBytes.{Consumes, Keeps}
 use Rattle.bites_filter.proofs.LineLemmas.{IsSoFar, lines_first}
-use Rattle.bites_filter.specs.Lines.{lines_of, put_in_front, AreWhole, AreIdle, IsNothingFor, SkipsLines, DoesEach}
+use Rattle.bites_filter.specs.Lines.{lines_of, line_feeds, put_in_front, AreWhole, AreIdle, IsNothingFor, SkipsLines, DoesEach}
 
 -- ## Whole lines
 
@@ -38,34 +38,46 @@ lines_append (b ∷ c ∷ cs) ys whole = ⊎_elim
     rw is (ap (put_in_front b) (lines_append (c ∷ cs) ys whole) ∙ put_append b _ _ (lines_of ys) (lines_of (c ∷ cs)) (lines_first c cs)))
     (cases_Bool (b == 10))
 
--- how many line feeds there are
-abbrev pub feeds : List ℕ → ℕ
-feeds [] = 0
-feeds (b ∷ bs) = cond (b == 10) 1 0 + feeds bs
-
 put_length : (b : ℕ) (l : List ℕ) (ls all : List (List ℕ)) → all ≡ l ∷ ls → length (put_in_front b all) ≡ length all
 put_length b l ls all is = subst (λ a. length (put_in_front b a) ≡ length a) (sym is) refl
 
-pub as_many : (xs : List ℕ) → AreWhole xs → length (lines_of xs) ≡ feeds xs
+pub as_many : (xs : List ℕ) → AreWhole xs → length (lines_of xs) ≡ line_feeds xs
 as_many [] whole = refl
-as_many (b ∷ []) is = subst (λ c. length (lines_of (c ∷ [])) ≡ feeds (c ∷ [])) (sym is) refl
+as_many (b ∷ []) is = subst (λ c. length (lines_of (c ∷ [])) ≡ line_feeds (c ∷ [])) (sym is) refl
 as_many (b ∷ c ∷ cs) whole = ⊎_elim
     (λ (is : (b == 10) ≡ true). rw is (let on = as_many (c ∷ cs) whole in omega (arith, on)))
     (λ (is : (b == 10) ≡ false). rw is (let on = put_length b _ _ (lines_of (c ∷ cs)) (lines_first c cs) ∙ as_many (c ∷ cs) whole in omega (arith, on)))
     (cases_Bool (b == 10))
 
-pub feeds_push : (xs : List ℕ) (b : ℕ) → feeds (xs ++ b ∷ []) ≡ feeds xs + cond (b == 10) 1 0
-feeds_push [] b = omega arith
-feeds_push (x ∷ xs) b = let on = feeds_push xs b in omega (arith, on)
+pub line_feeds_push : (xs : List ℕ) (b : ℕ) → line_feeds (xs ++ b ∷ []) ≡ line_feeds xs + cond (b == 10) 1 0
+line_feeds_push [] b = omega arith
+line_feeds_push (x ∷ xs) b = let on = line_feeds_push xs b in omega (arith, on)
 
-pub feeds_hit : (xs : List ℕ) (i : ℕ) → i < length xs → get_or xs i 0 ≡ 10 → feeds (take (i + 1) xs) ≡ feeds (take i xs) + 1
-feeds_hit xs i lt is =
-    ap feeds (take_more xs i 0 lt) ∙ feeds_push (take i xs) (get_or xs i 0) ∙ ap (λ b. feeds (take i xs) + cond (b == 10) 1 0) is
+pub line_feeds_hit : (xs : List ℕ) (i : ℕ) → i < length xs → get_or xs i 0 ≡ 10 → line_feeds (take (i + 1) xs) ≡ line_feeds (take i xs) + 1
+line_feeds_hit xs i lt is =
+    ap line_feeds (take_more xs i 0 lt) ∙ line_feeds_push (take i xs) (get_or xs i 0) ∙ ap (λ b. line_feeds (take i xs) + cond (b == 10) 1 0) is
 
-pub feeds_miss : (xs : List ℕ) (i : ℕ) → i < length xs → (get_or xs i 0 ≡ 10 → ⊥) → feeds (take (i + 1) xs) ≡ feeds (take i xs)
-feeds_miss xs i lt not =
-    ap feeds (take_more xs i 0 lt) ∙ feeds_push (take i xs) (get_or xs i 0) ∙ ap (λ b. feeds (take i xs) + cond b 1 0) (ne_eqb (get_or xs i 0) 10 not)
-    ∙ add-zero (feeds (take i xs))
+pub line_feeds_miss : (xs : List ℕ) (i : ℕ) → i < length xs → (get_or xs i 0 ≡ 10 → ⊥) → line_feeds (take (i + 1) xs) ≡ line_feeds (take i xs)
+line_feeds_miss xs i lt not =
+    ap line_feeds (take_more xs i 0 lt) ∙ line_feeds_push (take i xs) (get_or xs i 0) ∙ ap (λ b. line_feeds (take i xs) + cond b 1 0) (ne_eqb (get_or xs i 0) 10 not)
+    ∙ add-zero (line_feeds (take i xs))
+
+line_feeds_append : (xs ys : List ℕ) → line_feeds (xs ++ ys) ≡ line_feeds xs + line_feeds ys
+line_feeds_append [] ys = omega arith
+line_feeds_append (x ∷ xs) ys = let on = line_feeds_append xs ys in omega (arith, on)
+
+pub line_feeds_further : (xs : List ℕ) (a n : ℕ) → a + n ≤ length xs → line_feeds (take (a + n) xs) ≡ line_feeds (take a xs) + line_feeds (take n (drop a xs))
+line_feeds_further xs a n within =
+    let front : take a (take (a + n) xs) ≡ take a xs = take-take a (a + n) xs (omega arith) in
+    ap line_feeds (sym (take-append-drop a (take (a + n) xs)) ∙ ap (λ l. l ++ drop a (take (a + n) xs)) front ∙ ap (λ l. take a xs ++ l) (drop-take a n xs))
+    ∙ line_feeds_append (take a xs) (take n (drop a xs))
+
+pub line_feeds_few : (xs : List ℕ) → line_feeds xs ≤ length xs
+line_feeds_few [] = omega arith
+line_feeds_few (x ∷ xs) = let on = line_feeds_few xs in ⊎_elim
+    (λ (is : (x == 10) ≡ true). rw is (omega (arith, on)))
+    (λ (is : (x == 10) ≡ false). rw is (omega (arith, on)))
+    (cases_Bool (x == 10))
 
 -- bytes up to a line feed, with it, are whole lines
 whole_to : (xs : List ℕ) (n : ℕ) → n < length xs → get_or xs n 0 ≡ 10 → AreWhole (take (suc n) xs)
@@ -102,6 +114,10 @@ module _ {S : Type 0} (Does : S → ℕ → List ℕ → List ℕ → Bool → S
         (subst (λ ls. DoesEach Does n ls s text more t) (sym (ap lines_of is ∙ lines_append lines zs whole))
         (idle_each n (lines_of lines) (lines_of zs) s text more t idle (subst (λ k. DoesEach Does (n + k) (lines_of zs) s text more t) many each))),
   )
+
+  pub not_tried : (s : S) (known : Option (List ℕ)) → SkipsLines Does s known 0 known
+  not_tried s None = tt
+  not_tried s (Some xs) = ([], refl, (tt, tt), refl)
 
   pub none_skipped : (s : S) (old new : Option (List ℕ)) → Keeps old new → SkipsLines Does s old 0 new
   none_skipped s None new kept = tt

@@ -23,6 +23,11 @@ ReadsLine (Some xs) false line rest = lines_of xs ≡ []
 ReadsLine (Some xs) true line None = ⊥
 ReadsLine (Some xs) true line (Some ys) = lines_of xs ≡ line ∷ lines_of ys
 
+-- how many line feeds there are
+abbrev pub line_feeds : List ℕ → ℕ
+line_feeds [] = 0
+line_feeds (b ∷ bs) = cond (b == 10) 1 0 + line_feeds bs
+
 -- the last of the bytes, if there is one, is a line feed
 abbrev pub AreWhole : List ℕ → Type 0
 AreWhole [] = Unit {0}

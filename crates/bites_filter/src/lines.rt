@@ -3,11 +3,55 @@
 ghost use Rattle.std.specs.Prelude.{◌≡◌, ◌+◌, ◌≤◌, ℕ, List, Bool, IfOk, IfSome, length, take};
 ghost use Rattle.std.specs.Io.KnownBytes.{Appends};
 ghost use Rattle.std.specs.Io.BufRead.{strip_last};
-ghost use Rattle.bites_filter.specs.Lines.{lines_of, line_feed_of, AreWhole, IsNothingFor, ReadsLine, SkipsLines, DoesEach};
+ghost use Rattle.bites_filter.specs.Lines.{lines_of, line_feed_of, line_feeds, AreWhole, IsNothingFor, ReadsLine, SkipsLines, DoesEach};
 
 use crate::fault::Fault;
 use std::alloc::Global;
 use std::io::{self, BufRead, ErrorKind, Write};
+
+// After how many lines in a row before which none was skipped others are read without a try, and how many.
+const PATIENCE: u8 = 4;
+
+const LEFT_OUT: u8 = 16;
+
+/// When a program tries to skip lines. Where it seldom can, most lines are read without a try. Only speed depends on it.
+#[derive(Clone, Copy, Drop)]
+pub struct Tries {
+    // How many tries in a row skipped nothing.
+    vain: u8,
+    // How many lines to come are read without a try.
+    left_out: u8,
+}
+
+impl Tries {
+    /// Returns the tries of an input that is not read yet.
+    pub fn new() -> Tries {
+        Tries {
+            vain: 0,
+            left_out: 0,
+        }
+    }
+
+    // Returns whether to try before the next line.
+    fn is_next(&mut self) -> bool {
+        if self.left_out == 0 {
+            return true;
+        }
+        self.left_out -= 1;
+        false
+    }
+
+    // Counts a try that skipped so many lines.
+    fn count(&mut self, lines: u64) {
+        if lines > 0 {
+            self.vain = 0;
+        } else if self.vain < PATIENCE {
+            self.vain += 1;
+        } else {
+            self.left_out = LEFT_OUT;
+        }
+    }
+}
 
 /// What a program does with each line of its input.
 pub trait LineTask {
@@ -45,10 +89,11 @@ pub fn each_line<T: LineTask, R: BufRead, W: Write>(
         × Appends (W.contents out.old) (W.contents out.new) text)) }
 {
     let mut line = Vec::new(alloc);
+    let mut tries = Tries::new();
     let mut number = 0;
     let mut count = 0;
     'lines: for _ in 0..u64::MAX {
-        number = number_after(number, skip_lines(task, input)?)?;
+        number = number_after(number, skip_lines(task, input, &mut tries)?)?;
         if !next_line(input, &mut line)? {
             return Ok(count);
         }
@@ -60,13 +105,21 @@ pub fn each_line<T: LineTask, R: BufRead, W: Write>(
     Err(Fault::too_long())
 }
 
-/// Skips lines that the task has nothing to do for, at the front of what is read and not yet consumed. Returns how many.
+/// Skips lines that the task has nothing to do for, at the front of what is read and not yet consumed, if it is time for a
+/// try. Returns how many.
 ///
 /// What is read may end within a line, so lines may follow that it doesn't skip though there is nothing to do for them.
-pub fn skip_lines<T: LineTask, R: BufRead>(task: &T, input: &mut R) -> Result<u64, Fault>
+pub fn skip_lines<T: LineTask, R: BufRead>(
+    task: &T,
+    input: &mut R,
+    tries: &mut Tries,
+) -> Result<u64, Fault>
     ensures { IfOk result (λ count. SkipsLines T.does task.now (R.Read.remaining input.old) count
         (R.Read.remaining input.new)) }
 {
+    if !tries.is_next() {
+        return Ok(0);
+    }
     let buffer = match input.fill_buf() {
         Ok(buffer) => buffer,
         Err(error) if error.kind() == ErrorKind::Interrupted => return Ok(0),
@@ -75,6 +128,7 @@ pub fn skip_lines<T: LineTask, R: BufRead>(task: &T, input: &mut R) -> Result<u6
     let end = task.skip(buffer);
     let count = count_lines(&buffer[..end]);
     input.consume(end);
+    tries.count(count);
     Ok(count)
 }
 
@@ -88,11 +142,29 @@ fn number_after(number: u64, lines: u64) -> Result<u64, Fault>
     }
 }
 
+// How many bytes are counted at once: as many as fit into the sums of a vector of bytes.
+const COUNTED: usize = 255;
+
 // Returns how many lines these bytes are, if a line feed ends each of them.
 fn count_lines(bytes: &[u8]) -> u64
     ensures { AreWhole bytes.now → result ≡ length (lines_of bytes.now) }
 {
     let mut count = 0;
+    let mut at = 0;
+    'parts: while at < bytes.len() {
+        let end = at + (bytes.len() - at).min(COUNTED);
+        count += count_line_feeds(&bytes[at..end]) as u64;
+        at = end;
+    }
+    count
+}
+
+// Returns how many line feeds there are. The sum is a byte, so that the compiler adds many at once.
+fn count_line_feeds(bytes: &[u8]) -> u8
+    requires { length bytes.now ≤ 255 }
+    ensures { result ≡ line_feeds bytes.now }
+{
+    let mut count = 0u8;
     for byte in bytes {
         if *byte == b'\n' {
             count += 1;

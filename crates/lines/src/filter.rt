@@ -9,7 +9,9 @@ use crate::options::{Format, Show};
 use crate::shown::{write_ending, write_name, write_shown};
 use bites_bytes::bytes::Searcher;
 use bites_filter::fault::Fault;
-use bites_filter::lines::{LineTask, each_line, len_of_lines, next_line, skip_lines, without_line_feed};
+use bites_filter::lines::{
+    LineTask, Tries, each_line, len_of_lines, next_line, skip_lines, without_line_feed,
+};
 use std::alloc::Global;
 use std::io::{self, BufRead, Write};
 
@@ -122,8 +124,9 @@ fn any_line<R: BufRead>(
     ensures same { filter.new ≡ filter.old }
 {
     let mut line = Vec::new(alloc);
+    let mut tries = Tries::new();
     for _ in 0..u64::MAX {
-        skip_lines(filter, input)?;
+        skip_lines(filter, input, &mut tries)?;
         if !next_line(input, &mut line)? {
             return Ok(false);
         }

@@ -33,22 +33,31 @@ const PATIENCE: u8 = 8;
 
 const LEFT_OUT: u8 = 16;
 
-// Which searches leave the literal out, since it stood close to the starts of those before. Only speed depends on it.
+// When a search looks for a literal. Where it stood close to the starts of many searches, most of those that follow leave it out.
+// Only speed depends on it.
 #[derive(Clone, Copy, Drop)]
-struct Pause {
+struct Tries {
     // How many searches in a row found it there.
     near: u8,
     // How many searches to come leave it out.
-    left: u8,
+    left_out: u8,
 }
 
-impl Pause {
+impl Tries {
+    // Returns the tries of searches of which none was made yet.
+    fn new() -> Tries {
+        Tries {
+            near: 0,
+            left_out: 0,
+        }
+    }
+
     // Returns whether the next search looks for a literal.
-    fn is_over(&mut self) -> bool {
-        if self.left == 0 {
+    fn is_next(&mut self) -> bool {
+        if self.left_out == 0 {
             return true;
         }
-        self.left -= 1;
+        self.left_out -= 1;
         false
     }
 
@@ -59,7 +68,7 @@ impl Pause {
         } else if self.near < PATIENCE {
             self.near += 1;
         } else {
-            self.left = LEFT_OUT;
+            self.left_out = LEFT_OUT;
         }
     }
 }
@@ -71,13 +80,13 @@ impl Pause {
 /// For proofs: a contract sees which regexes it fits, and what the last search visited.
 pub struct Cache {
     room: cache::Cache,
-    pause: Pause,
+    tries: Tries,
 }
 
 // A caller that drops one relies on this function, and on no type below it.
 impl Drop for Cache {
     fn drop(self) {
-        let Cache { room: _, pause: _ } = self;
+        let Cache { room: _, tries: _ } = self;
     }
 }
 
@@ -95,7 +104,7 @@ impl Cache {
     {
         Ok(Cache {
             room: cache::Cache::new(program)?,
-            pause: Pause { near: 0, left: 0 },
+            tries: Tries::new(),
         })
     }
 
@@ -105,7 +114,7 @@ impl Cache {
     {
         Ok(Cache {
             room: cache::Cache::for_slots(program, slots)?,
-            pause: Pause { near: 0, left: 0 },
+            tries: Tries::new(),
         })
     }
 
@@ -137,7 +146,7 @@ impl Cache {
         ensures begins { BeginsAt regex.now haystack.now start result }
         ensures same { self.new ≡ self.old }
     {
-        if !self.pause.is_over() {
+        if !self.tries.is_next() {
             return start;
         }
         let place = regex.begin(haystack, start);
@@ -146,7 +155,7 @@ impl Cache {
         } else {
             Some(place.saturating_sub(start))
         };
-        self.pause.count(passed);
+        self.tries.count(passed);
         place
     }
 

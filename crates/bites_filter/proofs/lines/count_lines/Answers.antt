@@ -1,24 +1,25 @@
-use Rattle.std.proofs.Common.{rules, ◌≡◌, ◌+◌, ap, sym, ◌∙◌, subst, take, length, arith}
-use Rattle.std.proofs.lemmas.List.{take_all}
-use Rattle.bites_filter.proofs.SkipLemmas.{feeds, feeds_hit, feeds_miss, as_many}
-use Rattle.bites_filter.proofs.lines.count_lines.Goals.{then-byte-eq10, else-byte-eq10}
+use Rattle.std.proofs.Common.{rules, ◌≡◌, ◌+◌, ◌≤◌, ap, sym, ◌∙◌, take, drop, length, arith}
+use Rattle.std.proofs.lemmas.List.{take_all, length-drop, length-take-le}
+use Rattle.bites_filter.specs.Lines.{line_feeds}
+use Rattle.bites_filter.proofs.SkipLemmas.{as_many, line_feeds_few, line_feeds_further}
 use Rattle.bites_filter.proofs.lines.count_lines.Goals as goal
 
-pub loop-byte-preserved : goal.loop-byte-preserved
-loop-byte-preserved c =
-    let bytes = c.args.bytes.now in let i = c.loop-byte.byte-index in
-    elim c.if-byte-eq10.branch [
-      | then-byte-eq10 w ↦ record {
-          counted = w.count-is ∙ ap (λ n. n + 1) c.loop-byte.invariant.counted ∙ sym (feeds_hit bytes i (search rules) w.if-byte-eq10.true);
-          few = omega (arith, w.count-is, c.loop-byte.invariant.few);
-        }
-      | else-byte-eq10 w ↦ record {
-          counted = w.count-is ∙ c.loop-byte.invariant.counted ∙ sym (feeds_miss bytes i (search rules) w.if-byte-eq10.false);
-          few = omega (arith, w.count-is, c.loop-byte.invariant.few);
-        }
-    ]
+pub parts-preserved : goal.parts-preserved
+parts-preserved c =
+    let bytes = c.args.bytes.now in let at = c.parts.at in let n = c.min.result in
+    let within : at + n ≤ length bytes = omega (arith, c.min.ensures, c.parts.invariant.within) in
+    let part : c.count_line_feeds.result ≡ line_feeds (take n (drop at bytes)) =
+    c.count_line_feeds.ensures ∙ ap (λ k. line_feeds (take k (drop at bytes))) (omega arith) in
+    let more = line_feeds_further bytes at n within in
+    let few = line_feeds_few (take n (drop at bytes)) in
+    let long = length-take-le n (drop at bytes) (omega (arith, length-drop at bytes, within)) in
+    record {
+      within = within;
+      counted = omega (arith, c.parts.invariant.counted, part, more);
+      few = omega (arith, c.parts.invariant.few, part, few, long);
+    }
 
 pub returns : goal.returns
 returns c whole =
     let bytes = c.args.bytes.now in
-    c.loop-byte.invariant.counted ∙ ap feeds (take_all c.loop-byte.byte-index bytes (search rules)) ∙ sym (as_many bytes whole)
+    c.parts.invariant.counted ∙ ap line_feeds (take_all c.parts.at bytes (search rules)) ∙ sym (as_many bytes whole)

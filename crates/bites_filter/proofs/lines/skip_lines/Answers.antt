@@ -1,7 +1,7 @@
 use Rattle.std.proofs.Common.{rules, ◌≡◌, take, subst}
 use Rattle.std.specs.Io.BufRead.{FillKeeps, DropsConsumable}
 use Rattle.std.proofs.BufReadLemmas.{Consumes_shown}
-use Rattle.bites_filter.proofs.SkipLemmas.{none_skipped, consumed}
+use Rattle.bites_filter.proofs.SkipLemmas.{not_tried, none_skipped, consumed}
 use Rattle.bites_filter.proofs.lines.skip_lines.Goals as goal
 
 pub returns-in-Err : goal.returns-in-Err
@@ -19,3 +19,6 @@ returns g c =
     c.skip-end.ensures.within c.in-Ok.ensures.front c.in-Ok.ensures.end filled.0 filled.1 c.consume.ensures.bytes in
     consumed g.T.LineTask.does c.args.task.now left (g.R.Read.remaining c.consume.new.self) (take c.skip-end.result shown) c.count_lines-count.result taken.0
     c.skip-end.ensures.nothing (search rules)
+
+pub returns-then-not-is_next : goal.returns-then-not-is_next
+returns-then-not-is_next g c = not_tried g.T.LineTask.does c.args.task.now (g.R.Read.remaining c.args.input.now)
