@@ -71,9 +71,38 @@ fn run_step(step: Step, registers: &mut [usize], width: usize, place: usize)
     }
 }
 
-// Copies the row of a register to another. It is a call, so that the loop of a search keeps its registers.
-#[inline(never)]
+// Copies the row of a register to another. But for two slots, as most searches have, that is a call, so that the loop of a search
+// keeps its registers.
+#[inline(always)]
 fn copy_row(registers: &mut [usize], width: usize, to: u8, from: u8)
+    requires room { with_spare * width ≤ length registers.old }
+    requires to { to < with_spare }
+    requires from { from < with_spare }
+    ensures copied { row_in registers.new width to ≡ row_in registers.old width from }
+    ensures others { (r : ℕ) → r < with_spare → r ≢ to → row_in registers.new width r ≡ row_in registers.old width r }
+{
+    if width == 2 {
+        copy_slots(registers, 2, to, from);
+    } else {
+        copy_more_slots(registers, width, to, from);
+    }
+}
+
+// The same for any number of slots, as a call.
+#[inline(never)]
+fn copy_more_slots(registers: &mut [usize], width: usize, to: u8, from: u8)
+    requires room { with_spare * width ≤ length registers.old }
+    requires to { to < with_spare }
+    requires from { from < with_spare }
+    ensures copied { row_in registers.new width to ≡ row_in registers.old width from }
+    ensures others { (r : ℕ) → r < with_spare → r ≢ to → row_in registers.new width r ≡ row_in registers.old width r }
+{
+    copy_slots(registers, width, to, from);
+}
+
+// The same, slot by slot.
+#[inline(always)]
+fn copy_slots(registers: &mut [usize], width: usize, to: u8, from: u8)
     requires room { with_spare * width ≤ length registers.old }
     requires to { to < with_spare }
     requires from { from < with_spare }
@@ -87,9 +116,35 @@ fn copy_row(registers: &mut [usize], width: usize, to: u8, from: u8)
     }
 }
 
-// Writes to no slot of the row of a register. It is a call for the same reason.
-#[inline(never)]
+// Writes to no slot of the row of a register. But for two slots that is a call, too.
+#[inline(always)]
 fn blank_row(registers: &mut [usize], width: usize, to: u8)
+    requires room { with_spare * width ≤ length registers.old }
+    requires to { to < with_spare }
+    ensures blank { row_in registers.new width to ≡ replicate width None }
+    ensures others { (r : ℕ) → r < with_spare → r ≢ to → row_in registers.new width r ≡ row_in registers.old width r }
+{
+    if width == 2 {
+        blank_slots(registers, 2, to);
+    } else {
+        blank_more_slots(registers, width, to);
+    }
+}
+
+// The same for any number of slots, as a call.
+#[inline(never)]
+fn blank_more_slots(registers: &mut [usize], width: usize, to: u8)
+    requires room { with_spare * width ≤ length registers.old }
+    requires to { to < with_spare }
+    ensures blank { row_in registers.new width to ≡ replicate width None }
+    ensures others { (r : ℕ) → r < with_spare → r ≢ to → row_in registers.new width r ≡ row_in registers.old width r }
+{
+    blank_slots(registers, width, to);
+}
+
+// The same, slot by slot.
+#[inline(always)]
+fn blank_slots(registers: &mut [usize], width: usize, to: u8)
     requires room { with_spare * width ≤ length registers.old }
     requires to { to < with_spare }
     ensures blank { row_in registers.new width to ≡ replicate width None }

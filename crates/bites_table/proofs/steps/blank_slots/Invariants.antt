@@ -1,6 +1,6 @@
 use Rattle.std.proofs.Common.{◌≡◌, ℕ, ◌+◌, ◌<◌, ◌≤◌, get_or}
 use Rattle.bites_machine.specs.SlotTable.{no_slot}
-use Rattle.bites_table.proofs.steps.blank_row.Given as goal
+use Rattle.bites_table.proofs.steps.blank_slots.Given as goal
 
 abbrev pub invariant-loop-slot : goal.invariant-loop-slot
 invariant-loop-slot l = record {

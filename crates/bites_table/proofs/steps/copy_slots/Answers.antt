@@ -2,7 +2,7 @@ use Rattle.std.proofs.Common.{◌+◌, ◌*◌, ◌<◌, length, get_or, ◌∙�
 use Rattle.std.proofs.lemmas.List.{get_or-set_other}
 use Rattle.bites_table.specs.Steps.{with_spare}
 use Rattle.bites_table.proofs.RowLemmas.{row-room, same-row, written-more, source-kept, others-kept}
-use Rattle.bites_table.proofs.steps.copy_row.Goals as goal
+use Rattle.bites_table.proofs.steps.copy_slots.Goals as goal
 
 pub loop-slot-preserved : goal.loop-slot-preserved
 loop-slot-preserved c =

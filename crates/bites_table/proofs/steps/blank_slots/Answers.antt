@@ -3,7 +3,7 @@ use Rattle.std.proofs.lemmas.List.{get_or-set_other}
 use Rattle.bites_machine.specs.SlotTable.{no_slot}
 use Rattle.bites_table.specs.Steps.{with_spare}
 use Rattle.bites_table.proofs.RowLemmas.{row-room, blank-row, written-more, others-kept}
-use Rattle.bites_table.proofs.steps.blank_row.Goals as goal
+use Rattle.bites_table.proofs.steps.blank_slots.Goals as goal
 
 pub loop-slot-preserved : goal.loop-slot-preserved
 loop-slot-preserved c =
