@@ -195,7 +195,10 @@ fn candidates_by_hand(rt: HostRuntime) -> Result<(), Error> {
     ] {
         let mut builder = RegexBuilder::new(rt.alloc(), pattern)?;
         let regex = builder.prefilter(true).build()?;
-        assert_eq!(rt; regex.find_candidate_at(haystack.as_bytes(), *start), *candidate);
+        assert_eq!(rt;
+            regex.find_candidate_at(haystack.as_bytes(), *start),
+            *candidate
+        );
     }
     Ok(())
 }

@@ -10,13 +10,13 @@ loop-byte-preserved c =
     let bytes = c.args.bytes.now in let i = c.loop-byte.byte-index in
     elim c.if-byte-eq10.branch [
       | then-byte-eq10 w ↦ record {
-          counted = w.count-is ∙ ap (λ n. n + 1) c.loop-byte.invariant.counted ∙ sym (line_feeds_hit bytes i (search rules) w.if-byte-eq10.true);
-          few = omega (arith, w.count-is, c.loop-byte.invariant.few);
-        }
+        counted = w.count-is ∙ ap (λ n. n + 1) c.loop-byte.invariant.counted ∙ sym (line_feeds_hit bytes i (search rules) w.if-byte-eq10.true);
+        few = omega (arith, w.count-is, c.loop-byte.invariant.few);
+      }
       | else-byte-eq10 w ↦ record {
-          counted = w.count-is ∙ c.loop-byte.invariant.counted ∙ sym (line_feeds_miss bytes i (search rules) w.if-byte-eq10.false);
-          few = omega (arith, w.count-is, c.loop-byte.invariant.few);
-        }
+        counted = w.count-is ∙ c.loop-byte.invariant.counted ∙ sym (line_feeds_miss bytes i (search rules) w.if-byte-eq10.false);
+        few = omega (arith, w.count-is, c.loop-byte.invariant.few);
+      }
     ]
 
 pub returns : goal.returns

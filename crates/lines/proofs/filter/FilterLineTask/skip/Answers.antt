@@ -24,6 +24,8 @@ returns-in-None-clause-nothing c =
     let whole = c.len_of_lines-in-None.ensures.whole in
     let none : NoPartMatches s.searcher.tree buffer 0 (length buffer + 1) =
     subst (λ (r : Regex). NoPartMatches r.tree buffer 0 (length buffer + 1)) c.regex.ensures c.in-None.ensures in
-    let long = length-take-le end buffer c.len_of_lines-in-None.ensures.within in
-    (whole, idle_front s c.if-self.false buffer (length buffer + 1) none (take end buffer) (drop end buffer) (sym (take-append-drop end buffer))
-    (omega (arith, long, c.len_of_lines-in-None.ensures.within)) whole)
+    let long = length-take-le end buffer c.len_of_lines-in-None.ensures.within in (
+      whole,
+      idle_front s c.if-self.false buffer (length buffer + 1) none (take end buffer) (drop end buffer) (sym (take-append-drop end buffer))
+          (omega (arith, long, c.len_of_lines-in-None.ensures.within)) whole,
+    )
