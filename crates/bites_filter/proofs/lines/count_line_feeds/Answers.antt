@@ -1,4 +1,4 @@
-use Rattle.std.proofs.Common.{rules, ◌≡◌, ◌+◌, ap, sym, ◌∙◌, subst, take, length, arith}
+use Rattle.std.proofs.Common.{rules, ◌+◌, ap, sym, ◌∙◌, arith}
 use Rattle.std.proofs.lemmas.List.{take_all}
 use Rattle.bites_filter.specs.Lines.{line_feeds}
 use Rattle.bites_filter.proofs.SkipLemmas.{line_feeds_hit, line_feeds_miss}

@@ -1,5 +1,4 @@
-use Rattle.std.proofs.Common.{rules, ◌≡◌, ◌+◌, ◌-◌, ◌<◌, ◌⊎◌, suc, ⊎_elim, get_or, take, length, subst, sym, arith}
-use Rattle.bites_filter.specs.Lines.{AreWhole}
+use Rattle.std.proofs.Common.{rules}
 use Rattle.bites_filter.proofs.SkipLemmas.{whole_up_to}
 use Rattle.bites_filter.proofs.lines.len_of_lines.Goals as goal
 

@@ -1,5 +1,5 @@
-use Rattle.std.proofs.Common.{rules, ◌≡◌, take, subst}
-use Rattle.std.specs.Io.BufRead.{FillKeeps, DropsConsumable}
+use Rattle.std.proofs.Common.{rules, take, subst}
+use Rattle.std.specs.Io.BufRead.{FillKeeps}
 use Rattle.std.proofs.BufReadLemmas.{Consumes_shown}
 use Rattle.bites_filter.proofs.SkipLemmas.{not_tried, none_skipped, consumed}
 use Rattle.bites_filter.proofs.lines.skip_lines.Goals as goal
