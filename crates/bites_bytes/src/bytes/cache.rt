@@ -28,7 +28,7 @@ use std::marker::Model;
 // How many bytes from its start on a search comes as far by itself as a search for a literal would take it.
 const NEAR: usize = 16;
 
-// After how many searches in a row with a literal so close to the start others leave it out, and how many do.
+// After how many searches with a literal so close to the start others leave it out, and how many do.
 const PATIENCE: u8 = 8;
 
 const LEFT_OUT: u8 = 16;
@@ -37,7 +37,7 @@ const LEFT_OUT: u8 = 16;
 // Only speed depends on it.
 #[derive(Clone, Copy, Drop)]
 struct Tries {
-    // How many searches in a row found it there.
+    // How many searches found it there, of those that looked last.
     near: u8,
     // How many searches to come leave it out.
     left_out: u8,
@@ -63,12 +63,11 @@ impl Tries {
 
     // Counts a search that has to begin so many bytes behind its start, or that finds nothing.
     fn count(&mut self, passed: Option<usize>) {
-        if passed.is_none_or(|passed| passed >= NEAR) {
-            self.near = 0;
-        } else if self.near < PATIENCE {
-            self.near += 1;
-        } else {
-            self.left_out = LEFT_OUT;
+        match passed {
+            None => self.near = 0,
+            Some(passed) if passed >= NEAR => self.near /= 2,
+            Some(_) if self.near < PATIENCE => self.near += 1,
+            Some(_) => self.left_out = LEFT_OUT,
         }
     }
 }
@@ -146,7 +145,8 @@ impl Cache {
         ensures begins { BeginsAt regex.now haystack.now start result }
         ensures same { self.new ≡ self.old }
     {
-        if !self.tries.is_next() {
+        let looks = regex.looks_first() && self.tries.is_next();
+        if !looks {
             return start;
         }
         let place = regex.begin(haystack, start);

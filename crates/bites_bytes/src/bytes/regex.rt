@@ -298,6 +298,12 @@ impl Regex {
         }
     }
 
+    // Returns whether searches look for a literal first, and there is one.
+    #[inline(always)]
+    pub(super) fn looks_first(&self) -> bool {
+        self.prefilter && self.literal.is_some()
+    }
+
     // Returns from where a search explores that may begin at `start`: the first place from which the pattern may match, as far
     // as its literal shows. Past the end of the haystack nothing matches.
     pub(super) fn begin(&self, haystack: &[u8], start: usize) -> usize
