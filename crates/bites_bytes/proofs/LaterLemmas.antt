@@ -1,5 +1,5 @@
 -- A search that explores from a later place finds what one from the start finds.
-use Rattle.std.proofs.Common.{◌≡◌, ℕ, ◌+◌, ◌<◌, Bool, true, false, List, [], ◌∷◌, ◌++◌, length, Option, Some, None, refl, sym, ◌∙◌, subst, ◌⊎◌, inl, inr, ⊎_elim, arith, leb-true, leb-false, true≢false}
+use Rattle.std.proofs.Common.{◌≡◌, ℕ, ◌<◌, Bool, true, false, List, [], ◌∷◌, ◌++◌, length, Option, Some, None, refl, sym, ◌∙◌, subst, ◌⊎◌, inl, inr, ⊎_elim, arith, leb-true, leb-false, true≢false}
 use Rattle.std.specs.Prelude.{nat_le}
 use Rattle.bites_spec.specs.Walks.{Among}
 use Rattle.bites_spec.specs.Utf8.{places}

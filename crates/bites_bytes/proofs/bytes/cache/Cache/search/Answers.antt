@@ -1,4 +1,4 @@
-use Rattle.std.proofs.Common.{◌≡◌, ◌∙◌, ap, sym, subst}
+use Rattle.std.proofs.Common.{◌∙◌, ap, sym, subst}
 use Rattle.bites_spec.specs.Counts.{Room}
 use Rattle.bites_machine.specs.Inputs.{starts_of}
 use Rattle.bites_bytes.specs.NextMatch.{IsAnswered, SearchedBy}
