@@ -24,7 +24,7 @@ pub struct Tries {
 }
 
 impl Tries {
-    /// Returns the tries of an input that is not read yet.
+    /// Returns the tries before the first line.
     pub fn new() -> Tries {
         Tries {
             vain: 0,

@@ -44,7 +44,7 @@ struct Tries {
 }
 
 impl Tries {
-    // Returns the tries of searches of which none was made yet.
+    // Returns the tries before the first search.
     fn new() -> Tries {
         Tries {
             near: 0,
