@@ -9,9 +9,10 @@ use crate::fault::Fault;
 use std::alloc::Global;
 use std::io::{self, BufRead, ErrorKind, Write};
 
-// After how many lines in a row before which none was skipped others are read without a try, and how many.
+// After so many tries in a row that skip nothing, lines are read without one.
 const PATIENCE: u8 = 4;
 
+// How many lines are read so before the next try.
 const LEFT_OUT: u8 = 16;
 
 /// When a program tries to skip lines. Where it seldom can, most lines are read without a try. Only speed depends on it.

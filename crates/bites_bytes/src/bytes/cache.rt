@@ -25,12 +25,13 @@ use std::alloc::AllocError;
 use std::fmt;
 use std::marker::Model;
 
-// How many bytes from its start on a search comes as far by itself as a search for a literal would take it.
+// A literal that stands within so many bytes of the start of a search gains nothing.
 const NEAR: usize = 16;
 
-// After how many searches with a literal so close to the start others leave it out, and how many do.
+// After so many searches of that kind others leave the literal out.
 const PATIENCE: u8 = 8;
 
+// How many searches leave it out before one looks again.
 const LEFT_OUT: u8 = 16;
 
 // When a search looks for a literal. Where it stood close to the starts of many searches, most of those that follow leave it out.
@@ -140,7 +141,7 @@ impl Cache {
     }
 
     // Returns from where a search explores that may begin at `start`. The literal is left out for some searches if it stood close
-    // to the starts of many before, so that searches for frequent literals take as long as those without.
+    // to the starts of many before, so that searches for frequent literals take little longer than those without.
     fn begin(&mut self, regex: &Regex, haystack: &[u8], start: usize) -> usize
         ensures begins { BeginsAt regex.now haystack.now start result }
         ensures same { self.new ≡ self.old }

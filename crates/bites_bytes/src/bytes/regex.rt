@@ -327,7 +327,8 @@ impl Regex {
     /// A filter of lines asks it to skip lines that can't match: a line that ends before the offset doesn't match, and the
     /// line that the offset lies in may match. With [`RegexBuilder::prefilter`] the offset is where a literal stands that
     /// each match holds, or where the search for it was given up. Without it, or if the pattern has no such literal, the
-    /// offset is `start`. The time is at most linear in the bytes from `start` up to the offset.
+    /// offset is `start`. The time is at most linear in the bytes from `start` up to the offset, or to the end. How far it
+    /// comes is no contract.
     ///
     /// ```rust
     /// let mut builder = RegexBuilder::new(rt.alloc(), r"^Mary\b")?;
